@@ -1,0 +1,5 @@
+pub mod Text
+pub mod Kind
+pub mod Reserved
+pub mod Tree
+pub mod Sound

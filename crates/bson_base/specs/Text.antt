@@ -1,0 +1,27 @@
+-- Texts and byte strings, as definitions see them.
+use Rattle.std.specs.Prelude.{◌≡◌, ℕ, List, [], ◌∷◌, Bool, false, true, ◌||◌, eqb}
+use Rattle.std.specs.Str.{is_utf8}
+
+-- A byte string: each number is a byte.
+abbrev pub Bytes : Type 0
+Bytes = List ℕ
+
+-- A text, as its UTF-8 bytes.
+abbrev pub Utf8 : Type 0
+Utf8 = List ℕ
+
+-- a zero character stands in the text (its UTF-8 form is the zero byte, and no other character has that byte)
+abbrev pub has_zero : Utf8 → Bool
+has_zero [] = false
+has_zero (c ∷ cs) = eqb c 0 || has_zero cs
+
+-- the first character is `$`
+abbrev pub begins_with_dollar : Utf8 → Bool
+begins_with_dollar [] = false
+begins_with_dollar (c ∷ cs) = eqb c 36
+
+-- A name that may stand as a key in every document: a text that does not begin with `$` and holds no zero character.
+pub record IsPlainName (name : Utf8) : Type 0 where
+  pub text : is_utf8 name ≡ true
+  pub no_zero : has_zero name ≡ false
+  pub no_dollar : begins_with_dollar name ≡ false

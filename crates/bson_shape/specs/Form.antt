@@ -1,0 +1,60 @@
+-- The form of a shape, and how the logic stores one.
+use Rattle.std.specs.Prelude.{◌≡◌, ℕ, refl}
+use Rattle.std.specs.Coded.{Coded, coded_ℕ, coded_list}
+use Rattle.std.proofs.Common.{ap, arith}
+use base.Stored.{Gv, gnil, gnum, gcons}
+use Rattle.bson_base.specs.Text.{Utf8}
+use Rattle.bson_shape.specs.declared.leaf.Leaf.{Leaf}
+use Rattle.bson_shape.specs.contracts.leaf.Leaf as leaf_type
+
+mutual
+  -- what a reader asks for: a leaf, or a struct with a name and fields in order
+  pub data Form : Type 0 where
+    leaf : Leaf → Form
+    structure : (name : Utf8) → (fields : Fields) → Form
+
+  -- the fields of a struct, in order
+  pub data Fields : Type 0 where
+    no_fields : Fields
+    field : (name : Utf8) → (form : Form) → (rest : Fields) → Fields
+
+abbrev head : Gv → Gv
+head gnil = gnil
+head (gnum n) = gnil
+head (gcons a b) = a
+
+abbrev tail : Gv → Gv
+tail gnil = gnil
+tail (gnum n) = gnil
+tail (gcons a b) = b
+
+abbrev num : Gv → ℕ
+num gnil = 0
+num (gnum n) = n
+num (gcons a b) = 0
+
+abbrev text_coded : Coded Utf8
+text_coded = coded_list coded_ℕ
+
+abbrev mutual
+  pub form_code : Form → Gv
+  form_code (leaf l) = gcons (gnum 0) (leaf_type.the_row.coded.code l)
+  form_code (structure n fs) = gcons (gnum 1) (gcons (text_coded.code n) (fields_code fs))
+
+  pub fields_code : Fields → Gv
+  fields_code no_fields = gcons (gnum 0) gnil
+  fields_code (field n s fs) = gcons (gnum 1) (gcons (text_coded.code n) (gcons (form_code s) (fields_code fs)))
+
+mutual
+  pub form_inj : (x y : Form) → form_code x ≡ form_code y → x ≡ y
+  form_inj (leaf l) (leaf m) p = ap leaf (leaf_type.the_row.coded.inj l m (ap (λ g. tail g) p))
+  form_inj (structure n fs) (structure m gs) p = λ i. structure (text_coded.inj n m (ap (λ g. head (tail g)) p) i) (fields_inj fs gs (ap (λ g. tail (tail g)) p) i)
+  form_inj x y p = absurd (omega (arith, ap (λ g. num (head g)) p))
+
+  pub fields_inj : (x y : Fields) → fields_code x ≡ fields_code y → x ≡ y
+  fields_inj no_fields no_fields p = refl
+  fields_inj (field n s fs) (field m t gs) p = λ i. field (text_coded.inj n m (ap (λ g. head (tail g)) p) i) (form_inj s t (ap (λ g. head (tail (tail g))) p) i) (fields_inj fs gs (ap (λ g. tail (tail (tail g))) p) i)
+  fields_inj x y p = absurd (omega (arith, ap (λ g. num (head g)) p))
+
+abbrev pub coded_form : Coded Form
+coded_form = record { code = form_code; inj = form_inj }
