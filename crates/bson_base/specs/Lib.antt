@@ -3,3 +3,5 @@ pub mod Kind
 pub mod Reserved
 pub mod Tree
 pub mod Sound
+pub mod Outcome
+pub mod Stored

@@ -1,8 +1,9 @@
 -- The form of a shape, and how the logic stores one.
-use Rattle.std.specs.Prelude.{◌≡◌, ℕ, refl}
+use Rattle.std.specs.Prelude.{◌≡◌, refl}
 use Rattle.std.specs.Coded.{Coded, coded_ℕ, coded_list}
 use Rattle.std.proofs.Common.{ap, arith}
 use base.Stored.{Gv, gnil, gnum, gcons}
+use Rattle.bson_base.specs.Stored.{head, tail, num}
 use Rattle.bson_base.specs.Text.{Utf8}
 use Rattle.bson_shape.specs.declared.leaf.Leaf.{Leaf}
 use Rattle.bson_shape.specs.contracts.leaf.Leaf as leaf_type
@@ -17,21 +18,6 @@ mutual
   pub data Fields : Type 0 where
     no_fields : Fields
     field : (name : Utf8) → (form : Form) → (rest : Fields) → Fields
-
-abbrev head : Gv → Gv
-head gnil = gnil
-head (gnum n) = gnil
-head (gcons a b) = a
-
-abbrev tail : Gv → Gv
-tail gnil = gnil
-tail (gnum n) = gnil
-tail (gcons a b) = b
-
-abbrev num : Gv → ℕ
-num gnil = 0
-num (gnum n) = n
-num (gcons a b) = 0
 
 abbrev text_coded : Coded Utf8
 text_coded = coded_list coded_ℕ

@@ -1,0 +1,5 @@
+pub mod Walks
+pub mod Cuts
+pub mod Keys
+pub mod Extents
+pub mod Taken

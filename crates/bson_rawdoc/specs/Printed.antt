@@ -1,0 +1,22 @@
+-- What is printed of a fault.
+use Rattle.std.specs.Prelude.{◌++◌, codes}
+use Rattle.std.specs.Fmt.{decimal}
+use Rattle.bson_base.specs.Text.{Utf8}
+use Rattle.bson_base.specs.Kind.{name}
+use Rattle.bson_rawdoc.specs.declared.raw.Error.{Error}
+use Rattle.bson_rawdoc.specs.declared.raw.Error.TheVariants.{TooShort, LengthDiffers, NoTerminator, KeyUnclosed, KeyNotUtf8, UnknownKind, BadExtent, ValueUnclosed, NotBuilt}
+
+-- a kind that is not built
+abbrev pub not_built_text : Utf8 → Utf8
+not_built_text k = codes "kind " ++ k ++ codes " is not built yet"
+
+abbrev pub printed_fault : Error → Utf8
+printed_fault TooShort = codes "document too short"
+printed_fault LengthDiffers = codes "document length differs"
+printed_fault NoTerminator = codes "document not terminated"
+printed_fault KeyUnclosed = codes "key not closed"
+printed_fault KeyNotUtf8 = codes "key is not UTF-8"
+printed_fault (UnknownKind b) = codes "unknown kind " ++ decimal b
+printed_fault BadExtent = codes "value out of bounds"
+printed_fault ValueUnclosed = codes "inner document not terminated"
+printed_fault (NotBuilt k) = not_built_text (name k)

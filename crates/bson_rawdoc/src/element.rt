@@ -1,0 +1,147 @@
+ghost use Rattle.std.specs.Prelude.{◌≡◌, ◌≤◌, Ok, length, IfOk};
+ghost use Rattle.bson_base.specs.Outcome.{result_map};
+ghost use Rattle.bson_rawdoc.specs.Walk as walk;
+ghost use Rattle.bson_rawdoc.specs.RawValue.{int32_in, value_in};
+ghost use Rattle.bson_rawdoc.specs.ValueView.{raw_value};
+
+use crate::document::RawDocument;
+use crate::raw::Error;
+use crate::reading::{announced, cut_at_zero, is_closed};
+use bson_base::ElementType;
+use std::marker::Model;
+
+/// A value as it stands in the bytes of its document.
+#[derive(Clone, Copy, Debug)]
+pub enum RawBsonRef<'a> {
+    /// A document inside another.
+    Document(RawDocument<'a>),
+    /// A signed number of 32 bits.
+    Int32(i32),
+}
+
+/// An element of a document: its kind, its key, and the bytes of its value.
+#[derive(Debug, Drop)]
+pub struct RawElement<'a> {
+    kind: ElementType,
+    key: &'a str,
+    slice: &'a [u8],
+}
+
+impl<'a> Model for RawElement<'a> {
+    ghost use Rattle.std.specs.Prelude.{◌≡◌, Ok, length};
+    ghost use Rattle.bson_rawdoc.specs.Walk.{Element, extent};
+    ghost use Rattle.bson_rawdoc.specs.Stored.{coded_element};
+
+    ghost Value = { Element };
+
+    ghost coded = { coded_element };
+
+    ghost view = { λ e. record { kind = e.kind; key = e.key.now; value = e.slice.now } };
+
+    ghost invariant = { λ e. extent e.kind e.slice.now ≡ Ok (length e.slice.now) };
+}
+
+impl<'a> RawElement<'a> {
+    /// The key, lent from the document.
+    pub fn key(&self) -> &'a str
+        ensures key { result.now ≡ self.now.key }
+    {
+        self.key
+    }
+
+    /// The kind of the value.
+    pub fn element_type(&self) -> ElementType
+        ensures kind { result ≡ self.now.kind }
+    {
+        self.kind
+    }
+
+    /// The bytes of the value, lent from the document.
+    pub fn slice(&self) -> &'a [u8]
+        ensures slice { result.now ≡ self.now.value }
+    {
+        self.slice
+    }
+
+    /// The value.
+    ///
+    /// # Errors
+    ///
+    /// The first fault of the value: `ValueUnclosed` where the last byte of an inner document is not zero.
+    pub fn value(&self) -> Result<RawBsonRef<'a>, Error>
+        ensures value { result_map raw_value result ≡ value_in self.now.kind self.now.value }
+    {
+        match self.kind {
+            ElementType::Int32 => Ok(RawBsonRef::Int32(int32(self.slice))),
+            ElementType::EmbeddedDocument => {
+                if !is_closed(self.slice) {
+                    return Err(Error::ValueUnclosed);
+                }
+                Ok(RawBsonRef::Document(RawDocument::from_bytes(self.slice)?))
+            }
+            kind => Err(Error::NotBuilt(kind)),
+        }
+    }
+}
+
+// The number in the first four bytes.
+#[tactic(auto, unfolding(crate::specs::RawValue::int32_in))]
+fn int32(bytes: &[u8]) -> i32
+    requires { 4 ≤ length bytes.now }
+    ensures { result ≡ int32_in bytes.now }
+{
+    i32::from_le_bytes([bytes[0], bytes[1], bytes[2], bytes[3]])
+}
+
+// How many bytes a value of the kind takes, of the bytes that begin with it.
+fn extent(kind: ElementType, bytes: &[u8]) -> Result<usize, Error>
+    ensures { result ≡ walk.extent kind bytes.now }
+{
+    match kind {
+        ElementType::Int32 => Ok(4),
+        ElementType::EmbeddedDocument => {
+            if bytes.len() < 5 {
+                return Err(Error::BadExtent);
+            }
+            let length = announced(bytes);
+            if length < 5 {
+                return Err(Error::BadExtent);
+            }
+            Ok(length as usize)
+        }
+        _ => Err(Error::NotBuilt(kind)),
+    }
+}
+
+// The element whose value begins these bytes, and the bytes behind it.
+fn with_value<'a>(
+    key: &'a str,
+    kind: ElementType,
+    bytes: &'a [u8],
+) -> Result<(RawElement<'a>, &'a [u8]), Error>
+    ensures { result_map (λ x. (x.0, x.1.now)) result ≡ walk.with_value key.now kind bytes.now }
+{
+    let length = extent(kind, bytes)?;
+    if bytes.len() < length {
+        return Err(Error::BadExtent);
+    }
+    let (slice, rest) = bytes.split_at(length);
+    Ok((RawElement { kind, key, slice }, rest))
+}
+
+// The element of this kind byte whose key begins these bytes, and the bytes behind it.
+#[tactic(auto, unfolding(crate::specs::Walk::element_at))]
+pub(crate) fn element_at(byte: u8, bytes: &[u8]) -> Result<(RawElement<'_>, &[u8]), Error>
+    ensures { result_map (λ x. (x.0, x.1.now)) result ≡ walk.element_at byte bytes.now }
+{
+    let Some((key, rest)) = cut_at_zero(bytes) else {
+        return Err(Error::KeyUnclosed);
+    };
+    let Ok(key) = str::from_utf8(key) else {
+        return Err(Error::KeyNotUtf8);
+    };
+    let Some(kind) = ElementType::from_byte(byte) else {
+        return Err(Error::UnknownKind(byte));
+    };
+    with_value(key, kind, rest)
+}

@@ -1,0 +1,75 @@
+ghost use Rattle.std.specs.Prelude.{◌≡◌, ◌≤◌, length};
+ghost use Rattle.bson_rawdoc.specs.Walk.{walk};
+ghost use Rattle.bson_rawdoc.specs.Next.{IsNext, IsStep};
+
+use crate::element::{RawElement, element_at};
+use crate::raw::Error;
+use std::marker::Model;
+
+/// The elements of a document, one after another. Contracts see it as what is left of the walk.
+#[derive(Debug, Drop)]
+pub struct RawIter<'a> {
+    rest: &'a [u8],
+    over: bool,
+}
+
+impl<'a> Model for RawIter<'a> {
+    ghost use Rattle.std.specs.Prelude.{if◌then◌else◌};
+    ghost use Rattle.bson_rawdoc.specs.Walk.{Walk, ended, walk_elements};
+    ghost use Rattle.bson_rawdoc.specs.Stored.{coded_walk};
+
+    ghost Value = { Walk };
+
+    ghost coded = { coded_walk };
+
+    ghost view = { λ i. if i.over then ended else walk_elements i.rest.now };
+}
+
+impl<'a> RawIter<'a> {
+    // Over the bytes of a document.
+    #[tactic(auto, unfolding(crate::specs::Envelope::inside))]
+    pub(crate) fn over(bytes: &'a [u8]) -> RawIter<'a>
+        requires { 5 ≤ length bytes.now }
+        ensures walk { result ≡ walk bytes.now }
+    {
+        RawIter {
+            rest: &bytes[4..bytes.len() - 1],
+            over: false,
+        }
+    }
+
+    /// The next element; or the fault that ends the list, once; or `None`, for good.
+    ///
+    /// It takes no memory.
+    pub fn next(&mut self) -> Option<Result<RawElement<'a>, Error>>
+        ensures next { IsNext self.old result self.new }
+    {
+        if self.over {
+            return None;
+        }
+        match next_element(self.rest) {
+            None => {
+                self.over = true;
+                None
+            }
+            Some(Err(fault)) => {
+                self.over = true;
+                Some(Err(fault))
+            }
+            Some(Ok((element, rest))) => {
+                self.rest = rest;
+                Some(Ok(element))
+            }
+        }
+    }
+}
+
+// The first element of these and the bytes behind it, or the fault that ends them.
+fn next_element(bytes: &[u8]) -> Option<Result<(RawElement<'_>, &[u8]), Error>>
+    ensures { IsStep bytes.now result }
+{
+    match bytes {
+        [] => None,
+        [byte, after @ ..] => Some(element_at(*byte, after)),
+    }
+}

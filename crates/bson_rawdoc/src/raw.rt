@@ -1,0 +1,48 @@
+use bson_base::ElementType;
+use std::fmt;
+
+/// What is wrong with the bytes of a document.
+///
+/// Source: the layouts of bsonspec.org, version 1.1.
+#[derive(Clone, Copy, Debug, PartialEq, Eq)]
+pub enum Error {
+    /// Fewer than five bytes.
+    TooShort,
+    /// The announced length is not the count of bytes.
+    LengthDiffers,
+    /// The last byte is not zero.
+    NoTerminator,
+    /// No zero byte ends a key.
+    KeyUnclosed,
+    /// A key is not UTF-8.
+    KeyNotUtf8,
+    /// The byte of an element's kind stands for no kind.
+    UnknownKind(u8),
+    /// A value does not fit before its document's end, or announces less than its least length.
+    BadExtent,
+    /// The last byte of an inner document is not zero.
+    ValueUnclosed,
+    /// A value of this kind is not read yet.
+    NotBuilt(ElementType),
+}
+
+impl fmt::Display for Error {
+    ghost use Rattle.std.specs.Prelude.{Some};
+    ghost use Rattle.bson_rawdoc.specs.Printed.{printed_fault};
+
+    ghost output = { λ e. Some (printed_fault e) };
+
+    fn fmt<W: fmt::Write>(&self, f: &mut fmt::Formatter<W>) -> fmt::Result {
+        match self {
+            Error::TooShort => f.write_str("document too short"),
+            Error::LengthDiffers => f.write_str("document length differs"),
+            Error::NoTerminator => f.write_str("document not terminated"),
+            Error::KeyUnclosed => f.write_str("key not closed"),
+            Error::KeyNotUtf8 => f.write_str("key is not UTF-8"),
+            Error::UnknownKind(b) => write!(f, "unknown kind {b}"),
+            Error::BadExtent => f.write_str("value out of bounds"),
+            Error::ValueUnclosed => f.write_str("inner document not terminated"),
+            Error::NotBuilt(k) => write!(f, "kind {k} is not built yet"),
+        }
+    }
+}

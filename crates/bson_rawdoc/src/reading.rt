@@ -1,0 +1,35 @@
+// Numbers, keys and closing bytes at the front of a slice.
+ghost use Rattle.std.specs.Prelude.{◌≡◌, ◌≤◌, length, option_map};
+ghost use Rattle.bson_rawdoc.specs.Envelope as envelope;
+ghost use Rattle.bson_rawdoc.specs.Walk as walk;
+
+// The length that the first four bytes announce.
+#[tactic(auto, unfolding(crate::specs::Envelope::announced))]
+pub(crate) fn announced(bytes: &[u8]) -> u32
+    requires { 4 ≤ length bytes.now }
+    ensures { result ≡ envelope.announced bytes.now }
+{
+    u32::from_le_bytes([bytes[0], bytes[1], bytes[2], bytes[3]])
+}
+
+// Whether the last byte is a zero.
+pub(crate) fn is_closed(bytes: &[u8]) -> bool
+    ensures { result ≡ envelope.is_closed bytes.now }
+{
+    match bytes {
+        [] => false,
+        [.., last] => *last == 0,
+    }
+}
+
+// What stands before the first zero byte, and behind it.
+pub(crate) fn cut_at_zero(bytes: &[u8]) -> Option<(&[u8], &[u8])>
+    ensures { option_map (λ p. (p.0.now, p.1.now)) result ≡ walk.cut_at_zero bytes.now }
+{
+    for (i, b) in bytes.iter().enumerate() {
+        if *b == 0 {
+            return Some((&bytes[..i], &bytes[i + 1..]));
+        }
+    }
+    None
+}
