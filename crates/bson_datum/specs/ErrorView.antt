@@ -1,0 +1,46 @@
+-- What contracts see of an error.
+use Rattle.std.specs.Prelude.{string_bytes}
+use Rattle.bson_datum.specs.Cause as cause
+use Rattle.bson_datum.specs.Refusal.{ReadFault, unreadable, WriteFault, unwritable, invalid_cstring, Failure, no_memory, bare, placed}
+use Rattle.bson_datum.specs.PathView.{path_view}
+use Rattle.bson_datum.specs.declared.cause.Cause.{Cause}
+use Rattle.bson_datum.specs.declared.cause.Cause.TheVariants.{Raw, TooDeep, InvalidType, OutOfRange, MissingField, DuplicateField, TopLevel, TooLong, NotBuilt}
+use Rattle.bson_datum.specs.declared.de.Fault as de_fault
+use Rattle.bson_datum.specs.declared.de.Fault.TheVariants as de_faults
+use Rattle.bson_datum.specs.declared.ser.Fault as ser_fault
+use Rattle.bson_datum.specs.declared.ser.Fault.TheVariants as ser_faults
+use Rattle.bson_datum.specs.declared.de.Error as de
+use Rattle.bson_datum.specs.declared.ser.Error as ser
+
+abbrev pub cause_view : Cause → cause.Cause
+cause_view (Raw f) = cause.raw f
+cause_view TooDeep = cause.too_deep
+cause_view (InvalidType k) = cause.invalid_type k
+cause_view (OutOfRange n) = cause.out_of_range n
+cause_view (MissingField t) = cause.missing_field (string_bytes t)
+cause_view (DuplicateField t) = cause.duplicate_field (string_bytes t)
+cause_view (TopLevel k) = cause.top_level k
+cause_view TooLong = cause.too_long
+cause_view (NotBuilt k) = cause.not_built k
+
+-- the fault that a value is refused for in reading
+abbrev pub read_fault : de_fault.Fault → ReadFault
+read_fault (de_faults.Cause c) = unreadable (cause_view c)
+
+-- the fault that a value is refused for in writing
+abbrev pub write_fault : ser_fault.Fault → WriteFault
+write_fault (ser_faults.InvalidCString t) = invalid_cstring (string_bytes t)
+write_fault (ser_faults.Cause c) = unwritable (cause_view c)
+
+-- the failure that a reader's error is
+abbrev pub read_failure : de.Error → Failure ReadFault
+read_failure (de.DeserializationError c) = bare (unreadable (cause_view c))
+read_failure (de.WithPath' path p source) = placed (path_view path) (read_failure source)
+read_failure de.NoMemory = no_memory
+
+-- the failure that a writer's error is
+abbrev pub write_failure : ser.Error → Failure WriteFault
+write_failure (ser.InvalidCString t) = bare (invalid_cstring (string_bytes t))
+write_failure (ser.SerializationError c) = bare (unwritable (cause_view c))
+write_failure (ser.WithPath' path p source) = placed (path_view path) (write_failure source)
+write_failure ser.NoMemory = no_memory

@@ -1,0 +1,9 @@
+pub mod Value
+pub mod TextView
+pub mod View
+pub mod Cause
+pub mod Refusal
+pub mod PathView
+pub mod Stop
+pub mod ErrorView
+pub mod Printed

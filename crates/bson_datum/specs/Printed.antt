@@ -1,0 +1,50 @@
+-- What is printed of paths, causes and errors.
+use Rattle.std.specs.Prelude.{ℕ, zero, suc, ◌+◌, [], ◌∷◌, ◌++◌, codes}
+use Rattle.std.specs.Fmt.{decimal, signed_decimal}
+use Rattle.bson_base.specs.Text.{Utf8}
+use Rattle.bson_base.specs.Kind.{name}
+use Rattle.bson_rawdoc.specs.Printed.{printed_fault, not_built_text}
+use Rattle.bson_datum.specs.Cause.{Cause, raw, too_deep, invalid_type, out_of_range, missing_field, duplicate_field, top_level, too_long, not_built}
+use Rattle.bson_datum.specs.Refusal.{Step, Steps, at_key, at_index, ReadFault, unreadable, WriteFault, unwritable, invalid_cstring, Failure, no_memory, bare, placed}
+
+-- the step at a place of a path: a key has a point before it unless it comes first, an index stands in brackets
+abbrev pub point_before : ℕ → Utf8
+point_before zero = []
+point_before (suc i) = codes "."
+
+abbrev pub printed_step : ℕ → Step → Utf8
+printed_step i (at_key key) = point_before i ++ key
+printed_step i (at_index n) = codes "[" ++ decimal n ++ codes "]"
+
+abbrev pub printed_steps : ℕ → Steps → Utf8
+printed_steps i [] = []
+printed_steps i (s ∷ ss) = printed_step i s ++ printed_steps (i + 1) ss
+
+-- a path: its steps, or a point where there are none
+abbrev pub printed_path : Steps → Utf8
+printed_path [] = 46 ∷ []
+printed_path (s ∷ ss) = printed_steps 0 (s ∷ ss)
+
+abbrev pub printed_cause : Cause → Utf8
+printed_cause (raw f) = printed_fault f
+printed_cause too_deep = codes "nested deeper than 200 levels"
+printed_cause (invalid_type k) = codes "invalid type: " ++ name k
+printed_cause (out_of_range n) = codes "integer " ++ signed_decimal n ++ codes " out of range"
+printed_cause (missing_field t) = codes "missing field " ++ t
+printed_cause (duplicate_field t) = codes "duplicate field " ++ t
+printed_cause (top_level k) = codes "non-document type at the top level: " ++ name k
+printed_cause too_long = codes "value exceeds maximum length"
+printed_cause (not_built k) = not_built_text (name k)
+
+abbrev pub printed_read_fault : ReadFault → Utf8
+printed_read_fault (unreadable c) = printed_cause c
+
+abbrev pub printed_write_fault : WriteFault → Utf8
+printed_write_fault (unwritable c) = printed_cause c
+printed_write_fault (invalid_cstring t) = codes "cstrings cannot contain null bytes"
+
+-- a failure, whose fault is printed so
+abbrev pub printed_failure : {F : Type 0} → (F → Utf8) → Failure F → Utf8
+printed_failure printed no_memory = codes "out of memory"
+printed_failure printed (bare f) = printed f
+printed_failure printed (placed path f) = codes "error at " ++ printed_path path ++ codes ": " ++ printed_failure printed f

@@ -1,0 +1,51 @@
+-- What is wrong with a value, and where it stands.
+use Rattle.std.specs.Prelude.{ℕ, List, [], ◌∷◌, Result, Ok, Err}
+use Rattle.bson_base.specs.Text.{Utf8}
+use Rattle.bson_datum.specs.Cause.{Cause}
+
+-- a step from a value to one inside it
+pub data Step : Type 0 where
+  at_key : Utf8 → Step
+  at_index : ℕ → Step
+
+-- the steps to a value, the outermost first
+abbrev pub Steps : Type 0
+Steps = List Step
+
+-- what reading refuses for
+pub data ReadFault : Type 0 where
+  unreadable : Cause → ReadFault
+
+-- what writing refuses for
+pub data WriteFault : Type 0 where
+  unwritable : Cause → WriteFault
+  -- a zero character in a name that is written as a key
+  invalid_cstring : Utf8 → WriteFault
+
+-- a fault, and the path of the value that has it
+pub record Refusal (F : Type 0) : Type 0 where
+  pub path : Steps
+  pub fault : F
+
+-- a fault of the value itself
+abbrev pub here : {F : Type 0} → F → Refusal F
+here f = record { path = []; fault = f }
+
+-- a refusal of the value at a key, seen from the document that has the key
+abbrev pub in_key : {F : Type 0} → Utf8 → Refusal F → Refusal F
+in_key key r = record { path = at_key key ∷ r.path; fault = r.fault }
+
+-- an answer for the value at a key, seen from the document that has the key
+abbrev pub under : {A F : Type 0} → Utf8 → Result A (Refusal F) → Result A (Refusal F)
+under key (Ok x) = Ok x
+under key (Err r) = Err (in_key key r)
+
+-- what a call refuses with: want of memory, a fault without a path, or a failure with the path of a value
+pub data Failure (F : Type 0) : Type 0 where
+  no_memory : Failure F
+  bare : F → Failure F
+  placed : Steps → Failure F → Failure F
+
+-- a refusal as a call answers it, with its path
+abbrev pub with_path : {F : Type 0} → Refusal F → Failure F
+with_path r = placed r.path (bare r.fault)

@@ -1,0 +1,48 @@
+use bson_base::ElementType;
+use bson_rawdoc::raw;
+use std::fmt;
+
+/// Why a value is refused.
+#[derive(Debug, Drop)]
+pub enum Cause {
+    /// The bytes have this fault.
+    Raw(raw::Error),
+    /// A container stands at level 201.
+    TooDeep,
+    /// A value of this kind stands where the shape takes another.
+    InvalidType(ElementType),
+    /// The number does not fit the shape's type.
+    OutOfRange(i64),
+    /// No element has the name of this field.
+    MissingField(String),
+    /// Two elements have the name of this field.
+    DuplicateField(String),
+    /// A value of this kind stands where a document is due.
+    TopLevel(ElementType),
+    /// The document would have more than 2147483647 bytes.
+    TooLong,
+    /// A value of this kind is not written yet.
+    NotBuilt(ElementType),
+}
+
+impl fmt::Display for Cause {
+    ghost use Rattle.std.specs.Prelude.{Some};
+    ghost use Rattle.bson_datum.specs.ErrorView.{cause_view};
+    ghost use Rattle.bson_datum.specs.Printed.{printed_cause};
+
+    ghost output = { λ c. Some (printed_cause (cause_view c)) };
+
+    fn fmt<W: fmt::Write>(&self, f: &mut fmt::Formatter<W>) -> fmt::Result {
+        match self {
+            Cause::Raw(fault) => write!(f, "{fault}"),
+            Cause::TooDeep => f.write_str("nested deeper than 200 levels"),
+            Cause::InvalidType(kind) => write!(f, "invalid type: {kind}"),
+            Cause::OutOfRange(number) => write!(f, "integer {number} out of range"),
+            Cause::MissingField(name) => write!(f, "missing field {name}"),
+            Cause::DuplicateField(name) => write!(f, "duplicate field {name}"),
+            Cause::TopLevel(kind) => write!(f, "non-document type at the top level: {kind}"),
+            Cause::TooLong => f.write_str("value exceeds maximum length"),
+            Cause::NotBuilt(kind) => write!(f, "kind {kind} is not built yet"),
+        }
+    }
+}

@@ -1,0 +1,17 @@
+//! Values of serde's data model, paths, and the errors of readers and writers with their printed texts.
+#![tactic(auto)]
+
+mod cause;
+mod datum;
+pub mod de;
+mod path;
+pub mod ser;
+mod stop;
+mod text;
+
+// SHAPE
+pub use cause::Cause;
+pub use datum::{Datum, Field};
+pub use path::{Path, Segment};
+pub use stop::{Refused, Stop};
+pub use text::Text;

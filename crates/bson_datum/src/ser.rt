@@ -1,0 +1,95 @@
+//! The errors of writing.
+
+ghost use Rattle.std.specs.Prelude.{◌≡◌};
+ghost use Rattle.bson_datum.specs.Refusal.{bare};
+ghost use Rattle.bson_datum.specs.Stop.{stop_view, IsPlaced};
+ghost use Rattle.bson_datum.specs.ErrorView.{write_fault, write_failure};
+
+use crate::cause::Cause;
+use crate::path::Path;
+use crate::stop::Stop;
+use std::alloc::Global;
+use std::fmt;
+
+/// What a datum is refused for, without its path.
+#[derive(Debug, Drop)]
+pub enum Fault {
+    /// A zero character stands in this name, which is written as a key.
+    InvalidCString(String),
+    /// A value is refused for this cause.
+    Cause(Cause),
+}
+
+/// Why a datum is not written.
+#[derive(Debug, Drop)]
+pub enum Error {
+    /// A zero character stands in this name, which is written as a key.
+    InvalidCString(String),
+    /// A value is refused for this cause.
+    SerializationError {
+        /// The cause.
+        cause: Cause,
+    },
+    /// An error, with the path of the value that it is about.
+    WithPath {
+        /// Where the value stands.
+        path: Path,
+        /// What is wrong with it.
+        source: Box<Error>,
+    },
+    /// Memory ran out.
+    NoMemory,
+}
+
+impl Error {
+    /// The fault with its path, `WithPath`; or `NoMemory`.
+    pub fn from_stop(alloc: Global, stop: Stop<Fault>) -> Error
+        ensures placed { IsPlaced (stop_view write_fault stop) (write_failure result) }
+    {
+        let Stop::Refused(refused) = stop else {
+            return Error::NoMemory;
+        };
+        let mut steps = refused.steps;
+        steps.reverse();
+        match Box::new(alloc, Error::from_fault(refused.fault)) {
+            Ok(source) => Error::WithPath {
+                path: Path::new(steps),
+                source,
+            },
+            Err(_) => Error::NoMemory,
+        }
+    }
+
+    // The fault, without a path.
+    fn from_fault(fault: Fault) -> Error
+        ensures { write_failure result ≡ bare (write_fault fault) }
+    {
+        match fault {
+            Fault::InvalidCString(name) => Error::InvalidCString(name),
+            Fault::Cause(cause) => Error::SerializationError { cause },
+        }
+    }
+}
+
+/// What a writer answers.
+pub type Result<T> = std::result::Result<T, Error>;
+
+impl fmt::Display for Error {
+    ghost use Rattle.std.specs.Prelude.{Some};
+    ghost use Rattle.bson_datum.specs.ErrorView.{write_failure};
+    ghost use Rattle.bson_datum.specs.Printed.{printed_failure, printed_write_fault};
+
+    ghost output = { λ e. Some (printed_failure printed_write_fault (write_failure e)) };
+
+    fn fmt<W: fmt::Write>(&self, f: &mut fmt::Formatter<W>) -> fmt::Result {
+        match self {
+            Error::InvalidCString(_) => f.write_str("cstrings cannot contain null bytes"),
+            Error::SerializationError { cause } => write!(f, "{cause}"),
+            Error::WithPath { path, source } => {
+                write!(f, "error at {path}: ")?;
+                (**source).fmt(f)
+            }
+            Error::NoMemory => f.write_str("out of memory"),
+        }
+    }
+}
