@@ -21,9 +21,9 @@ impl Count {
         Count {}
     }
 
-    /// The number that is one more.
-    pub fn next(&self) -> Count
-        ensures { result.count ≡ self.now.count + 1 }
+    /// The number that is `n` more.
+    pub fn plus(&self, _n: usize) -> Count
+        ensures { result.count ≡ self.now.count + _n }
     {
         Count {}
     }

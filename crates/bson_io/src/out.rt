@@ -95,9 +95,7 @@ impl Out {
         ensures free { length p.now ≤ self.old.spare → IsOk result }
     {
         self.buf.extend_from_slice(p)?;
-        for _b in p {
-            steps.tick();
-        }
+        steps.tick_all(p.len());
         Ok(())
     }
 
@@ -116,10 +114,7 @@ impl Out {
         ensures { Patched self.old self.new at (i32_bytes v) steps.old steps.new }
     {
         self.buf[at..at + 4].copy_from_slice(&v.to_le_bytes());
-        steps.tick();
-        steps.tick();
-        steps.tick();
-        steps.tick();
+        steps.tick_all(4);
     }
 
     /// Keeps the first `len` bytes, or all where there are no more. The memory stays as it is.

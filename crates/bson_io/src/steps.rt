@@ -44,6 +44,13 @@ impl<L: Ledger> Steps<L> {
     pub fn tick(&mut self)
         ensures { self.new ≡ self.old + 1 }
     {
-        self.count = self.count.next();
+        self.count = self.count.plus(1);
+    }
+
+    /// As many more steps.
+    pub(crate) fn tick_all(&mut self, n: usize)
+        ensures { self.new ≡ self.old + n }
+    {
+        self.count = self.count.plus(n);
     }
 }

@@ -1,0 +1,12 @@
+-- What contracts see of the adapters over std's readers and writers: their count of faults alone.
+use Rattle.std.specs.Prelude.{ℕ}
+use Rattle.bson_io.specs.declared.adapters.ReadAdapter.{ReadAdapter}
+use Rattle.bson_io.specs.declared.adapters.WriteAdapter.{WriteAdapter}
+
+-- how many reads failed so far
+abbrev pub read_faults : {R : Type 0} → ReadAdapter R → ℕ
+read_faults a = a.faults
+
+-- how many writes failed so far
+abbrev pub write_faults : {W : Type 0} → WriteAdapter W → ℕ
+write_faults a = a.faults

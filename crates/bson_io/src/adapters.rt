@@ -1,0 +1,78 @@
+// std's readers and writers as a source and a sink, with a count of their errors. They tell no bytes.
+ghost use Rattle.std.specs.Prelude.{◌≡◌, None};
+ghost use Rattle.bson_io.specs.Adapters.{read_faults, write_faults};
+
+use crate::{Failed, Sink, Source};
+use std::io::{Read, Write};
+
+/// A reader of std. Each error counts as a fault. Once the count stands at the last value of a
+/// `u64` it makes no further call and answers `Ok(0)`.
+#[derive(Drop)]
+pub struct ReadAdapter<R> {
+    inner: R,
+    faults: u64,
+}
+
+impl<R: Read> ReadAdapter<R> {
+    /// A source over this reader, with no faults so far.
+    pub fn new(inner: R) -> Self
+        ensures { read_faults result ≡ 0 }
+    {
+        ReadAdapter { inner, faults: 0 }
+    }
+}
+
+impl<R: Read> Source for ReadAdapter<R> {
+    ghost left = { λ _. None };
+
+    ghost faults = { λ s. s.faults };
+
+    fn read(&mut self, buf: &mut [u8]) -> Result<usize, Failed> {
+        if buf.is_empty() || self.faults == u64::MAX {
+            return Ok(0);
+        }
+        match self.inner.read(buf) {
+            Ok(n) => Ok(n),
+            Err(_) => {
+                self.faults += 1;
+                Err(Failed)
+            }
+        }
+    }
+}
+
+/// A writer of std. Each error counts as a fault, and so does a write that takes nothing of a piece
+/// that is not empty. The count stays at the last value of a `u64`.
+#[derive(Drop)]
+pub struct WriteAdapter<W> {
+    inner: W,
+    faults: u64,
+}
+
+impl<W: Write> WriteAdapter<W> {
+    /// A sink over this writer, with no faults so far.
+    pub fn new(inner: W) -> Self
+        ensures { write_faults result ≡ 0 }
+    {
+        WriteAdapter { inner, faults: 0 }
+    }
+}
+
+impl<W: Write> Sink for WriteAdapter<W> {
+    ghost written = { λ _. None };
+
+    ghost faults = { λ s. s.faults };
+
+    fn write(&mut self, piece: &[u8]) -> Result<usize, Failed> {
+        if piece.is_empty() {
+            return Ok(0);
+        }
+        match self.inner.write(piece) {
+            Ok(n) if 0 < n => Ok(n),
+            _ => {
+                self.faults = self.faults.saturating_add(1);
+                Err(Failed)
+            }
+        }
+    }
+}
