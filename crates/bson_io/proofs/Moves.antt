@@ -1,5 +1,5 @@
 -- What a read of bytes in memory has moved.
-use Rattle.std.proofs.Common.{◌≡◌, ℕ, ◌+◌, ◌-◌, ◌<◌, ◌≤◌, List, [], ◌++◌, take, drop, length, sym, ap, ◌∙◌, take-append-drop, length-drop, arith}
+use Rattle.std.proofs.Common.{◌≡◌, ℕ, ◌+◌, ◌-◌, ◌≤◌, List, [], ◌++◌, take, drop, length, sym, ap, ◌∙◌, take-append-drop, length-drop, arith}
 use Rattle.std.proofs.lemmas.List.{take_rest, length-take-le, drop_all}
 use Rattle.std.proofs.Math.Seq.{take-append_seam}
 use lib.Seq.{drop-drop}

@@ -1,5 +1,5 @@
 -- What a transfer in several calls has moved.
-use Rattle.std.proofs.Common.{◌≡◌, ℕ, ◌+◌, ◌-◌, List, take, drop, length, sym, subst, ap, Some, None, Ok, length-drop, arith}
+use Rattle.std.proofs.Common.{ℕ, ◌+◌, ◌-◌, List, take, drop, length, sym, subst, ap, Some, None, Ok, length-drop, arith}
 use Rattle.std.specs.declared.option.Option.{Option}
 use Rattle.std.specs.Io.KnownBytes.{Appends}
 use Rattle.std.proofs.KnownBytes.{Appends-trans}

@@ -10,6 +10,8 @@ mod memory;
 mod out;
 mod steady;
 mod steps;
+#[cfg(test)]
+mod tests;
 mod transfer;
 
 pub use adapters::{ReadAdapter, WriteAdapter};

@@ -1,5 +1,8 @@
 // Bytes in memory, without failures of their own.
-ghost use Rattle.std.specs.Prelude.{◌≡◌, ◌≤◌, ◌<◌, ◌-◌, [], Some, length, take};
+ghost use Rattle.std.specs.Prelude.{◌≡◌, ◌≤◌, ◌<◌, ◌+◌, ◌↔◌, [], Some, length, min, IfOk, IsErr, OnOk, OnErr};
+ghost use Rattle.std.specs.Io.{ReadsAtMost, WritesAtMost};
+ghost use Rattle.std.specs.Io.KnownBytes.{ReadConsumes, WriteAppends};
+ghost use Rattle.bson_io.specs.Ends.{HasCause, HasSinkCause, IsIdle, UsesRoom, last_count};
 
 use crate::copy::{copy_prefix, fill_from};
 use crate::{Failed, Sink, Source};
@@ -22,11 +25,21 @@ impl<'a> SteadySource<'a> {
 }
 
 impl Source for SteadySource<'_> {
-    ghost left = { λ s. Some s.rest.now };
+    ghost use Rattle.bson_io.specs.SteadySource.{steady_left};
+
+    ghost left = { λ s. Some (steady_left s) };
 
     ghost faults = { λ _. 0 };
 
-    fn read(&mut self, buf: &mut [u8]) -> Result<usize, Failed> {
+    fn read(&mut self, buf: &mut [u8]) -> Result<usize, Failed>
+        ensures bound { ReadsAtMost result buf.new }
+        ensures bytes { ReadConsumes (Some (steady_left self.old)) (Some (steady_left self.new)) result buf.new }
+        ensures cause { HasCause 0 0 result }
+        ensures empty { length buf.old ≡ 0 → IsIdle (Some (steady_left self.old)) (Some (steady_left self.new)) 0 0 result }
+
+        // It never fails, and gives as much as fits.
+        ensures count { result ≡ Ok (min (length buf.old) (length (steady_left self.old))) }
+    {
         let rest = self.rest;
         let n = copy_prefix(rest, buf);
         self.rest = &rest[n..];
@@ -42,7 +55,7 @@ pub struct SteadySink<'a> {
     len: usize,
     faults: u64,
     ghost within: { len ≤ length room.now },
-    ghost full: { 0 < faults → len ≡ length room.now },
+    pub ghost full: { 0 < faults → len ≡ length room.now },
 }
 
 impl<'a> SteadySink<'a> {
@@ -70,13 +83,28 @@ impl<'a> SteadySink<'a> {
 }
 
 impl Sink for SteadySink<'_> {
-    ghost written = { λ s. Some (take s.len s.room.now) };
+    ghost use Rattle.bson_io.specs.SteadySink.{steady_written, steady_room, steady_faults};
 
-    ghost room = { λ s. Some (length s.room.now - s.len) };
+    ghost written = { λ s. Some (steady_written s) };
 
-    ghost faults = { λ s. s.faults };
+    ghost room = { λ s. Some (steady_room s) };
 
-    fn write(&mut self, piece: &[u8]) -> Result<usize, Failed> {
+    ghost faults = { λ s. steady_faults s };
+
+    fn write(&mut self, piece: &[u8]) -> Result<usize, Failed>
+        ensures bound { WritesAtMost result piece.now }
+        ensures bytes { WriteAppends (Some (steady_written self.old)) (Some (steady_written self.new)) result piece.now }
+        ensures room { UsesRoom (Some (steady_room self.old)) (Some (steady_room self.new)) result }
+        ensures progress { IfOk result (λ n. n ≡ 0 → piece.now ≡ []) }
+        ensures cause { HasSinkCause (steady_faults self.old) (steady_faults self.new) result }
+        ensures empty { piece.now ≡ [] → IsIdle (Some (steady_written self.old)) (Some (steady_written self.new)) (steady_faults self.old) (steady_faults self.new) result }
+
+        // It takes as much as there is room for, fails exactly where there is none, and counts that.
+        ensures taken { IfOk result (λ n. n ≡ min (length piece.now) (steady_room self.old)) }
+        ensures full { 0 < length piece.now → (IsErr result ↔ (steady_room self.old ≡ 0)) }
+        ensures counted { OnErr result (steady_faults self.new ≡ min (steady_faults self.old + 1) last_count) }
+        ensures kept { OnOk result (steady_faults self.new ≡ steady_faults self.old) }
+    {
         if piece.is_empty() {
             return Ok(0);
         }

@@ -1,4 +1,4 @@
-use Rattle.std.proofs.Common.{◌≤◌, ◌-◌, length, arith, length-take, length-drop}
+use Rattle.std.proofs.Common.{◌≤◌, ◌-◌, length, arith}
 use Rattle.bson_io.proofs.Moves.{moved_front, none_left}
 use Rattle.bson_io.proofs.memory.MemorySourceSource.read.Goals as goal
 
