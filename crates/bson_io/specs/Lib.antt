@@ -1,0 +1,6 @@
+pub mod Ends
+pub mod SteadySource
+pub mod SteadySink
+pub mod Memory
+pub mod Adapters
+pub mod Output

@@ -1,0 +1,34 @@
+-- What contracts see of an output buffer: its bytes, and how many more it takes without memory.
+use Rattle.std.specs.Prelude.{ℕ, ℤ, ◌+◌, ◌≤◌, ◌≡◌, List, ◌++◌, length, take, drop}
+use Rattle.std.specs.Int.{w32, to_le_bytes, cast_unsigned}
+
+-- the bytes so far, and how many more bytes can be appended without taking memory
+pub record Output : Type 0 where
+  pub bytes : List ℕ
+  pub spare : ℕ
+
+-- the four bytes of an int32 of BSON (bsonspec.org, basic types): little-endian, two's complement
+abbrev pub i32_bytes : ℤ → List ℕ
+i32_bytes v = to_le_bytes w32 (cast_unsigned w32 v)
+
+-- bytes in which a piece stands from a place on, in place of as many that stood there
+abbrev pub patched : List ℕ → ℕ → List ℕ → List ℕ
+patched bytes at piece = take at bytes ++ piece ++ drop (at + length piece) bytes
+
+-- A piece was appended, at one step for each of its bytes. The spare room fell by at most its length.
+pub record Appended (old new : Output) (piece : List ℕ) (before now : ℕ) : Type 0 where
+  pub bytes : new.bytes ≡ old.bytes ++ piece
+  pub spare : old.spare ≤ new.spare + length piece
+  pub steps : now ≡ before + length piece
+
+-- A piece replaced the bytes at a place, at one step for each of its bytes. No spare room was lost.
+pub record Patched (old new : Output) (at : ℕ) (piece : List ℕ) (before now : ℕ) : Type 0 where
+  pub bytes : new.bytes ≡ patched old.bytes at piece
+  pub spare : old.spare ≤ new.spare
+  pub steps : now ≡ before + length piece
+
+-- The bytes are as they were, no step was taken and no spare room was lost.
+pub record Refused (old new : Output) (before now : ℕ) : Type 0 where
+  pub bytes : new.bytes ≡ old.bytes
+  pub spare : old.spare ≤ new.spare
+  pub steps : now ≡ before

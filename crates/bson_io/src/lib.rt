@@ -1,0 +1,23 @@
+//! Where bytes come from and where they go: sources and sinks with a count of their faults, an
+//! output buffer whose bytes can be patched, and a counter of steps that takes no room at run time.
+#![tactic(auto)]
+
+mod adapters;
+mod copy;
+mod count;
+mod ends;
+mod memory;
+mod out;
+mod steady;
+mod steps;
+#[cfg(test)]
+mod tests;
+mod transfer;
+
+pub use adapters::{ReadAdapter, WriteAdapter};
+pub use ends::{Failed, Sink, Source};
+pub use memory::{MemorySink, MemorySource};
+pub use out::Out;
+pub use steady::{SteadySink, SteadySource};
+pub use steps::{Ledger, Steps, Tally};
+pub use transfer::{MOST, ReadFault, read_to_end, write_due};

@@ -1,0 +1,79 @@
+// A source read to its end, and all that is due written to a sink.
+ghost use Rattle.std.specs.Prelude.{◌≡◌, ◌≢◌, ◌≤◌, ◌<◌, ℕ, length, IfOk, IsOk, OnOk};
+ghost use Rattle.std.specs.Io.KnownBytes.{Appends, Consumes, IsAtEnd};
+ghost use Rattle.bson_io.specs.Ends.{Rose, HasSinkCause, AppendsPrefix, FitsIn, Takes, TakesAtMost, TakesMore};
+ghost use Rattle.bson_io.specs.declared.transfer.ReadFault.TheVariants.{NoMemory};
+
+use crate::{Failed, Sink, Source};
+use std::alloc::{AllocError, Global};
+
+/// The most bytes that are read: the greatest length that a document of BSON can announce in its
+/// int32 (bsonspec.org, "document").
+pub const MOST: usize = 2147483647;
+
+/// How many bytes one call asks for.
+const PIECE: usize = 65536;
+
+/// Why a source was not read to its end.
+#[derive(Clone, Copy, Debug, PartialEq, Eq)]
+pub enum ReadFault {
+    /// A call on the source failed.
+    Failed,
+    /// There are more than `MOST` bytes.
+    TooLong,
+    /// There was no memory for the bytes.
+    NoMemory,
+}
+
+impl From<AllocError> for ReadFault {
+    ghost from_gives = { λ _ e. e ≡ NoMemory };
+
+    fn from(_e: AllocError) -> ReadFault {
+        ReadFault::NoMemory
+    }
+}
+
+/// All that a source has left. After a refusal the bytes that were taken are gone from the source.
+pub fn read_to_end<I: Source>(alloc: Global, input: &mut I) -> Result<Vec<u8>, ReadFault>
+    // The bytes are all that was left.
+    ensures bytes { IfOk result (λ v. Consumes (I.left input.old) (I.left input.new) v.items) }
+    ensures end { OnOk result (IsAtEnd (I.left input.new)) }
+    ensures most { IfOk result (λ v. length v.items ≤ MOST) }
+
+    // `TooLong` comes exactly where more than the most were taken.
+    ensures too_long { result ≡ Err ReadFault.TooLong → TakesMore MOST (I.left input.old) (I.left input.new) }
+    ensures within { result ≢ Err ReadFault.TooLong → TakesAtMost MOST (I.left input.old) (I.left input.new) }
+
+    // `Failed` comes only where a call on the source failed.
+    ensures failed { result ≡ Err ReadFault.Failed → Rose (I.faults input.old) (I.faults input.new) }
+    ensures later { I.faults input.old ≤ I.faults input.new }
+{
+    let mut bytes = Vec::new(alloc);
+    let mut buf = [0u8; PIECE];
+    loop {
+        match input.read(&mut buf) {
+            Ok(0) => return Ok(bytes),
+            Ok(n) => {
+                if n > MOST - bytes.len() {
+                    return Err(ReadFault::TooLong);
+                }
+                bytes.extend_from_slice(&buf[..n])?;
+            }
+            Err(_) => return Err(ReadFault::Failed),
+        }
+    }
+}
+
+/// Writes all that is due, in as many calls as it takes.
+pub fn write_due<O: Sink>(out: &mut O, due: &[u8]) -> Result<(), Failed>
+    ensures all { OnOk result (Appends (O.written out.old) (O.written out.new) due.now) }
+    ensures part { AppendsPrefix (O.written out.old) (O.written out.new) due.now }
+    ensures cause { HasSinkCause (O.faults out.old) (O.faults out.new) result }
+    ensures room { FitsIn (O.room out.old) due.now → IsOk result }
+{
+    let mut at = 0;
+    while at < due.len() {
+        at += out.write(&due[at..])?;
+    }
+    Ok(())
+}
