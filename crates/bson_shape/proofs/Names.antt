@@ -1,5 +1,5 @@
 -- The names of fields: which are there, and which are there twice.
-use Rattle.std.proofs.Common.{◌≡◌, ℕ, ◌+◌, ◌<◌, Bool, true, false, ◌||◌, List, length, get_or, take, drop, refl, ap, ◌∙◌, sym, ⊎_elim, string_bytes}
+use Rattle.std.proofs.Common.{◌≡◌, ℕ, ◌+◌, ◌<◌, Bool, true, false, cond, ◌||◌, List, length, get_or, take, drop, refl, ap, ◌∙◌, sym, ⊎_elim, string_bytes}
 use Rattle.std.specs.Str.{bytes_eq}
 use Rattle.std.proofs.Math.Bool.{or-false, or_assoc}
 use Rattle.std.proofs.lemmas.Bool.{false≢true, or_left, or_right, or_cases, or_parts, or_from}
@@ -76,6 +76,17 @@ repeats_found fs i f h e before = repeats_early fs (i + 1) (repeats_more fs i f 
 
 pub repeats_missed : (fs : List FieldShape) (i : ℕ) (f : FieldShape) → i < length fs → f ≡ get_or fs i f → repeats (fields_of (take i fs)) ≡ false → has_field (string_bytes f.name) (fields_of (take i fs)) ≡ false → repeats (fields_of (take (i + 1) fs)) ≡ false
 repeats_missed fs i f h e so_far before = repeats_more fs i f h e ∙ or_from _ _ so_far before
+
+-- a set of the names so far takes one more
+cond_or : (b had : Bool) → cond b true had ≡ (had || b)
+cond_or true true = refl
+cond_or true false = refl
+cond_or false true = refl
+cond_or false false = refl
+
+pub has_field_added : (q name : Utf8) (fs : List FieldShape) (i : ℕ) (f : FieldShape) → i < length fs → f ≡ get_or fs i f → name ≡ string_bytes f.name → (had : Bool) → had ≡ has_field q (fields_of (take i fs)) → cond (bytes_eq name q) true had ≡ has_field q (fields_of (take (i + 1) fs))
+has_field_added q name fs i f h e same had known =
+    cond_or (bytes_eq name q) had ∙ (λ j. known j || bytes_eq (same j) q) ∙ ap (λ b. has_field q (fields_of (take i fs)) || b) (bytes_eq-swap (string_bytes f.name) q) ∙ sym (has_field_more q fs i f h e)
 
 -- the first name is not among the others, and these are distinct
 pub distinct_parts : (name : Utf8) (f : Form) (fs : Fields) → AreDistinct (field name f fs) → (has_field name fs ≡ false) × AreDistinct fs

@@ -1,14 +1,40 @@
-ghost use Rattle.std.specs.Prelude.{◌≡◌};
+ghost use Rattle.std.specs.Prelude.{◌≡◌, IfOk};
 ghost use Rattle.bson_shape.specs.Makers.{has_field, repeats};
 ghost use Rattle.bson_shape.specs.ShapeView.{fields_of};
 
 use crate::FieldShape;
+use std::alloc::{AllocError, Global};
+use std::collections::HashSet;
+
+/// Below this count of fields a scan is as fast as a set.
+const FEW: usize = 16;
 
 /// Whether two of the fields have one name.
+///
+/// It takes memory for a set of the names. Where that is refused the answer is the same, and takes longer.
 pub fn has_repeated_name(fields: &Vec<FieldShape>) -> bool
     ensures { result ≡ repeats (fields_of fields.now.items) }
 {
-    repeats_by_scan(fields.as_slice())
+    if fields.len() < FEW {
+        return repeats_by_scan(fields);
+    }
+    match repeats_by_set(*fields.allocator(), fields) {
+        Ok(repeats) => repeats,
+        Err(_) => repeats_by_scan(fields),
+    }
+}
+
+/// Whether two of the fields have one name: each name is looked up in a set of those before it.
+fn repeats_by_set(alloc: Global, fields: &[FieldShape]) -> Result<bool, AllocError>
+    ensures { IfOk result (λ b. b ≡ repeats (fields_of fields.now)) }
+{
+    let mut names = HashSet::with_capacity(alloc, fields.len())?;
+    for field in fields {
+        if !names.insert(field.name.as_str())? {
+            return Ok(true);
+        }
+    }
+    Ok(false)
 }
 
 /// Whether two of the fields have one name: each name is compared with all before it.
