@@ -9,7 +9,7 @@ pub mod ser;
 mod stop;
 mod text;
 
-// SHAPE
+pub use bson_shape::{FieldShape, Form, Leaf, ParseError, Shape, ShapeError};
 pub use cause::Cause;
 pub use datum::{Datum, Field};
 pub use path::{Path, Segment};

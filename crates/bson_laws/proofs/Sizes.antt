@@ -1,0 +1,58 @@
+-- What is written is as long as the size says, and of the kind of the value.
+use Rattle.std.proofs.Common.{◌≡◌, ℕ, zero, suc, ◌+◌, ◌∷◌, ◌++◌, length, Bool, true, false, cond, Option, Some, None, Result, Ok, Err, refl, ap, sym, ◌∙◌, arith}
+use Rattle.std.proofs.lemmas.List.{length-append}
+use Rattle.bson_base.specs.Text.{Utf8, has_zero}
+use Rattle.bson_base.specs.Outcome.{◌>>=◌}
+use Rattle.bson_base.specs.Reserved.{reserved_kind}
+use Rattle.bson_base.specs.Tree.{Tree, int32, document, Pairs, no_pairs, pair, enc, elements, kind}
+use Rattle.bson_base.specs.declared.element_type.ElementType.{ElementType}
+use Rattle.bson_base.proofs.Outcomes.{map_ok, bind_ok}
+use Rattle.bson_base.proofs.Lengths.{length-le32, length-document}
+use Rattle.bson_datum.specs.Value.{Value, i32, structure, FieldValues, no_field_values, field_value, kind_of, reserved_or_document}
+use Rattle.bson_datum.specs.Refusal.{Refusal, WriteFault, under}
+use Rattle.bson_laws.specs.Spell.{Writing, struct_at, named, spell, spell_fields, size, size_fields}
+
+abbrev done : {A : Type 0} → A → Writing A
+done x = Ok x
+
+pub ok_is : {A : Type 0} (x y : A) → done x ≡ done y → x ≡ y
+ok_is x y e = cc
+
+-- what is under a key is the same value
+pub under_ok : {A F : Type 0} (key : Utf8) (r : Result A (Refusal F)) (x : A) → under key r ≡ Ok x → r ≡ Ok x
+under_ok key (Ok y) x e = e
+under_ok key (Err f) x e = absurd cc
+
+named_cases : (b : Bool) (f : Refusal WriteFault) (r : Writing Tree) (t : Tree) → cond b (Err f) r ≡ Ok t → (b ≡ false) × (r ≡ Ok t)
+named_cases true f r t e = absurd cc
+named_cases false f r t e = (refl, e)
+
+pub named_ok : (name : Utf8) (r : Writing Tree) (t : Tree) → named name r ≡ Ok t → (has_zero name ≡ false) × (r ≡ Ok t)
+named_ok name r t e = let c = named_cases (has_zero name) _ (under name r) t e in (c.0, under_ok name r t c.1)
+
+-- a struct that is written is a document, one level further in
+pub struct_ok : (o : Option ElementType) (levels : ℕ) (pairs : ℕ → Writing Pairs) (t : Tree) → struct_at o levels pairs ≡ Ok t
+    → (o ≡ None) × ((n : ℕ) × (levels ≡ suc n) × ((ps : Pairs) × (pairs n ≡ Ok ps) × (document ps ≡ t)))
+struct_ok (Some k) levels pairs t e = absurd cc
+struct_ok None zero pairs t e = absurd cc
+struct_ok None (suc n) pairs t e = (refl, (n, refl, map_ok document (pairs n) t e))
+
+pub spell_kind : (v : Value) (levels : ℕ) (t : Tree) → spell v levels ≡ Ok t → kind t ≡ kind_of v
+spell_kind (i32 n) levels t e = ap kind (sym (ok_is (int32 n) t e))
+spell_kind (structure name fs) levels t e = let m = struct_ok (reserved_kind name) levels (spell_fields fs) t e in ap kind (sym m.1.2.2) ∙ ap reserved_or_document (sym m.0)
+
+mutual
+  pub length-spell : (v : Value) (levels : ℕ) (t : Tree) → spell v levels ≡ Ok t → length (enc t) ≡ size v
+  length-spell (i32 n) levels t e = ap (λ u. length (enc u)) (sym (ok_is (int32 n) t e)) ∙ length-le32 _
+  length-spell (structure name fs) levels t e =
+      let m = struct_ok (reserved_kind name) levels (spell_fields fs) t e in
+      ap (λ u. length (enc u)) (sym m.1.2.2) ∙ length-document m.1.2.0 ∙ ap (λ k. k + 5) (length-spell_fields fs m.1.0 m.1.2.0 m.1.2.1)
+
+  pub length-spell_fields : (fs : FieldValues) (levels : ℕ) (ps : Pairs) → spell_fields fs levels ≡ Ok ps → length (elements ps) ≡ size_fields fs
+  length-spell_fields no_field_values levels ps e = ap (λ u. length (elements u)) (sym (ok_is no_pairs ps e))
+  length-spell_fields (field_value name v fs) levels ps e =
+      let a = bind_ok (named name (spell v levels)) (λ t. spell_fields fs levels >>= λ qs. Ok (pair name t qs)) ps e in
+      let b = bind_ok (spell_fields fs levels) (λ qs. Ok (pair name a.0 qs)) ps a.2 in
+      let k = named_ok name (spell v levels) a.0 a.1 in
+      ap (λ u. length (elements u)) (sym (ok_is (pair name a.0 b.0) ps b.2))
+      ∙ omega (arith, length-append name (0 ∷ enc a.0), length-append (name ++ (0 ∷ enc a.0)) (elements b.0), length-spell v levels a.0 k.1, length-spell_fields fs levels b.0 b.1)

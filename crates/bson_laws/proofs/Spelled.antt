@@ -1,0 +1,67 @@
+-- What means a clean tree is spelled as it.
+use Rattle.std.proofs.Common.{◌≡◌, ℕ, zero, suc, ◌≤◌, length, cond, Option, Some, None, Ok, Err, refl, ap, sym, subst, ◌∙◌, arith}
+use Rattle.std.specs.Prelude.{option_map, is_some}
+use Rattle.bson_base.specs.Outcome.{◌>>=◌, result_map}
+use Rattle.bson_base.specs.Reserved.{reserved_kind}
+use Rattle.bson_base.specs.Sound.{max_levels, IsClean, ArePairsClean, IsSound, IsDocument}
+use Rattle.bson_base.specs.Tree.{Tree, int32, document, Pairs, no_pairs, pair, enc, depth, pairs_depth}
+use Rattle.bson_base.specs.declared.element_type.ElementType.{ElementType}
+use Rattle.bson_base.proofs.Outcomes.{some_map, some_then}
+use Rattle.bson_datum.specs.Value.{Value, i32, structure, FieldValues, no_field_values, field_value, reserved_or_document}
+use Rattle.bson_datum.specs.Refusal.{here, invalid_cstring, under}
+use Rattle.bson_laws.specs.Means.{means, means_fields}
+use Rattle.bson_laws.specs.Spell.{enclosed_at, struct_at, spell, spell_fields, at_top, spell_document, size}
+use Rattle.bson_laws.proofs.Sizes.{length-spell}
+
+abbrev pub pairs_found : Pairs → Option Pairs
+pairs_found t = Some t
+
+pub pairs_are : (t u : Pairs) → pairs_found t ≡ pairs_found u → t ≡ u
+pairs_are t u e = cc
+
+abbrev pub found : Tree → Option Tree
+found t = Some t
+
+pub tree_is : (t u : Tree) → found t ≡ found u → t ≡ u
+tree_is t u e = cc
+
+pub unreserved : (o : Option ElementType) (r : Option Tree) (t : Tree) → cond (is_some o) None r ≡ Some t → (o ≡ None) × (r ≡ Some t)
+unreserved (Some k) r t e = absurd cc
+unreserved None r t e = (refl, e)
+
+enclosed : (fs : FieldValues) (ps : Pairs) (levels : ℕ) → depth (document ps) ≤ levels → ((n : ℕ) → pairs_depth ps ≤ n → spell_fields fs n ≡ Ok ps) → enclosed_at levels (spell_fields fs) ≡ Ok (document ps)
+enclosed fs ps zero d h = absurd (omega arith)
+enclosed fs ps (suc n) d h = ap (result_map document) (h n (omega arith))
+
+mutual
+  pub spell_is : (v : Value) (t : Tree) (levels : ℕ) → means v ≡ Some t → IsClean t → depth t ≤ levels → spell v levels ≡ Ok t
+  spell_is (i32 n) t levels e c d = ap Ok (tree_is (int32 n) t e)
+  spell_is (structure name fs) t levels e c d =
+      let u = unreserved (reserved_kind name) (option_map document (means_fields fs)) t e in
+      let m = some_map document (means_fields fs) t u.1 in
+      subst (λ x. IsClean x → depth x ≤ levels → spell (structure name fs) levels ≡ Ok x) m.2
+      (λ c' d'. ap (λ o. struct_at o levels (spell_fields fs)) u.0 ∙ enclosed fs m.0 levels d' (λ n le. spell_fields_are fs m.0 n m.1 c' le)) c d
+
+  pub spell_fields_are : (fs : FieldValues) (ps : Pairs) (levels : ℕ) → means_fields fs ≡ Some ps → ArePairsClean ps → pairs_depth ps ≤ levels → spell_fields fs levels ≡ Ok ps
+  spell_fields_are no_field_values ps levels e c d = ap Ok (pairs_are no_pairs ps e)
+  spell_fields_are (field_value name v fs) ps levels e c d =
+      let a = some_then (λ t. option_map (pair name t) (means_fields fs)) (means v) ps e in
+      let b = some_map (pair name a.0) (means_fields fs) ps a.2 in
+      subst (λ u. ArePairsClean u → pairs_depth u ≤ levels → spell_fields (field_value name v fs) levels ≡ Ok u) b.2
+      (λ c' d'.
+      ap (λ z. cond z (Err (here (invalid_cstring name))) (under name (spell v levels)) >>= λ t. spell_fields fs levels >>= λ qs. Ok (pair name t qs)) c'.0.no_zero
+      ∙ ap (λ r. under name r >>= λ t. spell_fields fs levels >>= λ qs. Ok (pair name t qs)) (spell_is v a.0 levels a.1 c'.2 (omega arith))
+      ∙ ap (λ r. r >>= λ qs. Ok (pair name a.0 qs)) (spell_fields_are fs b.0 levels b.1 c'.3 (omega arith)))
+      c d
+
+document_only : (v : Value) (t : Tree) → means v ≡ Some t → IsDocument t → spell v max_levels ≡ Ok t → spell_document v ≡ Ok t
+document_only (i32 n) t e doc h = absurd (subst IsDocument (sym (tree_is (int32 n) t e)) doc)
+document_only (structure name fs) t e doc h =
+    let u = unreserved (reserved_kind name) (option_map document (means_fields fs)) t e in
+    ap (λ o. at_top (reserved_or_document o) (spell (structure name fs) max_levels)) u.0 ∙ h
+
+-- what means a sound tree is spelled as that tree, in as many bytes as its size says
+pub spell_means : (v : Value) (t : Tree) → means v ≡ Some t → IsSound t → (spell_document v ≡ Ok t) × (size v ≡ length (enc t))
+spell_means v t e s =
+    let h = spell_is v t max_levels e s.clean s.nests in
+    (document_only v t e s.document h, sym (length-spell v max_levels t h))

@@ -1,0 +1,60 @@
+-- The tree that a value is written as, or why it is not written, and how large it is.
+use Rattle.std.specs.Prelude.{ℕ, zero, suc, ◌+◌, length, Option, Some, None, if◌then◌else◌, Result, Ok, Err}
+use Rattle.bson_base.specs.Text.{Utf8, has_zero}
+use Rattle.bson_base.specs.Outcome.{◌>>=◌, result_map}
+use Rattle.bson_base.specs.Reserved.{reserved_kind}
+use Rattle.bson_base.specs.Sound.{max_levels}
+use Rattle.bson_base.specs.Tree.{Tree, int32, document, Pairs, no_pairs, pair}
+use Rattle.bson_base.specs.declared.element_type.ElementType.{ElementType}
+use Rattle.bson_base.specs.declared.element_type.ElementType.TheVariants.{EmbeddedDocument}
+use Rattle.bson_datum.specs.Value.{Value, i32, structure, FieldValues, no_field_values, field_value, kind_of}
+use Rattle.bson_datum.specs.Cause.{too_deep, top_level, not_built}
+use Rattle.bson_datum.specs.Refusal.{WriteFault, unwritable, invalid_cstring, Refusal, here, under}
+
+-- an answer of writing: something, or a refusal with its path
+abbrev pub Writing : Type 0 → Type 0
+Writing A = Result A (Refusal WriteFault)
+
+-- a document takes one of the levels that are left
+abbrev pub enclosed_at : ℕ → (ℕ → Writing Pairs) → Writing Tree
+enclosed_at zero pairs = Err (here (unwritable too_deep))
+enclosed_at (suc levels) pairs = result_map document (pairs levels)
+
+-- a struct of a name: one of a reserved name is not written yet
+abbrev pub struct_at : Option ElementType → ℕ → (ℕ → Writing Pairs) → Writing Tree
+struct_at None levels pairs = enclosed_at levels pairs
+struct_at (Some k) levels pairs = Err (here (unwritable (not_built k)))
+
+-- the value of a field, whose name is judged before it
+abbrev pub named : Utf8 → Writing Tree → Writing Tree
+named name r = if has_zero name then Err (here (invalid_cstring name)) else under name r
+
+abbrev mutual
+  -- the tree of a value with so many levels left, or the first refusal in document order
+  pub spell : Value → ℕ → Writing Tree
+  spell (i32 n) levels = Ok (int32 n)
+  spell (structure name fs) levels = struct_at (reserved_kind name) levels (spell_fields fs)
+
+  pub spell_fields : FieldValues → ℕ → Writing Pairs
+  spell_fields no_field_values levels = Ok no_pairs
+  spell_fields (field_value name v fs) levels = named name (spell v levels) >>= λ t. spell_fields fs levels >>= λ ps. Ok (pair name t ps)
+
+-- a value that is written as a document goes on; any other is refused at the top level
+abbrev pub at_top : ElementType → Writing Tree → Writing Tree
+at_top EmbeddedDocument r = r
+at_top k r = Err (here (unwritable (top_level k)))
+
+-- a whole document
+abbrev pub spell_document : Value → Writing Tree
+spell_document v = at_top (kind_of v) (spell v max_levels)
+
+abbrev mutual
+  -- how many bytes a value takes
+  pub size : Value → ℕ
+  size (i32 n) = 4
+  size (structure name fs) = size_fields fs + 5
+
+  -- an element takes one byte for its kind, its key and a zero, and its value
+  pub size_fields : FieldValues → ℕ
+  size_fields no_field_values = 0
+  size_fields (field_value name v fs) = length name + 2 + size v + size_fields fs
