@@ -34,7 +34,7 @@ impl<R: Read> Source for ReadAdapter<R> {
         ensures bound { ReadsAtMost result buf.new }
         ensures bytes { ReadConsumes None None result buf.new }
         ensures cause { HasCause (read_faults self.old) (read_faults self.new) result }
-        ensures empty { length buf.old ≡ 0 → IsIdle None None (read_faults self.old) (read_faults self.new) result }
+        ensures empty { buf.old ≡ [] → IsIdle None None (read_faults self.old) (read_faults self.new) result }
 
         // Each failure counts as one, and until the count stands at its last value the bytes are the reader's.
         ensures counted { OnErr result (read_faults self.new ≡ read_faults self.old + 1) }

@@ -25,7 +25,7 @@ pub trait Source {
         ensures bound { ReadsAtMost result buf.new }
         ensures bytes { ReadConsumes (left self.old) (left self.new) result buf.new }
         ensures cause { HasCause (faults self.old) (faults self.new) result }
-        ensures empty { length buf.old ≡ 0 → IsIdle (left self.old) (left self.new) (faults self.old) (faults self.new) result };
+        ensures empty { buf.old ≡ [] → IsIdle (left self.old) (left self.new) (faults self.old) (faults self.new) result };
 }
 
 /// Where bytes go.

@@ -92,10 +92,10 @@ impl Source for MemorySource {
         ensures bound { ReadsAtMost result buf.new }
         ensures bytes { ReadConsumes (Some self.old.left) (Some self.new.left) result buf.new }
         ensures cause { HasCause self.old.faults self.new.faults result }
-        ensures empty { length buf.old ≡ 0 → IsIdle (Some self.old.left) (Some self.new.left) self.old.faults self.new.faults result }
+        ensures empty { buf.old ≡ [] → IsIdle (Some self.old.left) (Some self.new.left) self.old.faults self.new.faults result }
 
         // Which call fails, how many bytes the others move, and what is left behind.
-        ensures unnumbered { length buf.old ≡ 0 → self.new ≡ self.old }
+        ensures unnumbered { buf.old ≡ [] → self.new ≡ self.old }
         ensures failed { 0 < length buf.old → (IsErr result ↔ IsListed self.old.fails self.old.calls) }
         ensures moved { IfOk result (λ n. n ≡ moved_of self.old.most self.old.calls (min (length buf.old) (length self.old.left))) }
         ensures after { 0 < length buf.old → MatchResult result (ReadMoved self.old self.new) (λ _. ReadFailed self.old self.new) }

@@ -35,7 +35,7 @@ impl Source for SteadySource<'_> {
         ensures bound { ReadsAtMost result buf.new }
         ensures bytes { ReadConsumes (Some (steady_left self.old)) (Some (steady_left self.new)) result buf.new }
         ensures cause { HasCause 0 0 result }
-        ensures empty { length buf.old ≡ 0 → IsIdle (Some (steady_left self.old)) (Some (steady_left self.new)) 0 0 result }
+        ensures empty { buf.old ≡ [] → IsIdle (Some (steady_left self.old)) (Some (steady_left self.new)) 0 0 result }
 
         // It never fails, and gives as much as fits.
         ensures count { result ≡ Ok (min (length buf.old) (length (steady_left self.old))) }
