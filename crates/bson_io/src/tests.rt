@@ -1,11 +1,12 @@
-// What no clause says: that a call which wants memory succeeds where there is memory, and what the
-// adapters do at readers and writers that fail.
+// What no clause says: that a call which wants memory succeeds where there is memory, what the
+// adapters do at readers and writers that fail, and that steps have no bytes.
 use crate::{
     Failed, MemorySink, MemorySource, Out, ReadAdapter, Sink, Source, SteadySink, SteadySource,
     Steps, Tally, WriteAdapter, read_to_end, write_due,
 };
 use std::io;
 use std::io::{Read, Write};
+use std::mem::size_of;
 use std::test::Fail;
 
 /// Gives a 7 at each call but the second, which fails.
@@ -116,6 +117,7 @@ fn steady_bytes_are_read_and_written_whole(rt: HostRuntime) -> Result<(), Fail> 
 
 #[test]
 fn an_output_grows(rt: HostRuntime) -> Result<(), Fail> {
+    assert_eq!(rt; size_of::<Steps<Tally>>(), 0);
     let mut steps = Steps::<Tally>::new();
     let mut out = Out::new(rt.alloc());
     out.reserve(8)?;
