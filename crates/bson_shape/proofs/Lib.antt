@@ -1,3 +1,4 @@
 pub mod Made
 pub mod Names
+pub mod Sames
 pub mod Shapes

@@ -5,3 +5,5 @@ pub mod Makers
 pub mod Refusals
 pub mod ShapeView
 pub mod ShapeFalls
+pub mod Same
+pub mod Decided

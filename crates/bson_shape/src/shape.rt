@@ -145,3 +145,6 @@ fn deepest(fields: &[FieldShape]) -> u16
     }
     levels
 }
+
+#[cfg(test)]
+mod tests;
