@@ -39,3 +39,11 @@ pub fn law_spell_means()
     ensures spells { (d : Value) (t : Tree) → means d ≡ Some t → IsSound t → spell_document d ≡ Ok t }
     ensures size { (d : Value) (t : Tree) → means d ≡ Some t → IsSound t → size d ≡ length (enc t) }
 {}
+
+/// The document that a value of a plain shape means is read back, at the shape, as the normal form of the value.
+///
+/// It does nothing.
+pub fn law_read_back()
+    ensures reads { (s : Form) (d : Value) (t : Tree) → IsShape s → IsPlain s → Fits d s → means d ≡ Some t → IsSound t
+        → reads_document s (enc t) ≡ Ok (norm d) }
+{}
