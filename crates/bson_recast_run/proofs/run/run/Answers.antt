@@ -1,0 +1,3 @@
+use Rattle.std.proofs.Common.{map, string_bytes}
+use Rattle.bson_recast_run.proofs.Headline.{requested, writes_exactly}
+use Rattle.bson_recast_run.proofs.run.run.Goals as goal
