@@ -33,7 +33,7 @@ enum Node {
 
 /// A field of a struct.
 #[cycle(shape)]
-#[derive(Debug, Drop)]
+#[derive(Debug, Drop, PartialEq)]
 pub struct FieldShape {
     /// The key that the field has in a document.
     pub name: String,

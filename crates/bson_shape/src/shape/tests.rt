@@ -24,7 +24,7 @@ fn numbers(
     Ok(Shape::structure(String::from_str(alloc, name)?, shapes))
 }
 
-/// How many levels the makers answer where a struct is put around an `i32` this many times.
+/// A shape of this many levels: structs of one field around an `i32`.
 fn nested(alloc: Global, levels: usize) -> Result<Result<Shape, ShapeError>, AllocError> {
     let mut shape = Shape::i32();
     for _ in 1..levels {
@@ -50,6 +50,8 @@ fn makes_shapes(rt: HostRuntime) -> Result<(), Fail> {
     };
     assert_eq!(rt; name, "Point");
     assert_eq!(rt; fields.len(), 2);
+    assert!(rt; point == numbers(alloc, "Point", &["x", "y"])??);
+    assert!(rt; point != numbers(alloc, "Point", &["x", "z"])??);
     Ok(())
 }
 
