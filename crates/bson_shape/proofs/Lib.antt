@@ -1,0 +1,5 @@
+pub mod Words
+pub mod NameRuns
+pub mod FormRuns
+pub mod States
+pub mod Steps
