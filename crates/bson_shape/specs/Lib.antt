@@ -3,3 +3,8 @@ pub mod Form
 pub mod Notation
 pub mod FirstRefusal
 pub mod Machine
+pub mod Levels
+pub mod Makers
+pub mod Refusals
+pub mod ShapeView
+pub mod ShapeFalls

@@ -1,6 +1,13 @@
 //! The shapes that documents are read at, and their notation.
 #![tactic(auto)]
 
+mod distinct;
+mod error;
+mod form;
 mod leaf;
+mod shape;
 
+pub use error::{ParseError, ShapeError};
+pub use form::Form;
 pub use leaf::Leaf;
+pub use shape::{FieldShape, Shape};

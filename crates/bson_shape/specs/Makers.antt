@@ -1,0 +1,48 @@
+-- What the makers of shapes ask for, and what they answer.
+use Rattle.std.specs.Prelude.{◌≡◌, ◌≤◌, Bool, true, false, ◌||◌, if◌then◌else◌, nat_lt, None, is_some, Result, Ok, Err}
+use Rattle.std.specs.Str.{bytes_eq, is_utf8}
+use Rattle.bson_base.specs.Text.{Utf8}
+use Rattle.bson_base.specs.Reserved.{reserved_kind}
+use Rattle.bson_shape.specs.Form.{Form, leaf, structure, Fields, no_fields, field}
+use Rattle.bson_shape.specs.Levels.{levels, max_shape_levels}
+use Rattle.bson_shape.specs.declared.error.ShapeError.{ShapeError}
+use Rattle.bson_shape.specs.declared.error.ShapeError.TheVariants.{ReservedName, RepeatedName, TooDeep}
+
+-- a field has the name
+abbrev pub has_field : Utf8 → Fields → Bool
+has_field name no_fields = false
+has_field name (field n f fs) = bytes_eq name n || has_field name fs
+
+-- two fields have one name
+abbrev pub repeats : Fields → Bool
+repeats no_fields = false
+repeats (field n f fs) = has_field n fs || repeats fs
+
+-- no two fields have one name
+abbrev pub AreDistinct : Fields → Type 0
+AreDistinct fs = repeats fs ≡ false
+
+-- What the maker of a struct asks: a text as its name, which is not reserved, fields of different names, and few levels.
+pub record IsStruct (name : Utf8) (fields : Fields) : Type 0 where
+  pub text : is_utf8 name ≡ true
+  pub free : reserved_kind name ≡ None
+  pub distinct : AreDistinct fields
+  pub few : levels (structure name fields) ≤ max_shape_levels
+
+abbrev mutual
+  -- each struct in the form is as its maker asks, and each field's name is a text
+  pub IsShape : Form → Type 0
+  IsShape (leaf l) = Unit {0}
+  IsShape (structure name fs) = IsStruct name fs × AreShapes fs
+
+  pub AreShapes : Fields → Type 0
+  AreShapes no_fields = Unit {0}
+  AreShapes (field name f fs) = (is_utf8 name ≡ true) × IsShape f × AreShapes fs
+
+-- what the maker of a struct answers
+abbrev pub made_structure : Utf8 → Fields → Result Form ShapeError
+made_structure name fs =
+    if is_some (reserved_kind name) then Err ReservedName
+    else (if repeats fs then Err RepeatedName
+    else (if nat_lt max_shape_levels (levels (structure name fs)) then Err TooDeep
+    else Ok (structure name fs)))
