@@ -6,3 +6,6 @@ pub mod Steps
 pub mod Made
 pub mod Names
 pub mod Shapes
+pub mod Grown
+pub mod CharRuns
+pub mod Loop

@@ -8,3 +8,6 @@ pub mod Makers
 pub mod Refusals
 pub mod ShapeView
 pub mod ShapeFalls
+pub mod Answers
+pub mod ParserView
+pub mod PrinterView

@@ -172,6 +172,17 @@ step at (Escape owner name) st b = escape at owner name st b
 step at (Named owner name) st b = named at owner name st b
 step at (Done f) st b = form_ended at f st b
 
+-- the bytes of a character that is not ASCII: it stands between quotes alone
+unfoldable pub other_character : ℕ → Mode → List Level → Utf8 → Result State Refusal
+other_character at (Quoted owner name) st bytes = Ok (Quoted owner (name ++ bytes), st)
+other_character at Form_due st bytes = Err (Not_notation at)
+other_character at (First_field o) st bytes = Err (Not_notation at)
+other_character at (Field_due o) st bytes = Err (Not_notation at)
+other_character at (Bare owner name) st bytes = Err (Not_notation at)
+other_character at (Escape owner name) st bytes = Err (Not_notation at)
+other_character at (Named owner name) st bytes = Err (Not_notation at)
+other_character at (Done f) st bytes = Err (Not_notation at)
+
 -- all the bytes, from a place on
 unfoldable pub run : ℕ → State → Utf8 → Result State Refusal
 run at s [] = Ok s

@@ -5,6 +5,9 @@ mod distinct;
 mod error;
 mod form;
 mod leaf;
+mod name;
+mod parser;
+mod printer;
 mod shape;
 
 pub use error::{ParseError, ShapeError};
