@@ -48,7 +48,7 @@ not_quote b h = grind (arith, nat_tests)
 not_form : (b : ℕ) → 128 ≤ b → begins_form b ≡ false
 not_form b h = grind (arith, nat_tests)
 
-not_escaped : (b : ℕ) → 128 ≤ b → is_escaped b ≡ false
+pub not_escaped : (b : ℕ) → 128 ≤ b → is_escaped b ≡ false
 not_escaped b h = grind (arith, nat_tests)
 
 -- behind a form or a name there is no such byte

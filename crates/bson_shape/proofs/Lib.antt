@@ -9,3 +9,4 @@ pub mod Shapes
 pub mod Grown
 pub mod CharRuns
 pub mod Loop
+pub mod Printed

@@ -26,7 +26,7 @@ run-append (x ∷ xs) ys at s =
     bound_more (Err e) xs ys at h = refl
 
 -- the characters from here on
-next_of : (cs : List ℕ) (k c : ℕ) → k < length cs → c ≡ get_or cs k c → encodes (drop k cs) ≡ encode c ++ encodes (drop (k + 1) cs)
+pub next_of : (cs : List ℕ) (k c : ℕ) → k < length cs → c ≡ get_or cs k c → encodes (drop k cs) ≡ encode c ++ encodes (drop (k + 1) cs)
 next_of cs k c l e = ap encodes (drop-cons cs k c l) ∙ ap (λ x. encode x ++ encodes (drop (suc k) cs)) (sym e) ∙ ap (λ i. encode c ++ encodes (drop i cs)) (sym (add-one k))
 
 -- one character, and then the rest

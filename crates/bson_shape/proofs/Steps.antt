@@ -143,7 +143,7 @@ bare_leaves at owner n st b v =
 
 -- ---- between quotes
 
-escaped-append : (xs ys : Utf8) → escaped (xs ++ ys) ≡ escaped xs ++ escaped ys
+pub escaped-append : (xs ys : Utf8) → escaped (xs ++ ys) ≡ escaped xs ++ escaped ys
 escaped-append [] ys = refl
 escaped-append (x ∷ xs) ys =
     elim (is_escaped x) as (λ t. cond t (92 ∷ x ∷ escaped (xs ++ ys)) (x ∷ escaped (xs ++ ys)) ≡ cond t (92 ∷ x ∷ escaped xs) (x ∷ escaped xs) ++ escaped ys) [

@@ -1,5 +1,5 @@
 // Writing the notation of a shape.
-ghost use Rattle.std.specs.Prelude.{◌≡◌, ◌++◌, ◌∷◌, [], IfOk, OnOk, string_bytes};
+ghost use Rattle.std.specs.Prelude.{◌≡◌, ◌++◌, ◌∷◌, [], IfOk, OnOk, string_bytes, encode_utf8};
 ghost use Rattle.bson_shape.specs.Notation as notation;
 ghost use Rattle.bson_shape.specs.PrinterView.{comma_at};
 
@@ -12,11 +12,21 @@ fn put_escaped(out: &mut String, name: &str) -> Result<(), AllocError>
     ensures { OnOk result (string_bytes out.new ≡ string_bytes out.old ++ notation.escaped name.now) }
 {
     for c in name.chars() {
-        if c == '"' || c == '\\' {
-            out.push('\\')?;
-        }
-        out.push(c)?;
+        put_escaped_character(out, c)?;
     }
+    Ok(())
+}
+
+#[tactic(auto, using(crate::proofs::Printed::escaped_encode))]
+fn put_escaped_character(out: &mut String, c: char) -> Result<(), AllocError>
+    ensures { OnOk result (string_bytes out.new ≡ string_bytes out.old ++ notation.escaped (encode_utf8 c)) }
+{
+    if c == '"' || c == '\\' {
+        out.push('\\')?;
+        out.push(c)?;
+        return Ok(());
+    }
+    out.push(c)?;
     Ok(())
 }
 
