@@ -2,6 +2,7 @@ pub mod Words
 pub mod NameRuns
 pub mod FormRuns
 pub mod States
+pub mod TextStates
 pub mod Steps
 pub mod Made
 pub mod Names
