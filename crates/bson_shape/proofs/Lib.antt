@@ -11,3 +11,5 @@ pub mod Grown
 pub mod CharRuns
 pub mod Loop
 pub mod Printed
+pub mod Texts
+pub mod Completions

@@ -39,12 +39,12 @@ pub record IsMet (bytes : Utf8) (r : MakerRefusal) : Type 0 where
   pub begins : text form ≡ take (r.met + 1) bytes ++ rest
   pub first : first_refusal 0 0 form ≡ Some r
 
--- The text is no notation from this place on, and no maker refuses before it.
+-- So many bytes are the longest front of the text with which some notation begins, and no maker refuses in it.
 pub record IsNotNotationAt (bytes : Utf8) (place : ℕ) : Type 0 where
   pub longest : IsLongestFront bytes place
-  pub first : (r : MakerRefusal) → IsMet bytes r → place ≤ r.met
+  pub unmet : (r : MakerRefusal) → IsMet bytes r → ⊥
 
--- A maker refuses the form that begins at this place, and no refusal is met before it.
+-- A maker refuses the form that begins at this place, and this is the first refusal that is met.
 pub record IsRefusedAt (bytes : Utf8) (place : ℕ) (cause : ShapeError) : Type 0 where
   pub met : ℕ
   pub is_met : IsMet bytes (record { met = met; place = place; cause = cause })
