@@ -1,4 +1,16 @@
+pub mod Words
+pub mod NameRuns
+pub mod FormRuns
+pub mod States
+pub mod TextStates
+pub mod Steps
 pub mod Made
 pub mod Names
 pub mod Sames
 pub mod Shapes
+pub mod Grown
+pub mod CharRuns
+pub mod Loop
+pub mod Printed
+pub mod Texts
+pub mod Completions

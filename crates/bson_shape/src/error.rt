@@ -1,3 +1,4 @@
+use std::alloc::{AllocError, AllocFailed};
 use std::fmt;
 
 /// Why a maker refuses a shape.
@@ -49,5 +50,27 @@ impl fmt::Display for ParseError {
             ParseError::Refused(_, cause) => cause.fmt(f),
             ParseError::NoMemory => f.write_str("out of memory"),
         }
+    }
+}
+
+impl From<AllocError> for ParseError {
+    ghost use Rattle.std.specs.Prelude.{◌≡◌};
+    ghost use Rattle.bson_shape.specs.declared.error.ParseError.TheVariants.{NoMemory};
+
+    ghost from_gives = { λ _ e. e ≡ NoMemory };
+
+    fn from(_error: AllocError) -> ParseError {
+        ParseError::NoMemory
+    }
+}
+
+impl<T: Drop> From<AllocFailed<T>> for ParseError {
+    ghost use Rattle.std.specs.Prelude.{◌≡◌};
+    ghost use Rattle.bson_shape.specs.declared.error.ParseError.TheVariants.{NoMemory};
+
+    ghost from_gives = { λ _ e. e ≡ NoMemory };
+
+    fn from(_error: AllocFailed<T>) -> ParseError {
+        ParseError::NoMemory
     }
 }

@@ -6,6 +6,9 @@ mod equality;
 mod error;
 mod form;
 mod leaf;
+mod name;
+mod parser;
+mod printer;
 mod shape;
 
 pub use error::{ParseError, ShapeError};
