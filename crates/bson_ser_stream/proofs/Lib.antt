@@ -1,0 +1,4 @@
+pub mod Ended
+pub mod Written
+pub mod Halted
+pub mod Structs
