@@ -1,3 +1,4 @@
+pub mod Growth
 pub mod Ended
 pub mod Written
 pub mod Halted

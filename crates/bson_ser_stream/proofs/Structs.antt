@@ -1,5 +1,6 @@
 -- A struct of a free name is written as a document of its fields.
-use Rattle.std.proofs.Common.{◌≡◌, ℕ, ◌+◌, ◌≤◌, List, Option, None, Result, ap, sym, subst, ◌∙◌}
+use Rattle.std.proofs.Common.{◌≡◌, ℕ, ◌+◌, ◌≤◌, List, None, Result, ap, sym, subst, ◌∙◌}
+use Rattle.std.specs.Prelude.{OnOk}
 use Rattle.std.specs.Global.{Vec}
 use Rattle.bson_base.specs.Text.{Bytes}
 use Rattle.bson_base.specs.Reserved.{reserved_kind}
@@ -16,8 +17,8 @@ use Rattle.bson_ser_stream.specs.Halting.{Gives}
 use Rattle.bson_ser_stream.specs.declared.halt.Halt.{Halt}
 
 module _ (d : Datum) (n : Text) (fs : Vec Field) (gs : List Field) (is : d ≡ Struct n fs) (same : gs ≡ fs.items) where
-  pub struct_fits : size_fields (fields_view gs) + 5 ≤ max_bytes → size (view d) ≤ max_bytes
-  struct_fits h = subst (λ v. size v ≤ max_bytes) (sym (ap view is ∙ view-Struct n fs)) (subst (λ xs. size_fields (fields_view xs) + 5 ≤ max_bytes) same h)
+  pub struct_fits : (r : Result (Unit {0}) Halt) → OnOk r (size_fields (fields_view gs) + 5 ≤ max_bytes) → OnOk r (size (view d) ≤ max_bytes)
+  struct_fits r h = subst (λ v. OnOk r (size v ≤ max_bytes)) (sym (ap view is ∙ view-Struct n fs)) (subst (λ xs. OnOk r (size_fields (fields_view xs) + 5 ≤ max_bytes)) same h)
 
   pub wrote_struct : (levels spare : ℕ) (old new : Bytes) (r : Result (Unit {0}) Halt) → reserved_kind (text_view n) ≡ None
       → Gives (size_fields (fields_view gs) + 5) spare (λ _. new) r (with_tree old (enclosed_at levels (spell_fields (fields_view gs)))) → Gives (size (view d)) spare (λ _. new) r (with_tree old (spell (view d) levels))

@@ -1,7 +1,7 @@
 -- What stands in the output after one more step.
-use Rattle.std.proofs.Common.{◌≡◌, ◌≢◌, ℕ, zero, suc, ◌+◌, ◌-◌, ◌<◌, ◌≤◌, [], ◌∷◌, ◌++◌, length, take, drop, Result, Ok, Err, refl, ap, sym, ◌∙◌, append_assoc, arith}
+use Rattle.std.proofs.Common.{◌≡◌, ◌≢◌, ℕ, zero, suc, ◌+◌, ◌-◌, ◌≤◌, [], ◌∷◌, ◌++◌, length, take, drop, Ok, Err, refl, ap, sym, ◌∙◌, append_assoc, arith}
 use Rattle.std.proofs.lemmas.List.{length-append, take_at, drop_at}
-use Rattle.bson_base.specs.Text.{Bytes, Utf8}
+use Rattle.bson_base.specs.Text.{Bytes}
 use Rattle.bson_base.specs.Outcome.{result_map}
 use Rattle.bson_base.specs.Sound.{max_bytes}
 use Rattle.bson_base.specs.Tree.{document, Pairs, le32, elements, enclosed}
@@ -12,7 +12,7 @@ use Rattle.bson_io.specs.Output.{Output, Appended, patched}
 use Rattle.bson_laws.specs.Spell.{Writing, spell_fields, enclosed_at, size_fields}
 use Rattle.bson_laws.proofs.Sizes.{length-spell_fields}
 use Rattle.bson_ser_stream.specs.Writing.{with_tree, with_elements}
-use Rattle.bson_ser_stream.specs.Halting.{Grows, Ends}
+use Rattle.bson_ser_stream.specs.Halting.{Ends}
 
 abbrev pub zeros : Bytes
 zeros = 0 ∷ 0 ∷ 0 ∷ 0 ∷ []

@@ -1,5 +1,5 @@
 -- What a writer leaves, whether it came to its end or not.
-use Rattle.std.specs.Prelude.{◌≡◌, ℕ, ◌+◌, ◌-◌, ◌*◌, ◌<◌, ◌≤◌, [], ◌∷◌, ◌++◌, length, take, Option, Some, None, Result, Ok, Err, IsOk, MatchOption, IfSome}
+use Rattle.std.specs.Prelude.{◌≡◌, ℕ, ◌+◌, ◌-◌, ◌*◌, ◌<◌, ◌≤◌, [], ◌∷◌, ◌++◌, length, take, Option, Some, Result, Ok, Err, IsOk, MatchOption, IfSome}
 use Rattle.bson_base.specs.Text.{Utf8}
 use Rattle.bson_base.specs.Sound.{max_bytes}
 use Rattle.bson_datum.specs.Cause.{too_long}

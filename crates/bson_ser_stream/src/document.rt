@@ -39,11 +39,7 @@ fn put_document<L: Ledger>(
 }
 
 /// Appends the bytes of a document to an output buffer, in one pass over the datum.
-pub fn to_buf<L: Ledger>(
-    value: &Datum<'_>,
-    out: &mut Out,
-    steps: &mut Steps<L>,
-) -> Result<()>
+pub fn to_buf<L: Ledger>(value: &Datum<'_>, out: &mut Out, steps: &mut Steps<L>) -> Result<()>
     ensures bytes { OnOk result (with_tree out.old.bytes (spell_document (view value.now)) ≡ Ok out.new.bytes) }
     ensures fits { OnOk result (size (view value.now) ≤ max_bytes) }
     ensures refused { IfErr result (λ e. Fails (size (view value.now)) (spell_document (view value.now)) (write_failure e)) }
@@ -51,7 +47,7 @@ pub fn to_buf<L: Ledger>(
 
     // No memory is wanted where the room is spare.
     ensures memory { (t : Tree) → means (view value.now) ≡ Some t → IsSound t → size (view value.now) ≤ out.old.spare → IsOk result }
-    ensures spare { length out.old.bytes + out.old.spare ≤ length out.new.bytes + out.new.spare }
+    ensures spare { OnOk result (out.old.spare ≤ out.new.spare + (length out.new.bytes - length out.old.bytes)) }
     ensures steps { OnOk result (steps.new ≤ steps.old + 2 * (length out.new.bytes - length out.old.bytes)) }
 {
     let start = out.len();

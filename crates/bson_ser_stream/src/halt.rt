@@ -49,7 +49,10 @@ impl Halt {
     {
         match self {
             Halt::Stopped(stop) => Error::from_stop(alloc, stop),
-            Halt::TooLong => Error::from_stop(alloc, Stop::here(alloc, Fault::Cause(Cause::TooLong))),
+            Halt::TooLong => Error::from_stop(
+                alloc,
+                Stop::here(alloc, Fault::Cause(Cause::TooLong)),
+            ),
         }
     }
 }

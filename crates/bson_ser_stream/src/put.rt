@@ -63,11 +63,7 @@ fn put_key<L: Ledger>(
 }
 
 // The end of the document that begins at a place: a zero, and the length of it all in its first four bytes.
-fn end_document<L: Ledger>(
-    out: &mut Out,
-    steps: &mut Steps<L>,
-    start: usize,
-) -> Result<(), Halt>
+fn end_document<L: Ledger>(out: &mut Out, steps: &mut Steps<L>, start: usize) -> Result<(), Halt>
     requires { start + 4 ≤ length out.old.bytes }
     ensures ok { OnOk result (Ends out.old out.new start steps.old steps.new) }
     ensures err { IfErr result (EndHalts out.old start) }
