@@ -8,6 +8,7 @@ ghost use Rattle.bson_datum.specs.ErrorView.{read_fault, read_failure};
 use crate::cause::Cause;
 use crate::path::Path;
 use crate::stop::Stop;
+use bson_rawdoc::raw;
 use std::alloc::Global;
 use std::fmt;
 
@@ -62,6 +63,21 @@ impl Error {
     {
         match fault {
             Fault::Cause(cause) => Error::DeserializationError { cause },
+        }
+    }
+}
+
+impl From<raw::Error> for Error {
+    ghost use Rattle.std.specs.Prelude.{◌≡◌};
+    ghost use Rattle.bson_datum.specs.Cause as cause;
+    ghost use Rattle.bson_datum.specs.Refusal.{bare, unreadable};
+    ghost use Rattle.bson_datum.specs.ErrorView.{read_failure};
+
+    ghost from_gives = { λ fault e. read_failure e ≡ bare (unreadable (cause.raw fault)) };
+
+    fn from(fault: raw::Error) -> Error {
+        Error::DeserializationError {
+            cause: Cause::Raw(fault),
         }
     }
 }

@@ -1,0 +1,58 @@
+-- The values that are read for the fields of a struct.
+use Rattle.std.proofs.Common.{◌≡◌, ℕ, zero, suc, ◌-◌, ◌<◌, List, [], ◌∷◌, length, get_or, set, Bool, true, false, cond, Option, Some, None, Result, Ok, Err, refl, ap, sym, subst, ◌∙◌, arith, string_bytes}
+use Rattle.std.specs.Prelude.{is_some, String}
+use Rattle.std.specs.Global.{Vec}
+use Rattle.std.specs.declared.alloc.Global.{Global}
+use Rattle.bson_base.specs.Text.{Bytes, Utf8}
+use Rattle.bson_base.specs.Outcome.{◌>>=◌, result_map}
+use Rattle.bson_base.specs.declared.element_type.ElementType.{ElementType}
+use Rattle.bson_rawdoc.specs.RawValue.{value_in}
+use Rattle.bson_rawdoc.specs.Walk.{Element, walk}
+use Rattle.bson_shape.specs.Form.{Fields, structure}
+use Rattle.bson_shape.specs.ShapeView.{fields_of}
+use Rattle.bson_shape.specs.declared.shape.FieldShape.{FieldShape}
+use Rattle.bson_datum.specs.Cause.{duplicate_field}
+use Rattle.bson_datum.specs.Refusal.{under}
+use Rattle.bson_datum.specs.Stop.{IsUnderKey}
+use Rattle.bson_datum.specs.Value as value
+use Rattle.bson_datum.specs.Value.{Value}
+use Rattle.bson_datum.specs.View.{view, fields_view}
+use Rattle.bson_datum.specs.declared.datum.Datum.{Struct}
+use Rattle.bson_datum.specs.declared.datum.Field.{Field}
+use Rattle.bson_datum.specs.declared.de.Fault.{Fault}
+use Rattle.bson_datum.specs.declared.stop.Stop.{Stop}
+use Rattle.bson_datum.specs.declared.text.Text.TheVariants.{Owned}
+use Rattle.bson_datum.proofs.Views.{view-Struct}
+use Rattle.bson_laws.specs.Reads.{Reading, refused, judged, document_of, place_of, Slots, no_slots, ReadField, fill_found, fill_one, fill, finish, reads, reads_field}
+use Rattle.bson_de_raw.specs.Encoded.{entered}
+use Rattle.bson_de_raw.proofs.Refusals.{StopsAs, stops_bind, stops_under}
+
+-- reading at the field at a place is reading at its shape
+pub field_read : (fs : List FieldShape) (i : ℕ) (d : FieldShape) (levels : ℕ) (k : ElementType) (bytes : Bytes) → i < length fs → reads_field (fields_of fs) i levels k bytes ≡ reads (get_or fs i d).shape levels k bytes
+field_read [] i d levels k bytes lt = absurd (omega arith)
+field_read (f ∷ fs) zero d levels k bytes lt = refl
+field_read (f ∷ fs) (suc i) d levels k bytes lt = field_read fs i d levels k bytes (omega arith)
+
+-- an element whose key is the name of the field at a place, which has no value yet
+module _ (fs : Fields) (levels : ℕ) (read : ReadField) (e : Element) (slots : Slots) (i : ℕ) (there : place_of fs e.key ≡ Some i) (new : is_some (get_or slots i None) ≡ false) where
+  one_new : fill_one fs levels read e slots ≡ (under e.key (read i e.kind e.value) >>= λ v. Ok (set slots i (Some v)))
+  one_new =
+      ap (fill_found levels read e slots) there ∙ ap (λ b. cond b (refused (duplicate_field e.key)) (under e.key (read i e.kind e.value) >>= λ v. Ok (set slots i (Some v)))) new
+
+  pub one_filled : (v : Value) → read i e.kind e.value ≡ Ok v → fill_one fs levels read e slots ≡ Ok (set slots i (Some v))
+  one_filled v h = one_new ∙ ap (λ r. under e.key r >>= λ x. Ok (set slots i (Some x))) h
+
+  pub one_stops : (s t : Stop Fault) → IsUnderKey e.key s t → StopsAs s (read i e.kind e.value) → StopsAs t (fill_one fs levels read e slots)
+  one_stops s t u h =
+      subst (λ (r : Reading Slots). StopsAs t r) (sym one_new) (stops_bind t (under e.key (read i e.kind e.value)) (λ v. Ok (set slots i (Some v))) (stops_under e.key s t (read i e.kind e.value) u h))
+
+-- a struct whose document was entered, whose fields were filled and finished
+pub struct_read : (name : Utf8) (fs : Fields) (levels : ℕ) (k : ElementType) (bytes body : Bytes) (slots : Slots) (s : String Global) (values : Vec Field) → entered levels k bytes ≡ Ok body
+    → fill (fill_one fs (levels - 1) (λ i. reads_field fs i (levels - 1))) (walk body) (no_slots fs) ≡ Ok slots → finish fs slots ≡ Ok (fields_view values.items) → string_bytes s ≡ name
+    → reads (structure name fs) levels k bytes ≡ Ok (view (Struct (Owned s) values))
+struct_read name fs levels k bytes body slots s values inside filled finished named =
+    ap (λ r. r >>= λ b. result_map (value.structure name) (fill (fill_one fs (levels - 1) (λ i. reads_field fs i (levels - 1))) (walk b) (no_slots fs) >>= finish fs)) inside
+    ∙ ap (λ r. result_map (value.structure name) (r >>= finish fs)) filled
+    ∙ ap (result_map (value.structure name)) finished
+    ∙ ap (λ n. Ok (value.structure n (fields_view values.items))) (sym named)
+    ∙ ap Ok (sym (view-Struct (Owned s) values))

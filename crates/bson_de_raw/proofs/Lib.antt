@@ -1,0 +1,5 @@
+pub mod Refusals
+pub mod Places
+pub mod Filled
+pub mod Finished
+pub mod Passed

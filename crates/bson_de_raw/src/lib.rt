@@ -1,0 +1,12 @@
+//! Reading the bytes of a document at a shape, without a copy of them.
+#![tactic(auto)]
+
+mod document;
+mod encoded;
+mod ignored;
+mod leaf;
+mod reading;
+mod slots;
+mod value;
+
+pub use document::from_slice_at;

@@ -1,0 +1,125 @@
+// Values at any shape.
+ghost use Rattle.std.specs.Prelude.{◌≡◌, IfOk, length};
+ghost use Rattle.bson_rawdoc.specs.DocumentView.{document_bytes};
+ghost use Rattle.bson_rawdoc.specs.Walk.{walk};
+ghost use Rattle.bson_shape.specs.Form as form;
+ghost use Rattle.bson_shape.specs.Makers.{AreDistinct};
+ghost use Rattle.bson_shape.specs.ShapeView.{fields_of};
+ghost use Rattle.bson_datum.specs.View.{view};
+ghost use Rattle.bson_laws.specs.Reads as reads;
+ghost use Rattle.bson_laws.specs.Reads.{reads_field};
+ghost use Rattle.bson_de_raw.specs.Encoded.{encoded_kind, encoded_bytes};
+ghost use Rattle.bson_de_raw.specs.Gives.{Reaches};
+ghost use Rattle.bson_de_raw.specs.SlotsView.{slots_view};
+
+use crate::encoded::Encoded;
+use crate::ignored::ignore;
+use crate::leaf::read_leaf;
+use crate::reading::{Reading, refused};
+use crate::slots::Slots;
+use bson_datum::{Cause, Datum, Text};
+use bson_rawdoc::{RawDocument, RawElement};
+use bson_shape::{FieldShape, Form, Shape};
+use std::alloc::Global;
+
+/// The value at a shape, with so many levels left for the documents in it, itself included.
+#[cycle(read)]
+pub(crate) fn read_value<'de>(
+    alloc: Global,
+    shape: &Shape,
+    levels: u32,
+    value: Encoded<'_, 'de>,
+) -> Reading<Datum<'de>>
+    ensures { Reaches view result (reads.reads shape.now levels (encoded_kind value.entry) (encoded_bytes value.entry)) }
+{
+    shape.known();
+    match shape.form() {
+        Form::Leaf(leaf) => read_leaf(alloc, leaf, value.judge(alloc, levels)?),
+        Form::Struct(name, fields) => read_struct(alloc, name, fields, levels, value),
+    }
+}
+
+#[cycle(read)]
+fn read_struct<'de>(
+    alloc: Global,
+    name: &str,
+    fields: &[FieldShape],
+    levels: u32,
+    value: Encoded<'_, 'de>,
+) -> Reading<Datum<'de>>
+    requires { AreDistinct (fields_of fields.now) }
+    ensures { Reaches view result (reads.reads (form.structure name.now (fields_of fields.now)) levels
+        (encoded_kind value.entry) (encoded_bytes value.entry)) }
+{
+    let document = value.enter(alloc, levels)?;
+    let slots = fill(alloc, fields, levels - 1, document)?;
+    let fields = slots.finish(alloc, fields)?;
+    let name = Text::Owned(String::from_str(alloc, name)?);
+    Ok(Datum::Struct { name, fields })
+}
+
+/// The values of the fields, from the elements of a document.
+#[cycle(read)]
+fn fill<'de>(
+    alloc: Global,
+    fields: &[FieldShape],
+    levels: u32,
+    document: RawDocument<'de>,
+) -> Reading<Slots<'de>>
+    requires { AreDistinct (fields_of fields.now) }
+    ensures len { IfOk result (λ s. length (slots_view s) ≡ length fields.now) }
+    ensures exact { Reaches slots_view result
+        (reads.fill (reads.fill_one (fields_of fields.now) levels (λ i. reads_field (fields_of fields.now) i levels))
+        (walk (document_bytes document.entry)) (reads.no_slots (fields_of fields.now))) }
+{
+    let mut slots = Slots::new(alloc, fields)?;
+    let mut elements = document.iter_elements();
+    while let Some(step) = elements.next() {
+        let element = match step {
+            Ok(element) => element,
+            Err(fault) => return Err(refused(alloc, Cause::Raw(fault))),
+        };
+        fill_one(alloc, fields, levels, &element, &mut slots)?;
+    }
+    Ok(slots)
+}
+
+/// The value of one element at its field, or dropped where no field has its key.
+#[cycle(read)]
+fn fill_one<'de>(
+    alloc: Global,
+    fields: &[FieldShape],
+    levels: u32,
+    element: &RawElement<'de>,
+    slots: &mut Slots<'de>,
+) -> Reading<()>
+    requires distinct { AreDistinct (fields_of fields.now) }
+    requires slots { length (slots_view slots.old) ≡ length fields.now }
+    ensures kept { length (slots_view slots.new) ≡ length (slots_view slots.old) }
+    ensures exact { Reaches (λ _. slots_view slots.new) result
+        (reads.fill_one (fields_of fields.now) levels (λ i. reads_field (fields_of fields.now) i levels) element.now (slots_view slots.old)) }
+{
+    let key = element.key();
+    let Some(place) = slots.place_of(fields, key) else {
+        return match ignore(alloc, levels, element) {
+            Ok(()) => Ok(()),
+            Err(stop) => Err(stop.under_key(key)),
+        };
+    };
+    if slots.is_filled(place) {
+        let cause = Cause::DuplicateField(String::from_str(alloc, key)?);
+        return Err(refused(alloc, cause));
+    }
+    match read_value(
+        alloc,
+        &fields[place].shape,
+        levels,
+        Encoded::Element(element),
+    ) {
+        Ok(value) => {
+            slots.put(place, value);
+            Ok(())
+        }
+        Err(stop) => Err(stop.under_key(key)),
+    }
+}
