@@ -11,6 +11,7 @@ use Rattle.bson_shape.specs.Form.{Form, leaf, structure}
 use Rattle.bson_shape.specs.Leaf.{word}
 use Rattle.bson_shape.specs.Machine.{parsed}
 use Rattle.bson_shape.specs.Makers.{IsShape}
+use Rattle.bson_shape.proofs.Texts.{parsed-shape}
 use Rattle.bson_shape.specs.Notation.{text, bare, begins_bare, between, quoted, name_text, struct_name_text}
 use Rattle.bson_shape.specs.declared.leaf.Leaf.TheVariants.{I32}
 use Rattle.bson_datum.specs.Value.{Value}
@@ -45,8 +46,8 @@ chosen : (b : Bool) (r : Request) → b ≡ false → cond b (refused_with usage
 chosen true r e = absurd cc
 chosen false r e = refl
 
-pub requested : (s : Form) (words : List Utf8) → parsed (text s) ≡ Ok s → words ≡ text s ∷ [] → request words ≡ recast_at s
-requested s words p e = ap request e ∙ chosen (is_option (text s)) (at_shape (parsed (text s))) (no_option s) ∙ ap at_shape p
+pub requested : (s : Form) (words : List Utf8) → IsShape s → words ≡ text s ∷ [] → request words ≡ recast_at s
+requested s words shape e = ap request e ∙ chosen (is_option (text s)) (at_shape (parsed (text s))) (no_option s) ∙ ap at_shape (parsed-shape s shape)
 
 same_shape : (r : Request) (s t : Form) → r ≡ recast_at s → r ≡ recast_at t → s ≡ t
 same_shape r s t a b = cc

@@ -22,7 +22,6 @@ ghost use Rattle.bson_recast_run.specs.Prepared.{Asks, Answers, Reports};
 use crate::recast::{RecastError, recast};
 use crate::status::Status;
 use bson_datum::{ParseError, Shape};
-use bson_shape::law_text;
 use bson_io::{Failed, ReadFault, Sink, Source, read_to_end, write_due};
 use std::alloc::{AllocError, Global};
 
@@ -239,6 +238,5 @@ pub fn run<I: Source, O: Sink, E: Sink>(
     ensures out_later { O.faults out.old ≤ O.faults out.new }
     ensures err_later { E.faults err.old ≤ E.faults err.new }
 {
-    law_text();
     carry_out(alloc, words, input, out, err)
 }

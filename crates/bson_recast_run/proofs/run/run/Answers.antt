@@ -1,3 +1,2 @@
-use Rattle.std.proofs.Common.{map, string_bytes}
 use Rattle.bson_recast_run.proofs.Headline.{requested, writes_exactly}
 use Rattle.bson_recast_run.proofs.run.run.Goals as goal
