@@ -13,3 +13,4 @@ pub mod Loop
 pub mod Printed
 pub mod Texts
 pub mod Completions
+pub mod Stops
