@@ -14,3 +14,5 @@ pub mod Printed
 pub mod Texts
 pub mod Completions
 pub mod Stops
+pub mod Places
+pub mod Parsed
