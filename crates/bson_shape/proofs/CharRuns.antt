@@ -72,7 +72,7 @@ word_refused at (Form_at p) n st b h = rw (not_byte b 123 h (omega arith)) (leaf
 word_refused at (Field_of o) n st b h = named_refused at (Field_of o) n st b h
 
 -- such a byte is read between quotes alone
-high_step : (at : ℕ) (m : Mode) (st : List Level) (b : ℕ) → 128 ≤ b → step at m st b ≡ other_character at m st (b ∷ [])
+pub high_step : (at : ℕ) (m : Mode) (st : List Level) (b : ℕ) → 128 ≤ b → step at m st b ≡ other_character at m st (b ∷ [])
 unfolding step form_due first_field field_due bare_name quoted_name escape other_character
 high_step at Form_due st b h = rw (not_form b h) refl
 high_step at (First_field o) st b h = rw (not_byte b 125 h (omega arith), not_quote b h) refl

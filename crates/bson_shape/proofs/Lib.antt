@@ -14,3 +14,6 @@ pub mod Loop
 pub mod Printed
 pub mod Texts
 pub mod Completions
+pub mod Stops
+pub mod Places
+pub mod Parsed
