@@ -1,12 +1,11 @@
 -- The values that are read for the fields of a struct.
-use Rattle.std.proofs.Common.{◌≡◌, ℕ, zero, suc, ◌-◌, ◌<◌, List, [], ◌∷◌, length, get_or, set, Bool, true, false, cond, Option, Some, None, Result, Ok, Err, refl, ap, sym, subst, ◌∙◌, arith, string_bytes}
+use Rattle.std.proofs.Common.{◌≡◌, ℕ, zero, suc, ◌-◌, ◌<◌, List, [], ◌∷◌, length, get_or, set, false, cond, Some, None, Ok, refl, ap, sym, subst, ◌∙◌, arith, string_bytes}
 use Rattle.std.specs.Prelude.{is_some, String}
 use Rattle.std.specs.Global.{Vec}
 use Rattle.std.specs.declared.alloc.Global.{Global}
 use Rattle.bson_base.specs.Text.{Bytes, Utf8}
 use Rattle.bson_base.specs.Outcome.{◌>>=◌, result_map}
 use Rattle.bson_base.specs.declared.element_type.ElementType.{ElementType}
-use Rattle.bson_rawdoc.specs.RawValue.{value_in}
 use Rattle.bson_rawdoc.specs.Walk.{Element, walk}
 use Rattle.bson_shape.specs.Form.{Fields, structure}
 use Rattle.bson_shape.specs.ShapeView.{fields_of}
@@ -23,7 +22,7 @@ use Rattle.bson_datum.specs.declared.de.Fault.{Fault}
 use Rattle.bson_datum.specs.declared.stop.Stop.{Stop}
 use Rattle.bson_datum.specs.declared.text.Text.TheVariants.{Owned}
 use Rattle.bson_datum.proofs.Views.{view-Struct}
-use Rattle.bson_laws.specs.Reads.{Reading, refused, judged, document_of, place_of, Slots, no_slots, ReadField, fill_found, fill_one, fill, finish, reads, reads_field}
+use Rattle.bson_laws.specs.Reads.{Reading, refused, place_of, Slots, no_slots, ReadField, fill_found, fill_one, fill, finish, reads, reads_field}
 use Rattle.bson_de_raw.specs.Encoded.{entered, reads_encoded}
 use Rattle.bson_de_raw.specs.SlotsView.{filled_by}
 use Rattle.bson_de_raw.specs.declared.encoded.Encoded.{Encoded}
