@@ -1,4 +1,5 @@
-// std's readers and writers as a source and a sink, with a count of their errors. They tell no bytes.
+// std's readers and writers as a source and a sink, with a count of their errors. As a source and a
+// sink they tell no bytes.
 ghost use Rattle.std.specs.Prelude.{◌≡◌, ◌+◌, ◌<◌, [], None, length, min, IfOk, OnOk, OnErr};
 ghost use Rattle.std.specs.Io.{ReadsAtMost, WritesAtMost};
 ghost use Rattle.std.specs.Io.KnownBytes.{ReadConsumes, WriteAppends};
@@ -19,7 +20,8 @@ pub struct ReadAdapter<R> {
 impl<R: Read> ReadAdapter<R> {
     /// A source over this reader, with no faults so far.
     pub fn new(inner: R) -> Self
-        ensures { read_faults result ≡ 0 }
+        ensures inner { reader_of result ≡ inner }
+        ensures faults { read_faults result ≡ 0 }
     {
         ReadAdapter { inner, faults: 0 }
     }
@@ -34,9 +36,10 @@ impl<R: Read> Source for ReadAdapter<R> {
         ensures bound { ReadsAtMost result buf.new }
         ensures bytes { ReadConsumes None None result buf.new }
         ensures cause { HasCause (read_faults self.old) (read_faults self.new) result }
-        ensures empty { length buf.old ≡ 0 → IsIdle None None (read_faults self.old) (read_faults self.new) result }
+        ensures empty { buf.old ≡ [] →
+            IsIdle None None (read_faults self.old) (read_faults self.new) result }
 
-        // Each failure counts as one, and until the count stands at its last value the bytes are the reader's.
+        // Each failure counts as one. Until the count stands at its last value the bytes are the reader's.
         ensures counted { OnErr result (read_faults self.new ≡ read_faults self.old + 1) }
         ensures kept { OnOk result (read_faults self.new ≡ read_faults self.old) }
         ensures last { read_faults self.old ≡ last_count → result ≡ Ok 0 }
@@ -67,7 +70,8 @@ pub struct WriteAdapter<W> {
 impl<W: Write> WriteAdapter<W> {
     /// A sink over this writer, with no faults so far.
     pub fn new(inner: W) -> Self
-        ensures { write_faults result ≡ 0 }
+        ensures inner { writer_of result ≡ inner }
+        ensures faults { write_faults result ≡ 0 }
     {
         WriteAdapter { inner, faults: 0 }
     }
@@ -83,7 +87,8 @@ impl<W: Write> Sink for WriteAdapter<W> {
         ensures bytes { WriteAppends None None result piece.now }
         ensures progress { IfOk result (λ n. n ≡ 0 → piece.now ≡ []) }
         ensures cause { HasSinkCause (write_faults self.old) (write_faults self.new) result }
-        ensures empty { piece.now ≡ [] → IsIdle None None (write_faults self.old) (write_faults self.new) result }
+        ensures empty { piece.now ≡ [] →
+            IsIdle None None (write_faults self.old) (write_faults self.new) result }
 
         // Each failure counts as one, up to the last value, and the bytes go to the writer.
         ensures counted { OnErr result (write_faults self.new ≡ min (write_faults self.old + 1) last_count) }

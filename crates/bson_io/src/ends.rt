@@ -25,7 +25,8 @@ pub trait Source {
         ensures bound { ReadsAtMost result buf.new }
         ensures bytes { ReadConsumes (left self.old) (left self.new) result buf.new }
         ensures cause { HasCause (faults self.old) (faults self.new) result }
-        ensures empty { length buf.old ≡ 0 → IsIdle (left self.old) (left self.new) (faults self.old) (faults self.new) result };
+        ensures empty { buf.old ≡ [] →
+            IsIdle (left self.old) (left self.new) (faults self.old) (faults self.new) result };
 }
 
 /// Where bytes go.
@@ -48,5 +49,6 @@ pub trait Sink {
         ensures room { UsesRoom (room self.old) (room self.new) result }
         ensures progress { IfOk result (λ n. n ≡ 0 → piece.now ≡ []) }
         ensures cause { HasSinkCause (faults self.old) (faults self.new) result }
-        ensures empty { piece.now ≡ [] → IsIdle (written self.old) (written self.new) (faults self.old) (faults self.new) result };
+        ensures empty { piece.now ≡ [] →
+            IsIdle (written self.old) (written self.new) (faults self.old) (faults self.new) result };
 }

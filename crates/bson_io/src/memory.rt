@@ -64,7 +64,13 @@ impl Model for MemorySource {
 
     ghost Value = { SourceInMemory };
 
-    ghost view = { λ s. record { left = drop s.at s.bytes.items; fails = s.script.fails.items; most = s.script.most.items; calls = s.script.calls; faults = s.faults } };
+    ghost view = { λ s. record {
+      left = drop s.at s.bytes.items;
+      fails = s.script.fails.items;
+      most = s.script.most.items;
+      calls = s.script.calls;
+      faults = s.faults;
+    } };
 
     ghost invariant = { λ s. (s.at ≤ vec_len s.bytes) × (s.faults ≤ s.script.calls) };
 }
@@ -72,7 +78,13 @@ impl Model for MemorySource {
 impl MemorySource {
     /// A source that has these bytes left, with no calls so far.
     pub fn new(bytes: Vec<u8>, fails: Vec<u64>, most: Vec<usize>) -> MemorySource
-        ensures { result ≡ record { left = bytes.items; fails = fails.items; most = most.items; calls = 0; faults = 0 } }
+        ensures { result ≡ record {
+          left = bytes.items;
+          fails = fails.items;
+          most = most.items;
+          calls = 0;
+          faults = 0;
+        } }
     {
         MemorySource {
             bytes,
@@ -92,13 +104,16 @@ impl Source for MemorySource {
         ensures bound { ReadsAtMost result buf.new }
         ensures bytes { ReadConsumes (Some self.old.left) (Some self.new.left) result buf.new }
         ensures cause { HasCause self.old.faults self.new.faults result }
-        ensures empty { length buf.old ≡ 0 → IsIdle (Some self.old.left) (Some self.new.left) self.old.faults self.new.faults result }
+        ensures empty { buf.old ≡ [] →
+            IsIdle (Some self.old.left) (Some self.new.left) self.old.faults self.new.faults result }
 
         // Which call fails, how many bytes the others move, and what is left behind.
-        ensures unnumbered { length buf.old ≡ 0 → self.new ≡ self.old }
+        ensures unnumbered { buf.old ≡ [] → self.new ≡ self.old }
         ensures failed { 0 < length buf.old → (IsErr result ↔ IsListed self.old.fails self.old.calls) }
-        ensures moved { IfOk result (λ n. n ≡ moved_of self.old.most self.old.calls (min (length buf.old) (length self.old.left))) }
-        ensures after { 0 < length buf.old → MatchResult result (ReadMoved self.old self.new) (λ _. ReadFailed self.old self.new) }
+        ensures moved { IfOk result (λ n.
+            n ≡ moved_of self.old.most self.old.calls (min (length buf.old) (length self.old.left))) }
+        ensures after { 0 < length buf.old →
+            MatchResult result (ReadMoved self.old self.new) (λ _. ReadFailed self.old self.new) }
     {
         if buf.is_empty() {
             return Ok(0);
@@ -137,7 +152,14 @@ impl Model for MemorySink {
 
     ghost Value = { SinkInMemory };
 
-    ghost view = { λ s. record { written = s.bytes.items; room = s.capacity - vec_len s.bytes; fails = s.script.fails.items; most = s.script.most.items; calls = s.script.calls; faults = s.faults } };
+    ghost view = { λ s. record {
+      written = s.bytes.items;
+      room = s.capacity - vec_len s.bytes;
+      fails = s.script.fails.items;
+      most = s.script.most.items;
+      calls = s.script.calls;
+      faults = s.faults;
+    } };
 
     ghost invariant = { λ s. (vec_len s.bytes ≤ s.capacity) × (s.capacity ≤ vec_capacity s.bytes) };
 }
@@ -151,7 +173,14 @@ impl MemorySink {
         fails: Vec<u64>,
         most: Vec<usize>,
     ) -> Result<MemorySink, AllocError>
-        ensures { IfOk result (λ s. s ≡ record { written = []; room = room; fails = fails.items; most = most.items; calls = 0; faults = 0 }) }
+        ensures { IfOk result (λ s. s ≡ record {
+          written = [];
+          room = room;
+          fails = fails.items;
+          most = most.items;
+          calls = 0;
+          faults = 0;
+        }) }
     {
         Ok(MemorySink {
             bytes: Vec::with_capacity(alloc, room)?,
@@ -179,13 +208,17 @@ impl Sink for MemorySink {
         ensures bytes { WriteAppends (Some self.old.written) (Some self.new.written) result piece.now }
         ensures progress { IfOk result (λ n. n ≡ 0 → piece.now ≡ []) }
         ensures cause { HasSinkCause self.old.faults self.new.faults result }
-        ensures empty { piece.now ≡ [] → IsIdle (Some self.old.written) (Some self.new.written) self.old.faults self.new.faults result }
+        ensures empty { piece.now ≡ [] →
+            IsIdle (Some self.old.written) (Some self.new.written) self.old.faults self.new.faults result }
 
         // Which call fails, how many bytes the others move, and what is left behind.
         ensures unnumbered { piece.now ≡ [] → self.new ≡ self.old }
-        ensures failed { 0 < length piece.now → (IsErr result ↔ (IsListed self.old.fails self.old.calls ⊎ (self.old.room ≡ 0))) }
-        ensures moved { IfOk result (λ n. n ≡ moved_of self.old.most self.old.calls (min (length piece.now) self.old.room)) }
-        ensures after { 0 < length piece.now → MatchResult result (WriteMoved self.old self.new piece.now) (λ _. WriteFailed self.old self.new) }
+        ensures failed { 0 < length piece.now →
+            (IsErr result ↔ (IsListed self.old.fails self.old.calls ⊎ (self.old.room ≡ 0))) }
+        ensures moved { IfOk result (λ n.
+            n ≡ moved_of self.old.most self.old.calls (min (length piece.now) self.old.room)) }
+        ensures after { 0 < length piece.now →
+            MatchResult result (WriteMoved self.old self.new piece.now) (λ _. WriteFailed self.old self.new) }
     {
         if piece.is_empty() {
             return Ok(0);

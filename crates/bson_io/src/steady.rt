@@ -35,7 +35,8 @@ impl Source for SteadySource<'_> {
         ensures bound { ReadsAtMost result buf.new }
         ensures bytes { ReadConsumes (Some (steady_left self.old)) (Some (steady_left self.new)) result buf.new }
         ensures cause { HasCause 0 0 result }
-        ensures empty { length buf.old ≡ 0 → IsIdle (Some (steady_left self.old)) (Some (steady_left self.new)) 0 0 result }
+        ensures empty { buf.old ≡ [] →
+            IsIdle (Some (steady_left self.old)) (Some (steady_left self.new)) 0 0 result }
 
         // It never fails, and gives as much as fits.
         ensures count { result ≡ Ok (min (length buf.old) (length (steady_left self.old))) }
@@ -97,7 +98,9 @@ impl Sink for SteadySink<'_> {
         ensures room { UsesRoom (Some (steady_room self.old)) (Some (steady_room self.new)) result }
         ensures progress { IfOk result (λ n. n ≡ 0 → piece.now ≡ []) }
         ensures cause { HasSinkCause (steady_faults self.old) (steady_faults self.new) result }
-        ensures empty { piece.now ≡ [] → IsIdle (Some (steady_written self.old)) (Some (steady_written self.new)) (steady_faults self.old) (steady_faults self.new) result }
+        ensures empty { piece.now ≡ [] →
+            IsIdle (Some (steady_written self.old)) (Some (steady_written self.new))
+            (steady_faults self.old) (steady_faults self.new) result }
 
         // It takes as much as there is room for, fails exactly where there is none, and counts that.
         ensures taken { IfOk result (λ n. n ≡ min (length piece.now) (steady_room self.old)) }

@@ -1,11 +1,12 @@
-// What no clause says: that a call which wants memory succeeds where there is memory, and what the
-// adapters do at readers and writers that fail.
+// What no clause says: that a call which wants memory succeeds where there is memory, what the
+// adapters do at readers and writers that fail, and that steps have no bytes.
 use crate::{
-    Failed, MemorySink, MemorySource, Out, ReadAdapter, Sink, Source, Steps, Tally, WriteAdapter,
-    read_to_end, write_due,
+    Failed, MemorySink, MemorySource, Out, ReadAdapter, Sink, Source, SteadySink, SteadySource,
+    Steps, Tally, WriteAdapter, read_to_end, write_due,
 };
 use std::io;
 use std::io::{Read, Write};
+use std::mem::size_of;
 use std::test::Fail;
 
 /// Gives a 7 at each call but the second, which fails.
@@ -104,12 +105,26 @@ fn bytes_in_memory_are_read_and_written_in_pieces(rt: HostRuntime) -> Result<(),
 }
 
 #[test]
+fn steady_bytes_are_read_and_written_whole(rt: HostRuntime) -> Result<(), Fail> {
+    let read = read_to_end(rt.alloc(), &mut SteadySource::new(&[1, 2, 3]))?;
+    let mut room = [0; 4];
+    let mut out = SteadySink::new(&mut room);
+    write_due(&mut out, &read)?;
+    assert_eq!(rt; write_due(&mut out, &read), Err(Failed));
+    assert_eq!(rt; out.written(), [1, 2, 3, 1].as_slice());
+    Ok(())
+}
+
+#[test]
 fn an_output_grows(rt: HostRuntime) -> Result<(), Fail> {
+    assert_eq!(rt; size_of::<Steps<Tally>>(), 0);
     let mut steps = Steps::<Tally>::new();
     let mut out = Out::new(rt.alloc());
     out.reserve(8)?;
     out.push(7, &mut steps)?;
     out.push_all(&[8], &mut steps)?;
-    assert_eq!(rt; out.into_vec().as_slice(), [7, 8].as_slice());
+    let copy = out.as_bytes().to_vec(out.allocator())?;
+    assert_eq!(rt; out.into_vec(), copy);
+    assert_eq!(rt; copy.as_slice(), [7, 8].as_slice());
     Ok(())
 }

@@ -40,7 +40,8 @@ pub fn read_to_end<I: Source>(alloc: Global, input: &mut I) -> Result<Vec<u8>, R
     ensures end { OnOk result (IsAtEnd (I.left input.new)) }
     ensures most { IfOk result (λ v. length v.items ≤ MOST) }
 
-    // `TooLong` comes exactly where more than the most were taken.
+    // Whatever comes, only bytes at the front were taken. `TooLong` comes exactly where they were too many.
+    ensures taken { Takes (I.left input.old) (I.left input.new) }
     ensures too_long { result ≡ Err ReadFault.TooLong → TakesMore MOST (I.left input.old) (I.left input.new) }
     ensures within { result ≢ Err ReadFault.TooLong → TakesAtMost MOST (I.left input.old) (I.left input.new) }
 

@@ -1,15 +1,23 @@
 -- The meaning of a value that fits a shape is viewed at the shape as the normal form of that value.
-use Rattle.std.proofs.Common.{◌≡◌, Bool, true, false, cond, Option, Some, None, refl, arith, pos, negsuc, ℤ}
-use Rattle.std.specs.Prelude.{FitsSigned, int_lt}
+use Rattle.std.proofs.Common.{◌≡◌, Bool, true, false, cond, Option, Some, None, refl, ap, sym, subst, ◌∙◌, arith, pos, negsuc, ℤ}
+use Rattle.std.specs.Prelude.{option_map, option_and_then, FitsSigned, int_lt}
 use Rattle.std.specs.Int.{w32}
 use Rattle.std.specs.Str.{bytes_eq}
 use Rattle.std.proofs.lemmas.Int.{ints}
 use Rattle.std.proofs.lemmas.Slice.Eq.{bytes_eq-Decides}
 use Rattle.bson_base.specs.Text.{Utf8}
-use Rattle.bson_base.specs.Tree.{Tree}
+use Rattle.bson_base.specs.Reserved.{reserved_kind}
+use Rattle.bson_base.specs.Sound.{IsClean, ArePairsClean, Lacks}
+use Rattle.bson_base.specs.Tree.{Tree, int32, document, Pairs, pair}
+use Rattle.bson_base.proofs.Outcomes.{some_map, some_then}
+use Rattle.bson_shape.specs.Form.{Form, leaf, structure, Fields, no_fields, field}
+use Rattle.bson_shape.specs.declared.leaf.Leaf.TheVariants.{I32}
 use Rattle.bson_datum.specs.Value as value
 use Rattle.bson_datum.specs.Value.{Value, FieldValues, no_field_values, field_value}
-use Rattle.bson_laws.specs.Views.{as_i32}
+use Rattle.bson_laws.specs.Views.{lookup, as_i32, views, views_fields}
+use Rattle.bson_laws.specs.Means.{means, means_fields, norm, norm_fields}
+use Rattle.bson_laws.specs.Fits.{Fits, FieldsFit}
+use Rattle.bson_laws.proofs.Spelled.{tree_is, unreserved}
 
 pub bytes_eq-refl : (xs : Utf8) → bytes_eq xs xs ≡ true
 bytes_eq-refl xs = (bytes_eq-Decides xs xs).1 refl
@@ -32,3 +40,61 @@ chosen_t false t o p = absurd cc
 chosen_f : (a : Bool) (t : Tree) (o : Option Tree) → a ≡ false → cond a (Some t) o ≡ o
 chosen_f true t o p = absurd cc
 chosen_f false t o p = refl
+
+-- no field has the name
+abbrev pub Unnamed : Utf8 → Fields → Type 0
+Unnamed key no_fields = Unit {0}
+Unnamed key (field name s fs) = (bytes_eq name key ≡ false) × Unnamed key fs
+
+not_true : (b : Bool) → (b ≡ true → ⊥) → b ≡ false
+not_true true n = absurd (n refl)
+not_true false n = refl
+
+differ : (xs ys : Utf8) → bytes_eq xs ys ≡ false → xs ≡ ys → ⊥
+differ xs ys e same = let both : true ≡ false = sym ((bytes_eq-Decides xs ys).1 same) ∙ e in cc
+
+pub unlike_swap : (xs ys : Utf8) → bytes_eq xs ys ≡ false → bytes_eq ys xs ≡ false
+unlike_swap xs ys e = not_true (bytes_eq ys xs) (λ t. differ xs ys e (sym (bytes_same ys xs t)))
+
+-- a pair that no field names
+pub views-more : (fs : Fields) (key : Utf8) (t : Tree) (ps : Pairs) → Unnamed key fs → views_fields fs (pair key t ps) ≡ views_fields fs ps
+views-more no_fields key t ps h = refl
+views-more (field name s fs) key t ps h =
+    (λ i. option_and_then (λ u. option_and_then (λ v. option_map (field_value name v) (views-more fs key t ps h.1 i)) (views s u)) (chosen_f (bytes_eq name key) t (lookup name ps) h.0 i))
+
+-- the fields of a shape are named as the keys of what a value of it means
+unnamed : (key : Utf8) (vs : FieldValues) (fs : Fields) (ps : Pairs) → FieldsFit vs fs → means_fields vs ≡ Some ps → Lacks key ps → Unnamed key fs
+unnamed key no_field_values no_fields ps f e l = tt
+unnamed key no_field_values (field n s fs) ps f e l = absurd f
+unnamed key (field_value m v vs) no_fields ps f e l = absurd f
+unnamed key (field_value m v vs) (field n s fs) ps f e l =
+    let a = some_then (λ t. option_map (pair m t) (means_fields vs)) (means v) ps e in
+    let b = some_map (pair m a.0) (means_fields vs) ps a.2 in
+    let h = subst (Lacks key) (sym b.2) l in
+    (subst (λ x. bytes_eq x key ≡ false) f.0 (unlike_swap key m h.0), unnamed key vs fs b.0 f.2 b.1 h.1)
+
+mutual
+  pub views_means : (v : Value) (s : Form) (t : Tree) → Fits v s → means v ≡ Some t → IsClean t → views s t ≡ Some (norm v)
+  views_means (value.i32 n) (leaf I32) t f e c = ap (views (leaf I32)) (sym (tree_is (int32 n) t e)) ∙ fits_i32 n f
+  views_means (value.i32 n) (structure name fs) t f e c = absurd f
+  views_means (value.structure m vs) (leaf l) t f e c = absurd f
+  views_means (value.structure m vs) (structure n fs) t f e c =
+      let u = unreserved (reserved_kind m) (option_map document (means_fields vs)) t e in
+      let a = some_map document (means_fields vs) t u.1 in
+      subst (λ x. IsClean x → views (structure n fs) x ≡ Some (value.structure m (norm_fields vs))) a.2
+      (λ c'. ap (option_map (value.structure n)) (views_means_fields vs fs a.0 f.1 a.1 c') ∙ ap (λ x. Some (value.structure x (norm_fields vs))) (sym f.0)) c
+
+  pub views_means_fields : (vs : FieldValues) (fs : Fields) (ps : Pairs) → FieldsFit vs fs → means_fields vs ≡ Some ps → ArePairsClean ps → views_fields fs ps ≡ Some (norm_fields vs)
+  views_means_fields no_field_values no_fields ps f e c = refl
+  views_means_fields no_field_values (field n s fs) ps f e c = absurd f
+  views_means_fields (field_value m v vs) no_fields ps f e c = absurd f
+  views_means_fields (field_value m v vs) (field n s fs) ps f e c =
+      let a = some_then (λ t. option_map (pair m t) (means_fields vs)) (means v) ps e in
+      let b = some_map (pair m a.0) (means_fields vs) ps a.2 in
+      subst (λ x. ArePairsClean x → views_fields (field n s fs) x ≡ Some (field_value m (norm v) (norm_fields vs))) b.2
+      (λ c'.
+      ap (option_and_then (λ u. option_and_then (λ w. option_map (field_value n w) (views_fields fs (pair m a.0 b.0))) (views s u))) (chosen_t (bytes_eq n m) a.0 (lookup n b.0) (subst (λ x. bytes_eq x m ≡ true) f.0 (bytes_eq-refl m)))
+      ∙ ap (option_and_then (λ w. option_map (field_value n w) (views_fields fs (pair m a.0 b.0)))) (views_means v s a.0 f.1 a.1 c'.2)
+      ∙ ap (option_map (field_value n (norm v))) (views-more fs m a.0 b.0 (unnamed m vs fs b.0 f.2 b.1 c'.1) ∙ views_means_fields vs fs b.0 f.2 b.1 c'.3)
+      ∙ ap (λ x. Some (field_value x (norm v) (norm_fields vs))) (sym f.0))
+      c

@@ -1,3 +1,6 @@
 pub mod Sizes
 pub mod Spelled
 pub mod Fitted
+pub mod Encoded
+pub mod Filled
+pub mod ReadBack

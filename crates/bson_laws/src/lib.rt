@@ -1,2 +1,49 @@
 //! What documents are at a shape, what values mean, how they are read and written, and the laws between these.
 #![tactic(auto)]
+
+ghost use Rattle.std.specs.Prelude.{◌≡◌, length, Some, Ok};
+ghost use Rattle.bson_base.specs.Sound.{IsSound};
+ghost use Rattle.bson_base.specs.Tree.{Tree, enc};
+ghost use Rattle.bson_shape.specs.Form.{Form};
+ghost use Rattle.bson_shape.specs.Makers.{IsShape};
+ghost use Rattle.bson_datum.specs.Value.{Value};
+ghost use Rattle.bson_laws.specs.Views.{views};
+ghost use Rattle.bson_laws.specs.Means.{means, norm};
+ghost use Rattle.bson_laws.specs.Fits.{Fits};
+ghost use Rattle.bson_laws.specs.Plain.{IsPlain};
+ghost use Rattle.bson_laws.specs.Reads.{reads_document};
+ghost use Rattle.bson_laws.specs.Spell.{spell_document, size};
+
+/// What a sound document is at a plain shape is read from its bytes; it fits the shape, and is its own normal form.
+///
+/// It does nothing.
+pub fn law_views_reads()
+    ensures reads { (s : Form) (t : Tree) (d : Value) → IsShape s → IsPlain s → IsSound t → views s t ≡ Some d
+        → reads_document s (enc t) ≡ Ok d }
+    ensures fits { (s : Form) (t : Tree) (d : Value) → IsShape s → IsPlain s → IsSound t → views s t ≡ Some d → Fits d s }
+    ensures normal { (s : Form) (t : Tree) (d : Value) → IsShape s → IsPlain s → IsSound t → views s t ≡ Some d → norm d ≡ d }
+{}
+
+/// What a value that fits a plain shape means is, at the shape, the normal form of the value.
+///
+/// It does nothing.
+pub fn law_views_means()
+    ensures views { (s : Form) (d : Value) (t : Tree) → IsShape s → IsPlain s → Fits d s → means d ≡ Some t → IsSound t
+        → views s t ≡ Some (norm d) }
+{}
+
+/// A value that means a sound document is spelled as that document, in as many bytes as its size says.
+///
+/// It does nothing.
+pub fn law_spell_means()
+    ensures spells { (d : Value) (t : Tree) → means d ≡ Some t → IsSound t → spell_document d ≡ Ok t }
+    ensures size { (d : Value) (t : Tree) → means d ≡ Some t → IsSound t → size d ≡ length (enc t) }
+{}
+
+/// The document that a value of a plain shape means is read back, at the shape, as the normal form of the value.
+///
+/// It does nothing.
+pub fn law_read_back()
+    ensures reads { (s : Form) (d : Value) (t : Tree) → IsShape s → IsPlain s → Fits d s → means d ≡ Some t → IsSound t
+        → reads_document s (enc t) ≡ Ok (norm d) }
+{}

@@ -1,7 +1,16 @@
 pub mod Leaf
 pub mod Form
+pub mod Notation
+pub mod FirstRefusal
+pub mod Machine
+pub mod Fronts
 pub mod Levels
 pub mod Makers
 pub mod Refusals
 pub mod ShapeView
 pub mod ShapeFalls
+pub mod Same
+pub mod Decided
+pub mod Answers
+pub mod ParserView
+pub mod PrinterView

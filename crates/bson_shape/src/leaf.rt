@@ -17,4 +17,16 @@ impl Leaf {
             Leaf::I32 => "i32",
         }
     }
+
+    /// The leaf that a word of the notation stands for; `None` where it stands for none.
+    #[tactic(auto, unfolding(crate::specs::Leaf::of_word))]
+    pub fn from_word(word: &str) -> Option<Leaf>
+        ensures leaf { result ≡ leaf.of_word word.now }
+    {
+        let leaf = match word {
+            "i32" => Leaf::I32,
+            _ => return None,
+        };
+        Some(leaf)
+    }
 }

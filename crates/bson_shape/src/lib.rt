@@ -2,12 +2,18 @@
 #![tactic(auto)]
 
 mod distinct;
+mod equality;
 mod error;
 mod form;
 mod leaf;
+mod name;
+mod parse;
+mod parser;
+mod printer;
 mod shape;
 
 pub use error::{ParseError, ShapeError};
 pub use form::Form;
 pub use leaf::Leaf;
+pub use parse::law_text;
 pub use shape::{FieldShape, Shape};

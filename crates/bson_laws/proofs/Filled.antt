@@ -1,0 +1,246 @@
+-- Fields that are filled by their keys, in any order.
+use Rattle.std.proofs.Common.{◌≡◌, ℕ, zero, suc, ◌^◌, ◌<◌, ◌≤◌, [], ◌∷◌, length, get_or, set, Bool, true, false, cond, Option, Some, None, Ok, Err, refl, ap, sym, subst, ◌∙◌, arith, eqb}
+use Rattle.std.specs.Prelude.{is_some, option_map, option_and_then}
+use Rattle.std.specs.Str.{bytes_eq}
+use Rattle.std.proofs.lemmas.Bool.Decides.{nat_tests}
+use Rattle.bson_base.specs.Text.{Bytes, Utf8}
+use Rattle.bson_base.specs.Outcome.{◌>>=◌, result_map}
+use Rattle.bson_base.specs.Sound.{IsClean, ArePairsClean, Lacks}
+use Rattle.bson_base.specs.Tree.{Tree, int32, document, Pairs, no_pairs, pair, kind, enc, elements, depth, pairs_depth}
+use Rattle.bson_base.proofs.Lengths.{head_size, tail_size, elements_size}
+use Rattle.bson_base.proofs.Outcomes.{some_map, some_then}
+use Rattle.bson_rawdoc.specs.Envelope.{is_closed}
+use Rattle.bson_rawdoc.specs.RawValue as raw_value
+use Rattle.bson_rawdoc.specs.RawValue.{RawValue, value_in}
+use Rattle.bson_rawdoc.specs.Walk.{Element, walk, walk_elements}
+use Rattle.bson_rawdoc.specs.declared.raw.Error.TheVariants.{ValueUnclosed}
+use Rattle.bson_rawdoc.proofs.Walks.{walk-nil}
+use Rattle.bson_shape.specs.Form.{Form, Fields, no_fields, field}
+use Rattle.bson_datum.specs.Value.{Value, FieldValues, no_field_values, field_value}
+use Rattle.bson_datum.specs.Cause.{too_deep, duplicate_field}
+use Rattle.bson_datum.specs.Refusal.{under}
+use Rattle.bson_laws.specs.Reads.{Reading, refused, judged, pass_elements, pass_inside, ignores, one_further, place_of, Slots, no_slots, fill_found, fill_one, fill, finish, reads_field}
+use Rattle.bson_laws.specs.Views.{lookup, views, views_fields}
+use Rattle.bson_laws.proofs.Spelled.{tree_is}
+use Rattle.bson_laws.proofs.Fitted.{bytes_same, Unnamed}
+use Rattle.bson_laws.proofs.Encoded.{elem, closed_again, inside_again, walk_again}
+
+-- ---- documents
+
+suc_not_zero : (n : ℕ) → eqb (suc n) 0 ≡ false
+suc_not_zero n = grind (arith, nat_tests)
+
+go_on : (d : Bool) (x y : Reading RawValue) → d ≡ false → cond d x y ≡ y
+go_on true x y e = absurd cc
+go_on false x y e = refl
+
+judged_closed : (c : Bool) (levels : ℕ) (b : Bytes) → c ≡ true → 0 < levels → judged levels (cond c (Ok (raw_value.document b)) (Err ValueUnclosed)) ≡ Ok (raw_value.document b)
+judged_closed true zero b c h = absurd (omega arith)
+judged_closed true (suc n) b c h = go_on (eqb (suc n) 0) (refused too_deep) (Ok (raw_value.document b)) (suc_not_zero n)
+judged_closed false levels b c h = absurd cc
+
+-- an encoded document is a document, where a level is left
+pub judged_again : (levels : ℕ) (ps : Pairs) → 0 < levels → judged levels (value_in (kind (document ps)) (enc (document ps))) ≡ Ok (raw_value.document (enc (document ps)))
+judged_again levels ps h = judged_closed (is_closed (enc (document ps))) levels (enc (document ps)) (closed_again (elements ps)) h
+
+pub walk_inside : (ps : Pairs) → walk (enc (document ps)) ≡ walk_elements (elements ps)
+walk_inside ps = ap walk_elements (inside_again (elements ps))
+
+-- ---- what no field names
+
+mutual
+  pub ignores_again : (t : Tree) (levels : ℕ) → IsClean t → depth t ≤ levels → length (enc t) < 2 ^ 31 → ignores levels (kind t) (enc t) ≡ Ok tt
+  ignores_again (int32 z) zero c d l = refl
+  ignores_again (int32 z) (suc n) c d l = refl
+  ignores_again (document ps) zero c d l = absurd (omega arith)
+  ignores_again (document ps) (suc n) c d l =
+      ap (λ r. r >>= pass_inside (ignores n)) (judged_again (suc n) ps (omega arith))
+      ∙ ap (pass_elements (ignores n)) (walk_inside ps)
+      ∙ pass_pairs_again ps n c (omega arith) (omega (arith, elements_size ps))
+
+  pub pass_pairs_again : (ps : Pairs) (n : ℕ) → ArePairsClean ps → pairs_depth ps ≤ n → length (elements ps) < 2 ^ 31 → pass_elements (ignores n) (walk_elements (elements ps)) ≡ Ok tt
+  pass_pairs_again no_pairs n c d l = ap (pass_elements (ignores n)) walk-nil
+  pass_pairs_again (pair k t ps) n c d l =
+      ap (pass_elements (ignores n)) (walk_again k t ps c.0 (omega (arith, head_size k t ps)))
+      ∙ ap (λ r. under k r >>= λ _. pass_elements (ignores n) (walk_elements (elements ps))) (ignores_again t n c.2 (omega arith) (omega (arith, head_size k t ps)))
+      ∙ pass_pairs_again ps n c.3 (omega arith) (omega (arith, tail_size k t ps))
+
+-- ---- slots
+
+abbrev pub slot_of : Form → Option Tree → Option Value → Option Value
+slot_of s None x = x
+slot_of s (Some t) x = views s t
+
+-- the slots after these pairs
+abbrev pub merge : Fields → Pairs → Slots → Slots
+merge no_fields ps sl = sl
+merge (field n s fs) ps [] = []
+merge (field n s fs) ps (x ∷ sl) = slot_of s (lookup n ps) x ∷ merge fs ps sl
+
+-- what is still to come has a free slot
+abbrev pub Free : Fields → Pairs → Slots → Type 0
+Free no_fields ps sl = Unit {0}
+Free (field n s fs) ps [] = ⊥
+Free (field n s fs) ps (x ∷ sl) = (is_some (lookup n ps) ≡ true → x ≡ None) × Free fs ps sl
+
+abbrev pub AllView : Fields → Pairs → Type 0
+AllView no_fields ps = Unit {0}
+AllView (field n s fs) ps = ((t : Tree) → lookup n ps ≡ Some t → (v : Value) × (views s t ≡ Some v)) × AllView fs ps
+
+-- no two fields have one name
+abbrev pub Distinct : Fields → Type 0
+Distinct no_fields = Unit {0}
+Distinct (field n s fs) = Unnamed n fs × Distinct fs
+
+abbrev pub views_nth : Fields → ℕ → Tree → Option Value
+views_nth no_fields i t = None
+views_nth (field n s fs) zero t = views s t
+views_nth (field n s fs) (suc i) t = views_nth fs i t
+
+lookup_lacks : (k : Utf8) (ps : Pairs) → Lacks k ps → lookup k ps ≡ None
+lookup_lacks k no_pairs h = refl
+lookup_lacks k (pair j t ps) h = ap (λ b. cond b (Some t) (lookup k ps)) h.0 ∙ lookup_lacks k ps h.1
+
+still_some : (b : Bool) (t : Tree) (o : Option Tree) → is_some o ≡ true → is_some (cond b (Some t) o) ≡ true
+still_some true t o e = refl
+still_some false t o e = e
+
+other : (b : Bool) (t : Tree) (o : Option Tree) → b ≡ false → cond b (Some t) o ≡ o
+other true t o e = absurd cc
+other false t o e = refl
+
+free_less : (fs : Fields) (k : Utf8) (t : Tree) (ps : Pairs) (sl : Slots) → Free fs (pair k t ps) sl → Free fs ps sl
+free_less no_fields k t ps sl h = tt
+free_less (field n s fs) k t ps [] h = h
+free_less (field n s fs) k t ps (x ∷ sl) h = (λ e. h.0 (still_some (bytes_eq n k) t (lookup n ps) e), free_less fs k t ps sl h.1)
+
+merge_lacks : (fs : Fields) (k : Utf8) (t : Tree) (ps : Pairs) (sl : Slots) → Unnamed k fs → merge fs (pair k t ps) sl ≡ merge fs ps sl
+merge_lacks no_fields k t ps sl h = refl
+merge_lacks (field n s fs) k t ps [] h = refl
+merge_lacks (field n s fs) k t ps (x ∷ sl) h = λ i. slot_of s (other (bytes_eq n k) t (lookup n ps) h.0 i) x ∷ merge_lacks fs k t ps sl h.1 i
+
+found_later : (o : Option ℕ) (i : ℕ) → one_further o ≡ Some i → (j : ℕ) × (o ≡ Some j) × (i ≡ suc j)
+found_later None i e = absurd cc
+found_later (Some j) i e = (j, refl, cc)
+
+not_found : (b : Bool) (o : Option ℕ) → cond b (Some 0) (one_further o) ≡ None → (b ≡ false) × (o ≡ None)
+not_found true o e = absurd cc
+not_found false None e = (refl, refl)
+not_found false (Some j) e = absurd cc
+
+pub place_lacks : (fs : Fields) (k : Utf8) → place_of fs k ≡ None → Unnamed k fs
+place_lacks no_fields k e = tt
+place_lacks (field n s fs) k e = let p = not_found (bytes_eq n k) (place_of fs k) e in (p.0, place_lacks fs k p.1)
+
+all_less : (fs : Fields) (k : Utf8) (t : Tree) (ps : Pairs) → Lacks k ps → AllView fs (pair k t ps) → AllView fs ps
+all_less no_fields k t ps l h = tt
+all_less (field n s fs) k t ps l h = (λ u e. h.0 u (unlike (bytes_eq n k) refl u e), all_less fs k t ps l h.1) where
+  unlike : (b : Bool) → bytes_eq n k ≡ b → (u : Tree) → lookup n ps ≡ Some u → cond b (Some t) (lookup n ps) ≡ Some u
+  unlike true same u e = absurd (let none = ap (λ j. lookup j ps) (bytes_same n k same) ∙ lookup_lacks k ps l in let both : None ≡ Some u = sym none ∙ e in cc)
+  unlike false same u e = e
+
+-- ---- one more element
+
+pub record Placed (fs : Fields) (k : Utf8) (t : Tree) (ps : Pairs) (sl : Slots) (i : ℕ) (v : Value) : Type 0 where
+  pub empty : is_some (get_or sl i None) ≡ false
+  pub free : Free fs ps (set sl i (Some v))
+  pub merged : merge fs ps (set sl i (Some v)) ≡ merge fs (pair k t ps) sl
+
+none_is : (x : Option Value) → x ≡ None → is_some x ≡ false
+none_is x e = ap is_some e
+
+placed : (fs : Fields) (k : Utf8) (t : Tree) (ps : Pairs) (sl : Slots) (i : ℕ) (v : Value) → Distinct fs → Lacks k ps → Free fs (pair k t ps) sl → place_of fs k ≡ Some i → views_nth fs i t ≡ Some v → Placed fs k t ps sl i v
+placed no_fields k t ps sl i v p l h e w = absurd cc
+placed (field n s fs) k t ps [] i v p l h e w = absurd h
+placed (field n s fs) k t ps (x ∷ sl) i v p l h e w = by_case (λ j e' w'. placed fs k t ps sl j v p.1 l h.1 e' w') (bytes_eq n k) refl i e w where
+  first : bytes_eq n k ≡ true → views s t ≡ Some v → Placed (field n s fs) k t ps (x ∷ sl) 0 v
+  first same w' =
+      let is : n ≡ k = bytes_same n k same in
+      let gone : lookup n ps ≡ None = ap (λ j. lookup j ps) is ∙ lookup_lacks k ps l in
+      let now : lookup n (pair k t ps) ≡ Some t = ap (λ b. cond b (Some t) (lookup n ps)) same in
+      record {
+        empty = none_is x (h.0 (ap is_some now));
+        free = (λ some. absurd (let bad : is_some (lookup n ps) ≡ false = ap is_some gone in let worse : false ≡ true = sym bad ∙ some in cc), free_less fs k t ps sl h.1);
+        merged = (λ j. slot_of s (gone j) (Some v) ∷ merge fs ps sl) ∙ (λ j. sym w' j ∷ merge fs ps sl) ∙ (λ j. slot_of s (sym now j) x ∷ sym (merge_lacks fs k t ps sl (subst (λ m. Unnamed m fs) is p.0)) j);
+      }
+
+  further : (j : ℕ) → bytes_eq n k ≡ false → Placed fs k t ps sl j v → Placed (field n s fs) k t ps (x ∷ sl) (suc j) v
+  further j unlike q = record {
+    empty = q.empty;
+    free = (λ some. h.0 (still_some (bytes_eq n k) t (lookup n ps) some), q.free);
+    merged = λ m. slot_of s (sym (other (bytes_eq n k) t (lookup n ps) unlike) m) x ∷ q.merged m;
+  }
+
+  by_case : ((j : ℕ) → place_of fs k ≡ Some j → views_nth fs j t ≡ Some v → Placed fs k t ps sl j v) → (b : Bool) → bytes_eq n k ≡ b → (m : ℕ) → cond b (Some 0) (one_further (place_of fs k)) ≡ Some m → views_nth (field n s fs) m t ≡ Some v → Placed (field n s fs) k t ps (x ∷ sl) m v
+  by_case again true same m e' w' = let zero_is : 0 ≡ m = cc in subst (λ q. views_nth (field n s fs) q t ≡ Some v → Placed (field n s fs) k t ps (x ∷ sl) q v) zero_is (first same) w'
+  by_case again false unlike m e' w' =
+      let f = found_later (place_of fs k) m e' in
+      subst (λ q. views_nth (field n s fs) q t ≡ Some v → Placed (field n s fs) k t ps (x ∷ sl) q v) (sym f.2) (λ z. further f.0 unlike (again f.0 f.1 z)) w'
+
+view_there : (fs : Fields) (k : Utf8) (t : Tree) (ps : Pairs) (i : ℕ) → AllView fs (pair k t ps) → place_of fs k ≡ Some i → (v : Value) × (views_nth fs i t ≡ Some v)
+view_there no_fields k t ps i a e = absurd cc
+view_there (field n s fs) k t ps i a e = by_case (λ j e'. view_there fs k t ps j a.1 e') (bytes_eq n k) refl i e where
+  by_case : ((j : ℕ) → place_of fs k ≡ Some j → (v : Value) × (views_nth fs j t ≡ Some v)) → (b : Bool) → bytes_eq n k ≡ b → (m : ℕ) → cond b (Some 0) (one_further (place_of fs k)) ≡ Some m → (v : Value) × (views_nth (field n s fs) m t ≡ Some v)
+  by_case again true same m e' =
+      let zero_is : 0 ≡ m = cc in
+      subst (λ q. (v : Value) × (views_nth (field n s fs) q t ≡ Some v)) zero_is (a.0 t (ap (λ b. cond b (Some t) (lookup n ps)) same))
+  by_case again false unlike m e' =
+      let f = found_later (place_of fs k) m e' in
+      subst (λ q. (v : Value) × (views_nth (field n s fs) q t ≡ Some v)) (sym f.2) (again f.0 f.1)
+
+-- ---- all elements
+
+merge_none : (fs : Fields) (sl : Slots) → sl ≡ merge fs no_pairs sl
+merge_none no_fields sl = refl
+merge_none (field n s fs) [] = refl
+merge_none (field n s fs) (x ∷ sl) = ap (λ r. x ∷ r) (merge_none fs sl)
+
+-- each field reads what it views
+abbrev pub ReadsViews : Fields → ℕ → Type 0
+ReadsViews fs levels = (i : ℕ) (t : Tree) (v : Value) → IsClean t → depth t ≤ levels → length (enc t) < 2 ^ 31 → views_nth fs i t ≡ Some v → reads_field fs i levels (kind t) (enc t) ≡ Ok v
+
+module _ (fs : Fields) (levels : ℕ) (distinct : Distinct fs) (r : ReadsViews fs levels) where
+  abbrev pub one : Element → Slots → Reading Slots
+  one = fill_one fs levels (λ i. reads_field fs i levels)
+
+  pub fill_again : (ps : Pairs) (sl : Slots) → ArePairsClean ps → pairs_depth ps ≤ levels → length (elements ps) < 2 ^ 31 → AllView fs ps → Free fs ps sl → fill one (walk_elements (elements ps)) sl ≡ Ok (merge fs ps sl)
+  fill_again no_pairs sl c d l a f = ap (λ w. fill one w sl) walk-nil ∙ ap Ok (merge_none fs sl)
+  fill_again (pair k t ps) sl c d l a f =
+      ap (λ w. fill one w sl) (walk_again k t ps c.0 (omega (arith, head_size k t ps)))
+      ∙ by_place (λ sl' f'. fill_again ps sl' c.3 (omega arith) (omega (arith, tail_size k t ps)) (all_less fs k t ps c.1 a) f') (place_of fs k) refl where
+        by_place : ((sl' : Slots) → Free fs ps sl' → fill one (walk_elements (elements ps)) sl' ≡ Ok (merge fs ps sl')) → (o : Option ℕ) → place_of fs k ≡ o → (one (elem k t) sl >>= fill one (walk_elements (elements ps))) ≡ Ok (merge fs (pair k t ps) sl)
+        by_place again None e =
+            ap (λ o. fill_found levels (λ i. reads_field fs i levels) (elem k t) sl o >>= fill one (walk_elements (elements ps))) e
+            ∙ ap (λ q. (under k q >>= λ _. Ok sl) >>= fill one (walk_elements (elements ps))) (ignores_again t levels c.2 (omega arith) (omega (arith, head_size k t ps)))
+            ∙ again sl (free_less fs k t ps sl f)
+            ∙ ap Ok (sym (merge_lacks fs k t ps sl (place_lacks fs k e)))
+        by_place again (Some i) e =
+            let w = view_there fs k t ps i a e in
+            let p = placed fs k t ps sl i w.0 distinct c.1 f e w.1 in
+            ap (λ o. fill_found levels (λ j. reads_field fs j levels) (elem k t) sl o >>= fill one (walk_elements (elements ps))) e
+            ∙ ap (λ b. cond b (refused (duplicate_field k)) (under k (reads_field fs i levels (kind t) (enc t)) >>= λ x. Ok (set sl i (Some x))) >>= fill one (walk_elements (elements ps))) p.empty
+            ∙ ap (λ q. (under k q >>= λ x. Ok (set sl i (Some x))) >>= fill one (walk_elements (elements ps))) (r i t w.0 c.2 (omega arith) (omega (arith, head_size k t ps)) w.1)
+            ∙ again (set sl i (Some w.0)) p.free
+            ∙ ap Ok p.merged
+
+abbrev found_values : FieldValues → Option FieldValues
+found_values v = Some v
+
+values_are : (v w : FieldValues) → found_values v ≡ found_values w → v ≡ w
+values_are v w e = cc
+
+pub free_first : (fs : Fields) (ps : Pairs) → Free fs ps (no_slots fs)
+free_first no_fields ps = tt
+free_first (field n s fs) ps = (λ _. refl, free_first fs ps)
+
+-- each field has a view, and they are finished in order
+pub all_view : (fs : Fields) (ps : Pairs) (vs : FieldValues) → views_fields fs ps ≡ Some vs → AllView fs ps × (finish fs (merge fs ps (no_slots fs)) ≡ Ok vs)
+all_view no_fields ps vs e = (tt, ap Ok (values_are no_field_values vs e))
+all_view (field n s fs) ps vs e =
+    let a = some_then (λ t. option_and_then (λ v. option_map (field_value n v) (views_fields fs ps)) (views s t)) (lookup n ps) vs e in
+    let b = some_then (λ v. option_map (field_value n v) (views_fields fs ps)) (views s a.0) vs a.2 in
+    let c = some_map (field_value n b.0) (views_fields fs ps) vs b.2 in
+    let rest = all_view fs ps c.0 c.1 in (
+      (λ t h. (b.0, (let same : a.0 ≡ t = tree_is a.0 t (sym a.1 ∙ h) in ap (views s) (sym same) ∙ b.1)), rest.0),
+      (λ i. finish (field n s fs) (slot_of s (a.1 i) None ∷ merge fs ps (no_slots fs))) ∙ (λ i. finish (field n s fs) (b.1 i ∷ merge fs ps (no_slots fs))) ∙ ap (result_map (field_value n b.0)) rest.1 ∙ ap Ok c.2,
+    )

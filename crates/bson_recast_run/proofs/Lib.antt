@@ -1,0 +1,4 @@
+pub mod RecastErrors
+pub mod Migrates
+pub mod Prepares
+pub mod Headline

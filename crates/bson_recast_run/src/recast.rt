@@ -1,0 +1,79 @@
+ghost use Rattle.std.specs.Prelude.{◌≡◌, Some};
+ghost use Rattle.bson_base.specs.Sound.{IsSound};
+ghost use Rattle.bson_base.specs.Tree.{Tree, enc};
+ghost use Rattle.bson_datum.specs.Value.{Value};
+ghost use Rattle.bson_laws.specs.Views.{views};
+ghost use Rattle.bson_laws.specs.Means.{means};
+ghost use Rattle.bson_laws.specs.Plain.{IsPlain};
+ghost use Rattle.bson_recast_run.specs.Recasting.{IsRecast, GivesBytes, IsReadError, IsWriteError};
+
+use bson_datum::{Shape, de, ser};
+use bson_de_raw::from_slice_at;
+use bson_ser_stream::to_vec_at;
+use std::alloc::Global;
+
+/// Why a document is not recast.
+#[derive(Debug, Drop)]
+pub enum RecastError {
+    /// It is not read at the shape. The error is never `NoMemory`.
+    Read(de::Error),
+    /// It is read, and its value is not written. The error is never `NoMemory`.
+    Write(ser::Error),
+    /// Memory ran out.
+    NoMemory,
+}
+
+/// Reads the bytes of a document at a shape, and gives the bytes of what was read.
+///
+/// # Errors
+///
+/// `Read` exactly where `from_slice_at` refuses the bytes at the shape, `Write` exactly where it reads a value that
+/// `to_vec_at` refuses, each with that call's error; `NoMemory` where memory ran out.
+pub fn recast(alloc: Global, shape: &Shape, bytes: &[u8]) -> Result<Vec<u8>, RecastError>
+    // What is read at the shape is written.
+    ensures exact { IsRecast shape.now bytes.now result }
+    // A sound document, whose value at a plain shape means a sound document, becomes that document.
+    ensures migrates { (t u : Tree) (d : Value) → IsPlain shape.now → IsSound t → views shape.now t ≡ Some d → means d ≡ Some u → IsSound u
+        → bytes.now ≡ enc t → GivesBytes (enc u) result }
+{
+    shape.known();
+    through(alloc, shape, bytes)
+}
+
+// `recast`, but for its second promise.
+fn through(alloc: Global, shape: &Shape, bytes: &[u8]) -> Result<Vec<u8>, RecastError>
+    ensures { IsRecast shape.now bytes.now result }
+{
+    let datum = match from_slice_at(alloc, shape, bytes) {
+        Ok(datum) => datum,
+        Err(e) => return Err(unread(e)),
+    };
+    match to_vec_at(alloc, &datum) {
+        Ok(written) => Ok(written),
+        Err(e) => Err(unwritten(e)),
+    }
+}
+
+// The error of a recast for one of reading.
+fn unread(e: de::Error) -> RecastError
+    ensures { IsReadError e result }
+{
+    match e {
+        de::Error::NoMemory => RecastError::NoMemory,
+        e @ (de::Error::DeserializationError { .. } | de::Error::WithPath { .. }) => {
+            RecastError::Read(e)
+        }
+    }
+}
+
+// The error of a recast for one of writing.
+fn unwritten(e: ser::Error) -> RecastError
+    ensures { IsWriteError e result }
+{
+    match e {
+        ser::Error::NoMemory => RecastError::NoMemory,
+        e @ (ser::Error::InvalidCString(_)
+        | ser::Error::SerializationError { .. }
+        | ser::Error::WithPath { .. }) => RecastError::Write(e),
+    }
+}

@@ -1,0 +1,242 @@
+// The run: the words are judged, the input is read to its end, the recast runs, and all is written.
+ghost use Rattle.std.specs.Prelude.{◌≡◌, ◌≢◌, ◌≤◌, ◌++◌, ◌⊎◌, [], ◌∷◌, length, map, string_bytes, IfSome, IfOk, IfErr, IsOk, OnOk, OnErr, Some, Result};
+ghost use Rattle.std.specs.Io.KnownBytes.{Appends};
+ghost use Rattle.bson_base.specs.Sound.{IsSound};
+ghost use Rattle.bson_base.specs.Tree.{Tree, enc};
+ghost use Rattle.bson_io.specs.Ends.{RoseOrLast, AppendsPrefix, FitsIn};
+ghost use Rattle.bson_shape.specs.Form.{Form};
+ghost use Rattle.bson_shape.specs.Answers.{Fails};
+ghost use Rattle.bson_shape.specs.Machine.{Refusal, parsed};
+ghost use Rattle.bson_shape.specs.Makers.{IsShape};
+ghost use Rattle.bson_shape.specs.Notation.{text};
+ghost use Rattle.bson_datum.specs.Value.{Value};
+ghost use Rattle.bson_laws.specs.Views.{views};
+ghost use Rattle.bson_laws.specs.Means.{means};
+ghost use Rattle.bson_laws.specs.Plain.{IsPlain};
+ghost use Rattle.bson_recast_run.specs.Due.{request, at_shape, refused_with, is_option};
+ghost use Rattle.bson_recast_run.specs.Ends.{reading, writing, AllQuiet, Silent};
+ghost use Rattle.bson_recast_run.specs.Rows.{IsDue, Told, CutShort};
+ghost use Rattle.bson_recast_run.specs.Complete.{status_due, WritesExactly};
+ghost use Rattle.bson_recast_run.specs.Prepared.{Asks, Answers, Reports};
+
+use crate::recast::{RecastError, recast};
+use crate::status::Status;
+use bson_datum::{ParseError, Shape};
+use bson_io::{Failed, ReadFault, Sink, Source, read_to_end, write_due};
+use std::alloc::{AllocError, Global};
+
+/// A status, with what is due to the two sinks.
+#[derive(Drop)]
+struct Answer {
+    status: Status,
+    bytes: Vec<u8>,
+    line: String,
+}
+
+// An answer that is one line.
+fn refuse(alloc: Global, status: Status, line: String) -> Answer
+    ensures status { result.status ≡ status }
+    ensures bytes { result.bytes.items ≡ [] }
+    ensures line { string_bytes result.line ≡ string_bytes line }
+{
+    Answer {
+        status,
+        bytes: Vec::new(alloc),
+        line,
+    }
+}
+
+// The line for a shape word that is refused. Want of memory has none.
+fn line_of(alloc: Global, e: ParseError) -> Result<String, AllocError>
+    ensures line { IfOk result (λ l. (read : Result Form Refusal) → Fails e read → at_shape read ≡ refused_with (string_bytes l)) }
+{
+    match e {
+        ParseError::NoMemory => Err(AllocError),
+        e @ (ParseError::NotNotation(_) | ParseError::Refused(_, _)) => format!(in alloc; "{e}\n"),
+    }
+}
+
+// The shape that a word is the notation of, or the line that refuses it. The outer error is want of memory.
+fn shape_of(alloc: Global, word: &str) -> Result<Result<Shape, String>, AllocError>
+    ensures { IfOk result (λ r. Asks r (at_shape (parsed word.now))) }
+{
+    match Shape::parse(alloc, word) {
+        Ok(shape) => Ok(Ok(shape)),
+        Err(e) => Ok(Err(line_of(alloc, e)?)),
+    }
+}
+
+// The shape that the words ask for, or the line that refuses them. The outer error is want of memory.
+fn asked(alloc: Global, words: &[String]) -> Result<Result<Shape, String>, AllocError>
+    ensures { IfOk result (λ r. Asks r (request (map string_bytes words.now))) }
+{
+    match words {
+        [word] if !word.as_str().starts_with("--") => shape_of(alloc, word.as_str()),
+        _ => Ok(Err(String::from_str(
+            alloc,
+            "usage: bson_recast [OPTIONS] SHAPE\n",
+        )?)),
+    }
+}
+
+// What is due for an input that was read to its end. An error is want of memory.
+fn answer_to(alloc: Global, shape: &Shape, bytes: &[u8]) -> Result<Answer, AllocError>
+    ensures { IfOk result (λ a. Answers shape.now bytes.now a.status a.bytes.items (string_bytes a.line)) }
+{
+    match recast(alloc, shape, bytes) {
+        Ok(written) => Ok(Answer {
+            status: Status::Done,
+            bytes: written,
+            line: String::new(alloc),
+        }),
+        Err(RecastError::Read(e)) => {
+            let line = format!(in alloc; "read refused: {e}\n")?;
+            Ok(refuse(alloc, Status::ReadRefused, line))
+        }
+        Err(RecastError::Write(e)) => {
+            let line = format!(in alloc; "write refused: {e}\n")?;
+            Ok(refuse(alloc, Status::WriteRefused, line))
+        }
+        Err(RecastError::NoMemory) => Err(AllocError),
+    }
+}
+
+// What is due for an input that was not read to its end. An error is want of memory.
+fn answer_to_fault(alloc: Global, fault: ReadFault) -> Result<Answer, AllocError>
+    ensures { IfOk result (λ a. Reports fault a.status a.bytes.items (string_bytes a.line)) }
+{
+    match fault {
+        ReadFault::Failed => {
+            let line = String::from_str(alloc, "source fault\n")?;
+            Ok(refuse(alloc, Status::SourceFault, line))
+        }
+        ReadFault::TooLong => {
+            let line = String::from_str(alloc, "read refused: input too long\n")?;
+            Ok(refuse(alloc, Status::ReadRefused, line))
+        }
+        ReadFault::NoMemory => Err(AllocError),
+    }
+}
+
+// What is due for these words on this input. An error is want of memory.
+fn prepare<I: Source>(alloc: Global, words: &[String], input: &mut I) -> Result<Answer, AllocError>
+    ensures due { IfOk result (λ a. IsDue (map string_bytes words.now) (reading I.left I.faults input.old input.new)
+        a.status a.bytes.items (string_bytes a.line)) }
+    ensures later { I.faults input.old ≤ I.faults input.new }
+{
+    let shape = match asked(alloc, words)? {
+        Ok(shape) => shape,
+        Err(line) => return Ok(refuse(alloc, Status::Usage, line)),
+    };
+    match read_to_end(alloc, input) {
+        Ok(bytes) => answer_to(alloc, &shape, &bytes),
+        Err(fault) => answer_to_fault(alloc, fault),
+    }
+}
+
+// Writes what is due, and says whether all of it was written.
+fn deliver<O: Sink, E: Sink>(answer: &Answer, out: &mut O, err: &mut E) -> Result<(), Failed>
+    ensures out_all { OnOk result (Appends (O.written out.old) (O.written out.new) answer.now.bytes.items) }
+    ensures err_all { OnOk result (Appends (E.written err.old) (E.written err.new) (string_bytes answer.now.line)) }
+    ensures out_part { AppendsPrefix (O.written out.old) (O.written out.new) answer.now.bytes.items }
+    ensures err_part { AppendsPrefix (E.written err.old) (E.written err.new) (string_bytes answer.now.line) }
+    ensures out_later { O.faults out.old ≤ O.faults out.new }
+    ensures err_later { E.faults err.old ≤ E.faults err.new }
+    ensures room { FitsIn (O.room out.old) answer.now.bytes.items → FitsIn (E.room err.old) (string_bytes answer.now.line) → IsOk result }
+    ensures cause { OnErr result (RoseOrLast (O.faults out.old) (O.faults out.new) ⊎ RoseOrLast (E.faults err.old) (E.faults err.new)) }
+{
+    write_due(out, &answer.bytes)?;
+    write_due(err, answer.line.as_bytes())
+}
+
+// `run`, but for the headline.
+fn carry_out<I: Source, O: Sink, E: Sink>(
+    alloc: Global,
+    words: &[String],
+    input: &mut I,
+    out: &mut O,
+    err: &mut E,
+) -> Status
+    ensures done { result ≡ Status.Done → Told (map string_bytes words.now) (reading I.left I.faults input.old input.new) Status.Done
+        (writing O.written O.room O.faults out.old out.new) (writing E.written E.room E.faults err.old err.new) }
+    ensures read_refused { result ≡ Status.ReadRefused → Told (map string_bytes words.now) (reading I.left I.faults input.old input.new) Status.ReadRefused
+        (writing O.written O.room O.faults out.old out.new) (writing E.written E.room E.faults err.old err.new) }
+    ensures write_refused { result ≡ Status.WriteRefused → Told (map string_bytes words.now) (reading I.left I.faults input.old input.new) Status.WriteRefused
+        (writing O.written O.room O.faults out.old out.new) (writing E.written E.room E.faults err.old err.new) }
+    ensures usage { result ≡ Status.Usage → Told (map string_bytes words.now) (reading I.left I.faults input.old input.new) Status.Usage
+        (writing O.written O.room O.faults out.old out.new) (writing E.written E.room E.faults err.old err.new) }
+    ensures source_fault { result ≡ Status.SourceFault → Told (map string_bytes words.now) (reading I.left I.faults input.old input.new) Status.SourceFault
+        (writing O.written O.room O.faults out.old out.new) (writing E.written E.room E.faults err.old err.new) }
+    ensures sink_fault { result ≡ Status.SinkFault → CutShort (map string_bytes words.now) (reading I.left I.faults input.old input.new)
+        (writing O.written O.room O.faults out.old out.new) (writing E.written E.room E.faults err.old err.new) }
+    ensures no_memory { result ≡ Status.NoMemory → Silent (writing O.written O.room O.faults out.old out.new) (writing E.written E.room E.faults err.old err.new) }
+    ensures complete { AllQuiet (reading I.left I.faults input.old input.new) (writing O.written O.room O.faults out.old out.new) (writing E.written E.room E.faults err.old err.new)
+        → IfSome (I.left input.old) (λ bytes. (result ≡ status_due (map string_bytes words.now) bytes) ⊎ (result ≡ Status.NoMemory)) }
+    ensures input_later { I.faults input.old ≤ I.faults input.new }
+    ensures out_later { O.faults out.old ≤ O.faults out.new }
+    ensures err_later { E.faults err.old ≤ E.faults err.new }
+{
+    let answer = match prepare(alloc, words, input) {
+        Ok(answer) => answer,
+        Err(_) => return Status::NoMemory,
+    };
+    match deliver(&answer, out, err) {
+        Ok(()) => answer.status,
+        Err(_) => Status::SinkFault,
+    }
+}
+
+/// Judges the words, reads the input to its end, recasts it, and writes what is due.
+///
+/// The words ask for a recast where they are exactly one word, which does not begin with `--` and is the notation of a
+/// shape. All memory is taken before the first write. The status says how it ended:
+///
+/// - `Done`: the document was written to `out`, and nothing to `err`.
+/// - `Usage`: the words ask for no recast. The input is not touched.
+/// - `ReadRefused`: the input is no document that can be read at the shape, or has more than 2147483647 bytes.
+/// - `WriteRefused`: what was read cannot be written.
+/// - `SourceFault`: a call on the input failed. For these four a line tells why on `err`, and `out` is unchanged.
+/// - `SinkFault`: a call on `out` or `err` failed. Each got a first part of what was due.
+/// - `NoMemory`: memory ran out. `out` and `err` are unchanged.
+pub fn run<I: Source, O: Sink, E: Sink>(
+    alloc: Global,
+    words: &[String],
+    input: &mut I,
+    out: &mut O,
+    err: &mut E,
+) -> Status
+    // Given the notation of a plain shape and the bytes of a sound document whose value at the shape means a sound document, it
+    // writes exactly the bytes of that document, or reports want of memory.
+    ensures headline { (s : Form) (t u : Tree) (d : Value) → IsShape s → IsPlain s → IsSound t → views s t ≡ Some d → means d ≡ Some u → IsSound u
+        → map string_bytes words.now ≡ text s ∷ [] → I.left input.old ≡ Some (enc t)
+        → AllQuiet (reading I.left I.faults input.old input.new) (writing O.written O.room O.faults out.old out.new) (writing E.written E.room E.faults err.old err.new)
+        → WritesExactly result (writing O.written O.room O.faults out.old out.new) (writing E.written E.room E.faults err.old err.new) (enc u) }
+
+    // Each status only where its row holds, with exactly what the row says on the two sinks.
+    ensures done { result ≡ Status.Done → Told (map string_bytes words.now) (reading I.left I.faults input.old input.new) Status.Done
+        (writing O.written O.room O.faults out.old out.new) (writing E.written E.room E.faults err.old err.new) }
+    ensures read_refused { result ≡ Status.ReadRefused → Told (map string_bytes words.now) (reading I.left I.faults input.old input.new) Status.ReadRefused
+        (writing O.written O.room O.faults out.old out.new) (writing E.written E.room E.faults err.old err.new) }
+    ensures write_refused { result ≡ Status.WriteRefused → Told (map string_bytes words.now) (reading I.left I.faults input.old input.new) Status.WriteRefused
+        (writing O.written O.room O.faults out.old out.new) (writing E.written E.room E.faults err.old err.new) }
+    ensures usage { result ≡ Status.Usage → Told (map string_bytes words.now) (reading I.left I.faults input.old input.new) Status.Usage
+        (writing O.written O.room O.faults out.old out.new) (writing E.written E.room E.faults err.old err.new) }
+
+    // A fault only where a count rose, or for a sink stands at its last value.
+    ensures source_fault { result ≡ Status.SourceFault → Told (map string_bytes words.now) (reading I.left I.faults input.old input.new) Status.SourceFault
+        (writing O.written O.room O.faults out.old out.new) (writing E.written E.room E.faults err.old err.new) }
+    ensures sink_fault { result ≡ Status.SinkFault → CutShort (map string_bytes words.now) (reading I.left I.faults input.old input.new)
+        (writing O.written O.room O.faults out.old out.new) (writing E.written E.room E.faults err.old err.new) }
+    ensures no_memory { result ≡ Status.NoMemory → Silent (writing O.written O.room O.faults out.old out.new) (writing E.written E.room E.faults err.old err.new) }
+
+    // Where no count rose, the status is the one that is due, or want of memory.
+    ensures complete { AllQuiet (reading I.left I.faults input.old input.new) (writing O.written O.room O.faults out.old out.new) (writing E.written E.room E.faults err.old err.new)
+        → IfSome (I.left input.old) (λ bytes. (result ≡ status_due (map string_bytes words.now) bytes) ⊎ (result ≡ Status.NoMemory)) }
+
+    // No count falls.
+    ensures input_later { I.faults input.old ≤ I.faults input.new }
+    ensures out_later { O.faults out.old ≤ O.faults out.new }
+    ensures err_later { E.faults err.old ≤ E.faults err.new }
+{
+    carry_out(alloc, words, input, out, err)
+}

@@ -1,0 +1,5 @@
+pub mod Growth
+pub mod Ended
+pub mod Written
+pub mod Halted
+pub mod Structs

@@ -1,0 +1,67 @@
+-- What a writer leaves, whether it came to its end or not.
+use Rattle.std.specs.Prelude.{◌≡◌, ℕ, ◌+◌, ◌-◌, ◌*◌, ◌<◌, ◌≤◌, [], ◌∷◌, ◌++◌, length, take, Option, Some, Result, Ok, Err, IsOk, MatchOption, IfSome}
+use Rattle.bson_base.specs.Text.{Utf8}
+use Rattle.bson_base.specs.Sound.{max_bytes}
+use Rattle.bson_datum.specs.Cause.{too_long}
+use Rattle.bson_datum.specs.Refusal.{WriteFault, unwritable, Refusal, here}
+use Rattle.bson_datum.specs.Stop.{stop_view, IsOutOfMemory, IsUnderKey}
+use Rattle.bson_datum.specs.ErrorView.{write_fault}
+use Rattle.bson_base.specs.Tree.{le32}
+use Rattle.bson_io.specs.Output.{Output, patched}
+use Rattle.bson_laws.specs.Spell.{Writing}
+use Rattle.bson_ser_stream.specs.declared.halt.Halt.{Halt}
+use Rattle.bson_ser_stream.specs.declared.halt.Halt.TheVariants.{Stopped, TooLong}
+
+-- the refusal, where memory did not run out
+abbrev pub halt_view : Halt → Option (Refusal WriteFault)
+halt_view (Stopped s) = stop_view write_fault s
+halt_view TooLong = Some (here (unwritable too_long))
+
+abbrev pub IsWantOfMemory : Halt → Type 0
+IsWantOfMemory (Stopped s) = IsOutOfMemory s
+IsWantOfMemory TooLong = ⊥
+
+-- a fault of the value itself
+abbrev pub IsHere : WriteFault → Halt → Type 0
+IsHere f (Stopped s) = stop_view write_fault s ≡ Some (here f)
+IsHere f TooLong = ⊥
+
+-- a fault of the value itself, or want of memory
+abbrev pub IsHereOrWant : WriteFault → Halt → Type 0
+IsHereOrWant f (Stopped s) = IfSome (stop_view write_fault s) (λ r. r ≡ here f)
+IsHereOrWant f TooLong = ⊥
+
+-- the same, seen from the document that has the value at this key, or want of memory
+abbrev pub IsUnder : Utf8 → Halt → Halt → Type 0
+IsUnder key (Stopped s) (Stopped t) = IsUnderKey key s t
+IsUnder key (Stopped s) TooLong = ⊥
+IsUnder key TooLong h = h ≡ TooLong
+
+-- Why something of a size is not written into so much spare room: a refusal is the one that is due, memory runs out only where
+-- another refusal is due or the room is too small, and only what has more bytes than a document may is too long.
+abbrev pub Halts : {A : Type 0} → ℕ → ℕ → Writing A → Halt → Type 0
+Halts size spare due (Stopped s) = MatchOption (stop_view write_fault s) (IsOk due → spare < size) (λ r. due ≡ Err r)
+Halts size spare due TooLong = max_bytes < size
+
+-- what is due is given, or there is a reason not to
+abbrev pub Gives : {X Y : Type 0} → ℕ → ℕ → (X → Y) → Result X Halt → Writing Y → Type 0
+Gives size spare view (Ok x) due = due ≡ Ok (view x)
+Gives size spare view (Err h) due = Halts size spare due h
+
+-- Bytes were appended alone. No more spare room was lost than they take, and each of them cost at most two steps.
+pub record Grows (old new : Output) (before now : ℕ) : Type 0 where
+  pub kept : take (length old.bytes) new.bytes ≡ old.bytes
+  pub room : length old.bytes + old.spare ≤ length new.bytes + new.spare
+  pub steps : now + 2 * length old.bytes ≤ before + 2 * length new.bytes
+
+-- A document that begins at a place is ended: a zero stands behind it, and its length in its first four bytes.
+pub record Ends (old new : Output) (start before now : ℕ) : Type 0 where
+  pub bytes : new.bytes ≡ patched (old.bytes ++ 0 ∷ []) start (le32 (length old.bytes + 1 - start))
+  pub fits : length old.bytes + 1 - start ≤ max_bytes
+  pub spare : old.spare ≤ new.spare + 1
+  pub steps : now ≡ before + 5
+
+-- why a document that begins at a place is not ended: no byte is spare, or it has too many bytes
+abbrev pub EndHalts : Output → ℕ → Halt → Type 0
+EndHalts old start (Stopped s) = IsOutOfMemory s × (old.spare < 1)
+EndHalts old start TooLong = max_bytes < length old.bytes + 1 - start

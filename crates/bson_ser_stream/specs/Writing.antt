@@ -1,0 +1,34 @@
+-- What a writer answers.
+use Rattle.std.specs.Prelude.{◌≡◌, ℕ, ◌<◌, ◌++◌, ◌⊎◌, Ok, Err}
+use Rattle.bson_base.specs.Text.{Bytes, Utf8}
+use Rattle.bson_base.specs.Outcome.{result_map}
+use Rattle.bson_base.specs.Sound.{max_bytes}
+use Rattle.bson_base.specs.Tree.{Tree, Pairs, enc, elements, element, kind}
+use Rattle.bson_datum.specs.Cause.{too_long}
+use Rattle.bson_datum.specs.Refusal.{WriteFault, unwritable, here, Failure, no_memory, with_path}
+use Rattle.bson_laws.specs.Spell.{Writing}
+
+-- the bytes so far, with those of a value behind them
+abbrev pub with_tree : Bytes → Writing Tree → Writing Bytes
+with_tree old r = result_map (λ t. old ++ enc t) r
+
+-- the bytes so far, with an element behind them
+abbrev pub with_element : Bytes → Utf8 → Writing Tree → Writing Bytes
+with_element old key r = result_map (λ t. old ++ element (kind t) key (enc t)) r
+
+-- the bytes so far, with the elements of a document behind them
+abbrev pub with_elements : Bytes → Writing Pairs → Writing Bytes
+with_elements old r = result_map (λ ps. old ++ elements ps) r
+
+-- the failure for a document that would have more bytes than a document may; it names no value inside
+abbrev pub too_long_failure : Failure WriteFault
+too_long_failure = with_path (here (unwritable too_long))
+
+-- the failure is the refusal that is due, with its path
+abbrev pub IsDue : {A : Type 0} → Writing A → Failure WriteFault → Type 0
+IsDue (Ok x) f = ⊥
+IsDue (Err r) f = f ≡ with_path r
+
+-- Why something of a size is not written: for want of memory, for the refusal that is due, or for its size.
+abbrev pub Fails : {A : Type 0} → ℕ → Writing A → Failure WriteFault → Type 0
+Fails size due f = (f ≡ no_memory) ⊎ IsDue due f ⊎ ((f ≡ too_long_failure) × (max_bytes < size))

@@ -1,0 +1,68 @@
+// Why writing ended before its end.
+ghost use Rattle.std.specs.Prelude.{◌≡◌};
+ghost use Rattle.bson_datum.specs.Refusal.{unwritable};
+ghost use Rattle.bson_datum.specs.Stop.{IsPlaced};
+ghost use Rattle.bson_datum.specs.ErrorView.{cause_view, write_fault, write_failure};
+ghost use Rattle.bson_ser_stream.specs.Halting.{halt_view, IsHere, IsUnder};
+
+use bson_datum::ser::{Error, Fault};
+use bson_datum::{Cause, Stop};
+use std::alloc::{AllocError, Global};
+
+/// Why writing ended before its end.
+#[derive(Debug, Drop)]
+pub(crate) enum Halt {
+    /// A value is refused, or memory ran out.
+    Stopped(Stop<Fault>),
+    /// A document would have more bytes than a document may.
+    TooLong,
+}
+
+impl Halt {
+    /// A fault of the value itself. It takes no memory.
+    pub(crate) fn here(alloc: Global, fault: Fault) -> Halt
+        ensures here { IsHere (write_fault fault) result }
+    {
+        Halt::Stopped(Stop::here(alloc, fault))
+    }
+
+    /// A cause in the value itself. It takes no memory.
+    pub(crate) fn caused(alloc: Global, cause: Cause) -> Halt
+        ensures here { IsHere (unwritable (cause_view cause)) result }
+    {
+        Halt::here(alloc, Fault::Cause(cause))
+    }
+
+    /// The same, seen from the document that has the value at this key; or want of memory.
+    pub(crate) fn under_key(self, key: &str) -> Halt
+        ensures under { IsUnder key.now self result }
+    {
+        match self {
+            Halt::Stopped(stop) => Halt::Stopped(stop.under_key(key)),
+            Halt::TooLong => Halt::TooLong,
+        }
+    }
+
+    /// The error that a caller sees: a refusal with its path, or want of memory.
+    pub(crate) fn into_error(self, alloc: Global) -> Error
+        ensures placed { IsPlaced (halt_view self) (write_failure result) }
+    {
+        match self {
+            Halt::Stopped(stop) => Error::from_stop(alloc, stop),
+            Halt::TooLong => Error::from_stop(
+                alloc,
+                Stop::here(alloc, Fault::Cause(Cause::TooLong)),
+            ),
+        }
+    }
+}
+
+impl From<AllocError> for Halt {
+    ghost use Rattle.bson_ser_stream.specs.Halting.{IsWantOfMemory};
+
+    ghost from_gives = { λ _ h. IsWantOfMemory h };
+
+    fn from(_e: AllocError) -> Halt {
+        Halt::Stopped(Stop::NoMemory)
+    }
+}

@@ -1,0 +1,128 @@
+-- The bytes of one character are read.
+use Rattle.std.proofs.Common.{◌≡◌, ℕ, ◌+◌, ◌/◌, ◌%◌, ◌≤◌, ◌<◌, Bool, true, false, cond, eqb, ◌||◌, List, [], ◌∷◌, ◌++◌, length, Result, Ok, Err, refl, sym, ap, subst, ◌∙◌, arith, append_assoc, append-nil}
+use Rattle.std.specs.Prelude.{nat_le, nat_lt}
+use lib.Utf8.{encode}
+use lib.Dec.{ltb}
+use Rattle.std.proofs.lemmas.Str.{encode_ascii, length-encode, len_utf8_bounds}
+use Rattle.bson_base.specs.Text.{Utf8}
+use Rattle.bson_shape.specs.Notation.{begins_bare, in_bare, is_escaped}
+use Rattle.bson_shape.specs.Machine.{Refusal, Not_notation, Refused, Open, Level, Owner, Form_at, Field_of, Mode, Form_due, First_field, Field_due, Bare, Quoted, Escape, Named, Done, State, ◌>>=◌, form_ended, begins_name, begins_form, form_due, field_due, first_field, named, word_ended, leaf_ended, bare_name, quoted_name, escape, step, other_character, run}
+use Rattle.bson_shape.proofs.Words.{differs}
+use Rattle.bson_shape.proofs.NameRuns.{run_step, run_refused, same_run}
+use Rattle.std.proofs.lemmas.Bool.Decides.{nat_tests}
+use Rattle.bson_shape.specs.Answers.{Gives}
+use Rattle.bson_shape.specs.declared.error.ParseError.{ParseError}
+use Rattle.bson_shape.specs.Form.{Form, leaf}
+use Rattle.bson_shape.specs.Leaf.{of_word}
+use Rattle.bson_shape.specs.declared.leaf.Leaf.{Leaf}
+use Rattle.std.proofs.Common.{Option, Some, None}
+
+-- no ASCII
+abbrev pub AreHigh : Utf8 → Type 0
+AreHigh [] = Unit {0}
+AreHigh (b ∷ bs) = (128 ≤ b) × AreHigh bs
+
+high_cases : (x y z : Bool) (c : ℕ) → ltb c 128 ≡ x → 128 ≤ c → AreHigh (cond x (c ∷ []) (cond y ((192 + c / 64) ∷ (128 + c % 64) ∷ []) (cond z ((224 + c / 4096) ∷ (128 + c / 64 % 64) ∷ (128 + c % 64) ∷ []) ((240 + c / 262144) ∷ (128 + c / 4096 % 64) ∷ (128 + c / 64 % 64) ∷ (128 + c % 64) ∷ []))))
+high_cases true y z c e h = (h, tt)
+high_cases false true z c e h = (omega arith, (omega arith, tt))
+high_cases false false true c e h = (omega arith, (omega arith, (omega arith, tt)))
+high_cases false false false c e h = (omega arith, (omega arith, (omega arith, (omega arith, tt))))
+
+pub high_encode : (c : ℕ) → 128 ≤ c → AreHigh (encode c)
+unfolding encode
+high_encode c h = high_cases (ltb c 128) (ltb c 2048) (ltb c 65536) c refl h
+
+-- a byte that is not ASCII
+not_byte : (b k : ℕ) → 128 ≤ b → k < 128 → eqb b k ≡ false
+not_byte b k h l = grind (arith, nat_tests)
+
+not_in_bare : (b : ℕ) → 128 ≤ b → in_bare b ≡ false
+not_in_bare b h = grind (arith, nat_tests)
+
+not_begins_bare : (b : ℕ) → 128 ≤ b → begins_bare b ≡ false
+not_begins_bare b h = grind (arith, nat_tests)
+
+not_quote : (b : ℕ) → 128 ≤ b → begins_name b ≡ false
+not_quote b h = grind (arith, nat_tests)
+
+not_form : (b : ℕ) → 128 ≤ b → begins_form b ≡ false
+not_form b h = grind (arith, nat_tests)
+
+pub not_escaped : (b : ℕ) → 128 ≤ b → is_escaped b ≡ false
+not_escaped b h = grind (arith, nat_tests)
+
+-- behind a form or a name there is no such byte
+ended_refused : (at : ℕ) (f : Form) (st : List Level) (b : ℕ) → 128 ≤ b → form_ended at f st b ≡ Err (Not_notation at)
+unfolding form_ended
+ended_refused at f [] b h = refl
+ended_refused at f (l ∷ st) b h = rw (not_byte b 44 h (omega arith), not_byte b 125 h (omega arith)) refl
+
+named_refused : (at : ℕ) (owner : Owner) (n : Utf8) (st : List Level) (b : ℕ) → 128 ≤ b → named at owner n st b ≡ Err (Not_notation at)
+unfolding named
+named_refused at (Form_at p) n st b h = rw (not_byte b 123 h (omega arith)) refl
+named_refused at (Field_of o) n st b h = rw (not_byte b 58 h (omega arith)) refl
+
+leaf_refused : (o : Option Leaf) (at : ℕ) (st : List Level) (b : ℕ) → 128 ≤ b → leaf_ended at o st b ≡ Err (Not_notation at)
+leaf_refused None at st b h = refl
+leaf_refused (Some l) at st b h = ended_refused at (leaf l) st b h
+
+word_refused : (at : ℕ) (owner : Owner) (n : Utf8) (st : List Level) (b : ℕ) → 128 ≤ b → word_ended at owner n st b ≡ Err (Not_notation at)
+unfolding word_ended
+word_refused at (Form_at p) n st b h = rw (not_byte b 123 h (omega arith)) (leaf_refused (of_word n) at st b h)
+word_refused at (Field_of o) n st b h = named_refused at (Field_of o) n st b h
+
+-- such a byte is read between quotes alone
+pub high_step : (at : ℕ) (m : Mode) (st : List Level) (b : ℕ) → 128 ≤ b → step at m st b ≡ other_character at m st (b ∷ [])
+unfolding step form_due first_field field_due bare_name quoted_name escape other_character
+high_step at Form_due st b h = rw (not_form b h) refl
+high_step at (First_field o) st b h = rw (not_byte b 125 h (omega arith), not_quote b h) refl
+high_step at (Field_due o) st b h = rw (not_quote b h) refl
+high_step at (Bare owner n) st b h = rw (not_in_bare b h) (word_refused at owner n st b h)
+high_step at (Quoted owner n) st b h = rw (not_byte b 34 h (omega arith), not_byte b 92 h (omega arith)) refl
+high_step at (Escape owner n) st b h = rw (not_escaped b h) refl
+high_step at (Named owner n) st b h = named_refused at owner n st b h
+high_step at (Done f) st b h = ended_refused at f st b h
+
+quoted_other : (at : ℕ) (owner : Owner) (n : Utf8) (st : List Level) (bs : Utf8) → other_character at (Quoted owner n) st bs ≡ Ok (Quoted owner (n ++ bs), st)
+unfolding other_character
+quoted_other at owner n st bs = refl
+
+quoted_high : (bs : Utf8) (at : ℕ) (owner : Owner) (n : Utf8) (st : List Level) → AreHigh bs → run at (Quoted owner n, st) bs ≡ Ok (Quoted owner (n ++ bs), st)
+unfolding run
+quoted_high [] at owner n st h = ap (λ xs. Ok (Quoted owner xs, st)) (sym (append-nil n))
+quoted_high (b ∷ bs) at owner n st h =
+    let first : step at (Quoted owner n) st b ≡ Ok (Quoted owner (n ++ b ∷ []), st) = high_step at (Quoted owner n) st b h.0 ∙ quoted_other at owner n st (b ∷ []) in
+    run_step at (Quoted owner n) st b bs _ first ∙ quoted_high bs (at + 1) owner (n ++ b ∷ []) st h.1 ∙ ap (λ xs. Ok (Quoted owner xs, st)) (append_assoc n (b ∷ []) bs)
+
+-- outside quotes it is refused at its first byte, whichever it is
+refused_high : (bs : Utf8) (b at : ℕ) (m : Mode) (st : List Level) → 128 ≤ b → other_character at m st (b ∷ []) ≡ Err (Not_notation at) → run at (m, st) (b ∷ bs) ≡ Err (Not_notation at)
+refused_high bs b at m st h e = run_refused at m st b bs (Not_notation at) (high_step at m st b h ∙ e)
+
+high_run : (bs : Utf8) (b at : ℕ) (m : Mode) (st : List Level) → AreHigh (b ∷ bs) → run at (m, st) (b ∷ bs) ≡ other_character at m st (b ∷ bs)
+unfolding other_character
+high_run bs b at (Quoted owner n) st h = quoted_high (b ∷ bs) at owner n st h
+high_run bs b at Form_due st h = refused_high bs b at Form_due st h.0 refl
+high_run bs b at (First_field o) st h = refused_high bs b at (First_field o) st h.0 refl
+high_run bs b at (Field_due o) st h = refused_high bs b at (Field_due o) st h.0 refl
+high_run bs b at (Bare owner n) st h = refused_high bs b at (Bare owner n) st h.0 refl
+high_run bs b at (Escape owner n) st h = refused_high bs b at (Escape owner n) st h.0 refl
+high_run bs b at (Named owner n) st h = refused_high bs b at (Named owner n) st h.0 refl
+high_run bs b at (Done f) st h = refused_high bs b at (Done f) st h.0 refl
+
+all_high : (bs : Utf8) (at : ℕ) (m : Mode) (st : List Level) → 0 < length bs → AreHigh bs → run at (m, st) bs ≡ other_character at m st bs
+all_high [] at m st l h = absurd (omega arith)
+all_high (b ∷ bs) at m st l h = high_run bs b at m st h
+
+pub other_read : (c at : ℕ) (m : Mode) (st : List Level) → 128 ≤ c → run at (m, st) (encode c) ≡ other_character at m st (encode c)
+other_read c at m st h = all_high (encode c) at m st (omega (arith, length-encode c, (len_utf8_bounds c).0)) (high_encode c h)
+
+unit : (r : Result State Refusal) → (r >>= λ t. Ok t) ≡ r
+unit (Ok t) = refl
+unit (Err e) = refl
+
+pub ascii_read : (c at : ℕ) (m : Mode) (st : List Level) → c < 128 → run at (m, st) (encode c) ≡ step at m st c
+unfolding run
+ascii_read c at m st h = ap (run at (m, st)) (encode_ascii c h) ∙ unit (step at m st c)
+
+pub gives_same : {X Y : Type 0} (view : X → Y) (r : Result X ParseError) (x y : Result Y Refusal) → x ≡ y → Gives view r y → Gives view r x
+gives_same view r x y e h = subst (Gives view r) (sym e) h

@@ -1,0 +1,97 @@
+-- What a state of the machine has read.
+use Rattle.std.proofs.Common.{◌≡◌, ℕ, ◌+◌, Bool, true, false, cond, List, [], ◌∷◌, ◌++◌, length, Result, Ok, Err, refl, sym, ap, ◌∙◌, append_assoc, append-nil}
+use Rattle.bson_base.specs.Text.{Utf8}
+use Rattle.bson_shape.specs.Form.{Form, leaf, structure, Fields, no_fields, field}
+use Rattle.bson_shape.specs.Notation.{bare, escaped, quoted, name_text, struct_name_text, after_commas, listed, text, field_texts}
+use Rattle.bson_shape.specs.Machine.{Open, Level, Owner, Form_at, Field_of, Mode, Form_due, First_field, Field_due, Bare, Quoted, Escape, Named, Done, State, with_fields, grown, is_unwritten}
+
+-- the comma before a further field
+abbrev pub sep : Fields → Utf8
+sep no_fields = []
+sep (field n f fs) = 44 ∷ []
+
+abbrev pub open_text : Open → Utf8
+open_text o = struct_name_text o.name ++ 123 ∷ listed (field_texts o.fields)
+
+-- what stands before the name
+abbrev pub owner_text : Owner → Utf8
+owner_text (Form_at place) = []
+owner_text (Field_of o) = open_text o ++ sep o.fields
+
+abbrev pub levels_text : List Level → Utf8
+levels_text [] = []
+levels_text (l ∷ st) = levels_text st ++ (open_text l.open_struct ++ (sep l.open_struct.fields ++ (name_text l.field_name ++ 58 ∷ [])))
+
+abbrev pub mode_text : Mode → Utf8
+mode_text Form_due = []
+mode_text (First_field o) = open_text o
+mode_text (Field_due o) = open_text o ++ 44 ∷ []
+mode_text (Bare owner n) = owner_text owner ++ n
+mode_text (Quoted owner n) = owner_text owner ++ 34 ∷ escaped n
+mode_text (Escape owner n) = owner_text owner ++ (34 ∷ (escaped n ++ 92 ∷ []))
+mode_text (Named owner n) = owner_text owner ++ quoted n
+mode_text (Done f) = text f
+
+abbrev pub written : State → Utf8
+written s = levels_text s.1 ++ mode_text s.0
+
+abbrev pub ValidMode : Mode → Type 0
+ValidMode Form_due = Unit {0}
+ValidMode (First_field o) = sep o.fields ≡ []
+ValidMode (Field_due o) = sep o.fields ≡ 44 ∷ []
+ValidMode (Bare owner n) = bare n ≡ true
+ValidMode (Quoted owner n) = Unit {0}
+ValidMode (Escape owner n) = Unit {0}
+ValidMode (Named owner n) = (bare n ≡ false) × (is_unwritten owner n ≡ false)
+ValidMode (Done f) = Unit {0}
+
+after_commas-snoc : (fs : Fields) (n : Utf8) (f : Form) → after_commas (field_texts (with_fields fs (field n f no_fields))) ≡ after_commas (field_texts fs) ++ 44 ∷ (name_text n ++ 58 ∷ text f)
+after_commas-snoc no_fields n f = ap (λ xs. 44 ∷ xs) (append-nil (name_text n ++ 58 ∷ text f))
+after_commas-snoc (field m g fs) n f =
+    let y = name_text m ++ 58 ∷ text g in
+    ap (λ xs. 44 ∷ (y ++ xs)) (after_commas-snoc fs n f) ∙ ap (λ xs. 44 ∷ xs) (sym (append_assoc y (after_commas (field_texts fs)) (44 ∷ (name_text n ++ 58 ∷ text f))))
+
+pub listed-snoc : (fs : Fields) (n : Utf8) (f : Form) → listed (field_texts (with_fields fs (field n f no_fields))) ≡ listed (field_texts fs) ++ (sep fs ++ (name_text n ++ 58 ∷ text f))
+listed-snoc no_fields n f = append-nil (name_text n ++ 58 ∷ text f)
+listed-snoc (field m g fs) n f =
+    let y = name_text m ++ 58 ∷ text g in
+    ap (λ xs. y ++ xs) (after_commas-snoc fs n f) ∙ sym (append_assoc y (after_commas (field_texts fs)) (44 ∷ (name_text n ++ 58 ∷ text f)))
+
+pub sep-snoc : (fs : Fields) (n : Utf8) (f : Form) → sep (with_fields fs (field n f no_fields)) ≡ 44 ∷ []
+sep-snoc no_fields n f = refl
+sep-snoc (field m g fs) n f = refl
+
+-- a struct's text is that of the open one and a brace
+pub closed_text : (o : Open) → text (structure o.name o.fields) ≡ open_text o ++ 125 ∷ []
+closed_text o = sym (append_assoc (struct_name_text o.name) (123 ∷ listed (field_texts o.fields)) (125 ∷ []))
+
+-- with one more field
+pub grown_text : (l : Level) (f : Form) → open_text (grown l f) ≡ open_text l.open_struct ++ (sep l.open_struct.fields ++ (name_text l.field_name ++ 58 ∷ text f))
+grown_text l f =
+    let o = l.open_struct in
+    ap (λ xs. struct_name_text o.name ++ 123 ∷ xs) (listed-snoc o.fields l.field_name f)
+    ∙ sym (append_assoc (struct_name_text o.name) (123 ∷ listed (field_texts o.fields)) (sep o.fields ++ (name_text l.field_name ++ 58 ∷ text f)))
+
+pub levels_grown : (l : Level) (st : List Level) (f : Form) → levels_text (l ∷ st) ++ text f ≡ levels_text st ++ open_text (grown l f)
+levels_grown l st f =
+    let o = l.open_struct in
+    let n = name_text l.field_name in
+    append_assoc (levels_text st) (open_text o ++ (sep o.fields ++ (n ++ 58 ∷ []))) (text f)
+    ∙ ap (λ xs. levels_text st ++ xs)
+    (append_assoc (open_text o) (sep o.fields ++ (n ++ 58 ∷ [])) (text f)
+    ∙ ap (λ xs. open_text o ++ xs) (append_assoc (sep o.fields) (n ++ 58 ∷ []) (text f) ∙ ap (λ xs. sep o.fields ++ xs) (append_assoc n (58 ∷ []) (text f)))
+    ∙ sym (grown_text l f))
+
+pub struct_name-bare : (n : Utf8) → bare n ≡ true → struct_name_text n ≡ n
+struct_name-bare [] h = refl
+struct_name-bare (b ∷ bs) h = rw h refl
+
+pub name-bare : (n : Utf8) → bare n ≡ true → name_text n ≡ n
+name-bare n h = rw h refl
+
+pub name-quoted : (n : Utf8) → bare n ≡ false → name_text n ≡ quoted n
+name-quoted n h = rw h refl
+
+pub struct_name-quoted : (n : Utf8) (place : ℕ) → bare n ≡ false → is_unwritten (Form_at place) n ≡ false → struct_name_text n ≡ quoted n
+struct_name-quoted [] place h w = absurd cc
+struct_name-quoted (b ∷ bs) place h w = rw h refl

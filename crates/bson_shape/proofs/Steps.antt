@@ -1,0 +1,246 @@
+-- A byte that is taken is written behind what was read; a byte that is refused is refused at its place.
+use Rattle.std.proofs.Common.{◌≡◌, ℕ, ◌+◌, Bool, true, false, cond, eqb, ◌&&◌, ◌||◌, List, [], ◌∷◌, ◌++◌, length, Option, Some, None, Result, Ok, Err, refl, sym, ap, subst, ◌∙◌, append_assoc, append-nil}
+use Rattle.std.specs.List.{list_all}
+use Rattle.std.specs.Prelude.{nat_le, nat_lt, is_some}
+use Rattle.std.proofs.lemmas.Bool.{eqb-true}
+use Rattle.bson_base.specs.Text.{Utf8}
+use Rattle.bson_base.specs.Reserved.{reserved_kind}
+use Rattle.bson_shape.specs.Form.{Form, leaf, structure, Fields, no_fields, field}
+use Rattle.bson_shape.specs.Leaf.{word, of_word}
+use Rattle.bson_shape.specs.declared.leaf.Leaf.{Leaf}
+use Rattle.bson_shape.specs.Levels.{levels, max_shape_levels}
+use Rattle.bson_shape.specs.Makers.{made_structure, repeats}
+use Rattle.bson_shape.specs.declared.error.ShapeError.{ShapeError}
+use Rattle.bson_shape.specs.declared.error.ShapeError.TheVariants.{ReservedName, RepeatedName, TooDeep}
+use Rattle.bson_shape.specs.Notation.{begins_bare, in_bare, bare, is_escaped, escaped, quoted, name_text, text}
+use Rattle.bson_shape.specs.FirstRefusal.{MakerRefusal}
+use Rattle.bson_shape.specs.Machine.{Refusal, Not_notation, Refused, Open, Level, Owner, Form_at, Field_of, Mode, Form_due, First_field, Field_due, Bare, Quoted, Escape, Named, Done, State, with_fields, opened, grown, made, closed, form_ended, begins_name, name_begun, begins_form, form_begun, form_due, field_due, first_field, named, leaf_ended, word_ended, bare_name, is_unwritten, name_closed, quoted_name, escape, step}
+use Rattle.bson_shape.proofs.Words.{and_true, or_false, or_rest, of_word-is}
+use Rattle.std.specs.Str.{is_utf8}
+use Rattle.std.proofs.Common.{◌<◌}
+use Rattle.bson_shape.specs.Fronts.{HasTextNames}
+use Rattle.bson_shape.proofs.TextStates.{TextOpen, TextOwner, TextLevels, TextState, text-nil, text-one, text-push, texts-snoc}
+use Rattle.bson_shape.proofs.States.{sep, open_text, owner_text, levels_text, mode_text, written, ValidMode, sep-snoc, closed_text, levels_grown, struct_name-bare, name-bare, name-quoted, struct_name-quoted}
+
+-- the state after a byte
+pub record Takes (s : State) (b : ℕ) (t : State) : Type 0 where
+  pub valid : ValidMode t.0
+  pub grew : written t ≡ written s ++ b ∷ []
+  pub texts : TextState s → b < 128 → TextState t
+
+-- the byte goes on with a notation, and a maker refuses
+pub record Refuses (at : ℕ) (s : State) (b : ℕ) (r : MakerRefusal) : Type 0 where
+  pub met : r.met ≡ at
+  pub state : State
+  pub takes : Takes s b state
+
+abbrev pub StopsAt : ℕ → State → ℕ → Refusal → Type 0
+StopsAt at s b (Not_notation q) = q ≡ at
+StopsAt at s b (Refused r) = Refuses at s b r
+
+abbrev pub Leaves : ℕ → State → ℕ → Result State Refusal → Type 0
+Leaves at s b (Ok t) = Takes s b t
+Leaves at s b (Err e) = StopsAt at s b e
+
+chosen : (at : ℕ) (s : State) (b : ℕ) (t : Bool) (x y : Result State Refusal) → (t ≡ true → Leaves at s b x) → (t ≡ false → Leaves at s b y) → Leaves at s b (cond t x y)
+chosen at s b true x y f g = f refl
+chosen at s b false x y f g = g refl
+
+-- ---- the closing brace
+
+made_cases : (a b c : Bool) (f : Form) (at place : ℕ) (st : List Level) (s : State) → Takes s 125 (Done f, st)
+    → Leaves at s 125 (made at place st (cond a (Err ReservedName) (cond b (Err RepeatedName) (cond c (Err TooDeep) (Ok f)))))
+made_cases true b c f at place st s h = record { met = refl; state = (Done f, st); takes = h }
+made_cases false true c f at place st s h = record { met = refl; state = (Done f, st); takes = h }
+made_cases false false true f at place st s h = record { met = refl; state = (Done f, st); takes = h }
+made_cases false false false f at place st s h = h
+
+closed_leaves : (at : ℕ) (o : Open) (st : List Level) (s : State) → written s ≡ levels_text st ++ open_text o → (TextState s → TextOpen o × TextLevels st) → Leaves at s 125 (closed at o st)
+closed_leaves at o st s so_far has =
+    made_cases (is_some (reserved_kind o.name)) (repeats o.fields) (nat_lt max_shape_levels (levels (structure o.name o.fields))) (structure o.name o.fields) at o.place st s
+    (record {
+      valid = tt;
+      grew = ap (λ xs. levels_text st ++ xs) (closed_text o) ∙ sym (append_assoc (levels_text st) (open_text o) (125 ∷ [])) ∙ ap (λ xs. xs ++ 125 ∷ []) (sym so_far);
+      texts = λ h _. record { mode = (has h).0; levels = (has h).1 };
+    })
+
+ended_leaves : (at : ℕ) (f : Form) (st : List Level) (b : ℕ) (s : State) → written s ≡ levels_text st ++ text f → (TextState s → HasTextNames f × TextLevels st) → Leaves at s b (form_ended at f st b)
+unfolding form_ended
+ended_leaves at f [] b s so_far has = refl
+ended_leaves at f (l ∷ st) b s so_far has =
+    let o = grown l f in
+    let grown_has : TextState s → TextOpen o × TextLevels st = λ h. let t = has h in ((t.1.0.0, texts-snoc l.open_struct.fields l.field_name f t.1.0.1 t.1.1 t.0), t.1.2) in
+    let now : written s ≡ levels_text st ++ open_text o = so_far ∙ levels_grown l st f in
+    chosen at s b (eqb b 44) (Ok (Field_due o, st)) _
+    (λ h. record {
+      valid = sep-snoc l.open_struct.fields l.field_name f;
+      grew = sym (append_assoc (levels_text st) (open_text o) (44 ∷ [])) ∙ ap (λ xs. xs ++ 44 ∷ []) (sym now) ∙ ap (λ x. written s ++ x ∷ []) (sym (eqb-true b 44 h));
+      texts = λ k _. record { mode = (grown_has k).0; levels = (grown_has k).1 };
+    })
+    (λ h. chosen at s b (eqb b 125) (closed at o st) _ (λ k. rw (eqb-true b 125 k) (closed_leaves at o st s now grown_has)) (λ k. refl))
+
+-- ---- names
+
+begun_takes : (t : Bool) (owner : Owner) (st : List Level) (b : ℕ) (s : State) → eqb b 34 ≡ t → begins_name b ≡ true → written s ≡ levels_text st ++ owner_text owner → (TextState s → TextOwner owner × TextLevels st) → Takes s b (cond t (Quoted owner []) (Bare owner (b ∷ [])), st)
+begun_takes true owner st b s is h so_far has = record { valid = tt; texts = λ k _. record { mode = ((has k).0, text-nil); levels = (has k).1 }; grew = sym (append_assoc (levels_text st) (owner_text owner) (34 ∷ [])) ∙ ap (λ xs. xs ++ 34 ∷ []) (sym so_far) ∙ ap (λ x. written s ++ x ∷ []) (sym (eqb-true b 34 is)) }
+begun_takes false owner st b s is h so_far has = record {
+  texts = λ k low. record { mode = ((has k).0, text-one b low); levels = (has k).1 };
+  valid = ap (λ t. t && true) (or_rest (begins_bare b) (eqb b 34) h is);
+  grew = sym (append_assoc (levels_text st) (owner_text owner) (b ∷ [])) ∙ ap (λ xs. xs ++ b ∷ []) (sym so_far);
+}
+
+field_leaves : (at : ℕ) (o : Open) (st : List Level) (b : ℕ) (s : State) → written s ≡ levels_text st ++ owner_text (Field_of o) → (TextState s → TextOpen o × TextLevels st) → Leaves at s b (field_due at o st b)
+unfolding field_due
+field_leaves at o st b s so_far has = chosen at s b (begins_name b) (Ok (name_begun (Field_of o) b, st)) _ (λ h. begun_takes (eqb b 34) (Field_of o) st b s refl h so_far has) (λ h. refl)
+
+form_begun_takes : (t : Bool) (at : ℕ) (st : List Level) (b : ℕ) (s : State) → eqb b 123 ≡ t → begins_form b ≡ true → written s ≡ levels_text st ++ [] → (TextState s → TextLevels st) → Takes s b (cond t (First_field (opened at [])) (name_begun (Form_at at) b), st)
+form_begun_takes true at st b s is h so_far has = record { valid = refl; texts = λ k _. record { mode = (text-nil, tt); levels = has k }; grew = sym (append_assoc (levels_text st) [] (123 ∷ [])) ∙ ap (λ xs. xs ++ 123 ∷ []) (sym so_far) ∙ ap (λ x. written s ++ x ∷ []) (sym (eqb-true b 123 is)) }
+form_begun_takes false at st b s is h so_far has = begun_takes (eqb b 34) (Form_at at) st b s refl (or_rest (begins_name b) (eqb b 123) h is) so_far (λ k. (tt, has k))
+
+form_leaves : (at : ℕ) (st : List Level) (b : ℕ) → Leaves at (Form_due, st) b (form_due at st b)
+unfolding form_due
+form_leaves at st b =
+    let s : State = (Form_due, st) in
+    let begun : begins_form b ≡ true → Takes s b (form_begun at b, st) = λ h. form_begun_takes (eqb b 123) at st b s refl h refl (λ k. k.levels) in
+    chosen at s b (begins_form b) _ _
+    (λ h. chosen at s b (nat_le 512 (length st)) (Err (Refused (record { met = at; place = at; cause = TooDeep }))) _ (λ d. record { met = refl; state = (form_begun at b, st); takes = begun h }) (λ d. begun h))
+    (λ h. refl)
+
+-- behind a name, as it is written
+named_leaves : (at : ℕ) (owner : Owner) (n : Utf8) (st : List Level) (b : ℕ) (s : State) (piece : Utf8) → ((place : ℕ) → owner ≡ Form_at place → open_text (opened place n) ≡ piece ++ 123 ∷ []) → name_text n ≡ piece → written s ≡ levels_text st ++ (owner_text owner ++ piece)
+    → (TextState s → (TextOwner owner × (is_utf8 n ≡ true)) × TextLevels st) → Leaves at s b (named at owner n st b)
+unfolding named
+named_leaves at (Form_at place) n st b s piece as_struct as_name so_far has =
+    chosen at s b (eqb b 123) (Ok (First_field (opened place n), st)) _
+    (λ h. record {
+      valid = refl;
+      texts = λ k _. record { mode = ((has k).0.1, tt); levels = (has k).1 };
+      grew = ap (λ xs. levels_text st ++ xs) (as_struct place refl) ∙ sym (append_assoc (levels_text st) piece (123 ∷ [])) ∙ ap (λ xs. xs ++ 123 ∷ []) (sym so_far) ∙ ap (λ x. written s ++ x ∷ []) (sym (eqb-true b 123 h));
+    })
+    (λ h. refl)
+named_leaves at (Field_of o) n st b s piece as_struct as_name so_far has =
+    chosen at s b (eqb b 58) (Ok (Form_due, record { open_struct = o; field_name = n } ∷ st)) _
+    (λ h. record {
+      valid = tt;
+      texts = λ k _. record { mode = tt; levels = ((has k).0.0, (has k).0.1, (has k).1) };
+      grew = append-nil (levels_text st ++ (open_text o ++ (sep o.fields ++ (name_text n ++ 58 ∷ []))))
+          ∙ ap (λ xs. levels_text st ++ (open_text o ++ (sep o.fields ++ (xs ++ 58 ∷ [])))) as_name
+          ∙ regrouped (levels_text st) (open_text o) (sep o.fields) piece
+          ∙ ap (λ xs. xs ++ 58 ∷ []) (sym so_far) ∙ ap (λ x. written s ++ x ∷ []) (sym (eqb-true b 58 h));
+    })
+    (λ h. refl)
+  where
+    regrouped : (a b c d : Utf8) → a ++ (b ++ (c ++ (d ++ 58 ∷ []))) ≡ (a ++ ((b ++ c) ++ d)) ++ 58 ∷ []
+    regrouped a b c d = simp append_assoc
+
+word_leaves : (at : ℕ) (o : Option Leaf) (n : Utf8) (place : ℕ) (st : List Level) (b : ℕ) → of_word n ≡ o → Leaves at (Bare (Form_at place) n, st) b (leaf_ended at o st b)
+word_leaves at None n place st b e = refl
+word_leaves at (Some l) n place st b e = ended_leaves at (leaf l) st b (Bare (Form_at place) n, st) (ap (λ xs. levels_text st ++ xs) (of_word-is n l e)) (λ k. (tt, k.levels))
+
+bare_named : (at : ℕ) (owner : Owner) (n : Utf8) (st : List Level) (b : ℕ) → bare n ≡ true → Leaves at (Bare owner n, st) b (named at owner n st b)
+bare_named at owner n st b v =
+    named_leaves at owner n st b (Bare owner n, st) n (λ place e. ap (λ xs. xs ++ 123 ∷ []) (struct_name-bare n v)) (name-bare n v) refl (λ k. (k.mode, k.levels))
+
+word_ended_leaves : (at : ℕ) (owner : Owner) (n : Utf8) (st : List Level) (b : ℕ) → bare n ≡ true → Leaves at (Bare owner n, st) b (word_ended at owner n st b)
+unfolding word_ended
+word_ended_leaves at (Form_at place) n st b v =
+    chosen at (Bare (Form_at place) n, st) b (eqb b 123) (named at (Form_at place) n st b) _ (λ h. bare_named at (Form_at place) n st b v) (λ h. word_leaves at (of_word n) n place st b refl)
+word_ended_leaves at (Field_of o) n st b v = bare_named at (Field_of o) n st b v
+
+all_snoc : (xs : Utf8) (b : ℕ) → list_all in_bare xs ≡ true → in_bare b ≡ true → list_all in_bare (xs ++ b ∷ []) ≡ true
+all_snoc [] b h e = ap (λ t. t && true) e
+all_snoc (x ∷ xs) b h e = let both = and_true (in_bare x) (list_all in_bare xs) h in ap (λ t. t && list_all in_bare (xs ++ b ∷ [])) both.0 ∙ all_snoc xs b both.1 e
+
+bare_snoc : (xs : Utf8) (b : ℕ) → bare xs ≡ true → in_bare b ≡ true → bare (xs ++ b ∷ []) ≡ true
+bare_snoc [] b h e = absurd cc
+bare_snoc (x ∷ xs) b h e = let both = and_true (begins_bare x) (list_all in_bare xs) h in ap (λ t. t && list_all in_bare (xs ++ b ∷ [])) both.0 ∙ all_snoc xs b both.1 e
+
+bare_leaves : (at : ℕ) (owner : Owner) (n : Utf8) (st : List Level) (b : ℕ) → bare n ≡ true → Leaves at (Bare owner n, st) b (bare_name at owner n st b)
+unfolding bare_name
+bare_leaves at owner n st b v =
+    chosen at (Bare owner n, st) b (in_bare b) (Ok (Bare owner (n ++ b ∷ []), st)) _
+    (λ h. record { valid = bare_snoc n b v h; texts = λ k low. record { mode = (k.mode.0, text-push n b k.mode.1 low); levels = k.levels }; grew = ap (λ xs. levels_text st ++ xs) (sym (append_assoc (owner_text owner) n (b ∷ []))) ∙ sym (append_assoc (levels_text st) (owner_text owner ++ n) (b ∷ [])) })
+    (λ h. word_ended_leaves at owner n st b v)
+
+-- ---- between quotes
+
+pub escaped-append : (xs ys : Utf8) → escaped (xs ++ ys) ≡ escaped xs ++ escaped ys
+escaped-append [] ys = refl
+escaped-append (x ∷ xs) ys =
+    elim (is_escaped x) as (λ t. cond t (92 ∷ x ∷ escaped (xs ++ ys)) (x ∷ escaped (xs ++ ys)) ≡ cond t (92 ∷ x ∷ escaped xs) (x ∷ escaped xs) ++ escaped ys) [
+      | true ↦ ap (λ zs. 92 ∷ x ∷ zs) (escaped-append xs ys)
+      | false ↦ ap (λ zs. x ∷ zs) (escaped-append xs ys)
+    ]
+
+pub escaped-plain : (n : Utf8) (b : ℕ) → is_escaped b ≡ false → escaped (n ++ b ∷ []) ≡ escaped n ++ b ∷ []
+escaped-plain n b h = escaped-append n (b ∷ []) ∙ ap (λ t. escaped n ++ cond t (92 ∷ b ∷ []) (b ∷ [])) h
+
+pub escaped-marked : (n : Utf8) (b : ℕ) → is_escaped b ≡ true → escaped (n ++ b ∷ []) ≡ escaped n ++ (92 ∷ b ∷ [])
+escaped-marked n b h = escaped-append n (b ∷ []) ∙ ap (λ t. escaped n ++ cond t (92 ∷ b ∷ []) (b ∷ [])) h
+
+either_false : (a b : Bool) → a ≡ false → b ≡ false → (a || b) ≡ false
+either_false true b h k = absurd cc
+either_false false b h k = k
+
+closing_leaves : (at : ℕ) (owner : Owner) (n : Utf8) (st : List Level) → Leaves at (Quoted owner n, st) 34 (name_closed at owner n st)
+unfolding name_closed
+closing_leaves at owner n st =
+    chosen at (Quoted owner n, st) 34 (bare n || is_unwritten owner n) (Err (Not_notation at)) _ (λ h. refl)
+    (λ h. record {
+      valid = or_false (bare n) (is_unwritten owner n) h;
+      texts = λ k _. record { mode = k.mode; levels = k.levels };
+      grew = ap (λ xs. levels_text st ++ xs) (sym (append_assoc (owner_text owner) (34 ∷ escaped n) (34 ∷ []))) ∙ sym (append_assoc (levels_text st) (owner_text owner ++ 34 ∷ escaped n) (34 ∷ []));
+    })
+
+quoted_leaves : (at : ℕ) (owner : Owner) (n : Utf8) (st : List Level) (b : ℕ) → Leaves at (Quoted owner n, st) b (quoted_name at owner n st b)
+unfolding quoted_name
+quoted_leaves at owner n st b =
+    let s : State = (Quoted owner n, st) in
+    let o = owner_text owner in
+    chosen at s b (eqb b 34) (name_closed at owner n st) _
+    (λ h. rw (eqb-true b 34 h) (closing_leaves at owner n st))
+    (λ h. chosen at s b (eqb b 92) (Ok (Escape owner n, st)) _
+    (λ k. record {
+      valid = tt;
+      texts = λ k _. record { mode = k.mode; levels = k.levels };
+      grew = ap (λ xs. levels_text st ++ xs) (sym (append_assoc o (34 ∷ escaped n) (92 ∷ []))) ∙ sym (append_assoc (levels_text st) (o ++ 34 ∷ escaped n) (92 ∷ [])) ∙ ap (λ x. written s ++ x ∷ []) (sym (eqb-true b 92 k));
+    })
+    (λ k. record {
+      valid = tt;
+      texts = λ k low. record { mode = (k.mode.0, text-push n b k.mode.1 low); levels = k.levels };
+      grew = ap (λ xs. levels_text st ++ (o ++ 34 ∷ xs)) (escaped-plain n b (either_false (eqb b 34) (eqb b 92) h k))
+          ∙ ap (λ xs. levels_text st ++ xs) (sym (append_assoc o (34 ∷ escaped n) (b ∷ []))) ∙ sym (append_assoc (levels_text st) (o ++ 34 ∷ escaped n) (b ∷ []));
+    }))
+
+escape_leaves : (at : ℕ) (owner : Owner) (n : Utf8) (st : List Level) (b : ℕ) → Leaves at (Escape owner n, st) b (escape at owner n st b)
+unfolding escape
+escape_leaves at owner n st b =
+    chosen at (Escape owner n, st) b (is_escaped b) (Ok (Quoted owner (n ++ b ∷ []), st)) _
+    (λ h. record { valid = tt; texts = λ k low. record { mode = (k.mode.0, text-push n b k.mode.1 low); levels = k.levels }; grew = ap (λ xs. levels_text st ++ (owner_text owner ++ 34 ∷ xs)) (escaped-marked n b h) ∙ regrouped (levels_text st) (owner_text owner) (escaped n) })
+    (λ h. refl)
+  where
+    regrouped : (a c d : Utf8) → a ++ (c ++ 34 ∷ (d ++ (92 ∷ b ∷ []))) ≡ (a ++ (c ++ (34 ∷ (d ++ 92 ∷ [])))) ++ b ∷ []
+    regrouped a c d = simp append_assoc
+
+-- ---- one byte
+
+no_comma : (st : List Level) (o : Open) (rest : Utf8) → sep o.fields ≡ rest → levels_text st ++ (open_text o ++ rest) ≡ levels_text st ++ owner_text (Field_of o)
+no_comma st o rest e = ap (λ xs. levels_text st ++ (open_text o ++ xs)) (sym e)
+
+first_leaves : (at : ℕ) (o : Open) (st : List Level) (b : ℕ) → sep o.fields ≡ [] → Leaves at (First_field o, st) b (first_field at o st b)
+unfolding first_field
+first_leaves at o st b v =
+    chosen at (First_field o, st) b (eqb b 125) (closed at o st) _ (λ h. rw (eqb-true b 125 h) (closed_leaves at o st (First_field o, st) refl (λ k. (k.mode, k.levels))))
+    (λ h. field_leaves at o st b (First_field o, st) (ap (λ xs. levels_text st ++ xs) (sym (append-nil (open_text o))) ∙ no_comma st o [] v) (λ k. (k.mode, k.levels)))
+
+pub step_leaves : (at : ℕ) (m : Mode) (st : List Level) (b : ℕ) → ValidMode m → Leaves at (m, st) b (step at m st b)
+unfolding step
+step_leaves at Form_due st b v = form_leaves at st b
+step_leaves at (First_field o) st b v = first_leaves at o st b v
+step_leaves at (Field_due o) st b v = field_leaves at o st b (Field_due o, st) (no_comma st o (44 ∷ []) v) (λ k. (k.mode, k.levels))
+step_leaves at (Bare owner n) st b v = bare_leaves at owner n st b v
+step_leaves at (Quoted owner n) st b v = quoted_leaves at owner n st b
+step_leaves at (Escape owner n) st b v = escape_leaves at owner n st b
+step_leaves at (Named owner n) st b v =
+    named_leaves at owner n st b (Named owner n, st) (quoted n) (λ place e. ap (λ xs. xs ++ 123 ∷ []) (struct_name-quoted n place v.0 (subst (λ w. is_unwritten w n ≡ false) e v.1))) (name-quoted n v.0) refl (λ k. (k.mode, k.levels))
+step_leaves at (Done f) st b v = ended_leaves at f st b (Done f, st) refl (λ k. (k.mode, k.levels))

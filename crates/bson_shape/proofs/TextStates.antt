@@ -1,0 +1,55 @@
+-- The names that a state of the machine has read are texts.
+use Rattle.std.proofs.Common.{◌≡◌, ℕ, ◌<◌, true, List, [], ◌∷◌, ◌++◌, refl, subst, ap}
+use Rattle.std.specs.Str.{is_utf8}
+use Rattle.std.specs.Char.{IsScalar}
+use lib.Utf8.{encode, low_scalar}
+use Rattle.std.proofs.lemmas.Str.{IsUtf8-append, IsUtf8-encode, IsUtf8-nil, IsUtf8-from_is_utf8, is_utf8-from_IsUtf8, encode_ascii}
+use Rattle.bson_base.specs.Text.{Utf8}
+use Rattle.bson_shape.specs.Form.{Form, leaf, structure, Fields, no_fields, field}
+use Rattle.bson_shape.specs.Machine.{Open, Level, Owner, Form_at, Field_of, Mode, Form_due, First_field, Field_due, Bare, Quoted, Escape, Named, Done, State, with_fields}
+use Rattle.bson_shape.specs.Fronts.{HasTextNames, HaveTextNames}
+use Rattle.std.proofs.Common.{arith}
+
+pub text-nil : is_utf8 [] ≡ true
+text-nil = is_utf8-from_IsUtf8 [] IsUtf8-nil
+
+pub text-append : (xs ys : Utf8) → is_utf8 xs ≡ true → is_utf8 ys ≡ true → is_utf8 (xs ++ ys) ≡ true
+text-append xs ys h k = is_utf8-from_IsUtf8 (xs ++ ys) (IsUtf8-append xs ys (IsUtf8-from_is_utf8 xs h) (IsUtf8-from_is_utf8 ys k))
+
+pub text-encode : (c : ℕ) → IsScalar c → is_utf8 (encode c) ≡ true
+text-encode c h = is_utf8-from_IsUtf8 (encode c) (IsUtf8-encode c h)
+
+pub text-one : (b : ℕ) → b < 128 → is_utf8 (b ∷ []) ≡ true
+text-one b h = subst (λ xs. is_utf8 xs ≡ true) (encode_ascii b h) (text-encode b (low_scalar b (omega arith)))
+
+pub text-push : (xs : Utf8) (b : ℕ) → is_utf8 xs ≡ true → b < 128 → is_utf8 (xs ++ b ∷ []) ≡ true
+text-push xs b h k = text-append xs (b ∷ []) h (text-one b k)
+
+abbrev pub TextOpen : Open → Type 0
+TextOpen o = (is_utf8 o.name ≡ true) × HaveTextNames o.fields
+
+abbrev pub TextOwner : Owner → Type 0
+TextOwner (Form_at place) = Unit {0}
+TextOwner (Field_of o) = TextOpen o
+
+abbrev pub TextLevels : List Level → Type 0
+TextLevels [] = Unit {0}
+TextLevels (l ∷ st) = TextOpen l.open_struct × (is_utf8 l.field_name ≡ true) × TextLevels st
+
+abbrev pub TextMode : Mode → Type 0
+TextMode Form_due = Unit {0}
+TextMode (First_field o) = TextOpen o
+TextMode (Field_due o) = TextOpen o
+TextMode (Bare owner n) = TextOwner owner × (is_utf8 n ≡ true)
+TextMode (Quoted owner n) = TextOwner owner × (is_utf8 n ≡ true)
+TextMode (Escape owner n) = TextOwner owner × (is_utf8 n ≡ true)
+TextMode (Named owner n) = TextOwner owner × (is_utf8 n ≡ true)
+TextMode (Done f) = HasTextNames f
+
+pub record TextState (s : State) : Type 0 where
+  pub mode : TextMode s.0
+  pub levels : TextLevels s.1
+
+pub texts-snoc : (fs : Fields) (n : Utf8) (f : Form) → HaveTextNames fs → is_utf8 n ≡ true → HasTextNames f → HaveTextNames (with_fields fs (field n f no_fields))
+texts-snoc no_fields n f h t k = (t, k, tt)
+texts-snoc (field m g fs) n f h t k = (h.0, h.1, texts-snoc fs n f h.2 t k)

@@ -1,0 +1,50 @@
+-- Which texts begin a notation, and where a text is refused, in the notation's own words.
+use Rattle.std.specs.Prelude.{◌≡◌, ℕ, ◌+◌, ◌<◌, ◌≤◌, ◌++◌, true, length, take, Some}
+use Rattle.std.specs.Str.{is_utf8}
+use Rattle.bson_base.specs.Text.{Utf8}
+use Rattle.bson_shape.specs.Form.{Form, leaf, structure, Fields, no_fields, field}
+use Rattle.bson_shape.specs.Notation.{text}
+use Rattle.bson_shape.specs.FirstRefusal.{MakerRefusal, first_refusal}
+use Rattle.bson_shape.specs.declared.error.ShapeError.{ShapeError}
+
+abbrev mutual
+  -- each name in the form is a text
+  pub HasTextNames : Form → Type 0
+  HasTextNames (leaf l) = Unit {0}
+  HasTextNames (structure name fs) = (is_utf8 name ≡ true) × HaveTextNames fs
+
+  pub HaveTextNames : Fields → Type 0
+  HaveTextNames no_fields = Unit {0}
+  HaveTextNames (field name f fs) = (is_utf8 name ≡ true) × HasTextNames f × HaveTextNames fs
+
+-- Some notation begins with these bytes: the text of some form, whether or not its makers would refuse it.
+pub record BeginsNotation (bytes : Utf8) : Type 0 where
+  pub form : Form
+  pub names : HasTextNames form
+  pub rest : Utf8
+  pub begins : text form ≡ bytes ++ rest
+
+-- So many bytes are the longest front of the text with which some notation begins.
+pub record IsLongestFront (bytes : Utf8) (count : ℕ) : Type 0 where
+  pub within : count ≤ length bytes
+  pub front : BeginsNotation (take count bytes)
+  pub no_longer : count < length bytes → BeginsNotation (take (count + 1) bytes) → ⊥
+
+-- A maker refuses at this byte of the text or before it: a notation begins with the bytes up to it, in which the refusal is the first.
+pub record IsMet (bytes : Utf8) (r : MakerRefusal) : Type 0 where
+  pub within : r.met < length bytes
+  pub form : Form
+  pub names : HasTextNames form
+  pub rest : Utf8
+  pub begins : text form ≡ take (r.met + 1) bytes ++ rest
+  pub first : first_refusal 0 0 form ≡ Some r
+
+-- So many bytes are the longest front of the text with which some notation begins, and no maker refuses in it.
+pub record IsNotNotationAt (bytes : Utf8) (place : ℕ) : Type 0 where
+  pub longest : IsLongestFront bytes place
+  pub unmet : (r : MakerRefusal) → IsMet bytes r → ⊥
+
+-- A maker refuses the form that begins at this place, and this is the first refusal that is met.
+pub record IsRefusedAt (bytes : Utf8) (place : ℕ) (cause : ShapeError) : Type 0 where
+  pub met : ℕ
+  pub is_met : IsMet bytes (record { met = met; place = place; cause = cause })

@@ -1,0 +1,87 @@
+-- The notation of shapes: one text for each form. A text is its UTF-8 bytes.
+use Rattle.std.specs.Prelude.{ℕ, Bool, false, ◌&&◌, ◌||◌, nat_le, ◌==◌, if◌then◌else◌, List, [], ◌∷◌, ◌++◌}
+use Rattle.std.specs.List.{list_all}
+use Rattle.bson_base.specs.Text.{Utf8}
+use Rattle.bson_shape.specs.Form.{Form, leaf, structure, Fields, no_fields, field}
+use Rattle.bson_shape.specs.Leaf.{word}
+
+-- `"`
+abbrev pub quote : ℕ
+quote = 34
+
+-- `,`
+abbrev pub comma : ℕ
+comma = 44
+
+-- `:`
+abbrev pub colon : ℕ
+colon = 58
+
+-- `\`
+abbrev pub backslash : ℕ
+backslash = 92
+
+-- `{`
+abbrev pub open_brace : ℕ
+open_brace = 123
+
+-- `}`
+abbrev pub close_brace : ℕ
+close_brace = 125
+
+abbrev pub between : ℕ → ℕ → ℕ → Bool
+between low high b = nat_le low b && nat_le b high
+
+-- an ASCII letter or `_`
+abbrev pub begins_bare : ℕ → Bool
+begins_bare b = between 65 90 b || between 97 122 b || (b == 95)
+
+-- an ASCII letter, an ASCII digit or `_`
+abbrev pub in_bare : ℕ → Bool
+in_bare b = begins_bare b || between 48 57 b
+
+-- a bare name: a letter or `_`, and then letters, digits and `_`
+abbrev pub bare : Utf8 → Bool
+bare [] = false
+bare (b ∷ bs) = begins_bare b && list_all in_bare bs
+
+-- `"` and `\`
+abbrev pub is_escaped : ℕ → Bool
+is_escaped b = (b == quote) || (b == backslash)
+
+-- with `\` before each `"` and each `\`
+abbrev pub escaped : Utf8 → Utf8
+escaped [] = []
+escaped (b ∷ bs) = if is_escaped b then backslash ∷ b ∷ escaped bs else b ∷ escaped bs
+
+abbrev pub quoted : Utf8 → Utf8
+quoted name = quote ∷ (escaped name ++ quote ∷ [])
+
+-- a bare name stands as it is, every other one between quotes
+abbrev pub name_text : Utf8 → Utf8
+name_text name = if bare name then name else quoted name
+
+-- before a struct the empty name is not written
+abbrev pub struct_name_text : Utf8 → Utf8
+struct_name_text [] = []
+struct_name_text (b ∷ bs) = name_text (b ∷ bs)
+
+-- each of the texts with a comma before it
+abbrev pub after_commas : List Utf8 → Utf8
+after_commas [] = []
+after_commas (x ∷ xs) = comma ∷ (x ++ after_commas xs)
+
+-- the texts with commas between
+abbrev pub listed : List Utf8 → Utf8
+listed [] = []
+listed (x ∷ xs) = x ++ after_commas xs
+
+abbrev mutual
+  -- a leaf is its word, a struct is `NAME{f:s,g:s}`
+  pub text : Form → Utf8
+  text (leaf l) = word l
+  text (structure name fs) = struct_name_text name ++ open_brace ∷ (listed (field_texts fs) ++ close_brace ∷ [])
+
+  pub field_texts : Fields → List Utf8
+  field_texts no_fields = []
+  field_texts (field name f fs) = (name_text name ++ colon ∷ text f) ∷ field_texts fs

@@ -1,0 +1,34 @@
+-- What the parser's values stand for.
+use Rattle.std.specs.Prelude.{List, map, reverse, string_bytes}
+use Rattle.bson_shape.specs.ShapeView.{fields_of}
+use Rattle.bson_shape.specs.Machine as machine
+use Rattle.bson_shape.specs.declared.parser.Open.{Open}
+use Rattle.bson_shape.specs.declared.parser.Level.{Level}
+use Rattle.bson_shape.specs.declared.parser.Owner.{Owner}
+use Rattle.bson_shape.specs.declared.parser.Owner.TheVariants as owners
+use Rattle.bson_shape.specs.declared.parser.Mode.{Mode}
+use Rattle.bson_shape.specs.declared.parser.Mode.TheVariants as modes
+
+abbrev pub open_view : Open → machine.Open
+open_view o = record { place = o.place; name = string_bytes o.name; fields = fields_of o.fields.items }
+
+abbrev pub level_view : Level → machine.Level
+level_view l = record { open_struct = open_view l.open_struct; field_name = string_bytes l.field_name }
+
+abbrev pub owner_view : Owner → machine.Owner
+owner_view (owners.FormAt place) = machine.Form_at place
+owner_view (owners.FieldOf o) = machine.Field_of (open_view o)
+
+abbrev pub mode_view : Mode → machine.Mode
+mode_view modes.FormDue = machine.Form_due
+mode_view (modes.FirstField o) = machine.First_field (open_view o)
+mode_view (modes.FieldDue o) = machine.Field_due (open_view o)
+mode_view (modes.Bare owner name) = machine.Bare (owner_view owner) (string_bytes name)
+mode_view (modes.Quoted owner name) = machine.Quoted (owner_view owner) (string_bytes name)
+mode_view (modes.Escape owner name) = machine.Escape (owner_view owner) (string_bytes name)
+mode_view (modes.Named owner name) = machine.Named (owner_view owner) (string_bytes name)
+mode_view (modes.Done shape) = machine.Done shape
+
+-- the last of the stack is the innermost
+abbrev pub levels_view : List Level → List machine.Level
+levels_view ls = reverse (map level_view ls)

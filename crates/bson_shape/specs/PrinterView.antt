@@ -1,0 +1,8 @@
+-- What the printer writes before a field.
+use Rattle.std.specs.Prelude.{ℕ, zero, suc, [], ◌∷◌}
+use Rattle.bson_base.specs.Text.{Utf8}
+use Rattle.bson_shape.specs.Notation.{comma}
+
+abbrev pub comma_at : ℕ → Utf8
+comma_at zero = []
+comma_at (suc i) = comma ∷ []

@@ -1,0 +1,455 @@
+// Reading a notation from left to right, with the forms around on a stack of its own.
+ghost use Rattle.std.specs.Prelude.{◌≡◌, ◌<◌, ◌≤◌, ◌∷◌, ◌++◌, [], IfOk, OnOk, string_bytes, encode_utf8};
+ghost use Rattle.bson_shape.specs.Form.{no_fields};
+ghost use Rattle.bson_shape.specs.Machine as machine;
+ghost use Rattle.bson_shape.specs.ParserView.{open_view, level_view, owner_view, mode_view, levels_view};
+ghost use Rattle.bson_shape.specs.Answers.{Gives};
+
+use crate::name::{begins_bare, in_bare, is_bare};
+use crate::{FieldShape, Leaf, ParseError, Shape, ShapeError};
+use std::alloc::{AllocError, Global};
+
+/// The most forms that may stand around a form.
+const MAX_AROUND: usize = 512;
+
+/// A struct whose closing brace has not come.
+#[derive(Drop)]
+struct Open {
+    place: usize,
+    name: String,
+    fields: Vec<FieldShape>,
+}
+
+/// A form around the one that is read: a struct, and the name of the field.
+#[derive(Drop)]
+struct Level {
+    open_struct: Open,
+    field_name: String,
+}
+
+/// Whose name is read.
+#[derive(Drop)]
+enum Owner {
+    /// A form that begins at this place.
+    FormAt(usize),
+    /// A field of this struct.
+    FieldOf(Open),
+}
+
+/// What is read at the moment.
+#[derive(Drop)]
+enum Mode {
+    /// A form is due.
+    FormDue,
+    /// A field or a closing brace is due.
+    FirstField(Open),
+    /// A field is due, behind a comma.
+    FieldDue(Open),
+    /// Inside a bare name.
+    Bare(Owner, String),
+    /// Inside a quoted name.
+    Quoted(Owner, String),
+    /// Inside a quoted name, behind a backslash.
+    Escape(Owner, String),
+    /// Behind a quoted name.
+    Named(Owner, String),
+    /// Behind a form.
+    Done(Shape),
+}
+
+/// Appends an ASCII character.
+fn push_byte(name: &mut String, b: u8) -> Result<(), AllocError>
+    requires { b < 128 }
+    ensures { OnOk result (string_bytes name.new ≡ string_bytes name.old ++ b ∷ []) }
+{
+    name.push(b as char)?;
+    Ok(())
+}
+
+fn opened_at(alloc: Global, place: usize, name: String) -> Open
+    ensures { open_view result ≡ machine.opened place (string_bytes name) }
+{
+    Open {
+        place,
+        name,
+        fields: Vec::new(alloc),
+    }
+}
+
+/// The struct with one more field.
+fn grown(level: Level, shape: Shape) -> Result<Open, AllocError>
+    ensures { IfOk result (λ o. open_view o ≡ machine.grown (level_view level) shape) }
+{
+    let mut grown = level.open_struct;
+    grown.fields.push(FieldShape {
+        name: level.field_name,
+        shape,
+    })?;
+    Ok(grown)
+}
+
+/// A closing brace.
+fn closed(opened: Open, levels: &Vec<Level>, at: usize) -> Result<Mode, ParseError>
+    ensures { Gives (λ m. (mode_view m, levels_view levels.now.items)) result (machine.closed at (open_view opened) (levels_view levels.now.items)) }
+{
+    let place = opened.place;
+    match Shape::structure(opened.name, opened.fields) {
+        Ok(shape) => Ok(Mode::Done(shape)),
+        Err(cause) => Err(ParseError::Refused(place, cause)),
+    }
+}
+
+/// Behind a form.
+#[tactic(auto, unfolding(crate::specs::Machine::form_ended))]
+fn form_ended(
+    shape: Shape,
+    levels: &mut Vec<Level>,
+    at: usize,
+    b: u8,
+) -> Result<Mode, ParseError>
+    ensures { Gives (λ m. (mode_view m, levels_view levels.new.items)) result (machine.form_ended at shape (levels_view levels.old.items) b) }
+{
+    match levels.pop() {
+        None => Err(ParseError::NotNotation(at)),
+        Some(level) => match b {
+            b',' => Ok(Mode::FieldDue(grown(level, shape)?)),
+            b'}' => closed(grown(level, shape)?, levels, at),
+            _ => Err(ParseError::NotNotation(at)),
+        },
+    }
+}
+
+/// The first byte of a name.
+fn name_begun(alloc: Global, owner: Owner, b: u8) -> Result<Mode, AllocError>
+    requires { b < 128 }
+    ensures { IfOk result (λ m. mode_view m ≡ machine.name_begun (owner_view owner) b) }
+{
+    let mut name = String::new(alloc);
+    if b == b'"' {
+        return Ok(Mode::Quoted(owner, name));
+    }
+    push_byte(&mut name, b)?;
+    Ok(Mode::Bare(owner, name))
+}
+
+/// The first byte of a form.
+fn form_begun(alloc: Global, at: usize, b: u8) -> Result<Mode, AllocError>
+    requires { b < 128 }
+    ensures { IfOk result (λ m. mode_view m ≡ machine.form_begun at b) }
+{
+    if b == b'{' {
+        return Ok(Mode::FirstField(opened_at(alloc, at, String::new(alloc))));
+    }
+    name_begun(alloc, Owner::FormAt(at), b)
+}
+
+/// Where a form is due.
+#[tactic(auto, unfolding(crate::specs::Machine::form_due))]
+fn form_due(alloc: Global, levels: &Vec<Level>, at: usize, b: u8) -> Result<Mode, ParseError>
+    requires { b < 128 }
+    ensures { Gives (λ m. (mode_view m, levels_view levels.now.items)) result (machine.form_due at (levels_view levels.now.items) b) }
+{
+    if !(begins_bare(b) || b == b'"' || b == b'{') {
+        return Err(ParseError::NotNotation(at));
+    }
+    if levels.len() >= MAX_AROUND {
+        return Err(ParseError::Refused(at, ShapeError::TooDeep));
+    }
+    Ok(form_begun(alloc, at, b)?)
+}
+
+/// Where the name of a field is due.
+#[tactic(auto, unfolding(crate::specs::Machine::field_due))]
+fn field_due(
+    alloc: Global,
+    opened: Open,
+    levels: &Vec<Level>,
+    at: usize,
+    b: u8,
+) -> Result<Mode, ParseError>
+    requires { b < 128 }
+    ensures { Gives (λ m. (mode_view m, levels_view levels.now.items)) result (machine.field_due at (open_view opened) (levels_view levels.now.items) b) }
+{
+    if begins_bare(b) || b == b'"' {
+        return Ok(name_begun(alloc, Owner::FieldOf(opened), b)?);
+    }
+    Err(ParseError::NotNotation(at))
+}
+
+/// Behind the opening brace.
+#[tactic(auto, unfolding(crate::specs::Machine::first_field))]
+fn first_field(
+    alloc: Global,
+    opened: Open,
+    levels: &Vec<Level>,
+    at: usize,
+    b: u8,
+) -> Result<Mode, ParseError>
+    requires { b < 128 }
+    ensures { Gives (λ m. (mode_view m, levels_view levels.now.items)) result (machine.first_field at (open_view opened) (levels_view levels.now.items) b) }
+{
+    if b == b'}' {
+        return closed(opened, levels, at);
+    }
+    field_due(alloc, opened, levels, at, b)
+}
+
+/// Behind a name.
+#[tactic(auto, unfolding(crate::specs::Machine::named))]
+fn named(
+    alloc: Global,
+    owner: Owner,
+    name: String,
+    levels: &mut Vec<Level>,
+    at: usize,
+    b: u8,
+) -> Result<Mode, ParseError>
+    ensures { Gives (λ m. (mode_view m, levels_view levels.new.items)) result (machine.named at (owner_view owner) (string_bytes name) (levels_view levels.old.items) b) }
+{
+    match owner {
+        Owner::FormAt(place) => {
+            if b == b'{' {
+                return Ok(Mode::FirstField(opened_at(alloc, place, name)));
+            }
+            Err(ParseError::NotNotation(at))
+        }
+        Owner::FieldOf(opened) => {
+            if b == b':' {
+                levels.push(Level {
+                    open_struct: opened,
+                    field_name: name,
+                })?;
+                return Ok(Mode::FormDue);
+            }
+            Err(ParseError::NotNotation(at))
+        }
+    }
+}
+
+/// Behind a bare name.
+#[tactic(auto, unfolding(crate::specs::Machine::word_ended))]
+fn word_ended(
+    alloc: Global,
+    owner: Owner,
+    name: String,
+    levels: &mut Vec<Level>,
+    at: usize,
+    b: u8,
+) -> Result<Mode, ParseError>
+    ensures { Gives (λ m. (mode_view m, levels_view levels.new.items)) result (machine.word_ended at (owner_view owner) (string_bytes name) (levels_view levels.old.items) b) }
+{
+    match owner {
+        Owner::FormAt(place) => {
+            if b == b'{' {
+                return named(alloc, Owner::FormAt(place), name, levels, at, b);
+            }
+            match Leaf::from_word(name.as_str()) {
+                None => Err(ParseError::NotNotation(at)),
+                Some(leaf) => form_ended(Shape::leaf(leaf), levels, at, b),
+            }
+        }
+        Owner::FieldOf(opened) => named(alloc, Owner::FieldOf(opened), name, levels, at, b),
+    }
+}
+
+/// Inside a bare name.
+#[tactic(auto, unfolding(crate::specs::Machine::bare_name))]
+fn bare_name(
+    alloc: Global,
+    owner: Owner,
+    name: String,
+    levels: &mut Vec<Level>,
+    at: usize,
+    b: u8,
+) -> Result<Mode, ParseError>
+    requires { b < 128 }
+    ensures { Gives (λ m. (mode_view m, levels_view levels.new.items)) result (machine.bare_name at (owner_view owner) (string_bytes name) (levels_view levels.old.items) b) }
+{
+    if in_bare(b) {
+        let mut longer = name;
+        push_byte(&mut longer, b)?;
+        return Ok(Mode::Bare(owner, longer));
+    }
+    word_ended(alloc, owner, name, levels, at, b)
+}
+
+/// Whether the name is the empty one of a struct, which is not written.
+fn is_unwritten(owner: &Owner, name: &str) -> bool
+    ensures { result ≡ machine.is_unwritten (owner_view owner.now) name.now }
+{
+    match owner {
+        Owner::FormAt(_) => name.is_empty(),
+        Owner::FieldOf(_) => false,
+    }
+}
+
+/// A closing quote.
+#[tactic(auto, unfolding(crate::specs::Machine::name_closed))]
+fn name_closed(
+    owner: Owner,
+    name: String,
+    levels: &Vec<Level>,
+    at: usize,
+) -> Result<Mode, ParseError>
+    ensures { Gives (λ m. (mode_view m, levels_view levels.now.items)) result (machine.name_closed at (owner_view owner) (string_bytes name) (levels_view levels.now.items)) }
+{
+    if is_bare(name.as_str()) || is_unwritten(&owner, name.as_str()) {
+        return Err(ParseError::NotNotation(at));
+    }
+    Ok(Mode::Named(owner, name))
+}
+
+/// Inside a quoted name.
+#[tactic(auto, unfolding(crate::specs::Machine::quoted_name))]
+fn quoted_name(
+    owner: Owner,
+    name: String,
+    levels: &Vec<Level>,
+    at: usize,
+    b: u8,
+) -> Result<Mode, ParseError>
+    requires { b < 128 }
+    ensures { Gives (λ m. (mode_view m, levels_view levels.now.items)) result (machine.quoted_name at (owner_view owner) (string_bytes name) (levels_view levels.now.items) b) }
+{
+    if b == b'"' {
+        return name_closed(owner, name, levels, at);
+    }
+    if b == b'\\' {
+        return Ok(Mode::Escape(owner, name));
+    }
+    let mut longer = name;
+    push_byte(&mut longer, b)?;
+    Ok(Mode::Quoted(owner, longer))
+}
+
+/// Inside a quoted name, behind a backslash.
+#[tactic(auto, unfolding(crate::specs::Machine::escape))]
+fn escape(
+    owner: Owner,
+    name: String,
+    levels: &Vec<Level>,
+    at: usize,
+    b: u8,
+) -> Result<Mode, ParseError>
+    requires { b < 128 }
+    ensures { Gives (λ m. (mode_view m, levels_view levels.now.items)) result (machine.escape at (owner_view owner) (string_bytes name) (levels_view levels.now.items) b) }
+{
+    if b == b'"' || b == b'\\' {
+        let mut longer = name;
+        push_byte(&mut longer, b)?;
+        return Ok(Mode::Quoted(owner, longer));
+    }
+    Err(ParseError::NotNotation(at))
+}
+
+/// An ASCII character, at a place.
+#[tactic(auto, unfolding(crate::specs::Machine::step))]
+fn step(
+    alloc: Global,
+    mode: Mode,
+    levels: &mut Vec<Level>,
+    at: usize,
+    b: u8,
+) -> Result<Mode, ParseError>
+    requires { b < 128 }
+    ensures { Gives (λ m. (mode_view m, levels_view levels.new.items)) result (machine.step at (mode_view mode) (levels_view levels.old.items) b) }
+{
+    match mode {
+        Mode::FormDue => form_due(alloc, levels, at, b),
+        Mode::FirstField(opened) => first_field(alloc, opened, levels, at, b),
+        Mode::FieldDue(opened) => field_due(alloc, opened, levels, at, b),
+        Mode::Bare(owner, name) => bare_name(alloc, owner, name, levels, at, b),
+        Mode::Quoted(owner, name) => quoted_name(owner, name, levels, at, b),
+        Mode::Escape(owner, name) => escape(owner, name, levels, at, b),
+        Mode::Named(owner, name) => named(alloc, owner, name, levels, at, b),
+        Mode::Done(shape) => form_ended(shape, levels, at, b),
+    }
+}
+
+/// A character that is not ASCII, at a place.
+#[tactic(auto, unfolding(crate::specs::Machine::other_character))]
+fn other_character(
+    mode: Mode,
+    levels: &Vec<Level>,
+    at: usize,
+    c: char,
+) -> Result<Mode, ParseError>
+    ensures { Gives (λ m. (mode_view m, levels_view levels.now.items)) result (machine.other_character at (mode_view mode) (levels_view levels.now.items) (encode_utf8 c)) }
+{
+    match mode {
+        Mode::Quoted(owner, name) => {
+            let mut longer = name;
+            longer.push(c)?;
+            Ok(Mode::Quoted(owner, longer))
+        }
+        Mode::FormDue => Err(ParseError::NotNotation(at)),
+        Mode::FirstField(_) => Err(ParseError::NotNotation(at)),
+        Mode::FieldDue(_) => Err(ParseError::NotNotation(at)),
+        Mode::Bare(_, _) => Err(ParseError::NotNotation(at)),
+        Mode::Escape(_, _) => Err(ParseError::NotNotation(at)),
+        Mode::Named(_, _) => Err(ParseError::NotNotation(at)),
+        Mode::Done(_) => Err(ParseError::NotNotation(at)),
+    }
+}
+
+/// A character, at a place.
+fn read_character(
+    alloc: Global,
+    mode: Mode,
+    levels: &mut Vec<Level>,
+    at: usize,
+    c: char,
+) -> Result<Mode, ParseError>
+    ensures { Gives (λ m. (mode_view m, levels_view levels.new.items)) result (machine.run at (mode_view mode, levels_view levels.old.items) (encode_utf8 c)) }
+{
+    if c.is_ascii() {
+        return step(alloc, mode, levels, at, c as u8);
+    }
+    other_character(mode, levels, at, c)
+}
+
+/// All the characters.
+fn read_characters(
+    alloc: Global,
+    text: &str,
+    levels: &mut Vec<Level>,
+) -> Result<Mode, ParseError>
+    requires { levels.old.items ≡ [] }
+    ensures { Gives (λ m. (mode_view m, levels_view levels.new.items)) result (machine.run 0 (machine.Form_due, []) text.now) }
+{
+    let mut mode = Mode::FormDue;
+    let mut at = 0;
+    for c in text.chars() {
+        mode = read_character(alloc, mode, levels, at, c)?;
+        at += c.len_utf8();
+    }
+    Ok(mode)
+}
+
+/// The end of the text.
+#[tactic(auto, unfolding(crate::specs::Machine::finish))]
+fn finish(mode: Mode, levels: &Vec<Level>, at: usize) -> Result<Shape, ParseError>
+    ensures { Gives (λ s. s) result (machine.finish at (mode_view mode) (levels_view levels.now.items)) }
+{
+    if !levels.is_empty() {
+        return Err(ParseError::NotNotation(at));
+    }
+    match mode {
+        Mode::Done(shape) => Ok(shape),
+        Mode::Bare(Owner::FormAt(_), name) => match Leaf::from_word(name.as_str()) {
+            None => Err(ParseError::NotNotation(at)),
+            Some(leaf) => Ok(Shape::leaf(leaf)),
+        },
+        _ => Err(ParseError::NotNotation(at)),
+    }
+}
+
+/// The form that the text is the notation of.
+#[tactic(auto, unfolding(crate::specs::Machine::parsed))]
+pub(crate) fn read(alloc: Global, text: &str) -> Result<Shape, ParseError>
+    ensures { Gives (λ s. s) result (machine.parsed text.now) }
+{
+    let mut levels = Vec::new(alloc);
+    let mode = read_characters(alloc, text, &mut levels)?;
+    finish(mode, &levels, text.len())
+}

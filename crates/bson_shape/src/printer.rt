@@ -1,0 +1,98 @@
+// Writing the notation of a shape.
+ghost use Rattle.std.specs.Prelude.{◌≡◌, ◌++◌, ◌∷◌, [], IfOk, OnOk, string_bytes, encode_utf8};
+ghost use Rattle.bson_shape.specs.Notation as notation;
+ghost use Rattle.bson_shape.specs.PrinterView.{comma_at};
+
+use crate::name::is_bare;
+use crate::{Form, Shape};
+use std::alloc::{AllocError, Global};
+
+/// Appends the name with a backslash before each quote and each backslash.
+fn put_escaped(out: &mut String, name: &str) -> Result<(), AllocError>
+    ensures { OnOk result (string_bytes out.new ≡ string_bytes out.old ++ notation.escaped name.now) }
+{
+    for c in name.chars() {
+        put_escaped_character(out, c)?;
+    }
+    Ok(())
+}
+
+#[tactic(auto, using(crate::proofs::Printed::escaped_encode))]
+fn put_escaped_character(out: &mut String, c: char) -> Result<(), AllocError>
+    ensures { OnOk result (string_bytes out.new ≡ string_bytes out.old ++ notation.escaped (encode_utf8 c)) }
+{
+    if c == '"' || c == '\\' {
+        out.push('\\')?;
+        out.push(c)?;
+        return Ok(());
+    }
+    out.push(c)?;
+    Ok(())
+}
+
+/// Appends a name: a bare one as it stands, every other one between quotes.
+fn put_name(out: &mut String, name: &str) -> Result<(), AllocError>
+    ensures { OnOk result (string_bytes out.new ≡ string_bytes out.old ++ notation.name_text name.now) }
+{
+    if is_bare(name) {
+        return out.push_str(name);
+    }
+    out.push('"')?;
+    put_escaped(out, name)?;
+    out.push('"')?;
+    Ok(())
+}
+
+/// Appends the name of a struct; the empty one is not written.
+fn put_struct_name(out: &mut String, name: &str) -> Result<(), AllocError>
+    ensures { OnOk result (string_bytes out.new ≡ string_bytes out.old ++ notation.struct_name_text name.now) }
+{
+    if name.is_empty() {
+        return Ok(());
+    }
+    put_name(out, name)
+}
+
+/// Appends the comma before a field, where one is due, its name and a colon.
+fn put_field_name(out: &mut String, i: usize, name: &str) -> Result<(), AllocError>
+    ensures { OnOk result (string_bytes out.new ≡ string_bytes out.old ++ (comma_at i ++ (notation.name_text name.now ++ notation.colon ∷ []))) }
+{
+    if i > 0 {
+        out.push(',')?;
+    }
+    put_name(out, name)?;
+    out.push(':')?;
+    Ok(())
+}
+
+/// Appends the notation of a shape.
+fn put(out: &mut String, shape: &Shape) -> Result<(), AllocError>
+    ensures { OnOk result (string_bytes out.new ≡ string_bytes out.old ++ notation.text shape.now) }
+{
+    match shape.form() {
+        Form::Leaf(leaf) => out.push_str(leaf.word()),
+        Form::Struct(name, fields) => {
+            put_struct_name(out, name)?;
+            out.push('{')?;
+            for (i, field) in fields.iter().enumerate() {
+                put_field_name(out, i, field.name.as_str())?;
+                put(out, &field.shape)?;
+            }
+            out.push('}')?;
+            Ok(())
+        }
+    }
+}
+
+impl Shape {
+    /// The notation of the shape.
+    ///
+    /// Reading it gives the shape again.
+    pub fn print(&self, alloc: Global) -> Result<String, AllocError>
+        ensures text { IfOk result (λ s. string_bytes s ≡ notation.text self.now) }
+    {
+        let mut out = String::new(alloc);
+        put(&mut out, self)?;
+        Ok(out)
+    }
+}
