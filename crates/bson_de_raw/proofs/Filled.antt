@@ -1,12 +1,11 @@
 -- The values that are read for the fields of a struct.
-use Rattle.std.proofs.Common.{◌≡◌, ℕ, zero, suc, ◌-◌, ◌<◌, List, [], ◌∷◌, length, get_or, set, Bool, true, false, cond, Option, Some, None, Result, Ok, Err, refl, ap, sym, subst, ◌∙◌, arith, string_bytes}
+use Rattle.std.proofs.Common.{◌≡◌, ℕ, zero, suc, ◌-◌, ◌<◌, List, [], ◌∷◌, length, get_or, set, false, cond, Some, None, Ok, refl, ap, sym, subst, ◌∙◌, arith, string_bytes}
 use Rattle.std.specs.Prelude.{is_some, String}
 use Rattle.std.specs.Global.{Vec}
 use Rattle.std.specs.declared.alloc.Global.{Global}
 use Rattle.bson_base.specs.Text.{Bytes, Utf8}
 use Rattle.bson_base.specs.Outcome.{◌>>=◌, result_map}
 use Rattle.bson_base.specs.declared.element_type.ElementType.{ElementType}
-use Rattle.bson_rawdoc.specs.RawValue.{value_in}
 use Rattle.bson_rawdoc.specs.Walk.{Element, walk}
 use Rattle.bson_shape.specs.Form.{Fields, structure}
 use Rattle.bson_shape.specs.ShapeView.{fields_of}
@@ -23,8 +22,10 @@ use Rattle.bson_datum.specs.declared.de.Fault.{Fault}
 use Rattle.bson_datum.specs.declared.stop.Stop.{Stop}
 use Rattle.bson_datum.specs.declared.text.Text.TheVariants.{Owned}
 use Rattle.bson_datum.proofs.Views.{view-Struct}
-use Rattle.bson_laws.specs.Reads.{Reading, refused, judged, document_of, place_of, Slots, no_slots, ReadField, fill_found, fill_one, fill, finish, reads, reads_field}
-use Rattle.bson_de_raw.specs.Encoded.{entered}
+use Rattle.bson_laws.specs.Reads.{Reading, refused, place_of, Slots, no_slots, ReadField, fill_found, fill_one, fill, finish, reads, reads_field}
+use Rattle.bson_de_raw.specs.Encoded.{entered, reads_encoded}
+use Rattle.bson_de_raw.specs.SlotsView.{filled_by}
+use Rattle.bson_de_raw.specs.declared.encoded.Encoded.{Encoded}
 use Rattle.bson_de_raw.proofs.Refusals.{StopsAs, stops_bind, stops_under}
 
 -- reading at the field at a place is reading at its shape
@@ -47,11 +48,11 @@ module _ (fs : Fields) (levels : ℕ) (read : ReadField) (e : Element) (slots : 
       subst (λ (r : Reading Slots). StopsAs t r) (sym one_new) (stops_bind t (under e.key (read i e.kind e.value)) (λ v. Ok (set slots i (Some v))) (stops_under e.key s t (read i e.kind e.value) u h))
 
 -- a struct whose document was entered, whose fields were filled and finished
-pub struct_read : (name : Utf8) (fs : Fields) (levels : ℕ) (k : ElementType) (bytes body : Bytes) (slots : Slots) (s : String Global) (values : Vec Field) → entered levels k bytes ≡ Ok body
-    → fill (fill_one fs (levels - 1) (λ i. reads_field fs i (levels - 1))) (walk body) (no_slots fs) ≡ Ok slots → finish fs slots ≡ Ok (fields_view values.items) → string_bytes s ≡ name
-    → reads (structure name fs) levels k bytes ≡ Ok (view (Struct (Owned s) values))
-struct_read name fs levels k bytes body slots s values inside filled finished named =
-    ap (λ r. r >>= λ b. result_map (value.structure name) (fill (fill_one fs (levels - 1) (λ i. reads_field fs i (levels - 1))) (walk b) (no_slots fs) >>= finish fs)) inside
+pub struct_read : (name : Utf8) (fs : Fields) (levels : ℕ) (v : Encoded) (body : Bytes) (slots : Slots) (s : String Global) (values : Vec Field) → entered levels v ≡ Ok body
+    → fill (filled_by fs (levels - 1)) (walk body) (no_slots fs) ≡ Ok slots → finish fs slots ≡ Ok (fields_view values.items) → string_bytes s ≡ name
+    → reads_encoded (structure name fs) levels v ≡ Ok (view (Struct (Owned s) values))
+struct_read name fs levels v body slots s values inside filled finished named =
+    ap (λ r. r >>= λ b. result_map (value.structure name) (fill (filled_by fs (levels - 1)) (walk b) (no_slots fs) >>= finish fs)) inside
     ∙ ap (λ r. result_map (value.structure name) (r >>= finish fs)) filled
     ∙ ap (result_map (value.structure name)) finished
     ∙ ap (λ n. Ok (value.structure n (fields_view values.items))) (sym named)

@@ -1,12 +1,11 @@
 -- Fields that got their values, before those that are left.
-use Rattle.std.proofs.Common.{◌≡◌, ℕ, zero, suc, ◌+◌, ◌<◌, ◌≤◌, List, [], ◌∷◌, ◌++◌, length, get_or, set, drop, map, Option, Some, None, Result, Ok, Err, refl, ap, sym, ◌∙◌, string_bytes, arith}
+use Rattle.std.proofs.Common.{◌≡◌, ℕ, ◌+◌, ◌<◌, ◌≤◌, List, [], ◌∷◌, ◌++◌, length, get_or, set, drop, map, Option, Some, None, Ok, Err, refl, ap, sym, ◌∙◌, string_bytes, arith}
 use Rattle.std.specs.Prelude.{option_map}
 use Rattle.std.proofs.lemmas.List.{drop_more, drop_all, drop-set-lt}
 use Rattle.bson_base.specs.Outcome.{result_map}
 use Rattle.bson_shape.specs.ShapeView.{fields_of}
 use Rattle.bson_shape.specs.declared.shape.FieldShape.{FieldShape}
 use Rattle.bson_datum.specs.Cause.{missing_field}
-use Rattle.bson_datum.specs.Refusal.{here, unreadable}
 use Rattle.bson_datum.specs.TextView.{text_view}
 use Rattle.bson_datum.specs.Value.{FieldValues, no_field_values, field_value}
 use Rattle.bson_datum.specs.View.{view, fields_view}

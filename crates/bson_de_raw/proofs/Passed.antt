@@ -1,5 +1,5 @@
 -- Elements that are walked and dropped.
-use Rattle.std.proofs.Common.{◌≡◌, ℕ, Result, sym, subst}
+use Rattle.std.proofs.Common.{◌≡◌, sym, subst}
 use Rattle.bson_base.specs.Text.{Bytes}
 use Rattle.bson_base.specs.declared.element_type.ElementType.{ElementType}
 use Rattle.bson_rawdoc.specs.Walk.{Element, Walk, then_walk}

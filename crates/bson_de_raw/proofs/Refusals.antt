@@ -1,8 +1,8 @@
 -- A refusal goes on through what would have followed, and out of the documents round it.
-use Rattle.std.proofs.Common.{◌≡◌, Option, Some, None, Result, Ok, Err, refl, ap, sym, ◌∙◌, reverse, List, [], ◌∷◌, ◌++◌}
+use Rattle.std.proofs.Common.{◌≡◌, Option, Some, None, Result, Ok, Err, ap, sym, ◌∙◌, reverse, [], ◌∷◌, ◌++◌}
 use Rattle.std.proofs.lemmas.List.{reverse-append}
 use Rattle.bson_base.specs.Text.{Utf8}
-use Rattle.bson_base.specs.Outcome.{◌>>=◌, result_map}
+use Rattle.bson_base.specs.Outcome.{◌>>=◌}
 use Rattle.bson_rawdoc.specs.Walk.{Element, Walk, then_walk}
 use Rattle.bson_rawdoc.specs.Next.{IsNext}
 use Rattle.bson_rawdoc.specs.declared.raw.Error as raw_error

@@ -1,12 +1,15 @@
 -- What contracts see of a value in its bytes.
-use Rattle.std.specs.Prelude.{ℕ}
+use Rattle.std.specs.Prelude.{ℕ, Result}
 use Rattle.bson_base.specs.Text.{Bytes}
 use Rattle.bson_base.specs.Outcome.{◌>>=◌}
 use Rattle.bson_base.specs.declared.element_type.ElementType.{ElementType}
 use Rattle.bson_base.specs.declared.element_type.ElementType.TheVariants.{EmbeddedDocument}
 use Rattle.bson_rawdoc.specs.DocumentView.{document_bytes}
-use Rattle.bson_rawdoc.specs.RawValue.{value_in}
-use Rattle.bson_laws.specs.Reads.{Reading, judged, document_of}
+use Rattle.bson_rawdoc.specs.RawValue.{RawValue, value_in}
+use Rattle.bson_rawdoc.specs.declared.raw.Error as raw_error
+use Rattle.bson_shape.specs.Form.{Form}
+use Rattle.bson_datum.specs.Value.{Value}
+use Rattle.bson_laws.specs.Reads.{Reading, judged, document_of, reads}
 use Rattle.bson_de_raw.specs.declared.encoded.Encoded.{Encoded}
 use Rattle.bson_de_raw.specs.declared.encoded.Encoded.TheVariants.{Document, Element}
 
@@ -20,6 +23,14 @@ abbrev pub encoded_bytes : Encoded → Bytes
 encoded_bytes (Document d) = document_bytes d
 encoded_bytes (Element e) = e.now.value
 
+-- what these bytes are as this kind, or their fault
+abbrev pub raw_in : Encoded → Result RawValue raw_error.Error
+raw_in v = value_in (encoded_kind v) (encoded_bytes v)
+
 -- the bytes of a value that is a document, where a level is left for it
-abbrev pub entered : ℕ → ElementType → Bytes → Reading Bytes
-entered levels k bytes = judged levels (value_in k bytes) >>= document_of
+abbrev pub entered : ℕ → Encoded → Reading Bytes
+entered levels v = judged levels (raw_in v) >>= document_of
+
+-- the value at a shape, with so many levels left
+abbrev pub reads_encoded : Form → ℕ → Encoded → Reading Value
+reads_encoded s levels v = reads s levels (encoded_kind v) (encoded_bytes v)

@@ -1,8 +1,15 @@
--- What contracts see of the slots of a struct: the values that were read so far.
-use Rattle.std.specs.Prelude.{map, option_map}
+-- What contracts see of the slots of a struct, and how they are filled.
+use Rattle.std.specs.Prelude.{ℕ, map, option_map}
+use Rattle.bson_rawdoc.specs.Walk.{Element}
+use Rattle.bson_shape.specs.Form.{Fields}
 use Rattle.bson_datum.specs.View.{view}
-use Rattle.bson_laws.specs.Reads.{Slots}
+use Rattle.bson_laws.specs.Reads.{Reading, Slots, fill_one, reads_field}
 use Rattle.bson_de_raw.specs.declared.slots.Slots as code
 
+-- the values that were read so far
 abbrev pub slots_view : code.Slots → Slots
 slots_view s = map (option_map view) s.values.items
+
+-- an element, read at its field among these with so many levels left, or dropped where no field has its key
+abbrev pub filled_by : Fields → ℕ → Element → Slots → Reading Slots
+filled_by fs levels e slots = fill_one fs levels (λ i. reads_field fs i levels) e slots

@@ -1,10 +1,9 @@
 ghost use Rattle.std.specs.Prelude.{◌≡◌};
 ghost use Rattle.bson_base.specs.Outcome.{result_map};
-ghost use Rattle.bson_rawdoc.specs.RawValue.{value_in};
 ghost use Rattle.bson_rawdoc.specs.ValueView.{raw_value};
 ghost use Rattle.bson_rawdoc.specs.DocumentView.{document_bytes};
 ghost use Rattle.bson_laws.specs.Reads.{judged};
-ghost use Rattle.bson_de_raw.specs.Encoded.{encoded_kind, encoded_bytes, entered};
+ghost use Rattle.bson_de_raw.specs.Encoded.{raw_in, entered};
 ghost use Rattle.bson_de_raw.specs.Gives.{Reaches};
 
 use crate::reading::{Reading, refused};
@@ -25,7 +24,7 @@ pub(crate) enum Encoded<'e, 'de> {
 impl<'de> Encoded<'_, 'de> {
     /// The value, or its first fault.
     fn value(self) -> Result<RawBsonRef<'de>, raw::Error>
-        ensures { result_map raw_value result ≡ value_in (encoded_kind self.entry) (encoded_bytes self.entry) }
+        ensures { result_map raw_value result ≡ raw_in self.entry }
     {
         match self {
             Encoded::Document(document) => Ok(RawBsonRef::Document(document)),
@@ -33,9 +32,10 @@ impl<'de> Encoded<'_, 'de> {
         }
     }
 
-    /// The value, judged before any shape looks at it: its fault comes first, then a document where no level is left.
+    /// The value, judged before any shape looks at it: it is refused for its fault, and then, where
+    /// no level is left, for being a document.
     pub(crate) fn judge(self, alloc: Global, levels: u32) -> Reading<RawBsonRef<'de>>
-        ensures { Reaches raw_value result (judged levels (value_in (encoded_kind self.entry) (encoded_bytes self.entry))) }
+        ensures { Reaches raw_value result (judged levels (raw_in self.entry)) }
     {
         match self.value() {
             Err(fault) => Err(refused(alloc, Cause::Raw(fault))),
@@ -51,7 +51,7 @@ impl<'de> Encoded<'_, 'de> {
 
     /// The document that the value is, where a level is left for it.
     pub(crate) fn enter(self, alloc: Global, levels: u32) -> Reading<RawDocument<'de>>
-        ensures { Reaches document_bytes result (entered levels (encoded_kind self.entry) (encoded_bytes self.entry)) }
+        ensures { Reaches document_bytes result (entered levels self.entry) }
     {
         match self.judge(alloc, levels)? {
             RawBsonRef::Document(document) => Ok(document),

@@ -7,6 +7,8 @@ mod ignored;
 mod leaf;
 mod reading;
 mod slots;
+#[cfg(test)]
+mod tests;
 mod value;
 
 pub use document::from_slice_at;

@@ -32,7 +32,8 @@ impl<'de> Slots<'de> {
         Ok(Slots { values, next: 0 })
     }
 
-    /// The place of the field that has the name: it is looked for first where the next key in the shape's order stands.
+    /// The place of the field that has the name. It is looked for first at the place after that of the
+    /// value that was read last, so that keys in the shape's order are found at once.
     pub(crate) fn place_of(&self, fields: &[FieldShape], key: &str) -> Option<usize>
         requires { AreDistinct (fields_of fields.now) }
         ensures place { result ≡ reads.place_of (fields_of fields.now) key.now }
@@ -52,7 +53,7 @@ impl<'de> Slots<'de> {
         self.values[place].is_some()
     }
 
-    /// The value that was read for the field at the place.
+    /// Keeps the value that was read for the field at the place.
     pub(crate) fn put(&mut self, place: usize, value: Datum<'de>)
         requires { place < length (slots_view self.old) }
         ensures { slots_view self.new ≡ set (slots_view self.old) place (Some (view value.entry)) }
@@ -64,7 +65,8 @@ impl<'de> Slots<'de> {
     /// All fields with their values, or a refusal of the struct for the first field that has none.
     pub(crate) fn finish(self, alloc: Global, fields: &[FieldShape]) -> Reading<Vec<Field<'de>>>
         requires { length (slots_view self) ≡ length fields.now }
-        ensures { Reaches (λ v. fields_view v.items) result (reads.finish (fields_of fields.now) (slots_view self.entry)) }
+        ensures { Reaches (λ v. fields_view v.items) result
+            (reads.finish (fields_of fields.now) (slots_view self.entry)) }
     {
         let mut values = self.values;
         let mut finished = Vec::with_capacity(alloc, fields.len())?;

@@ -1,4 +1,3 @@
-// Values at any shape.
 ghost use Rattle.std.specs.Prelude.{◌≡◌, IfOk, length};
 ghost use Rattle.bson_rawdoc.specs.DocumentView.{document_bytes};
 ghost use Rattle.bson_rawdoc.specs.Walk.{walk};
@@ -7,10 +6,9 @@ ghost use Rattle.bson_shape.specs.Makers.{AreDistinct};
 ghost use Rattle.bson_shape.specs.ShapeView.{fields_of};
 ghost use Rattle.bson_datum.specs.View.{view};
 ghost use Rattle.bson_laws.specs.Reads as reads;
-ghost use Rattle.bson_laws.specs.Reads.{reads_field};
-ghost use Rattle.bson_de_raw.specs.Encoded.{encoded_kind, encoded_bytes};
+ghost use Rattle.bson_de_raw.specs.Encoded.{reads_encoded};
 ghost use Rattle.bson_de_raw.specs.Gives.{Reaches};
-ghost use Rattle.bson_de_raw.specs.SlotsView.{slots_view};
+ghost use Rattle.bson_de_raw.specs.SlotsView.{slots_view, filled_by};
 
 use crate::encoded::Encoded;
 use crate::ignored::ignore;
@@ -22,7 +20,7 @@ use bson_rawdoc::{RawDocument, RawElement};
 use bson_shape::{FieldShape, Form, Shape};
 use std::alloc::Global;
 
-/// The value at a shape, with so many levels left for the documents in it, itself included.
+/// The value at a shape. So many levels are left for documents, for the value itself too.
 #[cycle(read)]
 pub(crate) fn read_value<'de>(
     alloc: Global,
@@ -30,7 +28,7 @@ pub(crate) fn read_value<'de>(
     levels: u32,
     value: Encoded<'_, 'de>,
 ) -> Reading<Datum<'de>>
-    ensures { Reaches view result (reads.reads shape.now levels (encoded_kind value.entry) (encoded_bytes value.entry)) }
+    ensures { Reaches view result (reads_encoded shape.now levels value.entry) }
 {
     shape.known();
     match shape.form() {
@@ -39,6 +37,7 @@ pub(crate) fn read_value<'de>(
     }
 }
 
+/// The value at a struct of this name with these fields.
 #[cycle(read)]
 fn read_struct<'de>(
     alloc: Global,
@@ -48,8 +47,8 @@ fn read_struct<'de>(
     value: Encoded<'_, 'de>,
 ) -> Reading<Datum<'de>>
     requires { AreDistinct (fields_of fields.now) }
-    ensures { Reaches view result (reads.reads (form.structure name.now (fields_of fields.now)) levels
-        (encoded_kind value.entry) (encoded_bytes value.entry)) }
+    ensures { Reaches view result
+        (reads_encoded (form.structure name.now (fields_of fields.now)) levels value.entry) }
 {
     let document = value.enter(alloc, levels)?;
     let slots = fill(alloc, fields, levels - 1, document)?;
@@ -58,7 +57,7 @@ fn read_struct<'de>(
     Ok(Datum::Struct { name, fields })
 }
 
-/// The values of the fields, from the elements of a document.
+/// The values of the fields from the elements of a document, with so many levels left inside it.
 #[cycle(read)]
 fn fill<'de>(
     alloc: Global,
@@ -69,7 +68,7 @@ fn fill<'de>(
     requires { AreDistinct (fields_of fields.now) }
     ensures len { IfOk result (λ s. length (slots_view s) ≡ length fields.now) }
     ensures exact { Reaches slots_view result
-        (reads.fill (reads.fill_one (fields_of fields.now) levels (λ i. reads_field (fields_of fields.now) i levels))
+        (reads.fill (filled_by (fields_of fields.now) levels)
         (walk (document_bytes document.entry)) (reads.no_slots (fields_of fields.now))) }
 {
     let mut slots = Slots::new(alloc, fields)?;
@@ -84,7 +83,7 @@ fn fill<'de>(
     Ok(slots)
 }
 
-/// The value of one element at its field, or dropped where no field has its key.
+/// One element: its value is read for the field that has its key, or dropped where none has.
 #[cycle(read)]
 fn fill_one<'de>(
     alloc: Global,
@@ -97,14 +96,14 @@ fn fill_one<'de>(
     requires slots { length (slots_view slots.old) ≡ length fields.now }
     ensures kept { length (slots_view slots.new) ≡ length (slots_view slots.old) }
     ensures exact { Reaches (λ _. slots_view slots.new) result
-        (reads.fill_one (fields_of fields.now) levels (λ i. reads_field (fields_of fields.now) i levels) element.now (slots_view slots.old)) }
+        (filled_by (fields_of fields.now) levels element.now (slots_view slots.old)) }
 {
     let key = element.key();
     let Some(place) = slots.place_of(fields, key) else {
-        return match ignore(alloc, levels, element) {
-            Ok(()) => Ok(()),
-            Err(stop) => Err(stop.under_key(key)),
-        };
+        if let Err(stop) = ignore(alloc, levels, element) {
+            return Err(stop.under_key(key));
+        }
+        return Ok(());
     };
     if slots.is_filled(place) {
         let cause = Cause::DuplicateField(String::from_str(alloc, key)?);

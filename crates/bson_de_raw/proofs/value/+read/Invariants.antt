@@ -3,8 +3,8 @@ use Rattle.bson_rawdoc.specs.DocumentView.{document_bytes}
 use Rattle.bson_rawdoc.specs.Next.{count}
 use Rattle.bson_rawdoc.specs.Walk.{walk}
 use Rattle.bson_shape.specs.ShapeView.{fields_of, nodes, fields_nodes}
-use Rattle.bson_laws.specs.Reads.{fill, fill_one, reads_field, no_slots}
-use Rattle.bson_de_raw.specs.SlotsView.{slots_view}
+use Rattle.bson_laws.specs.Reads.{fill, no_slots}
+use Rattle.bson_de_raw.specs.SlotsView.{slots_view, filled_by}
 use Rattle.bson_de_raw.proofs.value.+read.Given as goal
 
 abbrev pub decreases-read_value : goal.decreases-read_value
@@ -22,7 +22,7 @@ decreases-fill_one l = 4 * fields_nodes (fields_of l.fields.now) + 1
 -- what is left of the document fills the slots so far as the whole document fills empty ones
 abbrev pub invariant-fill-loop-step : goal.invariant-fill-loop-step
 invariant-fill-loop-step l =
-    let one = fill_one (fields_of l.fields) l.levels (λ i. reads_field (fields_of l.fields) i l.levels) in
+    let one = filled_by (fields_of l.fields) l.levels in
     (length (slots_view l.slots) ≡ length l.fields) × (fill one l.elements (slots_view l.slots) ≡ fill one (walk (document_bytes l.document)) (no_slots (fields_of l.fields)))
 
 abbrev pub decreases-fill-loop-step : goal.decreases-fill-loop-step

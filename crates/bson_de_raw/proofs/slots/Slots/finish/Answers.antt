@@ -1,4 +1,4 @@
-use Rattle.std.proofs.Common.{Option, length, sym, ◌∙◌, arith}
+use Rattle.std.proofs.Common.{Option, sym, ◌∙◌, arith}
 use Rattle.std.proofs.lemmas.List.{length-set}
 use Rattle.bson_datum.specs.declared.datum.Datum.{Datum}
 use Rattle.bson_datum.specs.declared.text.Text.TheVariants.{Owned}

@@ -1,0 +1,72 @@
+// What no clause says: that documents are read where there is memory, values that others give for them, and
+// what is printed of refusals.
+use crate::from_slice_at;
+use bson_datum::{Datum, de};
+use bson_shape::{FieldShape, Shape};
+use std::alloc::Global;
+use std::test::Fail;
+
+/// The document with the field `i`, an Int32 1.
+const DOCUMENT: [u8; 12] = [12, 0, 0, 0, 16, 105, 0, 1, 0, 0, 0, 0];
+
+/// A struct with one field.
+fn around(alloc: Global, field: &str, shape: Shape) -> Result<Shape, Fail> {
+    let name = String::from_str(alloc, field)?;
+    let fields = vec![in alloc; FieldShape { name, shape }]?;
+    Ok(Shape::structure(String::from_str(alloc, "Outer")?, fields)?)
+}
+
+/// What is printed of a refusal.
+fn refusal(alloc: Global, answer: de::Result<Datum<'_>>) -> Result<String, Fail> {
+    match answer {
+        Ok(_) => Err(Fail::from("not refused")),
+        Err(error) => Ok(format!(in alloc; "{error}")?),
+    }
+}
+
+#[test]
+fn reads_a_struct(rt: HostRuntime) -> Result<(), Fail> {
+    let alloc = rt.alloc();
+    let shape = around(alloc, "i", Shape::i32())?;
+    let Ok(Datum::Struct { name, fields }) = from_slice_at(alloc, &shape, &DOCUMENT) else {
+        return Err(Fail::from("no struct"));
+    };
+    assert_eq!(rt; name.as_str(), "Outer");
+    assert_eq!(rt; fields.len(), 1);
+    assert_eq!(rt; fields[0].name.as_str(), "i");
+    assert!(rt; matches!(fields[0].value, Datum::I32(1)));
+    Ok(())
+}
+
+#[test]
+fn refuses_documents(rt: HostRuntime) -> Result<(), Fail> {
+    let alloc = rt.alloc();
+    let number = around(alloc, "i", Shape::i32())?;
+    let short = from_slice_at(alloc, &number, &DOCUMENT[..4]);
+    assert_eq!(rt; refusal(alloc, short)?.as_str(), "document too short");
+
+    let unknown = [12, 0, 0, 0, 32, 105, 0, 1, 0, 0, 0, 0];
+    let unknown = from_slice_at(alloc, &number, &unknown);
+    assert_eq!(rt;
+        refusal(alloc, unknown)?.as_str(),
+        "error at .: unknown kind 32"
+    );
+
+    let twice = [
+        19, 0, 0, 0, 16, 105, 0, 1, 0, 0, 0, 16, 105, 0, 2, 0, 0, 0, 0,
+    ];
+    let twice = from_slice_at(alloc, &number, &twice);
+    assert_eq!(rt;
+        refusal(alloc, twice)?.as_str(),
+        "error at .: duplicate field i"
+    );
+
+    let outer = around(alloc, "d", number)?;
+    let inner = [13, 0, 0, 0, 3, 100, 0, 5, 0, 0, 0, 0, 0];
+    let inner = from_slice_at(alloc, &outer, &inner);
+    assert_eq!(rt;
+        refusal(alloc, inner)?.as_str(),
+        "error at d: missing field i"
+    );
+    Ok(())
+}
