@@ -1,3 +1,3 @@
-pub mod StepTexts
+pub mod SegmentTexts
 pub mod Stops
 pub mod Views

@@ -5,25 +5,25 @@ use Rattle.bson_base.specs.Text.{Utf8}
 use Rattle.bson_base.specs.Kind.{name}
 use Rattle.bson_rawdoc.specs.Printed.{printed_fault, not_built_text}
 use Rattle.bson_datum.specs.Cause.{Cause, raw, too_deep, invalid_type, out_of_range, missing_field, duplicate_field, top_level, too_long, not_built}
-use Rattle.bson_datum.specs.Refusal.{Step, Steps, at_key, at_index, ReadFault, unreadable, WriteFault, unwritable, invalid_cstring, Failure, no_memory, bare, placed}
+use Rattle.bson_datum.specs.Refusal.{Segment, Path, at_key, at_index, ReadFault, unreadable, WriteFault, unwritable, invalid_cstring, Failure, no_memory, bare, placed}
 
--- the step at a place of a path: a key has a point before it unless it comes first, an index stands in brackets
+-- the segment at a place of a path: a key has a point before it unless it comes first, an index stands in brackets
 abbrev pub point_before : ℕ → Utf8
 point_before zero = []
 point_before (suc i) = codes "."
 
-abbrev pub printed_step : ℕ → Step → Utf8
-printed_step i (at_key key) = point_before i ++ key
-printed_step i (at_index n) = codes "[" ++ decimal n ++ codes "]"
+abbrev pub printed_segment : ℕ → Segment → Utf8
+printed_segment i (at_key key) = point_before i ++ key
+printed_segment i (at_index n) = codes "[" ++ decimal n ++ codes "]"
 
-abbrev pub printed_steps : ℕ → Steps → Utf8
-printed_steps i [] = []
-printed_steps i (s ∷ ss) = printed_step i s ++ printed_steps (i + 1) ss
+abbrev pub printed_segments : ℕ → Path → Utf8
+printed_segments i [] = []
+printed_segments i (s ∷ ss) = printed_segment i s ++ printed_segments (i + 1) ss
 
--- a path: its steps, or a point where there are none
-abbrev pub printed_path : Steps → Utf8
+-- a path: its segments, or a point where there are none
+abbrev pub printed_path : Path → Utf8
 printed_path [] = 46 ∷ []
-printed_path (s ∷ ss) = printed_steps 0 (s ∷ ss)
+printed_path (s ∷ ss) = printed_segments 0 (s ∷ ss)
 
 abbrev pub printed_cause : Cause → Utf8
 printed_cause (raw f) = printed_fault f

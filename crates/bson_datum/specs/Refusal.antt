@@ -3,14 +3,14 @@ use Rattle.std.specs.Prelude.{ℕ, List, [], ◌∷◌, Result, Ok, Err}
 use Rattle.bson_base.specs.Text.{Utf8}
 use Rattle.bson_datum.specs.Cause.{Cause}
 
--- a step from a value to one inside it
-pub data Step : Type 0 where
-  at_key : Utf8 → Step
-  at_index : ℕ → Step
+-- a segment of a path: from a value to one inside it
+pub data Segment : Type 0 where
+  at_key : Utf8 → Segment
+  at_index : ℕ → Segment
 
--- the steps to a value, the outermost first
-abbrev pub Steps : Type 0
-Steps = List Step
+-- where a value stands: the segments to it, the outermost first
+abbrev pub Path : Type 0
+Path = List Segment
 
 -- what reading refuses for
 pub data ReadFault : Type 0 where
@@ -24,7 +24,7 @@ pub data WriteFault : Type 0 where
 
 -- a fault, and the path of the value that has it
 pub record Refusal (F : Type 0) : Type 0 where
-  pub path : Steps
+  pub path : Path
   pub fault : F
 
 -- a fault of the value itself
@@ -44,7 +44,7 @@ under key (Err r) = Err (in_key key r)
 pub data Failure (F : Type 0) : Type 0 where
   no_memory : Failure F
   bare : F → Failure F
-  placed : Steps → Failure F → Failure F
+  placed : Path → Failure F → Failure F
 
 -- a refusal as a call answers it, with its path
 abbrev pub with_path : {F : Type 0} → Refusal F → Failure F

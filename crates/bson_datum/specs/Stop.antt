@@ -1,33 +1,33 @@
 -- What contracts see of a refusal on its way out.
 use Rattle.std.specs.Prelude.{◌≡◌, [], ◌∷◌, ◌++◌, map, reverse, Option, Some, None}
 use Rattle.bson_base.specs.Text.{Utf8}
-use Rattle.bson_datum.specs.Refusal.{Refusal, Steps, at_key, with_path, Failure, no_memory}
-use Rattle.bson_datum.specs.PathView.{step_view}
+use Rattle.bson_datum.specs.Refusal.{Refusal, Path, at_key, with_path, Failure, no_memory}
+use Rattle.bson_datum.specs.PathView.{segment_view}
 use Rattle.bson_datum.specs.declared.stop.Refused as code
 use Rattle.bson_datum.specs.declared.stop.Stop.{Stop}
 use Rattle.bson_datum.specs.declared.stop.Stop.TheVariants.{Refused, NoMemory}
 
-abbrev pub steps_out : {E : Type 0} → code.Refused E → Steps
-steps_out r = map step_view r.steps.items
+abbrev pub segments_out : {E : Type 0} → code.Refused E → Path
+segments_out r = map segment_view r.segments.items
 
--- The refusal, where there is one: the steps come from the innermost outwards, the path from the outermost inwards.
+-- The refusal, where there is one: the segments come from the innermost outwards, the path from the outermost inwards.
 abbrev pub stop_view : {E F : Type 0} → (E → F) → Stop E → Option (Refusal F)
 stop_view fault_view NoMemory = None
-stop_view fault_view (Refused r) = Some (record { path = reverse (steps_out r); fault = fault_view r.fault })
+stop_view fault_view (Refused r) = Some (record { path = reverse (segments_out r); fault = fault_view r.fault })
 
 abbrev pub IsRefusedHere : {E : Type 0} → E → Stop E → Type 0
 IsRefusedHere e NoMemory = ⊥
-IsRefusedHere e (Refused r) = (r.fault ≡ e) × (steps_out r ≡ [])
+IsRefusedHere e (Refused r) = (r.fault ≡ e) × (segments_out r ≡ [])
 
 abbrev pub IsOutOfMemory : {E : Type 0} → Stop E → Type 0
 IsOutOfMemory NoMemory = Unit {0}
 IsOutOfMemory (Refused r) = ⊥
 
--- the same fault with one more step, or want of memory
+-- the same fault with one more segment, or want of memory
 abbrev pub IsUnderKey : {E : Type 0} → Utf8 → Stop E → Stop E → Type 0
 IsUnderKey key old NoMemory = Unit {0}
 IsUnderKey key NoMemory (Refused r) = ⊥
-IsUnderKey key (Refused r) (Refused s) = (s.fault ≡ r.fault) × (steps_out s ≡ steps_out r ++ at_key key ∷ [])
+IsUnderKey key (Refused r) (Refused s) = (s.fault ≡ r.fault) × (segments_out s ≡ segments_out r ++ at_key key ∷ [])
 
 -- the failure is the refusal, with its path; or want of memory
 abbrev pub IsPlaced : {F : Type 0} → Option (Refusal F) → Failure F → Type 0

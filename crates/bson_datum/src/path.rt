@@ -1,9 +1,9 @@
 ghost use Rattle.std.specs.Prelude.{◌≡◌, map};
-ghost use Rattle.bson_datum.specs.PathView.{path_view, step_view};
+ghost use Rattle.bson_datum.specs.PathView.{path_view, segment_view};
 
 use std::fmt;
 
-/// A step from a value to one inside it.
+/// A segment of a path: from a value to one inside it.
 #[derive(Debug, Drop)]
 pub enum Segment {
     /// Into a document, at this key.
@@ -12,7 +12,7 @@ pub enum Segment {
     Index(u64),
 }
 
-/// Where a value stands: the steps to it from the whole document.
+/// Where a value stands: the segments from the whole document to it.
 ///
 /// It prints keys joined by points and indexes in brackets, as `a.b[2]`; the empty path prints `.`.
 #[derive(Debug, Drop)]
@@ -21,31 +21,31 @@ pub struct Path {
 }
 
 impl Path {
-    /// The path of these steps, the outermost first.
+    /// The path of these segments, the outermost first.
     pub fn new(segments: Vec<Segment>) -> Path
-        ensures steps { path_view result ≡ map step_view segments.items }
+        ensures segments { path_view result ≡ map segment_view segments.items }
     {
         Path { segments }
     }
 
-    /// The steps, the outermost first.
+    /// The segments, the outermost first.
     pub fn segments(&self) -> &[Segment]
-        ensures steps { map step_view result.now ≡ path_view self.now }
+        ensures segments { map segment_view result.now ≡ path_view self.now }
     {
         &self.segments
     }
 }
 
-// A step at its place in a path.
+// A segment at its place in a path.
 #[derive(Drop)]
 struct Placed<'a>(usize, &'a Segment);
 
 impl fmt::Display for Placed<'_> {
     ghost use Rattle.std.specs.Prelude.{Some};
-    ghost use Rattle.bson_datum.specs.Printed.{printed_step};
-    ghost use Rattle.bson_datum.specs.PathView.{step_view};
+    ghost use Rattle.bson_datum.specs.Printed.{printed_segment};
+    ghost use Rattle.bson_datum.specs.PathView.{segment_view};
 
-    ghost output = { λ s. Some (printed_step s.0 (step_view s.1.now)) };
+    ghost output = { λ s. Some (printed_segment s.0 (segment_view s.1.now)) };
 
     fn fmt<W: fmt::Write>(&self, f: &mut fmt::Formatter<W>) -> fmt::Result {
         match self.1 {

@@ -49,11 +49,11 @@ impl Error {
         let Stop::Refused(refused) = stop else {
             return Error::NoMemory;
         };
-        let mut steps = refused.steps;
-        steps.reverse();
+        let mut segments = refused.segments;
+        segments.reverse();
         match Box::new(alloc, Error::from_fault(refused.fault)) {
             Ok(source) => Error::WithPath {
-                path: Path::new(steps),
+                path: Path::new(segments),
                 source,
             },
             Err(_) => Error::NoMemory,

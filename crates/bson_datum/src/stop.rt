@@ -9,8 +9,8 @@ use std::alloc::{AllocError, AllocFailed, Global};
 pub struct Refused<F> {
     /// What is wrong.
     pub fault: F,
-    /// The steps to the value so far, the innermost first.
-    pub steps: Vec<Segment>,
+    /// The segments of the path to the value so far, the innermost first.
+    pub segments: Vec<Segment>,
 }
 
 /// Why a reader or a writer stopped inside a document.
@@ -29,7 +29,7 @@ impl<F: Drop> Stop<F> {
     {
         Stop::Refused(Refused {
             fault,
-            steps: Vec::new(alloc),
+            segments: Vec::new(alloc),
         })
     }
 
@@ -40,11 +40,11 @@ impl<F: Drop> Stop<F> {
         let Stop::Refused(mut refused) = self else {
             return Stop::NoMemory;
         };
-        let alloc = *refused.steps.allocator();
+        let alloc = *refused.segments.allocator();
         let Ok(key) = String::from_str(alloc, key) else {
             return Stop::NoMemory;
         };
-        match refused.steps.push(Segment::Key(key)) {
+        match refused.segments.push(Segment::Key(key)) {
             Ok(()) => Stop::Refused(refused),
             Err(_) => Stop::NoMemory,
         }

@@ -7,7 +7,7 @@ use Rattle.bson_rawdoc.specs.Walk.{Element, Walk, then_walk}
 use Rattle.bson_rawdoc.specs.Next.{IsNext}
 use Rattle.bson_rawdoc.specs.declared.raw.Error as raw_error
 use Rattle.bson_datum.specs.Refusal.{ReadFault, Refusal, at_key, in_key, under}
-use Rattle.bson_datum.specs.Stop.{stop_view, steps_out, IsUnderKey}
+use Rattle.bson_datum.specs.Stop.{stop_view, segments_out, IsUnderKey}
 use Rattle.bson_datum.specs.ErrorView.{read_fault}
 use Rattle.bson_datum.specs.declared.de.Fault.{Fault}
 use Rattle.bson_datum.specs.declared.stop.Refused as code
@@ -27,9 +27,9 @@ bind_as (Some x) r f h = ap (λ q. q >>= f) h
 pub stops_bind : {A B : Type 0} (s : Stop Fault) (r : Reading A) (f : A → Reading B) → StopsAs s r → StopsAs s (r >>= f)
 stops_bind s r f h = bind_as (stop_view read_fault s) r f h
 
-out_of_key : (key : Utf8) (s t : code.Refused Fault) → t.fault ≡ s.fault → steps_out t ≡ steps_out s ++ at_key key ∷ []
-    → in_key key (record { path = reverse (steps_out s); fault = read_fault s.fault }) ≡ record { path = reverse (steps_out t); fault = read_fault t.fault }
-out_of_key key s t faults steps = λ i. record { path = sym (ap reverse steps ∙ reverse-append (steps_out s) (at_key key ∷ [])) i; fault = read_fault (sym faults i) }
+out_of_key : (key : Utf8) (s t : code.Refused Fault) → t.fault ≡ s.fault → segments_out t ≡ segments_out s ++ at_key key ∷ []
+    → in_key key (record { path = reverse (segments_out s); fault = read_fault s.fault }) ≡ record { path = reverse (segments_out t); fault = read_fault t.fault }
+out_of_key key s t faults steps = λ i. record { path = sym (ap reverse steps ∙ reverse-append (segments_out s) (at_key key ∷ [])) i; fault = read_fault (sym faults i) }
 
 -- a stop under a key is the refusal under that key
 pub stops_under : {A : Type 0} (key : Utf8) (s t : Stop Fault) (r : Reading A) → IsUnderKey key s t → StopsAs s r → StopsAs t (under key r)

@@ -52,7 +52,8 @@ pub fn read_to_end<I: Source>(alloc: Global, input: &mut I) -> Result<Vec<u8>, R
     let mut bytes = Vec::new(alloc);
     let mut buf = [0u8; PIECE];
     loop {
-        match input.read(&mut buf) {
+        let room = PIECE.min(MOST + 1 - bytes.len());
+        match input.read(&mut buf[..room]) {
             Ok(0) => return Ok(bytes),
             Ok(n) => {
                 if n > MOST - bytes.len() {

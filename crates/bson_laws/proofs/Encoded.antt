@@ -15,8 +15,9 @@ use Rattle.bson_base.proofs.Lengths.{length-le32}
 use Rattle.bson_base.proofs.KindBytes.{of_byte-byte}
 use Rattle.bson_rawdoc.specs.declared.raw.Error.{Error}
 use Rattle.bson_rawdoc.specs.declared.raw.Error.TheVariants.{BadExtent, KeyNotUtf8}
-use Rattle.bson_rawdoc.specs.Envelope.{announced, is_closed, inside}
-use Rattle.bson_rawdoc.specs.RawValue.{int32_in}
+use Rattle.bson_rawdoc.specs.Envelope.{is_closed, inside}
+use Rattle.bson_rawdoc.specs.Numbers.{int32_in}
+use Rattle.bson_rawdoc.proofs.Extents.{document_extent_found}
 use Rattle.bson_rawdoc.specs.Walk.{in_front, cut_at_zero, extent, Element, with_value, of_kind, with_key, element_at, then_walk, walk_elements}
 use Rattle.bson_rawdoc.proofs.Walks.{walk_ok}
 
@@ -28,9 +29,9 @@ pub int32_again : (z : ℤ) → FitsSigned w32 z → int32_in (le32 (cast_unsign
 unfolding int32_in le32
 int32_again z h = ap (cast_signed w32) (from_le_bytes-to_le_bytes_4 (cast_unsigned w32 z) (unsigned32 z h)) ∙ to_z-of_z w32 z h
 
-pub announced_again : (n : ℕ) (rest : Bytes) → n < 2 ^ 32 → announced (le32 n ++ rest) ≡ n
-unfolding announced le32
-announced_again n rest h = from_le_bytes-to_le_bytes_4 n h
+pub length_again : (n : ℕ) (rest : Bytes) → n < 2 ^ 31 → int32_in (le32 n ++ rest) ≡ pos n
+unfolding int32_in le32
+length_again n rest h = ap (cast_signed w32) (from_le_bytes-to_le_bytes_4 n (omega (arith, h))) ∙ to_z-of_z w32 (pos n) (omega (arith, h))
 
 -- ---- the envelope
 
@@ -57,11 +58,6 @@ inside_again b =
 
 -- ---- one element
 
-within : (a c : Bool) (n : ℕ) → a ≡ false → c ≡ false → cond (a || c) (Err BadExtent) (Ok n) ≡ Ok n
-within true c n p q = absurd cc
-within false true n p q = absurd cc
-within false false n p q = refl
-
 extent_again : (t : Tree) (rest : Bytes) → length (enc t) < 2 ^ 31 → extent (kind t) (enc t ++ rest) ≡ Ok (length (enc t))
 extent_again (int32 z) rest h = ap Ok (sym (length-le32 _))
 extent_again (document ps) rest h =
@@ -69,8 +65,8 @@ extent_again (document ps) rest h =
     let n = length b + 5 in
     let bs = enclosed b ++ rest in
     let long = four_behind n b in
-    let told : announced bs ≡ n = ap announced (append_assoc (le32 n) (b ++ 0 ∷ []) rest) ∙ announced_again n ((b ++ 0 ∷ []) ++ rest) (omega (arith, long)) in
-    within (nat_lt (length bs) 5) (nat_lt (announced bs) 5) (announced bs) (le-ltb _ _ (omega (arith, long, length-append (enclosed b) rest))) (le-ltb _ _ (omega (arith, told))) ∙ ap Ok (told ∙ sym long)
+    let told : int32_in bs ≡ pos n = ap int32_in (append_assoc (le32 n) (b ++ 0 ∷ []) rest) ∙ length_again n ((b ++ 0 ∷ []) ++ rest) (omega (arith, long, h)) in
+    document_extent_found bs n (omega (arith, long, length-append (enclosed b) rest)) told (omega arith) ∙ ap Ok (sym long)
 
 neither : (a b : Bool) → (a || b) ≡ false → b ≡ false
 neither true b e = absurd cc

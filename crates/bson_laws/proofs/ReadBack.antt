@@ -11,7 +11,10 @@ use Rattle.bson_base.specs.declared.element_type.ElementType.TheVariants.{Embedd
 use Rattle.bson_base.proofs.Lengths.{length-document, elements_size}
 use Rattle.bson_base.proofs.Outcomes.{some_map, some_then}
 use Rattle.bson_rawdoc.specs.declared.raw.Error.TheVariants.{TooShort, LengthDiffers, NoTerminator}
-use Rattle.bson_rawdoc.specs.Envelope.{announced, is_closed, envelope}
+use Rattle.bson_rawdoc.specs.Envelope.{is_closed, envelope}
+use Rattle.bson_rawdoc.specs.Numbers.{int32_in}
+use Rattle.std.specs.Ordering.{int_eq}
+use Rattle.std.proofs.lemmas.Bool.Decides.{Decides-int_eq}
 use Rattle.bson_rawdoc.specs.Walk.{walk}
 use Rattle.bson_shape.specs.Form.{Form, leaf, structure, Fields, no_fields, field}
 use Rattle.bson_shape.specs.Makers.{has_field, repeats, IsShape, AreShapes}
@@ -25,7 +28,7 @@ use Rattle.bson_laws.specs.Views.{as_i32, integer, pairs_of, lookup, views, view
 use Rattle.bson_laws.specs.Means.{norm, norm_fields}
 use Rattle.bson_laws.specs.Fits.{Fits, FieldsFit}
 use Rattle.bson_laws.proofs.Fitted.{Unnamed, unlike_swap}
-use Rattle.bson_laws.proofs.Encoded.{int32_again, announced_again, closed_again}
+use Rattle.bson_laws.proofs.Encoded.{int32_again, length_again, closed_again}
 use Rattle.bson_laws.proofs.Filled.{Distinct, views_nth, judged_again, walk_inside, free_first, all_view, fill_again}
 
 -- ---- the names of a shape's fields
@@ -98,8 +101,8 @@ passed false true true x p q r = refl
 pub envelope_again : (ps : Pairs) → length (enc (document ps)) < 2 ^ 31 → envelope (enc (document ps)) ≡ Ok (enc (document ps))
 envelope_again ps l =
     let bytes = enc (document ps) in
-    passed (nat_lt (length bytes) 5) (eqb (announced bytes) (length bytes)) (is_closed bytes) bytes
-    (le-ltb _ _ (omega (arith, length-document ps))) (eq-eqb _ _ (announced_again (length (elements ps) + 5) (elements ps ++ 0 ∷ []) (omega (arith, length-document ps)) ∙ sym (length-document ps))) (closed_again (elements ps))
+    passed (nat_lt (length bytes) 5) (int_eq (int32_in bytes) (pos (length bytes))) (is_closed bytes) bytes
+    (le-ltb _ _ (omega (arith, length-document ps))) ((Decides-int_eq _ _).1 (length_again (length (elements ps) + 5) (elements ps ++ 0 ∷ []) (omega (arith, l, length-document ps)) ∙ ap pos (sym (length-document ps)))) (closed_again (elements ps))
 
 -- what a sound tree is at a shape is read from its bytes
 pub views_reads : (s : Form) (t : Tree) (v : Value) → IsShape s → IsSound t → views s t ≡ Some v → reads_document s (enc t) ≡ Ok v

@@ -1,23 +1,21 @@
 -- The frame of a document in its bytes. Source: bsonspec.org, version 1.1, `document`.
-use Rattle.std.specs.Prelude.{ℕ, ◌-◌, length, take, drop, get_or, Bool, not, eqb, if◌then◌else◌, nat_lt, Result, Ok, Err}
-use Rattle.std.specs.Int.{w32, from_le_bytes}
+use Rattle.std.specs.Prelude.{◌-◌, length, take, drop, get_or, Bool, not, eqb, if◌then◌else◌, nat_lt, pos, Result, Ok, Err}
+use Rattle.std.specs.Ordering.{int_eq}
 use Rattle.bson_base.specs.Text.{Bytes}
+use Rattle.bson_rawdoc.specs.Numbers.{int32_in}
 use Rattle.bson_rawdoc.specs.declared.raw.Error.{Error}
 use Rattle.bson_rawdoc.specs.declared.raw.Error.TheVariants.{TooShort, LengthDiffers, NoTerminator}
-
--- the length that the first four bytes announce, the low byte first
-unfoldable pub announced : Bytes → ℕ
-announced bytes = from_le_bytes w32 bytes
 
 -- the last byte is a zero
 abbrev pub is_closed : Bytes → Bool
 is_closed bytes = eqb (get_or bytes (length bytes - 1) 1) 0
 
--- The bytes, where they are framed as a document: at least five, as many as they announce, the last a zero. Else the first that fails.
+-- The bytes, where they are framed as a document: at least five, as many as the int32 in front announces, the last a zero. Else the
+-- first that fails.
 abbrev pub envelope : Bytes → Result Bytes Error
 envelope bytes =
     if nat_lt (length bytes) 5 then Err TooShort
-    else if not (eqb (announced bytes) (length bytes)) then Err LengthDiffers
+    else if not (int_eq (int32_in bytes) (pos (length bytes))) then Err LengthDiffers
     else if not (is_closed bytes) then Err NoTerminator
     else Ok bytes
 

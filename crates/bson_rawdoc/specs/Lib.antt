@@ -1,3 +1,4 @@
+pub mod Numbers
 pub mod Envelope
 pub mod Walk
 pub mod RawValue

@@ -1,10 +1,10 @@
 -- The value of an element in its bytes, or its fault. Source: bsonspec.org, version 1.1, `element`.
 use Rattle.std.specs.Prelude.{ℤ, if◌then◌else◌, Result, Ok, Err}
-use Rattle.std.specs.Int.{w32, from_le_bytes, cast_signed}
 use Rattle.bson_base.specs.Text.{Bytes}
 use Rattle.bson_base.specs.declared.element_type.ElementType.{ElementType}
 use Rattle.bson_base.specs.declared.element_type.ElementType.TheVariants.{EmbeddedDocument, Int32}
 use Rattle.bson_rawdoc.specs.Envelope.{is_closed}
+use Rattle.bson_rawdoc.specs.Numbers.{int32_in}
 use Rattle.bson_rawdoc.specs.declared.raw.Error.{Error}
 use Rattle.bson_rawdoc.specs.declared.raw.Error.TheVariants.{ValueUnclosed, NotBuilt}
 
@@ -12,10 +12,6 @@ use Rattle.bson_rawdoc.specs.declared.raw.Error.TheVariants.{ValueUnclosed, NotB
 pub data RawValue : Type 0 where
   int32 : ℤ → RawValue
   document : Bytes → RawValue
-
--- the number in four bytes
-unfoldable pub int32_in : Bytes → ℤ
-int32_in bytes = cast_signed w32 (from_le_bytes w32 bytes)
 
 -- the value of the kind that has these bytes
 abbrev pub value_in : ElementType → Bytes → Result RawValue Error

@@ -1,12 +1,13 @@
 -- The elements of a document in its bytes, up to the first fault. Source: bsonspec.org, version 1.1, `e_list` and `element`.
-use Rattle.std.specs.Prelude.{ℕ, zero, suc, [], ◌∷◌, length, take, drop, ◌||◌, if◌then◌else◌, nat_lt, Option, Some, None, Result, Ok, Err}
+use Rattle.std.specs.Prelude.{ℕ, zero, suc, List, [], ◌∷◌, length, take, drop, if◌then◌else◌, nat_lt, pos, negsuc, ℤ, Option, Some, None, Result, Ok, Err}
 use Rattle.std.specs.Str.{is_utf8}
 use Rattle.bson_base.specs.Text.{Bytes, Utf8}
 use Rattle.bson_base.specs.Kind.{of_byte}
 use Rattle.bson_base.specs.Outcome.{◌>>=◌}
 use Rattle.bson_base.specs.declared.element_type.ElementType.{ElementType}
 use Rattle.bson_base.specs.declared.element_type.ElementType.TheVariants.{EmbeddedDocument, Int32}
-use Rattle.bson_rawdoc.specs.Envelope.{announced, inside}
+use Rattle.bson_rawdoc.specs.Envelope.{inside}
+use Rattle.bson_rawdoc.specs.Numbers.{int32_in}
 use Rattle.bson_rawdoc.specs.declared.raw.Error.{Error}
 use Rattle.bson_rawdoc.specs.declared.raw.Error.TheVariants.{KeyUnclosed, KeyNotUtf8, UnknownKind, BadExtent, NotBuilt}
 
@@ -26,9 +27,14 @@ cut_at_zero [] = None
 cut_at_zero (zero ∷ bs) = Some ([], bs)
 cut_at_zero (suc b ∷ bs) = in_front (suc b) (cut_at_zero bs)
 
+-- an announced length, which is at least this
+abbrev pub length_from : ℕ → ℤ → Result ℕ Error
+length_from least (pos n) = if nat_lt n least then Err BadExtent else Ok n
+length_from least (negsuc n) = Err BadExtent
+
 -- the extent of a document: the length that it announces, which is at least five
 abbrev pub document_extent : Bytes → Result ℕ Error
-document_extent bytes = if (nat_lt (length bytes) 5 || nat_lt (announced bytes) 5) then Err BadExtent else Ok (announced bytes)
+document_extent bytes = if nat_lt (length bytes) 5 then Err BadExtent else length_from 5 (int32_in bytes)
 
 -- how many bytes a value of the kind takes, of the bytes that begin with it
 abbrev pub extent : ElementType → Bytes → Result ℕ Error

@@ -5,7 +5,7 @@ ghost use Rattle.bson_rawdoc.specs.Walk.{walk};
 
 use crate::iter::RawIter;
 use crate::raw::Error;
-use crate::reading::{announced, is_closed};
+use crate::reading::{int32_in, is_closed};
 
 /// The bytes of one document, which pass the test of their envelope.
 ///
@@ -31,7 +31,7 @@ impl<'a> RawDocument<'a> {
         if bytes.len() < 5 {
             return Err(Error::TooShort);
         }
-        if announced(bytes) as usize != bytes.len() {
+        if i64::from(int32_in(bytes)) != bytes.len() as i64 {
             return Err(Error::LengthDiffers);
         }
         if !is_closed(bytes) {

@@ -1,12 +1,12 @@
 ghost use Rattle.std.specs.Prelude.{◌≡◌, ◌≤◌, Ok, length, IfOk};
 ghost use Rattle.bson_base.specs.Outcome.{result_map};
 ghost use Rattle.bson_rawdoc.specs.Walk as walk;
-ghost use Rattle.bson_rawdoc.specs.RawValue.{int32_in, value_in};
+ghost use Rattle.bson_rawdoc.specs.RawValue.{value_in};
 ghost use Rattle.bson_rawdoc.specs.ValueView.{raw_value};
 
 use crate::document::RawDocument;
 use crate::raw::Error;
-use crate::reading::{announced, cut_at_zero, is_closed};
+use crate::reading::{cut_at_zero, int32_in, is_closed};
 use bson_base::ElementType;
 use std::marker::Model;
 
@@ -72,7 +72,7 @@ impl<'a> RawElement<'a> {
         ensures value { result_map raw_value result ≡ value_in self.now.kind self.now.value }
     {
         match self.kind {
-            ElementType::Int32 => Ok(RawBsonRef::Int32(int32(self.slice))),
+            ElementType::Int32 => Ok(RawBsonRef::Int32(int32_in(self.slice))),
             ElementType::EmbeddedDocument => {
                 if !is_closed(self.slice) {
                     return Err(Error::ValueUnclosed);
@@ -82,15 +82,6 @@ impl<'a> RawElement<'a> {
             kind => Err(Error::NotBuilt(kind)),
         }
     }
-}
-
-// The number in the first four bytes.
-#[tactic(auto, unfolding(crate::specs::RawValue::int32_in))]
-fn int32(bytes: &[u8]) -> i32
-    requires { 4 ≤ length bytes.now }
-    ensures { result ≡ int32_in bytes.now }
-{
-    i32::from_le_bytes([bytes[0], bytes[1], bytes[2], bytes[3]])
 }
 
 // How many bytes a value of the kind takes, of the bytes that begin with it.
@@ -103,7 +94,7 @@ fn extent(kind: ElementType, bytes: &[u8]) -> Result<usize, Error>
             if bytes.len() < 5 {
                 return Err(Error::BadExtent);
             }
-            let length = announced(bytes);
+            let length = int32_in(bytes);
             if length < 5 {
                 return Err(Error::BadExtent);
             }

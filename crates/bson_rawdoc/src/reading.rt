@@ -1,15 +1,16 @@
 // Numbers, keys and closing bytes at the front of a slice.
 ghost use Rattle.std.specs.Prelude.{◌≡◌, ◌≤◌, length, option_map};
 ghost use Rattle.bson_rawdoc.specs.Envelope as envelope;
+ghost use Rattle.bson_rawdoc.specs.Numbers as numbers;
 ghost use Rattle.bson_rawdoc.specs.Walk as walk;
 
-// The length that the first four bytes announce.
-#[tactic(auto, unfolding(crate::specs::Envelope::announced))]
-pub(crate) fn announced(bytes: &[u8]) -> u32
+// The int32 in the first four bytes.
+#[tactic(auto, unfolding(crate::specs::Numbers::int32_in))]
+pub(crate) fn int32_in(bytes: &[u8]) -> i32
     requires { 4 ≤ length bytes.now }
-    ensures { result ≡ envelope.announced bytes.now }
+    ensures { result ≡ numbers.int32_in bytes.now }
 {
-    u32::from_le_bytes([bytes[0], bytes[1], bytes[2], bytes[3]])
+    i32::from_le_bytes([bytes[0], bytes[1], bytes[2], bytes[3]])
 }
 
 // Whether the last byte is a zero.

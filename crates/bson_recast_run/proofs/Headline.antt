@@ -20,7 +20,7 @@ use Rattle.bson_recast_run.specs.declared.status.Status.TheVariants as statuses
 use Rattle.bson_recast_run.specs.Complete.{status_due, WritesExactly}
 use Rattle.bson_recast_run.specs.Due.{Request, recast_at, refused_with, usage_line, is_option, at_shape, request}
 use Rattle.bson_recast_run.specs.Ends as ends
-use Rattle.bson_recast_run.specs.Ends.{Reading, Silent}
+use Rattle.bson_recast_run.specs.Ends.{SourceChange, Silent}
 use Rattle.bson_recast_run.specs.Recasting.{Recasts}
 use Rattle.bson_recast_run.specs.Rows.{Told}
 use Rattle.bson_recast_run.proofs.Inputs.{whole}
@@ -70,7 +70,7 @@ module _ (s : Form) (t u : Tree) (d : Value) (words : List Utf8) (shape : IsShap
       ∙ status_of_value s (enc t) d (reads_it s (enc t) t u d shape sound view mean clean refl)
       ∙ status_written d u (spells_it s (enc t) t u d shape sound view mean clean refl) (let fits = clean.fits in omega (arith, sized s (enc t) t u d shape sound view mean clean refl, fits))
 
-  module _ (input : Reading) (out err : ends.Writing) (told : input.before ≡ Some (enc t)) where
+  module _ (input : SourceChange) (out err : ends.SinkChange) (told : input.before ≡ Some (enc t)) where
     exactly : Told words input statuses.Done out err → Appends out.before out.after (enc u) × Appends err.before err.after []
     exactly h =
         let given = h.due.given in
@@ -97,7 +97,7 @@ completed o doc words status is h = subst (λ p. IfSome p (λ bytes. (status ≡
 
 -- Given the notation of a shape and the bytes of a sound document, whose value at the shape means a sound document, exactly that document is written, or nothing.
 pub headline : (s : Form) (t u : Tree) (d : Value) (words : List Utf8) → IsShape s → IsSound t → views s t ≡ Some d → means d ≡ Some u → IsSound u → words ≡ text s ∷ []
-    → (input : Reading) (out err : ends.Writing) → input.before ≡ Some (enc t) → ends.AllQuiet input out err → (status : Status)
+    → (input : SourceChange) (out err : ends.SinkChange) → input.before ≡ Some (enc t) → ends.AllQuiet input out err → (status : Status)
     → (ends.AllQuiet input out err → IfSome input.before (λ bytes. (status ≡ status_due words bytes) ⊎ (status ≡ statuses.NoMemory)))
     → (status ≡ statuses.Done → Told words input statuses.Done out err) → (status ≡ statuses.NoMemory → Silent out err) → WritesExactly status out err (enc u)
 headline s t u d words shape sound view mean clean words_are input out err told quiet status complete done memory =

@@ -16,7 +16,7 @@ use Rattle.bson_recast_run.specs.declared.status.Status.{Status}
 use Rattle.bson_recast_run.specs.declared.status.Status.TheVariants as statuses
 use Rattle.bson_recast_run.specs.Complete.{write_status, recast_status, asked_status, status_due}
 use Rattle.bson_recast_run.specs.Due.{request, recast_at}
-use Rattle.bson_recast_run.specs.Ends.{Reading, ReadAs}
+use Rattle.bson_recast_run.specs.Ends.{SourceChange, ReadAs}
 use Rattle.bson_recast_run.specs.Rows.{IsDue}
 use Rattle.bson_recast_run.proofs.Inputs.{whole, long}
 
@@ -53,7 +53,7 @@ status_read words s doc asked most = ap (λ r. asked_status r doc) asked ∙ fir
 pub status_of_value : (s : Form) (doc : Bytes) (d : Value) → reads_document s doc ≡ Ok d → recast_status s doc ≡ write_status d
 status_of_value s doc d e = ap (λ r. elim r [ Ok x ↦ write_status x | Err f ↦ statuses.ReadRefused ]) e
 
-module _ (words : List Utf8) (input : Reading) (doc : Bytes) (told : input.before ≡ Some doc) (quiet : input.faults_after ≡ input.faults_before) where
+module _ (words : List Utf8) (input : SourceChange) (doc : Bytes) (told : input.before ≡ Some doc) (quiet : input.faults_after ≡ input.faults_before) where
   all_read : (bytes : Bytes) → ReadAs input bytes → bytes ≡ doc
   all_read bytes read = whole input.before input.after bytes doc read.taken read.ended told
 
@@ -82,7 +82,7 @@ module _ (words : List Utf8) (input : Reading) (doc : Bytes) (told : input.befor
   due_status statuses.NoMemory out line h = absurd h
 
 -- the same of an input that may not tell its bytes
-pub complete : (words : List Utf8) (input : Reading) (before : Option Bytes) → input.before ≡ before → input.faults_after ≡ input.faults_before → (status : Status) (out line : Bytes) → IsDue words input status out line
+pub complete : (words : List Utf8) (input : SourceChange) (before : Option Bytes) → input.before ≡ before → input.faults_after ≡ input.faults_before → (status : Status) (out line : Bytes) → IsDue words input status out line
     → IfSome before (λ bytes. (status ≡ status_due words bytes) ⊎ (status ≡ statuses.NoMemory))
 complete words input None is quiet status out line due = tt
 complete words input (Some doc) is quiet status out line due = inl (due_status words input doc is quiet status out line due)

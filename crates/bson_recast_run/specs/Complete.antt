@@ -10,7 +10,7 @@ use Rattle.bson_laws.specs.Spell.{spell_document, size}
 use Rattle.bson_recast_run.specs.declared.status.Status.{Status}
 use Rattle.bson_recast_run.specs.declared.status.Status.TheVariants as statuses
 use Rattle.bson_recast_run.specs.Due.{Request, recast_at, refused_with, request}
-use Rattle.bson_recast_run.specs.Ends.{Writing}
+use Rattle.bson_recast_run.specs.Ends.{SinkChange}
 
 -- the status for a value that was read
 abbrev pub write_status : Value → Status
@@ -29,7 +29,7 @@ abbrev pub status_due : List Utf8 → Bytes → Status
 status_due words bytes = asked_status (request words) bytes
 
 -- Exactly these bytes were written and nothing else; or want of memory is reported, and nothing was written.
-abbrev pub WritesExactly : Status → Writing → Writing → Bytes → Type 0
+abbrev pub WritesExactly : Status → SinkChange → SinkChange → Bytes → Type 0
 WritesExactly status to_out to_err bytes =
     ((status ≡ statuses.Done) × Appends to_out.before to_out.after bytes × Keeps to_err.before to_err.after)
     ⊎ ((status ≡ statuses.NoMemory) × Keeps to_out.before to_out.after × Keeps to_err.before to_err.after)

@@ -8,34 +8,34 @@ use Rattle.bson_base.specs.Text.{Bytes}
 use Rattle.bson_io.specs.Ends.{last_count}
 
 -- a source: the bytes that were left, where it tells them, and how often it failed
-pub record Reading : Type 0 where
+pub record SourceChange : Type 0 where
   pub before : Option Bytes
   pub after : Option Bytes
   pub faults_before : ℕ
   pub faults_after : ℕ
 
 -- a sink: how many more bytes it took for sure, the bytes that were written, where it tells them, and how often it failed
-pub record Writing : Type 0 where
+pub record SinkChange : Type 0 where
   pub room : Option ℕ
   pub before : Option Bytes
   pub after : Option Bytes
   pub faults_before : ℕ
   pub faults_after : ℕ
 
-abbrev pub reading : {S : Type 0} → (S → Option Bytes) → (S → ℕ) → S → S → Reading
-reading left faults old new = record { before = left old; after = left new; faults_before = faults old; faults_after = faults new }
+abbrev pub source_change : {S : Type 0} → (S → Option Bytes) → (S → ℕ) → S → S → SourceChange
+source_change left faults old new = record { before = left old; after = left new; faults_before = faults old; faults_after = faults new }
 
-abbrev pub writing : {S : Type 0} → (S → Option Bytes) → (S → Option ℕ) → (S → ℕ) → S → S → Writing
-writing written room faults old new = record { room = room old; before = written old; after = written new; faults_before = faults old; faults_after = faults new }
+abbrev pub sink_change : {S : Type 0} → (S → Option Bytes) → (S → Option ℕ) → (S → ℕ) → S → S → SinkChange
+sink_change written room faults old new = record { room = room old; before = written old; after = written new; faults_before = faults old; faults_after = faults new }
 
 -- The source was read to its end, and these bytes came, as many as a document may have.
-pub record ReadAs (input : Reading) (bytes : Bytes) : Type 0 where
+pub record ReadAs (input : SourceChange) (bytes : Bytes) : Type 0 where
   pub taken : Consumes input.before input.after bytes
   pub ended : IsAtEnd input.after
   pub most : length bytes ≤ max_bytes
 
 -- No count rose, and no sink's count stands at its last value.
-pub record AllQuiet (input : Reading) (to_out to_err : Writing) : Type 0 where
+pub record AllQuiet (input : SourceChange) (to_out to_err : SinkChange) : Type 0 where
   pub source : input.faults_after ≡ input.faults_before
   pub out : to_out.faults_after ≡ to_out.faults_before
   pub out_below : to_out.faults_after < last_count
@@ -43,6 +43,6 @@ pub record AllQuiet (input : Reading) (to_out to_err : Writing) : Type 0 where
   pub err_below : to_err.faults_after < last_count
 
 -- Nothing was written.
-pub record Silent (to_out to_err : Writing) : Type 0 where
+pub record Silent (to_out to_err : SinkChange) : Type 0 where
   pub out_kept : Keeps to_out.before to_out.after
   pub err_kept : Keeps to_err.before to_err.after

@@ -10,29 +10,29 @@ use Rattle.bson_recast_run.specs.declared.status.Status.{Status}
 use Rattle.bson_recast_run.specs.declared.status.Status.TheVariants as statuses
 use Rattle.bson_recast_run.specs.Recasting.{Recasts, ReadRefuses, WriteRefuses}
 use Rattle.bson_recast_run.specs.Due.{recast_at, refused_with, request, read_refused_line, write_refused_line, too_long_line, source_fault_line}
-use Rattle.bson_recast_run.specs.Ends.{Reading, Writing, ReadAs}
+use Rattle.bson_recast_run.specs.Ends.{SourceChange, SinkChange, ReadAs}
 
 -- The words ask for a recast at this shape, and these bytes were the whole input.
-pub record Asked (words : List Utf8) (input : Reading) : Type 0 where
+pub record Asked (words : List Utf8) (input : SourceChange) : Type 0 where
   pub shape : Form
   pub bytes : Bytes
   pub asked : request words ≡ recast_at shape
   pub read : ReadAs input bytes
 
 -- The recast writes this, and nothing is told.
-pub record DoneRow (words : List Utf8) (input : Reading) (out line : Bytes) : Type 0 where
+pub record DoneRow (words : List Utf8) (input : SourceChange) (out line : Bytes) : Type 0 where
   pub given : Asked words input
   pub answer : Recasts given.shape given.bytes out
   pub no_line : line ≡ []
 
 -- The words ask for no recast, as this line tells; the input was not touched.
-pub record UsageRow (words : List Utf8) (input : Reading) (out line : Bytes) : Type 0 where
+pub record UsageRow (words : List Utf8) (input : SourceChange) (out line : Bytes) : Type 0 where
   pub asked : request words ≡ refused_with line
   pub unread : Keeps input.before input.after
   pub nothing : out ≡ []
 
 -- The input is not read at the shape, as this line tells.
-pub record ReadRefusedRow (words : List Utf8) (input : Reading) (out line : Bytes) : Type 0 where
+pub record ReadRefusedRow (words : List Utf8) (input : SourceChange) (out line : Bytes) : Type 0 where
   pub given : Asked words input
   pub failure : Failure ReadFault
   pub answer : ReadRefuses given.shape given.bytes failure
@@ -40,7 +40,7 @@ pub record ReadRefusedRow (words : List Utf8) (input : Reading) (out line : Byte
   pub nothing : out ≡ []
 
 -- More bytes were taken than a document may have.
-pub record TooLongRow (words : List Utf8) (input : Reading) (out line : Bytes) : Type 0 where
+pub record TooLongRow (words : List Utf8) (input : SourceChange) (out line : Bytes) : Type 0 where
   pub shape : Form
   pub asked : request words ≡ recast_at shape
   pub taken : TakesMore max_bytes input.before input.after
@@ -48,7 +48,7 @@ pub record TooLongRow (words : List Utf8) (input : Reading) (out line : Bytes) :
   pub nothing : out ≡ []
 
 -- The input was read, and its value is not written, as this line tells.
-pub record WriteRefusedRow (words : List Utf8) (input : Reading) (out line : Bytes) : Type 0 where
+pub record WriteRefusedRow (words : List Utf8) (input : SourceChange) (out line : Bytes) : Type 0 where
   pub given : Asked words input
   pub failure : Failure WriteFault
   pub answer : WriteRefuses given.shape given.bytes failure
@@ -56,7 +56,7 @@ pub record WriteRefusedRow (words : List Utf8) (input : Reading) (out line : Byt
   pub nothing : out ≡ []
 
 -- The count of the input's faults rose.
-pub record SourceFaultRow (words : List Utf8) (input : Reading) (out line : Bytes) : Type 0 where
+pub record SourceFaultRow (words : List Utf8) (input : SourceChange) (out line : Bytes) : Type 0 where
   pub shape : Form
   pub asked : request words ≡ recast_at shape
   pub rose : Rose input.faults_before input.faults_after
@@ -64,7 +64,7 @@ pub record SourceFaultRow (words : List Utf8) (input : Reading) (out line : Byte
   pub nothing : out ≡ []
 
 -- With this status these bytes are due to `out` and this line to `err`.
-abbrev pub IsDue : List Utf8 → Reading → Status → Bytes → Bytes → Type 0
+abbrev pub IsDue : List Utf8 → SourceChange → Status → Bytes → Bytes → Type 0
 IsDue words input statuses.Done out line = DoneRow words input out line
 IsDue words input statuses.ReadRefused out line = ReadRefusedRow words input out line ⊎ TooLongRow words input out line
 IsDue words input statuses.WriteRefused out line = WriteRefusedRow words input out line
@@ -74,7 +74,7 @@ IsDue words input statuses.SinkFault out line = ⊥
 IsDue words input statuses.NoMemory out line = ⊥
 
 -- What was due with this status was written, all of it and nothing else.
-pub record Told (words : List Utf8) (input : Reading) (status : Status) (to_out to_err : Writing) : Type 0 where
+pub record Told (words : List Utf8) (input : SourceChange) (status : Status) (to_out to_err : SinkChange) : Type 0 where
   pub bytes : Bytes
   pub line : Bytes
   pub due : IsDue words input status bytes line
@@ -83,7 +83,7 @@ pub record Told (words : List Utf8) (input : Reading) (status : Status) (to_out 
 
 -- Some status was due; a sink's count rose or stands at its last value; each sink grew by a first part of what was due; and
 -- there was not room for all of it that a sink told of.
-pub record CutShort (words : List Utf8) (input : Reading) (to_out to_err : Writing) : Type 0 where
+pub record CutShort (words : List Utf8) (input : SourceChange) (to_out to_err : SinkChange) : Type 0 where
   pub status : Status
   pub bytes : Bytes
   pub line : Bytes

@@ -14,7 +14,7 @@ ghost use Rattle.bson_laws.specs.Views.{views};
 ghost use Rattle.bson_laws.specs.Means.{means};
 ghost use Rattle.bson_laws.specs.Plain.{IsPlain};
 ghost use Rattle.bson_recast_run.specs.Due.{request, at_shape, line_at, refused_with, is_option};
-ghost use Rattle.bson_recast_run.specs.Ends.{reading, writing, AllQuiet, Silent};
+ghost use Rattle.bson_recast_run.specs.Ends.{source_change, sink_change, AllQuiet, Silent};
 ghost use Rattle.bson_recast_run.specs.Rows.{IsDue, Told, CutShort};
 ghost use Rattle.bson_recast_run.specs.Complete.{status_due, WritesExactly};
 ghost use Rattle.bson_recast_run.specs.Prepared.{Asks, Answers, Reports};
@@ -126,7 +126,7 @@ fn answer_to_fault(alloc: Global, fault: ReadFault) -> Result<Answer, AllocError
 
 // What is due for these words on this input. An error is want of memory.
 fn prepare<I: Source>(alloc: Global, words: &[String], input: &mut I) -> Result<Answer, AllocError>
-    ensures due { IfOk result (λ a. IsDue (map string_bytes words.now) (reading I.left I.faults input.old input.new)
+    ensures due { IfOk result (λ a. IsDue (map string_bytes words.now) (source_change I.left I.faults input.old input.new)
         a.status a.bytes.items (string_bytes a.line)) }
     ensures later { I.faults input.old ≤ I.faults input.new }
 {
@@ -163,20 +163,20 @@ fn carry_out<I: Source, O: Sink, E: Sink>(
     out: &mut O,
     err: &mut E,
 ) -> Status
-    ensures done { result ≡ Status.Done → Told (map string_bytes words.now) (reading I.left I.faults input.old input.new) Status.Done
-        (writing O.written O.room O.faults out.old out.new) (writing E.written E.room E.faults err.old err.new) }
-    ensures read_refused { result ≡ Status.ReadRefused → Told (map string_bytes words.now) (reading I.left I.faults input.old input.new) Status.ReadRefused
-        (writing O.written O.room O.faults out.old out.new) (writing E.written E.room E.faults err.old err.new) }
-    ensures write_refused { result ≡ Status.WriteRefused → Told (map string_bytes words.now) (reading I.left I.faults input.old input.new) Status.WriteRefused
-        (writing O.written O.room O.faults out.old out.new) (writing E.written E.room E.faults err.old err.new) }
-    ensures usage { result ≡ Status.Usage → Told (map string_bytes words.now) (reading I.left I.faults input.old input.new) Status.Usage
-        (writing O.written O.room O.faults out.old out.new) (writing E.written E.room E.faults err.old err.new) }
-    ensures source_fault { result ≡ Status.SourceFault → Told (map string_bytes words.now) (reading I.left I.faults input.old input.new) Status.SourceFault
-        (writing O.written O.room O.faults out.old out.new) (writing E.written E.room E.faults err.old err.new) }
-    ensures sink_fault { result ≡ Status.SinkFault → CutShort (map string_bytes words.now) (reading I.left I.faults input.old input.new)
-        (writing O.written O.room O.faults out.old out.new) (writing E.written E.room E.faults err.old err.new) }
-    ensures no_memory { result ≡ Status.NoMemory → Silent (writing O.written O.room O.faults out.old out.new) (writing E.written E.room E.faults err.old err.new) }
-    ensures complete { AllQuiet (reading I.left I.faults input.old input.new) (writing O.written O.room O.faults out.old out.new) (writing E.written E.room E.faults err.old err.new)
+    ensures done { result ≡ Status.Done → Told (map string_bytes words.now) (source_change I.left I.faults input.old input.new) Status.Done
+        (sink_change O.written O.room O.faults out.old out.new) (sink_change E.written E.room E.faults err.old err.new) }
+    ensures read_refused { result ≡ Status.ReadRefused → Told (map string_bytes words.now) (source_change I.left I.faults input.old input.new) Status.ReadRefused
+        (sink_change O.written O.room O.faults out.old out.new) (sink_change E.written E.room E.faults err.old err.new) }
+    ensures write_refused { result ≡ Status.WriteRefused → Told (map string_bytes words.now) (source_change I.left I.faults input.old input.new) Status.WriteRefused
+        (sink_change O.written O.room O.faults out.old out.new) (sink_change E.written E.room E.faults err.old err.new) }
+    ensures usage { result ≡ Status.Usage → Told (map string_bytes words.now) (source_change I.left I.faults input.old input.new) Status.Usage
+        (sink_change O.written O.room O.faults out.old out.new) (sink_change E.written E.room E.faults err.old err.new) }
+    ensures source_fault { result ≡ Status.SourceFault → Told (map string_bytes words.now) (source_change I.left I.faults input.old input.new) Status.SourceFault
+        (sink_change O.written O.room O.faults out.old out.new) (sink_change E.written E.room E.faults err.old err.new) }
+    ensures sink_fault { result ≡ Status.SinkFault → CutShort (map string_bytes words.now) (source_change I.left I.faults input.old input.new)
+        (sink_change O.written O.room O.faults out.old out.new) (sink_change E.written E.room E.faults err.old err.new) }
+    ensures no_memory { result ≡ Status.NoMemory → Silent (sink_change O.written O.room O.faults out.old out.new) (sink_change E.written E.room E.faults err.old err.new) }
+    ensures complete { AllQuiet (source_change I.left I.faults input.old input.new) (sink_change O.written O.room O.faults out.old out.new) (sink_change E.written E.room E.faults err.old err.new)
         → IfSome (I.left input.old) (λ bytes. (result ≡ status_due (map string_bytes words.now) bytes) ⊎ (result ≡ Status.NoMemory)) }
     ensures input_later { I.faults input.old ≤ I.faults input.new }
     ensures out_later { O.faults out.old ≤ O.faults out.new }
@@ -215,28 +215,28 @@ pub fn run<I: Source, O: Sink, E: Sink>(
     // writes exactly the bytes of that document, or reports want of memory.
     ensures headline { (s : Form) (t u : Tree) (d : Value) → IsShape s → IsPlain s → IsSound t → views s t ≡ Some d → means d ≡ Some u → IsSound u
         → map string_bytes words.now ≡ text s ∷ [] → I.left input.old ≡ Some (enc t)
-        → AllQuiet (reading I.left I.faults input.old input.new) (writing O.written O.room O.faults out.old out.new) (writing E.written E.room E.faults err.old err.new)
-        → WritesExactly result (writing O.written O.room O.faults out.old out.new) (writing E.written E.room E.faults err.old err.new) (enc u) }
+        → AllQuiet (source_change I.left I.faults input.old input.new) (sink_change O.written O.room O.faults out.old out.new) (sink_change E.written E.room E.faults err.old err.new)
+        → WritesExactly result (sink_change O.written O.room O.faults out.old out.new) (sink_change E.written E.room E.faults err.old err.new) (enc u) }
 
     // Each status only where its row holds, with exactly what the row says on the two sinks.
-    ensures done { result ≡ Status.Done → Told (map string_bytes words.now) (reading I.left I.faults input.old input.new) Status.Done
-        (writing O.written O.room O.faults out.old out.new) (writing E.written E.room E.faults err.old err.new) }
-    ensures read_refused { result ≡ Status.ReadRefused → Told (map string_bytes words.now) (reading I.left I.faults input.old input.new) Status.ReadRefused
-        (writing O.written O.room O.faults out.old out.new) (writing E.written E.room E.faults err.old err.new) }
-    ensures write_refused { result ≡ Status.WriteRefused → Told (map string_bytes words.now) (reading I.left I.faults input.old input.new) Status.WriteRefused
-        (writing O.written O.room O.faults out.old out.new) (writing E.written E.room E.faults err.old err.new) }
-    ensures usage { result ≡ Status.Usage → Told (map string_bytes words.now) (reading I.left I.faults input.old input.new) Status.Usage
-        (writing O.written O.room O.faults out.old out.new) (writing E.written E.room E.faults err.old err.new) }
+    ensures done { result ≡ Status.Done → Told (map string_bytes words.now) (source_change I.left I.faults input.old input.new) Status.Done
+        (sink_change O.written O.room O.faults out.old out.new) (sink_change E.written E.room E.faults err.old err.new) }
+    ensures read_refused { result ≡ Status.ReadRefused → Told (map string_bytes words.now) (source_change I.left I.faults input.old input.new) Status.ReadRefused
+        (sink_change O.written O.room O.faults out.old out.new) (sink_change E.written E.room E.faults err.old err.new) }
+    ensures write_refused { result ≡ Status.WriteRefused → Told (map string_bytes words.now) (source_change I.left I.faults input.old input.new) Status.WriteRefused
+        (sink_change O.written O.room O.faults out.old out.new) (sink_change E.written E.room E.faults err.old err.new) }
+    ensures usage { result ≡ Status.Usage → Told (map string_bytes words.now) (source_change I.left I.faults input.old input.new) Status.Usage
+        (sink_change O.written O.room O.faults out.old out.new) (sink_change E.written E.room E.faults err.old err.new) }
 
     // A fault only where a count rose, or for a sink stands at its last value.
-    ensures source_fault { result ≡ Status.SourceFault → Told (map string_bytes words.now) (reading I.left I.faults input.old input.new) Status.SourceFault
-        (writing O.written O.room O.faults out.old out.new) (writing E.written E.room E.faults err.old err.new) }
-    ensures sink_fault { result ≡ Status.SinkFault → CutShort (map string_bytes words.now) (reading I.left I.faults input.old input.new)
-        (writing O.written O.room O.faults out.old out.new) (writing E.written E.room E.faults err.old err.new) }
-    ensures no_memory { result ≡ Status.NoMemory → Silent (writing O.written O.room O.faults out.old out.new) (writing E.written E.room E.faults err.old err.new) }
+    ensures source_fault { result ≡ Status.SourceFault → Told (map string_bytes words.now) (source_change I.left I.faults input.old input.new) Status.SourceFault
+        (sink_change O.written O.room O.faults out.old out.new) (sink_change E.written E.room E.faults err.old err.new) }
+    ensures sink_fault { result ≡ Status.SinkFault → CutShort (map string_bytes words.now) (source_change I.left I.faults input.old input.new)
+        (sink_change O.written O.room O.faults out.old out.new) (sink_change E.written E.room E.faults err.old err.new) }
+    ensures no_memory { result ≡ Status.NoMemory → Silent (sink_change O.written O.room O.faults out.old out.new) (sink_change E.written E.room E.faults err.old err.new) }
 
     // Where no count rose, the status is the one that is due, or want of memory.
-    ensures complete { AllQuiet (reading I.left I.faults input.old input.new) (writing O.written O.room O.faults out.old out.new) (writing E.written E.room E.faults err.old err.new)
+    ensures complete { AllQuiet (source_change I.left I.faults input.old input.new) (sink_change O.written O.room O.faults out.old out.new) (sink_change E.written E.room E.faults err.old err.new)
         → IfSome (I.left input.old) (λ bytes. (result ≡ status_due (map string_bytes words.now) bytes) ⊎ (result ≡ Status.NoMemory)) }
 
     // No count falls.

@@ -8,7 +8,7 @@ use Rattle.bson_base.specs.Sound.{IsSound}
 use Rattle.bson_base.specs.Tree.{Tree, Pairs, pair}
 use Rattle.bson_datum.specs.Value.{Value, FieldValues, field_value}
 use Rattle.bson_datum.specs.Refusal.{Refusal, WriteFault, in_key, under, at_key}
-use Rattle.bson_datum.specs.Stop.{steps_out}
+use Rattle.bson_datum.specs.Stop.{segments_out}
 use Rattle.bson_datum.specs.ErrorView.{write_fault}
 use Rattle.bson_datum.specs.declared.ser.Fault.{Fault}
 use Rattle.bson_datum.specs.declared.stop.Refused as code
@@ -47,9 +47,9 @@ no_ok (Ok x) f e h = absurd cc
 no_ok (Err g) f e h = absurd cc
 
 -- one more step of the path
-one_more : (r s : code.Refused Fault) (key : Utf8) → s.fault ≡ r.fault → steps_out s ≡ steps_out r ++ at_key key ∷ [] → in_key key (record { path = reverse (steps_out r); fault = write_fault r.fault }) ≡ record { path = reverse (steps_out s); fault = write_fault s.fault }
+one_more : (r s : code.Refused Fault) (key : Utf8) → s.fault ≡ r.fault → segments_out s ≡ segments_out r ++ at_key key ∷ [] → in_key key (record { path = reverse (segments_out r); fault = write_fault r.fault }) ≡ record { path = reverse (segments_out s); fault = write_fault s.fault }
 one_more r s key same more =
-    let path : at_key key ∷ reverse (steps_out r) ≡ reverse (steps_out s) = sym (ap reverse more ∙ reverse-append (steps_out r) (at_key key ∷ [])) in
+    let path : at_key key ∷ reverse (segments_out r) ≡ reverse (segments_out s) = sym (ap reverse more ∙ reverse-append (segments_out r) (at_key key ∷ [])) in
     λ i. record { path = path i; fault = write_fault (sym same i) }
 
 -- an element whose value is not written

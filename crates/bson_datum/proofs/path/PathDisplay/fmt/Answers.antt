@@ -1,6 +1,6 @@
 use Rattle.std.proofs.Common.{◌≡◌, ◌<◌, rules, length, get_or, ap, ◌∙◌, arith}
 use Rattle.std.proofs.Output.{has_written_append, has_written_of_eq}
-use Rattle.bson_datum.proofs.StepTexts.{steps-more}
+use Rattle.bson_datum.proofs.SegmentTexts.{segments-more}
 use Rattle.bson_datum.proofs.path.PathDisplay.fmt.Goals as goal
 
 pub loop-i-preserved : goal.loop-i-preserved
@@ -10,4 +10,4 @@ loop-i-preserved g c = λ p.
     let same = c.deref-segment-items.ensures.value in
     let lt : c.loop-i.i < length xs = omega (arith, c.loop-i-test.true, ap length same) in
     let is : x ≡ get_or xs c.loop-i.i x = c.segment-item.is ∙ ap (λ l. get_or l c.loop-i.i x) same in
-    has_written_of_eq _ _ _ _ _ (steps-more xs c.loop-i.i x lt is) (has_written_append _ _ _ _ _ _ (c.loop-i.invariant p) (search rules))
+    has_written_of_eq _ _ _ _ _ (segments-more xs c.loop-i.i x lt is) (has_written_append _ _ _ _ _ _ (c.loop-i.invariant p) (search rules))

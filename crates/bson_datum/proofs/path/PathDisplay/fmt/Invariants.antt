@@ -1,6 +1,6 @@
 use Rattle.std.proofs.Common.{take}
 use Rattle.std.specs.Fmt.{HasWritten, IsPlainFormatter}
-use Rattle.bson_datum.proofs.StepTexts.{segments_text}
+use Rattle.bson_datum.proofs.SegmentTexts.{segments_text}
 use Rattle.bson_datum.proofs.path.PathDisplay.fmt.Given as goal
 
 abbrev pub invariant-loop-i : goal.invariant-loop-i
