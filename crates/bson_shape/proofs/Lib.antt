@@ -6,6 +6,7 @@ pub mod TextStates
 pub mod Steps
 pub mod Made
 pub mod Names
+pub mod Sames
 pub mod Shapes
 pub mod Grown
 pub mod CharRuns

@@ -12,3 +12,5 @@ pub mod ShapeFalls
 pub mod Answers
 pub mod ParserView
 pub mod PrinterView
+pub mod Same
+pub mod Decided

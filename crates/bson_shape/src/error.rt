@@ -27,14 +27,14 @@ impl fmt::Display for ShapeError {
     }
 }
 
-/// Why a text is refused as a shape.
+/// Why a text is refused as a shape. It prints the cause, without the place.
 #[derive(Debug, Drop, PartialEq, Eq)]
 pub enum ParseError {
-    /// The text is the notation of no shape: from this byte on, no notation goes on as the text does.
+    /// The text is no notation of a shape. The number is the count of bytes of the longest beginning that it shares with a notation.
     NotNotation(usize),
-    /// A maker refuses the shape whose notation begins at this byte.
+    /// A maker refuses a form of the text. The number is the index of the form's first byte.
     Refused(usize, ShapeError),
-    /// The memory was refused.
+    /// The memory that the call asked for was refused.
     NoMemory,
 }
 
@@ -46,9 +46,9 @@ impl fmt::Display for ParseError {
 
     fn fmt<W: fmt::Write>(&self, f: &mut fmt::Formatter<W>) -> fmt::Result {
         match self {
-            ParseError::NotNotation(place) => write!(f, "shape refused at {place}: not a shape"),
-            ParseError::Refused(place, cause) => write!(f, "shape refused at {place}: {cause}"),
-            ParseError::NoMemory => write!(f, "out of memory"),
+            ParseError::NotNotation(_) => f.write_str("not a shape"),
+            ParseError::Refused(_, cause) => cause.fmt(f),
+            ParseError::NoMemory => f.write_str("out of memory"),
         }
     }
 }

@@ -2,6 +2,7 @@
 #![tactic(auto)]
 
 mod distinct;
+mod equality;
 mod error;
 mod form;
 mod leaf;

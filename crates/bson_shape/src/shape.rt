@@ -33,7 +33,7 @@ enum Node {
 
 /// A field of a struct.
 #[cycle(shape)]
-#[derive(Debug, Drop)]
+#[derive(Debug, Drop, PartialEq)]
 pub struct FieldShape {
     /// The key that the field has in a document.
     pub name: String,
@@ -145,3 +145,6 @@ fn deepest(fields: &[FieldShape]) -> u16
     }
     levels
 }
+
+#[cfg(test)]
+mod tests;

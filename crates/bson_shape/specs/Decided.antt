@@ -1,0 +1,48 @@
+-- `same` decides whether two forms are equal.
+use Rattle.std.proofs.Common.{◌≡◌, true, refl, ap, subst}
+use Rattle.std.specs.Prelude.{◌&&◌}
+use Rattle.std.specs.Bool.{Decides}
+use Rattle.std.specs.Str.{bytes_eq}
+use Rattle.std.specs.Cmp.{IsPartialEquivalence, partial_equiv_from_equiv, decided}
+use Rattle.std.proofs.lemmas.Bool.{and_parts, and_from, false≢true}
+use Rattle.std.proofs.lemmas.Slice.Eq.{bytes_eq-Decides}
+use denote.Enum.Bare.{same_true, true_same}
+use Rattle.bson_base.specs.Text.{Utf8}
+use Rattle.bson_shape.specs.Form.{Form, leaf, structure, Fields, no_fields, field}
+use Rattle.bson_shape.specs.Same.{same, same_fields}
+use Rattle.bson_shape.specs.contracts.leaf.Leaf as leaf_type
+
+bytes_alike : (name : Utf8) → bytes_eq name name ≡ true
+bytes_alike name = (bytes_eq-Decides name name).1 refl
+
+mutual
+  same_is : (f g : Form) → same f g ≡ true → f ≡ g
+  same_is (leaf l) (leaf m) e = ap leaf (same_true leaf_type.the_type tt l m e)
+  same_is (structure name fs) (structure n gs) e =
+      let b = and_parts (bytes_eq name n) (same_fields fs gs) e in
+      λ i. structure ((bytes_eq-Decides name n).0 b.0 i) (fields_are fs gs b.1 i)
+  same_is f g e = absurd (false≢true e)
+
+  fields_are : (fs gs : Fields) → same_fields fs gs ≡ true → fs ≡ gs
+  fields_are no_fields no_fields e = refl
+  fields_are (field name f fs) (field n g gs) e =
+      let b = and_parts (bytes_eq name n) (same f g && same_fields fs gs) e in
+      let d = and_parts (same f g) (same_fields fs gs) b.1 in
+      λ i. field ((bytes_eq-Decides name n).0 b.0 i) (same_is f g d.0 i) (fields_are fs gs d.1 i)
+  fields_are fs gs e = absurd (false≢true e)
+
+mutual
+  same_itself : (f : Form) → same f f ≡ true
+  same_itself (leaf l) = true_same leaf_type.the_type l l refl
+  same_itself (structure name fs) = and_from _ _ (bytes_alike name) (fields_alike fs)
+
+  fields_alike : (fs : Fields) → same_fields fs fs ≡ true
+  fields_alike no_fields = refl
+  fields_alike (field name f fs) = and_from _ _ (bytes_alike name) (and_from _ _ (same_itself f) (fields_alike fs))
+
+pub same_decides : (f g : Form) → Decides (same f g) (f ≡ g)
+same_decides f g = (same_is f g, λ e. subst (λ h. same f h ≡ true) e (same_itself f))
+
+-- the laws of `==`
+pub same_laws : IsPartialEquivalence same
+same_laws = partial_equiv_from_equiv (decided same same_decides)

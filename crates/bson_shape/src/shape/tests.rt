@@ -1,0 +1,103 @@
+// What no clause says: that the makers make a shape of input that a person would give, and what the refusals print.
+use crate::{FieldShape, Form, Leaf, ParseError, Shape, ShapeError};
+use std::alloc::{AllocError, Global};
+use std::test::Fail;
+
+/// A field of the shape `i32`.
+fn number(alloc: Global, name: &str) -> Result<FieldShape, AllocError> {
+    Ok(FieldShape {
+        name: String::from_str(alloc, name)?,
+        shape: Shape::i32(),
+    })
+}
+
+/// A struct of this name with such fields.
+fn numbers(
+    alloc: Global,
+    name: &str,
+    fields: &[&str],
+) -> Result<Result<Shape, ShapeError>, AllocError> {
+    let mut shapes = Vec::new(alloc);
+    for field in fields {
+        shapes.push(number(alloc, field)?)?;
+    }
+    Ok(Shape::structure(String::from_str(alloc, name)?, shapes))
+}
+
+/// A shape of this many levels: structs of one field around an `i32`.
+fn nested(alloc: Global, levels: usize) -> Result<Result<Shape, ShapeError>, AllocError> {
+    let mut shape = Shape::i32();
+    for _ in 1..levels {
+        let name = String::from_str(alloc, "a")?;
+        let fields = vec![in alloc; FieldShape { name, shape }]?;
+        shape = match Shape::structure(String::new(alloc), fields) {
+            Ok(shape) => shape,
+            Err(e) => return Ok(Err(e)),
+        };
+    }
+    Ok(Ok(shape))
+}
+
+#[test]
+fn makes_shapes(rt: HostRuntime) -> Result<(), Fail> {
+    let alloc = rt.alloc();
+    let leaf = Shape::leaf(Leaf::I32);
+    assert!(rt; matches!(leaf.form(), Form::Leaf(Leaf::I32)));
+    leaf.known();
+    let point = numbers(alloc, "Point", &["x", "y"])??;
+    let Form::Struct(name, fields) = point.form() else {
+        return Err(Fail::from("no struct"));
+    };
+    assert_eq!(rt; name, "Point");
+    assert_eq!(rt; fields.len(), 2);
+    assert!(rt; point == numbers(alloc, "Point", &["x", "y"])??);
+    assert!(rt; point != numbers(alloc, "Point", &["x", "z"])??);
+    Ok(())
+}
+
+#[test]
+fn refuses_shapes(rt: HostRuntime) -> Result<(), Fail> {
+    let alloc = rt.alloc();
+    assert_eq!(rt;
+        numbers(alloc, "$oid", &["a", "a"])?.err(),
+        Some(ShapeError::ReservedName)
+    );
+    let twenty = [
+        "a", "b", "c", "d", "e", "f", "g", "h", "i", "j", "k", "l", "m", "n", "o", "p", "q", "r",
+        "s", "t",
+    ];
+    assert!(rt; numbers(alloc, "", &twenty)?.is_ok());
+    let mut twice = twenty;
+    twice[19] = "a";
+    assert_eq!(rt;
+        numbers(alloc, "", &twice)?.err(),
+        Some(ShapeError::RepeatedName)
+    );
+    assert!(rt; nested(alloc, 512)?.is_ok());
+    assert_eq!(rt; nested(alloc, 513)?.err(), Some(ShapeError::TooDeep));
+    Ok(())
+}
+
+#[test]
+fn prints_refusals(rt: HostRuntime) -> Result<(), Fail> {
+    let alloc = rt.alloc();
+    for (refusal, text) in [
+        (ParseError::NotNotation(3), "not a shape"),
+        (
+            ParseError::Refused(0, ShapeError::ReservedName),
+            "reserved name",
+        ),
+        (
+            ParseError::Refused(0, ShapeError::RepeatedName),
+            "repeated name",
+        ),
+        (
+            ParseError::Refused(0, ShapeError::TooDeep),
+            "shape deeper than 512 levels",
+        ),
+        (ParseError::NoMemory, "out of memory"),
+    ] {
+        assert_eq!(rt; format!(in alloc; "{refusal}")?.as_str(), text);
+    }
+    Ok(())
+}
