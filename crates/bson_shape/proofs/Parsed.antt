@@ -1,5 +1,5 @@
 -- The clauses of `parse`, from what the machine answers.
-use Rattle.std.proofs.Common.{◌≡◌, ℕ, ◌++◌, Option, Some, Result, Ok, Err, refl, sym, ap, subst, ◌∙◌}
+use Rattle.std.proofs.Common.{◌≡◌, ℕ, Some, Result, Ok, Err, ap, subst, ◌∙◌}
 use Rattle.std.specs.Prelude.{IfOk}
 use Rattle.std.specs.Str.{IsUtf8}
 use Rattle.bson_base.specs.Text.{Utf8}
@@ -8,7 +8,7 @@ use Rattle.bson_shape.specs.Makers.{IsShape}
 use Rattle.bson_shape.specs.Notation.{text}
 use Rattle.bson_shape.specs.FirstRefusal.{MakerRefusal}
 use Rattle.bson_shape.specs.Machine.{Refusal, Not_notation, Refused, parsed}
-use Rattle.bson_shape.specs.Answers.{error_of, Fails, Gives}
+use Rattle.bson_shape.specs.Answers.{error_of, Gives}
 use Rattle.bson_shape.specs.Fronts.{IsMet, IsNotNotationAt, IsRefusedAt}
 use Rattle.bson_shape.specs.declared.error.ParseError.{ParseError}
 use Rattle.bson_shape.specs.declared.error.ParseError.TheVariants as errors

@@ -5,7 +5,6 @@ use Rattle.bson_shape.specs.Form.{Form, leaf, structure, Fields, no_fields, fiel
 use Rattle.bson_shape.specs.Levels.{max_shape_levels}
 use Rattle.bson_shape.specs.Makers.{repeats}
 use Rattle.bson_shape.specs.Notation.{text, name_text, struct_name_text}
-use Rattle.bson_shape.specs.FirstRefusal.{MakerRefusal}
 use Rattle.bson_shape.specs.declared.error.ShapeError.{ShapeError}
 use Rattle.bson_shape.specs.declared.error.ShapeError.TheVariants.{ReservedName, RepeatedName, TooDeep}
 

@@ -71,16 +71,25 @@ fn refuses_what_a_maker_refuses(rt: HostRuntime) -> Result<(), Fail> {
     let alloc = rt.alloc();
     for (text, place) in [("{a:i32,a:i32}", 0), ("{a:N{b:i32,b:i32}?", 3)] {
         let refusal = Shape::parse(alloc, text).err();
-        assert_eq!(rt; refusal, Some(ParseError::Refused(place, ShapeError::RepeatedName)));
+        assert_eq!(rt;
+            refusal,
+            Some(ParseError::Refused(place, ShapeError::RepeatedName))
+        );
     }
     for (text, place) in [("\"$oid\"{}", 0), ("{a:\"$oid\"{b:i32,b:i32}}", 3)] {
         let refusal = Shape::parse(alloc, text).err();
-        assert_eq!(rt; refusal, Some(ParseError::Refused(place, ShapeError::ReservedName)));
+        assert_eq!(rt;
+            refusal,
+            Some(ParseError::Refused(place, ShapeError::ReservedName))
+        );
     }
     let deepest = nested(alloc, 512)?;
     assert!(rt; Shape::parse(alloc, deepest.as_str()).is_ok());
     let deeper = nested(alloc, 513)?;
     let refusal = Shape::parse(alloc, deeper.as_str()).err();
-    assert_eq!(rt; refusal, Some(ParseError::Refused(1536, ShapeError::TooDeep)));
+    assert_eq!(rt;
+        refusal,
+        Some(ParseError::Refused(1536, ShapeError::TooDeep))
+    );
     Ok(())
 }
