@@ -1,14 +1,12 @@
 -- The bytes of one character are read.
-use Rattle.std.proofs.Common.{◌≡◌, ℕ, ◌+◌, ◌/◌, ◌%◌, ◌≤◌, ◌<◌, Bool, true, false, cond, eqb, ◌||◌, List, [], ◌∷◌, ◌++◌, length, Result, Ok, Err, refl, sym, ap, subst, ◌∙◌, arith, append_assoc, append-nil}
-use Rattle.std.specs.Prelude.{nat_le, nat_lt}
+use Rattle.std.proofs.Common.{◌≡◌, ℕ, ◌+◌, ◌/◌, ◌%◌, ◌≤◌, ◌<◌, Bool, true, false, cond, eqb, List, [], ◌∷◌, ◌++◌, length, Result, Ok, Err, refl, sym, ap, subst, ◌∙◌, arith, append_assoc, append-nil}
 use lib.Utf8.{encode}
 use lib.Dec.{ltb}
 use Rattle.std.proofs.lemmas.Str.{encode_ascii, length-encode, len_utf8_bounds}
 use Rattle.bson_base.specs.Text.{Utf8}
 use Rattle.bson_shape.specs.Notation.{begins_bare, in_bare, is_escaped}
-use Rattle.bson_shape.specs.Machine.{Refusal, Not_notation, Refused, Open, Level, Owner, Form_at, Field_of, Mode, Form_due, First_field, Field_due, Bare, Quoted, Escape, Named, Done, State, ◌>>=◌, form_ended, begins_name, begins_form, form_due, field_due, first_field, named, word_ended, leaf_ended, bare_name, quoted_name, escape, step, other_character, run}
-use Rattle.bson_shape.proofs.Words.{differs}
-use Rattle.bson_shape.proofs.NameRuns.{run_step, run_refused, same_run}
+use Rattle.bson_shape.specs.Machine.{Refusal, Not_notation, Level, Owner, Form_at, Field_of, Mode, Form_due, First_field, Field_due, Bare, Quoted, Escape, Named, Done, State, ◌>>=◌, form_ended, begins_name, begins_form, form_due, field_due, first_field, named, word_ended, leaf_ended, bare_name, quoted_name, escape, step, other_character, run}
+use Rattle.bson_shape.proofs.NameRuns.{run_step, run_refused}
 use Rattle.std.proofs.lemmas.Bool.Decides.{nat_tests}
 use Rattle.bson_shape.specs.Answers.{Gives}
 use Rattle.bson_shape.specs.declared.error.ParseError.{ParseError}

@@ -1,9 +1,9 @@
 -- From each state some notation goes on.
-use Rattle.std.proofs.Common.{◌≡◌, ℕ, ◌+◌, Bool, true, false, ◌&&◌, ◌||◌, cond, List, [], ◌∷◌, ◌++◌, refl, sym, ap, subst, ◌∙◌, append_assoc, append-nil, arith}
+use Rattle.std.proofs.Common.{◌≡◌, ℕ, Bool, true, false, ◌&&◌, List, [], ◌∷◌, ◌++◌, refl, sym, ap, subst, ◌∙◌, append_assoc, append-nil, arith}
 use Rattle.std.specs.List.{list_all}
 use Rattle.std.specs.Str.{is_utf8}
 use Rattle.bson_base.specs.Text.{Utf8}
-use Rattle.bson_shape.specs.Form.{Form, structure, Fields, no_fields, field}
+use Rattle.bson_shape.specs.Form.{Form, structure, no_fields}
 use Rattle.bson_shape.specs.Notation.{begins_bare, in_bare, bare, escaped, quoted, name_text, struct_name_text, text}
 use Rattle.bson_shape.specs.Machine.{Open, Level, Owner, Form_at, Field_of, Mode, Form_due, First_field, Field_due, Bare, Quoted, Escape, Named, Done, State, grown, is_unwritten}
 use Rattle.bson_shape.specs.Fronts.{HasTextNames, BeginsNotation}

@@ -1,10 +1,10 @@
 -- What the machine answers on the text of a form: its first refusal, or the state behind it.
-use Rattle.std.proofs.Common.{◌≡◌, ℕ, ◌+◌, suc, Bool, true, false, cond, eqb, ◌||◌, List, [], ◌∷◌, ◌++◌, length, Option, Some, None, Result, Ok, Err, refl, sym, ap, ◌∙◌, subst, arith, append_assoc, append-nil, length-append}
+use Rattle.std.proofs.Common.{◌≡◌, ℕ, ◌+◌, Bool, true, false, cond, eqb, ◌||◌, List, [], ◌∷◌, ◌++◌, length, Option, Some, None, Result, Ok, Err, refl, sym, ap, ◌∙◌, subst, arith, append_assoc, append-nil, length-append}
 use Rattle.std.specs.Prelude.{nat_le, nat_lt, is_some}
 use Rattle.bson_base.specs.Text.{Utf8}
 use Rattle.bson_base.specs.Reserved.{reserved_kind}
 use Rattle.bson_shape.specs.Form.{Form, leaf, structure, Fields, no_fields, field}
-use Rattle.bson_shape.specs.Leaf.{word, of_word}
+use Rattle.bson_shape.specs.Leaf.{word}
 use Rattle.bson_shape.specs.declared.leaf.Leaf.{Leaf}
 use Rattle.bson_shape.specs.Levels.{levels, max_shape_levels}
 use Rattle.bson_shape.specs.Makers.{made_structure, repeats}
@@ -12,8 +12,8 @@ use Rattle.bson_shape.specs.declared.error.ShapeError.{ShapeError}
 use Rattle.bson_shape.specs.declared.error.ShapeError.TheVariants.{ReservedName, RepeatedName, TooDeep}
 use Rattle.std.specs.List.{list_all}
 use Rattle.bson_shape.specs.Notation.{begins_bare, in_bare, bare, escaped, quoted, name_text, struct_name_text, after_commas, listed, text, field_texts}
-use Rattle.bson_shape.specs.FirstRefusal.{MakerRefusal, or_else, too_deep, refusal_of, first_refusal, fields_refusal}
-use Rattle.bson_shape.specs.Machine.{Refusal, Not_notation, Refused, Open, Level, Owner, Form_at, Field_of, Mode, Form_due, First_field, Field_due, Bare, Named, Done, State, ◌>>=◌, with_fields, opened, grown, made, closed, form_ended, begins_name, name_begun, begins_form, form_begun, form_due, field_due, first_field, leaf_ended, word_ended, bare_name, is_unwritten, step, run}
+use Rattle.bson_shape.specs.FirstRefusal.{MakerRefusal, or_else, refusal_of, first_refusal, fields_refusal}
+use Rattle.bson_shape.specs.Machine.{Refusal, Refused, Open, Level, Form_at, Field_of, Mode, Form_due, First_field, Field_due, Bare, Named, Done, State, ◌>>=◌, with_fields, opened, grown, made, closed, form_ended, begins_name, name_begun, begins_form, form_begun, form_due, field_due, first_field, word_ended, bare_name, is_unwritten, step, run}
 use Rattle.bson_shape.proofs.Words.{and_true, differs, of_word-word, bare-word}
 use Rattle.bson_shape.proofs.NameRuns.{run_step, run_refused, same_run, name_mode, BeginsName, name_read, colon_step, brace_step}
 

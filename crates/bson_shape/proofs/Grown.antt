@@ -1,6 +1,6 @@
 -- The fields of a struct, as the parser collects them.
 use Rattle.std.proofs.Common.{◌≡◌, List, [], ◌∷◌, ◌++◌, refl, ap, string_bytes}
-use Rattle.bson_shape.specs.Form.{Fields, no_fields, field}
+use Rattle.bson_shape.specs.Form.{no_fields, field}
 use Rattle.bson_shape.specs.ShapeView.{fields_of}
 use Rattle.bson_shape.specs.Machine.{with_fields}
 use Rattle.bson_shape.specs.declared.shape.FieldShape.{FieldShape}

@@ -16,4 +16,5 @@ pub mod Texts
 pub mod Completions
 pub mod Stops
 pub mod Places
+pub mod Faults
 pub mod Parsed

@@ -1,5 +1,5 @@
 -- The clauses of `parse`, from what the machine answers.
-use Rattle.std.proofs.Common.{◌≡◌, ℕ, ◌++◌, Option, Some, Result, Ok, Err, refl, sym, ap, subst, ◌∙◌}
+use Rattle.std.proofs.Common.{◌≡◌, ℕ, Some, Result, Ok, Err, ap, subst, ◌∙◌}
 use Rattle.std.specs.Prelude.{IfOk}
 use Rattle.std.specs.Str.{IsUtf8}
 use Rattle.bson_base.specs.Text.{Utf8}
@@ -8,12 +8,13 @@ use Rattle.bson_shape.specs.Makers.{IsShape}
 use Rattle.bson_shape.specs.Notation.{text}
 use Rattle.bson_shape.specs.FirstRefusal.{MakerRefusal}
 use Rattle.bson_shape.specs.Machine.{Refusal, Not_notation, Refused, parsed}
-use Rattle.bson_shape.specs.Answers.{error_of, Fails, Gives}
+use Rattle.bson_shape.specs.Answers.{error_of, Gives}
 use Rattle.bson_shape.specs.Fronts.{IsMet, IsNotNotationAt, IsRefusedAt}
 use Rattle.bson_shape.specs.declared.error.ParseError.{ParseError}
 use Rattle.bson_shape.specs.declared.error.ParseError.TheVariants as errors
 use Rattle.bson_shape.specs.declared.error.ShapeError.{ShapeError}
 use Rattle.bson_shape.proofs.Texts.{parsed-shape}
+use Rattle.bson_shape.proofs.Faults.{refusal_fault}
 use Rattle.bson_shape.proofs.Places.{parsed_text, parsed_met, parsed_place, met_parsed}
 
 -- the refusal that an error tells of
@@ -44,7 +45,10 @@ placed bytes (Err (errors.Refused q c)) u given p e = absurd cc
 placed bytes (Err (errors.NotNotation q)) u given p e = let same : q ≡ p = cc in subst (IsNotNotationAt bytes) same (parsed_place bytes u q (place_of (parsed bytes) q given))
 
 refused_at : (bytes : Utf8) → IsUtf8 bytes → (p : ℕ) (c : ShapeError) → error_of (parsed bytes) ≡ Some (errors.Refused p c) → IsRefusedAt bytes p c
-refused_at bytes u p c e = let x = maker_of (parsed bytes) p c e in record { met = x.0; is_met = parsed_met bytes u _ x.1 }
+refused_at bytes u p c e =
+    let x = maker_of (parsed bytes) p c e in
+    let m = parsed_met bytes u (record { met = x.0; place = p; cause = c }) x.1 in
+    record { met = x.0; is_met = m; fault = refusal_fault m.form (record { met = x.0; place = p; cause = c }) m.first }
 
 pub refused : (bytes : Utf8) (r : Result Form ParseError) → IsUtf8 bytes → Gives (λ f. f) r (parsed bytes) → (p : ℕ) (c : ShapeError) → r ≡ Err (errors.Refused p c) → IsRefusedAt bytes p c
 refused bytes (Ok f) u given p c e = absurd cc

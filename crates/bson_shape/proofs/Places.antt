@@ -1,8 +1,6 @@
 -- What the answer of the machine says of the text.
-use Rattle.std.proofs.Common.{◌≡◌, ℕ, ◌+◌, ◌≤◌, ◌<◌, Bool, true, false, List, [], ◌∷◌, ◌++◌, length, take, drop, Option, Some, None, Result, Ok, Err, refl, sym, ap, subst, ◌∙◌, append_assoc, append-nil, length-append, length-take, take_all, arith, inl, inr}
-use Rattle.std.specs.Prelude.{◌⊎◌}
-use Rattle.std.specs.Str.{IsUtf8, is_utf8}
-use lib.Utf8.{scalars, encodes}
+use Rattle.std.proofs.Common.{◌≡◌, ℕ, ◌+◌, ◌<◌, List, [], ◌∷◌, ◌++◌, length, take, drop, Option, Some, None, Result, Ok, Err, refl, sym, ap, subst, ◌∙◌, append_assoc, length-append, length-take, take_all, arith, inl, inr}
+use Rattle.std.specs.Str.{IsUtf8}
 use Rattle.std.proofs.lemmas.List.{take-append-drop}
 use Rattle.bson_base.specs.Text.{Utf8}
 use Rattle.bson_shape.specs.Form.{Form, leaf}
@@ -10,13 +8,13 @@ use Rattle.bson_shape.specs.Leaf.{of_word}
 use Rattle.bson_shape.specs.declared.leaf.Leaf.{Leaf}
 use Rattle.bson_shape.specs.Notation.{text}
 use Rattle.bson_shape.specs.FirstRefusal.{MakerRefusal, first_refusal}
-use Rattle.bson_shape.specs.Machine.{Refusal, Not_notation, Refused, Open, Level, Owner, Form_at, Field_of, Mode, Form_due, First_field, Field_due, Bare, Quoted, Escape, Named, Done, State, ◌>>=◌, last_leaf, step, run, finish, parsed}
+use Rattle.bson_shape.specs.Machine.{Refusal, Not_notation, Refused, Level, Form_at, Field_of, Mode, Form_due, First_field, Field_due, Bare, Quoted, Escape, Named, Done, State, ◌>>=◌, last_leaf, run, finish, parsed}
 use Rattle.bson_shape.specs.Fronts.{BeginsNotation, IsLongestFront, IsMet, IsNotNotationAt}
 use Rattle.bson_shape.proofs.Words.{of_word-is}
 use Rattle.bson_shape.proofs.Texts.{judged, parsed-text}
 use Rattle.bson_shape.proofs.TextStates.{TextState}
-use Rattle.bson_shape.proofs.States.{written, ValidMode}
-use Rattle.bson_shape.proofs.Steps.{Refuses, Leaves, StopsAt, step_leaves}
+use Rattle.bson_shape.proofs.States.{written}
+use Rattle.bson_shape.proofs.Steps.{Leaves, StopsAt, step_leaves}
 use Rattle.bson_shape.proofs.Completions.{begins_written}
 use Rattle.bson_shape.proofs.Stops.{bound, bound_err, run_takes, run_refuses, Stops, stopped, run_stops, TextStops, text_stops, text_taken}
 

@@ -1,18 +1,16 @@
 -- What the printer writes.
-use Rattle.std.proofs.Common.{◌≡◌, ℕ, zero, suc, ◌+◌, ◌<◌, ◌≤◌, Bool, true, false, cond, eqb, ◌||◌, List, [], ◌∷◌, ◌++◌, length, get_or, take, drop, refl, sym, ap, subst, ◌∙◌, arith, append_assoc, append-nil, take_all, length-take, string_bytes, inl, inr}
+use Rattle.std.proofs.Common.{◌≡◌, ℕ, zero, suc, ◌+◌, ◌<◌, ◌≤◌, Bool, true, false, cond, List, [], ◌∷◌, ◌++◌, length, get_or, take, drop, refl, sym, ap, ◌∙◌, arith, append_assoc, take_all, length-take, string_bytes}
 use Rattle.std.specs.Prelude.{nat_lt}
 use Rattle.std.proofs.lemmas.Bool.Decides.{nat_tests}
-use Rattle.std.proofs.lemmas.Bool.{eqb-true}
 use Rattle.std.proofs.lemmas.List.{take_more}
 use Rattle.std.proofs.lemmas.Str.{encode_ascii}
 use lib.Utf8.{encode, encodes}
 use Rattle.bson_base.specs.Text.{Utf8}
-use Rattle.bson_shape.specs.Form.{Form, structure, Fields, no_fields, field}
+use Rattle.bson_shape.specs.Form.{structure}
 use Rattle.bson_shape.specs.ShapeView.{fields_of}
 use Rattle.bson_shape.specs.declared.shape.FieldShape.{FieldShape}
 use Rattle.bson_shape.specs.Notation.{is_escaped, escaped, name_text, struct_name_text, listed, text, field_texts}
 use Rattle.bson_shape.specs.PrinterView.{comma_at}
-use Rattle.bson_shape.proofs.Words.{or_false, differs}
 use Rattle.bson_shape.proofs.States.{sep, listed-snoc}
 use Rattle.bson_shape.proofs.Steps.{escaped-append}
 use Rattle.bson_shape.proofs.CharRuns.{AreHigh, high_encode, not_escaped}

@@ -1,26 +1,25 @@
 -- A byte that is taken is written behind what was read; a byte that is refused is refused at its place.
-use Rattle.std.proofs.Common.{◌≡◌, ℕ, ◌+◌, Bool, true, false, cond, eqb, ◌&&◌, ◌||◌, List, [], ◌∷◌, ◌++◌, length, Option, Some, None, Result, Ok, Err, refl, sym, ap, subst, ◌∙◌, append_assoc, append-nil}
+use Rattle.std.proofs.Common.{◌≡◌, ℕ, Bool, true, false, cond, eqb, ◌&&◌, ◌||◌, List, [], ◌∷◌, ◌++◌, length, Option, Some, None, Result, Ok, Err, refl, sym, ap, subst, ◌∙◌, append_assoc, append-nil}
 use Rattle.std.specs.List.{list_all}
 use Rattle.std.specs.Prelude.{nat_le, nat_lt, is_some}
 use Rattle.std.proofs.lemmas.Bool.{eqb-true}
 use Rattle.bson_base.specs.Text.{Utf8}
 use Rattle.bson_base.specs.Reserved.{reserved_kind}
-use Rattle.bson_shape.specs.Form.{Form, leaf, structure, Fields, no_fields, field}
-use Rattle.bson_shape.specs.Leaf.{word, of_word}
+use Rattle.bson_shape.specs.Form.{Form, leaf, structure}
+use Rattle.bson_shape.specs.Leaf.{of_word}
 use Rattle.bson_shape.specs.declared.leaf.Leaf.{Leaf}
 use Rattle.bson_shape.specs.Levels.{levels, max_shape_levels}
-use Rattle.bson_shape.specs.Makers.{made_structure, repeats}
-use Rattle.bson_shape.specs.declared.error.ShapeError.{ShapeError}
+use Rattle.bson_shape.specs.Makers.{repeats}
 use Rattle.bson_shape.specs.declared.error.ShapeError.TheVariants.{ReservedName, RepeatedName, TooDeep}
 use Rattle.bson_shape.specs.Notation.{begins_bare, in_bare, bare, is_escaped, escaped, quoted, name_text, text}
 use Rattle.bson_shape.specs.FirstRefusal.{MakerRefusal}
-use Rattle.bson_shape.specs.Machine.{Refusal, Not_notation, Refused, Open, Level, Owner, Form_at, Field_of, Mode, Form_due, First_field, Field_due, Bare, Quoted, Escape, Named, Done, State, with_fields, opened, grown, made, closed, form_ended, begins_name, name_begun, begins_form, form_begun, form_due, field_due, first_field, named, leaf_ended, word_ended, bare_name, is_unwritten, name_closed, quoted_name, escape, step}
+use Rattle.bson_shape.specs.Machine.{Refusal, Not_notation, Refused, Open, Level, Owner, Form_at, Field_of, Mode, Form_due, First_field, Field_due, Bare, Quoted, Escape, Named, Done, State, opened, grown, made, closed, form_ended, begins_name, name_begun, begins_form, form_begun, form_due, field_due, first_field, named, leaf_ended, word_ended, bare_name, is_unwritten, name_closed, quoted_name, escape, step}
 use Rattle.bson_shape.proofs.Words.{and_true, or_false, or_rest, of_word-is}
 use Rattle.std.specs.Str.{is_utf8}
 use Rattle.std.proofs.Common.{◌<◌}
 use Rattle.bson_shape.specs.Fronts.{HasTextNames}
 use Rattle.bson_shape.proofs.TextStates.{TextOpen, TextOwner, TextLevels, TextState, text-nil, text-one, text-push, texts-snoc}
-use Rattle.bson_shape.proofs.States.{sep, open_text, owner_text, levels_text, mode_text, written, ValidMode, sep-snoc, closed_text, levels_grown, struct_name-bare, name-bare, name-quoted, struct_name-quoted}
+use Rattle.bson_shape.proofs.States.{sep, open_text, owner_text, levels_text, written, ValidMode, sep-snoc, closed_text, levels_grown, struct_name-bare, name-bare, name-quoted, struct_name-quoted}
 
 -- the state after a byte
 pub record Takes (s : State) (b : ℕ) (t : State) : Type 0 where

@@ -1,16 +1,14 @@
 -- Where reading stops.
-use Rattle.std.proofs.Common.{◌≡◌, ℕ, ◌+◌, ◌≤◌, ◌<◌, Bool, true, false, List, [], ◌∷◌, ◌++◌, length, Option, Some, None, Result, Ok, Err, refl, sym, ap, subst, ◌∙◌, append_assoc, append-nil, length-append, arith, inl, inr}
+use Rattle.std.proofs.Common.{◌≡◌, ℕ, ◌+◌, ◌≤◌, ◌<◌, Bool, true, false, List, [], ◌∷◌, ◌++◌, length, Result, Ok, Err, refl, sym, ap, subst, ◌∙◌, append_assoc, append-nil, length-append, arith, inl, inr}
 use Rattle.std.specs.Prelude.{◌⊎◌, nat_lt}
 use Rattle.std.specs.Char.{IsScalar}
 use lib.Utf8.{scalar, scalars, encode, encodes}
 use Rattle.std.proofs.lemmas.Bool.Decides.{nat_tests}
 use Rattle.std.proofs.lemmas.Str.{encode_ascii, length-encode, len_utf8_bounds}
 use Rattle.bson_base.specs.Text.{Utf8}
-use Rattle.bson_shape.specs.Form.{Form}
-use Rattle.bson_shape.specs.Leaf.{of_word}
-use Rattle.bson_shape.specs.Machine.{Refusal, Not_notation, Refused, Open, Level, Owner, Form_at, Field_of, Mode, Form_due, First_field, Field_due, Bare, Quoted, Escape, Named, Done, State, ◌>>=◌, last_leaf, step, other_character, run, finish}
+use Rattle.bson_shape.specs.Machine.{Refusal, Not_notation, Level, Mode, Form_due, First_field, Field_due, Bare, Quoted, Escape, Named, Done, State, ◌>>=◌, step, other_character, run}
 use Rattle.bson_shape.proofs.Words.{and_true}
-use Rattle.bson_shape.proofs.TextStates.{TextState, TextOwner, text-append, text-encode}
+use Rattle.bson_shape.proofs.TextStates.{TextState, text-append, text-encode}
 use Rattle.bson_shape.proofs.States.{written, ValidMode}
 use Rattle.bson_shape.proofs.Steps.{Takes, Leaves, step_leaves}
 use Rattle.bson_shape.proofs.CharRuns.{AreHigh, high_encode, high_step, ascii_read, other_read}

@@ -1,11 +1,11 @@
 -- The names that a state of the machine has read are texts.
-use Rattle.std.proofs.Common.{◌≡◌, ℕ, ◌<◌, true, List, [], ◌∷◌, ◌++◌, refl, subst, ap}
+use Rattle.std.proofs.Common.{◌≡◌, ℕ, ◌<◌, true, List, [], ◌∷◌, ◌++◌, subst}
 use Rattle.std.specs.Str.{is_utf8}
 use Rattle.std.specs.Char.{IsScalar}
 use lib.Utf8.{encode, low_scalar}
 use Rattle.std.proofs.lemmas.Str.{IsUtf8-append, IsUtf8-encode, IsUtf8-nil, IsUtf8-from_is_utf8, is_utf8-from_IsUtf8, encode_ascii}
 use Rattle.bson_base.specs.Text.{Utf8}
-use Rattle.bson_shape.specs.Form.{Form, leaf, structure, Fields, no_fields, field}
+use Rattle.bson_shape.specs.Form.{Form, Fields, no_fields, field}
 use Rattle.bson_shape.specs.Machine.{Open, Level, Owner, Form_at, Field_of, Mode, Form_due, First_field, Field_due, Bare, Quoted, Escape, Named, Done, State, with_fields}
 use Rattle.bson_shape.specs.Fronts.{HasTextNames, HaveTextNames}
 use Rattle.std.proofs.Common.{arith}

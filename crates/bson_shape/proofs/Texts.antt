@@ -1,16 +1,14 @@
 -- The text of a form is read as that form, or refused as its first refusal says.
-use Rattle.std.proofs.Common.{◌≡◌, ℕ, ◌+◌, ◌≤◌, ◌<◌, Bool, true, false, List, [], ◌++◌, length, Option, Some, None, Result, Ok, Err, refl, sym, ap, ◌∙◌, arith}
+use Rattle.std.proofs.Common.{◌≡◌, ℕ, ◌+◌, ◌≤◌, ◌<◌, false, [], length, Option, Some, None, Result, Ok, Err, refl, sym, ap, ◌∙◌, arith}
 use Rattle.std.specs.Prelude.{nat_le}
 use Rattle.std.proofs.lemmas.List.{append-nil}
 use Rattle.std.proofs.lemmas.Bool.Decides.{nat_tests}
-use Rattle.bson_base.specs.Text.{Utf8}
 use Rattle.bson_shape.specs.Form.{Form, leaf, structure, Fields, no_fields, field}
-use Rattle.bson_shape.specs.Leaf.{word}
 use Rattle.bson_shape.specs.Levels.{levels, deepest}
 use Rattle.bson_shape.specs.Makers.{IsShape, AreShapes, made_structure}
 use Rattle.bson_shape.specs.Notation.{text, name_text, struct_name_text, listed, field_texts}
 use Rattle.bson_shape.specs.FirstRefusal.{MakerRefusal, or_else, too_deep, refusal_of, first_refusal, fields_refusal}
-use Rattle.bson_shape.specs.Machine.{Refusal, Refused, Form_due, State, ◌>>=◌, run, finish, parsed}
+use Rattle.bson_shape.specs.Machine.{Refusal, Refused, Form_due, ◌>>=◌, run, finish, parsed}
 use Rattle.bson_shape.proofs.Words.{of_word-word}
 use Rattle.bson_shape.proofs.Made.{made_structure-IsStruct}
 use Rattle.bson_shape.proofs.Shapes.{levels_few}

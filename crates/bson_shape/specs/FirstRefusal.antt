@@ -1,6 +1,5 @@
 -- The first refusal of a maker that is met in reading a notation from left to right.
 use Rattle.std.specs.Prelude.{ℕ, ◌+◌, nat_le, if◌then◌else◌, length, Option, Some, None, Result, Ok, Err}
-use Rattle.bson_base.specs.Text.{Utf8}
 use Rattle.bson_shape.specs.Form.{Form, leaf, structure, Fields, no_fields, field}
 use Rattle.bson_shape.specs.Levels.{max_shape_levels}
 use Rattle.bson_shape.specs.Makers.{made_structure}

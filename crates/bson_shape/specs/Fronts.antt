@@ -5,6 +5,7 @@ use Rattle.bson_base.specs.Text.{Utf8}
 use Rattle.bson_shape.specs.Form.{Form, leaf, structure, Fields, no_fields, field}
 use Rattle.bson_shape.specs.Notation.{text}
 use Rattle.bson_shape.specs.FirstRefusal.{MakerRefusal, first_refusal}
+use Rattle.bson_shape.specs.InnerForms.{HasFault}
 use Rattle.bson_shape.specs.declared.error.ShapeError.{ShapeError}
 
 abbrev mutual
@@ -48,3 +49,4 @@ pub record IsNotNotationAt (bytes : Utf8) (place : ℕ) : Type 0 where
 pub record IsRefusedAt (bytes : Utf8) (place : ℕ) (cause : ShapeError) : Type 0 where
   pub met : ℕ
   pub is_met : IsMet bytes (record { met = met; place = place; cause = cause })
+  pub fault : HasFault is_met.form place cause

@@ -3,6 +3,7 @@ pub mod Form
 pub mod Notation
 pub mod FirstRefusal
 pub mod Machine
+pub mod InnerForms
 pub mod Fronts
 pub mod Levels
 pub mod Makers

@@ -101,12 +101,7 @@ fn closed(opened: Open, levels: &Vec<Level>, at: usize) -> Result<Mode, ParseErr
 
 /// Behind a form.
 #[tactic(auto, unfolding(crate::specs::Machine::form_ended))]
-fn form_ended(
-    shape: Shape,
-    levels: &mut Vec<Level>,
-    at: usize,
-    b: u8,
-) -> Result<Mode, ParseError>
+fn form_ended(shape: Shape, levels: &mut Vec<Level>, at: usize, b: u8) -> Result<Mode, ParseError>
     ensures { Gives (λ m. (mode_view m, levels_view levels.new.items)) result (machine.form_ended at shape (levels_view levels.old.items) b) }
 {
     match levels.pop() {
@@ -368,12 +363,7 @@ fn step(
 
 /// A character that is not ASCII, at a place.
 #[tactic(auto, unfolding(crate::specs::Machine::other_character))]
-fn other_character(
-    mode: Mode,
-    levels: &Vec<Level>,
-    at: usize,
-    c: char,
-) -> Result<Mode, ParseError>
+fn other_character(mode: Mode, levels: &Vec<Level>, at: usize, c: char) -> Result<Mode, ParseError>
     ensures { Gives (λ m. (mode_view m, levels_view levels.now.items)) result (machine.other_character at (mode_view mode) (levels_view levels.now.items) (encode_utf8 c)) }
 {
     match mode {
@@ -409,11 +399,7 @@ fn read_character(
 }
 
 /// All the characters.
-fn read_characters(
-    alloc: Global,
-    text: &str,
-    levels: &mut Vec<Level>,
-) -> Result<Mode, ParseError>
+fn read_characters(alloc: Global, text: &str, levels: &mut Vec<Level>) -> Result<Mode, ParseError>
     requires { levels.old.items ≡ [] }
     ensures { Gives (λ m. (mode_view m, levels_view levels.new.items)) result (machine.run 0 (machine.Form_due, []) text.now) }
 {

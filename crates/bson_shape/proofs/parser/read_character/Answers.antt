@@ -1,4 +1,4 @@
-use Rattle.std.proofs.Common.{rules, arith}
+use Rattle.std.proofs.Common.{arith}
 use Rattle.std.proofs.lemmas.Grind.{common_steps}
 use Rattle.bson_shape.specs.ParserView.{mode_view, levels_view}
 use Rattle.bson_shape.proofs.CharRuns.{ascii_read, other_read, gives_same}

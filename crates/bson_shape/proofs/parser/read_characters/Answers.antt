@@ -1,12 +1,11 @@
-use Rattle.std.proofs.Common.{◌≡◌, ◌+◌, ◌<◌, ◌++◌, ◌∷◌, [], refl, ap, sym, ◌∙◌, length, drop, get_or, arith}
+use Rattle.std.proofs.Common.{◌≡◌, ◌+◌, ◌++◌, ◌∷◌, [], refl, ap, length, arith}
 use Rattle.std.specs.Str.{chars}
-use lib.Utf8.{encodes}
 use Rattle.std.proofs.lemmas.Str.{encodes-chars}
 use Rattle.std.proofs.lemmas.Iterator.{YieldsList-from_chars}
 use Rattle.std.proofs.lemmas.Iterator.Consumers.{YieldsList-turn, YieldsList-end}
 use Rattle.std.proofs.lemmas.List.{length_push}
 use Rattle.std.proofs.lemmas.Result.{err_from_is_err_and}
-use Rattle.bson_shape.specs.Machine.{run, Form_due, State}
+use Rattle.bson_shape.specs.Machine.{State}
 use Rattle.bson_shape.specs.ParserView.{mode_view, levels_view}
 use Rattle.bson_shape.proofs.Loop.{goes_on, ends, is_done, place_more}
 use Rattle.bson_shape.proofs.parser.read_characters.Goals as goal

@@ -1,4 +1,4 @@
-use Rattle.std.proofs.Common.{◌≡◌, ◌+◌, ◌<◌, ◌++◌, ◌∷◌, [], ap, sym, ◌∙◌, subst, length, arith, string_bytes}
+use Rattle.std.proofs.Common.{◌≡◌, ◌<◌, ◌++◌, ◌∷◌, [], ap, sym, ◌∙◌, subst, arith, string_bytes}
 use Rattle.bson_shape.specs.ShapeView.{form_view, fields_of, nodes, fields_nodes}
 use Rattle.bson_shape.specs.Notation.{name_text}
 use Rattle.bson_shape.specs.PrinterView.{comma_at}

@@ -1,4 +1,4 @@
-use Rattle.std.proofs.Common.{◌≡◌, ◌+◌, ◌++◌, ◌∷◌, [], refl, ap, sym, ◌∙◌, length, drop, string_bytes, append-nil, arith, drop_of_length-le}
+use Rattle.std.proofs.Common.{◌≡◌, ◌+◌, ◌++◌, ◌∷◌, [], ap, sym, ◌∙◌, length, string_bytes, append-nil, arith, drop_of_length-le}
 use Rattle.std.specs.Str.{chars}
 use lib.Utf8.{encodes}
 use Rattle.std.proofs.lemmas.Str.{encodes-chars}

@@ -1,0 +1,129 @@
+-- A first refusal comes at a form of which its cause holds.
+use Rattle.std.proofs.Common.{◌≡◌, ℕ, ◌+◌, ◌≤◌, ◌<◌, Bool, true, false, cond, List, [], ◌∷◌, ◌++◌, length, Option, Some, None, Ok, Err, refl, subst, arith, inl, inr}
+use Rattle.std.specs.Prelude.{◌⊎◌, nat_le, nat_lt, is_some, Contains}
+use Rattle.std.proofs.lemmas.Bool.Decides.{nat_tests}
+use Rattle.std.proofs.lemmas.List.Elements.{Contains-append_left, Contains-append_right}
+use Rattle.bson_base.specs.Text.{Utf8}
+use Rattle.bson_base.specs.Reserved.{reserved_kind}
+use Rattle.bson_shape.specs.Form.{Form, leaf, structure, Fields, no_fields, field}
+use Rattle.bson_shape.specs.Levels.{levels, deepest}
+use Rattle.bson_shape.specs.Makers.{made_structure, repeats}
+use Rattle.bson_shape.specs.Notation.{text, name_text, struct_name_text, listed, field_texts}
+use Rattle.bson_shape.specs.FirstRefusal.{MakerRefusal, or_else, too_deep, refusal_of, first_refusal, fields_refusal}
+use Rattle.bson_shape.specs.InnerForms.{Inner, inner_forms, field_forms, HasCause, HasFault}
+use Rattle.bson_shape.specs.declared.error.ShapeError.TheVariants.{ReservedName, RepeatedName, TooDeep}
+
+-- the first, or the later one
+one_of : (a b : Option MakerRefusal) (r : MakerRefusal) → or_else a b ≡ Some r → (a ≡ Some r) ⊎ ((a ≡ None) × (b ≡ Some r))
+one_of None b r e = inr (refl, e)
+one_of (Some x) b r e = inl e
+
+neither : (a b : Option MakerRefusal) → or_else a b ≡ None → (a ≡ None) × (b ≡ None)
+neither None b e = (refl, e)
+neither (Some x) b e = absurd cc
+
+-- ---- depth
+
+none_deep : (t : Bool) (at around : ℕ) → nat_le 512 around ≡ t → too_deep at around ≡ None → around + 1 ≤ 512
+none_deep true at around is e = absurd (let g : too_deep at around ≡ Some (record { met = at; place = at; cause = TooDeep }) = rw is refl in cc)
+none_deep false at around is e = lower around is
+  where
+    lower : (k : ℕ) → nat_le 512 k ≡ false → k + 1 ≤ 512
+    lower k h = grind (arith, nat_tests)
+
+mutual
+  -- a form in which nothing is refused is not too deep
+  fits : (f : Form) (at around : ℕ) → first_refusal at around f ≡ None → around + levels f ≤ 512
+  fits (leaf l) at around e = omega (arith, none_deep (nat_le 512 around) at around refl e)
+  fits (structure n fs) at around e =
+      let inner = at + length (struct_name_text n) + 1 in
+      let made = refusal_of (inner + length (listed (field_texts fs))) at (made_structure n fs) in
+      let first = neither (too_deep at around) (or_else (fields_refusal inner (around + 1) fs) made) e in
+      let fields = neither (fields_refusal inner (around + 1) fs) made first.1 in
+      omega (arith, none_deep (nat_le 512 around) at around refl first.0, fields_fit fs inner (around + 1) (none_deep (nat_le 512 around) at around refl first.0) fields.0)
+
+  fields_fit : (fs : Fields) (at around : ℕ) → around ≤ 512 → fields_refusal at around fs ≡ None → around + deepest fs ≤ 512
+  fields_fit no_fields at around few e = omega arith
+  fields_fit (field n f fs) at around few e =
+      let inner = at + length (name_text n) + 1 in
+      let both = neither (first_refusal inner around f) (fields_refusal (inner + length (text f) + 1) around fs) e in
+      omega (arith, fits f inner around both.0, fields_fit fs (inner + length (text f) + 1) around few both.1)
+
+-- ---- faults
+
+record FaultIn (forms : List Inner) (r : MakerRefusal) : Type 0 where
+  inner : Inner
+  stands : Contains forms inner
+  here : inner.place ≡ r.place
+  is : HasCause r.cause inner
+
+first_of_all : (i : Inner) (is : List Inner) → Contains (i ∷ is) i
+first_of_all i is = (0, omega arith, refl)
+
+in_first : (xs ys : List Inner) (r : MakerRefusal) → FaultIn xs r → FaultIn (xs ++ ys) r
+in_first xs ys r h = record { inner = h.inner; stands = Contains-append_left xs ys h.inner h.stands; here = h.here; is = h.is }
+
+in_later : (xs ys : List Inner) (r : MakerRefusal) → FaultIn ys r → FaultIn (xs ++ ys) r
+in_later xs ys r h = record { inner = h.inner; stands = Contains-append_right xs ys h.inner h.stands; here = h.here; is = h.is }
+
+deep_fault : (t : Bool) (at around : ℕ) (f : Form) (rest : List Inner) (r : MakerRefusal) → nat_le 512 around ≡ t → around ≤ 512 → too_deep at around ≡ Some r → FaultIn (record { place = at; around = around; form = f } ∷ rest) r
+deep_fault true at around f rest r is few e =
+    let here : (let x : MakerRefusal = record { met = at; place = at; cause = TooDeep } in x) ≡ r = let g : too_deep at around ≡ Some (record { met = at; place = at; cause = TooDeep }) = rw is refl in cc in
+    let all : around ≡ 512 = exactly around is few in
+    subst (FaultIn (record { place = at; around = around; form = f } ∷ rest)) here (record { inner = record { place = at; around = around; form = f }; stands = first_of_all _ rest; here = refl; is = all })
+  where
+    exactly : (k : ℕ) → nat_le 512 k ≡ true → k ≤ 512 → k ≡ 512
+    exactly k h l = let g : 512 ≤ k = grind (arith, nat_tests) in omega arith
+deep_fault false at around f rest r is few e = absurd (let g : too_deep at around ≡ None = rw is refl in cc)
+
+-- the maker's refusal, where the struct is not too deep
+made_fault : (a b c : Bool) (n : Utf8) (fs : Fields) (met at around : ℕ) (rest : List Inner) (r : MakerRefusal)
+    → is_some (reserved_kind n) ≡ a → repeats fs ≡ b → c ≡ false
+    → refusal_of met at (cond a (Err ReservedName) (cond b (Err RepeatedName) (cond c (Err TooDeep) (Ok (structure n fs))))) ≡ Some r
+    → FaultIn (record { place = at; around = around; form = structure n fs } ∷ rest) r
+made_fault true b c n fs met at around rest r p q few e =
+    let here : (let x : MakerRefusal = record { met = met; place = at; cause = ReservedName } in x) ≡ r = cc in
+    subst (FaultIn (record { place = at; around = around; form = structure n fs } ∷ rest)) here (record { inner = record { place = at; around = around; form = structure n fs }; stands = first_of_all _ rest; here = refl; is = p })
+made_fault false true c n fs met at around rest r p q few e =
+    let here : (let x : MakerRefusal = record { met = met; place = at; cause = RepeatedName } in x) ≡ r = cc in
+    subst (FaultIn (record { place = at; around = around; form = structure n fs } ∷ rest)) here (record { inner = record { place = at; around = around; form = structure n fs }; stands = first_of_all _ rest; here = refl; is = q })
+made_fault false false true n fs met at around rest r p q few e = absurd cc
+made_fault false false false n fs met at around rest r p q few e = absurd cc
+
+not_deeper : (n : Utf8) (fs : Fields) → deepest fs < 512 → nat_lt 512 (levels (structure n fs)) ≡ false
+not_deeper n fs h = no_more (levels (structure n fs)) (omega arith)
+  where
+    no_more : (k : ℕ) → k ≤ 512 → nat_lt 512 k ≡ false
+    no_more k l = grind (arith, nat_tests)
+
+under : (i : Inner) (is : List Inner) (r : MakerRefusal) → FaultIn is r → FaultIn (i ∷ is) r
+under i is r h = in_later (i ∷ []) is r h
+
+mutual
+  form_fault : (f : Form) (at around : ℕ) (r : MakerRefusal) → around ≤ 512 → first_refusal at around f ≡ Some r → FaultIn (inner_forms at around f) r
+  form_fault (leaf l) at around r few e = deep_fault (nat_le 512 around) at around (leaf l) [] r refl few e
+  form_fault (structure n fs) at around r few e =
+      let inner = at + length (struct_name_text n) + 1 in
+      let met = inner + length (listed (field_texts fs)) in
+      let rest = field_forms inner (around + 1) fs in
+      elim (one_of (too_deep at around) (or_else (fields_refusal inner (around + 1) fs) (refusal_of met at (made_structure n fs))) r e) [
+        | inl h ↦ deep_fault (nat_le 512 around) at around (structure n fs) rest r refl few h
+        | inr h ↦ elim (one_of (fields_refusal inner (around + 1) fs) (refusal_of met at (made_structure n fs)) r h.1) [
+          | inl g ↦ under _ rest r (fields_fault fs inner (around + 1) r (none_deep (nat_le 512 around) at around refl h.0) g)
+          | inr g ↦
+              let less : deepest fs < 512 = omega (arith, fields_fit fs inner (around + 1) (none_deep (nat_le 512 around) at around refl h.0) g.0) in
+              made_fault (is_some (reserved_kind n)) (repeats fs) (nat_lt 512 (levels (structure n fs))) n fs met at around rest r refl refl (not_deeper n fs less) g.1
+        ]
+      ]
+
+  fields_fault : (fs : Fields) (at around : ℕ) (r : MakerRefusal) → around ≤ 512 → fields_refusal at around fs ≡ Some r → FaultIn (field_forms at around fs) r
+  fields_fault no_fields at around r few e = absurd cc
+  fields_fault (field n f fs) at around r few e =
+      let inner = at + length (name_text n) + 1 in
+      elim (one_of (first_refusal inner around f) (fields_refusal (inner + length (text f) + 1) around fs) r e) [
+        | inl h ↦ in_first (inner_forms inner around f) (field_forms (inner + length (text f) + 1) around fs) r (form_fault f inner around r few h)
+        | inr h ↦ in_later (inner_forms inner around f) (field_forms (inner + length (text f) + 1) around fs) r (fields_fault fs (inner + length (text f) + 1) around r few h.1)
+      ]
+
+pub refusal_fault : (f : Form) (r : MakerRefusal) → first_refusal 0 0 f ≡ Some r → HasFault f r.place r.cause
+refusal_fault f r e = let x = form_fault f 0 0 r (omega arith) e in record { inner = x.inner; stands = x.stands; here = x.here; is = x.is }

@@ -1,0 +1,50 @@
+-- The forms in a form, each with its place.
+use Rattle.std.specs.Prelude.{◌≡◌, ℕ, ◌+◌, true, List, [], ◌∷◌, ◌++◌, length, is_some, Contains}
+use Rattle.bson_base.specs.Reserved.{reserved_kind}
+use Rattle.bson_shape.specs.Form.{Form, leaf, structure, Fields, no_fields, field}
+use Rattle.bson_shape.specs.Levels.{max_shape_levels}
+use Rattle.bson_shape.specs.Makers.{repeats}
+use Rattle.bson_shape.specs.Notation.{text, name_text, struct_name_text}
+use Rattle.bson_shape.specs.declared.error.ShapeError.{ShapeError}
+use Rattle.bson_shape.specs.declared.error.ShapeError.TheVariants.{ReservedName, RepeatedName, TooDeep}
+
+-- A form in a notation: the place of its first byte, and how many forms are around it.
+pub record Inner : Type 0 where
+  pub place : ℕ
+  pub around : ℕ
+  pub form : Form
+
+abbrev mutual
+  -- a form whose text begins at this place, inside so many others, and the forms in it
+  pub inner_forms : ℕ → ℕ → Form → List Inner
+  inner_forms at around (leaf l) = record { place = at; around = around; form = leaf l } ∷ []
+  inner_forms at around (structure name fs) =
+      record { place = at; around = around; form = structure name fs } ∷ field_forms (at + length (struct_name_text name) + 1) (around + 1) fs
+
+  -- the forms in fields, where the text of the first one begins at this place
+  pub field_forms : ℕ → ℕ → Fields → List Inner
+  field_forms at around no_fields = []
+  field_forms at around (field name f fs) =
+      let inner = at + length (name_text name) + 1 in
+      inner_forms inner around f ++ field_forms (inner + length (text f) + 1) around fs
+
+abbrev pub HasReservedName : Form → Type 0
+HasReservedName (leaf l) = ⊥
+HasReservedName (structure name fs) = is_some (reserved_kind name) ≡ true
+
+abbrev pub HasRepeatedName : Form → Type 0
+HasRepeatedName (leaf l) = ⊥
+HasRepeatedName (structure name fs) = repeats fs ≡ true
+
+-- the cause holds of the form
+abbrev pub HasCause : ShapeError → Inner → Type 0
+HasCause ReservedName i = HasReservedName i.form
+HasCause RepeatedName i = HasRepeatedName i.form
+HasCause TooDeep i = i.around ≡ max_shape_levels
+
+-- In the form's notation a form begins at the place, and the cause holds of it.
+pub record HasFault (f : Form) (place : ℕ) (cause : ShapeError) : Type 0 where
+  pub inner : Inner
+  pub stands : Contains (inner_forms 0 0 f) inner
+  pub here : inner.place ≡ place
+  pub is : HasCause cause inner

@@ -1,0 +1,95 @@
+// What no clause says: that texts that a person would write are read, and print as they stand.
+use crate::{ParseError, Shape, ShapeError};
+use std::alloc::{AllocError, Global};
+use std::test::Fail;
+
+/// The text that the shape of this text prints.
+fn printed(alloc: Global, text: &str) -> Result<String, Fail> {
+    match Shape::parse(alloc, text) {
+        Ok(shape) => Ok(shape.print(alloc)?),
+        Err(_) => Err(Fail::from("refused")),
+    }
+}
+
+/// A text of structs inside one another, with so many opening braces and all closing ones.
+fn nested(alloc: Global, count: usize) -> Result<String, AllocError> {
+    let mut text = String::new(alloc);
+    for _ in 1..count {
+        text.push_str("{a:")?;
+    }
+    text.push_str("{}")?;
+    for _ in 1..count {
+        text.push('}')?;
+    }
+    Ok(text)
+}
+
+#[test]
+fn reads_what_it_prints(rt: HostRuntime) -> Result<(), Fail> {
+    let alloc = rt.alloc();
+    for text in [
+        "i32",
+        "{}",
+        "{i:i32}",
+        "i32{i32:i32,_:i32}",
+        "Point{x:i32,y:{z:i32},\"\":i32}",
+        "\"a b\"{\"é\\\"\\\\\":i32}",
+        "\"$oid \"{\"$oid\":i32}",
+    ] {
+        let again = printed(alloc, text)?;
+        assert_eq!(rt; again.as_str(), text);
+    }
+    Ok(())
+}
+
+#[test]
+fn refuses_what_is_no_notation(rt: HostRuntime) -> Result<(), Fail> {
+    let alloc = rt.alloc();
+    for (text, place) in [
+        ("", 0),
+        ("i33", 3),
+        ("i32 ", 3),
+        ("é", 0),
+        ("{i:i33}", 6),
+        ("{i:i32,}", 7),
+        ("{i:i32", 6),
+        ("{\"i\":i32}", 3),
+        ("\"a\"{}", 2),
+        ("\"\"{}", 1),
+        ("\"é", 3),
+        ("\"\\a\"{}", 2),
+        ("\"a b\"", 5),
+    ] {
+        let refusal = Shape::parse(alloc, text).err();
+        assert_eq!(rt; refusal, Some(ParseError::NotNotation(place)));
+    }
+    Ok(())
+}
+
+#[test]
+fn refuses_what_a_maker_refuses(rt: HostRuntime) -> Result<(), Fail> {
+    let alloc = rt.alloc();
+    for (text, place) in [("{a:i32,a:i32}", 0), ("{a:N{b:i32,b:i32}?", 3)] {
+        let refusal = Shape::parse(alloc, text).err();
+        assert_eq!(rt;
+            refusal,
+            Some(ParseError::Refused(place, ShapeError::RepeatedName))
+        );
+    }
+    for (text, place) in [("\"$oid\"{}", 0), ("{a:\"$oid\"{b:i32,b:i32}}", 3)] {
+        let refusal = Shape::parse(alloc, text).err();
+        assert_eq!(rt;
+            refusal,
+            Some(ParseError::Refused(place, ShapeError::ReservedName))
+        );
+    }
+    let deepest = nested(alloc, 512)?;
+    assert!(rt; Shape::parse(alloc, deepest.as_str()).is_ok());
+    let deeper = nested(alloc, 513)?;
+    let refusal = Shape::parse(alloc, deeper.as_str()).err();
+    assert_eq!(rt;
+        refusal,
+        Some(ParseError::Refused(1536, ShapeError::TooDeep))
+    );
+    Ok(())
+}
