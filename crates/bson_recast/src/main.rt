@@ -4,8 +4,8 @@
 #[cfg(test)]
 mod tests;
 
-use bson_recast_run::run;
 use bson_rawdoc::{ReadAdapter, WriteAdapter};
+use bson_recast_run::run;
 use std::process::ExitCode;
 use std::{env, io};
 

@@ -13,22 +13,13 @@ fn words(alloc: Global) -> Result<Vec<String>, Fail> {
 
 /// A sink with ample room that never fails.
 fn ample(alloc: Global) -> Result<MemorySink, Fail> {
-    Ok(MemorySink::new(
-        alloc,
-        99,
-        Vec::new(alloc),
-        Vec::new(alloc),
-    )?)
+    Ok(MemorySink::new(alloc, 99, Vec::new(alloc), Vec::new(alloc))?)
 }
 
 #[test]
 fn an_input_whose_second_read_fails(rt: HostRuntime) -> Result<(), Fail> {
     let alloc = rt.alloc();
-    let mut input = MemorySource::new(
-        DOCUMENT.to_vec(alloc)?,
-        vec![in alloc; 2]?,
-        Vec::new(alloc),
-    );
+    let mut input = MemorySource::new(DOCUMENT.to_vec(alloc)?, vec![in alloc; 2]?, Vec::new(alloc));
     let mut out = ample(alloc)?;
     let mut err = ample(alloc)?;
     let status = run(alloc, &words(alloc)?, &mut input, &mut out, &mut err);
@@ -65,7 +56,11 @@ fn an_input_of_single_bytes_that_fails(rt: HostRuntime) -> Result<(), Fail> {
         let status = run(alloc, &words(alloc)?, &mut input, &mut out, &mut err);
         assert_eq!(rt; status, Status::SourceFault, "at call {call}");
         assert_eq!(rt; out.written(), b"".as_slice(), "at call {call}");
-        assert_eq!(rt; err.written(), b"source fault\n".as_slice(), "at call {call}");
+        assert_eq!(rt;
+            err.written(),
+            b"source fault\n".as_slice(),
+            "at call {call}"
+        );
     }
     Ok(())
 }
@@ -74,9 +69,17 @@ fn an_input_of_single_bytes_that_fails(rt: HostRuntime) -> Result<(), Fail> {
 fn an_output_of_single_bytes_that_fails(rt: HostRuntime) -> Result<(), Fail> {
     let alloc = rt.alloc();
     for call in 1u64..13 {
-        let mut input =
-            MemorySource::new(DOCUMENT.to_vec(alloc)?, Vec::new(alloc), Vec::new(alloc));
-        let mut out = MemorySink::new(alloc, 99, vec![in alloc; call]?, vec![in alloc; 1usize; 12]?)?;
+        let mut input = MemorySource::new(
+            DOCUMENT.to_vec(alloc)?,
+            Vec::new(alloc),
+            Vec::new(alloc),
+        );
+        let mut out = MemorySink::new(
+            alloc,
+            99,
+            vec![in alloc; call]?,
+            vec![in alloc; 1usize; 12]?,
+        )?;
         let mut err = ample(alloc)?;
         let status = run(alloc, &words(alloc)?, &mut input, &mut out, &mut err);
         assert_eq!(rt; status, Status::SinkFault, "at call {call}");

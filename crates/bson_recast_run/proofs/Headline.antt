@@ -1,40 +1,49 @@
 -- What is written under the headline's conditions.
-use Rattle.std.proofs.Common.{◌≡◌, ◌≤◌, List, [], ◌∷◌, ◌++◌, length, Bool, true, false, cond, Option, Some, None, Result, Ok, Err, refl, sym, ap, subst, ◌∙◌, inl, inr, arith, append-nil}
-use Rattle.std.specs.Prelude.{◌⊎◌, nat_lt, nat_eq, codes}
-use Rattle.std.specs.List.{starts_with}
-use Rattle.std.specs.Io.KnownBytes.{Keeps, Appends, Consumes, IsAtEnd}
-use Rattle.std.proofs.lemmas.Bool.{le-ltb}
-use Rattle.bson_base.specs.Sound.{IsSound, max_bytes}
+use Rattle.std.proofs.Common.{◌≡◌, List, [], ◌∷◌, ◌++◌, Bool, true, false, cond, Option, Some, None, refl, ap, subst, ◌∙◌, inl, inr, arith, append-nil}
+use Rattle.std.specs.Prelude.{◌⊎◌, ◌&&◌, ℕ, IfSome, nat_eq}
+use Rattle.std.specs.Io.KnownBytes.{Keeps, Appends}
+use Rattle.std.proofs.lemmas.Bool.{eqb-true}
+use Rattle.bson_base.specs.Sound.{IsSound}
 use Rattle.bson_base.specs.Text.{Bytes, Utf8}
 use Rattle.bson_base.specs.Tree.{Tree, enc}
 use Rattle.bson_shape.specs.Form.{Form, leaf, structure}
-use Rattle.bson_shape.specs.Leaf.{word}
 use Rattle.bson_shape.specs.Machine.{parsed}
 use Rattle.bson_shape.specs.Makers.{IsShape}
 use Rattle.bson_shape.proofs.Texts.{parsed-shape}
-use Rattle.bson_shape.specs.Notation.{text, bare, begins_bare, between, quoted, name_text, struct_name_text}
+use Rattle.bson_shape.specs.Notation.{text, bare, quoted}
 use Rattle.bson_shape.specs.declared.leaf.Leaf.TheVariants.{I32}
 use Rattle.bson_datum.specs.Value.{Value}
 use Rattle.bson_laws.specs.Means.{means}
-use Rattle.bson_laws.specs.Reads.{reads_document}
-use Rattle.bson_laws.specs.Spell.{Writing, spell_document, size}
 use Rattle.bson_laws.specs.Views.{views}
 use Rattle.bson_recast_run.specs.declared.status.Status.{Status}
 use Rattle.bson_recast_run.specs.declared.status.Status.TheVariants as statuses
-use Rattle.bson_recast_run.specs.Complete.{write_status, recast_status, asked_status, status_due, WritesExactly}
+use Rattle.bson_recast_run.specs.Complete.{status_due, WritesExactly}
 use Rattle.bson_recast_run.specs.Due.{Request, recast_at, refused_with, usage_line, is_option, at_shape, request}
 use Rattle.bson_recast_run.specs.Ends as ends
 use Rattle.bson_recast_run.specs.Ends.{Reading, Silent}
 use Rattle.bson_recast_run.specs.Recasting.{Recasts}
 use Rattle.bson_recast_run.specs.Rows.{Told}
+use Rattle.bson_recast_run.proofs.Inputs.{whole}
+use Rattle.bson_recast_run.proofs.Statuses.{status_read, status_of_value, status_written}
 use Rattle.bson_recast_run.proofs.Migrates.{reads_it, spells_it, sized, writes_it}
 
 -- ---- the words
 
+not_both : (b c : Bool) → b ≡ false → (b && c) ≡ false
+not_both true c e = absurd cc
+not_both false c e = refl
+
+-- a bare name does not begin with a dash
+bare_no_dash : (c : ℕ) (name : Utf8) → bare (c ∷ name) ≡ true → nat_eq 45 c ≡ false
+bare_no_dash c name e = by_case (nat_eq 45 c) refl where
+  by_case : (b : Bool) → nat_eq 45 c ≡ b → b ≡ false
+  by_case true is = absurd (let dash : 45 ≡ c = eqb-true 45 c is in let bad : bare (45 ∷ name) ≡ true = ap (λ x. bare (x ∷ name)) dash ∙ e in let worse : false ≡ true = bad in cc)
+  by_case false is = refl
+
 begins_no_option : (b : Bool) (name rest : Utf8) → bare name ≡ b → is_option (cond b name (quoted name) ++ rest) ≡ false
 begins_no_option false name rest e = refl
 begins_no_option true [] rest e = absurd cc
-begins_no_option true (c ∷ name) rest e = ?
+begins_no_option true (c ∷ name) rest e = not_both (nat_eq 45 c) _ (bare_no_dash c name e)
 
 -- no notation begins as an option does
 pub no_option : (s : Form) → is_option (text s) ≡ false
@@ -52,32 +61,14 @@ requested s words shape e = ap request e ∙ chosen (is_option (text s)) (at_sha
 same_shape : (r : Request) (s t : Form) → r ≡ recast_at s → r ≡ recast_at t → s ≡ t
 same_shape r s t a b = cc
 
--- ---- the input
-
--- all that was told was read
-whole : (a b : Option Bytes) (bytes told : Bytes) → Consumes a b bytes → IsAtEnd b → a ≡ Some told → bytes ≡ told
-whole None b bytes told c e h = absurd cc
-whole (Some xs) None bytes told c e h = absurd c
-whole (Some xs) (Some ys) bytes told c e h = let same : xs ≡ told = cc in sym (append-nil bytes) ∙ ap (λ z. bytes ++ z) (sym e) ∙ sym c ∙ same
-
 -- ---- the status
 
-first_false : (b : Bool) (x y : Status) → b ≡ false → cond b x y ≡ y
-first_false true x y e = absurd cc
-first_false false x y e = refl
-
 module _ (s : Form) (t u : Tree) (d : Value) (words : List Utf8) (shape : IsShape s) (sound : IsSound t) (view : views s t ≡ Some d) (mean : means d ≡ Some u) (clean : IsSound u) (asked : request words ≡ recast_at s) where
-  written : write_status d ≡ statuses.Done
-  written =
-      first_false (nat_lt max_bytes (size d)) _ _ (le-ltb _ _ (let fits = clean.fits in omega (arith, sized s (enc t) t u d shape sound view mean clean refl, fits)))
-      ∙ ap (λ r. elim r [ Ok t ↦ statuses.Done | Err r ↦ statuses.WriteRefused ]) (spells_it s (enc t) t u d shape sound view mean clean refl)
-
   pub is_done : status_due words (enc t) ≡ statuses.Done
   is_done =
-      ap (λ r. asked_status r (enc t)) asked
-      ∙ first_false (nat_lt max_bytes (length (enc t))) _ _ (le-ltb _ _ (sound.fits))
-      ∙ ap (λ r. elim r [ Ok e ↦ write_status e | Err f ↦ statuses.ReadRefused ]) (reads_it s (enc t) t u d shape sound view mean clean refl)
-      ∙ written
+      status_read words s (enc t) asked sound.fits
+      ∙ status_of_value s (enc t) d (reads_it s (enc t) t u d shape sound view mean clean refl)
+      ∙ status_written d u (spells_it s (enc t) t u d shape sound view mean clean refl) (let fits = clean.fits in omega (arith, sized s (enc t) t u d shape sound view mean clean refl, fits))
 
   module _ (input : Reading) (out err : ends.Writing) (told : input.before ≡ Some (enc t)) where
     exactly : Told words input statuses.Done out err → Appends out.before out.after (enc u) × Appends err.before err.after []
@@ -100,3 +91,14 @@ module _ (s : Form) (t u : Tree) (d : Value) (words : List Utf8) (shape : IsShap
         let e = exactly (done now) in
         inl (now, e.0, keeps_from err.before err.after e.1)
     writes_exactly status (inr is) done memory = let m = memory is in inr (is, m.out_kept, m.err_kept)
+
+completed : (o : Option Bytes) (doc : Bytes) (words : List Utf8) (status : Status) → o ≡ Some doc → IfSome o (λ bytes. (status ≡ status_due words bytes) ⊎ (status ≡ statuses.NoMemory)) → (status ≡ status_due words doc) ⊎ (status ≡ statuses.NoMemory)
+completed o doc words status is h = subst (λ p. IfSome p (λ bytes. (status ≡ status_due words bytes) ⊎ (status ≡ statuses.NoMemory))) is h
+
+-- Given the notation of a shape and the bytes of a sound document, whose value at the shape means a sound document, exactly that document is written, or nothing.
+pub headline : (s : Form) (t u : Tree) (d : Value) (words : List Utf8) → IsShape s → IsSound t → views s t ≡ Some d → means d ≡ Some u → IsSound u → words ≡ text s ∷ []
+    → (input : Reading) (out err : ends.Writing) → input.before ≡ Some (enc t) → ends.AllQuiet input out err → (status : Status)
+    → (ends.AllQuiet input out err → IfSome input.before (λ bytes. (status ≡ status_due words bytes) ⊎ (status ≡ statuses.NoMemory)))
+    → (status ≡ statuses.Done → Told words input statuses.Done out err) → (status ≡ statuses.NoMemory → Silent out err) → WritesExactly status out err (enc u)
+headline s t u d words shape sound view mean clean words_are input out err told quiet status complete done memory =
+    writes_exactly s t u d words shape sound view mean clean (requested s words shape words_are) input out err told status (completed input.before (enc t) words status told (complete quiet)) done memory

@@ -1,4 +1,7 @@
 pub mod RecastErrors
 pub mod Migrates
 pub mod Prepares
+pub mod Inputs
+pub mod Statuses
 pub mod Headline
+pub mod Lines

@@ -1,5 +1,5 @@
 -- A sound document, whose value at a shape means a sound document, is recast as that document.
-use Rattle.std.proofs.Common.{◌≡◌, Result, Ok, Err, refl, ap, sym, subst, ◌∙◌, inl, inr, arith}
+use Rattle.std.proofs.Common.{◌≡◌, Result, Ok, Err, ap, sym, ◌∙◌, inl, inr, arith}
 use Rattle.std.specs.Prelude.{◌⊎◌, ◌<◌, ℕ, length, Some}
 use Rattle.std.specs.Global.{Vec}
 use Rattle.bson_base.specs.Text.{Bytes}
@@ -18,8 +18,8 @@ use Rattle.bson_laws.specs.Views.{views}
 use Rattle.bson_laws.proofs.ReadBack.{views_reads}
 use Rattle.bson_laws.proofs.Spelled.{spell_means}
 use Rattle.bson_ser_stream.specs.Writing.{IsDue, too_long_failure}
-use Rattle.bson_recast_run.specs.declared.recast.RecastError.{RecastError}
-use Rattle.bson_recast_run.specs.declared.recast.RecastError.TheVariants.{Read, Write, NoMemory}
+use Rattle.bson_recast_run.specs.declared.recasting.RecastError.{RecastError}
+use Rattle.bson_recast_run.specs.declared.recasting.RecastError.TheVariants.{Read, Write, NoMemory}
 use Rattle.bson_recast_run.specs.Recasting.{Recasts, ReadRefuses, WriteRefuses, IsRecast, GivesBytes}
 
 abbrev read : Value → Result Value (Failure ReadFault)

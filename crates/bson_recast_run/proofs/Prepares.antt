@@ -1,6 +1,8 @@
 -- From what was read and what is answered to the row that is due.
-use Rattle.std.proofs.Common.{◌≡◌, ◌≤◌, List, length, Result, Ok, Err, refl, inl, inr}
-use Rattle.std.specs.Io.KnownBytes.{Consumes, IsAtEnd}
+use Rattle.std.proofs.Common.{◌≡◌, List, Result, Ok, Err, refl, subst, inl, inr, string_bytes}
+use Rattle.std.specs.Prelude.{IfOk}
+use Rattle.std.specs.declared.alloc.AllocError.{AllocError}
+use Rattle.bson_recast_run.specs.declared.running.Answer.{Answer}
 use Rattle.bson_base.specs.Sound.{max_bytes}
 use Rattle.bson_base.specs.Text.{Bytes, Utf8}
 use Rattle.bson_io.specs.Ends.{Rose, TakesMore}
@@ -32,3 +34,9 @@ pub due_fault : (words : List Utf8) (input : Reading) (s : Form) (e : ReadFault)
 due_fault words input s faults.Failed status out line asked failed long h = rw h.0 (record { shape = s; asked = asked; rose = failed refl; says = h.2; nothing = h.1 })
 due_fault words input s faults.TooLong status out line asked failed long h = rw h.0 (inr (record { shape = s; asked = asked; taken = long refl; says = h.2; nothing = h.1 }))
 due_fault words input s faults.NoMemory status out line asked failed long h = absurd h
+
+-- the row of the answer to an input that was read to its end
+pub due_answer : (words : List Utf8) (input : Reading) (s : Form) (bytes same : Bytes) (r : Result Answer AllocError) → request words ≡ recast_at s → ReadAs input bytes → same ≡ bytes
+    → IfOk r (λ a. Answers s same a.status a.bytes.items (string_bytes a.line)) → IfOk r (λ a. IsDue words input a.status a.bytes.items (string_bytes a.line))
+due_answer words input s bytes same (Ok a) asked read is h = due_read words input s bytes a.status a.bytes.items (string_bytes a.line) asked read (subst (λ b. Answers s b a.status a.bytes.items (string_bytes a.line)) is h)
+due_answer words input s bytes same (Err e) asked read is h = tt

@@ -1,7 +1,7 @@
 -- The error of a recast, from the errors of its halves.
-use Rattle.std.proofs.Common.{◌≡◌, Result, Ok, Err, refl, ap, sym, subst, ◌∙◌, inl, inr}
+use Rattle.std.proofs.Common.{◌≡◌, Result, Ok, Err, refl, sym, subst, inl, inr}
 use Rattle.std.specs.Prelude.{◌≢◌, ◌⊎◌}
-use Rattle.std.specs.Prelude.{◌≤◌, ◌<◌}
+use Rattle.std.specs.Prelude.{◌<◌}
 use Rattle.bson_base.specs.Text.{Bytes}
 use Rattle.bson_base.specs.Sound.{max_bytes}
 use Rattle.bson_shape.specs.Form.{Form}
@@ -14,9 +14,9 @@ use Rattle.bson_laws.specs.Reads.{reads_document}
 use Rattle.bson_laws.specs.Spell.{spell_document, size}
 use Rattle.bson_de_raw.specs.Gives.{FailsAs}
 use Rattle.bson_ser_stream.specs.Writing.{Fails, IsDue, too_long_failure}
-use Rattle.bson_recast_run.specs.declared.recast.RecastError.{RecastError}
-use Rattle.bson_recast_run.specs.declared.recast.RecastError.TheVariants.{Read, Write, NoMemory}
-use Rattle.bson_recast_run.specs.Recasting.{IsRecast, IsReadError, IsWriteError, ReadRefuses, WriteRefuses}
+use Rattle.bson_recast_run.specs.declared.recasting.RecastError.{RecastError}
+use Rattle.bson_recast_run.specs.declared.recasting.RecastError.TheVariants.{Read, Write, NoMemory}
+use Rattle.bson_recast_run.specs.Recasting.{IsRecast, IsReadError, IsWriteError, WriteRefuses}
 
 refuses : (answer : Result Value (Failure ReadFault)) (f : Failure ReadFault) → f ≢ no_memory → FailsAs f answer → answer ≡ Err f
 refuses answer no_memory n h = absurd (n refl)

@@ -1,10 +1,12 @@
 -- What the words of the command line ask for, and the lines that are printed.
-use Rattle.std.specs.Prelude.{List, [], ◌∷◌, ◌++◌, Bool, nat_eq, if◌then◌else◌, codes, Result, Ok, Err}
+use Rattle.std.specs.Prelude.{ℕ, List, [], ◌∷◌, ◌++◌, Bool, nat_eq, if◌then◌else◌, codes, Result, Ok, Err}
 use Rattle.std.specs.List.{starts_with}
+use Rattle.std.specs.Fmt.{decimal}
 use Rattle.bson_base.specs.Text.{Utf8}
 use Rattle.bson_shape.specs.Form.{Form}
 use Rattle.bson_shape.specs.Machine.{Refusal, Not_notation, Refused, parsed}
 use Rattle.bson_shape.specs.Refusals.{refusal_text}
+use Rattle.bson_shape.specs.declared.error.ParseError.{ParseError}
 use Rattle.bson_shape.specs.declared.error.ParseError.TheVariants as errors
 use Rattle.bson_datum.specs.Refusal.{ReadFault, WriteFault, Failure}
 use Rattle.bson_datum.specs.Printed.{printed_failure, printed_read_fault, printed_write_fault}
@@ -20,10 +22,13 @@ newline = 10 ∷ []
 abbrev pub usage_line : Utf8
 usage_line = codes "usage: bson_recast [OPTIONS] SHAPE\n"
 
--- the line for a shape word that is refused
+-- the line for a shape word that is refused at a place
+abbrev pub line_at : ℕ → ParseError → Utf8
+line_at place e = codes "shape refused at " ++ (decimal place ++ (codes ": " ++ (refusal_text e ++ newline)))
+
 abbrev pub shape_line : Refusal → Utf8
-shape_line (Not_notation place) = refusal_text (errors.NotNotation place) ++ newline
-shape_line (Refused r) = refusal_text (errors.Refused r.place r.cause) ++ newline
+shape_line (Not_notation place) = line_at place (errors.NotNotation place)
+shape_line (Refused r) = line_at r.place (errors.Refused r.place r.cause)
 
 abbrev pub at_shape : Result Form Refusal → Request
 at_shape (Ok s) = recast_at s

@@ -14,8 +14,8 @@ use Rattle.bson_datum.specs.ErrorView.{read_failure, write_failure}
 use Rattle.bson_laws.specs.Reads.{reads_document}
 use Rattle.bson_laws.specs.Spell.{spell_document, size}
 use Rattle.bson_ser_stream.specs.Writing.{IsDue, too_long_failure}
-use Rattle.bson_recast_run.specs.declared.recast.RecastError.{RecastError}
-use Rattle.bson_recast_run.specs.declared.recast.RecastError.TheVariants.{Read, Write, NoMemory}
+use Rattle.bson_recast_run.specs.declared.recasting.RecastError.{RecastError}
+use Rattle.bson_recast_run.specs.declared.recasting.RecastError.TheVariants.{Read, Write, NoMemory}
 
 -- The bytes are read at the shape as a value, which is written as these bytes.
 pub record Recasts (s : Form) (bytes written : Bytes) : Type 0 where

@@ -1,10 +1,10 @@
 //! A document read at a shape and written anew, and the run of the program that does it.
 #![tactic(auto)]
 
-mod recast;
-mod run;
+mod recasting;
+mod running;
 mod status;
 
-pub use recast::{RecastError, recast};
-pub use run::run;
+pub use recasting::{RecastError, recast};
+pub use running::run;
 pub use status::Status;

@@ -13,13 +13,13 @@ ghost use Rattle.bson_datum.specs.Value.{Value};
 ghost use Rattle.bson_laws.specs.Views.{views};
 ghost use Rattle.bson_laws.specs.Means.{means};
 ghost use Rattle.bson_laws.specs.Plain.{IsPlain};
-ghost use Rattle.bson_recast_run.specs.Due.{request, at_shape, refused_with, is_option};
+ghost use Rattle.bson_recast_run.specs.Due.{request, at_shape, line_at, refused_with, is_option};
 ghost use Rattle.bson_recast_run.specs.Ends.{reading, writing, AllQuiet, Silent};
 ghost use Rattle.bson_recast_run.specs.Rows.{IsDue, Told, CutShort};
 ghost use Rattle.bson_recast_run.specs.Complete.{status_due, WritesExactly};
 ghost use Rattle.bson_recast_run.specs.Prepared.{Asks, Answers, Reports};
 
-use crate::recast::{RecastError, recast};
+use crate::recasting::{RecastError, recast};
 use crate::status::Status;
 use bson_datum::{ParseError, Shape};
 use bson_io::{Failed, ReadFault, Sink, Source, read_to_end, write_due};
@@ -46,13 +46,22 @@ fn refuse(alloc: Global, status: Status, line: String) -> Answer
     }
 }
 
+// The line for a shape word that is refused at a place.
+fn line_at(alloc: Global, place: usize, e: &ParseError) -> Result<String, AllocError>
+    ensures { IfOk result (λ l. string_bytes l ≡ line_at place e.now) }
+{
+    format!(in alloc; "shape refused at {place}: {e}\n")
+}
+
 // The line for a shape word that is refused. Want of memory has none.
 fn line_of(alloc: Global, e: ParseError) -> Result<String, AllocError>
     ensures line { IfOk result (λ l. (read : Result Form Refusal) → Fails e read → at_shape read ≡ refused_with (string_bytes l)) }
 {
-    match e {
+    match &e {
         ParseError::NoMemory => Err(AllocError),
-        e @ (ParseError::NotNotation(_) | ParseError::Refused(_, _)) => format!(in alloc; "{e}\n"),
+        ParseError::NotNotation(place) | ParseError::Refused(place, _) => line_at(
+            alloc, *place, &e,
+        ),
     }
 }
 
@@ -72,10 +81,7 @@ fn asked(alloc: Global, words: &[String]) -> Result<Result<Shape, String>, Alloc
 {
     match words {
         [word] if !word.as_str().starts_with("--") => shape_of(alloc, word.as_str()),
-        _ => Ok(Err(String::from_str(
-            alloc,
-            "usage: bson_recast [OPTIONS] SHAPE\n",
-        )?)),
+        _ => Ok(Err(String::from_str(alloc, "usage: bson_recast [OPTIONS] SHAPE\n")?)),
     }
 }
 

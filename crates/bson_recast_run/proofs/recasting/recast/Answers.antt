@@ -1,5 +1,5 @@
 use Rattle.bson_recast_run.proofs.Migrates.{migrates}
-use Rattle.bson_recast_run.proofs.recast.recast.Goals as goal
+use Rattle.bson_recast_run.proofs.recasting.recast.Goals as goal
 
 pub returns-clause-migrates : goal.returns-clause-migrates
 returns-clause-migrates c = λ t u d plain sound view mean clean is. migrates c.args.shape.now c.args.bytes.now t u d c.known.ensures.shape sound view mean clean is c.through.result c.through.ensures
