@@ -1,4 +1,4 @@
--- What a reader's answer has to do with the definition of reading: it is the answer of the definition, or memory ran out.
+-- What a reader answers: what the definition of reading answers, or want of memory.
 use Rattle.std.specs.Prelude.{◌≡◌, Option, Some, None, Result, Ok, Err}
 use Rattle.bson_datum.specs.Refusal.{ReadFault, Refusal, Failure, no_memory, bare, placed}
 use Rattle.bson_datum.specs.Stop.{stop_view}
@@ -8,23 +8,23 @@ use Rattle.bson_datum.specs.declared.de.Error.{Error}
 use Rattle.bson_datum.specs.declared.stop.Stop.{Stop}
 use Rattle.bson_laws.specs.Reads.{Reading}
 
--- what came out in place of a value is the refusal, or nothing where memory ran out
+-- the answer is this refusal; nothing is said where memory ran out
 abbrev pub RefusesAs : {Y : Type 0} → Option (Refusal ReadFault) → Reading Y → Type 0
 RefusesAs None answer = Unit {0}
 RefusesAs (Some r) answer = answer ≡ Err r
 
--- A reader inside a document gives, seen so, what the definition answers: its value, or its refusal with its path; or memory ran out.
+-- A reader inside a document gives what is answered, its value seen so, or its refusal with the path so far; or memory ran out.
 abbrev pub Reaches : {X Y : Type 0} → (X → Y) → Result X (Stop Fault) → Reading Y → Type 0
 Reaches see (Ok x) answer = answer ≡ Ok (see x)
 Reaches see (Err s) answer = RefusesAs (stop_view read_fault s) answer
 
--- the failure is the one that is answered, or memory ran out
+-- the answer is this failure; nothing is said where memory ran out
 abbrev pub FailsAs : {Y : Type 0} → Failure ReadFault → Result Y (Failure ReadFault) → Type 0
 FailsAs no_memory answer = Unit {0}
 FailsAs (bare f) answer = answer ≡ Err (bare f)
 FailsAs (placed path f) answer = answer ≡ Err (placed path f)
 
--- A reader of whole documents gives, seen so, what the definition answers: its value, or its failure; or memory ran out.
+-- A reader of whole documents gives what is answered, its value seen so, or its failure; or memory ran out.
 abbrev pub Gives : {X Y : Type 0} → (X → Y) → Result X Error → Result Y (Failure ReadFault) → Type 0
 Gives see (Ok x) answer = answer ≡ Ok (see x)
 Gives see (Err e) answer = FailsAs (read_failure e) answer

@@ -15,20 +15,24 @@ const MAX_LEVELS: u32 = 200;
 
 /// The value that the bytes of a document are at a shape, by serde's data model.
 ///
-/// A struct takes each of its fields from the element that has the field's name as its key, in any order;
-/// elements of other keys are walked to their ends and dropped. The names in the value are copies of those in
-/// the shape. Keys in the shape's order are found at once, and each other key by a scan over the names.
+/// A struct takes each of its fields from the element that has the field's name as its key, in any
+/// order; elements of other keys are walked to their ends and dropped. The names in the value are
+/// copies of those in the shape. Keys in the shape's order are found at once, and each other key by a
+/// scan over the names.
 ///
 /// # Errors
 ///
-/// - `DeserializationError` with `Raw`, without a path, exactly where the envelope refuses the bytes: they are
-///   fewer than five, they announce another length than theirs, or the last of them is not zero.
-/// - `WithPath` round a `DeserializationError` with the path of the value that is refused, the empty path for
-///   the document itself. The first refusal in the order of the bytes is answered, by its cause: `Raw`, a fault
-///   of the bytes; `TooDeep`, a document at level 201; `InvalidType`, a value of another kind than the shape
-///   takes; `OutOfRange`, a number that does not fit the shape's type; `DuplicateField`, a second element of a
-///   field, before its value is looked at; `MissingField`, at the end of a document, the first field in the
-///   shape's order that has no element.
+/// - `DeserializationError` with `Raw`, without a path, exactly where the envelope refuses the bytes:
+///   they are fewer than five, they announce another length than theirs, or the last is not zero.
+/// - `WithPath` round a `DeserializationError`, with the path of the value that is refused; the path of
+///   the document itself is empty. The first refusal in the order of the bytes is answered, and its
+///   cause is one of these.
+///   - `Raw`: a fault of the bytes, before any shape looks at the value.
+///   - `TooDeep`: a document at level 201.
+///   - `InvalidType`: a value of another kind than the shape takes.
+///   - `OutOfRange`: a number that does not fit the shape's type.
+///   - `DuplicateField`: a second element of a field; its value is not looked at.
+///   - `MissingField`: at the end of a document, the first field in the shape's order without an element.
 /// - `NoMemory` where memory ran out.
 pub fn from_slice_at<'de>(alloc: Global, shape: &Shape, bytes: &'de [u8]) -> de::Result<Datum<'de>>
     ensures exact { Gives view result (reads_document shape.now bytes.now) }
