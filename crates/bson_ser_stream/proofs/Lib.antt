@@ -3,3 +3,4 @@ pub mod Ended
 pub mod Written
 pub mod Halted
 pub mod Structs
+pub mod Limits
