@@ -36,7 +36,8 @@ fn end_document<L: Ledger>(out: &mut Out, steps: &mut Steps<L>, start: usize) ->
 // A number in four bytes.
 #[tactic(auto, unfolding(bson_base::specs::Tree::le32))]
 fn put_i32<L: Ledger>(out: &mut Out, steps: &mut Steps<L>, n: i32) -> Result<(), Halt>
-    ensures bytes { Gives 4 out.old.spare (λ _. out.new.bytes) result (with_tree out.old.bytes (Ok (int32 n))) }
+    ensures bytes { Gives 4 out.old.spare (λ _. out.new.bytes) result
+        (with_tree out.old.bytes (Ok (int32 n))) }
     ensures grows { Grows out.old out.new steps.old steps.new }
 {
     out.push_all(&n.to_le_bytes(), steps)?;
