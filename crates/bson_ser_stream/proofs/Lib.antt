@@ -4,3 +4,4 @@ pub mod Written
 pub mod Halted
 pub mod Structs
 pub mod Limits
+pub mod Meant
