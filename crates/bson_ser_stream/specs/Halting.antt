@@ -1,12 +1,12 @@
--- What a writer leaves, whether it came to its end or not.
+-- What a writer leaves, whether it comes to its end or halts.
 use Rattle.std.specs.Prelude.{◌≡◌, ℕ, ◌+◌, ◌-◌, ◌*◌, ◌<◌, ◌≤◌, [], ◌∷◌, ◌++◌, length, take, Option, Some, Result, Ok, Err, IsOk, MatchOption, IfSome}
 use Rattle.bson_base.specs.Text.{Utf8}
 use Rattle.bson_base.specs.Sound.{max_bytes}
+use Rattle.bson_base.specs.Tree.{le32}
 use Rattle.bson_datum.specs.Cause.{too_long}
 use Rattle.bson_datum.specs.Refusal.{WriteFault, unwritable, Refusal, here}
 use Rattle.bson_datum.specs.Stop.{stop_view, IsOutOfMemory, IsUnderKey}
 use Rattle.bson_datum.specs.ErrorView.{write_fault}
-use Rattle.bson_base.specs.Tree.{le32}
 use Rattle.bson_io.specs.Output.{Output, patched}
 use Rattle.bson_laws.specs.Spell.{Writing}
 use Rattle.bson_ser_stream.specs.declared.halt.Halt.{Halt}
@@ -17,6 +17,7 @@ abbrev pub halt_view : Halt → Option (Refusal WriteFault)
 halt_view (Stopped s) = stop_view write_fault s
 halt_view TooLong = Some (here (unwritable too_long))
 
+-- memory ran out
 abbrev pub IsWantOfMemory : Halt → Type 0
 IsWantOfMemory (Stopped s) = IsOutOfMemory s
 IsWantOfMemory TooLong = ⊥

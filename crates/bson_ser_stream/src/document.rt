@@ -1,5 +1,5 @@
 // Whole documents: into an output buffer, and into a vector.
-ghost use Rattle.std.specs.Prelude.{◌≡◌, ◌≤◌, ◌+◌, ◌-◌, ◌*◌, length, vec_len, Some, Ok, IsOk, OnOk, OnErr, IfOk, IfErr};
+ghost use Rattle.std.specs.Prelude.{◌≡◌, ◌<◌, ◌≤◌, ◌+◌, ◌-◌, ◌*◌, length, vec_len, Some, Ok, IsOk, OnOk, OnErr, IfOk, IfErr};
 ghost use Rattle.bson_base.specs.Outcome.{result_map};
 ghost use Rattle.bson_base.specs.Sound.{max_bytes, IsSound};
 ghost use Rattle.bson_base.specs.Tree.{Tree, enc};
@@ -7,11 +7,11 @@ ghost use Rattle.bson_datum.specs.View.{view};
 ghost use Rattle.bson_datum.specs.ErrorView.{write_failure};
 ghost use Rattle.bson_laws.specs.Means.{means};
 ghost use Rattle.bson_laws.specs.Spell.{spell_document, size};
-ghost use Rattle.bson_ser_stream.specs.Writing.{with_tree, Fails};
+ghost use Rattle.bson_ser_stream.specs.Writing.{with_tree, Fails, too_long_failure};
 ghost use Rattle.bson_ser_stream.specs.Halting.{Gives, Grows};
 
 use crate::halt::Halt;
-use crate::put::put_value;
+use crate::value::put_value;
 use bson_base::ElementType;
 use bson_datum::ser::Result;
 use bson_datum::{Cause, Datum};
@@ -22,7 +22,7 @@ use std::alloc::Global;
 const MAX_LEVELS: u32 = 200;
 
 // A whole document, or as much of it as was written before a refusal.
-fn put_document<L: Ledger>(
+fn put_whole<L: Ledger>(
     out: &mut Out,
     steps: &mut Steps<L>,
     value: &Datum<'_>,
@@ -39,19 +39,41 @@ fn put_document<L: Ledger>(
 }
 
 /// Appends the bytes of a document to an output buffer, in one pass over the datum.
+///
+/// A struct is a document of its fields, in order, and an `I32` is an int32 (bsonspec.org, version 1.1). `steps` counts
+/// one for each byte that is appended, and one for each byte that is written over the place of a length.
+///
+/// # Errors
+///
+/// The first refusal in document order, as `WithPath`, or `NoMemory`. After any error `out` holds the bytes that it had.
+///
+/// - `SerializationError` with `TopLevel`: the datum is written as a value of this kind, which is no document.
+/// - `SerializationError` with `TooDeep`: a struct stands at level 201. The whole document is at level 1.
+/// - `SerializationError` with `NotBuilt`: a struct has a reserved name.
+/// - `InvalidCString`: a zero character stands in the name of a field. The path is that of its struct.
+/// - `SerializationError` with `TooLong`, with the empty path: the document would have more than 2147483647 bytes. Where it
+///   would, and a value is refused too, either may come.
 pub fn to_buf<L: Ledger>(value: &Datum<'_>, out: &mut Out, steps: &mut Steps<L>) -> Result<()>
-    ensures bytes { OnOk result (with_tree out.old.bytes (spell_document (view value.now)) ≡ Ok out.new.bytes) }
+    ensures bytes { OnOk result
+        (with_tree out.old.bytes (spell_document (view value.now)) ≡ Ok out.new.bytes) }
     ensures fits { OnOk result (size (view value.now) ≤ max_bytes) }
-    ensures refused { IfErr result (λ e. Fails (size (view value.now)) (spell_document (view value.now)) (write_failure e)) }
+
+    ensures refused { let v = view value.now in
+        IfErr result (λ e. Fails (size v) (spell_document v) (write_failure e)) }
+    ensures too_long { IfErr result
+        (λ e. write_failure e ≡ too_long_failure → max_bytes < size (view value.now)) }
     ensures kept { OnErr result (out.new.bytes ≡ out.old.bytes) }
 
-    // No memory is wanted where the room is spare.
-    ensures memory { (t : Tree) → means (view value.now) ≡ Some t → IsSound t → size (view value.now) ≤ out.old.spare → IsOk result }
-    ensures spare { OnOk result (out.old.spare ≤ out.new.spare + (length out.new.bytes - length out.old.bytes)) }
-    ensures steps { OnOk result (steps.new ≤ steps.old + 2 * (length out.new.bytes - length out.old.bytes)) }
+    // Where the room is spare, what means a sound document is written, whatever memory there is.
+    ensures memory { (t : Tree) → means (view value.now) ≡ Some t → IsSound t
+        → size (view value.now) ≤ out.old.spare → IsOk result }
+    ensures spare { OnOk result
+        (out.old.spare ≤ out.new.spare + (length out.new.bytes - length out.old.bytes)) }
+    ensures steps { OnOk result
+        (steps.new ≤ steps.old + 2 * (length out.new.bytes - length out.old.bytes)) }
 {
     let start = out.len();
-    match put_document(out, steps, value) {
+    match put_whole(out, steps, value) {
         Ok(()) => Ok(()),
         Err(halt) => {
             out.cut(start);
@@ -60,27 +82,43 @@ pub fn to_buf<L: Ledger>(value: &Datum<'_>, out: &mut Out, steps: &mut Steps<L>)
     }
 }
 
-/// The bytes of a document, with the steps counted.
+/// The bytes of a document, as [`to_buf`] appends them. `steps` rises by at most twice their number.
+///
+/// # Errors
+///
+/// Those of [`to_buf`].
 pub fn to_vec_counted<L: Ledger>(
     alloc: Global,
     value: &Datum<'_>,
     steps: &mut Steps<L>,
 ) -> Result<Vec<u8>>
-    ensures bytes { IfOk result (λ v. result_map enc (spell_document (view value.now)) ≡ Ok v.items) }
+    ensures bytes { IfOk result
+        (λ out. result_map enc (spell_document (view value.now)) ≡ Ok out.items) }
     ensures fits { OnOk result (size (view value.now) ≤ max_bytes) }
-    ensures refused { IfErr result (λ e. Fails (size (view value.now)) (spell_document (view value.now)) (write_failure e)) }
-    ensures steps { IfOk result (λ v. steps.new ≤ steps.old + 2 * vec_len v) }
+    ensures refused { let v = view value.now in
+        IfErr result (λ e. Fails (size v) (spell_document v) (write_failure e)) }
+    ensures too_long { IfErr result
+        (λ e. write_failure e ≡ too_long_failure → max_bytes < size (view value.now)) }
+    ensures steps { IfOk result (λ out. steps.new ≤ steps.old + 2 * vec_len out) }
 {
     let mut out = Out::new(alloc);
     to_buf(value, &mut out, steps)?;
     Ok(out.into_vec())
 }
 
-/// The bytes of a document.
+/// The bytes of a document, as [`to_buf`] appends them.
+///
+/// # Errors
+///
+/// Those of [`to_buf`].
 pub fn to_vec_at(alloc: Global, value: &Datum<'_>) -> Result<Vec<u8>>
-    ensures bytes { IfOk result (λ v. result_map enc (spell_document (view value.now)) ≡ Ok v.items) }
+    ensures bytes { IfOk result
+        (λ out. result_map enc (spell_document (view value.now)) ≡ Ok out.items) }
     ensures fits { OnOk result (size (view value.now) ≤ max_bytes) }
-    ensures refused { IfErr result (λ e. Fails (size (view value.now)) (spell_document (view value.now)) (write_failure e)) }
+    ensures refused { let v = view value.now in
+        IfErr result (λ e. Fails (size v) (spell_document v) (write_failure e)) }
+    ensures too_long { IfErr result
+        (λ e. write_failure e ≡ too_long_failure → max_bytes < size (view value.now)) }
 {
     let mut steps = Steps::<Tally>::new();
     to_vec_counted(alloc, value, &mut steps)

@@ -1,4 +1,4 @@
-// Why writing ended before its end.
+// Why writing stopped before its end.
 ghost use Rattle.std.specs.Prelude.{◌≡◌};
 ghost use Rattle.bson_datum.specs.Refusal.{unwritable};
 ghost use Rattle.bson_datum.specs.Stop.{IsPlaced};
@@ -9,7 +9,7 @@ use bson_datum::ser::{Error, Fault};
 use bson_datum::{Cause, Stop};
 use std::alloc::{AllocError, Global};
 
-/// Why writing ended before its end.
+/// Why writing stopped before its end.
 #[derive(Debug, Drop)]
 pub(crate) enum Halt {
     /// A value is refused, or memory ran out.

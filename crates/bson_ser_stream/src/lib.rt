@@ -2,7 +2,10 @@
 #![tactic(auto)]
 
 mod document;
+mod element;
 mod halt;
-mod put;
+#[cfg(test)]
+mod tests;
+mod value;
 
 pub use document::{to_buf, to_vec_at, to_vec_counted};

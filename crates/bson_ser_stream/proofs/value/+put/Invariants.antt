@@ -4,7 +4,7 @@ use Rattle.bson_datum.specs.View.{fields_view}
 use Rattle.bson_laws.specs.Spell.{spell_fields, size_fields}
 use Rattle.bson_ser_stream.specs.Writing.{with_elements}
 use Rattle.bson_ser_stream.specs.Halting.{Grows}
-use Rattle.bson_ser_stream.proofs.put.+put.Given as goal
+use Rattle.bson_ser_stream.proofs.value.+put.Given as goal
 
 abbrev pub invariant-put_fields-loop-field : goal.invariant-put_fields-loop-field
 invariant-put_fields-loop-field g l =

@@ -10,7 +10,7 @@ use Rattle.bson_ser_stream.proofs.Growth.{Grows-trans, Grows-appended, Grows-lon
 use Rattle.bson_ser_stream.proofs.Written.{wrote_document, document_fits, filled_length}
 use Rattle.bson_ser_stream.proofs.Halted.{gives_err, unended, under_halts, field_halts}
 use Rattle.bson_ser_stream.proofs.Structs.{wrote_struct, struct_fits}
-use Rattle.bson_ser_stream.proofs.put.+put.Goals as goal
+use Rattle.bson_ser_stream.proofs.value.+put.Goals as goal
 
 pub put_document-returns-in_err-end_document-clause-bytes : goal.put_document-returns-in_err-end_document-clause-bytes
 put_document-returns-in_err-end_document-clause-bytes g t c =
@@ -36,8 +36,8 @@ put_document-returns-clause-fits g t c = document_fits c.args.out.now c.push_all
 pub put_field-returns-in-Err-clause-bytes : goal.put_field-returns-in-Err-clause-bytes
 put_field-returns-in-Err-clause-bytes g t c =
     let key = c.as_str-key.ensures.text in
-    let long = length-front c.args.out.now c.put_key.new.out _ c.as_str-key.result.now c.in_ok-put_key.ensures.ok in
-    under_halts c.in-Err.halt c.under_key.result (text_view c.args.field.now.name) (view c.args.field.now.value) c.args.levels c.args.out.now.spare c.args.out.now.bytes c.put_key.new.out (ap has_zero (sym key) ∙ sym c.has_zero.ensures ∙ c.if-has_zero.false) (omega (arith, c.in_ok-put_key.ensures.grows.room, long, ap length key)) c.in-Err.ensures.bytes (subst (λ k. IsUnder k c.in-Err.halt c.under_key.result) key c.under_key.ensures.under)
+    let long = length-front c.args.out.now c.begin_element.new.out _ c.as_str-key.result.now c.in_ok-begin_element.ensures.ok in
+    under_halts c.in-Err.halt c.under_key.result (text_view c.args.field.now.name) (view c.args.field.now.value) c.args.levels c.args.out.now.spare c.args.out.now.bytes c.begin_element.new.out (ap has_zero (sym key) ∙ sym c.has_zero.ensures ∙ c.if-has_zero.false) (omega (arith, c.in_ok-begin_element.ensures.grows.room, long, ap length key)) c.in-Err.ensures.bytes (subst (λ k. IsUnder k c.in-Err.halt c.under_key.result) key c.under_key.ensures.under)
 
 pub put_fields-returns-in_err-put_field-clause-bytes : goal.put_fields-returns-in_err-put_field-clause-bytes
 put_fields-returns-in_err-put_field-clause-bytes g t c =

@@ -1,0 +1,92 @@
+-- What is refused on its way is never refused for its length: that is judged of whole documents alone.
+use Rattle.std.proofs.Common.{◌≡◌, ℕ, zero, suc, ◌<◌, Bool, true, false, cond, ◌⊎◌, inl, inr, Option, Some, None, Ok, Err, ap, sym, subst, refl, ◌∙◌}
+use Rattle.bson_base.specs.Text.{Bytes, Utf8, has_zero}
+use Rattle.bson_base.specs.Outcome.{◌>>=◌, result_map}
+use Rattle.bson_base.specs.Reserved.{reserved_kind}
+use Rattle.bson_base.specs.Sound.{max_bytes, max_levels}
+use Rattle.bson_base.specs.Tree.{Tree, document, Pairs, pair}
+use Rattle.bson_base.specs.declared.element_type.ElementType.{ElementType}
+use Rattle.bson_base.specs.declared.element_type.ElementType.TheVariants.{EmbeddedDocument}
+use Rattle.bson_datum.specs.Cause.{Cause, too_long}
+use Rattle.bson_datum.specs.Refusal.{WriteFault, unwritable, invalid_cstring, Refusal, here, under, Failure, no_memory, bare, placed, with_path}
+use Rattle.bson_datum.specs.Value.{Value, i32, structure, FieldValues, no_field_values, field_value, kind_of}
+use Rattle.bson_laws.specs.Spell.{Writing, struct_at, named, spell, spell_fields, at_top, spell_document, size}
+use Rattle.bson_datum.specs.Stop.{IsPlaced}
+use Rattle.bson_datum.specs.declared.stop.Stop.TheVariants.{Refused, NoMemory}
+use Rattle.bson_ser_stream.specs.Writing.{with_tree, IsDue, Fails, too_long_failure}
+use Rattle.bson_ser_stream.specs.Halting.{halt_view, Halts}
+use Rattle.bson_ser_stream.specs.declared.halt.Halt.{Halt}
+use Rattle.bson_ser_stream.specs.declared.halt.Halt.TheVariants.{Stopped, TooLong}
+
+abbrev IsLength : Cause → Type 0
+IsLength too_long = Unit {0}
+IsLength c = ⊥
+
+abbrev IsLengthFault : WriteFault → Type 0
+IsLengthFault (unwritable c) = IsLength c
+IsLengthFault (invalid_cstring t) = ⊥
+
+-- no refusal of this answer is for the length
+abbrev Else : {A : Type 0} → Writing A → Type 0
+Else (Ok x) = Unit {0}
+Else (Err r) = IsLengthFault r.fault → ⊥
+
+mapped : (r : Writing Pairs) → Else r → Else (result_map document r)
+mapped (Ok ps) h = tt
+mapped (Err r) h = h
+
+struct_else : (o : Option ElementType) (levels : ℕ) (pairs : ℕ → Writing Pairs) → ((n : ℕ) → Else (pairs n)) → Else (struct_at o levels pairs)
+struct_else (Some k) levels pairs h = λ e. e
+struct_else None zero pairs h = λ e. e
+struct_else None (suc n) pairs h = mapped (pairs n) (h n)
+
+named_else : (b : Bool) (name : Utf8) (r : Writing Tree) → Else r → Else (cond b (Err (here (invalid_cstring name))) (under name r))
+named_else true name r h = λ e. e
+named_else false name (Ok t) h = tt
+named_else false name (Err f) h = h
+
+both_else : (name : Utf8) (r : Writing Tree) (s : Writing Pairs) → Else r → Else s → Else (r >>= λ t. s >>= λ ps. Ok (pair name t ps))
+both_else name (Err f) s h k = h
+both_else name (Ok t) (Err f) h k = k
+both_else name (Ok t) (Ok ps) h k = tt
+
+mutual
+  spell_else : (v : Value) (levels : ℕ) → Else (spell v levels)
+  spell_else (i32 n) levels = tt
+  spell_else (structure name fs) levels = struct_else (reserved_kind name) levels (spell_fields fs) (λ n. fields_else fs n)
+
+  fields_else : (fs : FieldValues) (levels : ℕ) → Else (spell_fields fs levels)
+  fields_else no_field_values levels = tt
+  fields_else (field_value name v fs) levels = both_else name (named name (spell v levels)) (spell_fields fs levels) (named_else (has_zero name) name (spell v levels) (spell_else v levels)) (fields_else fs levels)
+
+top_else : (k : ElementType) (r : Writing Tree) → Else r → Else (at_top k r)
+top_else EmbeddedDocument r h = h
+top_else k r h = λ e. e
+
+due_else : (r : Writing Tree) (f : Failure WriteFault) → Else r → IsDue r f → f ≡ too_long_failure → ⊥
+due_else (Ok t) f h due is = due
+due_else (Err r) f h due is = let same : r.fault ≡ unwritable too_long = cc in h (subst IsLengthFault (sym same) tt)
+
+any_of : (f : Failure WriteFault) (r : Writing Tree) (bytes : ℕ) → Else r → Fails bytes r f → f ≡ too_long_failure → max_bytes < bytes
+any_of f r bytes h (inl none) is = absurd cc
+any_of f r bytes h (inr (inl due)) is = absurd (due_else r f h due is)
+any_of f r bytes h (inr (inr long)) is = long.1
+
+-- what fails with `TooLong` has more bytes than a document may
+pub only_too_long : (v : Value) (f : Failure WriteFault) → Fails (size v) (spell_document v) f → f ≡ too_long_failure → max_bytes < size v
+only_too_long v f h is = any_of f (spell_document v) (size v) (top_else (kind_of v) (spell v max_levels) (spell_else v max_levels)) h is
+
+due_is : (r : Writing Tree) (old : Bytes) (g : Refusal WriteFault) (f : Failure WriteFault) → with_tree old r ≡ Err g → f ≡ with_path g → IsDue r f
+due_is (Ok t) old g f e is = absurd cc
+due_is (Err r) old g f e is = let same : g ≡ r = cc in is ∙ ap with_path same
+
+placed_is : (g : Refusal WriteFault) (f : Failure WriteFault) → IsPlaced (Some g) f → (f ≡ no_memory) ⊎ (f ≡ with_path g)
+placed_is g no_memory h = inl refl
+placed_is g (bare x) h = inr h
+placed_is g (placed path x) h = inr h
+
+-- what a caller sees of a halt
+pub fails : (h : Halt) (f : Failure WriteFault) (bytes spare : ℕ) (old : Bytes) (r : Writing Tree) → Halts bytes spare (with_tree old r) h → IsPlaced (halt_view h) f → Fails bytes r f
+fails (Stopped NoMemory) f bytes spare old r halts is = inl is
+fails (Stopped (Refused x)) f bytes spare old r halts is = elim (placed_is _ f is) [ inl none ↦ inl none | inr due ↦ inr (inl (due_is r old _ f halts due)) ]
+fails TooLong f bytes spare old r halts is = elim (placed_is _ f is) [ inl none ↦ inl none | inr long ↦ inr (inr (long, halts)) ]

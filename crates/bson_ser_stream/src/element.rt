@@ -1,0 +1,53 @@
+// The front of an element: its kind and its key.
+ghost use Rattle.std.specs.Prelude.{◌≡◌, ◌≤◌, ◌+◌, ◌++◌, [], length, IsOk, OnOk};
+ghost use Rattle.bson_base.specs.Text.{has_zero};
+ghost use Rattle.bson_base.specs.Tree.{element};
+ghost use Rattle.bson_datum.specs.Refusal.{invalid_cstring};
+ghost use Rattle.bson_ser_stream.specs.Halting.{Grows, IsHereOrWant};
+
+use crate::halt::Halt;
+use bson_base::ElementType;
+use bson_datum::ser::Fault;
+use bson_io::{Ledger, Out, Steps};
+use std::alloc::{AllocError, Global};
+
+/// Whether a zero character stands in the text.
+pub(crate) fn has_zero(text: &str) -> bool
+    ensures { result ≡ has_zero text.now }
+{
+    let mut rest = text.as_bytes();
+    while let [first, others @ ..] = rest {
+        if *first == 0 {
+            return true;
+        }
+        rest = others;
+    }
+    false
+}
+
+/// The refusal of a name that has a zero character.
+pub(crate) fn zero_in(alloc: Global, name: &str) -> Halt
+    ensures { IsHereOrWant (invalid_cstring name.now) result }
+{
+    match String::from_str(alloc, name) {
+        Ok(name) => Halt::here(alloc, Fault::InvalidCString(name)),
+        Err(e) => Halt::from(e),
+    }
+}
+
+/// Appends the front of an element: the byte of its kind, and its key closed by a zero.
+pub(crate) fn begin_element<L: Ledger>(
+    out: &mut Out,
+    steps: &mut Steps<L>,
+    kind: ElementType,
+    key: &str,
+) -> Result<(), AllocError>
+    ensures ok { OnOk result (out.new.bytes ≡ out.old.bytes ++ element kind key.now []) }
+    ensures free { length key.now + 2 ≤ out.old.spare → IsOk result }
+    ensures grows { Grows out.old out.new steps.old steps.new }
+{
+    out.push(kind.byte(), steps)?;
+    out.push_all(key.as_bytes(), steps)?;
+    out.push(0, steps)?;
+    Ok(())
+}
