@@ -1,5 +1,5 @@
 -- The elements of a document in its bytes, up to the first fault. Source: bsonspec.org, version 1.1, `e_list` and `element`.
-use Rattle.std.specs.Prelude.{ℕ, zero, suc, List, [], ◌∷◌, length, take, drop, if◌then◌else◌, nat_lt, pos, negsuc, ℤ, Option, Some, None, Result, Ok, Err}
+use Rattle.std.specs.Prelude.{ℕ, zero, suc, [], ◌∷◌, length, take, drop, if◌then◌else◌, nat_lt, pos, negsuc, ℤ, Option, Some, None, Result, Ok, Err}
 use Rattle.std.specs.Str.{is_utf8}
 use Rattle.bson_base.specs.Text.{Bytes, Utf8}
 use Rattle.bson_base.specs.Kind.{of_byte}
