@@ -74,7 +74,7 @@ module _ (s : Form) (t u : Tree) (d : Value) (words : List Utf8) (shape : IsShap
     exactly : Told words input statuses.Done out err → Appends out.before out.after (enc u) × Appends err.before err.after []
     exactly h =
         let given = h.due.given in
-        let is_shape : given.shape ≡ s = same_shape (request words) given.shape s given.asked asked in
+        let is_shape : given.shape ≡ s = same_shape (request words) given.shape s given.for_shape.asked asked in
         let is_input : given.bytes ≡ enc t = whole input.before input.after given.bytes (enc t) given.read.taken given.read.ended told in
         let made : h.bytes ≡ enc u = writes_it s given.bytes t u d shape sound view mean clean is_input h.bytes (subst (λ x. Recasts x given.bytes h.bytes) is_shape h.due.answer) in
         (subst (Appends out.before out.after) made h.out_grew, subst (Appends err.before err.after) h.due.no_line h.err_grew)

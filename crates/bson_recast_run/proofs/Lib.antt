@@ -4,4 +4,4 @@ pub mod Prepares
 pub mod Inputs
 pub mod Statuses
 pub mod Headline
-pub mod Lines
+pub mod Words

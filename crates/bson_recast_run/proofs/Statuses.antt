@@ -65,18 +65,18 @@ module _ (words : List Utf8) (input : SourceChange) (doc : Bytes) (told : input.
       let g = h.given in
       let a = h.answer in
       let t = map_ok enc (spell_document a.value) out a.wrote in
-      sym (status_read words g.shape doc g.asked (most_read g.bytes g.read) ∙ status_of_value g.shape doc a.value (ap (reads_document g.shape) (sym (all_read g.bytes g.read)) ∙ a.read) ∙ status_written a.value t.0 t.1 a.fits)
+      sym (status_read words g.shape doc g.for_shape.asked (most_read g.bytes g.read) ∙ status_of_value g.shape doc a.value (ap (reads_document g.shape) (sym (all_read g.bytes g.read)) ∙ a.read) ∙ status_written a.value t.0 t.1 a.fits)
   due_status statuses.ReadRefused out line (inl h) =
       let g = h.given in
-      sym (status_read words g.shape doc g.asked (most_read g.bytes g.read)
+      sym (status_read words g.shape doc g.for_shape.asked (most_read g.bytes g.read)
       ∙ ap (λ r. elim r [ Ok x ↦ write_status x | Err f ↦ statuses.ReadRefused ]) (ap (reads_document g.shape) (sym (all_read g.bytes g.read)) ∙ h.answer))
   due_status statuses.ReadRefused out line (inr h) =
-      sym (ap (λ r. asked_status r doc) h.asked ∙ first_true (nat_lt max_bytes (length doc)) _ _ (lt-ltb _ _ (long input.before input.after doc max_bytes told h.taken)))
+      sym (ap (λ r. asked_status r doc) h.for_shape.asked ∙ first_true (nat_lt max_bytes (length doc)) _ _ (lt-ltb _ _ (long input.before input.after doc max_bytes told h.taken)))
   due_status statuses.WriteRefused out line h =
       let g = h.given in
       let a = h.answer in
-      sym (status_read words g.shape doc g.asked (most_read g.bytes g.read) ∙ status_of_value g.shape doc a.value (ap (reads_document g.shape) (sym (all_read g.bytes g.read)) ∙ a.read) ∙ status_unwritten a.value h.failure a.refused)
-  due_status statuses.Usage out line h = sym (ap (λ r. asked_status r doc) h.asked)
+      sym (status_read words g.shape doc g.for_shape.asked (most_read g.bytes g.read) ∙ status_of_value g.shape doc a.value (ap (reads_document g.shape) (sym (all_read g.bytes g.read)) ∙ a.read) ∙ status_unwritten a.value h.failure a.refused)
+  due_status statuses.Usage out line h = sym (ap (λ r. asked_status r doc) h.refused.asked)
   due_status statuses.SourceFault out line h = absurd (omega (arith, h.rose, quiet))
   due_status statuses.SinkFault out line h = absurd h
   due_status statuses.NoMemory out line h = absurd h

@@ -1,5 +1,5 @@
 -- What the words of the command line ask for, and the lines that are printed.
-use Rattle.std.specs.Prelude.{ℕ, List, [], ◌∷◌, ◌++◌, Bool, nat_eq, if◌then◌else◌, codes, Result, Ok, Err}
+use Rattle.std.specs.Prelude.{ℕ, List, [], ◌∷◌, ◌++◌, Bool, nat_eq, if◌then◌else◌, codes, Option, Some, None, Result, Ok, Err}
 use Rattle.std.specs.List.{starts_with}
 use Rattle.std.specs.Fmt.{decimal}
 use Rattle.bson_base.specs.Text.{Utf8}
@@ -25,6 +25,12 @@ usage_line = codes "usage: bson_recast [OPTIONS] SHAPE\n"
 -- the line for a shape word that is refused at a place
 abbrev pub line_at : ℕ → ParseError → Utf8
 line_at place e = codes "shape refused at " ++ (decimal place ++ (codes ": " ++ (refusal_text e ++ newline)))
+
+-- the line for an error of the parser, but for want of memory
+abbrev pub line_for : ParseError → Option Utf8
+line_for (errors.NotNotation place) = Some (line_at place (errors.NotNotation place))
+line_for (errors.Refused place cause) = Some (line_at place (errors.Refused place cause))
+line_for errors.NoMemory = None
 
 abbrev pub shape_line : Refusal → Utf8
 shape_line (Not_notation place) = line_at place (errors.NotNotation place)

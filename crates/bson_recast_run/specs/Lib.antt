@@ -1,6 +1,7 @@
 pub mod Number
 pub mod Recasting
 pub mod Due
+pub mod Asked
 pub mod Ends
 pub mod Rows
 pub mod Complete

@@ -1,6 +1,5 @@
 -- What a run has in hand before it writes.
-use Rattle.std.specs.Prelude.{◌≡◌, [], Result, Ok, Err, string_bytes, String}
-use Rattle.std.specs.declared.alloc.Global.{Global}
+use Rattle.std.specs.Prelude.{◌≡◌, []}
 use Rattle.bson_base.specs.Text.{Bytes, Utf8}
 use Rattle.bson_io.specs.declared.transfer.ReadFault.{ReadFault}
 use Rattle.bson_io.specs.declared.transfer.ReadFault.TheVariants as faults
@@ -8,13 +7,8 @@ use Rattle.bson_shape.specs.Form.{Form}
 use Rattle.bson_datum.specs.Refusal as refusal
 use Rattle.bson_recast_run.specs.declared.status.Status.{Status}
 use Rattle.bson_recast_run.specs.declared.status.Status.TheVariants as statuses
-use Rattle.bson_recast_run.specs.Due.{Request, recast_at, refused_with, read_refused_line, write_refused_line, too_long_line, source_fault_line}
+use Rattle.bson_recast_run.specs.Due.{read_refused_line, write_refused_line, too_long_line, source_fault_line}
 use Rattle.bson_recast_run.specs.Recasting.{Recasts, ReadRefuses, WriteRefuses}
-
--- the shape that is asked for, or the line that refuses the words
-abbrev pub Asks : Result Form (String Global) → Request → Type 0
-Asks (Ok s) r = r ≡ recast_at s
-Asks (Err line) r = r ≡ refused_with (string_bytes line)
 
 -- the status, the bytes and the line for an input at a shape
 abbrev pub Answers : Form → Bytes → Status → Bytes → Utf8 → Type 0

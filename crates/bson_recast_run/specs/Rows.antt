@@ -3,20 +3,21 @@ use Rattle.std.specs.Prelude.{◌≡◌, ◌⊎◌, List, []}
 use Rattle.std.specs.Io.KnownBytes.{Keeps, Appends}
 use Rattle.bson_base.specs.Sound.{max_bytes}
 use Rattle.bson_base.specs.Text.{Bytes, Utf8}
-use Rattle.bson_io.specs.Ends.{Rose, RoseOrLast, AppendsPrefix, TakesMore, FitsIn}
+use Rattle.bson_io.specs.Ends.{Rose, RoseOrLast, AppendsPrefix, TakesAtMost, TakesMore, FitsIn}
 use Rattle.bson_shape.specs.Form.{Form}
 use Rattle.bson_datum.specs.Refusal.{ReadFault, WriteFault, Failure}
 use Rattle.bson_recast_run.specs.declared.status.Status.{Status}
 use Rattle.bson_recast_run.specs.declared.status.Status.TheVariants as statuses
 use Rattle.bson_recast_run.specs.Recasting.{Recasts, ReadRefuses, WriteRefuses}
-use Rattle.bson_recast_run.specs.Due.{recast_at, refused_with, request, read_refused_line, write_refused_line, too_long_line, source_fault_line}
+use Rattle.bson_recast_run.specs.Asked.{AsksFor, RefusesWords}
+use Rattle.bson_recast_run.specs.Due.{read_refused_line, write_refused_line, too_long_line, source_fault_line}
 use Rattle.bson_recast_run.specs.Ends.{SourceChange, SinkChange, ReadAs}
 
--- The words ask for a recast at this shape, and these bytes were the whole input.
+-- The words are the notation of this shape, and these bytes were the whole input.
 pub record Asked (words : List Utf8) (input : SourceChange) : Type 0 where
   pub shape : Form
   pub bytes : Bytes
-  pub asked : request words ≡ recast_at shape
+  pub for_shape : AsksFor words shape
   pub read : ReadAs input bytes
 
 -- The recast writes this, and nothing is told.
@@ -27,7 +28,7 @@ pub record DoneRow (words : List Utf8) (input : SourceChange) (out line : Bytes)
 
 -- The words ask for no recast, as this line tells; the input was not touched.
 pub record UsageRow (words : List Utf8) (input : SourceChange) (out line : Bytes) : Type 0 where
-  pub asked : request words ≡ refused_with line
+  pub refused : RefusesWords words line
   pub unread : Keeps input.before input.after
   pub nothing : out ≡ []
 
@@ -42,7 +43,7 @@ pub record ReadRefusedRow (words : List Utf8) (input : SourceChange) (out line :
 -- More bytes were taken than a document may have.
 pub record TooLongRow (words : List Utf8) (input : SourceChange) (out line : Bytes) : Type 0 where
   pub shape : Form
-  pub asked : request words ≡ recast_at shape
+  pub for_shape : AsksFor words shape
   pub taken : TakesMore max_bytes input.before input.after
   pub says : line ≡ too_long_line
   pub nothing : out ≡ []
@@ -55,11 +56,12 @@ pub record WriteRefusedRow (words : List Utf8) (input : SourceChange) (out line 
   pub says : line ≡ write_refused_line failure
   pub nothing : out ≡ []
 
--- The count of the input's faults rose.
+-- The count of the input's faults rose, and no more bytes were taken than a document may have.
 pub record SourceFaultRow (words : List Utf8) (input : SourceChange) (out line : Bytes) : Type 0 where
   pub shape : Form
-  pub asked : request words ≡ recast_at shape
+  pub for_shape : AsksFor words shape
   pub rose : Rose input.faults_before input.faults_after
+  pub within : TakesAtMost max_bytes input.before input.after
   pub says : line ≡ source_fault_line
   pub nothing : out ≡ []
 

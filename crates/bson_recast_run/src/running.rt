@@ -1,23 +1,22 @@
 // The run: the words are judged, the input is read to its end, the recast runs, and all is written.
-ghost use Rattle.std.specs.Prelude.{◌≡◌, ◌≢◌, ◌≤◌, ◌++◌, ◌⊎◌, [], ◌∷◌, length, map, string_bytes, IfSome, IfOk, IfErr, IsOk, OnOk, OnErr, Some, Result};
+ghost use Rattle.std.specs.Prelude.{◌≡◌, ◌≢◌, ◌≤◌, ◌++◌, ◌⊎◌, [], ◌∷◌, length, map, string_bytes, IfSome, IfOk, IfErr, IsOk, OnOk, OnErr, Some, false};
 ghost use Rattle.std.specs.Io.KnownBytes.{Appends};
 ghost use Rattle.bson_base.specs.Sound.{IsSound};
 ghost use Rattle.bson_base.specs.Tree.{Tree, enc};
 ghost use Rattle.bson_io.specs.Ends.{RoseOrLast, AppendsPrefix, FitsIn};
 ghost use Rattle.bson_shape.specs.Form.{Form};
-ghost use Rattle.bson_shape.specs.Answers.{Fails};
-ghost use Rattle.bson_shape.specs.Machine.{Refusal, parsed};
 ghost use Rattle.bson_shape.specs.Makers.{IsShape};
 ghost use Rattle.bson_shape.specs.Notation.{text};
 ghost use Rattle.bson_datum.specs.Value.{Value};
 ghost use Rattle.bson_laws.specs.Views.{views};
 ghost use Rattle.bson_laws.specs.Means.{means};
 ghost use Rattle.bson_laws.specs.Plain.{IsPlain};
-ghost use Rattle.bson_recast_run.specs.Due.{request, at_shape, line_at, refused_with, is_option};
+ghost use Rattle.bson_recast_run.specs.Asked.{Asks};
+ghost use Rattle.bson_recast_run.specs.Due.{is_option, line_at, line_for};
 ghost use Rattle.bson_recast_run.specs.Ends.{source_change, sink_change, AllQuiet, Silent};
 ghost use Rattle.bson_recast_run.specs.Rows.{IsDue, Told, CutShort};
 ghost use Rattle.bson_recast_run.specs.Complete.{status_due, WritesExactly};
-ghost use Rattle.bson_recast_run.specs.Prepared.{Asks, Answers, Reports};
+ghost use Rattle.bson_recast_run.specs.Prepared.{Answers, Reports};
 
 use crate::recasting::{RecastError, recast};
 use crate::status::Status;
@@ -54,30 +53,32 @@ fn line_at(alloc: Global, place: usize, e: &ParseError) -> Result<String, AllocE
 }
 
 // The line for a shape word that is refused. Want of memory has none.
-fn line_of(alloc: Global, e: ParseError) -> Result<String, AllocError>
-    ensures line { IfOk result (λ l. (read : Result Form Refusal) → Fails e read → at_shape read ≡ refused_with (string_bytes l)) }
+fn line_of(alloc: Global, e: &ParseError) -> Result<String, AllocError>
+    ensures { IfOk result (λ l. line_for e.now ≡ Some (string_bytes l)) }
 {
-    match &e {
+    match e {
         ParseError::NoMemory => Err(AllocError),
-        ParseError::NotNotation(place) | ParseError::Refused(place, _) => line_at(
-            alloc, *place, &e,
-        ),
+        ParseError::NotNotation(place) | ParseError::Refused(place, _) => line_at(alloc, *place, e),
     }
 }
 
 // The shape that a word is the notation of, or the line that refuses it. The outer error is want of memory.
 fn shape_of(alloc: Global, word: &str) -> Result<Result<Shape, String>, AllocError>
-    ensures { IfOk result (λ r. Asks r (at_shape (parsed word.now))) }
+    requires { is_option word.now ≡ false }
+    ensures { IfOk result (λ r. Asks (word.now ∷ []) r) }
 {
     match Shape::parse(alloc, word) {
-        Ok(shape) => Ok(Ok(shape)),
-        Err(e) => Ok(Err(line_of(alloc, e)?)),
+        Ok(shape) => {
+            shape.known();
+            Ok(Ok(shape))
+        }
+        Err(e) => Ok(Err(line_of(alloc, &e)?)),
     }
 }
 
 // The shape that the words ask for, or the line that refuses them. The outer error is want of memory.
 fn asked(alloc: Global, words: &[String]) -> Result<Result<Shape, String>, AllocError>
-    ensures { IfOk result (λ r. Asks r (request (map string_bytes words.now))) }
+    ensures { IfOk result (λ r. Asks (map string_bytes words.now) r) }
 {
     match words {
         [word] if !word.as_str().starts_with("--") => shape_of(alloc, word.as_str()),

@@ -1,10 +1,10 @@
-use Rattle.std.proofs.Common.{◌≡◌, map, string_bytes}
-use Rattle.bson_recast_run.specs.Due.{request, recast_at}
+use Rattle.std.proofs.Common.{map, string_bytes}
+use Rattle.bson_recast_run.specs.Asked.{AsksFor}
 use Rattle.bson_recast_run.proofs.Prepares.{due_answer}
 use Rattle.bson_recast_run.proofs.running.prepare.Goals as goal
 
 pub returns-in-Ok-read_to_end-clause-due : goal.returns-in-Ok-read_to_end-clause-due
 returns-in-Ok-read_to_end-clause-due g c =
     let read = c.in-Ok-read_to_end.ensures in
-    let asked : request (map string_bytes c.args.words.now) ≡ recast_at c.in-Ok.shape = rw c.in-Ok.is at c.in_ok-shape.ensures in
+    let asked : AsksFor (map string_bytes c.args.words.now) c.in-Ok.shape = rw c.in-Ok.is at c.in_ok-shape.ensures in
     due_answer _ _ c.in-Ok.shape c.in-Ok-read_to_end.bytes.items c.deref.result.now c.answer_to.result asked (record { taken = read.bytes; ended = read.end; most = read.most }) c.deref.ensures.value c.answer_to.ensures
