@@ -31,7 +31,7 @@ pub record IsLongestFront (bytes : Utf8) (count : ℕ) : Type 0 where
   pub front : BeginsNotation (take count bytes)
   pub no_longer : count < length bytes → BeginsNotation (take (count + 1) bytes) → ⊥
 
--- A maker refuses at this byte of the text or before it: a notation begins with the bytes up to it, in which the refusal is the first.
+-- The refusal is met in the text: some notation begins with the bytes up to the one at which it is met, and in that notation it is the first.
 pub record IsMet (bytes : Utf8) (r : MakerRefusal) : Type 0 where
   pub within : r.met < length bytes
   pub form : Form

@@ -1,5 +1,5 @@
 // What no clause says: that texts that a person would write are read, and print as they stand.
-use crate::{ParseError, Shape, ShapeError};
+use crate::{ParseError, Shape, ShapeError, law_text};
 use std::alloc::{AllocError, Global};
 use std::test::Fail;
 
@@ -27,6 +27,7 @@ fn nested(alloc: Global, count: usize) -> Result<String, AllocError> {
 #[test]
 fn reads_what_it_prints(rt: HostRuntime) -> Result<(), Fail> {
     let alloc = rt.alloc();
+    law_text();
     for text in [
         "i32",
         "{}",
