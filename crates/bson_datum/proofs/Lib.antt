@@ -1,3 +1,4 @@
+pub mod Sames
 pub mod SegmentTexts
 pub mod Stops
 pub mod Views

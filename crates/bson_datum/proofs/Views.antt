@@ -13,5 +13,8 @@ rows_are : (m : _) (rows : Row_of-Field m) → rows_view rows ≡ fields_view (i
 rows_are m end_of-Field = refl
 rows_are m (more_of-Field name v rest) = ap (field_value (text_view name) (view v)) (rows_are _ rest)
 
+pub rows_items : (fs : Vec Field) → rows_view (hidden-the_row-Field-0 fs) ≡ fields_view fs.items
+rows_items fs = rows_are _ (hidden-the_row-Field-0 fs) ∙ ap fields_view (items_hidden-the_row-Field-0 fs)
+
 pub view-Struct : (n : Text) (fs : Vec Field) → view (Struct n fs) ≡ structure (text_view n) (fields_view fs.items)
-view-Struct n fs = ap (structure (text_view n)) (rows_are _ (hidden-the_row-Field-0 fs) ∙ ap fields_view (items_hidden-the_row-Field-0 fs))
+view-Struct n fs = ap (structure (text_view n)) (rows_items fs)

@@ -7,3 +7,5 @@ pub mod PathView
 pub mod Stop
 pub mod ErrorView
 pub mod Printed
+pub mod Same
+pub mod Decided

@@ -1,5 +1,6 @@
 -- What contracts see of a datum: the value that it stands for.
 use Rattle.std.specs.Prelude.{List, [], ◌∷◌}
+use Rattle.bson_base.specs.Text.{Utf8}
 use Rattle.bson_datum.specs.TextView.{text_view}
 use Rattle.bson_datum.specs.Value.{Value, i32, structure, FieldValues, no_field_values, field_value}
 use Rattle.bson_datum.specs.declared.datum.Field.{Field}
@@ -18,3 +19,7 @@ abbrev mutual
 abbrev pub fields_view : List Field → FieldValues
 fields_view [] = no_field_values
 fields_view (f ∷ fs) = field_value (text_view f.name) (view f.value) (fields_view fs)
+
+-- a field: its name and its value
+abbrev pub field_view : Field → Utf8 × Value
+field_view f = (text_view f.name, view f.value)

@@ -4,6 +4,7 @@
 mod cause;
 mod datum;
 pub mod de;
+mod equality;
 mod path;
 pub mod ser;
 mod stop;
@@ -15,3 +16,6 @@ pub use datum::{Datum, Field};
 pub use path::{Path, Segment};
 pub use stop::{Refused, Stop};
 pub use text::Text;
+
+#[cfg(test)]
+mod tests;

@@ -1,0 +1,95 @@
+-- What `==` answers is whether the contents are equal.
+use Rattle.std.proofs.Common.{◌≡◌, ℕ, ℤ, true, refl, ap, sym, subst, ◌∙◌, eq-eqb, arith}
+use Rattle.std.specs.Prelude.{◌&&◌}
+use Rattle.std.specs.Bool.{Decides}
+use Rattle.std.specs.Ordering.{int_eq}
+use Rattle.std.specs.Str.{bytes_eq}
+use Rattle.std.specs.Cmp.{IsPartialEquivalence, partial_equiv_from_equiv, decided, on_equiv, int_eq_equiv}
+use Rattle.std.specs.Cmp.Lexicographic.{pointwise_decides}
+use Rattle.std.proofs.lemmas.Bool.{and_parts, and_from, eqb-true, false≢true}
+use Rattle.std.proofs.lemmas.Int.{ints}
+use Rattle.std.proofs.lemmas.Slice.Eq.{bytes_eq-Decides}
+use Rattle.bson_base.specs.Text.{Utf8}
+use Rattle.bson_datum.specs.Value.{Value, i32, structure, FieldValues, no_field_values, field_value}
+use Rattle.bson_datum.specs.Refusal as refusal
+use Rattle.bson_datum.specs.Refusal.{at_key, at_index}
+use Rattle.bson_datum.specs.Same.{same, same_fields, same_field, same_segment, same_path}
+use Rattle.bson_datum.specs.TextView.{text_view}
+use Rattle.bson_datum.specs.PathView.{path_view, segment_view}
+use Rattle.bson_datum.specs.View.{view, field_view}
+use Rattle.bson_datum.specs.declared.text.Text.{Text}
+use Rattle.bson_datum.specs.declared.path.Segment.{Segment}
+use Rattle.bson_datum.specs.declared.path.Path.{Path}
+use Rattle.bson_datum.specs.declared.datum.Field.{Field}
+use Rattle.bson_datum.specs.declared.datum.Datum.{Datum}
+
+bytes_alike : (name : Utf8) → bytes_eq name name ≡ true
+bytes_alike name = (bytes_eq-Decides name name).1 refl
+
+int_same : (m n : ℤ) → int_eq m n ≡ true → m ≡ n
+int_same m n e = grind (arith, ints, e)
+
+mutual
+  same_is : (v w : Value) → same v w ≡ true → v ≡ w
+  same_is (i32 m) (i32 n) e = ap i32 (int_same m n e)
+  same_is (structure name fs) (structure n gs) e =
+      let b = and_parts (bytes_eq name n) (same_fields fs gs) e in
+      λ i. structure ((bytes_eq-Decides name n).0 b.0 i) (fields_are fs gs b.1 i)
+  same_is v w e = absurd (false≢true e)
+
+  fields_are : (fs gs : FieldValues) → same_fields fs gs ≡ true → fs ≡ gs
+  fields_are no_field_values no_field_values e = refl
+  fields_are (field_value name v fs) (field_value n w gs) e =
+      let b = and_parts (bytes_eq name n && same v w) (same_fields fs gs) e in
+      let d = and_parts (bytes_eq name n) (same v w) b.0 in
+      λ i. field_value ((bytes_eq-Decides name n).0 d.0 i) (same_is v w d.1 i) (fields_are fs gs b.1 i)
+  fields_are fs gs e = absurd (false≢true e)
+
+mutual
+  same_itself : (v : Value) → same v v ≡ true
+  same_itself (i32 n) = int_eq_equiv.refl n
+  same_itself (structure name fs) = and_from _ _ (bytes_alike name) (fields_alike fs)
+
+  fields_alike : (fs : FieldValues) → same_fields fs fs ≡ true
+  fields_alike no_field_values = refl
+  fields_alike (field_value name v fs) = and_from _ _ (and_from _ _ (bytes_alike name) (same_itself v)) (fields_alike fs)
+
+-- `same` is true exactly where the values are equal
+pub same_decides : (v w : Value) → Decides (same v w) (v ≡ w)
+same_decides v w = (same_is v w, λ e. subst (λ x. same v x ≡ true) e (same_itself v))
+
+pub same_field_decides : (f g : Utf8 × Value) → Decides (same_field f g) (f ≡ g)
+same_field_decides f g =
+    (λ e. let b = and_parts (bytes_eq f.0 g.0) (same f.1 g.1) e in λ i. ((bytes_eq-Decides f.0 g.0).0 b.0 i, same_is f.1 g.1 b.1 i),
+    λ e. subst (λ h. same_field f h ≡ true) e (and_from _ _ (bytes_alike f.0) (same_itself f.1)))
+
+segment_is : (s t : refusal.Segment) → same_segment s t ≡ true → s ≡ t
+segment_is (at_key key) (at_key k) e = ap at_key ((bytes_eq-Decides key k).0 e)
+segment_is (at_index i) (at_index j) e = ap at_index (eqb-true i j e)
+segment_is s t e = absurd (false≢true e)
+
+segment_itself : (s : refusal.Segment) → same_segment s s ≡ true
+segment_itself (at_key key) = bytes_alike key
+segment_itself (at_index i) = eq-eqb i i refl
+
+pub same_segment_decides : (s t : refusal.Segment) → Decides (same_segment s t) (s ≡ t)
+same_segment_decides s t = (segment_is s t, λ e. subst (λ u. same_segment s u ≡ true) e (segment_itself s))
+
+pub same_path_decides : (p q : refusal.Path) → Decides (same_path p q) (p ≡ q)
+same_path_decides = pointwise_decides same_segment_decides
+
+-- the laws of `==`
+pub text_laws : IsPartialEquivalence (λ (a : Text) (b : Text). bytes_eq (text_view a) (text_view b))
+text_laws = partial_equiv_from_equiv (on_equiv text_view (decided bytes_eq bytes_eq-Decides))
+
+pub segment_laws : IsPartialEquivalence (λ (a : Segment) (b : Segment). same_segment (segment_view a) (segment_view b))
+segment_laws = partial_equiv_from_equiv (on_equiv segment_view (decided same_segment same_segment_decides))
+
+pub path_laws : IsPartialEquivalence (λ (a : Path) (b : Path). same_path (path_view a) (path_view b))
+path_laws = partial_equiv_from_equiv (on_equiv path_view (decided same_path same_path_decides))
+
+pub field_laws : IsPartialEquivalence (λ (a : Field) (b : Field). same_field (field_view a) (field_view b))
+field_laws = partial_equiv_from_equiv (on_equiv field_view (decided same_field same_field_decides))
+
+pub datum_laws : IsPartialEquivalence (λ (a : Datum) (b : Datum). same (view a) (view b))
+datum_laws = partial_equiv_from_equiv (on_equiv view (decided same same_decides))

@@ -1,0 +1,35 @@
+-- Whether two values, or two paths, are equal: part by part, texts by their contents.
+use Rattle.std.specs.Prelude.{Bool, true, false, ◌&&◌, nat_eq}
+use Rattle.std.specs.Ordering.{int_eq}
+use Rattle.std.specs.Str.{bytes_eq}
+use Rattle.std.specs.Cmp.Lexicographic.{pointwise}
+use Rattle.bson_base.specs.Text.{Utf8}
+use Rattle.bson_datum.specs.Value.{Value, i32, structure, FieldValues, no_field_values, field_value}
+use Rattle.bson_datum.specs.Refusal.{Segment, Path, at_key, at_index}
+
+abbrev mutual
+  -- two values are of one form, and their parts are equal
+  pub same : Value → Value → Bool
+  same (i32 m) (i32 n) = int_eq m n
+  same (structure name fs) (structure n gs) = bytes_eq name n && same_fields fs gs
+  same v w = false
+
+  -- there are as many fields, and each has the name and the value of the other
+  pub same_fields : FieldValues → FieldValues → Bool
+  same_fields no_field_values no_field_values = true
+  same_fields (field_value name v fs) (field_value n w gs) = (bytes_eq name n && same v w) && same_fields fs gs
+  same_fields fs gs = false
+
+-- a field has the name and the value of the other
+abbrev pub same_field : Utf8 × Value → Utf8 × Value → Bool
+same_field f g = bytes_eq f.0 g.0 && same f.1 g.1
+
+-- both are one key, or one index
+abbrev pub same_segment : Segment → Segment → Bool
+same_segment (at_key key) (at_key k) = bytes_eq key k
+same_segment (at_index i) (at_index j) = nat_eq i j
+same_segment s t = false
+
+-- there are as many segments, and each is that of the other
+abbrev pub same_path : Path → Path → Bool
+same_path = pointwise same_segment

@@ -1,0 +1,152 @@
+ghost use Rattle.std.specs.Prelude.{◌≡◌, ◌↔◌, IsTrue};
+ghost use Rattle.std.specs.Str.{bytes_eq};
+ghost use Rattle.bson_datum.specs.TextView.{text_view};
+ghost use Rattle.bson_datum.specs.PathView.{path_view, segment_view};
+ghost use Rattle.bson_datum.specs.View.{view, field_view, fields_view};
+ghost use Rattle.bson_datum.specs.Same.{same, same_fields, same_field, same_segment, same_path};
+
+use crate::{Datum, Field, Path, Segment, Text};
+
+/// Two texts are equal exactly where their contents are, whoever owns them.
+impl PartialEq for Text<'_> {
+    ghost use Rattle.std.specs.Str.{bytes_eq};
+    ghost use Rattle.bson_datum.specs.TextView.{text_view};
+    ghost use Rattle.bson_datum.specs.Decided.{text_laws};
+
+    ghost eq = { λ a b. bytes_eq (text_view a) (text_view b) };
+
+    ghost laws = { text_laws };
+
+    fn eq(&self, other: &Self) -> bool
+        ensures value { result ≡ bytes_eq (text_view self.now) (text_view other.now) }
+        ensures equal { IsTrue result ↔ (text_view self.now ≡ text_view other.now) }
+    {
+        self.as_str() == other.as_str()
+    }
+}
+
+/// Two segments are equal exactly where both are one key or one index.
+impl PartialEq for Segment {
+    ghost use Rattle.bson_datum.specs.PathView.{segment_view};
+    ghost use Rattle.bson_datum.specs.Same.{same_segment};
+    ghost use Rattle.bson_datum.specs.Decided.{segment_laws};
+
+    ghost eq = { λ a b. same_segment (segment_view a) (segment_view b) };
+
+    ghost laws = { segment_laws };
+
+    fn eq(&self, other: &Self) -> bool
+        ensures value { result ≡ same_segment (segment_view self.now) (segment_view other.now) }
+        ensures equal { IsTrue result ↔ (segment_view self.now ≡ segment_view other.now) }
+    {
+        match self {
+            Segment::Key(key) => match other {
+                Segment::Key(other) => key.as_str() == other.as_str(),
+                Segment::Index(_) => false,
+            },
+            Segment::Index(index) => match other {
+                Segment::Key(_) => false,
+                Segment::Index(other) => *index == *other,
+            },
+        }
+    }
+}
+
+/// Two paths are equal exactly where their segments are, in order.
+impl PartialEq for Path {
+    ghost use Rattle.bson_datum.specs.PathView.{path_view};
+    ghost use Rattle.bson_datum.specs.Same.{same_path};
+    ghost use Rattle.bson_datum.specs.Decided.{path_laws};
+
+    ghost eq = { λ a b. same_path (path_view a) (path_view b) };
+
+    ghost laws = { path_laws };
+
+    fn eq(&self, other: &Self) -> bool
+        ensures value { result ≡ same_path (path_view self.now) (path_view other.now) }
+        ensures equal { IsTrue result ↔ (path_view self.now ≡ path_view other.now) }
+    {
+        self.segments() == other.segments()
+    }
+}
+
+/// Two fields are equal exactly where their names are and their values are.
+impl PartialEq for Field<'_> {
+    ghost use Rattle.bson_datum.specs.View.{field_view};
+    ghost use Rattle.bson_datum.specs.Same.{same_field};
+    ghost use Rattle.bson_datum.specs.Decided.{field_laws};
+
+    ghost eq = { λ a b. same_field (field_view a) (field_view b) };
+
+    ghost laws = { field_laws };
+
+    fn eq(&self, other: &Self) -> bool
+        ensures value { result ≡ same_field (field_view self.now) (field_view other.now) }
+        ensures equal { IsTrue result ↔ (field_view self.now ≡ field_view other.now) }
+    {
+        is_same_field(self, other)
+    }
+}
+
+/// Two data are equal exactly where they stand for one value.
+impl PartialEq for Datum<'_> {
+    ghost use Rattle.bson_datum.specs.View.{view};
+    ghost use Rattle.bson_datum.specs.Same.{same};
+    ghost use Rattle.bson_datum.specs.Decided.{datum_laws};
+
+    ghost eq = { λ a b. same (view a) (view b) };
+
+    ghost laws = { datum_laws };
+
+    fn eq(&self, other: &Self) -> bool
+        ensures value { result ≡ same (view self.now) (view other.now) }
+        ensures equal { IsTrue result ↔ (view self.now ≡ view other.now) }
+    {
+        is_same(self, other)
+    }
+}
+
+// Whether two data stand for one value.
+#[cycle(same)]
+#[tactic(auto, using(crate::proofs::Views::rows_items))]
+fn is_same(a: &Datum<'_>, b: &Datum<'_>) -> bool
+    ensures { result ≡ same (view a.now) (view b.now) }
+{
+    match a {
+        Datum::I32(number) => match b {
+            Datum::I32(other) => *number == *other,
+            Datum::Struct { .. } => false,
+        },
+        Datum::Struct { name, fields } => match b {
+            Datum::Struct {
+                name: other,
+                fields: others,
+            } => name == other && are_same(fields, others),
+            Datum::I32(_) => false,
+        },
+    }
+}
+
+// Whether as many fields stand in both, equal one by one.
+#[cycle(same)]
+fn are_same(a: &[Field<'_>], b: &[Field<'_>]) -> bool
+    ensures { result ≡ same_fields (fields_view a.now) (fields_view b.now) }
+{
+    if a.len() != b.len() {
+        return false;
+    }
+    for (i, field) in a.iter().enumerate() {
+        if !is_same_field(field, &b[i]) {
+            return false;
+        }
+    }
+    true
+}
+
+// Whether two fields have one name and stand for one value.
+#[cycle(same)]
+fn is_same_field(a: &Field<'_>, b: &Field<'_>) -> bool
+    ensures { result ≡ same_field (field_view a.now) (field_view b.now) }
+{
+    a.name == b.name && is_same(&a.value, &b.value)
+}
