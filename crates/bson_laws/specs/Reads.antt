@@ -123,7 +123,7 @@ abbrev mutual
   reads (structure name fs) levels k bytes =
       judged levels (value_in k bytes) >>= document_of >>= λ b. result_map (value.structure name) (reads_fields fs (levels - 1) (λ i. reads_field fs i (levels - 1)) (walk b))
 
-  -- at the shape of the field at a place
+  -- at the shape of the field at a place (every place that is asked for is that of a field)
   pub reads_field : Fields → ℕ → ℕ → ElementType → Bytes → Reading Value
   reads_field no_fields i levels k bytes = refused too_deep
   reads_field (field name s fs) zero levels k bytes = reads s levels k bytes

@@ -49,7 +49,7 @@ abbrev pub spell_document : Value → Writing Tree
 spell_document v = at_top (kind_of v) (spell v max_levels)
 
 abbrev mutual
-  -- how many bytes a value takes
+  -- how many bytes a value takes; a struct of a reserved name, which is not written yet, counts as any other
   pub size : Value → ℕ
   size (i32 n) = 4
   size (structure name fs) = size_fields fs + 5

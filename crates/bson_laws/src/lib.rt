@@ -16,7 +16,8 @@ ghost use Rattle.bson_laws.specs.Spell.{spell_document, size};
 
 /// What a sound document is at a plain shape is read from its bytes; it fits the shape, and is its own normal form.
 ///
-/// It does nothing.
+/// The laws speak of the forms of shapes: `IsShape` says that a form meets the conditions of its makers, as that of each
+/// `Shape` does (`Shape::known`). The call does nothing.
 pub fn law_views_reads()
     ensures reads { (s : Form) (t : Tree) (d : Value) → IsShape s → IsPlain s → IsSound t → views s t ≡ Some d
         → reads_document s (enc t) ≡ Ok d }

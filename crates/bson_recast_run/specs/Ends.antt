@@ -28,7 +28,7 @@ source_change left faults old new = record { before = left old; after = left new
 abbrev pub sink_change : {S : Type 0} → (S → Option Bytes) → (S → Option ℕ) → (S → ℕ) → S → S → SinkChange
 sink_change written room faults old new = record { room = room old; before = written old; after = written new; faults_before = faults old; faults_after = faults new }
 
--- The source was read to its end, and these bytes came, as many as a document may have.
+-- The source was read to its end, and these bytes came, at most as many as a document may have.
 pub record ReadAs (input : SourceChange) (bytes : Bytes) : Type 0 where
   pub taken : Consumes input.before input.after bytes
   pub ended : IsAtEnd input.after
