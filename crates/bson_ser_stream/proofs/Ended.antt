@@ -1,12 +1,16 @@
 -- The end of a document.
-use Rattle.std.proofs.Common.{◌≡◌, ℕ, ◌+◌, ◌-◌, ◌≤◌, [], ◌∷◌, length, ap, ◌∙◌, arith}
+use Rattle.std.proofs.Common.{◌≡◌, ℕ, ◌+◌, ◌-◌, ◌≤◌, [], ◌∷◌, ◌++◌, length, take, drop, ap, sym, ◌∙◌, append_assoc, arith}
 use Rattle.std.specs.Int.{w32, to_le_bytes, cast_signed}
 use Rattle.std.proofs.lemmas.Int.{of_z-to_z}
-use Rattle.std.proofs.lemmas.List.{length-append}
+use Rattle.std.proofs.lemmas.List.{length-append, length-drop, length-take-le, take_at, take-append-le}
+use Rattle.bson_base.specs.Text.{Bytes}
 use Rattle.bson_base.specs.Sound.{max_bytes}
 use Rattle.bson_base.specs.Tree.{le32}
+use Rattle.bson_base.proofs.Lengths.{length-le32}
 use Rattle.bson_io.specs.Output.{Output, Appended, Patched, patched, i32_bytes}
-use Rattle.bson_ser_stream.specs.Halting.{Ends}
+use Rattle.bson_ser_stream.specs.Halting.{Ends, Grows}
+use Rattle.bson_ser_stream.proofs.Growth.{Grows-trans, Grows-appended, Grows-longer}
+use Rattle.bson_ser_stream.proofs.Written.{zeros}
 
 -- a length in four bytes
 length_bytes : (n : ℕ) → n ≤ max_bytes → i32_bytes (cast_signed w32 n) ≡ le32 n
@@ -23,4 +27,35 @@ ends old mid new start len before between now a is small p =
       fits = omega arith;
       spare = omega (arith, a.spare, p.spare);
       steps = omega (arith, a.steps, p.steps);
+    }
+
+-- what is written over a place leaves the bytes before it, and the length of all
+before_patch : (bytes piece : Bytes) (at : ℕ) → at ≤ length bytes → take at (patched bytes at piece) ≡ take at bytes
+before_patch bytes piece at inside =
+    ap (take at) (append_assoc (take at bytes) piece (drop (at + length piece) bytes))
+    ∙ take_at (take at bytes) (piece ++ drop (at + length piece) bytes) at (length-take-le at bytes inside)
+
+length-patched : (bytes piece : Bytes) (at : ℕ) → at + length piece ≤ length bytes → length (patched bytes at piece) ≡ length bytes
+length-patched bytes piece at inside =
+    omega (arith, length-append (take at bytes ++ piece) (drop (at + length piece) bytes), length-append (take at bytes) piece, length-take-le at bytes (omega arith), length-drop (at + length piece) bytes)
+
+-- a document that was begun, filled and ended was appended
+pub Grows-document : (old begun mid new : Output) (start s0 s1 s2 s3 : ℕ) → start ≡ length old.bytes → Appended old begun zeros s0 s1 → Grows begun mid s1 s2 → Ends mid new start s2 s3 → Grows old new s0 s3
+Grows-document old begun mid new start s0 s1 s2 s3 at begins grows ends =
+    let filled = Grows-trans old begun mid s0 s1 s2 (Grows-appended old begun zeros s0 s1 begins) grows in
+    let four : length begun.bytes ≡ length old.bytes + 4 = ap length begins.bytes ∙ length-append old.bytes zeros in
+    let longer = Grows-longer begun mid s1 s2 grows in
+    let closed : length (mid.bytes ++ 0 ∷ []) ≡ length mid.bytes + 1 = length-append mid.bytes (0 ∷ []) in
+    let n : ℕ = length mid.bytes + 1 - start in
+    let long : length new.bytes ≡ length mid.bytes + 1 = ap length ends.bytes ∙ length-patched (mid.bytes ++ 0 ∷ []) (le32 n) start (omega (arith, length-le32 n)) ∙ closed in
+    record {
+      kept = ap (λ k. take k new.bytes) (sym at)
+          ∙ ap (take start) ends.bytes
+          ∙ before_patch (mid.bytes ++ 0 ∷ []) (le32 n) start (omega arith)
+          ∙ ap (λ k. take k (mid.bytes ++ 0 ∷ [])) at
+          ∙ take-append-le (length old.bytes) mid.bytes (0 ∷ []) (omega arith)
+          ∙ filled.kept;
+      room = omega (arith, begins.spare, grows.room, ends.spare);
+      least = omega (arith, begins.steps, grows.least, ends.steps);
+      most = omega (arith, begins.steps, grows.most, ends.steps);
     }

@@ -2,9 +2,8 @@
 use Rattle.std.proofs.Common.{◌≡◌, ℕ, ◌+◌, ◌≤◌, [], ◌∷◌, ◌++◌, length, take, refl, ap, ◌∙◌, arith}
 use Rattle.std.proofs.lemmas.List.{length-append, take_at}
 use Rattle.bson_base.specs.Text.{Bytes, Utf8}
-use Rattle.bson_base.specs.Tree.{element}
-use Rattle.bson_base.specs.declared.element_type.ElementType.{ElementType}
 use Rattle.bson_io.specs.Output.{Output, Appended}
+use Rattle.bson_ser_stream.specs.Writing.{front}
 use Rattle.bson_ser_stream.specs.Halting.{Grows}
 
 taken_longer : (a b : Bytes) → take (length a) b ≡ a → length a ≤ length b
@@ -23,16 +22,16 @@ taken_twice (x ∷ a) (y ∷ b) (z ∷ c) e f =
     cc
 
 pub Grows-trans : (a b c : Output) (before between now : ℕ) → Grows a b before between → Grows b c between now → Grows a c before now
-Grows-trans a b c before between now f s = record { kept = taken_twice a.bytes b.bytes c.bytes f.kept s.kept; room = omega (arith, f.room, s.room); steps = omega (arith, f.steps, s.steps) }
+Grows-trans a b c before between now f s = record { kept = taken_twice a.bytes b.bytes c.bytes f.kept s.kept; room = omega (arith, f.room, s.room); least = omega (arith, f.least, s.least); most = omega (arith, f.most, s.most) }
 
 pub Grows-appended : (a b : Output) (piece : Bytes) (before now : ℕ) → Appended a b piece before now → Grows a b before now
 Grows-appended a b piece before now p =
     let long = length-append a.bytes piece in
-    record { kept = ap (take (length a.bytes)) p.bytes ∙ take_at a.bytes piece (length a.bytes) refl; room = omega (arith, ap length p.bytes, p.spare); steps = omega (arith, ap length p.bytes, p.steps) }
+    record { kept = ap (take (length a.bytes)) p.bytes ∙ take_at a.bytes piece (length a.bytes) refl; room = omega (arith, ap length p.bytes, p.spare); least = omega (arith, ap length p.bytes, p.steps); most = omega (arith, ap length p.bytes, p.steps) }
 
 pub Grows-longer : (a b : Output) (before now : ℕ) → Grows a b before now → length a.bytes ≤ length b.bytes
 Grows-longer a b before now h = taken_longer a.bytes b.bytes h.kept
 
 -- the front of an element is two bytes longer than its key
-pub length-front : (a b : Output) (k : ElementType) (key : Utf8) → b.bytes ≡ a.bytes ++ element k key [] → length b.bytes ≡ length a.bytes + length key + 2
-length-front a b k key e = omega (arith, ap length e, length-append a.bytes (element k key []), length-append key (0 ∷ []))
+pub length-front : (a b : Output) (key : Utf8) → b.bytes ≡ a.bytes ++ front key → length b.bytes ≡ length a.bytes + length key + 2
+length-front a b key e = omega (arith, ap length e, length-append a.bytes (front key), length-append key (0 ∷ []))

@@ -1,5 +1,5 @@
 -- What means a sound document is written as it, and fails for want of memory alone.
-use Rattle.std.proofs.Common.{◌≡◌, inl, inr, Some, Ok, ap, sym, subst, ◌∙◌, arith}
+use Rattle.std.proofs.Common.{◌≡◌, [], inl, inr, Some, Ok, ap, sym, subst, ◌∙◌, arith}
 use Rattle.bson_base.specs.Text.{Bytes}
 use Rattle.bson_base.specs.Outcome.{result_map}
 use Rattle.bson_base.specs.Sound.{IsSound}
@@ -9,7 +9,7 @@ use Rattle.bson_datum.specs.Value.{Value}
 use Rattle.bson_laws.specs.Means.{means}
 use Rattle.bson_laws.specs.Spell.{Writing, spell_document, size}
 use Rattle.bson_laws.proofs.Spelled.{spell_means}
-use Rattle.bson_ser_stream.specs.Writing.{IsDue, Fails}
+use Rattle.bson_ser_stream.specs.Writing.{with_tree, IsDue, Fails}
 
 abbrev written : Bytes → Writing Bytes
 written b = Ok b
@@ -17,8 +17,8 @@ written b = Ok b
 same_bytes : (a b : Bytes) → written a ≡ written b → a ≡ b
 same_bytes a b e = cc
 
-pub sound_bytes : (v : Value) (t : Tree) (bytes : Bytes) → means v ≡ Some t → IsSound t → result_map enc (spell_document v) ≡ Ok bytes → bytes ≡ enc t
-sound_bytes v t bytes e s h = same_bytes bytes (enc t) (sym h ∙ ap (result_map enc) (spell_means v t e s).0)
+pub sound_bytes : (v : Value) (t : Tree) (old new items : Bytes) → means v ≡ Some t → IsSound t → old ≡ [] → items ≡ new → with_tree old (spell_document v) ≡ Ok new → items ≡ enc t
+sound_bytes v t old new items e s empty is h = same_bytes items (enc t) (ap Ok is ∙ sym h ∙ ap (λ b. with_tree b (spell_document v)) empty ∙ ap (result_map enc) (spell_means v t e s).0)
 
 pub sound_fails : (v : Value) (t : Tree) (f : Failure WriteFault) → means v ≡ Some t → IsSound t → Fails (size v) (spell_document v) f → f ≡ no_memory
 sound_fails v t f e s (inl none) = none

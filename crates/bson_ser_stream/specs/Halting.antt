@@ -49,11 +49,12 @@ abbrev pub Gives : {X Y : Type 0} → ℕ → ℕ → (X → Y) → Result X Hal
 Gives size spare view (Ok x) due = due ≡ Ok (view x)
 Gives size spare view (Err h) due = Halts size spare due h
 
--- Bytes were appended alone. No more spare room was lost than they take, and each of them cost at most two steps.
+-- Bytes were appended alone. No more spare room was lost than they take, and each of them cost one step or two.
 pub record Grows (old new : Output) (before now : ℕ) : Type 0 where
   pub kept : take (length old.bytes) new.bytes ≡ old.bytes
   pub room : length old.bytes + old.spare ≤ length new.bytes + new.spare
-  pub steps : now + 2 * length old.bytes ≤ before + 2 * length new.bytes
+  pub least : before + length new.bytes ≤ now + length old.bytes
+  pub most : now + 2 * length old.bytes ≤ before + 2 * length new.bytes
 
 -- A document that begins at a place is ended: a zero stands behind it, and its length in its first four bytes.
 pub record Ends (old new : Output) (start before now : ℕ) : Type 0 where

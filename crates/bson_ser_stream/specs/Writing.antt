@@ -1,16 +1,23 @@
 -- What a writer answers.
-use Rattle.std.specs.Prelude.{◌≡◌, ℕ, ◌<◌, ◌++◌, ◌⊎◌, Ok, Err}
+use Rattle.std.specs.Prelude.{◌≡◌, ℕ, ◌<◌, [], ◌∷◌, ◌++◌, ◌⊎◌, Result, Ok, Err}
+use Rattle.std.specs.Global.{Vec}
 use Rattle.bson_base.specs.Text.{Bytes, Utf8}
 use Rattle.bson_base.specs.Outcome.{result_map}
 use Rattle.bson_base.specs.Sound.{max_bytes}
 use Rattle.bson_base.specs.Tree.{Tree, Pairs, enc, elements, element, kind}
 use Rattle.bson_datum.specs.Cause.{too_long}
 use Rattle.bson_datum.specs.Refusal.{WriteFault, unwritable, here, Failure, no_memory, with_path}
+use Rattle.bson_datum.specs.ErrorView.{write_failure}
+use Rattle.bson_datum.specs.declared.ser.Error.{Error}
 use Rattle.bson_laws.specs.Spell.{Writing}
 
 -- the bytes so far, with those of a value behind them
 abbrev pub with_tree : Bytes → Writing Tree → Writing Bytes
 with_tree old r = result_map (λ t. old ++ enc t) r
+
+-- the front of an element before its kind is known: a zero in the place of the kind, and the key closed by a zero
+abbrev pub front : Utf8 → Bytes
+front key = 0 ∷ (key ++ 0 ∷ [])
 
 -- the bytes so far, with an element behind them
 abbrev pub with_element : Bytes → Utf8 → Writing Tree → Writing Bytes
@@ -32,3 +39,8 @@ IsDue (Err r) f = f ≡ with_path r
 -- Why something of a size is not written: for want of memory, for the refusal that is due, or for its size.
 abbrev pub Fails : {A : Type 0} → ℕ → Writing A → Failure WriteFault → Type 0
 Fails size due f = (f ≡ no_memory) ⊎ IsDue due f ⊎ ((f ≡ too_long_failure) × (max_bytes < size))
+
+-- these bytes are given, or memory ran out
+abbrev pub GivesBytes : Bytes → Result (Vec ℕ) Error → Type 0
+GivesBytes bytes (Ok v) = v.items ≡ bytes
+GivesBytes bytes (Err e) = write_failure e ≡ no_memory

@@ -7,7 +7,7 @@ ghost use Rattle.bson_datum.specs.View.{view};
 ghost use Rattle.bson_datum.specs.ErrorView.{write_failure};
 ghost use Rattle.bson_laws.specs.Means.{means};
 ghost use Rattle.bson_laws.specs.Spell.{spell_document, size};
-ghost use Rattle.bson_ser_stream.specs.Writing.{with_tree, Fails, too_long_failure};
+ghost use Rattle.bson_ser_stream.specs.Writing.{with_tree, Fails, too_long_failure, GivesBytes};
 ghost use Rattle.bson_ser_stream.specs.Halting.{Gives, Grows};
 
 use crate::halt::Halt;
@@ -33,7 +33,10 @@ fn put_whole<L: Ledger>(
     ensures grows { Grows out.old out.new steps.old steps.new }
 {
     match value.element_type() {
-        ElementType::EmbeddedDocument => put_value(out, steps, value, MAX_LEVELS),
+        ElementType::EmbeddedDocument => {
+            put_value(out, steps, value, MAX_LEVELS)?;
+            Ok(())
+        }
         kind => Err(Halt::caused(out.allocator(), Cause::TopLevel(kind))),
     }
 }
@@ -41,7 +44,7 @@ fn put_whole<L: Ledger>(
 /// Appends the bytes of a document to an output buffer, in one pass over the datum.
 ///
 /// A struct is a document of its fields, in order, and an `I32` is an int32 (bsonspec.org, version 1.1). `steps` counts
-/// one for each byte that is appended, and one for each byte that is written over the place of a length.
+/// one for each byte that is appended, and one for each byte that is written over the place of a kind or a length.
 ///
 /// # Errors
 ///
@@ -69,6 +72,8 @@ pub fn to_buf<L: Ledger>(value: &Datum<'_>, out: &mut Out, steps: &mut Steps<L>)
         → size (view value.now) ≤ out.old.spare → IsOk result }
     ensures spare { OnOk result
         (out.old.spare ≤ out.new.spare + (length out.new.bytes - length out.old.bytes)) }
+    ensures counted { OnOk result
+        (steps.old + (length out.new.bytes - length out.old.bytes) ≤ steps.new) }
     ensures steps { OnOk result
         (steps.new ≤ steps.old + 2 * (length out.new.bytes - length out.old.bytes)) }
 {
@@ -82,7 +87,7 @@ pub fn to_buf<L: Ledger>(value: &Datum<'_>, out: &mut Out, steps: &mut Steps<L>)
     }
 }
 
-/// The bytes of a document, as [`to_buf`] appends them. `steps` rises by at most twice their number.
+/// The bytes of a document, as [`to_buf`] appends them. `steps` rises by at least their number, and at most twice that.
 ///
 /// # Errors
 ///
@@ -99,6 +104,11 @@ pub fn to_vec_counted<L: Ledger>(
         IfErr result (λ e. Fails (size v) (spell_document v) (write_failure e)) }
     ensures too_long { IfErr result
         (λ e. write_failure e ≡ too_long_failure → max_bytes < size (view value.now)) }
+
+    // What means a sound document is written as that document, unless memory runs out.
+    ensures sound { (t : Tree) → means (view value.now) ≡ Some t → IsSound t
+        → GivesBytes (enc t) result }
+    ensures counted { IfOk result (λ out. steps.old + vec_len out ≤ steps.new) }
     ensures steps { IfOk result (λ out. steps.new ≤ steps.old + 2 * vec_len out) }
 {
     let mut out = Out::new(alloc);
@@ -119,6 +129,10 @@ pub fn to_vec_at(alloc: Global, value: &Datum<'_>) -> Result<Vec<u8>>
         IfErr result (λ e. Fails (size v) (spell_document v) (write_failure e)) }
     ensures too_long { IfErr result
         (λ e. write_failure e ≡ too_long_failure → max_bytes < size (view value.now)) }
+
+    // What means a sound document is written as that document, unless memory runs out.
+    ensures sound { (t : Tree) → means (view value.now) ≡ Some t → IsSound t
+        → GivesBytes (enc t) result }
 {
     let mut steps = Steps::<Tally>::new();
     to_vec_counted(alloc, value, &mut steps)

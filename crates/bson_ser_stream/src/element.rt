@@ -1,15 +1,18 @@
-// The front of an element: its kind and its key.
-ghost use Rattle.std.specs.Prelude.{◌≡◌, ◌≤◌, ◌+◌, ◌++◌, [], length, IsOk, OnOk};
+// The front of an element: a place for its kind, and its key.
+ghost use Rattle.std.specs.Prelude.{◌≡◌, ◌≤◌, ◌+◌, length, IsOk, OnOk};
 ghost use Rattle.bson_base.specs.Text.{has_zero};
-ghost use Rattle.bson_base.specs.Tree.{element};
 ghost use Rattle.bson_datum.specs.Refusal.{invalid_cstring};
+ghost use Rattle.bson_io.specs.Output.{Appended};
+ghost use Rattle.bson_ser_stream.specs.Writing.{front};
 ghost use Rattle.bson_ser_stream.specs.Halting.{Grows, IsHereOrWant};
 
 use crate::halt::Halt;
-use bson_base::ElementType;
 use bson_datum::ser::Fault;
 use bson_io::{Ledger, Out, Steps};
 use std::alloc::{AllocError, Global};
+
+// The byte that holds the place of a kind until the value was written.
+const KIND_PLACE: u8 = 0;
 
 /// Whether a zero character stands in the text.
 pub(crate) fn has_zero(text: &str) -> bool
@@ -35,18 +38,17 @@ pub(crate) fn zero_in(alloc: Global, name: &str) -> Halt
     }
 }
 
-/// Appends the front of an element: the byte of its kind, and its key closed by a zero.
+/// Appends the front of an element: a zero in the place of the byte of its kind, and its key closed by a zero.
 pub(crate) fn begin_element<L: Ledger>(
     out: &mut Out,
     steps: &mut Steps<L>,
-    kind: ElementType,
     key: &str,
 ) -> Result<(), AllocError>
-    ensures ok { OnOk result (out.new.bytes ≡ out.old.bytes ++ element kind key.now []) }
+    ensures ok { OnOk result (Appended out.old out.new (front key.now) steps.old steps.new) }
     ensures free { length key.now + 2 ≤ out.old.spare → IsOk result }
     ensures grows { Grows out.old out.new steps.old steps.new }
 {
-    out.push(kind.byte(), steps)?;
+    out.push(KIND_PLACE, steps)?;
     out.push_all(key.as_bytes(), steps)?;
     out.push(0, steps)?;
     Ok(())

@@ -1,8 +1,10 @@
-// One pass over a datum: each value is appended, and the length of a document is written over its place at its end.
-ghost use Rattle.std.specs.Prelude.{◌≡◌, ◌≤◌, ◌+◌, length, OnOk, OnErr, IfErr, Ok};
+// One pass over a datum. What is known only behind a value is written over its place there: the kind of each element, and the
+// length of each document.
+ghost use Rattle.std.specs.Prelude.{◌≡◌, ◌≤◌, ◌+◌, length, OnOk, OnErr, IfOk, IfErr, Ok};
 ghost use Rattle.bson_base.specs.Sound.{max_bytes};
 ghost use Rattle.bson_base.specs.Tree.{int32};
 ghost use Rattle.bson_datum.specs.TextView.{text_view};
+ghost use Rattle.bson_datum.specs.Value.{kind_of};
 ghost use Rattle.bson_datum.specs.View.{view, fields_view};
 ghost use Rattle.bson_laws.specs.Spell.{spell, spell_fields, named, enclosed_at, size, size_fields};
 ghost use Rattle.bson_ser_stream.specs.Writing.{with_tree, with_element, with_elements};
@@ -10,7 +12,7 @@ ghost use Rattle.bson_ser_stream.specs.Halting.{Gives, Grows, Ends, EndHalts};
 
 use crate::element::{begin_element, has_zero, zero_in};
 use crate::halt::Halt;
-use bson_base::reserved_kind;
+use bson_base::{ElementType, reserved_kind};
 use bson_datum::{Cause, Datum, Field};
 use bson_io::{Ledger, Out, Steps};
 
@@ -35,23 +37,25 @@ fn end_document<L: Ledger>(out: &mut Out, steps: &mut Steps<L>, start: usize) ->
 
 // A number in four bytes.
 #[tactic(auto, unfolding(bson_base::specs::Tree::le32))]
-fn put_i32<L: Ledger>(out: &mut Out, steps: &mut Steps<L>, n: i32) -> Result<(), Halt>
+fn put_i32<L: Ledger>(out: &mut Out, steps: &mut Steps<L>, n: i32) -> Result<ElementType, Halt>
+    ensures kind { IfOk result (λ k. k ≡ ElementType.Int32) }
     ensures bytes { Gives 4 out.old.spare (λ _. out.new.bytes) result
         (with_tree out.old.bytes (Ok (int32 n))) }
     ensures grows { Grows out.old out.new steps.old steps.new }
 {
     out.push_all(&n.to_le_bytes(), steps)?;
-    Ok(())
+    Ok(ElementType::Int32)
 }
 
-/// Appends a value, with so many levels of documents left.
+/// Appends a value, with so many levels of documents left, and answers the kind that it wrote.
 #[cycle(put)]
 pub(crate) fn put_value<L: Ledger>(
     out: &mut Out,
     steps: &mut Steps<L>,
     value: &Datum<'_>,
     levels: u32,
-) -> Result<(), Halt>
+) -> Result<ElementType, Halt>
+    ensures kind { IfOk result (λ k. k ≡ kind_of (view value.now)) }
     ensures bytes { Gives (size (view value.now)) out.old.spare (λ _. out.new.bytes) result
         (with_tree out.old.bytes (spell (view value.now) levels)) }
     ensures fits { OnOk result (size (view value.now) ≤ max_bytes) }
@@ -73,7 +77,8 @@ fn put_document<L: Ledger>(
     steps: &mut Steps<L>,
     fields: &[Field<'_>],
     levels: u32,
-) -> Result<(), Halt>
+) -> Result<ElementType, Halt>
+    ensures kind { IfOk result (λ k. k ≡ ElementType.EmbeddedDocument) }
     ensures bytes { let values = fields_view fields.now in
         Gives (size_fields values + 5) out.old.spare (λ _. out.new.bytes) result
         (with_tree out.old.bytes (enclosed_at levels (spell_fields values))) }
@@ -87,7 +92,7 @@ fn put_document<L: Ledger>(
     out.push_all(&[0; 4], steps)?;
     put_fields(out, steps, fields, levels - 1)?;
     end_document(out, steps, start)?;
-    Ok(())
+    Ok(ElementType::EmbeddedDocument)
 }
 
 // The elements of these fields.
@@ -109,7 +114,7 @@ fn put_fields<L: Ledger>(
     Ok(())
 }
 
-// An element: the field's name, which is judged before its value.
+// An element: the field's name, which is judged before its value, and the value, whose kind is known behind it.
 #[cycle(put)]
 fn put_field<L: Ledger>(
     out: &mut Out,
@@ -126,9 +131,13 @@ fn put_field<L: Ledger>(
     if has_zero(key) {
         return Err(zero_in(out.allocator(), key));
     }
-    begin_element(out, steps, field.value.element_type(), key)?;
+    let start = out.len();
+    begin_element(out, steps, key)?;
     match put_value(out, steps, &field.value, levels) {
-        Ok(()) => Ok(()),
+        Ok(kind) => {
+            out.patch_byte(start, kind.byte(), steps);
+            Ok(())
+        }
         Err(halt) => Err(halt.under_key(key)),
     }
 }
