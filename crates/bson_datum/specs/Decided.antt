@@ -1,5 +1,5 @@
 -- What `==` answers is whether the contents are equal.
-use Rattle.std.proofs.Common.{◌≡◌, ℕ, ℤ, true, refl, ap, sym, subst, ◌∙◌, eq-eqb, arith}
+use Rattle.std.proofs.Common.{◌≡◌, ℤ, true, refl, ap, subst, eq-eqb, arith}
 use Rattle.std.specs.Prelude.{◌&&◌}
 use Rattle.std.specs.Bool.{Decides}
 use Rattle.std.specs.Ordering.{int_eq}
