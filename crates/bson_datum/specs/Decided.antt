@@ -1,5 +1,5 @@
 -- What `==` answers is whether the contents are equal.
-use Rattle.std.proofs.Common.{◌≡◌, ℕ, ℤ, true, refl, ap, sym, subst, ◌∙◌, eq-eqb, arith}
+use Rattle.std.proofs.Common.{◌≡◌, ℤ, true, refl, ap, subst, eq-eqb, arith}
 use Rattle.std.specs.Prelude.{◌&&◌}
 use Rattle.std.specs.Bool.{Decides}
 use Rattle.std.specs.Ordering.{int_eq}
@@ -59,9 +59,10 @@ pub same_decides : (v w : Value) → Decides (same v w) (v ≡ w)
 same_decides v w = (same_is v w, λ e. subst (λ x. same v x ≡ true) e (same_itself v))
 
 pub same_field_decides : (f g : Utf8 × Value) → Decides (same_field f g) (f ≡ g)
-same_field_decides f g =
-    (λ e. let b = and_parts (bytes_eq f.0 g.0) (same f.1 g.1) e in λ i. ((bytes_eq-Decides f.0 g.0).0 b.0 i, same_is f.1 g.1 b.1 i),
-    λ e. subst (λ h. same_field f h ≡ true) e (and_from _ _ (bytes_alike f.0) (same_itself f.1)))
+same_field_decides f g = (
+  λ e. let b = and_parts (bytes_eq f.0 g.0) (same f.1 g.1) e in λ i. ((bytes_eq-Decides f.0 g.0).0 b.0 i, same_is f.1 g.1 b.1 i),
+  λ e. subst (λ h. same_field f h ≡ true) e (and_from _ _ (bytes_alike f.0) (same_itself f.1)),
+)
 
 segment_is : (s t : refusal.Segment) → same_segment s t ≡ true → s ≡ t
 segment_is (at_key key) (at_key k) e = ap at_key ((bytes_eq-Decides key k).0 e)

@@ -39,15 +39,10 @@ impl PartialEq for Segment {
         ensures value { result ≡ same_segment (segment_view self.now) (segment_view other.now) }
         ensures equal { IsTrue result ↔ (segment_view self.now ≡ segment_view other.now) }
     {
-        match self {
-            Segment::Key(key) => match other {
-                Segment::Key(other) => key.as_str() == other.as_str(),
-                Segment::Index(_) => false,
-            },
-            Segment::Index(index) => match other {
-                Segment::Key(_) => false,
-                Segment::Index(other) => *index == *other,
-            },
+        match (self, other) {
+            (Segment::Key(key), Segment::Key(other)) => key == other,
+            (Segment::Index(index), Segment::Index(other)) => index == other,
+            _ => false,
         }
     }
 }
@@ -112,18 +107,16 @@ impl PartialEq for Datum<'_> {
 fn is_same(a: &Datum<'_>, b: &Datum<'_>) -> bool
     ensures { result ≡ same (view a.now) (view b.now) }
 {
-    match a {
-        Datum::I32(number) => match b {
-            Datum::I32(other) => *number == *other,
-            Datum::Struct { .. } => false,
-        },
-        Datum::Struct { name, fields } => match b {
+    match (a, b) {
+        (Datum::I32(number), Datum::I32(other)) => number == other,
+        (
+            Datum::Struct { name, fields },
             Datum::Struct {
                 name: other,
                 fields: others,
-            } => name == other && are_same(fields, others),
-            Datum::I32(_) => false,
-        },
+            },
+        ) => name == other && are_same(fields, others),
+        _ => false,
     }
 }
 

@@ -7,5 +7,6 @@ are_same-returns-then-a-b t c = sym (same_fields-lengths c.args.a.now c.args.b.n
 
 pub is_same-returns-then-eq : goal.is_same-returns-then-eq
 is_same-returns-then-eq t c =
+    let pair = c.in-Struct-Struct in
     c.are_same.ensures
-    ∙ same_structs c.args.a.now c.args.b.now c.in-Struct.name c.in-Struct-b-2.other c.in-Struct.fields c.in-Struct-b-2.others _ _ c.in-Struct.is c.in-Struct-b-2.is c.deref.ensures.value c.deref-then-eq.ensures.value (sym c.eq.ensures ∙ c.if-eq.true)
+    ∙ same_structs c.args.a.now c.args.b.now pair.name pair.other pair.fields pair.others _ _ pair.is-0 pair.is-1 c.deref.ensures.value c.deref-then-eq.ensures.value (sym c.eq.ensures ∙ c.if-eq.true)
