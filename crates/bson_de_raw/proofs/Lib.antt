@@ -3,3 +3,4 @@ pub mod Places
 pub mod Filled
 pub mod Finished
 pub mod Passed
+pub mod ReadBack

@@ -1,5 +1,6 @@
 -- The place of the field that has a name.
-use Rattle.std.proofs.Common.{◌≡◌, ℕ, zero, suc, ◌<◌, List, [], ◌∷◌, length, get_or, Bool, true, false, cond, Option, Some, None, refl, ap, sym, ◌∙◌, string_bytes, arith}
+use Rattle.std.proofs.Common.{◌≡◌, ℕ, zero, suc, ◌+◌, ◌<◌, List, [], ◌∷◌, length, get_or, take, add-one, Bool, true, false, cond, Option, Some, None, refl, ap, sym, ◌∙◌, string_bytes, arith}
+use Rattle.std.specs.Prelude.{IfSome}
 use Rattle.std.specs.Str.{bytes_eq}
 use Rattle.std.proofs.lemmas.Bool.{false≢true, or_left, or_right}
 use Rattle.std.proofs.lemmas.Slice.Eq.{bytes_eq-Decides}
@@ -52,3 +53,37 @@ place_distinct (f ∷ fs) key (suc i) d distinct lt is =
 pub place_got : (fs : List FieldShape) (key : Utf8) (i : ℕ) (f : FieldShape) → AreDistinct (fields_of fs) → i < length fs → f ≡ get_or fs i f → bytes_eq (string_bytes f.name) key ≡ true → place_of (fields_of fs) key ≡ Some i
 place_got fs key i f distinct lt got is =
     place_distinct fs key i f distinct lt (ap (λ (g : FieldShape). bytes_eq (string_bytes g.name) key) (sym got) ∙ is)
+
+-- of two names one is put before the other
+further : (a b : Bool) (i : ℕ) (o : Option ℕ) → (a ≡ true → b ≡ false) → cond a (Some (suc i)) (cond b (Some 0) (one_further o)) ≡ cond b (Some 0) (one_further (cond a (Some i) o))
+further true true i o apart = absurd (false≢true (sym (apart refl)))
+further true false i o apart = refl
+further false true i o apart = refl
+further false false i o apart = refl
+
+place_one_more : (fs : List FieldShape) (name : Utf8) (i : ℕ) (f : FieldShape) → AreDistinct (fields_of fs) → i < length fs → f ≡ get_or fs i f
+    → cond (bytes_eq (string_bytes f.name) name) (Some i) (place_of (fields_of (take i fs)) name) ≡ place_of (fields_of (take (suc i) fs)) name
+place_one_more [] name i f distinct lt stands = absurd (omega arith)
+place_one_more (g ∷ fs) name zero f distinct lt stands = ap (λ (h : FieldShape). cond (bytes_eq (string_bytes h.name) name) (Some 0) None) stands
+place_one_more (g ∷ fs) name (suc i) f distinct lt stands =
+    let parts = distinct_parts (string_bytes g.name) g.shape (fields_of fs) distinct in
+    let apart : bytes_eq (string_bytes f.name) name ≡ true → bytes_eq (string_bytes g.name) name ≡ false =
+    λ is. not_true _ (λ e. false≢true (sym parts.0 ∙ has_at fs (string_bytes g.name) i f (omega arith) (same_name _ _ e ∙ sym (same_name _ _ is) ∙ ap (λ (h : FieldShape). string_bytes h.name) stands))) in
+    further (bytes_eq (string_bytes f.name) name) (bytes_eq (string_bytes g.name) name) i (place_of (fields_of (take i fs)) name) apart
+    ∙ ap (first_or (bytes_eq (string_bytes g.name) name)) (place_one_more fs name i f parts.1 (omega arith) stands)
+
+-- the places of the names so far, and one more
+pub place_more : (fs : List FieldShape) (name : Utf8) (i : ℕ) (f : FieldShape) → AreDistinct (fields_of fs) → i < length fs → f ≡ get_or fs i f
+    → cond (bytes_eq (string_bytes f.name) name) (Some i) (place_of (fields_of (take i fs)) name) ≡ place_of (fields_of (take (i + 1) fs)) name
+place_more fs name i f distinct lt stands = place_one_more fs name i f distinct lt stands ∙ ap (λ n. place_of (fields_of (take n fs)) name) (sym (add-one i))
+
+-- the first of them or one further on lies within one more
+first_within : (b : Bool) (o : Option ℕ) (n : ℕ) → IfSome o (λ i. i < n) → IfSome (first_or b o) (λ i. i < suc n)
+first_within true o n h = omega arith
+first_within false None n h = tt
+first_within false (Some i) n h = omega arith
+
+-- a place is one of the fields
+pub place_within : (fs : List FieldShape) (name : Utf8) → IfSome (place_of (fields_of fs) name) (λ i. i < length fs)
+place_within [] name = tt
+place_within (f ∷ fs) name = first_within (bytes_eq (string_bytes f.name) name) (place_of (fields_of fs) name) (length fs) (place_within fs name)

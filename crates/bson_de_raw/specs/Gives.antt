@@ -2,7 +2,10 @@
 use Rattle.std.specs.Prelude.{◌≡◌, Option, Some, None, Result, Ok, Err}
 use Rattle.bson_datum.specs.Refusal.{ReadFault, Refusal, Failure, no_memory, bare, placed}
 use Rattle.bson_datum.specs.Stop.{stop_view}
+use Rattle.bson_datum.specs.Value.{Value}
+use Rattle.bson_datum.specs.View.{view}
 use Rattle.bson_datum.specs.ErrorView.{read_fault, read_failure}
+use Rattle.bson_datum.specs.declared.datum.Datum.{Datum}
 use Rattle.bson_datum.specs.declared.de.Fault.{Fault}
 use Rattle.bson_datum.specs.declared.de.Error.{Error}
 use Rattle.bson_datum.specs.declared.stop.Stop.{Stop}
@@ -28,3 +31,8 @@ FailsAs (placed path f) answer = answer ≡ Err (placed path f)
 abbrev pub Gives : {X Y : Type 0} → (X → Y) → Result X Error → Result Y (Failure ReadFault) → Type 0
 Gives see (Ok x) answer = answer ≡ Ok (see x)
 Gives see (Err e) answer = FailsAs (read_failure e) answer
+
+-- A reader of whole documents gives this value; or memory ran out.
+abbrev pub GivesValue : Value → Result Datum Error → Type 0
+GivesValue v (Ok d) = view d ≡ v
+GivesValue v (Err e) = read_failure e ≡ no_memory

@@ -1,3 +1,4 @@
 pub mod Gives
 pub mod Encoded
+pub mod Indexes
 pub mod SlotsView

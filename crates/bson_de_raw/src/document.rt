@@ -1,7 +1,13 @@
-ghost use Rattle.std.specs.Prelude.{◌≡◌};
+ghost use Rattle.std.specs.Prelude.{◌≡◌, Some};
+ghost use Rattle.bson_base.specs.Sound.{IsSound};
+ghost use Rattle.bson_base.specs.Tree.{Tree, enc};
+ghost use Rattle.bson_datum.specs.Value.{Value};
 ghost use Rattle.bson_datum.specs.View.{view};
+ghost use Rattle.bson_laws.specs.Fits.{Fits};
+ghost use Rattle.bson_laws.specs.Means.{means, norm};
+ghost use Rattle.bson_laws.specs.Plain.{IsPlain};
 ghost use Rattle.bson_laws.specs.Reads.{reads_document};
-ghost use Rattle.bson_de_raw.specs.Gives.{Gives};
+ghost use Rattle.bson_de_raw.specs.Gives.{Gives, GivesValue};
 
 use crate::encoded::Encoded;
 use crate::value::read_value;
@@ -17,7 +23,11 @@ const MAX_LEVELS: u32 = 200;
 ///
 /// A struct takes each of its fields from the element that has the field's name as its key, in any
 /// order; elements of other keys are walked to their ends and dropped. The names in the value are
-/// copies of those in the shape. Keys in the shape's order are found at once, and each other key by a
+/// copies of those in the shape.
+///
+/// Keys in the shape's order are found at once. The first other key of a struct with sixteen or more
+/// fields has the names put into a map, where it and each key after it that is not found at once is
+/// looked up. In a smaller struct, and where the memory for the map is refused, such keys are found by a
 /// scan over the names.
 ///
 /// # Errors
@@ -36,6 +46,17 @@ const MAX_LEVELS: u32 = 200;
 /// - `NoMemory` where memory ran out.
 pub fn from_slice_at<'de>(alloc: Global, shape: &Shape, bytes: &'de [u8]) -> de::Result<Datum<'de>>
     ensures exact { Gives view result (reads_document shape.now bytes.now) }
+    // The document that a value of a plain shape means is read back as the normal form of the value.
+    ensures read_back { (v : Value) (t : Tree) → IsPlain shape.now → Fits v shape.now → means v ≡ Some t → IsSound t
+        → bytes.now ≡ enc t → GivesValue (norm v) result }
+{
+    shape.known();
+    read_document(alloc, shape, bytes)
+}
+
+/// `from_slice_at`, but for its second promise.
+fn read_document<'de>(alloc: Global, shape: &Shape, bytes: &'de [u8]) -> de::Result<Datum<'de>>
+    ensures { Gives view result (reads_document shape.now bytes.now) }
 {
     let document = RawDocument::from_bytes(bytes)?;
     match read_value(alloc, shape, MAX_LEVELS, Encoded::Document(document)) {

@@ -4,6 +4,7 @@
 mod document;
 mod encoded;
 mod ignored;
+mod index;
 mod leaf;
 mod reading;
 mod slots;

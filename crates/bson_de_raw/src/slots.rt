@@ -1,5 +1,4 @@
-ghost use Rattle.std.specs.Prelude.{◌≡◌, ◌<◌, None, Some, length, get_or, set, is_some, IfOk, IfSome};
-ghost use Rattle.bson_shape.specs.Makers.{AreDistinct};
+ghost use Rattle.std.specs.Prelude.{◌≡◌, ◌<◌, None, Some, length, get_or, set, is_some, IfOk};
 ghost use Rattle.bson_shape.specs.ShapeView.{fields_of};
 ghost use Rattle.bson_datum.specs.View.{view, fields_view};
 ghost use Rattle.bson_laws.specs.Reads as reads;
@@ -15,8 +14,6 @@ use std::alloc::{AllocError, Global};
 #[derive(Drop)]
 pub(crate) struct Slots<'de> {
     values: Vec<Option<Datum<'de>>>,
-    /// The place after that of the value that was read last.
-    next: usize,
 }
 
 impl<'de> Slots<'de> {
@@ -29,20 +26,7 @@ impl<'de> Slots<'de> {
         for _field in fields {
             values.push(None)?;
         }
-        Ok(Slots { values, next: 0 })
-    }
-
-    /// The place of the field that has the name. It is looked for first at the place after that of the
-    /// value that was read last, so that keys in the shape's order are found at once.
-    pub(crate) fn place_of(&self, fields: &[FieldShape], key: &str) -> Option<usize>
-        requires { AreDistinct (fields_of fields.now) }
-        ensures place { result ≡ reads.place_of (fields_of fields.now) key.now }
-        ensures within { IfSome result (λ i. i < length fields.now) }
-    {
-        match fields.get(self.next) {
-            Some(field) if field.name.as_str() == key => Some(self.next),
-            _ => scan(fields, key),
-        }
+        Ok(Slots { values })
     }
 
     /// Whether a value was read for the field at the place.
@@ -59,7 +43,6 @@ impl<'de> Slots<'de> {
         ensures { slots_view self.new ≡ set (slots_view self.old) place (Some (view value.entry)) }
     {
         self.values[place] = Some(value);
-        self.next = place + 1;
     }
 
     /// All fields with their values, or a refusal of the struct for the first field that has none.
@@ -80,17 +63,4 @@ impl<'de> Slots<'de> {
         }
         Ok(finished)
     }
-}
-
-/// The place of the first field that has the name.
-fn scan(fields: &[FieldShape], key: &str) -> Option<usize>
-    ensures place { result ≡ reads.place_of (fields_of fields.now) key.now }
-    ensures within { IfSome result (λ i. i < length fields.now) }
-{
-    for (place, field) in fields.iter().enumerate() {
-        if field.name.as_str() == key {
-            return Some(place);
-        }
-    }
-    None
 }

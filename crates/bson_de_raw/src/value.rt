@@ -12,6 +12,7 @@ ghost use Rattle.bson_de_raw.specs.SlotsView.{slots_view, filled_by};
 
 use crate::encoded::Encoded;
 use crate::ignored::ignore;
+use crate::index::FieldIndex;
 use crate::leaf::read_leaf;
 use crate::reading::{Reading, refused};
 use crate::slots::Slots;
@@ -71,6 +72,7 @@ fn fill<'de>(
         (reads.fill (filled_by (fields_of fields.now) levels)
         (walk (document_bytes document.entry)) (reads.no_slots (fields_of fields.now))) }
 {
+    let mut index = FieldIndex::new(fields);
     let mut slots = Slots::new(alloc, fields)?;
     let mut elements = document.iter_elements();
     while let Some(step) = elements.next() {
@@ -78,7 +80,7 @@ fn fill<'de>(
             Ok(element) => element,
             Err(fault) => return Err(refused(alloc, Cause::Raw(fault))),
         };
-        fill_one(alloc, fields, levels, &element, &mut slots)?;
+        fill_one(alloc, levels, &element, &mut index, &mut slots)?;
     }
     Ok(slots)
 }
@@ -87,19 +89,20 @@ fn fill<'de>(
 #[cycle(read)]
 fn fill_one<'de>(
     alloc: Global,
-    fields: &[FieldShape],
     levels: u32,
     element: &RawElement<'de>,
+    index: &mut FieldIndex<'_>,
     slots: &mut Slots<'de>,
 ) -> Reading<()>
-    requires distinct { AreDistinct (fields_of fields.now) }
-    requires slots { length (slots_view slots.old) ≡ length fields.now }
+    requires { length (slots_view slots.old) ≡ length index.old.fields.now }
+    ensures fields { index.new.fields ≡ index.old.fields }
     ensures kept { length (slots_view slots.new) ≡ length (slots_view slots.old) }
     ensures exact { Reaches (λ _. slots_view slots.new) result
-        (filled_by (fields_of fields.now) levels element.now (slots_view slots.old)) }
+        (filled_by (fields_of index.old.fields.now) levels element.now (slots_view slots.old)) }
 {
     let key = element.key();
-    let Some(place) = slots.place_of(fields, key) else {
+    let fields = index.fields;
+    let Some(place) = index.place_of(alloc, key) else {
         if let Err(stop) = ignore(alloc, levels, element) {
             return Err(stop.under_key(key));
         }
@@ -109,12 +112,8 @@ fn fill_one<'de>(
         let cause = Cause::DuplicateField(String::from_str(alloc, key)?);
         return Err(refused(alloc, cause));
     }
-    match read_value(
-        alloc,
-        &fields[place].shape,
-        levels,
-        Encoded::Element(element),
-    ) {
+    let shape = &fields[place].shape;
+    match read_value(alloc, shape, levels, Encoded::Element(element)) {
         Ok(value) => {
             slots.put(place, value);
             Ok(())

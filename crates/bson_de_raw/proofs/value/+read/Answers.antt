@@ -12,14 +12,14 @@ use Rattle.bson_de_raw.proofs.value.+read.Goals as goal
 
 pub fill_one-read_value-requires : goal.fill_one-read_value-requires
 fill_one-read_value-requires t c =
-    let fs = c.args.fields.now in
+    let fs = c.args.index.now.fields.now in
     let smaller = field_smaller fs c.in-Some.place c.index-fields-place.result c.in-Some.ensures.within in
     let less : 4 * nodes (get_or fs c.in-Some.place c.index-fields-place.result).shape < 4 * fields_nodes (fields_of fs) + 1 = omega (arith, smaller) in
     (search rules, tt)
 
 pub fill_one-returns-in-Ok-clause-exact : goal.fill_one-returns-in-Ok-clause-exact
 fill_one-returns-in-Ok-clause-exact t c =
-    let fs = c.args.fields.now in
+    let fs = c.args.index.now.fields.now in
     let e = c.args.element.now in
     let i = c.in-Some.place in
     one_filled (fields_of fs) c.args.levels (λ j. reads_field (fields_of fs) j c.args.levels) e (slots_view c.args.slots.now) i (sym (c.in-Some.ensures.place ∙ ap (place_of (fields_of fs)) c.key-key.ensures.key)) (sym c.if-is_filled.ensures) (view c.in-Ok.value)
@@ -28,7 +28,7 @@ fill_one-returns-in-Ok-clause-exact t c =
 
 pub fill_one-returns-in-Err-read_value-clause-exact : goal.fill_one-returns-in-Err-read_value-clause-exact
 fill_one-returns-in-Err-read_value-clause-exact t c =
-    let fs = c.args.fields.now in
+    let fs = c.args.index.now.fields.now in
     let e = c.args.element.now in
     let i = c.in-Some.place in
     one_stops (fields_of fs) c.args.levels (λ j. reads_field (fields_of fs) j c.args.levels) e (slots_view c.args.slots.now) i (sym (c.in-Some.ensures.place ∙ ap (place_of (fields_of fs)) c.key-key.ensures.key)) (sym c.if-is_filled.ensures) c.in-Err-read_value.stop c.under_key-in-Err-read_value.result

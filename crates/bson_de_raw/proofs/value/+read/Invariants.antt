@@ -17,13 +17,13 @@ abbrev pub decreases-fill : goal.decreases-fill
 decreases-fill l = 4 * fields_nodes (fields_of l.fields.now) + 2
 
 abbrev pub decreases-fill_one : goal.decreases-fill_one
-decreases-fill_one l = 4 * fields_nodes (fields_of l.fields.now) + 1
+decreases-fill_one l = 4 * fields_nodes (fields_of l.index.now.fields.now) + 1
 
 -- what is left of the document fills the slots so far as the whole document fills empty ones
 abbrev pub invariant-fill-loop-step : goal.invariant-fill-loop-step
 invariant-fill-loop-step l =
     let one = filled_by (fields_of l.fields) l.levels in
-    (length (slots_view l.slots) ≡ length l.fields) × (fill one l.elements (slots_view l.slots) ≡ fill one (walk (document_bytes l.document)) (no_slots (fields_of l.fields)))
+    (l.index.fields.now ≡ l.fields) × (length (slots_view l.slots) ≡ length l.fields) × (fill one l.elements (slots_view l.slots) ≡ fill one (walk (document_bytes l.document)) (no_slots (fields_of l.fields)))
 
 abbrev pub decreases-fill-loop-step : goal.decreases-fill-loop-step
 decreases-fill-loop-step l = count l.elements

@@ -1,0 +1,33 @@
+-- What a value means is read back as the normal form of the value.
+use Rattle.std.proofs.Common.{◌≡◌, Some, Result, Ok, Err, refl, ap, ◌∙◌}
+use Rattle.bson_base.specs.Sound.{IsSound}
+use Rattle.bson_base.specs.Text.{Bytes}
+use Rattle.bson_base.specs.Tree.{Tree, enc}
+use Rattle.bson_shape.specs.Form.{Form}
+use Rattle.bson_shape.specs.Makers.{IsShape}
+use Rattle.bson_datum.specs.Refusal.{ReadFault, Failure, no_memory, bare, placed}
+use Rattle.bson_datum.specs.ErrorView.{read_failure}
+use Rattle.bson_datum.specs.Value.{Value}
+use Rattle.bson_datum.specs.View.{view}
+use Rattle.bson_datum.specs.declared.datum.Datum.{Datum}
+use Rattle.bson_datum.specs.declared.de.Error.{Error}
+use Rattle.bson_laws.specs.Fits.{Fits}
+use Rattle.bson_laws.specs.Means.{means, norm}
+use Rattle.bson_laws.specs.Reads.{reads_document}
+use Rattle.bson_laws.proofs.Fitted.{views_means}
+use Rattle.bson_laws.proofs.ReadBack.{views_reads}
+use Rattle.bson_de_raw.specs.Gives.{FailsAs, Gives, GivesValue}
+
+-- where the answer is a value, want of memory alone fails
+fails_for_memory : (f : Failure ReadFault) (v : Value) (answer : Result Value (Failure ReadFault)) → answer ≡ Ok v → FailsAs f answer → f ≡ no_memory
+fails_for_memory no_memory v answer is h = refl
+fails_for_memory (bare f) v answer is h = absurd cc
+fails_for_memory (placed path f) v answer is h = absurd cc
+
+gives_value : (v : Value) (r : Result Datum Error) (answer : Result Value (Failure ReadFault)) → answer ≡ Ok v → Gives view r answer → GivesValue v r
+gives_value v (Ok d) answer is h = cc
+gives_value v (Err e) answer is h = fails_for_memory (read_failure e) v answer is h
+
+pub read_back : (s : Form) (bytes : Bytes) (v : Value) (t : Tree) (r : Result Datum Error) → IsShape s → Fits v s → means v ≡ Some t → IsSound t → bytes ≡ enc t → Gives view r (reads_document s bytes) → GivesValue (norm v) r
+read_back s bytes v t r shape fits mean sound is exact =
+    gives_value (norm v) r (reads_document s bytes) (ap (reads_document s) is ∙ views_reads s t (norm v) shape sound (views_means v s t fits mean sound.clean)) exact
