@@ -1,13 +1,11 @@
 -- What `==` answers is whether the contents are equal.
-use Rattle.std.proofs.Common.{◌≡◌, ℤ, true, refl, ap, subst, eq-eqb, arith}
+use Rattle.std.proofs.Common.{◌≡◌, true, refl, ap, subst}
 use Rattle.std.specs.Prelude.{◌&&◌}
 use Rattle.std.specs.Bool.{Decides}
-use Rattle.std.specs.Ordering.{int_eq}
 use Rattle.std.specs.Str.{bytes_eq}
-use Rattle.std.specs.Cmp.{IsPartialEquivalence, partial_equiv_from_equiv, decided, on_equiv, int_eq_equiv}
+use Rattle.std.specs.Cmp.{IsPartialEquivalence, partial_equiv_from_equiv, decided, on_equiv, signed_Decides, unsigned_Decides}
 use Rattle.std.specs.Cmp.Lexicographic.{pointwise_decides}
-use Rattle.std.proofs.lemmas.Bool.{and_parts, and_from, eqb-true, false≢true}
-use Rattle.std.proofs.lemmas.Int.{ints}
+use Rattle.std.proofs.lemmas.Bool.{and_parts, and_from, false≢true}
 use Rattle.std.proofs.lemmas.Slice.Eq.{bytes_eq-Decides}
 use Rattle.bson_base.specs.Text.{Utf8}
 use Rattle.bson_datum.specs.Value.{Value, i32, structure, FieldValues, no_field_values, field_value}
@@ -26,12 +24,9 @@ use Rattle.bson_datum.specs.declared.datum.Datum.{Datum}
 bytes_alike : (name : Utf8) → bytes_eq name name ≡ true
 bytes_alike name = (bytes_eq-Decides name name).1 refl
 
-int_same : (m n : ℤ) → int_eq m n ≡ true → m ≡ n
-int_same m n e = grind (arith, ints, e)
-
 mutual
   same_is : (v w : Value) → same v w ≡ true → v ≡ w
-  same_is (i32 m) (i32 n) e = ap i32 (int_same m n e)
+  same_is (i32 m) (i32 n) e = ap i32 ((signed_Decides m n).0 e)
   same_is (structure name fs) (structure n gs) e =
       let b = and_parts (bytes_eq name n) (same_fields fs gs) e in
       λ i. structure ((bytes_eq-Decides name n).0 b.0 i) (fields_are fs gs b.1 i)
@@ -47,7 +42,7 @@ mutual
 
 mutual
   same_itself : (v : Value) → same v v ≡ true
-  same_itself (i32 n) = int_eq_equiv.refl n
+  same_itself (i32 n) = (signed_Decides n n).1 refl
   same_itself (structure name fs) = and_from _ _ (bytes_alike name) (fields_alike fs)
 
   fields_alike : (fs : FieldValues) → same_fields fs fs ≡ true
@@ -66,12 +61,12 @@ same_field_decides f g = (
 
 segment_is : (s t : refusal.Segment) → same_segment s t ≡ true → s ≡ t
 segment_is (at_key key) (at_key k) e = ap at_key ((bytes_eq-Decides key k).0 e)
-segment_is (at_index i) (at_index j) e = ap at_index (eqb-true i j e)
+segment_is (at_index i) (at_index j) e = ap at_index ((unsigned_Decides i j).0 e)
 segment_is s t e = absurd (false≢true e)
 
 segment_itself : (s : refusal.Segment) → same_segment s s ≡ true
 segment_itself (at_key key) = bytes_alike key
-segment_itself (at_index i) = eq-eqb i i refl
+segment_itself (at_index i) = (unsigned_Decides i i).1 refl
 
 pub same_segment_decides : (s t : refusal.Segment) → Decides (same_segment s t) (s ≡ t)
 same_segment_decides s t = (segment_is s t, λ e. subst (λ u. same_segment s u ≡ true) e (segment_itself s))
