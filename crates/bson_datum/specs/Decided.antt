@@ -1,17 +1,18 @@
 -- What `==` answers is whether the contents are equal.
-use Rattle.std.proofs.Common.{◌≡◌, true, refl, ap, subst}
-use Rattle.std.specs.Prelude.{◌&&◌}
+use Rattle.std.proofs.Common.{◌≡◌, ℕ, true, refl, ap, sym, subst, ◌∙◌}
+use Rattle.std.specs.Prelude.{◌&&◌, if◌then◌else◌, eqb}
 use Rattle.std.specs.Bool.{Decides}
+use Rattle.std.specs.Ordering.{int_eq}
 use Rattle.std.specs.Str.{bytes_eq}
 use Rattle.std.specs.Cmp.{IsPartialEquivalence, partial_equiv_from_equiv, decided, on_equiv, signed_Decides, unsigned_Decides}
 use Rattle.std.specs.Cmp.Lexicographic.{pointwise_decides}
 use Rattle.std.proofs.lemmas.Bool.{and_parts, and_from, false≢true}
 use Rattle.std.proofs.lemmas.Slice.Eq.{bytes_eq-Decides}
 use Rattle.bson_base.specs.Text.{Utf8}
-use Rattle.bson_datum.specs.Value.{Value, i32, structure, FieldValues, no_field_values, field_value}
+use Rattle.bson_datum.specs.Value.{IntegerType, i8, i16, i32, i64, u8, u16, u32, u64, Value, integer, str, structure, FieldValues, no_field_values, field_value}
 use Rattle.bson_datum.specs.Refusal as refusal
 use Rattle.bson_datum.specs.Refusal.{at_key, at_index}
-use Rattle.bson_datum.specs.Same.{same, same_fields, same_field, same_segment, same_path}
+use Rattle.bson_datum.specs.Same.{type_number, same_type, same, same_fields, same_field, same_segment, same_path}
 use Rattle.bson_datum.specs.TextView.{text_view}
 use Rattle.bson_datum.specs.PathView.{path_view, segment_view}
 use Rattle.bson_datum.specs.View.{view, field_view}
@@ -24,9 +25,31 @@ use Rattle.bson_datum.specs.declared.datum.Datum.{Datum}
 bytes_alike : (name : Utf8) → bytes_eq name name ≡ true
 bytes_alike name = (bytes_eq-Decides name name).1 refl
 
+-- the integer type of a number
+abbrev of_number : ℕ → IntegerType
+of_number n =
+    if eqb n 0 then i8 else if eqb n 1 then i16 else if eqb n 2 then i32 else if eqb n 3 then i64
+    else if eqb n 4 then u8 else if eqb n 5 then u16 else if eqb n 6 then u32 else u64
+
+of_type_number : (type : IntegerType) → of_number (type_number type) ≡ type
+of_type_number i8 = refl
+of_type_number i16 = refl
+of_type_number i32 = refl
+of_type_number i64 = refl
+of_type_number u8 = refl
+of_type_number u16 = refl
+of_type_number u32 = refl
+of_type_number u64 = refl
+
+type_same : (type other : IntegerType) → same_type type other ≡ true → type ≡ other
+type_same type other e = sym (of_type_number type) ∙ ap of_number ((unsigned_Decides _ _).0 e) ∙ of_type_number other
+
 mutual
   same_is : (v w : Value) → same v w ≡ true → v ≡ w
-  same_is (i32 m) (i32 n) e = ap i32 ((signed_Decides m n).0 e)
+  same_is (integer type m) (integer other n) e =
+      let b = and_parts (same_type type other) (int_eq m n) e in
+      λ i. integer (type_same type other b.0 i) ((signed_Decides m n).0 b.1 i)
+  same_is (str t) (str u) e = ap str ((bytes_eq-Decides t u).0 e)
   same_is (structure name fs) (structure n gs) e =
       let b = and_parts (bytes_eq name n) (same_fields fs gs) e in
       λ i. structure ((bytes_eq-Decides name n).0 b.0 i) (fields_are fs gs b.1 i)
@@ -42,7 +65,8 @@ mutual
 
 mutual
   same_itself : (v : Value) → same v v ≡ true
-  same_itself (i32 n) = (signed_Decides n n).1 refl
+  same_itself (integer type n) = and_from _ _ ((unsigned_Decides (type_number type) (type_number type)).1 refl) ((signed_Decides n n).1 refl)
+  same_itself (str t) = bytes_alike t
   same_itself (structure name fs) = and_from _ _ (bytes_alike name) (fields_alike fs)
 
   fields_alike : (fs : FieldValues) → same_fields fs fs ≡ true

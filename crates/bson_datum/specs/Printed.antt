@@ -5,7 +5,7 @@ use Rattle.bson_base.specs.Text.{Utf8}
 use Rattle.bson_base.specs.Kind.{name}
 use Rattle.bson_rawdoc.specs.Printed.{printed_fault, not_built_text}
 use Rattle.bson_datum.specs.Cause.{Cause, raw, too_deep, invalid_type, out_of_range, missing_field, duplicate_field, top_level, too_long, not_built}
-use Rattle.bson_datum.specs.Refusal.{Segment, Path, at_key, at_index, ReadFault, unreadable, WriteFault, unwritable, invalid_cstring, Failure, no_memory, bare, placed}
+use Rattle.bson_datum.specs.Refusal.{Segment, Path, at_key, at_index, ReadFault, unreadable, WriteFault, unwritable, invalid_cstring, unsigned_exceeds, Failure, no_memory, bare, placed}
 
 -- the segment at a place of a path: a key has a point before it unless it comes first, an index stands in brackets
 abbrev pub point_before : ℕ → Utf8
@@ -42,6 +42,7 @@ printed_read_fault (unreadable c) = printed_cause c
 abbrev pub printed_write_fault : WriteFault → Utf8
 printed_write_fault (unwritable c) = printed_cause c
 printed_write_fault (invalid_cstring t) = codes "cstrings cannot contain null bytes"
+printed_write_fault (unsigned_exceeds n) = codes "unsigned integer " ++ signed_decimal n ++ codes " does not fit a signed 64-bit integer"
 
 -- a failure, whose fault is printed so
 abbrev pub printed_failure : {F : Type 0} → (F → Utf8) → Failure F → Utf8

@@ -1,5 +1,5 @@
 -- What is wrong with a value, and where it stands.
-use Rattle.std.specs.Prelude.{ℕ, List, [], ◌∷◌, Result, Ok, Err}
+use Rattle.std.specs.Prelude.{ℕ, ℤ, List, [], ◌∷◌, Result, Ok, Err}
 use Rattle.bson_base.specs.Text.{Utf8}
 use Rattle.bson_datum.specs.Cause.{Cause}
 
@@ -21,6 +21,8 @@ pub data WriteFault : Type 0 where
   unwritable : Cause → WriteFault
   -- a zero character in a name that is written as a key
   invalid_cstring : Utf8 → WriteFault
+  -- a number of the type `u64` that no signed number of 64 bits is
+  unsigned_exceeds : ℤ → WriteFault
 
 -- a fault, and the path of the value that has it
 pub record Refusal (F : Type 0) : Type 0 where

@@ -1,16 +1,32 @@
 -- Whether two values, or two paths, are equal: part by part, texts by their contents.
-use Rattle.std.specs.Prelude.{Bool, true, false, ◌&&◌, nat_eq}
+use Rattle.std.specs.Prelude.{ℕ, Bool, true, false, ◌&&◌, nat_eq}
 use Rattle.std.specs.Ordering.{int_eq}
 use Rattle.std.specs.Str.{bytes_eq}
 use Rattle.std.specs.Cmp.Lexicographic.{pointwise}
 use Rattle.bson_base.specs.Text.{Utf8}
-use Rattle.bson_datum.specs.Value.{Value, i32, structure, FieldValues, no_field_values, field_value}
+use Rattle.bson_datum.specs.Value.{IntegerType, i8, i16, i32, i64, u8, u16, u32, u64, Value, integer, str, structure, FieldValues, no_field_values, field_value}
 use Rattle.bson_datum.specs.Refusal.{Segment, Path, at_key, at_index}
+
+-- the number of an integer type
+abbrev pub type_number : IntegerType → ℕ
+type_number i8 = 0
+type_number i16 = 1
+type_number i32 = 2
+type_number i64 = 3
+type_number u8 = 4
+type_number u16 = 5
+type_number u32 = 6
+type_number u64 = 7
+
+-- both are one type
+abbrev pub same_type : IntegerType → IntegerType → Bool
+same_type type other = nat_eq (type_number type) (type_number other)
 
 abbrev mutual
   -- two values are of one form, and their parts are equal
   pub same : Value → Value → Bool
-  same (i32 m) (i32 n) = int_eq m n
+  same (integer type m) (integer other n) = same_type type other && int_eq m n
+  same (str t) (str u) = bytes_eq t u
   same (structure name fs) (structure n gs) = bytes_eq name n && same_fields fs gs
   same v w = false
 

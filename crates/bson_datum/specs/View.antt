@@ -1,14 +1,22 @@
 -- What contracts see of a datum: the value that it stands for.
-use Rattle.std.specs.Prelude.{List, [], ◌∷◌}
+use Rattle.std.specs.Prelude.{pos, List, [], ◌∷◌}
 use Rattle.bson_base.specs.Text.{Utf8}
 use Rattle.bson_datum.specs.TextView.{text_view}
-use Rattle.bson_datum.specs.Value.{Value, i32, structure, FieldValues, no_field_values, field_value}
+use Rattle.bson_datum.specs.Value.{Value, integer, i8, i16, i32, i64, u8, u16, u32, u64, str, structure, FieldValues, no_field_values, field_value}
 use Rattle.bson_datum.specs.declared.datum.Field.{Field}
-use Rattle.bson_datum.specs.declared.datum.Datum.{Datum, I32, Struct', Row_of-Field, end_of-Field, more_of-Field}
+use Rattle.bson_datum.specs.declared.datum.Datum.{Datum, I8, I16, I32, I64, U8, U16, U32, U64, Str, Struct', Row_of-Field, end_of-Field, more_of-Field}
 
 abbrev mutual
   pub view : Datum → Value
-  view (I32 n) = i32 n
+  view (I8 n) = integer i8 n
+  view (I16 n) = integer i16 n
+  view (I32 n) = integer i32 n
+  view (I64 n) = integer i64 n
+  view (U8 n) = integer u8 (pos n)
+  view (U16 n) = integer u16 (pos n)
+  view (U32 n) = integer u32 (pos n)
+  view (U64 n) = integer u64 (pos n)
+  view (Str t) = str (text_view t)
   view (Struct' name shape rows) = structure (text_view name) (rows_view rows)
 
   pub rows_view : {m : _} → Row_of-Field m → FieldValues

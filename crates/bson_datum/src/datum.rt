@@ -20,8 +20,24 @@ pub struct Field<'a> {
 #[cycle(datum)]
 #[derive(Debug, Drop)]
 pub enum Datum<'a> {
+    /// A signed number of 8 bits.
+    I8(i8),
+    /// A signed number of 16 bits.
+    I16(i16),
     /// A signed number of 32 bits.
     I32(i32),
+    /// A signed number of 64 bits.
+    I64(i64),
+    /// A number of 8 bits.
+    U8(u8),
+    /// A number of 16 bits.
+    U16(u16),
+    /// A number of 32 bits.
+    U32(u32),
+    /// A number of 64 bits.
+    U64(u64),
+    /// A text.
+    Str(Text<'a>),
     /// A struct with a name and fields in order.
     Struct {
         /// The name of the struct.
@@ -37,7 +53,11 @@ impl Datum<'_> {
         ensures kind { result ≡ kind_of (view self.now) }
     {
         match self {
-            Datum::I32(_) => ElementType::Int32,
+            Datum::I8(_) | Datum::I16(_) | Datum::I32(_) | Datum::U8(_) | Datum::U16(_) => {
+                ElementType::Int32
+            }
+            Datum::I64(_) | Datum::U32(_) | Datum::U64(_) => ElementType::Int64,
+            Datum::Str(_) => ElementType::String,
             Datum::Struct { name, .. } => struct_kind(name),
         }
     }

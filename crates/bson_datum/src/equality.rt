@@ -108,7 +108,15 @@ fn is_same(a: &Datum<'_>, b: &Datum<'_>) -> bool
     ensures { result ≡ same (view a.now) (view b.now) }
 {
     match (a, b) {
+        (Datum::I8(number), Datum::I8(other)) => number == other,
+        (Datum::I16(number), Datum::I16(other)) => number == other,
         (Datum::I32(number), Datum::I32(other)) => number == other,
+        (Datum::I64(number), Datum::I64(other)) => number == other,
+        (Datum::U8(number), Datum::U8(other)) => number == other,
+        (Datum::U16(number), Datum::U16(other)) => number == other,
+        (Datum::U32(number), Datum::U32(other)) => number == other,
+        (Datum::U64(number), Datum::U64(other)) => number == other,
+        (Datum::Str(text), Datum::Str(other)) => text == other,
         (
             Datum::Struct { name, fields },
             Datum::Struct {

@@ -16,6 +16,8 @@ use std::fmt;
 pub enum Fault {
     /// A zero character stands in this name, which is written as a key.
     InvalidCString(String),
+    /// This number is greater than 9223372036854775807, the greatest that an Int64 holds.
+    UnsignedIntegerExceededRange(u64),
     /// A value is refused for this cause.
     Cause(Cause),
 }
@@ -25,6 +27,8 @@ pub enum Fault {
 pub enum Error {
     /// A zero character stands in this name, which is written as a key.
     InvalidCString(String),
+    /// This number is greater than 9223372036854775807, the greatest that an Int64 holds.
+    UnsignedIntegerExceededRange(u64),
     /// A value is refused for this cause.
     SerializationError {
         /// The cause.
@@ -66,6 +70,9 @@ impl Error {
     {
         match fault {
             Fault::InvalidCString(name) => Error::InvalidCString(name),
+            Fault::UnsignedIntegerExceededRange(number) => {
+                Error::UnsignedIntegerExceededRange(number)
+            }
             Fault::Cause(cause) => Error::SerializationError { cause },
         }
     }
@@ -84,6 +91,10 @@ impl fmt::Display for Error {
     fn fmt<W: fmt::Write>(&self, f: &mut fmt::Formatter<W>) -> fmt::Result {
         match self {
             Error::InvalidCString(_) => f.write_str("cstrings cannot contain null bytes"),
+            Error::UnsignedIntegerExceededRange(number) => write!(
+                f,
+                "unsigned integer {number} does not fit a signed 64-bit integer"
+            ),
             Error::SerializationError { cause } => write!(f, "{cause}"),
             Error::WithPath { path, source } => {
                 write!(f, "error at {path}: ")?;

@@ -1,4 +1,5 @@
 pub mod Gives
 pub mod Encoded
 pub mod Indexes
+pub mod Leaves
 pub mod SlotsView

@@ -21,9 +21,10 @@ const MAX_LEVELS: u32 = 200;
 
 /// The value that the bytes of a document are at a shape, by serde's data model.
 ///
+/// An integer type takes an Int32 or an Int64 whose number lies in its range; `string` takes a String.
 /// A struct takes each of its fields from the element that has the field's name as its key, in any
 /// order; elements of other keys are walked to their ends and dropped. The names in the value are
-/// copies of those in the shape.
+/// copies of those in the shape, the texts copies of those in the document.
 ///
 /// Keys in the shape's order are found at once. The first other key of a struct with sixteen or more
 /// fields has the names put into a map, where it and each key after it that is not found at once is
@@ -40,7 +41,7 @@ const MAX_LEVELS: u32 = 200;
 ///   - `Raw`: a fault of the bytes, before any shape looks at the value.
 ///   - `TooDeep`: a document at level 201.
 ///   - `InvalidType`: a value of another kind than the shape takes.
-///   - `OutOfRange`: a number that does not fit the shape's type.
+///   - `OutOfRange`: a number that does not lie in the range of the shape's integer type.
 ///   - `DuplicateField`: a second element of a field; its value is not looked at.
 ///   - `MissingField`: at the end of a document, the first field in the shape's order without an element.
 /// - `NoMemory` where memory ran out.

@@ -39,13 +39,8 @@ impl<'de> Encoded<'_, 'de> {
     {
         match self.value() {
             Err(fault) => Err(refused(alloc, Cause::Raw(fault))),
-            Ok(RawBsonRef::Int32(number)) => Ok(RawBsonRef::Int32(number)),
-            Ok(RawBsonRef::Document(document)) => {
-                if levels == 0 {
-                    return Err(refused(alloc, Cause::TooDeep));
-                }
-                Ok(RawBsonRef::Document(document))
-            }
+            Ok(RawBsonRef::Document(_)) if levels == 0 => Err(refused(alloc, Cause::TooDeep)),
+            Ok(value) => Ok(value),
         }
     }
 
@@ -53,9 +48,12 @@ impl<'de> Encoded<'_, 'de> {
     pub(crate) fn enter(self, alloc: Global, levels: u32) -> Reading<RawDocument<'de>>
         ensures { Reaches document_bytes result (entered levels self.entry) }
     {
-        match self.judge(alloc, levels)? {
-            RawBsonRef::Document(document) => Ok(document),
-            RawBsonRef::Int32(_) => Err(refused(alloc, Cause::InvalidType(ElementType::Int32))),
-        }
+        let kind = match self.judge(alloc, levels)? {
+            RawBsonRef::Document(document) => return Ok(document),
+            RawBsonRef::String(_) => ElementType::String,
+            RawBsonRef::Int32(_) => ElementType::Int32,
+            RawBsonRef::Int64(_) => ElementType::Int64,
+        };
+        Err(refused(alloc, Cause::InvalidType(kind)))
     }
 }

@@ -1,29 +1,35 @@
 // Values at shapes without inner shapes.
-ghost use Rattle.std.specs.Prelude.{◌≡◌};
+ghost use Rattle.std.specs.Prelude.{◌≡◌, option_map};
 ghost use Rattle.bson_rawdoc.specs.ValueView.{raw_value};
-ghost use Rattle.bson_datum.specs.Value as value;
 ghost use Rattle.bson_datum.specs.View.{view};
+ghost use Rattle.bson_laws.specs.Integers.{leaf_kind};
 ghost use Rattle.bson_laws.specs.Reads as reads;
 ghost use Rattle.bson_de_raw.specs.Gives.{Reaches};
+ghost use Rattle.bson_de_raw.specs.Leaves.{number_as};
 
 use crate::reading::{Reading, refused};
 use bson_base::ElementType;
-use bson_datum::{Cause, Datum};
+use bson_datum::{Cause, Datum, Text};
 use bson_rawdoc::RawBsonRef;
 use bson_shape::Leaf;
 use std::alloc::Global;
 
-/// The value at a leaf.
+/// The value at a leaf. A text is a copy of that in the document.
 pub(crate) fn read_leaf<'de>(
     alloc: Global,
     leaf: Leaf,
     value: RawBsonRef<'_>,
 ) -> Reading<Datum<'de>>
-    ensures { Reaches view result (reads.read_leaf leaf (raw_value value.entry)) }
+    ensures { Reaches view result (reads.read_leaf (leaf_kind leaf) (raw_value value.entry)) }
 {
+    if leaf == Leaf::String {
+        let text = String::from_str(alloc, text(alloc, value)?)?;
+        return Ok(Datum::Str(Text::Owned(text)));
+    }
     let number = integer(alloc, value)?;
-    match leaf {
-        Leaf::I32 => Ok(Datum::I32(read_i32(alloc, number)?)),
+    match narrowed(leaf, number) {
+        Some(datum) => Ok(datum),
+        None => Err(refused(alloc, Cause::OutOfRange(number))),
     }
 }
 
@@ -31,21 +37,41 @@ pub(crate) fn read_leaf<'de>(
 fn integer(alloc: Global, value: RawBsonRef<'_>) -> Reading<i64>
     ensures { Reaches (λ n. n) result (reads.integer_of (raw_value value.entry)) }
 {
-    match value {
-        RawBsonRef::Int32(number) => Ok(i64::from(number)),
-        RawBsonRef::Document(_) => {
-            let cause = Cause::InvalidType(ElementType::EmbeddedDocument);
-            Err(refused(alloc, cause))
-        }
-    }
+    let kind = match value {
+        RawBsonRef::Int32(number) => return Ok(i64::from(number)),
+        RawBsonRef::Int64(number) => return Ok(number),
+        RawBsonRef::String(_) => ElementType::String,
+        RawBsonRef::Document(_) => ElementType::EmbeddedDocument,
+    };
+    Err(refused(alloc, Cause::InvalidType(kind)))
 }
 
-/// The number as an `i32`, where it lies in its range.
-fn read_i32(alloc: Global, number: i64) -> Reading<i32>
-    ensures { Reaches (λ n. value.i32 n) result (reads.read_as_i32 number) }
+/// The text of a value that is one.
+fn text<'a>(alloc: Global, value: RawBsonRef<'a>) -> Reading<&'a str>
+    ensures { Reaches (λ t. t.now) result (reads.text_of (raw_value value.entry)) }
 {
-    match i32::try_from(number) {
-        Ok(number) => Ok(number),
-        Err(_) => Err(refused(alloc, Cause::OutOfRange(number))),
+    let kind = match value {
+        RawBsonRef::String(text) => return Ok(text),
+        RawBsonRef::Int32(_) => ElementType::Int32,
+        RawBsonRef::Int64(_) => ElementType::Int64,
+        RawBsonRef::Document(_) => ElementType::EmbeddedDocument,
+    };
+    Err(refused(alloc, Cause::InvalidType(kind)))
+}
+
+/// The number as a value of the leaf's type, where it lies in its range.
+fn narrowed<'de>(leaf: Leaf, number: i64) -> Option<Datum<'de>>
+    ensures { option_map view result ≡ number_as (leaf_kind leaf) number }
+{
+    match leaf {
+        Leaf::I8 => Some(Datum::I8(i8::try_from(number).ok()?)),
+        Leaf::I16 => Some(Datum::I16(i16::try_from(number).ok()?)),
+        Leaf::I32 => Some(Datum::I32(i32::try_from(number).ok()?)),
+        Leaf::I64 => Some(Datum::I64(number)),
+        Leaf::U8 => Some(Datum::U8(u8::try_from(number).ok()?)),
+        Leaf::U16 => Some(Datum::U16(u16::try_from(number).ok()?)),
+        Leaf::U32 => Some(Datum::U32(u32::try_from(number).ok()?)),
+        Leaf::U64 => Some(Datum::U64(u64::try_from(number).ok()?)),
+        Leaf::String => None,
     }
 }

@@ -1,4 +1,4 @@
-//! Reading the bytes of a document at a shape, without a copy of them.
+//! Reading the bytes of a document at a shape.
 #![tactic(auto)]
 
 mod document;

@@ -39,6 +39,37 @@ fn reads_a_struct(rt: HostRuntime) -> Result<(), Fail> {
 }
 
 #[test]
+fn reads_numbers_and_texts(rt: HostRuntime) -> Result<(), Fail> {
+    let alloc = rt.alloc();
+    // `n`, an Int64 of eight bytes, the least first; `s`, a String with its length and a zero behind it.
+    let bytes = [
+        26, 0, 0, 0, 18, 110, 0, 0, 184, 100, 217, 69, 0, 0, 0, 2, 115, 0, 3, 0, 0, 0, 104, 105, 0,
+        0,
+    ];
+    let number = around(alloc, "n", Shape::i64())?;
+    let Ok(Datum::Struct { fields, .. }) = from_slice_at(alloc, &number, &bytes) else {
+        return Err(Fail::from("no number"));
+    };
+    assert_eq!(rt; fields.len(), 1);
+    assert!(rt; matches!(fields[0].value, Datum::I64(300_000_000_000)));
+
+    let text = around(alloc, "s", Shape::string())?;
+    let Ok(Datum::Struct { fields, .. }) = from_slice_at(alloc, &text, &bytes) else {
+        return Err(Fail::from("no text"));
+    };
+    assert_eq!(rt; fields.len(), 1);
+    assert!(rt; matches!(&fields[0].value, Datum::Str(text) if text.as_str() == "hi"));
+
+    let narrow = around(alloc, "n", Shape::u32())?;
+    let narrow = from_slice_at(alloc, &narrow, &bytes);
+    assert_eq!(rt;
+        refusal(alloc, narrow)?.as_str(),
+        "error at n: integer 300000000000 out of range"
+    );
+    Ok(())
+}
+
+#[test]
 fn refuses_documents(rt: HostRuntime) -> Result<(), Fail> {
     let alloc = rt.alloc();
     let number = around(alloc, "i", Shape::i32())?;

@@ -1,23 +1,25 @@
 -- What is encoded is walked again.
 use Rattle.std.proofs.Common.{◌≡◌, ℕ, zero, suc, ◌+◌, ◌-◌, ◌^◌, ◌<◌, [], ◌∷◌, ◌++◌, length, get_or, take, drop, Bool, true, false, cond, eqb, Some, Result, Ok, Err, refl, ap, sym, ◌∙◌, append_assoc, arith, pos, negsuc, ℤ}
-use Rattle.std.specs.Prelude.{FitsSigned, nat_lt, ◌||◌}
-use Rattle.std.specs.Int.{w32, cast_signed, cast_unsigned}
+use Rattle.std.specs.Prelude.{FitsSigned, not, nat_lt, ◌||◌}
+use Rattle.std.specs.Int.{w32, w64, cast_signed, cast_unsigned}
 use Rattle.std.specs.Str.{is_utf8}
 use Rattle.std.proofs.lemmas.Int.{to_z-of_z}
-use Rattle.std.proofs.lemmas.Nat.{from_le_bytes-to_le_bytes_4}
+use Rattle.std.proofs.lemmas.Nat.{from_le_bytes-to_le_bytes_4, from_le_bytes-to_le_bytes_8}
 use Rattle.std.proofs.lemmas.Bool.{le-ltb}
 use Rattle.std.proofs.lemmas.List.{length-append, take_at, drop_at}
 use Rattle.bson_base.specs.Text.{Bytes, Utf8, has_zero, IsPlainName}
 use Rattle.bson_base.specs.Kind.{byte, of_byte}
 use Rattle.bson_base.specs.Outcome.{◌>>=◌}
-use Rattle.bson_base.specs.Tree.{Tree, int32, document, Pairs, pair, kind, le32, enc, elements, enclosed}
-use Rattle.bson_base.proofs.Lengths.{length-le32}
+use Rattle.bson_base.specs.Tree.{Tree, string, int32, int64, document, Pairs, pair, kind, le32, le64, enc, elements, enclosed}
+use Rattle.bson_base.proofs.Lengths.{length-le32, length-le64}
 use Rattle.bson_base.proofs.KindBytes.{of_byte-byte}
 use Rattle.bson_rawdoc.specs.declared.raw.Error.{Error}
-use Rattle.bson_rawdoc.specs.declared.raw.Error.TheVariants.{BadExtent, KeyNotUtf8}
+use Rattle.bson_rawdoc.specs.declared.raw.Error.TheVariants.{BadExtent, KeyNotUtf8, NotUtf8, TextUnclosed}
+use Rattle.bson_rawdoc.specs.RawValue as raw_value
+use Rattle.bson_rawdoc.specs.RawValue.{text_in}
 use Rattle.bson_rawdoc.specs.Envelope.{is_closed, inside}
-use Rattle.bson_rawdoc.specs.Numbers.{int32_in}
-use Rattle.bson_rawdoc.proofs.Extents.{document_extent_found}
+use Rattle.bson_rawdoc.specs.Numbers.{int32_in, int64_in}
+use Rattle.bson_rawdoc.proofs.Extents.{document_extent_found, text_extent_found}
 use Rattle.bson_rawdoc.specs.Walk.{in_front, cut_at_zero, extent, Element, with_value, of_kind, with_key, element_at, then_walk, walk_elements}
 use Rattle.bson_rawdoc.proofs.Walks.{walk_ok}
 
@@ -28,6 +30,14 @@ unsigned32 (negsuc n) h = omega (arith, h)
 pub int32_again : (z : ℤ) → FitsSigned w32 z → int32_in (le32 (cast_unsigned w32 z)) ≡ z
 unfolding int32_in le32
 int32_again z h = ap (cast_signed w32) (from_le_bytes-to_le_bytes_4 (cast_unsigned w32 z) (unsigned32 z h)) ∙ to_z-of_z w32 z h
+
+unsigned64 : (z : ℤ) → FitsSigned w64 z → cast_unsigned w64 z < 2 ^ 64
+unsigned64 (pos n) h = omega (arith, h)
+unsigned64 (negsuc n) h = omega (arith, h)
+
+pub int64_again : (z : ℤ) → FitsSigned w64 z → int64_in (le64 (cast_unsigned w64 z)) ≡ z
+unfolding int64_in le64
+int64_again z h = ap (cast_signed w64) (from_le_bytes-to_le_bytes_8 (cast_unsigned w64 z) (unsigned64 z h)) ∙ to_z-of_z w64 z h
 
 pub length_again : (n : ℕ) (rest : Bytes) → n < 2 ^ 31 → int32_in (le32 n ++ rest) ≡ pos n
 unfolding int32_in le32
@@ -43,23 +53,43 @@ last_is (x ∷ xs) (suc n) e = last_is xs n (omega arith)
 four_behind : (n : ℕ) (b : Bytes) → length (le32 n ++ (b ++ 0 ∷ [])) ≡ length b + 5
 four_behind n b = omega (arith, length-append (le32 n) (b ++ 0 ∷ []), length-le32 n, length-append b (0 ∷ []))
 
-pub closed_again : (b : Bytes) → is_closed (enclosed b) ≡ true
-closed_again b =
-    let n = length b + 5 in
-    ap (λ x. eqb x 0) (ap (λ (l : Bytes). get_or l (length (enclosed b) - 1) 1) (sym (append_assoc (le32 n) b (0 ∷ [])))
-    ∙ last_is (le32 n ++ b) (length (enclosed b) - 1) (omega (arith, four_behind n b, length-append (le32 n) b, length-le32 n)))
+-- what stands behind a length and before a zero
+abbrev pub between : ℕ → Bytes → Bytes
+between n b = le32 n ++ (b ++ 0 ∷ [])
 
-pub inside_again : (b : Bytes) → inside (enclosed b) ≡ b
+pub closed_again : (n : ℕ) (b : Bytes) → is_closed (between n b) ≡ true
+closed_again n b =
+    ap (λ x. eqb x 0) (ap (λ (l : Bytes). get_or l (length (between n b) - 1) 1) (sym (append_assoc (le32 n) b (0 ∷ [])))
+    ∙ last_is (le32 n ++ b) (length (between n b) - 1) (omega (arith, four_behind n b, length-append (le32 n) b, length-le32 n)))
+
+pub inside_again : (n : ℕ) (b : Bytes) → inside (between n b) ≡ b
 unfolding inside
-inside_again b =
-    let n = length b + 5 in
-    ap (λ (l : Bytes). take (length (enclosed b) - 5) l) (drop_at (le32 n) (b ++ 0 ∷ []) 4 (length-le32 n))
-    ∙ take_at b (0 ∷ []) (length (enclosed b) - 5) (omega (arith, four_behind n b))
+inside_again n b =
+    ap (λ (l : Bytes). take (length (between n b) - 5) l) (drop_at (le32 n) (b ++ 0 ∷ []) 4 (length-le32 n))
+    ∙ take_at b (0 ∷ []) (length (between n b) - 5) (omega (arith, four_behind n b))
+
+tested : (a b : Bool) (x : Utf8) → a ≡ true → b ≡ true → cond (not a) (Err TextUnclosed) (cond b (Ok (raw_value.string x)) (Err NotUtf8)) ≡ Ok (raw_value.string x)
+tested false b x p q = absurd cc
+tested true false x p q = absurd cc
+tested true true x p q = refl
+
+-- an encoded text is that text
+pub text_again : (t : Utf8) → is_utf8 t ≡ true → text_in (enc (string t)) ≡ Ok (raw_value.string t)
+text_again t h =
+    let n = length t + 1 in
+    tested (is_closed (between n t)) (is_utf8 (inside (between n t))) (inside (between n t)) (closed_again n t) (ap is_utf8 (inside_again n t) ∙ h) ∙ ap (λ x. Ok (raw_value.string x)) (inside_again n t)
 
 -- ---- one element
 
 extent_again : (t : Tree) (rest : Bytes) → length (enc t) < 2 ^ 31 → extent (kind t) (enc t ++ rest) ≡ Ok (length (enc t))
+extent_again (string t) rest h =
+    let n = length t + 1 in
+    let bs = between n t ++ rest in
+    let long = four_behind n t in
+    let told : int32_in bs ≡ pos n = ap int32_in (append_assoc (le32 n) (t ++ 0 ∷ []) rest) ∙ length_again n ((t ++ 0 ∷ []) ++ rest) (omega (arith, long, h)) in
+    text_extent_found bs n (omega (arith, long, length-append (between n t) rest)) told (omega arith) ∙ ap Ok (let same : length t + 1 + 4 ≡ length (between n t) = omega (arith, long) in same)
 extent_again (int32 z) rest h = ap Ok (sym (length-le32 _))
+extent_again (int64 z) rest h = ap Ok (sym (length-le64 _))
 extent_again (document ps) rest h =
     let b = elements ps in
     let n = length b + 5 in

@@ -1,12 +1,12 @@
 -- Fields that are filled by their keys, in any order.
-use Rattle.std.proofs.Common.{◌≡◌, ℕ, zero, suc, ◌^◌, ◌<◌, ◌≤◌, [], ◌∷◌, length, get_or, set, Bool, true, false, cond, Option, Some, None, Ok, Err, refl, ap, sym, subst, ◌∙◌, arith, eqb}
+use Rattle.std.proofs.Common.{◌≡◌, ℕ, zero, suc, ◌+◌, ◌^◌, ◌<◌, ◌≤◌, [], ◌∷◌, length, get_or, set, Bool, true, false, cond, Option, Some, None, Ok, Err, refl, ap, sym, subst, ◌∙◌, arith, eqb}
 use Rattle.std.specs.Prelude.{is_some, option_map, option_and_then}
 use Rattle.std.specs.Str.{bytes_eq}
 use Rattle.std.proofs.lemmas.Bool.Decides.{nat_tests}
 use Rattle.bson_base.specs.Text.{Bytes, Utf8}
 use Rattle.bson_base.specs.Outcome.{◌>>=◌, result_map}
 use Rattle.bson_base.specs.Sound.{IsClean, ArePairsClean, Lacks}
-use Rattle.bson_base.specs.Tree.{Tree, int32, document, Pairs, no_pairs, pair, kind, enc, elements, depth, pairs_depth}
+use Rattle.bson_base.specs.Tree.{Tree, string, int32, int64, document, Pairs, no_pairs, pair, kind, enc, elements, depth, pairs_depth}
 use Rattle.bson_base.proofs.Lengths.{head_size, tail_size, elements_size}
 use Rattle.bson_base.proofs.Outcomes.{some_map, some_then}
 use Rattle.bson_rawdoc.specs.Envelope.{is_closed}
@@ -23,7 +23,7 @@ use Rattle.bson_laws.specs.Reads.{Reading, refused, judged, pass_elements, pass_
 use Rattle.bson_laws.specs.Views.{lookup, views, views_fields}
 use Rattle.bson_laws.proofs.Spelled.{tree_is}
 use Rattle.bson_laws.proofs.Fitted.{bytes_same, Unnamed}
-use Rattle.bson_laws.proofs.Encoded.{elem, closed_again, inside_again, walk_again}
+use Rattle.bson_laws.proofs.Encoded.{elem, closed_again, inside_again, text_again, walk_again}
 
 -- ---- documents
 
@@ -41,17 +41,21 @@ judged_closed false levels b c h = absurd cc
 
 -- an encoded document is a document, where a level is left
 pub judged_again : (levels : ℕ) (ps : Pairs) → 0 < levels → judged levels (value_in (kind (document ps)) (enc (document ps))) ≡ Ok (raw_value.document (enc (document ps)))
-judged_again levels ps h = judged_closed (is_closed (enc (document ps))) levels (enc (document ps)) (closed_again (elements ps)) h
+judged_again levels ps h = judged_closed (is_closed (enc (document ps))) levels (enc (document ps)) (closed_again (length (elements ps) + 5) (elements ps)) h
 
 pub walk_inside : (ps : Pairs) → walk (enc (document ps)) ≡ walk_elements (elements ps)
-walk_inside ps = ap walk_elements (inside_again (elements ps))
+walk_inside ps = ap walk_elements (inside_again (length (elements ps) + 5) (elements ps))
 
 -- ---- what no field names
 
 mutual
   pub ignores_again : (t : Tree) (levels : ℕ) → IsClean t → depth t ≤ levels → length (enc t) < 2 ^ 31 → ignores levels (kind t) (enc t) ≡ Ok tt
+  ignores_again (string t) zero c d l = ap (λ r. judged zero r >>= λ _. Ok tt) (text_again t c)
+  ignores_again (string t) (suc n) c d l = ap (λ r. judged (suc n) r >>= pass_inside (ignores n)) (text_again t c)
   ignores_again (int32 z) zero c d l = refl
   ignores_again (int32 z) (suc n) c d l = refl
+  ignores_again (int64 z) zero c d l = refl
+  ignores_again (int64 z) (suc n) c d l = refl
   ignores_again (document ps) zero c d l = absurd (omega arith)
   ignores_again (document ps) (suc n) c d l =
       ap (λ r. r >>= pass_inside (ignores n)) (judged_again (suc n) ps (omega arith))

@@ -1,21 +1,20 @@
 -- The meaning of a value that fits a shape is viewed at the shape as the normal form of that value.
 use Rattle.std.proofs.Common.{◌≡◌, Bool, true, false, cond, Option, Some, None, refl, ap, sym, subst, ◌∙◌, arith, pos, negsuc, ℤ}
-use Rattle.std.specs.Prelude.{option_map, option_and_then, FitsSigned, int_lt}
-use Rattle.std.specs.Int.{w32}
+use Rattle.std.specs.Prelude.{option_map, option_and_then}
 use Rattle.std.specs.Str.{bytes_eq}
-use Rattle.std.proofs.lemmas.Int.{ints}
 use Rattle.std.proofs.lemmas.Slice.Eq.{bytes_eq-Decides}
 use Rattle.bson_base.specs.Text.{Utf8}
 use Rattle.bson_base.specs.Reserved.{reserved_kind}
 use Rattle.bson_base.specs.Sound.{IsClean, ArePairsClean, Lacks}
-use Rattle.bson_base.specs.Tree.{Tree, int32, document, Pairs, pair}
+use Rattle.bson_base.specs.declared.element_type.ElementType.{ElementType}
+use Rattle.bson_base.specs.declared.element_type.ElementType.TheVariants.{Int32}
+use Rattle.bson_base.specs.Tree.{Tree, string, int32, int64, document, Pairs, no_pairs, pair}
 use Rattle.bson_base.proofs.Outcomes.{some_map, some_then}
 use Rattle.bson_shape.specs.Form.{Form, leaf, structure, Fields, no_fields, field}
-use Rattle.bson_shape.specs.declared.leaf.Leaf.TheVariants.{I32}
 use Rattle.bson_datum.specs.Value as value
-use Rattle.bson_datum.specs.Value.{Value, FieldValues, no_field_values, field_value}
-use Rattle.bson_laws.specs.Views.{lookup, as_i32, views, views_fields}
-use Rattle.bson_laws.specs.Means.{means, means_fields, norm, norm_fields}
+use Rattle.bson_datum.specs.Value.{IntegerType, in_range, written_as, Value, integer, str, FieldValues, no_field_values, field_value}
+use Rattle.bson_laws.specs.Views.{lookup, as_integer, integer_of_tree, text_of_tree, views_leaf, views, views_fields}
+use Rattle.bson_laws.specs.Means.{number_of, means, means_fields, norm, norm_fields}
 use Rattle.bson_laws.specs.Fits.{Fits, FieldsFit}
 use Rattle.bson_laws.proofs.Spelled.{tree_is, unreserved}
 
@@ -25,13 +24,18 @@ bytes_eq-refl xs = (bytes_eq-Decides xs xs).1 refl
 pub bytes_same : (xs ys : Utf8) → bytes_eq xs ys ≡ true → xs ≡ ys
 bytes_same xs ys e = (bytes_eq-Decides xs ys).0 e
 
-chosen : (a b : Bool) (z : ℤ) → a ≡ false → b ≡ false → cond a None (cond b None (Some (value.i32 z))) ≡ Some (value.i32 z)
-chosen true b z p q = absurd cc
-chosen false true z p q = absurd cc
-chosen false false z p q = refl
+in_range_is : (type : IntegerType) (n : ℤ) (b : Bool) → in_range type n ≡ b → b ≡ true → as_integer type n ≡ Some (integer type n)
+in_range_is type n true e t = ap (λ c. cond c (Some (integer type n)) None) e
+in_range_is type n false e t = absurd cc
 
-pub fits_i32 : (z : ℤ) → FitsSigned w32 z → as_i32 z ≡ Some (value.i32 z)
-fits_i32 z h = chosen (int_lt z (negsuc 2147483647)) (int_lt (pos 2147483647) z) z (grind (arith, ints, h)) (grind (arith, ints, h))
+wide_number : (b : Bool) (n : ℤ) (t : Tree) → cond b None (Some (int64 n)) ≡ Some t → integer_of_tree t ≡ Some n
+wide_number true n t e = absurd cc
+wide_number false n t e = ap integer_of_tree (sym (tree_is (int64 n) t e))
+
+-- the tree that a number means is that number
+number_tree : (k : ElementType) (n : ℤ) (t : Tree) → number_of k n ≡ Some t → integer_of_tree t ≡ Some n
+number_tree Int32 n t e = ap integer_of_tree (sym (tree_is (int32 n) t e))
+number_tree k n t e = wide_number _ n t e
 
 chosen_t : (a : Bool) (t : Tree) (o : Option Tree) → a ≡ true → cond a (Some t) o ≡ Some t
 chosen_t true t o p = refl
@@ -75,8 +79,11 @@ unnamed key (field_value m v vs) (field n s fs) ps f e l =
 
 mutual
   pub views_means : (v : Value) (s : Form) (t : Tree) → Fits v s → means v ≡ Some t → IsClean t → views s t ≡ Some (norm v)
-  views_means (value.i32 n) (leaf I32) t f e c = ap (views (leaf I32)) (sym (tree_is (int32 n) t e)) ∙ fits_i32 n f
-  views_means (value.i32 n) (structure name fs) t f e c = absurd f
+  views_means (integer type n) (leaf l) t f e c =
+      ap (λ k. views_leaf k t) f.0 ∙ ap (option_and_then (as_integer type)) (number_tree (written_as type) n t e) ∙ in_range_is type n (in_range type n) refl f.1
+  views_means (integer type n) (structure name fs) t f e c = absurd f
+  views_means (str x) (leaf l) t f e c = ap (λ k. views_leaf k t) f.0 ∙ ap (λ u. option_map str (text_of_tree u)) (sym (tree_is (string x) t e))
+  views_means (str x) (structure name fs) t f e c = absurd f
   views_means (value.structure m vs) (leaf l) t f e c = absurd f
   views_means (value.structure m vs) (structure n fs) t f e c =
       let u = unreserved (reserved_kind m) (option_map document (means_fields vs)) t e in

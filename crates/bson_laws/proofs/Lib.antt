@@ -4,3 +4,6 @@ pub mod Fitted
 pub mod Encoded
 pub mod Filled
 pub mod ReadBack
+pub mod Keys
+pub mod Writable
+pub mod Rewritten

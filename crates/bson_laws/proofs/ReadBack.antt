@@ -6,7 +6,7 @@ use Rattle.std.proofs.lemmas.Bool.{le-ltb}
 use Rattle.bson_base.specs.Text.{Bytes, Utf8}
 use Rattle.bson_base.specs.Outcome.{◌>>=◌, result_map}
 use Rattle.bson_base.specs.Sound.{max_levels, IsClean, ArePairsClean, IsSound}
-use Rattle.bson_base.specs.Tree.{Tree, int32, document, Pairs, no_pairs, pair, kind, enc, elements, depth}
+use Rattle.bson_base.specs.Tree.{Tree, string, int32, int64, document, Pairs, no_pairs, pair, kind, enc, elements, depth}
 use Rattle.bson_base.specs.declared.element_type.ElementType.TheVariants.{EmbeddedDocument}
 use Rattle.bson_base.proofs.Lengths.{length-document, elements_size}
 use Rattle.bson_base.proofs.Outcomes.{some_map, some_then}
@@ -18,17 +18,19 @@ use Rattle.std.proofs.lemmas.Bool.Decides.{Decides-int_eq}
 use Rattle.bson_rawdoc.specs.Walk.{walk}
 use Rattle.bson_shape.specs.Form.{Form, leaf, structure, Fields, no_fields, field}
 use Rattle.bson_shape.specs.Makers.{has_field, repeats, IsShape, AreShapes}
-use Rattle.bson_shape.specs.declared.leaf.Leaf.TheVariants.{I32}
+use Rattle.bson_shape.specs.declared.leaf.Leaf.{Leaf}
+use Rattle.bson_laws.specs.Integers.{LeafKind, numbers, texts, leaf_kind}
+use Rattle.bson_rawdoc.specs.RawValue.{value_in}
 use Rattle.bson_datum.specs.Value as value
-use Rattle.bson_datum.specs.Value.{Value, FieldValues, no_field_values, field_value}
+use Rattle.bson_datum.specs.Value.{IntegerType, in_range, Value, FieldValues, no_field_values, field_value}
 use Rattle.bson_datum.specs.Cause.{out_of_range, raw}
 use Rattle.bson_datum.specs.Refusal.{bare, unreadable}
-use Rattle.bson_laws.specs.Reads.{refused, document_of, read_as_i32, finish, no_slots, reads_fields, reads, reads_field, answered, reads_document}
-use Rattle.bson_laws.specs.Views.{as_i32, integer, pairs_of, lookup, views, views_fields}
+use Rattle.bson_laws.specs.Reads.{Reading, refused, judged, document_of, integer_of, read_integer, read_leaf, fill, finish, no_slots, reads_fields, reads, reads_field, answered, reads_document}
+use Rattle.bson_laws.specs.Views.{as_integer, integer_of_tree, pairs_of, lookup, views_leaf, views, views_fields}
 use Rattle.bson_laws.specs.Means.{norm, norm_fields}
 use Rattle.bson_laws.specs.Fits.{Fits, FieldsFit}
 use Rattle.bson_laws.proofs.Fitted.{Unnamed, unlike_swap}
-use Rattle.bson_laws.proofs.Encoded.{int32_again, length_again, closed_again}
+use Rattle.bson_laws.proofs.Encoded.{int32_again, int64_again, length_again, closed_again, text_again}
 use Rattle.bson_laws.proofs.Filled.{Distinct, views_nth, judged_again, walk_inside, free_first, all_view, fill_again}
 
 -- ---- the names of a shape's fields
@@ -45,34 +47,43 @@ distinct_from : (fs : Fields) → repeats fs ≡ false → Distinct fs
 distinct_from no_fields e = tt
 distinct_from (field n s fs) e = let b = neither (has_field n fs) (repeats fs) e in (unnamed_from n fs b.0, distinct_from fs b.1)
 
--- ---- numbers
+-- ---- leaves
 
-tested : (a b : Bool) (z : ℤ) (v : Value) → cond a None (cond b None (Some (value.i32 z))) ≡ Some v → cond a (refused (out_of_range z)) (cond b (refused (out_of_range z)) (Ok (value.i32 z))) ≡ Ok v
-tested true b z v e = absurd cc
-tested false true z v e = absurd cc
-tested false false z v e = ap Ok cc
+in_range_or : (type : IntegerType) (n : ℤ) (b : Bool) (v : Value) → cond b (Some (value.integer type n)) None ≡ Some v → (cond b (Ok (value.integer type n)) (refused (out_of_range n)) ≡ Ok v) × (b ≡ true) × (v ≡ value.integer type n)
+in_range_or type n true v e = (ap Ok cc, refl, cc)
+in_range_or type n false v e = absurd cc
 
-same_i32 : (z : ℤ) (v : Value) → as_i32 z ≡ Some v → read_as_i32 z ≡ Ok v
-same_i32 z v e = tested (int_lt z (negsuc 2147483647)) (int_lt (pos 2147483647) z) z v e
+leaf_again : (k : LeafKind) (t : Tree) (v : Value) (levels : ℕ) → IsClean t → views_leaf k t ≡ Some v → (judged levels (value_in (kind t) (enc t)) >>= read_leaf k) ≡ Ok v
+leaf_again (numbers type) (string t) v levels c e = absurd cc
+leaf_again (numbers type) (int32 n) v levels c e = ap (read_integer type) (int32_again n c) ∙ (in_range_or type n (in_range type n) v e).0
+leaf_again (numbers type) (int64 n) v levels c e = ap (read_integer type) (int64_again n c) ∙ (in_range_or type n (in_range type n) v e).0
+leaf_again (numbers type) (document ps) v levels c e = absurd cc
+leaf_again texts (string t) v levels c e = ap (λ r. judged levels r >>= read_leaf texts) (text_again t c) ∙ ap Ok cc
+leaf_again texts (int32 n) v levels c e = absurd cc
+leaf_again texts (int64 n) v levels c e = absurd cc
+leaf_again texts (document ps) v levels c e = absurd cc
 
-is_number : (a b : Bool) (z : ℤ) (v : Value) → cond a None (cond b None (Some (value.i32 z))) ≡ Some v → v ≡ value.i32 z
-is_number true b z v e = absurd cc
-is_number false true z v e = absurd cc
-is_number false false z v e = cc
-
-reads_i32 : (t : Tree) (v : Value) (levels : ℕ) → IsClean t → option_and_then as_i32 (integer t) ≡ Some v → reads (leaf I32) levels (kind t) (enc t) ≡ Ok v
-reads_i32 (int32 n) v levels c e = ap read_as_i32 (int32_again n c) ∙ same_i32 n v e
-reads_i32 (document ps) v levels c e = absurd cc
+leaf_fits : (l : Leaf) (k : LeafKind) (t : Tree) (v : Value) → leaf_kind l ≡ k → IsClean t → views_leaf k t ≡ Some v → Fits v (leaf l)
+leaf_fits l (numbers type) (string t) v is c e = absurd cc
+leaf_fits l (numbers type) (int32 n) v is c e = let r = in_range_or type n (in_range type n) v e in subst (λ x. Fits x (leaf l)) (sym r.2) (is, r.1)
+leaf_fits l (numbers type) (int64 n) v is c e = let r = in_range_or type n (in_range type n) v e in subst (λ x. Fits x (leaf l)) (sym r.2) (is, r.1)
+leaf_fits l (numbers type) (document ps) v is c e = absurd cc
+leaf_fits l texts (string t) v is c e = let same : value.str t ≡ v = cc in subst (λ x. Fits x (leaf l)) same (is, c)
+leaf_fits l texts (int32 n) v is c e = absurd cc
+leaf_fits l texts (int64 n) v is c e = absurd cc
+leaf_fits l texts (document ps) v is c e = absurd cc
 
 -- ---- documents
 
 pairs_then : (t : Tree) (ps : Pairs) → pairs_of t ≡ Some ps → t ≡ document ps
+pairs_then (string t) ps e = absurd cc
 pairs_then (int32 n) ps e = absurd cc
+pairs_then (int64 n) ps e = absurd cc
 pairs_then (document qs) ps e = ap document cc
 
 mutual
   pub reads_again : (s : Form) (t : Tree) (v : Value) (levels : ℕ) → IsShape s → IsClean t → depth t ≤ levels → length (enc t) < 2 ^ 31 → views s t ≡ Some v → reads s levels (kind t) (enc t) ≡ Ok v
-  reads_again (leaf I32) t v levels p c d l e = reads_i32 t v levels c e
+  reads_again (leaf w) t v levels p c d l e = leaf_again (leaf_kind w) t v levels c e
   reads_again (structure name fs) t v levels p c d l e =
       let a = some_then (λ ps. option_map (value.structure name) (views_fields fs ps)) (pairs_of t) v e in
       let b = some_map (value.structure name) (views_fields fs a.0) v a.2 in
@@ -102,11 +113,13 @@ pub envelope_again : (ps : Pairs) → length (enc (document ps)) < 2 ^ 31 → en
 envelope_again ps l =
     let bytes = enc (document ps) in
     passed (nat_lt (length bytes) 5) (int_eq (int32_in bytes) (pos (length bytes))) (is_closed bytes) bytes
-    (le-ltb _ _ (omega (arith, length-document ps))) ((Decides-int_eq _ _).1 (length_again (length (elements ps) + 5) (elements ps ++ 0 ∷ []) (omega (arith, l, length-document ps)) ∙ ap pos (sym (length-document ps)))) (closed_again (elements ps))
+    (le-ltb _ _ (omega (arith, length-document ps))) ((Decides-int_eq _ _).1 (length_again (length (elements ps) + 5) (elements ps ++ 0 ∷ []) (omega (arith, l, length-document ps)) ∙ ap pos (sym (length-document ps)))) (closed_again (length (elements ps) + 5) (elements ps))
 
 -- what a sound tree is at a shape is read from its bytes
 pub views_reads : (s : Form) (t : Tree) (v : Value) → IsShape s → IsSound t → views s t ≡ Some v → reads_document s (enc t) ≡ Ok v
+views_reads s (string x) v p h e = absurd h.document
 views_reads s (int32 z) v p h e = absurd h.document
+views_reads s (int64 z) v p h e = absurd h.document
 views_reads s (document ps) v p h e =
     ap (λ r. elim r [ Ok b ↦ answered (reads s max_levels EmbeddedDocument b) | Err f ↦ Err (bare (unreadable (raw f))) ]) (envelope_again ps (let f = h.fits in omega arith))
     ∙ ap answered (reads_again s (document ps) v max_levels p h.clean h.nests (let f = h.fits in omega arith) e)
@@ -138,9 +151,10 @@ lookup_clean key (pair k u ps) t c e = clean_either (bytes_eq key k) u t (lookup
 
 mutual
   pub views_fit : (s : Form) (t : Tree) (v : Value) → IsClean t → views s t ≡ Some v → Fits v s
-  views_fit (leaf I32) (int32 n) v c e = subst (λ x. Fits x (leaf I32)) (sym (is_number (int_lt n (negsuc 2147483647)) (int_lt (pos 2147483647) n) n v e)) c
-  views_fit (leaf I32) (document ps) v c e = absurd cc
+  views_fit (leaf l) t v c e = leaf_fits l (leaf_kind l) t v refl c e
+  views_fit (structure name fs) (string t) v c e = absurd cc
   views_fit (structure name fs) (int32 n) v c e = absurd cc
+  views_fit (structure name fs) (int64 n) v c e = absurd cc
   views_fit (structure name fs) (document ps) v c e =
       let b = some_map (value.structure name) (views_fields fs ps) v e in
       subst (λ x. Fits x (structure name fs)) b.2 (refl, views_fields_fit fs ps b.0 c b.1)
@@ -155,7 +169,8 @@ mutual
 
 mutual
   pub norm_same : (v : Value) → norm v ≡ v
-  norm_same (value.i32 n) = refl
+  norm_same (value.integer type n) = refl
+  norm_same (value.str t) = refl
   norm_same (value.structure name fs) = ap (value.structure name) (norm_fields_same fs)
 
   pub norm_fields_same : (fs : FieldValues) → norm_fields fs ≡ fs

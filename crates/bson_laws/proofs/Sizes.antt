@@ -1,16 +1,17 @@
 -- What is written is as long as the size says, and of the kind of the value.
-use Rattle.std.proofs.Common.{◌≡◌, ℕ, zero, suc, ◌+◌, ◌∷◌, ◌++◌, length, Bool, true, false, cond, Option, Some, None, Result, Ok, Err, refl, ap, sym, ◌∙◌, arith}
+use Rattle.std.proofs.Common.{◌≡◌, ℕ, ℤ, zero, suc, ◌+◌, ◌∷◌, ◌++◌, length, Bool, true, false, cond, Option, Some, None, Result, Ok, Err, refl, ap, sym, ◌∙◌, arith}
 use Rattle.std.proofs.lemmas.List.{length-append}
 use Rattle.bson_base.specs.Text.{Utf8, has_zero}
 use Rattle.bson_base.specs.Outcome.{◌>>=◌}
 use Rattle.bson_base.specs.Reserved.{reserved_kind}
-use Rattle.bson_base.specs.Tree.{Tree, int32, document, Pairs, no_pairs, pair, enc, elements, kind}
+use Rattle.bson_base.specs.Tree.{Tree, string, int32, int64, document, Pairs, no_pairs, pair, enc, elements, kind}
 use Rattle.bson_base.specs.declared.element_type.ElementType.{ElementType}
+use Rattle.bson_base.specs.declared.element_type.ElementType.TheVariants.{Int32}
 use Rattle.bson_base.proofs.Outcomes.{map_ok, bind_ok}
-use Rattle.bson_base.proofs.Lengths.{length-le32, length-document}
-use Rattle.bson_datum.specs.Value.{Value, i32, structure, FieldValues, no_field_values, field_value, kind_of, reserved_or_document}
+use Rattle.bson_base.proofs.Lengths.{length-le32, length-le64, length-text, length-document}
+use Rattle.bson_datum.specs.Value.{IntegerType, i8, i16, i32, i64, u8, u16, u32, u64, written_as, Value, integer, str, structure, FieldValues, no_field_values, field_value, kind_of, reserved_or_document}
 use Rattle.bson_datum.specs.Refusal.{Refusal, WriteFault, under}
-use Rattle.bson_laws.specs.Spell.{Writing, struct_at, named, spell, spell_fields, size, size_fields}
+use Rattle.bson_laws.specs.Spell.{Writing, enclosed_at, struct_at, named, number_size, spell_number, spell, spell_fields, size, size_fields}
 
 abbrev done : {A : Type 0} → A → Writing A
 done x = Ok x
@@ -37,13 +38,33 @@ struct_ok (Some k) levels pairs t e = absurd cc
 struct_ok None zero pairs t e = absurd cc
 struct_ok None (suc n) pairs t e = (refl, (n, refl, map_ok document (pairs n) t e))
 
+wide_is : (b : Bool) (f : Refusal WriteFault) (n : ℤ) (t : Tree) → cond b (Err f) (done (int64 n)) ≡ Ok t → int64 n ≡ t
+wide_is true f n t e = absurd cc
+wide_is false f n t e = ok_is (int64 n) t e
+
+number_kind : (type : IntegerType) (n : ℤ) (t : Tree) → spell_number (written_as type) n ≡ Ok t → kind t ≡ written_as type
+number_kind i8 n t e = ap kind (sym (ok_is (int32 n) t e))
+number_kind i16 n t e = ap kind (sym (ok_is (int32 n) t e))
+number_kind i32 n t e = ap kind (sym (ok_is (int32 n) t e))
+number_kind i64 n t e = ap kind (sym (wide_is _ _ n t e))
+number_kind u8 n t e = ap kind (sym (ok_is (int32 n) t e))
+number_kind u16 n t e = ap kind (sym (ok_is (int32 n) t e))
+number_kind u32 n t e = ap kind (sym (wide_is _ _ n t e))
+number_kind u64 n t e = ap kind (sym (wide_is _ _ n t e))
+
+number_length : (k : ElementType) (n : ℤ) (t : Tree) → spell_number k n ≡ Ok t → length (enc t) ≡ number_size k
+number_length Int32 n t e = ap (λ u. length (enc u)) (sym (ok_is (int32 n) t e)) ∙ length-le32 _
+number_length k n t e = ap (λ u. length (enc u)) (sym (wide_is _ _ n t e)) ∙ length-le64 _
+
 pub spell_kind : (v : Value) (levels : ℕ) (t : Tree) → spell v levels ≡ Ok t → kind t ≡ kind_of v
-spell_kind (i32 n) levels t e = ap kind (sym (ok_is (int32 n) t e))
+spell_kind (integer type n) levels t e = number_kind type n t e
+spell_kind (str x) levels t e = ap kind (sym (ok_is (string x) t e))
 spell_kind (structure name fs) levels t e = let m = struct_ok (reserved_kind name) levels (spell_fields fs) t e in ap kind (sym m.1.2.2) ∙ ap reserved_or_document (sym m.0)
 
 mutual
   pub length-spell : (v : Value) (levels : ℕ) (t : Tree) → spell v levels ≡ Ok t → length (enc t) ≡ size v
-  length-spell (i32 n) levels t e = ap (λ u. length (enc u)) (sym (ok_is (int32 n) t e)) ∙ length-le32 _
+  length-spell (integer type n) levels t e = number_length (written_as type) n t e
+  length-spell (str x) levels t e = ap (λ u. length (enc u)) (sym (ok_is (string x) t e)) ∙ length-text x
   length-spell (structure name fs) levels t e =
       let m = struct_ok (reserved_kind name) levels (spell_fields fs) t e in
       ap (λ u. length (enc u)) (sym m.1.2.2) ∙ length-document m.1.2.0 ∙ ap (λ k. k + 5) (length-spell_fields fs m.1.0 m.1.2.0 m.1.2.1)

@@ -1,16 +1,17 @@
 -- What means a clean tree is spelled as it.
-use Rattle.std.proofs.Common.{◌≡◌, ℕ, zero, suc, ◌≤◌, length, cond, Option, Some, None, Ok, Err, refl, ap, sym, subst, ◌∙◌, arith}
+use Rattle.std.proofs.Common.{◌≡◌, ℕ, ℤ, Bool, true, false, zero, suc, ◌≤◌, length, cond, Option, Some, None, Ok, Err, refl, ap, sym, subst, ◌∙◌, arith}
 use Rattle.std.specs.Prelude.{option_map, is_some}
 use Rattle.bson_base.specs.Outcome.{◌>>=◌, result_map}
 use Rattle.bson_base.specs.Reserved.{reserved_kind}
 use Rattle.bson_base.specs.Sound.{max_levels, IsClean, ArePairsClean, IsSound, IsDocument}
-use Rattle.bson_base.specs.Tree.{Tree, int32, document, Pairs, no_pairs, pair, enc, depth, pairs_depth}
+use Rattle.bson_base.specs.Tree.{Tree, string, int32, int64, document, Pairs, no_pairs, pair, enc, depth, pairs_depth}
 use Rattle.bson_base.specs.declared.element_type.ElementType.{ElementType}
+use Rattle.bson_base.specs.declared.element_type.ElementType.TheVariants.{Int32}
 use Rattle.bson_base.proofs.Outcomes.{some_map, some_then}
-use Rattle.bson_datum.specs.Value.{Value, i32, structure, FieldValues, no_field_values, field_value, reserved_or_document}
-use Rattle.bson_datum.specs.Refusal.{here, invalid_cstring, under}
-use Rattle.bson_laws.specs.Means.{means, means_fields}
-use Rattle.bson_laws.specs.Spell.{enclosed_at, struct_at, spell, spell_fields, at_top, spell_document, size}
+use Rattle.bson_datum.specs.Value.{written_as, Value, integer, str, structure, FieldValues, no_field_values, field_value, reserved_or_document}
+use Rattle.bson_datum.specs.Refusal.{WriteFault, Refusal, here, invalid_cstring, under}
+use Rattle.bson_laws.specs.Means.{number_of, means, means_fields}
+use Rattle.bson_laws.specs.Spell.{spell_number, enclosed_at, struct_at, spell, spell_fields, at_top, spell_document, size}
 use Rattle.bson_laws.proofs.Sizes.{length-spell}
 
 abbrev pub pairs_found : Pairs → Option Pairs
@@ -25,6 +26,22 @@ found t = Some t
 pub tree_is : (t u : Tree) → found t ≡ found u → t ≡ u
 tree_is t u e = cc
 
+wide_spelled : (b : Bool) (f : Refusal WriteFault) (n : ℤ) (t : Tree) → cond b None (found (int64 n)) ≡ Some t → cond b (Err f) (Ok (int64 n)) ≡ Ok t
+wide_spelled true f n t e = absurd cc
+wide_spelled false f n t e = ap Ok (tree_is (int64 n) t e)
+
+number_spelled : (k : ElementType) (n : ℤ) (t : Tree) → number_of k n ≡ Some t → spell_number k n ≡ Ok t
+number_spelled Int32 n t e = ap Ok (tree_is (int32 n) t e)
+number_spelled k n t e = wide_spelled _ _ n t e
+
+wide_no_document : (b : Bool) (n : ℤ) (t : Tree) → cond b None (found (int64 n)) ≡ Some t → IsDocument t → ⊥
+wide_no_document true n t e doc = absurd cc
+wide_no_document false n t e doc = subst IsDocument (sym (tree_is (int64 n) t e)) doc
+
+number_no_document : (k : ElementType) (n : ℤ) (t : Tree) → number_of k n ≡ Some t → IsDocument t → ⊥
+number_no_document Int32 n t e doc = subst IsDocument (sym (tree_is (int32 n) t e)) doc
+number_no_document k n t e doc = wide_no_document _ n t e doc
+
 pub unreserved : (o : Option ElementType) (r : Option Tree) (t : Tree) → cond (is_some o) None r ≡ Some t → (o ≡ None) × (r ≡ Some t)
 unreserved (Some k) r t e = absurd cc
 unreserved None r t e = (refl, e)
@@ -35,7 +52,8 @@ enclosed fs ps (suc n) d h = ap (result_map document) (h n (omega arith))
 
 mutual
   pub spell_is : (v : Value) (t : Tree) (levels : ℕ) → means v ≡ Some t → IsClean t → depth t ≤ levels → spell v levels ≡ Ok t
-  spell_is (i32 n) t levels e c d = ap Ok (tree_is (int32 n) t e)
+  spell_is (integer type n) t levels e c d = number_spelled (written_as type) n t e
+  spell_is (str x) t levels e c d = ap Ok (tree_is (string x) t e)
   spell_is (structure name fs) t levels e c d =
       let u = unreserved (reserved_kind name) (option_map document (means_fields fs)) t e in
       let m = some_map document (means_fields fs) t u.1 in
@@ -55,7 +73,8 @@ mutual
       c d
 
 document_only : (v : Value) (t : Tree) → means v ≡ Some t → IsDocument t → spell v max_levels ≡ Ok t → spell_document v ≡ Ok t
-document_only (i32 n) t e doc h = absurd (subst IsDocument (sym (tree_is (int32 n) t e)) doc)
+document_only (integer type n) t e doc h = absurd (number_no_document (written_as type) n t e doc)
+document_only (str x) t e doc h = absurd (subst IsDocument (sym (tree_is (string x) t e)) doc)
 document_only (structure name fs) t e doc h =
     let u = unreserved (reserved_kind name) (option_map document (means_fields fs)) t e in
     ap (λ o. at_top (reserved_or_document o) (spell (structure name fs) max_levels)) u.0 ∙ h

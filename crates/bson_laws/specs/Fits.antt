@@ -1,15 +1,16 @@
 -- The values that are values of a shape.
-use Rattle.std.specs.Prelude.{◌≡◌, FitsSigned}
-use Rattle.std.specs.Int.{w32}
+use Rattle.std.specs.Prelude.{◌≡◌, true}
+use Rattle.std.specs.Str.{is_utf8}
 use Rattle.bson_shape.specs.Form.{Form, leaf, structure, Fields, no_fields, field}
-use Rattle.bson_shape.specs.declared.leaf.Leaf.TheVariants.{I32}
+use Rattle.bson_laws.specs.Integers.{numbers, texts, leaf_kind}
 use Rattle.bson_datum.specs.Value as value
-use Rattle.bson_datum.specs.Value.{Value, FieldValues, no_field_values, field_value}
+use Rattle.bson_datum.specs.Value.{in_range, Value, integer, str, FieldValues, no_field_values, field_value}
 
 abbrev mutual
-  -- a number in the range of the shape's type; a struct of the shape's name, with its fields in its order, whose values fit theirs
+  -- a number of the leaf's type; a text; a struct of the shape's name, with its fields in its order, whose values fit theirs
   pub Fits : Value → Form → Type 0
-  Fits (value.i32 n) (leaf I32) = FitsSigned w32 n
+  Fits (integer type n) (leaf l) = (leaf_kind l ≡ numbers type) × (in_range type n ≡ true)
+  Fits (str t) (leaf l) = (leaf_kind l ≡ texts) × (is_utf8 t ≡ true)
   Fits (value.structure name vs) (structure n fs) = (name ≡ n) × FieldsFit vs fs
   Fits v s = ⊥
 

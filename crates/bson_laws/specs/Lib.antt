@@ -1,3 +1,4 @@
+pub mod Integers
 pub mod Views
 pub mod Means
 pub mod Fits

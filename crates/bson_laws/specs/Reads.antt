@@ -1,20 +1,19 @@
 -- Reading a document's bytes at a shape. Source: serde's data model, over the walk of the bytes.
-use Rattle.std.specs.Prelude.{ℕ, zero, suc, ◌-◌, List, [], ◌∷◌, set, get_or, if◌then◌else◌, int_lt, pos, negsuc, ℤ, eqb, Option, Some, None, is_some, Result, Ok, Err}
+use Rattle.std.specs.Prelude.{ℕ, zero, suc, ◌-◌, List, [], ◌∷◌, set, get_or, if◌then◌else◌, ℤ, eqb, Option, Some, None, is_some, Result, Ok, Err}
 use Rattle.std.specs.Str.{bytes_eq}
 use Rattle.bson_base.specs.Text.{Bytes, Utf8}
 use Rattle.bson_base.specs.Outcome.{◌>>=◌, result_map}
 use Rattle.bson_base.specs.Sound.{max_levels}
 use Rattle.bson_base.specs.declared.element_type.ElementType.{ElementType}
-use Rattle.bson_base.specs.declared.element_type.ElementType.TheVariants.{EmbeddedDocument, Int32}
+use Rattle.bson_base.specs.declared.element_type.ElementType.TheVariants.{EmbeddedDocument, Int32, Int64, String}
 use Rattle.bson_rawdoc.specs.Envelope.{envelope}
 use Rattle.bson_rawdoc.specs.Walk.{Element, Walk, ended, faulty, then_walk, walk}
-use Rattle.bson_rawdoc.specs.RawValue.{RawValue, int32, document, value_in}
+use Rattle.bson_rawdoc.specs.RawValue.{RawValue, string, int32, int64, document, value_in}
 use Rattle.bson_rawdoc.specs.declared.raw.Error as raw_error
 use Rattle.bson_shape.specs.Form.{Form, leaf, structure, Fields, no_fields, field}
-use Rattle.bson_shape.specs.declared.leaf.Leaf.{Leaf}
-use Rattle.bson_shape.specs.declared.leaf.Leaf.TheVariants.{I32}
+use Rattle.bson_laws.specs.Integers.{LeafKind, numbers, texts, leaf_kind}
 use Rattle.bson_datum.specs.Value as value
-use Rattle.bson_datum.specs.Value.{Value, FieldValues, no_field_values, field_value}
+use Rattle.bson_datum.specs.Value.{IntegerType, in_range, Value, FieldValues, no_field_values, field_value}
 use Rattle.bson_datum.specs.Cause.{Cause, raw, too_deep, invalid_type, out_of_range, missing_field, duplicate_field}
 use Rattle.bson_datum.specs.Refusal.{ReadFault, unreadable, Refusal, here, under, Failure, bare, with_path}
 
@@ -29,7 +28,9 @@ refused c = Err (here (unreadable c))
 -- The value of an element, judged before any shape looks at it: its fault comes first, then a document where no level is left.
 abbrev pub judged : ℕ → Result RawValue raw_error.Error → Reading RawValue
 judged levels (Err e) = refused (raw e)
+judged levels (Ok (string t)) = Ok (string t)
 judged levels (Ok (int32 n)) = Ok (int32 n)
+judged levels (Ok (int64 n)) = Ok (int64 n)
 judged levels (Ok (document bytes)) = if eqb levels 0 then refused too_deep else Ok (document bytes)
 
 -- walked to the end, each value in it too, and dropped
@@ -39,7 +40,9 @@ pass_elements pass (faulty e) = refused (raw e)
 pass_elements pass (then_walk e w) = under e.key (pass e.kind e.value) >>= λ _. pass_elements pass w
 
 abbrev pub pass_inside : (ElementType → Bytes → Reading (Unit {0})) → RawValue → Reading (Unit {0})
+pass_inside pass (string t) = Ok tt
 pass_inside pass (int32 n) = Ok tt
+pass_inside pass (int64 n) = Ok tt
 pass_inside pass (document bytes) = pass_elements pass (walk bytes)
 
 -- a value that no field takes, with so many levels left: walked to its end and dropped
@@ -49,19 +52,32 @@ ignores (suc levels) k bytes = judged (suc levels) (value_in k bytes) >>= pass_i
 
 -- the number of a value that is one
 abbrev pub integer_of : RawValue → Reading ℤ
+integer_of (string t) = refused (invalid_type String)
 integer_of (int32 n) = Ok n
+integer_of (int64 n) = Ok n
 integer_of (document bytes) = refused (invalid_type EmbeddedDocument)
 
--- the number as a value of the type `i32`, where it lies in its range
-abbrev pub read_as_i32 : ℤ → Reading Value
-read_as_i32 n = if int_lt n (negsuc 2147483647) then refused (out_of_range n) else if int_lt (pos 2147483647) n then refused (out_of_range n) else Ok (value.i32 n)
+-- the text of a value that is one
+abbrev pub text_of : RawValue → Reading Utf8
+text_of (string t) = Ok t
+text_of (int32 n) = refused (invalid_type Int32)
+text_of (int64 n) = refused (invalid_type Int64)
+text_of (document bytes) = refused (invalid_type EmbeddedDocument)
 
-abbrev pub read_leaf : Leaf → RawValue → Reading Value
-read_leaf I32 v = integer_of v >>= read_as_i32
+-- the number as a value of an integer type, where it is one of the type
+abbrev pub read_integer : IntegerType → ℤ → Reading Value
+read_integer type n = if in_range type n then Ok (value.integer type n) else refused (out_of_range n)
+
+-- a number of the leaf's type, or a text
+abbrev pub read_leaf : LeafKind → RawValue → Reading Value
+read_leaf (numbers type) v = integer_of v >>= read_integer type
+read_leaf texts v = result_map value.str (text_of v)
 
 -- the bytes of a value that is a document
 abbrev pub document_of : RawValue → Reading Bytes
+document_of (string t) = refused (invalid_type String)
 document_of (int32 n) = refused (invalid_type Int32)
+document_of (int64 n) = refused (invalid_type Int64)
 document_of (document bytes) = Ok bytes
 
 -- the place of the field that has a name, from 0
@@ -119,7 +135,7 @@ reads_fields fs levels read w = fill (fill_one fs levels read) w (no_slots fs) >
 abbrev mutual
   -- the value of this kind in these bytes at a shape, with so many levels of documents left
   pub reads : Form → ℕ → ElementType → Bytes → Reading Value
-  reads (leaf l) levels k bytes = judged levels (value_in k bytes) >>= read_leaf l
+  reads (leaf l) levels k bytes = judged levels (value_in k bytes) >>= read_leaf (leaf_kind l)
   reads (structure name fs) levels k bytes =
       judged levels (value_in k bytes) >>= document_of >>= λ b. result_map (value.structure name) (reads_fields fs (levels - 1) (λ i. reads_field fs i (levels - 1)) (walk b))
 

@@ -1,15 +1,15 @@
 -- The tree that a value is written as, or why it is not written, and how large it is.
-use Rattle.std.specs.Prelude.{ℕ, zero, suc, ◌+◌, length, Option, Some, None, if◌then◌else◌, Result, Ok, Err}
+use Rattle.std.specs.Prelude.{ℕ, ℤ, int_lt, zero, suc, ◌+◌, length, Option, Some, None, if◌then◌else◌, Result, Ok, Err}
 use Rattle.bson_base.specs.Text.{Utf8, has_zero}
 use Rattle.bson_base.specs.Outcome.{◌>>=◌, result_map}
 use Rattle.bson_base.specs.Reserved.{reserved_kind}
 use Rattle.bson_base.specs.Sound.{max_levels}
-use Rattle.bson_base.specs.Tree.{Tree, int32, document, Pairs, no_pairs, pair}
+use Rattle.bson_base.specs.Tree.{Tree, string, int32, int64, document, Pairs, no_pairs, pair}
 use Rattle.bson_base.specs.declared.element_type.ElementType.{ElementType}
-use Rattle.bson_base.specs.declared.element_type.ElementType.TheVariants.{EmbeddedDocument}
-use Rattle.bson_datum.specs.Value.{Value, i32, structure, FieldValues, no_field_values, field_value, kind_of}
+use Rattle.bson_base.specs.declared.element_type.ElementType.TheVariants.{EmbeddedDocument, Int32}
+use Rattle.bson_datum.specs.Value.{i64, greatest, written_as, Value, integer, str, structure, FieldValues, no_field_values, field_value, kind_of}
 use Rattle.bson_datum.specs.Cause.{too_deep, top_level, not_built}
-use Rattle.bson_datum.specs.Refusal.{WriteFault, unwritable, invalid_cstring, Refusal, here, under}
+use Rattle.bson_datum.specs.Refusal.{WriteFault, unwritable, invalid_cstring, unsigned_exceeds, Refusal, here, under}
 
 -- an answer of writing: something, or a refusal with its path
 abbrev pub Writing : Type 0 → Type 0
@@ -29,10 +29,16 @@ struct_at (Some k) levels pairs = Err (here (unwritable (not_built k)))
 abbrev pub named : Utf8 → Writing Tree → Writing Tree
 named name r = if has_zero name then Err (here (invalid_cstring name)) else under name r
 
+-- a number as a value of a kind; an Int64 is none that is greater than the greatest of `i64`
+abbrev pub spell_number : ElementType → ℤ → Writing Tree
+spell_number Int32 n = Ok (int32 n)
+spell_number k n = if int_lt (greatest i64) n then Err (here (unsigned_exceeds n)) else Ok (int64 n)
+
 abbrev mutual
   -- the tree of a value with so many levels left, or the first refusal in document order
   pub spell : Value → ℕ → Writing Tree
-  spell (i32 n) levels = Ok (int32 n)
+  spell (integer type n) levels = spell_number (written_as type) n
+  spell (str t) levels = Ok (string t)
   spell (structure name fs) levels = struct_at (reserved_kind name) levels (spell_fields fs)
 
   pub spell_fields : FieldValues → ℕ → Writing Pairs
@@ -48,10 +54,16 @@ at_top k r = Err (here (unwritable (top_level k)))
 abbrev pub spell_document : Value → Writing Tree
 spell_document v = at_top (kind_of v) (spell v max_levels)
 
+-- how many bytes a number of a kind takes
+abbrev pub number_size : ElementType → ℕ
+number_size Int32 = 4
+number_size k = 8
+
 abbrev mutual
   -- how many bytes a value takes; a struct of a reserved name, which is not written yet, counts as any other
   pub size : Value → ℕ
-  size (i32 n) = 4
+  size (integer type n) = number_size (written_as type)
+  size (str t) = length t + 5
   size (structure name fs) = size_fields fs + 5
 
   -- an element takes one byte for its kind, its key and a zero, and its value

@@ -3,6 +3,7 @@
 
 ghost use Rattle.std.specs.Prelude.{◌≡◌, length, Some, Ok};
 ghost use Rattle.bson_base.specs.Sound.{IsSound};
+ghost use Rattle.bson_base.specs.Text.{Bytes};
 ghost use Rattle.bson_base.specs.Tree.{Tree, enc};
 ghost use Rattle.bson_shape.specs.Form.{Form};
 ghost use Rattle.bson_shape.specs.Makers.{IsShape};
@@ -47,4 +48,12 @@ pub fn law_spell_means()
 pub fn law_read_back()
     ensures reads { (s : Form) (d : Value) (t : Tree) → IsShape s → IsPlain s → Fits d s → means d ≡ Some t → IsSound t
         → reads_document s (enc t) ≡ Ok (norm d) }
+{}
+
+/// What is read at a shape is written, unless it is too long: no other refusal of the writer is due for it.
+///
+/// It does nothing.
+pub fn law_reads_spell()
+    ensures spells { (s : Form) (bytes : Bytes) (d : Value) → IsShape s → reads_document s bytes ≡ Ok d
+        → (t : Tree) × (spell_document d ≡ Ok t) }
 {}

@@ -1,13 +1,14 @@
 -- The bytes of a value have its extent.
-use Rattle.std.proofs.Common.{◌≡◌, ℕ, zero, suc, ◌≤◌, [], ◌∷◌, length, take, Bool, true, false, cond, Result, Ok, Err, refl, ap, sym, ◌∙◌, arith, pos, negsuc, ℤ}
+use Rattle.std.proofs.Common.{◌+◌, ◌≡◌, ℕ, zero, suc, ◌≤◌, [], ◌∷◌, length, take, Bool, true, false, cond, Result, Ok, Err, refl, ap, sym, ◌∙◌, arith, pos, negsuc, ℤ}
 use Rattle.std.specs.Prelude.{nat_lt}
 use Rattle.std.proofs.lemmas.List.{length-take}
 use Rattle.std.proofs.lemmas.Bool.{ltb-false, le-ltb}
 use Rattle.bson_base.specs.Text.{Bytes}
 use Rattle.bson_base.specs.declared.element_type.ElementType.{ElementType}
-use Rattle.bson_base.specs.declared.element_type.ElementType.TheVariants.{EmbeddedDocument, Int32}
+use Rattle.bson_base.specs.declared.element_type.ElementType.TheVariants.{EmbeddedDocument, Int32, Int64, String}
+use Rattle.bson_base.specs.Outcome.{result_map}
 use Rattle.bson_rawdoc.specs.Numbers.{int32_in}
-use Rattle.bson_rawdoc.specs.Walk.{extent, document_extent, length_from}
+use Rattle.bson_rawdoc.specs.Walk.{extent, document_extent, text_extent, length_from}
 use Rattle.bson_rawdoc.specs.declared.raw.Error.{Error}
 use Rattle.bson_rawdoc.specs.declared.raw.Error.TheVariants.{BadExtent}
 
@@ -60,7 +61,28 @@ document_extent_is bytes n e = length_is 5 (int32_in bytes) n (enough (nat_lt (l
 pub document_extent_found : (bytes : Bytes) (n : ℕ) → 5 ≤ length bytes → int32_in bytes ≡ pos n → 5 ≤ n → document_extent bytes ≡ Ok n
 document_extent_found bytes n long is le = first_false (nat_lt (length bytes) 5) (length_from 5 (int32_in bytes)) (le-ltb _ _ long) ∙ length_found 5 (int32_in bytes) n is le
 
+mapped : (r : Result ℕ Error) (n : ℕ) → result_map (λ m. m + 4) r ≡ Ok n → (m : ℕ) × (r ≡ Ok m) × (m + 4 ≡ n)
+mapped (Ok m) n e = (m, refl, (let both : found (m + 4) ≡ found n = e in cc))
+mapped (Err f) n e = absurd cc
+
+-- what a text's extent says
+pub text_extent_is : (bytes : Bytes) (n : ℕ) → text_extent bytes ≡ Ok n → (m : ℕ) × (int32_in bytes ≡ pos m) × (1 ≤ m) × (m + 4 ≡ n)
+text_extent_is bytes n e =
+    let a = enough (nat_lt (length bytes) 4) (result_map (λ m. m + 4) (length_from 1 (int32_in bytes))) n e in
+    let b = mapped (length_from 1 (int32_in bytes)) n a.1 in
+    let c = length_is 1 (int32_in bytes) b.0 b.1 in
+    (b.0, c.0, c.1, b.2)
+
+pub text_extent_found : (bytes : Bytes) (m : ℕ) → 4 ≤ length bytes → int32_in bytes ≡ pos m → 1 ≤ m → text_extent bytes ≡ Ok (m + 4)
+text_extent_found bytes m long is le =
+    first_false (nat_lt (length bytes) 4) (result_map (λ k. k + 4) (length_from 1 (int32_in bytes))) (le-ltb _ _ long) ∙ ap (result_map (λ k. k + 4)) (length_found 1 (int32_in bytes) m is le)
+
 pub extent_taken : (k : ElementType) (bytes : Bytes) (n : ℕ) → Ok n ≡ extent k bytes → n ≤ length bytes → extent k (take n bytes) ≡ Ok (length (take n bytes))
+extent_taken String bytes n e le =
+    let is = text_extent_is bytes n (sym e) in
+    let long : is.0 + 4 ≡ length (take n bytes) = omega (arith, length-take n bytes, is.3) in
+    text_extent_found (take n bytes) is.0 (omega (arith, long)) (number_within n bytes (omega (arith, is.3)) ∙ is.1) is.2 ∙ ap Ok long
+extent_taken Int64 bytes n e le = let is : found n ≡ found 8 = e in let eight : n ≡ 8 = cc in ap Ok (omega (arith, length-take n bytes))
 extent_taken Int32 bytes n e le = let is : found n ≡ found 4 = e in let four : n ≡ 4 = cc in ap Ok (omega (arith, length-take n bytes))
 extent_taken EmbeddedDocument bytes n e le =
     let is = document_extent_is bytes n (sym e) in

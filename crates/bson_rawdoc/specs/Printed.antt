@@ -4,7 +4,7 @@ use Rattle.std.specs.Fmt.{decimal}
 use Rattle.bson_base.specs.Text.{Utf8}
 use Rattle.bson_base.specs.Kind.{name}
 use Rattle.bson_rawdoc.specs.declared.raw.Error.{Error}
-use Rattle.bson_rawdoc.specs.declared.raw.Error.TheVariants.{TooShort, LengthDiffers, NoTerminator, KeyUnclosed, KeyNotUtf8, UnknownKind, BadExtent, ValueUnclosed, NotBuilt}
+use Rattle.bson_rawdoc.specs.declared.raw.Error.TheVariants.{TooShort, LengthDiffers, NoTerminator, KeyUnclosed, KeyNotUtf8, UnknownKind, BadExtent, NotUtf8, TextUnclosed, ValueUnclosed, NotBuilt}
 
 -- a kind that is not built
 abbrev pub not_built_text : Utf8 → Utf8
@@ -18,5 +18,7 @@ printed_fault KeyUnclosed = codes "key not closed"
 printed_fault KeyNotUtf8 = codes "key is not UTF-8"
 printed_fault (UnknownKind b) = codes "unknown kind " ++ decimal b
 printed_fault BadExtent = codes "value out of bounds"
+printed_fault NotUtf8 = codes "text is not UTF-8"
+printed_fault TextUnclosed = codes "text not terminated"
 printed_fault ValueUnclosed = codes "inner document not terminated"
 printed_fault (NotBuilt k) = not_built_text (name k)

@@ -1,11 +1,11 @@
 -- The elements of a document in its bytes, up to the first fault. Source: bsonspec.org, version 1.1, `e_list` and `element`.
-use Rattle.std.specs.Prelude.{ℕ, zero, suc, [], ◌∷◌, length, take, drop, if◌then◌else◌, nat_lt, pos, negsuc, ℤ, Option, Some, None, Result, Ok, Err}
+use Rattle.std.specs.Prelude.{ℕ, zero, suc, ◌+◌, [], ◌∷◌, length, take, drop, if◌then◌else◌, nat_lt, pos, negsuc, ℤ, Option, Some, None, Result, Ok, Err}
 use Rattle.std.specs.Str.{is_utf8}
 use Rattle.bson_base.specs.Text.{Bytes, Utf8}
 use Rattle.bson_base.specs.Kind.{of_byte}
-use Rattle.bson_base.specs.Outcome.{◌>>=◌}
+use Rattle.bson_base.specs.Outcome.{◌>>=◌, result_map}
 use Rattle.bson_base.specs.declared.element_type.ElementType.{ElementType}
-use Rattle.bson_base.specs.declared.element_type.ElementType.TheVariants.{EmbeddedDocument, Int32}
+use Rattle.bson_base.specs.declared.element_type.ElementType.TheVariants.{EmbeddedDocument, Int32, Int64, String}
 use Rattle.bson_rawdoc.specs.Envelope.{inside}
 use Rattle.bson_rawdoc.specs.Numbers.{int32_in}
 use Rattle.bson_rawdoc.specs.declared.raw.Error.{Error}
@@ -36,9 +36,15 @@ length_from least (negsuc n) = Err BadExtent
 abbrev pub document_extent : Bytes → Result ℕ Error
 document_extent bytes = if nat_lt (length bytes) 5 then Err BadExtent else length_from 5 (int32_in bytes)
 
+-- the extent of a text: its length, which is at least one for the zero behind it, and the four bytes that announce it
+abbrev pub text_extent : Bytes → Result ℕ Error
+text_extent bytes = if nat_lt (length bytes) 4 then Err BadExtent else result_map (λ n. n + 4) (length_from 1 (int32_in bytes))
+
 -- how many bytes a value of the kind takes, of the bytes that begin with it
 abbrev pub extent : ElementType → Bytes → Result ℕ Error
+extent String bytes = text_extent bytes
 extent Int32 bytes = Ok 4
+extent Int64 bytes = Ok 8
 extent EmbeddedDocument bytes = document_extent bytes
 extent k bytes = Err (NotBuilt k)
 

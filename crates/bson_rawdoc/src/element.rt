@@ -1,22 +1,26 @@
 ghost use Rattle.std.specs.Prelude.{◌≡◌, ◌≤◌, Ok, length, IfOk};
 ghost use Rattle.bson_base.specs.Outcome.{result_map};
 ghost use Rattle.bson_rawdoc.specs.Walk as walk;
-ghost use Rattle.bson_rawdoc.specs.RawValue.{value_in};
+ghost use Rattle.bson_rawdoc.specs.RawValue.{string, text_in, value_in};
 ghost use Rattle.bson_rawdoc.specs.ValueView.{raw_value};
 
 use crate::document::RawDocument;
 use crate::raw::Error;
-use crate::reading::{cut_at_zero, int32_in, is_closed};
+use crate::reading::{cut_at_zero, inside, int32_in, int64_in, is_closed};
 use bson_base::ElementType;
 use std::marker::Model;
 
 /// A value as it stands in the bytes of its document.
 #[derive(Clone, Copy, Debug)]
 pub enum RawBsonRef<'a> {
+    /// A UTF-8 text, lent from the document.
+    String(&'a str),
     /// A document inside another.
     Document(RawDocument<'a>),
     /// A signed number of 32 bits.
     Int32(i32),
+    /// A signed number of 64 bits.
+    Int64(i64),
 }
 
 /// An element of a document: its kind, its key, and the bytes of its value.
@@ -67,12 +71,15 @@ impl<'a> RawElement<'a> {
     ///
     /// # Errors
     ///
-    /// The first fault of the value: `ValueUnclosed` where the last byte of an inner document is not zero.
+    /// The first fault of the value: of a text `TextUnclosed` where its last byte is not zero, then `NotUtf8` where it is not
+    /// UTF-8; of an inner document `ValueUnclosed` where its last byte is not zero.
     pub fn value(&self) -> Result<RawBsonRef<'a>, Error>
         ensures value { result_map raw_value result ≡ value_in self.now.kind self.now.value }
     {
         match self.kind {
+            ElementType::String => Ok(RawBsonRef::String(text_in(self.slice)?)),
             ElementType::Int32 => Ok(RawBsonRef::Int32(int32_in(self.slice))),
+            ElementType::Int64 => Ok(RawBsonRef::Int64(int64_in(self.slice))),
             ElementType::EmbeddedDocument => {
                 if !is_closed(self.slice) {
                     return Err(Error::ValueUnclosed);
@@ -89,18 +96,55 @@ fn extent(kind: ElementType, bytes: &[u8]) -> Result<usize, Error>
     ensures { result ≡ walk.extent kind bytes.now }
 {
     match kind {
+        ElementType::String => text_extent(bytes),
         ElementType::Int32 => Ok(4),
-        ElementType::EmbeddedDocument => {
-            if bytes.len() < 5 {
-                return Err(Error::BadExtent);
-            }
-            let length = int32_in(bytes);
-            if length < 5 {
-                return Err(Error::BadExtent);
-            }
-            Ok(length as usize)
-        }
+        ElementType::Int64 => Ok(8),
+        ElementType::EmbeddedDocument => document_extent(bytes),
         _ => Err(Error::NotBuilt(kind)),
+    }
+}
+
+// The length that an int32 announces, at least this.
+fn length_from(least: u32, announced: i32) -> Result<usize, Error>
+    ensures { result ≡ walk.length_from least announced }
+{
+    match u32::try_from(announced) {
+        Ok(length) if length >= least => Ok(length as usize),
+        _ => Err(Error::BadExtent),
+    }
+}
+
+// The extent of a document.
+fn document_extent(bytes: &[u8]) -> Result<usize, Error>
+    ensures { result ≡ walk.document_extent bytes.now }
+{
+    if bytes.len() < 5 {
+        return Err(Error::BadExtent);
+    }
+    length_from(5, int32_in(bytes))
+}
+
+// The extent of a text.
+fn text_extent(bytes: &[u8]) -> Result<usize, Error>
+    ensures { result ≡ walk.text_extent bytes.now }
+{
+    if bytes.len() < 4 {
+        return Err(Error::BadExtent);
+    }
+    Ok(length_from(1, int32_in(bytes))? + 4)
+}
+
+// The text between its length and the zero behind it.
+fn text_in(bytes: &[u8]) -> Result<&str, Error>
+    requires { 5 ≤ length bytes.now }
+    ensures { result_map (λ t. string t.now) result ≡ text_in bytes.now }
+{
+    if !is_closed(bytes) {
+        return Err(Error::TextUnclosed);
+    }
+    match str::from_utf8(inside(bytes)) {
+        Ok(text) => Ok(text),
+        Err(_) => Err(Error::NotUtf8),
     }
 }
 

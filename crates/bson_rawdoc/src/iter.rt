@@ -4,6 +4,7 @@ ghost use Rattle.bson_rawdoc.specs.Next.{IsNext, IsStep};
 
 use crate::element::{RawElement, element_at};
 use crate::raw::Error;
+use crate::reading::inside;
 use std::marker::Model;
 
 /// The elements of a document, one after another. Contracts see it as what is left of the walk.
@@ -27,13 +28,12 @@ impl<'a> Model for RawIter<'a> {
 
 impl<'a> RawIter<'a> {
     // Over the bytes of a document.
-    #[tactic(auto, unfolding(crate::specs::Envelope::inside))]
     pub(crate) fn over(bytes: &'a [u8]) -> RawIter<'a>
         requires { 5 ≤ length bytes.now }
         ensures walk { result ≡ walk bytes.now }
     {
         RawIter {
-            rest: &bytes[4..bytes.len() - 1],
+            rest: inside(bytes),
             over: false,
         }
     }

@@ -20,6 +20,10 @@ pub enum Error {
     UnknownKind(u8),
     /// A value does not fit before its document's end, or announces less than its least length.
     BadExtent,
+    /// A text is not UTF-8.
+    NotUtf8,
+    /// The last byte of a text is not zero.
+    TextUnclosed,
     /// The last byte of an inner document is not zero.
     ValueUnclosed,
     /// A value of this kind is not read yet.
@@ -41,6 +45,8 @@ impl fmt::Display for Error {
             Error::KeyNotUtf8 => f.write_str("key is not UTF-8"),
             Error::UnknownKind(b) => write!(f, "unknown kind {b}"),
             Error::BadExtent => f.write_str("value out of bounds"),
+            Error::NotUtf8 => f.write_str("text is not UTF-8"),
+            Error::TextUnclosed => f.write_str("text not terminated"),
             Error::ValueUnclosed => f.write_str("inner document not terminated"),
             Error::NotBuilt(k) => write!(f, "kind {k} is not built yet"),
         }

@@ -13,6 +13,17 @@ pub(crate) fn int32_in(bytes: &[u8]) -> i32
     i32::from_le_bytes([bytes[0], bytes[1], bytes[2], bytes[3]])
 }
 
+// The int64 in the first eight bytes.
+#[tactic(auto, unfolding(crate::specs::Numbers::int64_in))]
+pub(crate) fn int64_in(bytes: &[u8]) -> i64
+    requires { 8 ≤ length bytes.now }
+    ensures { result ≡ numbers.int64_in bytes.now }
+{
+    i64::from_le_bytes([
+        bytes[0], bytes[1], bytes[2], bytes[3], bytes[4], bytes[5], bytes[6], bytes[7],
+    ])
+}
+
 // Whether the last byte is a zero.
 pub(crate) fn is_closed(bytes: &[u8]) -> bool
     ensures { result ≡ envelope.is_closed bytes.now }
@@ -21,6 +32,15 @@ pub(crate) fn is_closed(bytes: &[u8]) -> bool
         [] => false,
         [.., last] => *last == 0,
     }
+}
+
+// What stands between the first four bytes and the last.
+#[tactic(auto, unfolding(crate::specs::Envelope::inside))]
+pub(crate) fn inside(bytes: &[u8]) -> &[u8]
+    requires { 5 ≤ length bytes.now }
+    ensures { result.now ≡ envelope.inside bytes.now }
+{
+    &bytes[4..bytes.len() - 1]
 }
 
 // What stands before the first zero byte, and behind it.

@@ -11,7 +11,7 @@ use Rattle.bson_shape.specs.Machine.{parsed}
 use Rattle.bson_shape.specs.Makers.{IsShape}
 use Rattle.bson_shape.proofs.Texts.{parsed-shape}
 use Rattle.bson_shape.specs.Notation.{text, bare, quoted}
-use Rattle.bson_shape.specs.declared.leaf.Leaf.TheVariants.{I32}
+use Rattle.bson_shape.specs.declared.leaf.Leaf.TheVariants.{I8, I16, I32, I64, U8, U16, U32, U64, String}
 use Rattle.bson_datum.specs.Value.{Value}
 use Rattle.bson_laws.specs.Means.{means}
 use Rattle.bson_laws.specs.Views.{views}
@@ -47,7 +47,15 @@ begins_no_option true (c ∷ name) rest e = not_both (nat_eq 45 c) _ (bare_no_da
 
 -- no notation begins as an option does
 pub no_option : (s : Form) → is_option (text s) ≡ false
+no_option (leaf I8) = refl
+no_option (leaf I16) = refl
 no_option (leaf I32) = refl
+no_option (leaf I64) = refl
+no_option (leaf U8) = refl
+no_option (leaf U16) = refl
+no_option (leaf U32) = refl
+no_option (leaf U64) = refl
+no_option (leaf String) = refl
 no_option (structure [] fs) = refl
 no_option (structure (c ∷ name) fs) = begins_no_option (bare (c ∷ name)) (c ∷ name) _ refl
 

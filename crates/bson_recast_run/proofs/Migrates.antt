@@ -1,5 +1,5 @@
 -- A sound document, whose value at a shape means a sound document, is recast as that document.
-use Rattle.std.proofs.Common.{◌≡◌, Result, Ok, Err, ap, sym, ◌∙◌, inl, inr, arith}
+use Rattle.std.proofs.Common.{◌≡◌, Result, Ok, Err, ap, sym, subst, ◌∙◌, inl, inr, arith}
 use Rattle.std.specs.Prelude.{◌⊎◌, ◌<◌, ℕ, length, Some}
 use Rattle.std.specs.Global.{Vec}
 use Rattle.bson_base.specs.Text.{Bytes}
@@ -16,11 +16,12 @@ use Rattle.bson_laws.specs.Reads.{reads_document}
 use Rattle.bson_laws.specs.Spell.{Writing, spell_document, size}
 use Rattle.bson_laws.specs.Views.{views}
 use Rattle.bson_laws.proofs.ReadBack.{views_reads}
+use Rattle.bson_laws.proofs.Rewritten.{document_written}
 use Rattle.bson_laws.proofs.Spelled.{spell_means}
 use Rattle.bson_ser_stream.specs.Writing.{IsDue, too_long_failure}
 use Rattle.bson_recast_run.specs.declared.recasting.RecastError.{RecastError}
 use Rattle.bson_recast_run.specs.declared.recasting.RecastError.TheVariants.{Read, Write, NoMemory}
-use Rattle.bson_recast_run.specs.Recasting.{Recasts, ReadRefuses, WriteRefuses, IsRecast, GivesBytes}
+use Rattle.bson_recast_run.specs.Recasting.{Recasts, ReadRefuses, WriteRefuses, IsRecast, GivesBytes, IsForSize}
 
 abbrev read : Value → Result Value (Failure ReadFault)
 read d = Ok d
@@ -64,3 +65,23 @@ module _ (s : Form) (bytes : Bytes) (t u : Tree) (d : Value) (shape : IsShape s)
   migrates (Err (Read e)) h = never_unread (read_failure e) h
   migrates (Err (Write e)) h = never_unwritten (write_failure e) h
   migrates (Err NoMemory) h = tt
+
+-- ---- what was read is refused for its size alone
+
+module _ (s : Form) (bytes : Bytes) (shape : IsShape s) where
+  value_is : (d e : Value) → reads_document s bytes ≡ Ok d → reads_document s bytes ≡ Ok e → d ≡ e
+  value_is d e p q = let both : read d ≡ read e = sym p ∙ q in cc
+
+  size_alone : (f : Failure WriteFault) (h : WriteRefuses s bytes f) → (f ≡ too_long_failure) × (max_bytes < size h.value)
+  size_alone f h = by_cause h.refused where
+    by_cause : IsDue (spell_document h.value) f ⊎ ((f ≡ too_long_failure) × (max_bytes < size h.value)) → (f ≡ too_long_failure) × (max_bytes < size h.value)
+    by_cause (inl due) = let w = document_written s bytes h.value shape h.read in absurd (never_due f w.0 (spell_document h.value) w.1 due)
+    by_cause (inr long) = long
+
+  pub for_size : (r : Result (Vec ℕ) RecastError) → IsRecast s bytes r → IsForSize s bytes r
+  for_size (Ok v) h = tt
+  for_size (Err (Read e)) h = tt
+  for_size (Err (Write e)) h =
+      let a = size_alone (write_failure e) h in
+      (a.0, λ d is. subst (λ x. max_bytes < size x) (value_is h.value d h.read is) a.1)
+  for_size (Err NoMemory) h = tt

@@ -48,6 +48,13 @@ GivesBytes bytes (Err (Read e)) = ⊥
 GivesBytes bytes (Err (Write e)) = ⊥
 GivesBytes bytes (Err NoMemory) = Unit {0}
 
+-- a refusal to write is that of a value that takes more bytes than a document may
+abbrev pub IsForSize : Form → Bytes → Result (Vec ℕ) RecastError → Type 0
+IsForSize s bytes (Ok v) = Unit {0}
+IsForSize s bytes (Err (Read e)) = Unit {0}
+IsForSize s bytes (Err (Write e)) = (write_failure e ≡ too_long_failure) × ((d : Value) → reads_document s bytes ≡ Ok d → max_bytes < size d)
+IsForSize s bytes (Err NoMemory) = Unit {0}
+
 -- an error of reading, unless it is want of memory
 abbrev pub IsReadError : de.Error → RecastError → Type 0
 IsReadError e NoMemory = read_failure e ≡ no_memory

@@ -5,7 +5,7 @@ ghost use Rattle.bson_datum.specs.Value.{Value};
 ghost use Rattle.bson_laws.specs.Views.{views};
 ghost use Rattle.bson_laws.specs.Means.{means};
 ghost use Rattle.bson_laws.specs.Plain.{IsPlain};
-ghost use Rattle.bson_recast_run.specs.Recasting.{IsRecast, GivesBytes, IsReadError, IsWriteError};
+ghost use Rattle.bson_recast_run.specs.Recasting.{IsRecast, GivesBytes, IsForSize, IsReadError, IsWriteError};
 
 use bson_datum::{Shape, de, ser};
 use bson_de_raw::from_slice_at;
@@ -28,19 +28,22 @@ pub enum RecastError {
 /// # Errors
 ///
 /// `Read` exactly where `from_slice_at` refuses the bytes at the shape, `Write` exactly where it reads a value that
-/// `to_vec_at` refuses, each with that call's error; `NoMemory` where memory ran out.
+/// `to_vec_at` refuses, each with that call's error; `NoMemory` where memory ran out. What was read is refused by the writer
+/// for its size alone: a number may take more bytes when it is written than it took before.
 pub fn recast(alloc: Global, shape: &Shape, bytes: &[u8]) -> Result<Vec<u8>, RecastError>
     // What is read at the shape is written.
     ensures exact { IsRecast shape.now bytes.now result }
     // A sound document, whose value at a plain shape means a sound document, becomes that document.
     ensures migrates { (t u : Tree) (d : Value) → IsPlain shape.now → IsSound t → views shape.now t ≡ Some d → means d ≡ Some u → IsSound u
         → bytes.now ≡ enc t → GivesBytes (enc u) result }
+    // What was read is refused by the writer for its size alone.
+    ensures too_long { IsForSize shape.now bytes.now result }
 {
     shape.known();
     through(alloc, shape, bytes)
 }
 
-// `recast`, but for its second promise.
+// `recast`, but for its other promises.
 fn through(alloc: Global, shape: &Shape, bytes: &[u8]) -> Result<Vec<u8>, RecastError>
     ensures { IsRecast shape.now bytes.now result }
 {
@@ -73,6 +76,7 @@ fn unwritten(e: ser::Error) -> RecastError
     match e {
         ser::Error::NoMemory => RecastError::NoMemory,
         e @ (ser::Error::InvalidCString(_)
+        | ser::Error::UnsignedIntegerExceededRange(_)
         | ser::Error::SerializationError { .. }
         | ser::Error::WithPath { .. }) => RecastError::Write(e),
     }

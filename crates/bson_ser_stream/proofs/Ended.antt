@@ -13,7 +13,7 @@ use Rattle.bson_ser_stream.proofs.Growth.{Grows-trans, Grows-appended, Grows-lon
 use Rattle.bson_ser_stream.proofs.Written.{zeros}
 
 -- a length in four bytes
-length_bytes : (n : ℕ) → n ≤ max_bytes → i32_bytes (cast_signed w32 n) ≡ le32 n
+pub length_bytes : (n : ℕ) → n ≤ max_bytes → i32_bytes (cast_signed w32 n) ≡ le32 n
 unfolding le32
 length_bytes n small = ap (to_le_bytes w32) (of_z-to_z w32 n (omega arith))
 

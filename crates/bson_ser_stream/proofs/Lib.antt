@@ -1,6 +1,7 @@
 pub mod Growth
 pub mod Written
 pub mod Ended
+pub mod Texts
 pub mod Elements
 pub mod Halted
 pub mod Structs

@@ -1,16 +1,17 @@
 -- What is refused on its way is never refused for its length: that is judged of whole documents alone.
-use Rattle.std.proofs.Common.{◌≡◌, ℕ, zero, suc, ◌<◌, Bool, true, false, cond, ◌⊎◌, inl, inr, Option, Some, None, Ok, Err, ap, sym, subst, refl, ◌∙◌}
+use Rattle.std.proofs.Common.{◌≡◌, ℕ, ℤ, zero, suc, ◌<◌, Bool, true, false, cond, ◌⊎◌, inl, inr, Option, Some, None, Ok, Err, ap, sym, subst, refl, ◌∙◌}
+use Rattle.std.specs.Prelude.{int_lt}
 use Rattle.bson_base.specs.Text.{Bytes, Utf8, has_zero}
 use Rattle.bson_base.specs.Outcome.{◌>>=◌, result_map}
 use Rattle.bson_base.specs.Reserved.{reserved_kind}
 use Rattle.bson_base.specs.Sound.{max_bytes, max_levels}
-use Rattle.bson_base.specs.Tree.{Tree, document, Pairs, pair}
+use Rattle.bson_base.specs.Tree.{Tree, int64, document, Pairs, pair}
 use Rattle.bson_base.specs.declared.element_type.ElementType.{ElementType}
-use Rattle.bson_base.specs.declared.element_type.ElementType.TheVariants.{EmbeddedDocument}
+use Rattle.bson_base.specs.declared.element_type.ElementType.TheVariants.{EmbeddedDocument, Int32}
 use Rattle.bson_datum.specs.Cause.{Cause, too_long}
-use Rattle.bson_datum.specs.Refusal.{WriteFault, unwritable, invalid_cstring, Refusal, here, under, Failure, no_memory, bare, placed, with_path}
-use Rattle.bson_datum.specs.Value.{Value, i32, structure, FieldValues, no_field_values, field_value, kind_of}
-use Rattle.bson_laws.specs.Spell.{Writing, struct_at, named, spell, spell_fields, at_top, spell_document, size}
+use Rattle.bson_datum.specs.Refusal.{WriteFault, unwritable, invalid_cstring, unsigned_exceeds, Refusal, here, under, Failure, no_memory, bare, placed, with_path}
+use Rattle.bson_datum.specs.Value.{i64, greatest, written_as, Value, integer, str, structure, FieldValues, no_field_values, field_value, kind_of}
+use Rattle.bson_laws.specs.Spell.{Writing, spell_number, struct_at, named, spell, spell_fields, at_top, spell_document, size}
 use Rattle.bson_datum.specs.Stop.{IsPlaced}
 use Rattle.bson_datum.specs.declared.stop.Stop.TheVariants.{Refused, NoMemory}
 use Rattle.bson_ser_stream.specs.Writing.{with_tree, IsDue, Fails, too_long_failure}
@@ -25,6 +26,7 @@ IsLength c = ⊥
 abbrev IsLengthFault : WriteFault → Type 0
 IsLengthFault (unwritable c) = IsLength c
 IsLengthFault (invalid_cstring t) = ⊥
+IsLengthFault (unsigned_exceeds n) = ⊥
 
 -- no refusal of this answer is for the length
 abbrev Else : {A : Type 0} → Writing A → Type 0
@@ -50,9 +52,18 @@ both_else name (Err f) s h k = h
 both_else name (Ok t) (Err f) h k = k
 both_else name (Ok t) (Ok ps) h k = tt
 
+wide_else : (b : Bool) (n : ℤ) → Else (cond b (Err (here (unsigned_exceeds n))) (Ok (int64 n)))
+wide_else true n = λ e. e
+wide_else false n = tt
+
+number_else : (k : ElementType) (n : ℤ) → Else (spell_number k n)
+number_else Int32 n = tt
+number_else k n = wide_else (int_lt (greatest i64) n) n
+
 mutual
   spell_else : (v : Value) (levels : ℕ) → Else (spell v levels)
-  spell_else (i32 n) levels = tt
+  spell_else (integer type n) levels = number_else (written_as type) n
+  spell_else (str t) levels = tt
   spell_else (structure name fs) levels = struct_else (reserved_kind name) levels (spell_fields fs) (λ n. fields_else fs n)
 
   fields_else : (fs : FieldValues) (levels : ℕ) → Else (spell_fields fs levels)

@@ -43,8 +43,9 @@ fn put_whole<L: Ledger>(
 
 /// Appends the bytes of a document to an output buffer, in one pass over the datum.
 ///
-/// A struct is a document of its fields, in order, and an `I32` is an int32 (bsonspec.org, version 1.1). `steps` counts
-/// one for each byte that is appended, and one for each byte that is written over the place of a kind or a length.
+/// A struct is a document of its fields, in order. `I8`, `I16`, `I32`, `U8` and `U16` are an int32, `I64`, `U32` and `U64` an
+/// int64, and `Str` is a string (bsonspec.org, version 1.1). `steps` counts one for each byte that is appended, and one for
+/// each byte that is written over the place of a kind or a length.
 ///
 /// # Errors
 ///
@@ -53,6 +54,7 @@ fn put_whole<L: Ledger>(
 /// - `SerializationError` with `TopLevel`: the datum is written as a value of this kind, which is no document.
 /// - `SerializationError` with `TooDeep`: a struct stands at level 201. The whole document is at level 1.
 /// - `SerializationError` with `NotBuilt`: a struct has a reserved name.
+/// - `UnsignedIntegerExceededRange`: a `U64` is greater than 9223372036854775807, the greatest that an int64 holds.
 /// - `InvalidCString`: a zero character stands in the name of a field. The path is that of its struct.
 /// - `SerializationError` with `TooLong`, with the empty path: the document would have more than 2147483647 bytes. Where it
 ///   would, and a value is refused too, either may come.

@@ -5,6 +5,14 @@ use bson_io::{Out, Steps, Tally};
 use std::alloc::{AllocFailed, Global};
 use std::test::Fail;
 
+// A field of this name.
+fn field<'a>(name: &'a str, value: Datum<'a>) -> Field<'a> {
+    Field {
+        name: Text::Borrowed(name),
+        value,
+    }
+}
+
 // A struct with one field.
 fn one_field<'a>(
     alloc: Global,
@@ -12,10 +20,7 @@ fn one_field<'a>(
     value: Datum<'a>,
 ) -> Result<Datum<'a>, AllocFailed<Field<'a>>> {
     let mut fields = Vec::new(alloc);
-    fields.push(Field {
-        name: Text::Borrowed(name),
-        value,
-    })?;
+    fields.push(field(name, value))?;
     Ok(Datum::Struct {
         name: Text::Borrowed("S"),
         fields,
@@ -49,6 +54,33 @@ fn a_struct_stands_in_a_struct(rt: HostRuntime) -> Result<(), Fail> {
     let document = [
         0x15, 0, 0, 0, 0x03, 0x61, 0x62, 0, 0x0c, 0, 0, 0, 0x10, 0x69, 0, 0xff, 0xff, 0xff, 0xff,
         0, 0,
+    ];
+    assert_eq!(rt; to_vec_at(alloc, &value)?.as_slice(), document.as_slice());
+    Ok(())
+}
+
+#[test]
+fn each_integer_and_a_text_is_written(rt: HostRuntime) -> Result<(), Fail> {
+    let alloc = rt.alloc();
+    let mut fields = Vec::new(alloc);
+    fields.push(field("a", Datum::I8(-1)))?;
+    fields.push(field("b", Datum::I16(-2)))?;
+    fields.push(field("c", Datum::U8(255)))?;
+    fields.push(field("d", Datum::U16(65535)))?;
+    fields.push(field("e", Datum::I64(-1)))?;
+    fields.push(field("f", Datum::U32(4294967295)))?;
+    fields.push(field("g", Datum::U64(9223372036854775807)))?;
+    fields.push(field("h", Datum::Str(Text::Borrowed("hi"))))?;
+    let value = Datum::Struct {
+        name: Text::Borrowed("S"),
+        fields,
+    };
+    let document = [
+        0x4c, 0, 0, 0, 0x10, 0x61, 0, 0xff, 0xff, 0xff, 0xff, 0x10, 0x62, 0, 0xfe, 0xff, 0xff,
+        0xff, 0x10, 0x63, 0, 0xff, 0, 0, 0, 0x10, 0x64, 0, 0xff, 0xff, 0, 0, 0x12, 0x65, 0, 0xff,
+        0xff, 0xff, 0xff, 0xff, 0xff, 0xff, 0xff, 0x12, 0x66, 0, 0xff, 0xff, 0xff, 0xff, 0, 0, 0,
+        0, 0x12, 0x67, 0, 0xff, 0xff, 0xff, 0xff, 0xff, 0xff, 0xff, 0x7f, 0x02, 0x68, 0, 0x03, 0,
+        0, 0, 0x68, 0x69, 0, 0,
     ];
     assert_eq!(rt; to_vec_at(alloc, &value)?.as_slice(), document.as_slice());
     Ok(())

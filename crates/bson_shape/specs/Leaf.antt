@@ -3,14 +3,22 @@ use Rattle.std.specs.Prelude.{List, [], ◌∷◌, if◌then◌else◌, Option, 
 use Rattle.std.specs.Str.{bytes_eq}
 use Rattle.bson_base.specs.Text.{Utf8}
 use Rattle.bson_shape.specs.declared.leaf.Leaf.{Leaf}
-use Rattle.bson_shape.specs.declared.leaf.Leaf.TheVariants.{I32}
+use Rattle.bson_shape.specs.declared.leaf.Leaf.TheVariants.{I8, I16, I32, I64, U8, U16, U32, U64, String}
 
 abbrev pub word : Leaf → Utf8
+word I8 = codes "i8"
+word I16 = codes "i16"
 word I32 = codes "i32"
+word I64 = codes "i64"
+word U8 = codes "u8"
+word U16 = codes "u16"
+word U32 = codes "u32"
+word U64 = codes "u64"
+word String = codes "string"
 
 -- all leaves
 abbrev pub leaves : List Leaf
-leaves = I32 ∷ []
+leaves = I8 ∷ I16 ∷ I32 ∷ I64 ∷ U8 ∷ U16 ∷ U32 ∷ U64 ∷ String ∷ []
 
 -- the one of these leaves that has the word
 abbrev pub with_word : Utf8 → List Leaf → Option Leaf

@@ -3,7 +3,7 @@ ghost use Rattle.bson_shape.specs.Form as form;
 ghost use Rattle.bson_shape.specs.Levels.{levels, deepest, max_shape_levels};
 ghost use Rattle.bson_shape.specs.Makers.{IsShape, AreShapes, made_structure};
 ghost use Rattle.bson_shape.specs.ShapeView.{fields_of, form_view};
-ghost use Rattle.bson_shape.specs.declared.leaf.Leaf.TheVariants.{I32};
+ghost use Rattle.bson_shape.specs.declared.leaf.Leaf.TheVariants.{I8, I16, I32, I64, U8, U16, U32, U64, String};
 
 use crate::distinct::has_repeated_name;
 use crate::{Form, Leaf, ShapeError};
@@ -70,6 +70,62 @@ impl Shape {
         ensures form { result ≡ form.leaf I32 }
     {
         Shape::leaf(Leaf::I32)
+    }
+
+    /// A signed number of 8 bits.
+    pub fn i8() -> Shape
+        ensures form { result ≡ form.leaf I8 }
+    {
+        Shape::leaf(Leaf::I8)
+    }
+
+    /// A signed number of 16 bits.
+    pub fn i16() -> Shape
+        ensures form { result ≡ form.leaf I16 }
+    {
+        Shape::leaf(Leaf::I16)
+    }
+
+    /// A signed number of 64 bits.
+    pub fn i64() -> Shape
+        ensures form { result ≡ form.leaf I64 }
+    {
+        Shape::leaf(Leaf::I64)
+    }
+
+    /// A number of 8 bits.
+    pub fn u8() -> Shape
+        ensures form { result ≡ form.leaf U8 }
+    {
+        Shape::leaf(Leaf::U8)
+    }
+
+    /// A number of 16 bits.
+    pub fn u16() -> Shape
+        ensures form { result ≡ form.leaf U16 }
+    {
+        Shape::leaf(Leaf::U16)
+    }
+
+    /// A number of 32 bits.
+    pub fn u32() -> Shape
+        ensures form { result ≡ form.leaf U32 }
+    {
+        Shape::leaf(Leaf::U32)
+    }
+
+    /// A number of 64 bits.
+    pub fn u64() -> Shape
+        ensures form { result ≡ form.leaf U64 }
+    {
+        Shape::leaf(Leaf::U64)
+    }
+
+    /// A text, owned.
+    pub fn string() -> Shape
+        ensures form { result ≡ form.leaf String }
+    {
+        Shape::leaf(Leaf::String)
     }
 
     /// A shape without inner shapes.

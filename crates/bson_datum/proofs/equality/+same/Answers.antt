@@ -9,4 +9,4 @@ pub is_same-returns-then-eq : goal.is_same-returns-then-eq
 is_same-returns-then-eq t c =
     let pair = c.in-Struct-Struct in
     c.are_same.ensures
-    ∙ same_structs c.args.a.now c.args.b.now pair.name pair.other pair.fields pair.others _ _ pair.is-0 pair.is-1 c.deref.ensures.value c.deref-then-eq.ensures.value (sym c.eq.ensures ∙ c.if-eq.true)
+    ∙ same_structs c.args.a.now c.args.b.now pair.name pair.other pair.fields pair.others _ _ pair.is-0 pair.is-1 c.deref.ensures.value c.deref-then-eq.ensures.value (sym c.eq-in-Struct-Struct.ensures ∙ c.if-eq.true)

@@ -67,10 +67,10 @@ put_fields-returns-in_err-put_field-clause-bytes g t c =
     (field_halts c.in_err-put_field.field-0.0 (text_view f.name) (view f.value) (fields_view (drop (suc i) xs)) (fields_view (drop i xs)) (fields_view xs) c.args.levels _ _ c.args.out.now c.loop-field.out is kept.bytes kept.size kept.grows c.in_err-put_field.ensures.bytes)
 
 pub put_value-returns-in-None-clause-bytes : goal.put_value-returns-in-None-clause-bytes
-put_value-returns-in-None-clause-bytes g t c = wrote_struct c.args.value.now c.in-Struct.name c.in-Struct.fields c.deref.result.now c.in-Struct.is c.deref.ensures.value c.args.levels c.args.out.now.spare c.args.out.now.bytes c.put_document.new.out.bytes c.put_document.result (ap reserved_kind (sym c.as_str.ensures.text) ∙ sym c.in-None.ensures.kind) c.put_document.ensures.bytes
+put_value-returns-in-None-clause-bytes g t c = wrote_struct c.args.value.now c.in-Struct.name c.in-Struct.fields c.deref.result.now c.in-Struct.is c.deref.ensures.value c.args.levels c.args.out.now.spare c.args.out.now.bytes c.put_document.new.out.bytes c.put_document.result (ap reserved_kind (sym c.as_str-in-Struct.ensures.text) ∙ sym c.in-None.ensures.kind) c.put_document.ensures.bytes
 
 pub put_value-returns-in-None-clause-kind : goal.put_value-returns-in-None-clause-kind
-put_value-returns-in-None-clause-kind g t c = struct_kind_is c.args.value.now c.in-Struct.name c.in-Struct.fields c.deref.result.now c.in-Struct.is c.deref.ensures.value c.put_document.result (ap reserved_kind (sym c.as_str.ensures.text) ∙ sym c.in-None.ensures.kind) c.put_document.ensures.kind
+put_value-returns-in-None-clause-kind g t c = struct_kind_is c.args.value.now c.in-Struct.name c.in-Struct.fields c.deref.result.now c.in-Struct.is c.deref.ensures.value c.put_document.result (ap reserved_kind (sym c.as_str-in-Struct.ensures.text) ∙ sym c.in-None.ensures.kind) c.put_document.ensures.kind
 
 pub put_value-returns-in-None-clause-fits : goal.put_value-returns-in-None-clause-fits
 put_value-returns-in-None-clause-fits g t c = struct_fits c.args.value.now c.in-Struct.name c.in-Struct.fields c.deref.result.now c.in-Struct.is c.deref.ensures.value c.put_document.result c.put_document.ensures.fits

@@ -1,0 +1,130 @@
+-- What is read at a shape is written, unless it is too long.
+use Rattle.std.proofs.Common.{◌≡◌, ℕ, ℤ, pos, negsuc, zero, suc, ◌+◌, ◌-◌, ◌^◌, [], ◌∷◌, set, get_or, Bool, true, false, cond, Option, Some, None, Result, Ok, Err, refl, ap, sym, subst, ◌∙◌, arith, eqb, ltb}
+use Rattle.std.proofs.lemmas.Int.{ints, to_z_pos}
+use Rattle.std.specs.Prelude.{is_some, int_lt}
+use Rattle.std.specs.Int.{w32, w64, from_le_bytes}
+use Rattle.std.specs.Str.{bytes_eq, is_utf8}
+use Rattle.bson_base.specs.Text.{Bytes, Utf8, has_zero}
+use Rattle.bson_base.specs.Outcome.{◌>>=◌, result_map}
+use Rattle.bson_base.specs.Reserved.{reserved_kind}
+use Rattle.bson_base.specs.Sound.{max_levels}
+use Rattle.bson_base.specs.Tree.{Tree, string, int32, int64, document, Pairs, no_pairs, pair}
+use Rattle.bson_base.specs.declared.element_type.ElementType.{ElementType}
+use Rattle.bson_base.specs.declared.element_type.ElementType.TheVariants.{EmbeddedDocument, Int32, Int64, String}
+use Rattle.bson_base.proofs.Outcomes.{map_ok, bind_ok}
+use Rattle.bson_rawdoc.specs.Envelope.{envelope, is_closed}
+use Rattle.bson_rawdoc.specs.Numbers.{int32_in, int64_in}
+use Rattle.bson_rawdoc.specs.RawValue as raw_value
+use Rattle.bson_rawdoc.specs.RawValue.{RawValue, text_in, value_in}
+use Rattle.bson_rawdoc.specs.Walk.{Element, Walk, ended, faulty, then_walk, walk}
+use Rattle.bson_rawdoc.specs.declared.raw.Error as raw_error
+use Rattle.bson_rawdoc.specs.declared.raw.Error.TheVariants.{ValueUnclosed, NotUtf8, TextUnclosed}
+use Rattle.bson_shape.specs.Form.{Form, leaf, structure, Fields, no_fields, field}
+use Rattle.bson_shape.specs.Makers.{IsShape, AreShapes}
+use Rattle.bson_datum.specs.Value as value
+use Rattle.bson_datum.specs.Value.{IntegerType, i64, greatest, in_range, written_as, Value, FieldValues, no_field_values, field_value}
+use Rattle.bson_datum.specs.Cause.{out_of_range, too_deep}
+use Rattle.bson_datum.specs.Refusal.{ReadFault, WriteFault, Refusal, under, here, unsigned_exceeds, invalid_cstring}
+use Rattle.bson_laws.specs.Integers.{LeafKind, numbers, texts, leaf_kind}
+use Rattle.bson_laws.specs.Reads.{Reading, refused, judged, ignores, integer_of, text_of, read_integer, read_leaf, document_of}
+use Rattle.bson_laws.specs.Spell.{Writing, spell_number, spell}
+use Rattle.bson_laws.proofs.Keys.{KeysFree, walk_free}
+
+-- the value is written, where so many levels are left
+abbrev pub Written : ℕ → Value → Type 0
+Written levels v = (t : Tree) × (spell v levels ≡ Ok t)
+
+-- ---- numbers
+
+-- the number is not greater than the greatest of `i64`
+abbrev pub IsSmall : ℤ → Type 0
+IsSmall n = int_lt (greatest i64) n ≡ false
+
+pos_small : (n : ℕ) → ltb n (2 ^ 63) ≡ true → IsSmall (pos n)
+pos_small n e = grind (arith, ints, e)
+
+either_small : (n m : ℕ) (b : Bool) → ltb n (2 ^ 63) ≡ b → IsSmall (cond b (pos n) (negsuc m))
+either_small n m true e = pos_small n e
+either_small n m false e = refl
+
+int64_small : (bytes : Bytes) → IsSmall (int64_in bytes)
+unfolding int64_in
+int64_small bytes = let n = from_le_bytes w64 bytes in either_small n (2 ^ 64 - suc n) (ltb n (2 ^ 63)) refl
+
+pos_smaller : (n : ℕ) → ltb n (2 ^ 31) ≡ true → IsSmall (pos n)
+pos_smaller n e = grind (arith, ints, e)
+
+either_smaller : (n m : ℕ) (b : Bool) → ltb n (2 ^ 31) ≡ b → IsSmall (cond b (pos n) (negsuc m))
+either_smaller n m true e = pos_smaller n e
+either_smaller n m false e = refl
+
+int32_small : (bytes : Bytes) → IsSmall (int32_in bytes)
+unfolding int32_in
+int32_small bytes = let n = from_le_bytes w32 bytes in either_smaller n (2 ^ 32 - suc n) (ltb n (2 ^ 31)) refl
+
+wide_written : (b : Bool) (f : Refusal WriteFault) (n : ℤ) → b ≡ false → (t : Tree) × (cond b (Err f) (Ok (int64 n)) ≡ Ok t)
+wide_written true f n e = absurd cc
+wide_written false f n e = (int64 n, refl)
+
+number_written : (k : ElementType) (n : ℤ) → IsSmall n → (t : Tree) × (spell_number k n ≡ Ok t)
+number_written Int32 n e = (int32 n, refl)
+number_written k n e = wide_written _ _ n e
+
+-- ---- the value of an element
+
+-- its number is one of 64 bits
+abbrev pub HoldsSmall : RawValue → Type 0
+HoldsSmall (raw_value.int32 n) = IsSmall n
+HoldsSmall (raw_value.int64 n) = IsSmall n
+HoldsSmall v = Unit {0}
+
+abbrev found : RawValue → Result RawValue raw_error.Error
+found v = Ok v
+
+is_found : (v w : RawValue) → found v ≡ found w → v ≡ w
+is_found v w e = cc
+
+text_small : (b c : Bool) (t : Utf8) (v : RawValue) → cond b (Err TextUnclosed) (cond c (found (raw_value.string t)) (Err NotUtf8)) ≡ found v → HoldsSmall v
+text_small true c t v e = absurd cc
+text_small false true t v e = subst HoldsSmall (is_found (raw_value.string t) v e) tt
+text_small false false t v e = absurd cc
+
+document_small : (b : Bool) (bytes : Bytes) (v : RawValue) → cond b (found (raw_value.document bytes)) (Err ValueUnclosed) ≡ found v → HoldsSmall v
+document_small true bytes v e = subst HoldsSmall (is_found (raw_value.document bytes) v e) tt
+document_small false bytes v e = absurd cc
+
+pub value_small : (k : ElementType) (bytes : Bytes) (v : RawValue) → value_in k bytes ≡ Ok v → HoldsSmall v
+value_small String bytes v e = text_small _ _ _ v e
+value_small Int32 bytes v e = subst HoldsSmall (is_found (raw_value.int32 (int32_in bytes)) v e) (int32_small bytes)
+value_small Int64 bytes v e = subst HoldsSmall (is_found (raw_value.int64 (int64_in bytes)) v e) (int64_small bytes)
+value_small EmbeddedDocument bytes v e = document_small _ _ v e
+value_small k bytes v e = absurd cc
+
+judged_document : (b : Bool) (bytes : Bytes) (v : RawValue) → cond b (refused too_deep) (Ok (raw_value.document bytes)) ≡ Ok v → raw_value.document bytes ≡ v
+judged_document true bytes v e = absurd cc
+judged_document false bytes v e = cc
+
+pub judged_is : (levels : ℕ) (r : Result RawValue raw_error.Error) (v : RawValue) → judged levels r ≡ Ok v → r ≡ Ok v
+judged_is levels (Err f) v e = absurd cc
+judged_is levels (Ok (raw_value.string t)) v e = ap found cc
+judged_is levels (Ok (raw_value.int32 n)) v e = ap found cc
+judged_is levels (Ok (raw_value.int64 n)) v e = ap found cc
+judged_is levels (Ok (raw_value.document b)) v e = ap found (judged_document (eqb levels 0) b v e)
+
+-- ---- leaves
+
+range_written : (type : IntegerType) (n : ℤ) (b : Bool) (v : Value) (levels : ℕ) → IsSmall n → cond b (Ok (value.integer type n)) (refused (out_of_range n)) ≡ Ok v → Written levels v
+range_written type n true v levels s e =
+    let is : value.integer type n ≡ v = cc in
+    subst (Written levels) is (number_written (written_as type) n s)
+range_written type n false v levels s e = absurd cc
+
+pub leaf_written : (k : LeafKind) (r : RawValue) (v : Value) (levels : ℕ) → HoldsSmall r → read_leaf k r ≡ Ok v → Written levels v
+leaf_written (numbers type) (raw_value.string t) v levels s e = absurd cc
+leaf_written (numbers type) (raw_value.int32 n) v levels s e = range_written type n (in_range type n) v levels s e
+leaf_written (numbers type) (raw_value.int64 n) v levels s e = range_written type n (in_range type n) v levels s e
+leaf_written (numbers type) (raw_value.document b) v levels s e = absurd cc
+leaf_written texts (raw_value.string t) v levels s e = let is : value.str t ≡ v = cc in subst (Written levels) is (string t, refl)
+leaf_written texts (raw_value.int32 n) v levels s e = absurd cc
+leaf_written texts (raw_value.int64 n) v levels s e = absurd cc
+leaf_written texts (raw_value.document b) v levels s e = absurd cc
