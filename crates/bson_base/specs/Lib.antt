@@ -5,3 +5,4 @@ pub mod Tree
 pub mod Sound
 pub mod Outcome
 pub mod Stored
+pub mod Instant

@@ -1,4 +1,4 @@
+pub mod Reversed
 pub mod Sames
 pub mod SegmentTexts
-pub mod Stops
 pub mod Views

@@ -13,6 +13,8 @@ pub data Cause : Type 0 where
   invalid_type : ElementType → Cause
   -- the number does not fit the shape's type
   out_of_range : ℤ → Cause
+  -- the bytes of a binary are not UTF-8
+  not_utf8 : Cause
   -- no element has the name of this field
   missing_field : Utf8 → Cause
   -- two elements have the name of this field

@@ -3,8 +3,8 @@ use Rattle.std.specs.Prelude.{ℕ, zero, suc, ◌+◌, [], ◌∷◌, ◌++◌, 
 use Rattle.std.specs.Fmt.{decimal, signed_decimal}
 use Rattle.bson_base.specs.Text.{Utf8}
 use Rattle.bson_base.specs.Kind.{name}
-use Rattle.bson_rawdoc.specs.Printed.{printed_fault, not_built_text}
-use Rattle.bson_datum.specs.Cause.{Cause, raw, too_deep, invalid_type, out_of_range, missing_field, duplicate_field, top_level, too_long, not_built}
+use Rattle.bson_rawdoc.specs.Printed.{printed_fault}
+use Rattle.bson_datum.specs.Cause.{Cause, raw, too_deep, invalid_type, out_of_range, not_utf8, missing_field, duplicate_field, top_level, too_long, not_built}
 use Rattle.bson_datum.specs.Refusal.{Segment, Path, at_key, at_index, ReadFault, unreadable, WriteFault, unwritable, invalid_cstring, unsigned_exceeds, Failure, no_memory, bare, placed}
 
 -- the segment at a place of a path: a key has a point before it unless it comes first, an index stands in brackets
@@ -25,11 +25,16 @@ abbrev pub printed_path : Path → Utf8
 printed_path [] = 46 ∷ []
 printed_path (s ∷ ss) = printed_segments 0 (s ∷ ss)
 
+-- a kind that is not built
+abbrev pub not_built_text : Utf8 → Utf8
+not_built_text k = codes "kind " ++ k ++ codes " is not built yet"
+
 abbrev pub printed_cause : Cause → Utf8
 printed_cause (raw f) = printed_fault f
 printed_cause too_deep = codes "nested deeper than 200 levels"
 printed_cause (invalid_type k) = codes "invalid type: " ++ name k
 printed_cause (out_of_range n) = codes "integer " ++ signed_decimal n ++ codes " out of range"
+printed_cause not_utf8 = codes "bytes are not UTF-8"
 printed_cause (missing_field t) = codes "missing field " ++ t
 printed_cause (duplicate_field t) = codes "duplicate field " ++ t
 printed_cause (top_level k) = codes "non-document type at the top level: " ++ name k

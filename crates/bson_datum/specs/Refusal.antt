@@ -33,14 +33,26 @@ pub record Refusal (F : Type 0) : Type 0 where
 abbrev pub here : {F : Type 0} → F → Refusal F
 here f = record { path = []; fault = f }
 
+-- a refusal of the value at a segment, seen from the value that it stands in
+abbrev pub in_segment : {F : Type 0} → Segment → Refusal F → Refusal F
+in_segment s r = record { path = s ∷ r.path; fault = r.fault }
+
+-- an answer for the value at a segment, seen from the value that it stands in
+abbrev pub inside : {A F : Type 0} → Segment → Result A (Refusal F) → Result A (Refusal F)
+inside s (Ok x) = Ok x
+inside s (Err r) = Err (in_segment s r)
+
 -- a refusal of the value at a key, seen from the document that has the key
 abbrev pub in_key : {F : Type 0} → Utf8 → Refusal F → Refusal F
-in_key key r = record { path = at_key key ∷ r.path; fault = r.fault }
+in_key key = in_segment (at_key key)
 
 -- an answer for the value at a key, seen from the document that has the key
 abbrev pub under : {A F : Type 0} → Utf8 → Result A (Refusal F) → Result A (Refusal F)
-under key (Ok x) = Ok x
-under key (Err r) = Err (in_key key r)
+under key = inside (at_key key)
+
+-- an answer for the value at an index, seen from the array that it stands in
+abbrev pub under_index : {A F : Type 0} → ℕ → Result A (Refusal F) → Result A (Refusal F)
+under_index i = inside (at_index i)
 
 -- what a call refuses with: want of memory, a fault without a path, or a failure with the path of a value
 pub data Failure (F : Type 0) : Type 0 where

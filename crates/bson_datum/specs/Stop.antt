@@ -1,7 +1,7 @@
 -- What contracts see of a refusal on its way out.
 use Rattle.std.specs.Prelude.{◌≡◌, [], ◌∷◌, ◌++◌, map, reverse, Option, Some, None}
 use Rattle.bson_base.specs.Text.{Utf8}
-use Rattle.bson_datum.specs.Refusal.{Refusal, Path, at_key, with_path, Failure, no_memory}
+use Rattle.bson_datum.specs.Refusal.{Refusal, Path, Segment, at_key, with_path, Failure, no_memory}
 use Rattle.bson_datum.specs.PathView.{segment_view}
 use Rattle.bson_datum.specs.declared.stop.Refused as code
 use Rattle.bson_datum.specs.declared.stop.Stop.{Stop}
@@ -24,10 +24,14 @@ IsOutOfMemory NoMemory = Unit {0}
 IsOutOfMemory (Refused r) = ⊥
 
 -- the same fault with one more segment, or want of memory
+abbrev pub IsUnder : {E : Type 0} → Segment → Stop E → Stop E → Type 0
+IsUnder segment old NoMemory = Unit {0}
+IsUnder segment NoMemory (Refused r) = ⊥
+IsUnder segment (Refused r) (Refused s) = (s.fault ≡ r.fault) × (segments_out s ≡ segments_out r ++ segment ∷ [])
+
+-- the same at a key
 abbrev pub IsUnderKey : {E : Type 0} → Utf8 → Stop E → Stop E → Type 0
-IsUnderKey key old NoMemory = Unit {0}
-IsUnderKey key NoMemory (Refused r) = ⊥
-IsUnderKey key (Refused r) (Refused s) = (s.fault ≡ r.fault) × (segments_out s ≡ segments_out r ++ at_key key ∷ [])
+IsUnderKey key = IsUnder (at_key key)
 
 -- the failure is the refusal, with its path; or want of memory
 abbrev pub IsPlaced : {F : Type 0} → Option (Refusal F) → Failure F → Type 0

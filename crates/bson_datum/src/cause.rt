@@ -13,6 +13,8 @@ pub enum Cause {
     InvalidType(ElementType),
     /// The number does not fit the shape's type.
     OutOfRange(i64),
+    /// The bytes of a binary are not UTF-8.
+    NotUtf8,
     /// No element has the name of this field.
     MissingField(String),
     /// Two elements have the name of this field.
@@ -38,6 +40,7 @@ impl fmt::Display for Cause {
             Cause::TooDeep => f.write_str("nested deeper than 200 levels"),
             Cause::InvalidType(kind) => write!(f, "invalid type: {kind}"),
             Cause::OutOfRange(number) => write!(f, "integer {number} out of range"),
+            Cause::NotUtf8 => f.write_str("bytes are not UTF-8"),
             Cause::MissingField(name) => write!(f, "missing field {name}"),
             Cause::DuplicateField(name) => write!(f, "duplicate field {name}"),
             Cause::TopLevel(kind) => write!(f, "non-document type at the top level: {kind}"),

@@ -46,11 +46,9 @@ impl Error {
         let Stop::Refused(refused) = stop else {
             return Error::NoMemory;
         };
-        let mut segments = refused.segments;
-        segments.reverse();
         match Box::new(alloc, Error::from_fault(refused.fault)) {
             Ok(source) => Error::WithPath {
-                path: Path::new(segments),
+                path: Path::from_innermost(refused.segments),
                 source,
             },
             Err(_) => Error::NoMemory,

@@ -1,4 +1,4 @@
-ghost use Rattle.std.specs.Prelude.{◌≡◌, map};
+ghost use Rattle.std.specs.Prelude.{◌≡◌, map, reverse};
 ghost use Rattle.bson_datum.specs.PathView.{path_view, segment_view};
 
 use std::fmt;
@@ -25,6 +25,15 @@ impl Path {
     pub fn new(segments: Vec<Segment>) -> Path
         ensures segments { path_view result ≡ map segment_view segments.items }
     {
+        Path { segments }
+    }
+
+    // The path of these segments, the innermost first.
+    #[tactic(auto, using(crate::proofs::Reversed::map_reverse))]
+    pub(crate) fn from_innermost(mut segments: Vec<Segment>) -> Path
+        ensures { path_view result ≡ reverse (map segment_view segments.items) }
+    {
+        segments.reverse();
         Path { segments }
     }
 

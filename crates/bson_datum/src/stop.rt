@@ -1,5 +1,8 @@
 ghost use Rattle.std.specs.Prelude.{◌≡◌};
-ghost use Rattle.bson_datum.specs.Stop.{IsUnderKey, IsRefusedHere};
+ghost use Rattle.bson_datum.specs.Refusal.{at_index};
+ghost use Rattle.bson_datum.specs.PathView.{segment_view};
+ghost use Rattle.bson_datum.specs.Stop.{IsUnder, IsUnderKey, IsRefusedHere};
+ghost use Rattle.bson_datum.specs.declared.stop.Stop.TheVariants as stops;
 
 use crate::path::Segment;
 use std::alloc::{AllocError, AllocFailed, Global};
@@ -22,6 +25,18 @@ pub enum Stop<F> {
     NoMemory,
 }
 
+impl<F: Drop> Refused<F> {
+    // The same, seen from the value that has the value at this segment; or `NoMemory`.
+    fn under(mut self, segment: Segment) -> Stop<F>
+        ensures { IsUnder (segment_view segment) (stops.Refused self) result }
+    {
+        match self.segments.push(segment) {
+            Ok(()) => Stop::Refused(self),
+            Err(_) => Stop::NoMemory,
+        }
+    }
+}
+
 impl<F: Drop> Stop<F> {
     /// A fault of the value itself. It takes no memory.
     pub fn here(alloc: Global, fault: F) -> Stop<F>
@@ -37,16 +52,23 @@ impl<F: Drop> Stop<F> {
     pub fn under_key(self, key: &str) -> Stop<F>
         ensures under { IsUnderKey key.now self result }
     {
-        let Stop::Refused(mut refused) = self else {
+        let Stop::Refused(refused) = self else {
             return Stop::NoMemory;
         };
         let alloc = *refused.segments.allocator();
-        let Ok(key) = String::from_str(alloc, key) else {
-            return Stop::NoMemory;
-        };
-        match refused.segments.push(Segment::Key(key)) {
-            Ok(()) => Stop::Refused(refused),
+        match String::from_str(alloc, key) {
+            Ok(key) => refused.under(Segment::Key(key)),
             Err(_) => Stop::NoMemory,
+        }
+    }
+
+    /// The same, seen from the array that has the value at this index, from 0; or `NoMemory`.
+    pub fn under_index(self, index: u64) -> Stop<F>
+        ensures under { IsUnder (at_index index) self result }
+    {
+        match self {
+            Stop::Refused(refused) => refused.under(Segment::Index(index)),
+            Stop::NoMemory => Stop::NoMemory,
         }
     }
 }

@@ -26,3 +26,16 @@ fn prints_an_error_of_writing(rt: HostRuntime) -> Result<(), Fail> {
     );
     Ok(())
 }
+
+#[test]
+fn prints_an_error_inside_an_array(rt: HostRuntime) -> Result<(), Fail> {
+    let alloc = rt.alloc();
+    let fault = de::Fault::Cause(Cause::NotUtf8);
+    let stop = Stop::here(alloc, fault).under_index(2).under_key("a");
+    let error = de::Error::from_stop(alloc, stop);
+    assert_eq!(rt;
+        format!(in alloc; "{error}")?.as_str(),
+        "error at a[2]: bytes are not UTF-8"
+    );
+    Ok(())
+}

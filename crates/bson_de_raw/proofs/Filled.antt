@@ -11,7 +11,7 @@ use Rattle.bson_shape.specs.Form.{Fields, structure}
 use Rattle.bson_shape.specs.ShapeView.{fields_of}
 use Rattle.bson_shape.specs.declared.shape.FieldShape.{FieldShape}
 use Rattle.bson_datum.specs.Cause.{duplicate_field}
-use Rattle.bson_datum.specs.Refusal.{under}
+use Rattle.bson_datum.specs.Refusal.{at_key, under}
 use Rattle.bson_datum.specs.Stop.{IsUnderKey}
 use Rattle.bson_datum.specs.Value as value
 use Rattle.bson_datum.specs.Value.{Value}
@@ -26,7 +26,7 @@ use Rattle.bson_laws.specs.Reads.{Reading, refused, place_of, Slots, no_slots, R
 use Rattle.bson_de_raw.specs.Encoded.{entered, reads_encoded}
 use Rattle.bson_de_raw.specs.SlotsView.{filled_by}
 use Rattle.bson_de_raw.specs.declared.encoded.Encoded.{Encoded}
-use Rattle.bson_de_raw.proofs.Refusals.{StopsAs, stops_bind, stops_under}
+use Rattle.bson_de_raw.proofs.Refusals.{StopsAs, stops_bind, stops_inside}
 
 -- reading at the field at a place is reading at its shape
 pub field_read : (fs : List FieldShape) (i : ℕ) (d : FieldShape) (levels : ℕ) (k : ElementType) (bytes : Bytes) → i < length fs → reads_field (fields_of fs) i levels k bytes ≡ reads (get_or fs i d).shape levels k bytes
@@ -45,7 +45,7 @@ module _ (fs : Fields) (levels : ℕ) (read : ReadField) (e : Element) (slots : 
 
   pub one_stops : (s t : Stop Fault) → IsUnderKey e.key s t → StopsAs s (read i e.kind e.value) → StopsAs t (fill_one fs levels read e slots)
   one_stops s t u h =
-      subst (λ (r : Reading Slots). StopsAs t r) (sym one_new) (stops_bind t (under e.key (read i e.kind e.value)) (λ v. Ok (set slots i (Some v))) (stops_under e.key s t (read i e.kind e.value) u h))
+      subst (λ (r : Reading Slots). StopsAs t r) (sym one_new) (stops_bind t (under e.key (read i e.kind e.value)) (λ v. Ok (set slots i (Some v))) (stops_inside (at_key e.key) s t (read i e.kind e.value) u h))
 
 -- a struct whose document was entered, whose fields were filled and finished
 pub struct_read : (name : Utf8) (fs : Fields) (levels : ℕ) (v : Encoded) (body : Bytes) (slots : Slots) (s : String Global) (values : Vec Field) → entered levels v ≡ Ok body

@@ -4,3 +4,4 @@ pub mod Filled
 pub mod Finished
 pub mod Passed
 pub mod ReadBack
+pub mod OtherKinds

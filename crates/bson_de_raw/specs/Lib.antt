@@ -3,3 +3,4 @@ pub mod Encoded
 pub mod Indexes
 pub mod Leaves
 pub mod SlotsView
+pub mod Passes

@@ -2,6 +2,8 @@ ghost use Rattle.std.specs.Prelude.{◌≡◌};
 ghost use Rattle.bson_base.specs.Outcome.{result_map};
 ghost use Rattle.bson_rawdoc.specs.ValueView.{raw_value};
 ghost use Rattle.bson_rawdoc.specs.DocumentView.{document_bytes};
+ghost use Rattle.bson_datum.specs.ErrorView.{cause_view};
+ghost use Rattle.bson_laws.specs.Reads as reads;
 ghost use Rattle.bson_laws.specs.Reads.{judged};
 ghost use Rattle.bson_de_raw.specs.Encoded.{raw_in, entered};
 ghost use Rattle.bson_de_raw.specs.Gives.{Reaches};
@@ -33,13 +35,13 @@ impl<'de> Encoded<'_, 'de> {
     }
 
     /// The value, judged before any shape looks at it: it is refused for its fault, and then, where
-    /// no level is left, for being a document.
+    /// no level is left, for being a document or an array.
     pub(crate) fn judge(self, alloc: Global, levels: u32) -> Reading<RawBsonRef<'de>>
         ensures { Reaches raw_value result (judged levels (raw_in self.entry)) }
     {
         match self.value() {
             Err(fault) => Err(refused(alloc, Cause::Raw(fault))),
-            Ok(RawBsonRef::Document(_)) if levels == 0 => Err(refused(alloc, Cause::TooDeep)),
+            Ok(value) if is_container(value) && levels == 0 => Err(refused(alloc, Cause::TooDeep)),
             Ok(value) => Ok(value),
         }
     }
@@ -48,12 +50,54 @@ impl<'de> Encoded<'_, 'de> {
     pub(crate) fn enter(self, alloc: Global, levels: u32) -> Reading<RawDocument<'de>>
         ensures { Reaches document_bytes result (entered levels self.entry) }
     {
-        let kind = match self.judge(alloc, levels)? {
-            RawBsonRef::Document(document) => return Ok(document),
-            RawBsonRef::String(_) => ElementType::String,
-            RawBsonRef::Int32(_) => ElementType::Int32,
-            RawBsonRef::Int64(_) => ElementType::Int64,
-        };
-        Err(refused(alloc, Cause::InvalidType(kind)))
+        let value = self.judge(alloc, levels)?;
+        document(alloc, value)
+    }
+}
+
+/// The document that a value is. An array, which a struct takes too, is not read as one yet.
+fn document<'de>(alloc: Global, value: RawBsonRef<'de>) -> Reading<RawDocument<'de>>
+    ensures { Reaches document_bytes result (reads.document_of (raw_value value.entry)) }
+{
+    match value {
+        RawBsonRef::Document(document) => Ok(document),
+        RawBsonRef::Array(_) => Err(refused(alloc, Cause::NotBuilt(ElementType::Array))),
+        other => Err(refused(alloc, no_document(other))),
+    }
+}
+
+/// Why a value that is neither a document nor an array is none: of an extended kind it is not read as
+/// a document yet.
+fn no_document(value: RawBsonRef<'_>) -> Cause
+    ensures { cause_view result ≡ reads.no_document (raw_value value.entry) }
+{
+    if is_extended(value) {
+        return Cause::NotBuilt(value.element_type());
+    }
+    Cause::InvalidType(value.element_type())
+}
+
+/// Whether the value takes a level: a document or an array.
+fn is_container(value: RawBsonRef<'_>) -> bool
+    ensures { result ≡ reads.is_container (raw_value value.entry) }
+{
+    matches!(value, RawBsonRef::Document(_) | RawBsonRef::Array(_))
+}
+
+/// Whether no kind of serde's data model is the value's.
+fn is_extended(value: RawBsonRef<'_>) -> bool
+    ensures { result ≡ reads.is_extended (raw_value value.entry) }
+{
+    match value {
+        RawBsonRef::Double(_)
+        | RawBsonRef::String(_)
+        | RawBsonRef::Array(_)
+        | RawBsonRef::Document(_)
+        | RawBsonRef::Boolean(_)
+        | RawBsonRef::Null
+        | RawBsonRef::Int32(_)
+        | RawBsonRef::Int64(_) => false,
+        RawBsonRef::Binary(binary) => binary.subtype.0 != 0,
+        _ => true,
     }
 }

@@ -10,7 +10,7 @@ ghost use Rattle.bson_de_raw.specs.Leaves.{number_as};
 use crate::reading::{Reading, refused};
 use bson_base::ElementType;
 use bson_datum::{Cause, Datum, Text};
-use bson_rawdoc::RawBsonRef;
+use bson_rawdoc::{RawBinaryRef, RawBsonRef};
 use bson_shape::Leaf;
 use std::alloc::Global;
 
@@ -37,26 +37,35 @@ pub(crate) fn read_leaf<'de>(
 fn integer(alloc: Global, value: RawBsonRef<'_>) -> Reading<i64>
     ensures { Reaches (λ n. n) result (reads.integer_of (raw_value value.entry)) }
 {
-    let kind = match value {
-        RawBsonRef::Int32(number) => return Ok(i64::from(number)),
-        RawBsonRef::Int64(number) => return Ok(number),
-        RawBsonRef::String(_) => ElementType::String,
-        RawBsonRef::Document(_) => ElementType::EmbeddedDocument,
-    };
-    Err(refused(alloc, Cause::InvalidType(kind)))
+    match value {
+        RawBsonRef::Int32(number) => Ok(i64::from(number)),
+        RawBsonRef::Int64(number) => Ok(number),
+        other => Err(refused(alloc, Cause::InvalidType(other.element_type()))),
+    }
 }
 
 /// The text of a value that is one.
 fn text<'a>(alloc: Global, value: RawBsonRef<'a>) -> Reading<&'a str>
     ensures { Reaches (λ t. t.now) result (reads.text_of (raw_value value.entry)) }
 {
-    let kind = match value {
-        RawBsonRef::String(text) => return Ok(text),
-        RawBsonRef::Int32(_) => ElementType::Int32,
-        RawBsonRef::Int64(_) => ElementType::Int64,
-        RawBsonRef::Document(_) => ElementType::EmbeddedDocument,
-    };
-    Err(refused(alloc, Cause::InvalidType(kind)))
+    match value {
+        RawBsonRef::String(text) => Ok(text),
+        RawBsonRef::Binary(binary) => text_of_binary(alloc, binary),
+        other => Err(refused(alloc, Cause::InvalidType(other.element_type()))),
+    }
+}
+
+/// The bytes of a binary of subtype 0 as a text.
+fn text_of_binary<'a>(alloc: Global, binary: RawBinaryRef<'a>) -> Reading<&'a str>
+    ensures { Reaches (λ t. t.now) result (reads.text_of_binary binary.entry.subtype.0 binary.entry.bytes.now) }
+{
+    if binary.subtype.0 != 0 {
+        return Err(refused(alloc, Cause::InvalidType(ElementType::Binary)));
+    }
+    match str::from_utf8(binary.bytes) {
+        Ok(text) => Ok(text),
+        Err(_) => Err(refused(alloc, Cause::NotUtf8)),
+    }
 }
 
 /// The number as a value of the leaf's type, where it lies in its range.

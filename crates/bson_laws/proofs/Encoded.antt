@@ -1,6 +1,6 @@
 -- What is encoded is walked again.
 use Rattle.std.proofs.Common.{◌≡◌, ℕ, zero, suc, ◌+◌, ◌-◌, ◌^◌, ◌<◌, [], ◌∷◌, ◌++◌, length, get_or, take, drop, Bool, true, false, cond, eqb, Some, Result, Ok, Err, refl, ap, sym, ◌∙◌, append_assoc, arith, pos, negsuc, ℤ}
-use Rattle.std.specs.Prelude.{FitsSigned, not, nat_lt, ◌||◌}
+use Rattle.std.specs.Prelude.{FitsSigned, nat_lt, ◌||◌}
 use Rattle.std.specs.Int.{w32, w64, cast_signed, cast_unsigned}
 use Rattle.std.specs.Str.{is_utf8}
 use Rattle.std.proofs.lemmas.Int.{to_z-of_z}
@@ -14,13 +14,13 @@ use Rattle.bson_base.specs.Tree.{Tree, string, int32, int64, document, Pairs, pa
 use Rattle.bson_base.proofs.Lengths.{length-le32, length-le64}
 use Rattle.bson_base.proofs.KindBytes.{of_byte-byte}
 use Rattle.bson_rawdoc.specs.declared.raw.Error.{Error}
-use Rattle.bson_rawdoc.specs.declared.raw.Error.TheVariants.{BadExtent, KeyNotUtf8, NotUtf8, TextUnclosed}
-use Rattle.bson_rawdoc.specs.RawValue as raw_value
-use Rattle.bson_rawdoc.specs.RawValue.{text_in}
+use Rattle.bson_rawdoc.specs.declared.raw.Error.TheVariants.{BadExtent, KeyNotUtf8, NotUtf8, TextUnclosed, ValueUnclosed}
+use Rattle.bson_rawdoc.specs.RawValue.{text_in, closed_in}
 use Rattle.bson_rawdoc.specs.Envelope.{is_closed, inside}
 use Rattle.bson_rawdoc.specs.Numbers.{int32_in, int64_in}
-use Rattle.bson_rawdoc.proofs.Extents.{document_extent_found, text_extent_found}
-use Rattle.bson_rawdoc.specs.Walk.{in_front, cut_at_zero, extent, Element, with_value, of_kind, with_key, element_at, then_walk, walk_elements}
+use Rattle.bson_rawdoc.proofs.Extents.{announced_found}
+use Rattle.bson_rawdoc.specs.Extent.{in_front, cut_at_zero, extent}
+use Rattle.bson_rawdoc.specs.Walk.{Element, with_value, of_kind, with_key, element_at, then_walk, walk_elements}
 use Rattle.bson_rawdoc.proofs.Walks.{walk_ok}
 
 unsigned32 : (z : ℤ) → FitsSigned w32 z → cast_unsigned w32 z < 2 ^ 32
@@ -68,16 +68,24 @@ inside_again n b =
     ap (λ (l : Bytes). take (length (between n b) - 5) l) (drop_at (le32 n) (b ++ 0 ∷ []) 4 (length-le32 n))
     ∙ take_at b (0 ∷ []) (length (between n b) - 5) (omega (arith, four_behind n b))
 
-tested : (a b : Bool) (x : Utf8) → a ≡ true → b ≡ true → cond (not a) (Err TextUnclosed) (cond b (Ok (raw_value.string x)) (Err NotUtf8)) ≡ Ok (raw_value.string x)
+tested : (a b : Bool) (x : Utf8) → a ≡ true → b ≡ true → cond a (cond b (Ok x) (Err NotUtf8)) (Err TextUnclosed) ≡ Ok x
 tested false b x p q = absurd cc
 tested true false x p q = absurd cc
 tested true true x p q = refl
 
 -- an encoded text is that text
-pub text_again : (t : Utf8) → is_utf8 t ≡ true → text_in (enc (string t)) ≡ Ok (raw_value.string t)
+pub text_again : (t : Utf8) → is_utf8 t ≡ true → text_in (enc (string t)) ≡ Ok t
 text_again t h =
     let n = length t + 1 in
-    tested (is_closed (between n t)) (is_utf8 (inside (between n t))) (inside (between n t)) (closed_again n t) (ap is_utf8 (inside_again n t) ∙ h) ∙ ap (λ x. Ok (raw_value.string x)) (inside_again n t)
+    tested (is_closed (between n t)) (is_utf8 (inside (between n t))) (inside (between n t)) (closed_again n t) (ap is_utf8 (inside_again n t) ∙ h) ∙ ap Ok (inside_again n t)
+
+told_closed : (a : Bool) (x : Bytes) → a ≡ true → cond a (Ok x) (Err ValueUnclosed) ≡ Ok x
+told_closed false x p = absurd cc
+told_closed true x p = refl
+
+-- an encoded document is one
+pub document_again : (ps : Pairs) → closed_in (enc (document ps)) ≡ Ok (enc (document ps))
+document_again ps = told_closed (is_closed (enc (document ps))) (enc (document ps)) (closed_again (length (elements ps) + 5) (elements ps))
 
 -- ---- one element
 
@@ -87,7 +95,7 @@ extent_again (string t) rest h =
     let bs = between n t ++ rest in
     let long = four_behind n t in
     let told : int32_in bs ≡ pos n = ap int32_in (append_assoc (le32 n) (t ++ 0 ∷ []) rest) ∙ length_again n ((t ++ 0 ∷ []) ++ rest) (omega (arith, long, h)) in
-    text_extent_found bs n (omega (arith, long, length-append (between n t) rest)) told (omega arith) ∙ ap Ok (let same : length t + 1 + 4 ≡ length (between n t) = omega (arith, long) in same)
+    announced_found 1 4 bs n (omega (arith, long, length-append (between n t) rest)) told (omega arith) ∙ ap Ok (let same : length t + 1 + 4 ≡ length (between n t) = omega (arith, long) in same)
 extent_again (int32 z) rest h = ap Ok (sym (length-le32 _))
 extent_again (int64 z) rest h = ap Ok (sym (length-le64 _))
 extent_again (document ps) rest h =
@@ -96,7 +104,7 @@ extent_again (document ps) rest h =
     let bs = enclosed b ++ rest in
     let long = four_behind n b in
     let told : int32_in bs ≡ pos n = ap int32_in (append_assoc (le32 n) (b ++ 0 ∷ []) rest) ∙ length_again n ((b ++ 0 ∷ []) ++ rest) (omega (arith, long, h)) in
-    document_extent_found bs n (omega (arith, long, length-append (enclosed b) rest)) told (omega arith) ∙ ap Ok (sym long)
+    announced_found 5 0 bs n (omega (arith, long, length-append (enclosed b) rest)) told (omega arith) ∙ ap Ok (let same : length b + 5 + 0 ≡ length (enclosed b) = omega (arith, long) in same)
 
 neither : (a b : Bool) → (a || b) ≡ false → b ≡ false
 neither true b e = absurd cc

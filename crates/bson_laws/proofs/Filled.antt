@@ -9,21 +9,19 @@ use Rattle.bson_base.specs.Sound.{IsClean, ArePairsClean, Lacks}
 use Rattle.bson_base.specs.Tree.{Tree, string, int32, int64, document, Pairs, no_pairs, pair, kind, enc, elements, depth, pairs_depth}
 use Rattle.bson_base.proofs.Lengths.{head_size, tail_size, elements_size}
 use Rattle.bson_base.proofs.Outcomes.{some_map, some_then}
-use Rattle.bson_rawdoc.specs.Envelope.{is_closed}
 use Rattle.bson_rawdoc.specs.RawValue as raw_value
 use Rattle.bson_rawdoc.specs.RawValue.{RawValue, value_in}
 use Rattle.bson_rawdoc.specs.Walk.{Element, walk, walk_elements}
-use Rattle.bson_rawdoc.specs.declared.raw.Error.TheVariants.{ValueUnclosed}
 use Rattle.bson_rawdoc.proofs.Walks.{walk-nil}
 use Rattle.bson_shape.specs.Form.{Form, Fields, no_fields, field}
 use Rattle.bson_datum.specs.Value.{Value, FieldValues, no_field_values, field_value}
 use Rattle.bson_datum.specs.Cause.{too_deep, duplicate_field}
-use Rattle.bson_datum.specs.Refusal.{under}
-use Rattle.bson_laws.specs.Reads.{Reading, refused, judged, pass_elements, pass_inside, ignores, one_further, place_of, Slots, no_slots, fill_found, fill_one, fill, finish, reads_field}
+use Rattle.bson_datum.specs.Refusal.{Segment, under}
+use Rattle.bson_laws.specs.Reads.{Reading, refused, faultless, with_level, judged, at_its_key, pass_elements, pass_inside, ignores, one_further, place_of, Slots, no_slots, fill_found, fill_one, fill, finish, reads_field}
 use Rattle.bson_laws.specs.Views.{lookup, views, views_fields}
 use Rattle.bson_laws.proofs.Spelled.{tree_is}
 use Rattle.bson_laws.proofs.Fitted.{bytes_same, Unnamed}
-use Rattle.bson_laws.proofs.Encoded.{elem, closed_again, inside_again, text_again, walk_again}
+use Rattle.bson_laws.proofs.Encoded.{elem, inside_again, text_again, document_again, walk_again}
 
 -- ---- documents
 
@@ -34,40 +32,46 @@ go_on : (d : Bool) (x y : Reading RawValue) → d ≡ false → cond d x y ≡ y
 go_on true x y e = absurd cc
 go_on false x y e = refl
 
-judged_closed : (c : Bool) (levels : ℕ) (b : Bytes) → c ≡ true → 0 < levels → judged levels (cond c (Ok (raw_value.document b)) (Err ValueUnclosed)) ≡ Ok (raw_value.document b)
-judged_closed true zero b c h = absurd (omega arith)
-judged_closed true (suc n) b c h = go_on (eqb (suc n) 0) (refused too_deep) (Ok (raw_value.document b)) (suc_not_zero n)
-judged_closed false levels b c h = absurd cc
+level_left : (levels : ℕ) (b : Bytes) → 0 < levels → with_level levels (raw_value.document b) ≡ Ok (raw_value.document b)
+level_left zero b h = absurd (omega arith)
+level_left (suc n) b h = go_on (eqb (suc n) 0) (refused too_deep) (Ok (raw_value.document b)) (suc_not_zero n)
 
 -- an encoded document is a document, where a level is left
 pub judged_again : (levels : ℕ) (ps : Pairs) → 0 < levels → judged levels (value_in (kind (document ps)) (enc (document ps))) ≡ Ok (raw_value.document (enc (document ps)))
-judged_again levels ps h = judged_closed (is_closed (enc (document ps))) levels (enc (document ps)) (closed_again (length (elements ps) + 5) (elements ps)) h
+judged_again levels ps h = ap (λ r. faultless (result_map raw_value.document r) >>= with_level levels) (document_again ps) ∙ level_left levels (enc (document ps)) h
 
 pub walk_inside : (ps : Pairs) → walk (enc (document ps)) ≡ walk_elements (elements ps)
 walk_inside ps = ap walk_elements (inside_again (length (elements ps) + 5) (elements ps))
 
 -- ---- what no field names
 
+-- what stands inside a value that is dropped, with so many levels left inside it
+abbrev pass_on : ℕ → (ℕ → Element → Segment) → Bytes → Reading (Unit {0})
+pass_on n place inner = pass_elements place (ignores n) 0 (walk inner)
+
+abbrev pass_none : (ℕ → Element → Segment) → Bytes → Reading (Unit {0})
+pass_none place inner = refused too_deep
+
 mutual
   pub ignores_again : (t : Tree) (levels : ℕ) → IsClean t → depth t ≤ levels → length (enc t) < 2 ^ 31 → ignores levels (kind t) (enc t) ≡ Ok tt
-  ignores_again (string t) zero c d l = ap (λ r. judged zero r >>= λ _. Ok tt) (text_again t c)
-  ignores_again (string t) (suc n) c d l = ap (λ r. judged (suc n) r >>= pass_inside (ignores n)) (text_again t c)
+  ignores_again (string t) zero c d l = ap (λ r. faultless (result_map raw_value.string r) >>= pass_inside pass_none) (text_again t c)
+  ignores_again (string t) (suc n) c d l = ap (λ r. faultless (result_map raw_value.string r) >>= pass_inside (pass_on n)) (text_again t c)
   ignores_again (int32 z) zero c d l = refl
   ignores_again (int32 z) (suc n) c d l = refl
   ignores_again (int64 z) zero c d l = refl
   ignores_again (int64 z) (suc n) c d l = refl
   ignores_again (document ps) zero c d l = absurd (omega arith)
   ignores_again (document ps) (suc n) c d l =
-      ap (λ r. r >>= pass_inside (ignores n)) (judged_again (suc n) ps (omega arith))
-      ∙ ap (pass_elements (ignores n)) (walk_inside ps)
-      ∙ pass_pairs_again ps n c (omega arith) (omega (arith, elements_size ps))
+      ap (λ r. faultless (result_map raw_value.document r) >>= pass_inside (pass_on n)) (document_again ps)
+      ∙ ap (pass_elements at_its_key (ignores n) 0) (walk_inside ps)
+      ∙ pass_pairs_again ps n 0 c (omega arith) (omega (arith, elements_size ps))
 
-  pub pass_pairs_again : (ps : Pairs) (n : ℕ) → ArePairsClean ps → pairs_depth ps ≤ n → length (elements ps) < 2 ^ 31 → pass_elements (ignores n) (walk_elements (elements ps)) ≡ Ok tt
-  pass_pairs_again no_pairs n c d l = ap (pass_elements (ignores n)) walk-nil
-  pass_pairs_again (pair k t ps) n c d l =
-      ap (pass_elements (ignores n)) (walk_again k t ps c.0 (omega (arith, head_size k t ps)))
-      ∙ ap (λ r. under k r >>= λ _. pass_elements (ignores n) (walk_elements (elements ps))) (ignores_again t n c.2 (omega arith) (omega (arith, head_size k t ps)))
-      ∙ pass_pairs_again ps n c.3 (omega arith) (omega (arith, tail_size k t ps))
+  pub pass_pairs_again : (ps : Pairs) (n i : ℕ) → ArePairsClean ps → pairs_depth ps ≤ n → length (elements ps) < 2 ^ 31 → pass_elements at_its_key (ignores n) i (walk_elements (elements ps)) ≡ Ok tt
+  pass_pairs_again no_pairs n i c d l = ap (pass_elements at_its_key (ignores n) i) walk-nil
+  pass_pairs_again (pair k t ps) n i c d l =
+      ap (pass_elements at_its_key (ignores n) i) (walk_again k t ps c.0 (omega (arith, head_size k t ps)))
+      ∙ ap (λ r. under k r >>= λ _. pass_elements at_its_key (ignores n) (suc i) (walk_elements (elements ps))) (ignores_again t n c.2 (omega arith) (omega (arith, head_size k t ps)))
+      ∙ pass_pairs_again ps n (suc i) c.3 (omega arith) (omega (arith, tail_size k t ps))
 
 -- ---- slots
 

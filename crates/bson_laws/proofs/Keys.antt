@@ -9,7 +9,8 @@ use Rattle.bson_base.specs.declared.element_type.ElementType.{ElementType}
 use Rattle.bson_base.proofs.Outcomes.{bind_ok}
 use Rattle.bson_rawdoc.specs.declared.raw.Error.{Error}
 use Rattle.bson_rawdoc.specs.declared.raw.Error.TheVariants.{KeyNotUtf8, BadExtent}
-use Rattle.bson_rawdoc.specs.Walk.{in_front, cut_at_zero, Element, extent, with_value, of_kind, with_key, element_at, Walk, ended, faulty, then_walk, walk_step, walk_within, walk_elements, walk}
+use Rattle.bson_rawdoc.specs.Extent.{in_front, cut_at_zero, extent}
+use Rattle.bson_rawdoc.specs.Walk.{Element, with_value, of_kind, with_key, element_at, Walk, ended, faulty, then_walk, walk_step, walk_within, walk_elements, walk}
 
 suc_no_zero : (n : ℕ) → eqb (suc n) 0 ≡ false
 suc_no_zero n = grind (arith, nat_tests)

@@ -20,6 +20,7 @@ use Rattle.bson_shape.specs.Form.{Form, leaf, structure, Fields, no_fields, fiel
 use Rattle.bson_shape.specs.Makers.{has_field, repeats, IsShape, AreShapes}
 use Rattle.bson_shape.specs.declared.leaf.Leaf.{Leaf}
 use Rattle.bson_laws.specs.Integers.{LeafKind, numbers, texts, leaf_kind}
+use Rattle.bson_rawdoc.specs.RawValue as raw_value
 use Rattle.bson_rawdoc.specs.RawValue.{value_in}
 use Rattle.bson_datum.specs.Value as value
 use Rattle.bson_datum.specs.Value.{IntegerType, in_range, Value, FieldValues, no_field_values, field_value}
@@ -58,7 +59,7 @@ leaf_again (numbers type) (string t) v levels c e = absurd cc
 leaf_again (numbers type) (int32 n) v levels c e = ap (read_integer type) (int32_again n c) ∙ (in_range_or type n (in_range type n) v e).0
 leaf_again (numbers type) (int64 n) v levels c e = ap (read_integer type) (int64_again n c) ∙ (in_range_or type n (in_range type n) v e).0
 leaf_again (numbers type) (document ps) v levels c e = absurd cc
-leaf_again texts (string t) v levels c e = ap (λ r. judged levels r >>= read_leaf texts) (text_again t c) ∙ ap Ok cc
+leaf_again texts (string t) v levels c e = ap (λ r. judged levels (result_map raw_value.string r) >>= read_leaf texts) (text_again t c) ∙ ap Ok cc
 leaf_again texts (int32 n) v levels c e = absurd cc
 leaf_again texts (int64 n) v levels c e = absurd cc
 leaf_again texts (document ps) v levels c e = absurd cc

@@ -128,10 +128,9 @@ module _ (levels : ℕ) where
 
 no_level : (r : Result RawValue raw_error.Error) (b : Bytes) → (judged zero r >>= document_of) ≡ Ok b → ⊥
 no_level (Err f) b e = absurd cc
-no_level (Ok (raw_value.string t)) b e = absurd cc
-no_level (Ok (raw_value.int32 n)) b e = absurd cc
-no_level (Ok (raw_value.int64 n)) b e = absurd cc
 no_level (Ok (raw_value.document c)) b e = absurd cc
+no_level (Ok (raw_value.array c)) b e = absurd cc
+no_level (Ok v) b e = absurd cc
 
 -- what a struct is read from: the bytes of a document, and its fields
 struct_read : (name : Utf8) (fs : Fields) (levels : ℕ) (k : ElementType) (b : Bytes) (v : Value) → reads (structure name fs) levels k b ≡ Ok v
@@ -168,7 +167,7 @@ answered_is : (r : Reading Value) (d : Value) → answered r ≡ Ok d → r ≡ 
 answered_is (Ok v) d e = ap Ok cc
 answered_is (Err f) d e = absurd cc
 
-leaf_at_top : (c : Bool) (k : LeafKind) (b : Bytes) (d : Value) → (judged max_levels (cond c (Ok (raw_value.document b)) (Err ValueUnclosed)) >>= read_leaf k) ≡ Ok d → ⊥
+leaf_at_top : (c : Bool) (k : LeafKind) (b : Bytes) (d : Value) → (judged max_levels (result_map raw_value.document (cond c (Ok b) (Err ValueUnclosed))) >>= read_leaf k) ≡ Ok d → ⊥
 leaf_at_top true (numbers type) b d e = absurd cc
 leaf_at_top true texts b d e = absurd cc
 leaf_at_top false k b d e = absurd cc

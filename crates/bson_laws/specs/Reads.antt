@@ -1,21 +1,21 @@
 -- Reading a document's bytes at a shape. Source: serde's data model, over the walk of the bytes.
-use Rattle.std.specs.Prelude.{ℕ, zero, suc, ◌-◌, List, [], ◌∷◌, set, get_or, if◌then◌else◌, ℤ, eqb, Option, Some, None, is_some, Result, Ok, Err}
-use Rattle.std.specs.Str.{bytes_eq}
+use Rattle.std.specs.Prelude.{ℕ, zero, suc, ◌-◌, List, [], ◌∷◌, set, get_or, Bool, true, false, not, ◌&&◌, if◌then◌else◌, ℤ, eqb, Option, Some, None, is_some, Result, Ok, Err, codes}
+use Rattle.std.specs.Str.{bytes_eq, is_utf8}
 use Rattle.bson_base.specs.Text.{Bytes, Utf8}
 use Rattle.bson_base.specs.Outcome.{◌>>=◌, result_map}
 use Rattle.bson_base.specs.Sound.{max_levels}
 use Rattle.bson_base.specs.declared.element_type.ElementType.{ElementType}
-use Rattle.bson_base.specs.declared.element_type.ElementType.TheVariants.{EmbeddedDocument, Int32, Int64, String}
+use Rattle.bson_base.specs.declared.element_type.ElementType.TheVariants.{EmbeddedDocument, Array, Binary}
 use Rattle.bson_rawdoc.specs.Envelope.{envelope}
 use Rattle.bson_rawdoc.specs.Walk.{Element, Walk, ended, faulty, then_walk, walk}
-use Rattle.bson_rawdoc.specs.RawValue.{RawValue, string, int32, int64, document, value_in}
+use Rattle.bson_rawdoc.specs.RawValue.{RawValue, double, string, document, array, binary, boolean, null, javascript_code_with_scope, int32, int64, kind_of, value_in}
 use Rattle.bson_rawdoc.specs.declared.raw.Error as raw_error
 use Rattle.bson_shape.specs.Form.{Form, leaf, structure, Fields, no_fields, field}
 use Rattle.bson_laws.specs.Integers.{LeafKind, numbers, texts, leaf_kind}
 use Rattle.bson_datum.specs.Value as value
 use Rattle.bson_datum.specs.Value.{IntegerType, in_range, Value, FieldValues, no_field_values, field_value}
-use Rattle.bson_datum.specs.Cause.{Cause, raw, too_deep, invalid_type, out_of_range, missing_field, duplicate_field}
-use Rattle.bson_datum.specs.Refusal.{ReadFault, unreadable, Refusal, here, under, Failure, bare, with_path}
+use Rattle.bson_datum.specs.Cause.{Cause, raw, too_deep, invalid_type, out_of_range, not_utf8, missing_field, duplicate_field, not_built}
+use Rattle.bson_datum.specs.Refusal.{Segment, at_key, at_index, ReadFault, unreadable, Refusal, here, inside, under, Failure, bare, with_path}
 
 -- an answer of reading: something, or a refusal with its path
 abbrev pub Reading : Type 0 → Type 0
@@ -25,44 +25,69 @@ Reading A = Result A (Refusal ReadFault)
 abbrev pub refused : {A : Type 0} → Cause → Reading A
 refused c = Err (here (unreadable c))
 
--- The value of an element, judged before any shape looks at it: its fault comes first, then a document where no level is left.
+abbrev pub faultless : Result RawValue raw_error.Error → Reading RawValue
+faultless (Ok v) = Ok v
+faultless (Err e) = refused (raw e)
+
+abbrev pub is_container : RawValue → Bool
+is_container (document bytes) = true
+is_container (array bytes) = true
+is_container v = false
+
+-- a document or an array takes one of the levels that are left
+abbrev pub with_level : ℕ → RawValue → Reading RawValue
+with_level levels v = if is_container v && eqb levels 0 then refused too_deep else Ok v
+
+-- The value of an element, judged before any shape looks at it: its fault comes first, then a document or an array where no level is left.
 abbrev pub judged : ℕ → Result RawValue raw_error.Error → Reading RawValue
-judged levels (Err e) = refused (raw e)
-judged levels (Ok (string t)) = Ok (string t)
-judged levels (Ok (int32 n)) = Ok (int32 n)
-judged levels (Ok (int64 n)) = Ok (int64 n)
-judged levels (Ok (document bytes)) = if eqb levels 0 then refused too_deep else Ok (document bytes)
+judged levels r = faultless r >>= with_level levels
 
--- walked to the end, each value in it too, and dropped
-abbrev pub pass_elements : (ElementType → Bytes → Reading (Unit {0})) → Walk → Reading (Unit {0})
-pass_elements pass ended = Ok tt
-pass_elements pass (faulty e) = refused (raw e)
-pass_elements pass (then_walk e w) = under e.key (pass e.kind e.value) >>= λ _. pass_elements pass w
+-- where an element stands in its document: at its key
+abbrev pub at_its_key : ℕ → Element → Segment
+at_its_key i e = at_key e.key
 
-abbrev pub pass_inside : (ElementType → Bytes → Reading (Unit {0})) → RawValue → Reading (Unit {0})
-pass_inside pass (string t) = Ok tt
-pass_inside pass (int32 n) = Ok tt
-pass_inside pass (int64 n) = Ok tt
-pass_inside pass (document bytes) = pass_elements pass (walk bytes)
+-- where an element stands in its array: at its index
+abbrev pub at_its_index : ℕ → Element → Segment
+at_its_index i e = at_index i
+
+-- the elements from this index on, walked to the end, each value in them too, and dropped
+abbrev pub pass_elements : (ℕ → Element → Segment) → (ElementType → Bytes → Reading (Unit {0})) → ℕ → Walk → Reading (Unit {0})
+pass_elements place pass i ended = Ok tt
+pass_elements place pass i (faulty e) = refused (raw e)
+pass_elements place pass i (then_walk e w) = inside (place i e) (pass e.kind e.value) >>= λ _. pass_elements place pass (suc i) w
+
+-- the key at which a refusal stands that comes from a scope
+abbrev pub scope_key : Utf8
+scope_key = codes "$scope"
+
+-- What stands inside a value: the elements of a document, those of an array, those of a scope.
+abbrev pub pass_inside : ((ℕ → Element → Segment) → Bytes → Reading (Unit {0})) → RawValue → Reading (Unit {0})
+pass_inside pass (document bytes) = pass at_its_key bytes
+pass_inside pass (array bytes) = pass at_its_index bytes
+pass_inside pass (javascript_code_with_scope code scope) = under scope_key (pass at_its_key scope)
+pass_inside pass v = Ok tt
 
 -- a value that no field takes, with so many levels left: walked to its end and dropped
 abbrev pub ignores : ℕ → ElementType → Bytes → Reading (Unit {0})
-ignores zero k bytes = judged zero (value_in k bytes) >>= λ _. Ok tt
-ignores (suc levels) k bytes = judged (suc levels) (value_in k bytes) >>= pass_inside (ignores levels)
+ignores zero k bytes = faultless (value_in k bytes) >>= pass_inside (λ place inner. refused too_deep)
+ignores (suc levels) k bytes = faultless (value_in k bytes) >>= pass_inside (λ place inner. pass_elements place (ignores levels) 0 (walk inner))
 
 -- the number of a value that is one
 abbrev pub integer_of : RawValue → Reading ℤ
-integer_of (string t) = refused (invalid_type String)
 integer_of (int32 n) = Ok n
 integer_of (int64 n) = Ok n
-integer_of (document bytes) = refused (invalid_type EmbeddedDocument)
+integer_of v = refused (invalid_type (kind_of v))
+
+-- the bytes of a binary as a text: those of subtype 0 that are UTF-8
+abbrev pub text_of_binary : ℕ → Bytes → Reading Utf8
+text_of_binary zero bytes = if is_utf8 bytes then Ok bytes else refused not_utf8
+text_of_binary (suc subtype) bytes = refused (invalid_type Binary)
 
 -- the text of a value that is one
 abbrev pub text_of : RawValue → Reading Utf8
 text_of (string t) = Ok t
-text_of (int32 n) = refused (invalid_type Int32)
-text_of (int64 n) = refused (invalid_type Int64)
-text_of (document bytes) = refused (invalid_type EmbeddedDocument)
+text_of (binary subtype bytes) = text_of_binary subtype bytes
+text_of v = refused (invalid_type (kind_of v))
 
 -- the number as a value of an integer type, where it is one of the type
 abbrev pub read_integer : IntegerType → ℤ → Reading Value
@@ -73,12 +98,29 @@ abbrev pub read_leaf : LeafKind → RawValue → Reading Value
 read_leaf (numbers type) v = integer_of v >>= read_integer type
 read_leaf texts v = result_map value.str (text_of v)
 
--- the bytes of a value that is a document
+-- a value that no kind of serde's data model is: none of Double, String, EmbeddedDocument, Array, Boolean, Null, Int32 and Int64, and no
+-- binary of subtype 0
+abbrev pub is_extended : RawValue → Bool
+is_extended (double bytes) = false
+is_extended (string t) = false
+is_extended (document bytes) = false
+is_extended (array bytes) = false
+is_extended (boolean b) = false
+is_extended null = false
+is_extended (int32 n) = false
+is_extended (int64 n) = false
+is_extended (binary subtype bytes) = not (eqb subtype 0)
+is_extended v = true
+
+-- why a value that is neither a document nor an array is none: of an extended kind it is not read as a document yet
+abbrev pub no_document : RawValue → Cause
+no_document v = if is_extended v then not_built (kind_of v) else invalid_type (kind_of v)
+
+-- the bytes of a value that is a document; an array, which a struct takes too, is not read as one yet
 abbrev pub document_of : RawValue → Reading Bytes
-document_of (string t) = refused (invalid_type String)
-document_of (int32 n) = refused (invalid_type Int32)
-document_of (int64 n) = refused (invalid_type Int64)
 document_of (document bytes) = Ok bytes
+document_of (array bytes) = refused (not_built Array)
+document_of v = refused (no_document v)
 
 -- the place of the field that has a name, from 0
 abbrev pub one_further : Option ℕ → Option ℕ

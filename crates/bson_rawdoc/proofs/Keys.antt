@@ -1,15 +1,14 @@
--- The element at a key that is text, and at one that is not.
-use Rattle.std.proofs.Common.{◌≡◌, List, ℕ, Bool, true, false, cond, Option, Some, Ok, Err, refl, ap, sym, subst, ◌∙◌}
-use Rattle.std.specs.Prelude.{not}
+-- The element at a key that is a text and at one that is not, and a text.
+use Rattle.std.proofs.Common.{◌≡◌, List, ℕ, Bool, true, false, cond, Option, Some, Ok, Err, refl, ap, sym, ◌∙◌}
 use Rattle.std.specs.Str.{IsUtf8, is_utf8}
 use Rattle.std.proofs.lemmas.Str.{IsUtf8-from_is_utf8, is_utf8-from_IsUtf8}
 use Rattle.bson_base.specs.Text.{Bytes}
 use Rattle.bson_base.specs.Kind.{of_byte}
 use Rattle.bson_base.specs.declared.element_type.ElementType.{ElementType}
-use Rattle.bson_rawdoc.specs.Envelope.{is_closed, inside}
-use Rattle.bson_rawdoc.specs.RawValue.{string, text_in}
-use Rattle.bson_rawdoc.specs.declared.raw.Error.TheVariants.{KeyNotUtf8, NotUtf8, TextUnclosed}
-use Rattle.bson_rawdoc.specs.Walk.{cut_at_zero, of_kind, with_key, element_at}
+use Rattle.bson_rawdoc.specs.Extent.{cut_at_zero}
+use Rattle.bson_rawdoc.specs.RawValue.{utf8_in}
+use Rattle.bson_rawdoc.specs.declared.raw.Error.TheVariants.{KeyNotUtf8, NotUtf8}
+use Rattle.bson_rawdoc.specs.Walk.{of_kind, with_key, element_at}
 
 not_true : (b : Bool) → (b ≡ true → ⊥) → b ≡ false
 not_true true n = absurd (n refl)
@@ -27,12 +26,13 @@ module _ (b : ℕ) (bytes : Bytes) (key rest : Bytes) (cut : Some (key, rest) �
   unfolding element_at
   key_good o is u = ap (λ p. of_kind b key p rest) (sym is) ∙ sym (ap (with_key b) (sym cut) ∙ ap (λ t. cond t (of_kind b key (of_byte b) rest) (Err KeyNotUtf8)) (is_utf8-from_IsUtf8 key u))
 
-module _ (bytes : Bytes) (closed : is_closed bytes ≡ true) where
-  closed_text : (b : Bool) → is_utf8 (inside bytes) ≡ b → text_in bytes ≡ cond b (Ok (string (inside bytes))) (Err NotUtf8)
-  closed_text b e = ap (λ c. cond (not c) (Err TextUnclosed) (cond (is_utf8 (inside bytes)) (Ok (string (inside bytes))) (Err NotUtf8))) closed ∙ ap (λ c. cond c (Ok (string (inside bytes))) (Err NotUtf8)) e
+-- ---- bytes that are a text, and others
 
-  pub text_good : (t same : Bytes) → same ≡ inside bytes → t ≡ same → IsUtf8 same → Ok (string t) ≡ text_in bytes
-  text_good t same is e u = ap (λ x. Ok (string x)) (e ∙ is) ∙ sym (closed_text true (is_utf8-from_IsUtf8 (inside bytes) (subst IsUtf8 is u)))
+told : (bytes : Bytes) (b : Bool) → is_utf8 bytes ≡ b → utf8_in bytes ≡ cond b (Ok bytes) (Err NotUtf8)
+told bytes b e = ap (λ c. cond c (Ok bytes) (Err NotUtf8)) e
 
-  pub text_bad : (same : Bytes) → same ≡ inside bytes → ¬ (IsUtf8 same) → Err NotUtf8 ≡ text_in bytes
-  text_bad same is n = sym (closed_text false (not_text (inside bytes) (subst (λ x. ¬ (IsUtf8 x)) is n)))
+pub text_good : (t bytes : Bytes) → t ≡ bytes → IsUtf8 bytes → Ok t ≡ utf8_in bytes
+text_good t bytes e u = ap Ok e ∙ sym (told bytes true (is_utf8-from_IsUtf8 bytes u))
+
+pub text_bad : (bytes : Bytes) → ¬ (IsUtf8 bytes) → Err NotUtf8 ≡ utf8_in bytes
+text_bad bytes n = sym (told bytes false (not_text bytes n))

@@ -3,3 +3,4 @@ pub mod Cuts
 pub mod Keys
 pub mod Extents
 pub mod Taken
+pub mod Counts

@@ -7,18 +7,11 @@ use Rattle.bson_base.specs.Text.{Bytes, Utf8}
 use Rattle.bson_base.specs.Kind.{of_byte}
 use Rattle.bson_base.specs.declared.element_type.ElementType.{ElementType}
 use Rattle.bson_base.proofs.Outcomes.{bind_ok}
+use Rattle.bson_rawdoc.proofs.Cuts.{cut_parts}
 use Rattle.bson_rawdoc.specs.declared.raw.Error.{Error}
 use Rattle.bson_rawdoc.specs.declared.raw.Error.TheVariants.{KeyNotUtf8, BadExtent}
-use Rattle.bson_rawdoc.specs.Walk.{in_front, cut_at_zero, Element, extent, with_value, of_kind, with_key, element_at, Walk, ended, faulty, then_walk, walk_step, walk_within, walk_elements}
-
-front_shorter : (b : ℕ) (bs : Bytes) (o : Option (Bytes × Bytes)) (p : Bytes × Bytes) → ((q : Bytes × Bytes) → o ≡ Some q → length q.1 < length bs) → in_front b o ≡ Some p → length p.1 < length (b ∷ bs)
-front_shorter b bs None p h e = absurd cc
-front_shorter b bs (Some q) p h e = let is : (b ∷ q.0, q.1) ≡ p = cc in omega (arith, h q refl, ap (λ (r : Bytes × Bytes). length r.1) is)
-
-pub cut_shorter : (bs : Bytes) (p : Bytes × Bytes) → cut_at_zero bs ≡ Some p → length p.1 < length bs
-cut_shorter [] p e = absurd cc
-cut_shorter (zero ∷ bs) p e = let is : ([], bs) ≡ p = cc in omega (arith, ap (λ (r : Bytes × Bytes). length r.1) is)
-cut_shorter (suc b ∷ bs) p e = front_shorter (suc b) bs (cut_at_zero bs) p (cut_shorter bs) e
+use Rattle.bson_rawdoc.specs.Extent.{in_front, cut_at_zero, extent}
+use Rattle.bson_rawdoc.specs.Walk.{Element, with_value, of_kind, with_key, element_at, Walk, ended, faulty, then_walk, walk_step, walk_within, walk_elements}
 
 abbrev Found : Type 0
 Found = Result (Element × Bytes) Error
@@ -44,7 +37,7 @@ key_shorter : (b : ℕ) (bytes : Bytes) (o : Option (Bytes × Bytes)) (p : Eleme
 key_shorter b bytes None p cut e = absurd cc
 key_shorter b bytes (Some q) p cut e =
     let v = kind_shorter b q.0 (of_byte b) q.1 p (text_or (is_utf8 q.0) (of_kind b q.0 (of_byte b) q.1) p e) in
-    omega (arith, v, cut_shorter bytes q cut)
+    omega (arith, v, cut_parts bytes q cut)
 
 pub element_shorter : (b : ℕ) (bytes : Bytes) (p : Element × Bytes) → element_at b bytes ≡ Ok p → length p.1 < length bytes
 unfolding element_at

@@ -1,7 +1,11 @@
--- What contracts see of a `RawDocument`.
+-- What contracts see of a `RawDocument` and of a `RawArray`.
 use Rattle.bson_base.specs.Text.{Bytes}
 use Rattle.bson_rawdoc.specs.declared.document.RawDocument.{RawDocument}
+use Rattle.bson_rawdoc.specs.declared.array.RawArray.{RawArray}
 
 -- its bytes
 abbrev pub document_bytes : RawDocument → Bytes
 document_bytes d = d.bytes.now
+
+abbrev pub array_bytes : RawArray → Bytes
+array_bytes a = document_bytes a.document

@@ -1,5 +1,6 @@
 pub mod Numbers
 pub mod Envelope
+pub mod Extent
 pub mod Walk
 pub mod RawValue
 pub mod Stored

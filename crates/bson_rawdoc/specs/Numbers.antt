@@ -1,7 +1,11 @@
 -- Numbers in bytes. Source: bsonspec.org, version 1.1, basic types.
-use Rattle.std.specs.Prelude.{ℤ}
+use Rattle.std.specs.Prelude.{ℕ, ℤ}
 use Rattle.std.specs.Int.{w32, w64, from_le_bytes, cast_signed}
 use Rattle.bson_base.specs.Text.{Bytes}
+
+-- the number without a sign in the first four bytes, the low byte first
+unfoldable pub uint32_in : Bytes → ℕ
+uint32_in bytes = from_le_bytes w32 bytes
 
 -- the int32 in the first four bytes, the low byte first
 unfoldable pub int32_in : Bytes → ℤ

@@ -2,13 +2,8 @@
 use Rattle.std.specs.Prelude.{◌++◌, codes}
 use Rattle.std.specs.Fmt.{decimal}
 use Rattle.bson_base.specs.Text.{Utf8}
-use Rattle.bson_base.specs.Kind.{name}
 use Rattle.bson_rawdoc.specs.declared.raw.Error.{Error}
-use Rattle.bson_rawdoc.specs.declared.raw.Error.TheVariants.{TooShort, LengthDiffers, NoTerminator, KeyUnclosed, KeyNotUtf8, UnknownKind, BadExtent, NotUtf8, TextUnclosed, ValueUnclosed, NotBuilt}
-
--- a kind that is not built
-abbrev pub not_built_text : Utf8 → Utf8
-not_built_text k = codes "kind " ++ k ++ codes " is not built yet"
+use Rattle.bson_rawdoc.specs.declared.raw.Error.TheVariants.{TooShort, LengthDiffers, NoTerminator, KeyUnclosed, KeyNotUtf8, UnknownKind, BadExtent, NotUtf8, BadBoolean, TextUnclosed, InnerLength, ScopeTotal, ValueUnclosed}
 
 abbrev pub printed_fault : Error → Utf8
 printed_fault TooShort = codes "document too short"
@@ -19,6 +14,8 @@ printed_fault KeyNotUtf8 = codes "key is not UTF-8"
 printed_fault (UnknownKind b) = codes "unknown kind " ++ decimal b
 printed_fault BadExtent = codes "value out of bounds"
 printed_fault NotUtf8 = codes "text is not UTF-8"
+printed_fault (BadBoolean b) = codes "bad boolean " ++ decimal b
 printed_fault TextUnclosed = codes "text not terminated"
+printed_fault InnerLength = codes "wrong inner length"
+printed_fault ScopeTotal = codes "wrong scope length"
 printed_fault ValueUnclosed = codes "inner document not terminated"
-printed_fault (NotBuilt k) = not_built_text (name k)

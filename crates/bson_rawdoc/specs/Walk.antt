@@ -1,52 +1,20 @@
 -- The elements of a document in its bytes, up to the first fault. Source: bsonspec.org, version 1.1, `e_list` and `element`.
-use Rattle.std.specs.Prelude.{ℕ, zero, suc, ◌+◌, [], ◌∷◌, length, take, drop, if◌then◌else◌, nat_lt, pos, negsuc, ℤ, Option, Some, None, Result, Ok, Err}
+use Rattle.std.specs.Prelude.{ℕ, zero, suc, [], ◌∷◌, length, take, drop, if◌then◌else◌, nat_lt, Option, Some, None, Result, Ok, Err}
 use Rattle.std.specs.Str.{is_utf8}
 use Rattle.bson_base.specs.Text.{Bytes, Utf8}
 use Rattle.bson_base.specs.Kind.{of_byte}
-use Rattle.bson_base.specs.Outcome.{◌>>=◌, result_map}
+use Rattle.bson_base.specs.Outcome.{◌>>=◌}
 use Rattle.bson_base.specs.declared.element_type.ElementType.{ElementType}
-use Rattle.bson_base.specs.declared.element_type.ElementType.TheVariants.{EmbeddedDocument, Int32, Int64, String}
 use Rattle.bson_rawdoc.specs.Envelope.{inside}
-use Rattle.bson_rawdoc.specs.Numbers.{int32_in}
+use Rattle.bson_rawdoc.specs.Extent.{cut_at_zero, extent}
 use Rattle.bson_rawdoc.specs.declared.raw.Error.{Error}
-use Rattle.bson_rawdoc.specs.declared.raw.Error.TheVariants.{KeyUnclosed, KeyNotUtf8, UnknownKind, BadExtent, NotBuilt}
+use Rattle.bson_rawdoc.specs.declared.raw.Error.TheVariants.{KeyUnclosed, KeyNotUtf8, UnknownKind, BadExtent}
 
 -- an element: its kind, its key, and the bytes of its value
 pub record Element : Type 0 where
   pub kind : ElementType
   pub key : Utf8
   pub value : Bytes
-
-abbrev pub in_front : ℕ → Option (Bytes × Bytes) → Option (Bytes × Bytes)
-in_front b None = None
-in_front b (Some cut) = Some (b ∷ cut.0, cut.1)
-
--- the bytes before the first zero, and those behind it
-abbrev pub cut_at_zero : Bytes → Option (Bytes × Bytes)
-cut_at_zero [] = None
-cut_at_zero (zero ∷ bs) = Some ([], bs)
-cut_at_zero (suc b ∷ bs) = in_front (suc b) (cut_at_zero bs)
-
--- an announced length, which is at least this
-abbrev pub length_from : ℕ → ℤ → Result ℕ Error
-length_from least (pos n) = if nat_lt n least then Err BadExtent else Ok n
-length_from least (negsuc n) = Err BadExtent
-
--- the extent of a document: the length that it announces, which is at least five
-abbrev pub document_extent : Bytes → Result ℕ Error
-document_extent bytes = if nat_lt (length bytes) 5 then Err BadExtent else length_from 5 (int32_in bytes)
-
--- the extent of a text: its length, which is at least one for the zero behind it, and the four bytes that announce it
-abbrev pub text_extent : Bytes → Result ℕ Error
-text_extent bytes = if nat_lt (length bytes) 4 then Err BadExtent else result_map (λ n. n + 4) (length_from 1 (int32_in bytes))
-
--- how many bytes a value of the kind takes, of the bytes that begin with it
-abbrev pub extent : ElementType → Bytes → Result ℕ Error
-extent String bytes = text_extent bytes
-extent Int32 bytes = Ok 4
-extent Int64 bytes = Ok 8
-extent EmbeddedDocument bytes = document_extent bytes
-extent k bytes = Err (NotBuilt k)
 
 -- the element whose value begins these bytes, and the bytes behind it
 abbrev pub with_value : Utf8 → ElementType → Bytes → Result (Element × Bytes) Error

@@ -1,6 +1,7 @@
-ghost use Rattle.std.specs.Prelude.{◌≡◌, Ok};
+ghost use Rattle.std.specs.Prelude.{◌≡◌, ◌<◌, ◌^◌, Ok};
 ghost use Rattle.bson_base.specs.Outcome.{result_map};
 ghost use Rattle.bson_rawdoc.specs.Envelope.{envelope};
+ghost use Rattle.bson_rawdoc.specs.Next.{count};
 ghost use Rattle.bson_rawdoc.specs.Walk.{walk};
 
 use crate::iter::RawIter;
@@ -50,6 +51,8 @@ impl<'a> RawDocument<'a> {
     /// The elements of the document, one after another.
     pub fn iter_elements(self) -> RawIter<'a>
         ensures walk { result ≡ walk (document_bytes self.entry) }
+        // A document has fewer elements than it may have bytes.
+        ensures few { count result < 2 ^ 31 }
     {
         RawIter::over(self.bytes)
     }

@@ -1,27 +1,19 @@
-ghost use Rattle.std.specs.Prelude.{◌≡◌, ◌≤◌, Ok, length, IfOk};
+ghost use Rattle.std.specs.Prelude.{◌≡◌};
 ghost use Rattle.bson_base.specs.Outcome.{result_map};
 ghost use Rattle.bson_rawdoc.specs.Walk as walk;
-ghost use Rattle.bson_rawdoc.specs.RawValue.{string, text_in, value_in};
+ghost use Rattle.bson_rawdoc.specs.RawValue.{value_in};
 ghost use Rattle.bson_rawdoc.specs.ValueView.{raw_value};
 
-use crate::document::RawDocument;
+use crate::extent::extent;
+use crate::parts::{
+    array_in, binary_in, boolean_in, db_pointer_in, document_in, regex_in, scoped_code_in, text_in,
+    timestamp_in,
+};
 use crate::raw::Error;
-use crate::reading::{cut_at_zero, inside, int32_in, int64_in, is_closed};
-use bson_base::ElementType;
+use crate::reading::{cut_at_zero, fixed, int32_in, int64_in};
+use crate::value::RawBsonRef;
+use bson_base::{DateTime, Decimal128, Double, ElementType, ObjectId};
 use std::marker::Model;
-
-/// A value as it stands in the bytes of its document.
-#[derive(Clone, Copy, Debug)]
-pub enum RawBsonRef<'a> {
-    /// A UTF-8 text, lent from the document.
-    String(&'a str),
-    /// A document inside another.
-    Document(RawDocument<'a>),
-    /// A signed number of 32 bits.
-    Int32(i32),
-    /// A signed number of 64 bits.
-    Int64(i64),
-}
 
 /// An element of a document: its kind, its key, and the bytes of its value.
 #[derive(Debug, Drop)]
@@ -33,7 +25,8 @@ pub struct RawElement<'a> {
 
 impl<'a> Model for RawElement<'a> {
     ghost use Rattle.std.specs.Prelude.{◌≡◌, Ok, length};
-    ghost use Rattle.bson_rawdoc.specs.Walk.{Element, extent};
+    ghost use Rattle.bson_rawdoc.specs.Extent.{extent};
+    ghost use Rattle.bson_rawdoc.specs.Walk.{Element};
     ghost use Rattle.bson_rawdoc.specs.Stored.{coded_element};
 
     ghost Value = { Element };
@@ -71,80 +64,46 @@ impl<'a> RawElement<'a> {
     ///
     /// # Errors
     ///
-    /// The first fault of the value: of a text `TextUnclosed` where its last byte is not zero, then `NotUtf8` where it is not
-    /// UTF-8; of an inner document `ValueUnclosed` where its last byte is not zero.
+    /// The first fault of the value.
+    ///
+    /// - Of a text, a code, a symbol and a DbPointer: `TextUnclosed` where the text's last byte is not zero, then `NotUtf8`
+    ///   where it is not UTF-8.
+    /// - Of a document and an array: `ValueUnclosed` where the last byte is not zero.
+    /// - Of a binary of subtype 2: `InnerLength` where no second length stands before its bytes, or one that is not their count.
+    /// - Of a boolean: `BadBoolean` where its byte is neither 0 nor 1.
+    /// - Of a regular expression: `NotUtf8` where its pattern or its options are not UTF-8.
+    /// - Of a code with scope: `ScopeTotal` where the code's length is under 1 or leaves the scope less than five bytes, or the
+    ///   scope announces another length than what is left; then `TextUnclosed` and `NotUtf8` of the code; then
+    ///   `ValueUnclosed` of the scope.
     pub fn value(&self) -> Result<RawBsonRef<'a>, Error>
         ensures value { result_map raw_value result ≡ value_in self.now.kind self.now.value }
     {
-        match self.kind {
-            ElementType::String => Ok(RawBsonRef::String(text_in(self.slice)?)),
-            ElementType::Int32 => Ok(RawBsonRef::Int32(int32_in(self.slice))),
-            ElementType::Int64 => Ok(RawBsonRef::Int64(int64_in(self.slice))),
-            ElementType::EmbeddedDocument => {
-                if !is_closed(self.slice) {
-                    return Err(Error::ValueUnclosed);
-                }
-                Ok(RawBsonRef::Document(RawDocument::from_bytes(self.slice)?))
+        let bytes = self.slice;
+        Ok(match self.kind {
+            ElementType::Double => RawBsonRef::Double(Double(fixed(bytes))),
+            ElementType::String => RawBsonRef::String(text_in(bytes)?),
+            ElementType::EmbeddedDocument => RawBsonRef::Document(document_in(bytes)?),
+            ElementType::Array => RawBsonRef::Array(array_in(bytes)?),
+            ElementType::Binary => RawBsonRef::Binary(binary_in(bytes)?),
+            ElementType::Undefined => RawBsonRef::Undefined,
+            ElementType::ObjectId => RawBsonRef::ObjectId(ObjectId(fixed(bytes))),
+            ElementType::Boolean => RawBsonRef::Boolean(boolean_in(bytes[0])?),
+            ElementType::DateTime => RawBsonRef::DateTime(DateTime::from_millis(int64_in(bytes))),
+            ElementType::Null => RawBsonRef::Null,
+            ElementType::RegularExpression => RawBsonRef::RegularExpression(regex_in(bytes)?),
+            ElementType::DbPointer => RawBsonRef::DbPointer(db_pointer_in(bytes)?),
+            ElementType::JavaScriptCode => RawBsonRef::JavaScriptCode(text_in(bytes)?),
+            ElementType::Symbol => RawBsonRef::Symbol(text_in(bytes)?),
+            ElementType::JavaScriptCodeWithScope => {
+                RawBsonRef::JavaScriptCodeWithScope(scoped_code_in(bytes)?)
             }
-            kind => Err(Error::NotBuilt(kind)),
-        }
-    }
-}
-
-// How many bytes a value of the kind takes, of the bytes that begin with it.
-fn extent(kind: ElementType, bytes: &[u8]) -> Result<usize, Error>
-    ensures { result ≡ walk.extent kind bytes.now }
-{
-    match kind {
-        ElementType::String => text_extent(bytes),
-        ElementType::Int32 => Ok(4),
-        ElementType::Int64 => Ok(8),
-        ElementType::EmbeddedDocument => document_extent(bytes),
-        _ => Err(Error::NotBuilt(kind)),
-    }
-}
-
-// The length that an int32 announces, at least this.
-fn length_from(least: u32, announced: i32) -> Result<usize, Error>
-    ensures { result ≡ walk.length_from least announced }
-{
-    match u32::try_from(announced) {
-        Ok(length) if length >= least => Ok(length as usize),
-        _ => Err(Error::BadExtent),
-    }
-}
-
-// The extent of a document.
-fn document_extent(bytes: &[u8]) -> Result<usize, Error>
-    ensures { result ≡ walk.document_extent bytes.now }
-{
-    if bytes.len() < 5 {
-        return Err(Error::BadExtent);
-    }
-    length_from(5, int32_in(bytes))
-}
-
-// The extent of a text.
-fn text_extent(bytes: &[u8]) -> Result<usize, Error>
-    ensures { result ≡ walk.text_extent bytes.now }
-{
-    if bytes.len() < 4 {
-        return Err(Error::BadExtent);
-    }
-    Ok(length_from(1, int32_in(bytes))? + 4)
-}
-
-// The text between its length and the zero behind it.
-fn text_in(bytes: &[u8]) -> Result<&str, Error>
-    requires { 5 ≤ length bytes.now }
-    ensures { result_map (λ t. string t.now) result ≡ text_in bytes.now }
-{
-    if !is_closed(bytes) {
-        return Err(Error::TextUnclosed);
-    }
-    match str::from_utf8(inside(bytes)) {
-        Ok(text) => Ok(text),
-        Err(_) => Err(Error::NotUtf8),
+            ElementType::Int32 => RawBsonRef::Int32(int32_in(bytes)),
+            ElementType::Timestamp => RawBsonRef::Timestamp(timestamp_in(bytes)),
+            ElementType::Int64 => RawBsonRef::Int64(int64_in(bytes)),
+            ElementType::Decimal128 => RawBsonRef::Decimal128(Decimal128(fixed(bytes))),
+            ElementType::MaxKey => RawBsonRef::MaxKey,
+            ElementType::MinKey => RawBsonRef::MinKey,
+        })
     }
 }
 

@@ -1,16 +1,24 @@
 //! Documents as they stand in their bytes: the test of their envelope, their elements and values, without a copy.
 #![tactic(auto)]
 
+mod array;
 mod document;
 mod element;
+mod extent;
 mod iter;
+mod parts;
 pub mod raw;
 mod reading;
+mod value;
 
+pub use array::RawArray;
 pub use bson_io::{
     Failed, Ledger, MemorySink, MemorySource, Out, ReadAdapter, Sink, Source, SteadySink,
     SteadySource, Steps, Tally, WriteAdapter,
 };
 pub use document::RawDocument;
-pub use element::{RawBsonRef, RawElement};
+pub use element::RawElement;
 pub use iter::RawIter;
+pub use value::{
+    RawBinaryRef, RawBsonRef, RawDbPointerRef, RawJavaScriptCodeWithScopeRef, RawRegexRef,
+};

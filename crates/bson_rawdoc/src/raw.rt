@@ -1,4 +1,3 @@
-use bson_base::ElementType;
 use std::fmt;
 
 /// What is wrong with the bytes of a document.
@@ -22,12 +21,16 @@ pub enum Error {
     BadExtent,
     /// A text is not UTF-8.
     NotUtf8,
+    /// The byte of a boolean is neither 0 nor 1.
+    BadBoolean(u8),
     /// The last byte of a text is not zero.
     TextUnclosed,
-    /// The last byte of an inner document is not zero.
+    /// The second length of a binary of subtype 2 is not the count of the bytes behind it, or there is no room for it.
+    InnerLength,
+    /// The lengths of a code and of its scope do not agree with the total that is announced before them.
+    ScopeTotal,
+    /// The last byte of an inner document, an array or a scope is not zero.
     ValueUnclosed,
-    /// A value of this kind is not read yet.
-    NotBuilt(ElementType),
 }
 
 impl fmt::Display for Error {
@@ -46,9 +49,11 @@ impl fmt::Display for Error {
             Error::UnknownKind(b) => write!(f, "unknown kind {b}"),
             Error::BadExtent => f.write_str("value out of bounds"),
             Error::NotUtf8 => f.write_str("text is not UTF-8"),
+            Error::BadBoolean(b) => write!(f, "bad boolean {b}"),
             Error::TextUnclosed => f.write_str("text not terminated"),
+            Error::InnerLength => f.write_str("wrong inner length"),
+            Error::ScopeTotal => f.write_str("wrong scope length"),
             Error::ValueUnclosed => f.write_str("inner document not terminated"),
-            Error::NotBuilt(k) => write!(f, "kind {k} is not built yet"),
         }
     }
 }

@@ -1,8 +1,28 @@
 // Numbers, keys and closing bytes at the front of a slice.
-ghost use Rattle.std.specs.Prelude.{◌≡◌, ◌≤◌, length, option_map};
+ghost use Rattle.std.specs.Prelude.{◌≡◌, ◌≤◌, ◌+◌, length, option_map, IfSome};
 ghost use Rattle.bson_rawdoc.specs.Envelope as envelope;
 ghost use Rattle.bson_rawdoc.specs.Numbers as numbers;
-ghost use Rattle.bson_rawdoc.specs.Walk as walk;
+ghost use Rattle.bson_rawdoc.specs.Extent as extents;
+
+// The bytes, which are so many, as an array.
+pub(crate) fn fixed<const N: usize>(bytes: &[u8]) -> [u8; N]
+    requires { length bytes.now ≡ N }
+    ensures { result ≡ bytes.now }
+{
+    match bytes.as_array() {
+        Some(array) => *array,
+        None => unreachable!(),
+    }
+}
+
+// The number without a sign in the first four bytes.
+#[tactic(auto, unfolding(crate::specs::Numbers::uint32_in))]
+pub(crate) fn uint32_in(bytes: &[u8]) -> u32
+    requires { 4 ≤ length bytes.now }
+    ensures { result ≡ numbers.uint32_in bytes.now }
+{
+    u32::from_le_bytes([bytes[0], bytes[1], bytes[2], bytes[3]])
+}
 
 // The int32 in the first four bytes.
 #[tactic(auto, unfolding(crate::specs::Numbers::int32_in))]
@@ -45,7 +65,8 @@ pub(crate) fn inside(bytes: &[u8]) -> &[u8]
 
 // What stands before the first zero byte, and behind it.
 pub(crate) fn cut_at_zero(bytes: &[u8]) -> Option<(&[u8], &[u8])>
-    ensures { option_map (λ p. (p.0.now, p.1.now)) result ≡ walk.cut_at_zero bytes.now }
+    ensures cut { option_map (λ p. (p.0.now, p.1.now)) result ≡ extents.cut_at_zero bytes.now }
+    ensures parts { IfSome result (λ p. length p.0.now + 1 + length p.1.now ≡ length bytes.now) }
 {
     for (i, b) in bytes.iter().enumerate() {
         if *b == 0 {

@@ -1,0 +1,7 @@
+-- What contracts see of a `DateTime`.
+use Rattle.std.specs.Prelude.{ℤ}
+use Rattle.bson_base.specs.declared.date_time.DateTime.{DateTime}
+
+-- its milliseconds since the start of 1970
+abbrev pub millis : DateTime → ℤ
+millis d = d.0

@@ -1,0 +1,29 @@
+-- Values of the kinds that a reader does not name.
+use Rattle.std.proofs.Common.{◌≡◌, ℕ, zero, suc, ◌<◌, Bool, true, false, cond, Ok, Err, refl, ap, sym, ◌∙◌}
+use Rattle.std.specs.Str.{IsUtf8, is_utf8}
+use Rattle.std.proofs.lemmas.Str.{is_utf8-from_IsUtf8}
+use Rattle.bson_base.specs.Text.{Bytes, Utf8}
+use Rattle.bson_rawdoc.specs.ValueView.{raw_value}
+use Rattle.bson_rawdoc.specs.declared.array.RawArray.{RawArray}
+use Rattle.bson_rawdoc.specs.declared.document.RawDocument.{RawDocument}
+use Rattle.bson_rawdoc.specs.declared.value.RawBsonRef.{RawBsonRef}
+use Rattle.bson_rawdoc.specs.declared.value.RawBsonRef.TheVariants.{Document, Array}
+use Rattle.bson_rawdoc.proofs.Keys.{not_text}
+use Rattle.bson_datum.specs.Cause.{not_utf8}
+use Rattle.bson_laws.specs.Reads.{Reading, refused, no_document, document_of, text_of_binary}
+
+-- a value that is neither a document nor an array
+pub other_document : (v : RawBsonRef) → ((d : RawDocument) → v ≡ Document d → ⊥) → ((a : RawArray) → v ≡ Array a → ⊥) → document_of (raw_value v) ≡ refused (no_document (raw_value v))
+other_document (Document d) n m = absurd (n d refl)
+other_document (Array a) n m = absurd (m a refl)
+other_document v n m = refl
+
+text_or : (b : Bool) (bytes : Bytes) → is_utf8 bytes ≡ b → text_of_binary 0 bytes ≡ cond b (Ok bytes) (refused not_utf8)
+text_or b bytes e = ap (λ c. cond c (Ok bytes) (refused not_utf8)) e
+
+-- a binary of subtype 0 that is a text, and one that is not
+pub binary_good : (subtype : ℕ) (bytes t : Bytes) → subtype ≡ 0 → t ≡ bytes → IsUtf8 bytes → text_of_binary subtype bytes ≡ Ok t
+binary_good subtype bytes t none same u = ap (λ s. text_of_binary s bytes) none ∙ text_or true bytes (is_utf8-from_IsUtf8 bytes u) ∙ ap Ok (sym same)
+
+pub binary_bad : (subtype : ℕ) (bytes : Bytes) → subtype ≡ 0 → ¬ (IsUtf8 bytes) → text_of_binary subtype bytes ≡ refused not_utf8
+binary_bad subtype bytes none n = ap (λ s. text_of_binary s bytes) none ∙ text_or false bytes (not_text bytes n)

@@ -1,0 +1,182 @@
+// The parts of a value in its bytes, or its first fault.
+ghost use Rattle.std.specs.Prelude.{◌≡◌, ◌≤◌, pos, length, drop};
+ghost use Rattle.bson_base.specs.Outcome.{result_map};
+ghost use Rattle.bson_rawdoc.specs.DocumentView.{document_bytes, array_bytes};
+ghost use Rattle.bson_rawdoc.specs.Extent as extents;
+ghost use Rattle.bson_rawdoc.specs.Numbers as numbers;
+ghost use Rattle.bson_rawdoc.specs.RawValue as raw;
+
+use crate::array::RawArray;
+use crate::document::RawDocument;
+use crate::extent::two_texts_in;
+use crate::raw::Error;
+use crate::reading::{fixed, inside, int32_in, is_closed, uint32_in};
+use crate::value::{RawBinaryRef, RawDbPointerRef, RawJavaScriptCodeWithScopeRef, RawRegexRef};
+use bson_base::{BinarySubtype, ObjectId, Timestamp};
+
+// These bytes as a text.
+fn utf8_in(bytes: &[u8]) -> Result<&str, Error>
+    ensures { result_map (λ t. t.now) result ≡ raw.utf8_in bytes.now }
+{
+    match str::from_utf8(bytes) {
+        Ok(text) => Ok(text),
+        Err(_) => Err(Error::NotUtf8),
+    }
+}
+
+// The text between its length and the zero behind it.
+pub(crate) fn text_in(bytes: &[u8]) -> Result<&str, Error>
+    requires { 5 ≤ length bytes.now }
+    ensures { result_map (λ t. t.now) result ≡ raw.text_in bytes.now }
+{
+    if !is_closed(bytes) {
+        return Err(Error::TextUnclosed);
+    }
+    utf8_in(inside(bytes))
+}
+
+// A document that takes as many bytes as it announces.
+pub(crate) fn document_in(bytes: &[u8]) -> Result<RawDocument<'_>, Error>
+    requires long { 5 ≤ length bytes.now }
+    requires announced { numbers.int32_in bytes.now ≡ pos (length bytes.now) }
+    ensures { result_map document_bytes result ≡ raw.closed_in bytes.now }
+{
+    match RawDocument::from_bytes(bytes) {
+        Ok(document) => Ok(document),
+        Err(_) => Err(Error::ValueUnclosed),
+    }
+}
+
+// An array that takes as many bytes as it announces.
+pub(crate) fn array_in(bytes: &[u8]) -> Result<RawArray<'_>, Error>
+    requires long { 5 ≤ length bytes.now }
+    requires announced { numbers.int32_in bytes.now ≡ pos (length bytes.now) }
+    ensures { result_map array_bytes result ≡ raw.closed_in bytes.now }
+{
+    let document = document_in(bytes)?;
+    Ok(RawArray { document })
+}
+
+// A binary: its length, its subtype, and then its bytes.
+pub(crate) fn binary_in(bytes: &[u8]) -> Result<RawBinaryRef<'_>, Error>
+    requires { 5 ≤ length bytes.now }
+    ensures { result_map (λ b. (b.subtype.0, b.bytes.now)) result ≡ raw.binary_in bytes.now }
+{
+    let subtype = BinarySubtype(bytes[4]);
+    let bytes = bytes_of_subtype(subtype.0, &bytes[5..])?;
+    Ok(RawBinaryRef { subtype, bytes })
+}
+
+// The bytes of a binary of this subtype, behind its subtype.
+fn bytes_of_subtype(subtype: u8, counted: &[u8]) -> Result<&[u8], Error>
+    ensures { result_map (λ b. b.now) result ≡ raw.bytes_of_subtype subtype counted.now }
+{
+    if subtype == 2 {
+        return old_binary_in(counted);
+    }
+    Ok(counted)
+}
+
+// The bytes of the old subtype, behind their second length.
+fn old_binary_in(counted: &[u8]) -> Result<&[u8], Error>
+    ensures { result_map (λ b. b.now) result ≡ raw.old_binary_in counted.now }
+{
+    if counted.len() < 4 {
+        return Err(Error::InnerLength);
+    }
+    let bytes = &counted[4..];
+    if i64::from(int32_in(counted)) != bytes.len() as i64 {
+        return Err(Error::InnerLength);
+    }
+    Ok(bytes)
+}
+
+// A boolean: 0 or 1.
+pub(crate) fn boolean_in(byte: u8) -> Result<bool, Error>
+    ensures { result ≡ raw.boolean_of byte }
+{
+    match byte {
+        0 => Ok(false),
+        1 => Ok(true),
+        _ => Err(Error::BadBoolean(byte)),
+    }
+}
+
+// A pattern and its options.
+pub(crate) fn regex_in(bytes: &[u8]) -> Result<RawRegexRef<'_>, Error>
+    ensures { result_map (λ r. (r.pattern.now, r.options.now)) result ≡ raw.regex_of (extents.two_texts_in bytes.now) }
+{
+    let Some((pattern, options)) = two_texts_in(bytes) else {
+        return Err(Error::BadExtent);
+    };
+    let pattern = utf8_in(pattern)?;
+    let options = utf8_in(options)?;
+    Ok(RawRegexRef { pattern, options })
+}
+
+// A text, and an ObjectId behind it.
+pub(crate) fn db_pointer_in(bytes: &[u8]) -> Result<RawDbPointerRef<'_>, Error>
+    requires { 17 ≤ length bytes.now }
+    ensures { result_map (λ p. (p.namespace.now, p.id.0)) result ≡ raw.db_pointer_in bytes.now }
+{
+    let (text, id) = bytes.split_at(bytes.len() - 12);
+    let namespace = text_in(text)?;
+    Ok(RawDbPointerRef {
+        namespace,
+        id: ObjectId(fixed(id)),
+    })
+}
+
+// The code and the scope behind the total length.
+pub(crate) fn scoped_code_in(bytes: &[u8]) -> Result<RawJavaScriptCodeWithScopeRef<'_>, Error>
+    requires { 14 ≤ length bytes.now }
+    ensures { result_map (λ c. (c.code.now, document_bytes c.scope)) result ≡ raw.scoped_code_in bytes.now }
+{
+    let bytes = &bytes[4..];
+    scoped_code(int32_in(bytes), bytes)
+}
+
+// A code whose length is announced as this, and the scope behind it.
+fn scoped_code(announced: i32, bytes: &[u8]) -> Result<RawJavaScriptCodeWithScopeRef<'_>, Error>
+    ensures { result_map (λ c. (c.code.now, document_bytes c.scope)) result ≡ raw.scoped_code announced bytes.now }
+{
+    let Ok(length) = u32::try_from(announced) else {
+        return Err(Error::ScopeTotal);
+    };
+    let code_end = length as usize + 4;
+    if length < 1 || bytes.len() < code_end + 5 {
+        return Err(Error::ScopeTotal);
+    }
+    let (text, scope) = bytes.split_at(code_end);
+    if i64::from(int32_in(scope)) != scope.len() as i64 {
+        return Err(Error::ScopeTotal);
+    }
+    code_and_scope(text, scope)
+}
+
+// A code, and the scope that announces as many bytes as it has.
+fn code_and_scope<'a>(
+    text: &'a [u8],
+    scope: &'a [u8],
+) -> Result<RawJavaScriptCodeWithScopeRef<'a>, Error>
+    requires text { 5 ≤ length text.now }
+    requires scope { 5 ≤ length scope.now }
+    requires announced { numbers.int32_in scope.now ≡ pos (length scope.now) }
+    ensures { result_map (λ c. (c.code.now, document_bytes c.scope)) result ≡ raw.code_and_scope text.now scope.now }
+{
+    let code = text_in(text)?;
+    let scope = document_in(scope)?;
+    Ok(RawJavaScriptCodeWithScopeRef { code, scope })
+}
+
+// A timestamp: its increment, and then its time.
+pub(crate) fn timestamp_in(bytes: &[u8]) -> Timestamp
+    requires { 8 ≤ length bytes.now }
+    ensures time { result.time ≡ numbers.uint32_in (drop 4 bytes.now) }
+    ensures increment { result.increment ≡ numbers.uint32_in bytes.now }
+{
+    Timestamp {
+        time: uint32_in(&bytes[4..]),
+        increment: uint32_in(bytes),
+    }
+}
