@@ -1,3 +1,4 @@
 pub mod Outcomes
 pub mod Lengths
+pub mod Indexes
 pub mod KindBytes

@@ -3,6 +3,15 @@ use Rattle.std.proofs.Common.{◌≡◌, Option, Some, None, Result, Ok, Err, re
 use Rattle.std.specs.Prelude.{option_map, option_and_then}
 use Rattle.bson_base.specs.Outcome.{◌>>=◌, result_map}
 
+pub some_is : {A : Type 0} (x y : A) → Some x ≡ Some y → x ≡ y
+some_is x y e = cc
+
+abbrev pub done : {A E : Type 0} → A → Result A E
+done x = Ok x
+
+pub ok_is : {A E : Type 0} (x y : A) → done {A = A} {E = E} x ≡ done y → x ≡ y
+ok_is x y e = cc
+
 pub some_map : {A B : Type 0} (f : A → B) (o : Option A) (y : B) → option_map f o ≡ Some y → (x : A) × (o ≡ Some x) × (f x ≡ y)
 some_map f None y e = absurd cc
 some_map f (Some x) y e = (x, refl, cc)

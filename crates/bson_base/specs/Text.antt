@@ -1,10 +1,14 @@
 -- Texts and byte strings, as definitions see them.
-use Rattle.std.specs.Prelude.{◌≡◌, ℕ, List, [], ◌∷◌, Bool, false, true, ◌||◌, eqb}
+use Rattle.std.specs.Prelude.{◌≡◌, ℕ, ◌<◌, List, [], ◌∷◌, Bool, false, true, ◌||◌, eqb, All}
 use Rattle.std.specs.Str.{is_utf8}
 
 -- A byte string: each number is a byte.
 abbrev pub Bytes : Type 0
 Bytes = List ℕ
+
+-- each number is a byte
+abbrev pub AreBytes : Bytes → Type 0
+AreBytes = All (λ b. b < 256)
 
 -- A text, as its UTF-8 bytes.
 abbrev pub Utf8 : Type 0

@@ -8,12 +8,13 @@ use Rattle.std.specs.Cmp.Lexicographic.{pointwise}
 use Rattle.std.proofs.lemmas.Bool.{and_right}
 use Rattle.bson_datum.specs.TextView.{text_view}
 use Rattle.bson_datum.specs.PathView.{segment_view}
-use Rattle.bson_datum.specs.View.{view, fields_view}
-use Rattle.bson_datum.specs.Same.{same, same_fields, same_segment, same_path}
+use Rattle.bson_datum.specs.View.{view, items_view, fields_view}
+use Rattle.bson_datum.specs.Same.{same, same_items, same_fields, same_segment, same_path}
 use Rattle.bson_datum.specs.declared.text.Text.{Text}
 use Rattle.bson_datum.specs.declared.path.Segment.{Segment}
 use Rattle.bson_datum.specs.declared.datum.Field.{Field}
-use Rattle.bson_datum.specs.declared.datum.Datum.{Datum, Struct}
+use Rattle.bson_datum.specs.declared.datum.Datum.{Datum, Seq, Seq', Struct, Struct'}
+use Rattle.bson_datum.specs.declared.datum.Datum.TheViews.{roll-Datum, roll-out-Datum, rolls-Seq, outs-Seq', rolls-Struct, outs-Struct'}
 use Rattle.bson_datum.proofs.Views.{view-Struct}
 
 -- what a test that decides a fact answers says of the fact
@@ -27,15 +28,35 @@ same_segments [] (t ∷ ts) = refl
 same_segments (s ∷ ss) [] = refl
 same_segments (s ∷ ss) (t ∷ ts) = ap (λ b. same_segment (segment_view s) (segment_view t) && b) (same_segments ss ts)
 
+-- the values that a loop has left to compare
+abbrev pub same_items_from : ℕ → List Datum → List Datum → Bool
+same_items_from i ds es = same_items (items_view (drop i ds)) (items_view (drop i es))
+
+pub same_items-lengths : (ds es : List Datum) → (length ds ≡ length es → ⊥) → same_items (items_view ds) (items_view es) ≡ false
+same_items-lengths [] [] h = absurd (h refl)
+same_items-lengths [] (e ∷ es) h = refl
+same_items-lengths (d ∷ ds) [] h = refl
+same_items-lengths (d ∷ ds) (e ∷ es) h = and_right _ _ (same_items-lengths ds es (λ e. h (omega arith)))
+
 -- the fields that a loop has left to compare
-abbrev pub same_from : ℕ → List Field → List Field → Bool
-same_from i fs gs = same_fields (fields_view (drop i fs)) (fields_view (drop i gs))
+abbrev pub same_fields_from : ℕ → List Field → List Field → Bool
+same_fields_from i fs gs = same_fields (fields_view (drop i fs)) (fields_view (drop i gs))
 
 pub same_fields-lengths : (fs gs : List Field) → (length fs ≡ length gs → ⊥) → same_fields (fields_view fs) (fields_view gs) ≡ false
 same_fields-lengths [] [] h = absurd (h refl)
 same_fields-lengths [] (g ∷ gs) h = refl
 same_fields-lengths (f ∷ fs) [] h = refl
 same_fields-lengths (f ∷ fs) (g ∷ gs) h = and_right _ _ (same_fields-lengths fs gs (λ e. h (omega arith)))
+
+-- a sequence and a datum that is none
+pub unlike_sequence : (d e : Datum) (ds : Vec Datum) → d ≡ Seq ds → ((es : Vec Datum) → e ≡ Seq es → ⊥) → false ≡ same (view d) (view e)
+unlike_sequence d (Seq' shape rows) ds is none = absurd (none _ (sym (roll-out-Datum (Seq' shape rows)) ∙ ap roll-Datum (outs-Seq' shape rows) ∙ rolls-Seq _))
+unlike_sequence d e ds is none = sym (ap (λ x. same (view x) (view e)) is)
+
+-- a struct and a datum that is none
+pub unlike_struct : (d e : Datum) (n : Text) (fs : Vec Field) → d ≡ Struct n fs → ((m : Text) (gs : Vec Field) → e ≡ Struct m gs → ⊥) → false ≡ same (view d) (view e)
+unlike_struct d (Struct' m shape rows) n fs is none = absurd (none m _ (sym (roll-out-Datum (Struct' m shape rows)) ∙ ap roll-Datum (outs-Struct' m shape rows) ∙ rolls-Struct m _))
+unlike_struct d e n fs is none = sym (ap (λ x. same (view x) (view e)) is)
 
 -- two structs of one name
 pub same_structs : (d e : Datum) (n m : Text) (fs gs : Vec Field) (xs ys : List Field) → d ≡ Struct n fs → e ≡ Struct m gs → xs ≡ fs.items → ys ≡ gs.items → bytes_eq (text_view n) (text_view m) ≡ true

@@ -1,20 +1,30 @@
--- The value of a datum whose fields stand in a `Vec`.
+-- The value of a datum whose values or fields stand in a `Vec`.
 use Rattle.std.proofs.Common.{◌≡◌, refl, ap, ◌∙◌}
 use Rattle.std.specs.Global.{Vec}
 use Rattle.bson_datum.specs.TextView.{text_view}
-use Rattle.bson_datum.specs.Value.{structure, field_value}
-use Rattle.bson_datum.specs.View.{view, rows_view, fields_view}
+use Rattle.bson_datum.specs.Value.{sequence, item, structure, field_value}
+use Rattle.bson_datum.specs.View.{view, item_rows_view, items_view, rows_view, fields_view}
 use Rattle.bson_datum.specs.declared.text.Text.{Text}
 use Rattle.bson_datum.specs.declared.datum.Field.{Field}
-use Rattle.bson_datum.specs.declared.datum.Datum.TheBlock.{hidden-the_row-Field-0}
-use Rattle.bson_datum.specs.declared.datum.Datum.{Struct, Row_of-Field, end_of-Field, more_of-Field, items-the_row-Field, items_hidden-the_row-Field-0}
+use Rattle.bson_datum.specs.declared.datum.Datum.TheBlock.{hidden-the_row-Datum-0, hidden-the_row-Field-1}
+use Rattle.bson_datum.specs.declared.datum.Datum.{Datum, Seq, Struct, Row_of-Datum, end_of-Datum, more_of-Datum, items-the_row-Datum, items_hidden-the_row-Datum-0, Row_of-Field, end_of-Field, more_of-Field, items-the_row-Field, items_hidden-the_row-Field-1}
+
+item_rows_are : (m : _) (rows : Row_of-Datum m) → item_rows_view rows ≡ items_view (items-the_row-Datum m rows)
+item_rows_are m end_of-Datum = refl
+item_rows_are m (more_of-Datum d rest) = ap (item (view d)) (item_rows_are _ rest)
+
+pub item_rows_items : (ds : Vec Datum) → item_rows_view (hidden-the_row-Datum-0 ds) ≡ items_view ds.items
+item_rows_items ds = item_rows_are _ (hidden-the_row-Datum-0 ds) ∙ ap items_view (items_hidden-the_row-Datum-0 ds)
+
+pub view-Seq : (ds : Vec Datum) → view (Seq ds) ≡ sequence (items_view ds.items)
+view-Seq ds = ap sequence (item_rows_items ds)
 
 rows_are : (m : _) (rows : Row_of-Field m) → rows_view rows ≡ fields_view (items-the_row-Field m rows)
 rows_are m end_of-Field = refl
 rows_are m (more_of-Field name v rest) = ap (field_value (text_view name) (view v)) (rows_are _ rest)
 
-pub rows_items : (fs : Vec Field) → rows_view (hidden-the_row-Field-0 fs) ≡ fields_view fs.items
-rows_items fs = rows_are _ (hidden-the_row-Field-0 fs) ∙ ap fields_view (items_hidden-the_row-Field-0 fs)
+pub rows_items : (fs : Vec Field) → rows_view (hidden-the_row-Field-1 fs) ≡ fields_view fs.items
+rows_items fs = rows_are _ (hidden-the_row-Field-1 fs) ∙ ap fields_view (items_hidden-the_row-Field-1 fs)
 
 pub view-Struct : (n : Text) (fs : Vec Field) → view (Struct n fs) ≡ structure (text_view n) (fields_view fs.items)
 view-Struct n fs = ap (structure (text_view n)) (rows_items fs)

@@ -9,10 +9,10 @@ use Rattle.std.specs.Cmp.Lexicographic.{pointwise_decides}
 use Rattle.std.proofs.lemmas.Bool.{and_parts, and_from, false≢true}
 use Rattle.std.proofs.lemmas.Slice.Eq.{bytes_eq-Decides}
 use Rattle.bson_base.specs.Text.{Utf8}
-use Rattle.bson_datum.specs.Value.{IntegerType, i8, i16, i32, i64, u8, u16, u32, u64, Value, integer, str, structure, FieldValues, no_field_values, field_value}
+use Rattle.bson_datum.specs.Value.{IntegerType, i8, i16, i32, i64, u8, u16, u32, u64, Value, integer, str, sequence, structure, Items, no_items, item, FieldValues, no_field_values, field_value}
 use Rattle.bson_datum.specs.Refusal as refusal
 use Rattle.bson_datum.specs.Refusal.{at_key, at_index}
-use Rattle.bson_datum.specs.Same.{type_number, same_type, same, same_fields, same_field, same_segment, same_path}
+use Rattle.bson_datum.specs.Same.{type_number, same_type, same, same_items, same_fields, same_field, same_segment, same_path}
 use Rattle.bson_datum.specs.TextView.{text_view}
 use Rattle.bson_datum.specs.PathView.{path_view, segment_view}
 use Rattle.bson_datum.specs.View.{view, field_view}
@@ -50,10 +50,18 @@ mutual
       let b = and_parts (same_type type other) (int_eq m n) e in
       λ i. integer (type_same type other b.0 i) ((signed_Decides m n).0 b.1 i)
   same_is (str t) (str u) e = ap str ((bytes_eq-Decides t u).0 e)
+  same_is (sequence is) (sequence js) e = ap sequence (items_are is js e)
   same_is (structure name fs) (structure n gs) e =
       let b = and_parts (bytes_eq name n) (same_fields fs gs) e in
       λ i. structure ((bytes_eq-Decides name n).0 b.0 i) (fields_are fs gs b.1 i)
   same_is v w e = absurd (false≢true e)
+
+  items_are : (is js : Items) → same_items is js ≡ true → is ≡ js
+  items_are no_items no_items e = refl
+  items_are (item v is) (item w js) e =
+      let b = and_parts (same v w) (same_items is js) e in
+      λ i. item (same_is v w b.0 i) (items_are is js b.1 i)
+  items_are is js e = absurd (false≢true e)
 
   fields_are : (fs gs : FieldValues) → same_fields fs gs ≡ true → fs ≡ gs
   fields_are no_field_values no_field_values e = refl
@@ -67,7 +75,12 @@ mutual
   same_itself : (v : Value) → same v v ≡ true
   same_itself (integer type n) = and_from _ _ ((unsigned_Decides (type_number type) (type_number type)).1 refl) ((signed_Decides n n).1 refl)
   same_itself (str t) = bytes_alike t
+  same_itself (sequence is) = items_alike is
   same_itself (structure name fs) = and_from _ _ (bytes_alike name) (fields_alike fs)
+
+  items_alike : (is : Items) → same_items is is ≡ true
+  items_alike no_items = refl
+  items_alike (item v is) = and_from _ _ (same_itself v) (items_alike is)
 
   fields_alike : (fs : FieldValues) → same_fields fs fs ≡ true
   fields_alike no_field_values = refl

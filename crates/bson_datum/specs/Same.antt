@@ -4,7 +4,7 @@ use Rattle.std.specs.Ordering.{int_eq}
 use Rattle.std.specs.Str.{bytes_eq}
 use Rattle.std.specs.Cmp.Lexicographic.{pointwise}
 use Rattle.bson_base.specs.Text.{Utf8}
-use Rattle.bson_datum.specs.Value.{IntegerType, i8, i16, i32, i64, u8, u16, u32, u64, Value, integer, str, structure, FieldValues, no_field_values, field_value}
+use Rattle.bson_datum.specs.Value.{IntegerType, i8, i16, i32, i64, u8, u16, u32, u64, Value, integer, str, sequence, structure, Items, no_items, item, FieldValues, no_field_values, field_value}
 use Rattle.bson_datum.specs.Refusal.{Segment, Path, at_key, at_index}
 
 -- the number of an integer type
@@ -27,8 +27,15 @@ abbrev mutual
   pub same : Value → Value → Bool
   same (integer type m) (integer other n) = same_type type other && int_eq m n
   same (str t) (str u) = bytes_eq t u
+  same (sequence is) (sequence js) = same_items is js
   same (structure name fs) (structure n gs) = bytes_eq name n && same_fields fs gs
   same v w = false
+
+  -- there are as many values, and each is that of the other
+  pub same_items : Items → Items → Bool
+  same_items no_items no_items = true
+  same_items (item v is) (item w js) = same v w && same_items is js
+  same_items is js = false
 
   -- there are as many fields, and each has the name and the value of the other
   pub same_fields : FieldValues → FieldValues → Bool

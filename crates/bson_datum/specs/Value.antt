@@ -3,7 +3,7 @@ use Rattle.std.specs.Prelude.{ℤ, pos, negsuc, Bool, ◌&&◌, not, int_lt, Opt
 use Rattle.bson_base.specs.Text.{Utf8}
 use Rattle.bson_base.specs.Reserved.{reserved_kind}
 use Rattle.bson_base.specs.declared.element_type.ElementType.{ElementType}
-use Rattle.bson_base.specs.declared.element_type.ElementType.TheVariants.{EmbeddedDocument, Int32, Int64, String}
+use Rattle.bson_base.specs.declared.element_type.ElementType.TheVariants.{Array, EmbeddedDocument, Int32, Int64, String}
 
 -- the integer types
 pub data IntegerType : Type 0 where
@@ -58,7 +58,13 @@ mutual
   pub data Value : Type 0 where
     integer : (type : IntegerType) → (number : ℤ) → Value
     str : Utf8 → Value
+    sequence : (items : Items) → Value
     structure : (name : Utf8) → (fields : FieldValues) → Value
+
+  -- the values of a sequence, in order
+  pub data Items : Type 0 where
+    no_items : Items
+    item : (value : Value) → (rest : Items) → Items
 
   -- the fields of a struct with their values, in order
   pub data FieldValues : Type 0 where
@@ -77,4 +83,5 @@ struct_kind name = reserved_or_document (reserved_kind name)
 abbrev pub kind_of : Value → ElementType
 kind_of (integer type n) = written_as type
 kind_of (str t) = String
+kind_of (sequence is) = Array
 kind_of (structure name fs) = struct_kind name

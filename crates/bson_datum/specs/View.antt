@@ -2,9 +2,9 @@
 use Rattle.std.specs.Prelude.{pos, List, [], ◌∷◌}
 use Rattle.bson_base.specs.Text.{Utf8}
 use Rattle.bson_datum.specs.TextView.{text_view}
-use Rattle.bson_datum.specs.Value.{Value, integer, i8, i16, i32, i64, u8, u16, u32, u64, str, structure, FieldValues, no_field_values, field_value}
+use Rattle.bson_datum.specs.Value.{Value, integer, i8, i16, i32, i64, u8, u16, u32, u64, str, sequence, structure, Items, no_items, item, FieldValues, no_field_values, field_value}
 use Rattle.bson_datum.specs.declared.datum.Field.{Field}
-use Rattle.bson_datum.specs.declared.datum.Datum.{Datum, I8, I16, I32, I64, U8, U16, U32, U64, Str, Struct', Row_of-Field, end_of-Field, more_of-Field}
+use Rattle.bson_datum.specs.declared.datum.Datum.{Datum, I8, I16, I32, I64, U8, U16, U32, U64, Str, Seq', Struct', Row_of-Datum, end_of-Datum, more_of-Datum, Row_of-Field, end_of-Field, more_of-Field}
 
 abbrev mutual
   pub view : Datum → Value
@@ -17,11 +17,21 @@ abbrev mutual
   view (U32 n) = integer u32 (pos n)
   view (U64 n) = integer u64 (pos n)
   view (Str t) = str (text_view t)
+  view (Seq' shape rows) = sequence (item_rows_view rows)
   view (Struct' name shape rows) = structure (text_view name) (rows_view rows)
+
+  pub item_rows_view : {m : _} → Row_of-Datum m → Items
+  item_rows_view end_of-Datum = no_items
+  item_rows_view (more_of-Datum d rest) = item (view d) (item_rows_view rest)
 
   pub rows_view : {m : _} → Row_of-Field m → FieldValues
   rows_view end_of-Field = no_field_values
   rows_view (more_of-Field name v rest) = field_value (text_view name) (view v) (rows_view rest)
+
+-- the same for the data of a `Vec` or a slice
+abbrev pub items_view : List Datum → Items
+items_view [] = no_items
+items_view (d ∷ ds) = item (view d) (items_view ds)
 
 -- the same for the fields of a `Vec` or a slice
 abbrev pub fields_view : List Field → FieldValues

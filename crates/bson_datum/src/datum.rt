@@ -38,6 +38,8 @@ pub enum Datum<'a> {
     U64(u64),
     /// A text.
     Str(Text<'a>),
+    /// A sequence of values, in order.
+    Seq(Vec<Datum<'a>>),
     /// A struct with a name and fields in order.
     Struct {
         /// The name of the struct.
@@ -58,6 +60,7 @@ impl Datum<'_> {
             }
             Datum::I64(_) | Datum::U32(_) | Datum::U64(_) => ElementType::Int64,
             Datum::Str(_) => ElementType::String,
+            Datum::Seq(_) => ElementType::Array,
             Datum::Struct { name, .. } => struct_kind(name),
         }
     }

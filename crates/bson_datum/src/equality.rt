@@ -2,8 +2,8 @@ ghost use Rattle.std.specs.Prelude.{◌≡◌, ◌↔◌, IsTrue};
 ghost use Rattle.std.specs.Str.{bytes_eq};
 ghost use Rattle.bson_datum.specs.TextView.{text_view};
 ghost use Rattle.bson_datum.specs.PathView.{path_view, segment_view};
-ghost use Rattle.bson_datum.specs.View.{view, field_view, fields_view};
-ghost use Rattle.bson_datum.specs.Same.{same, same_fields, same_field, same_segment, same_path};
+ghost use Rattle.bson_datum.specs.View.{view, items_view, field_view, fields_view};
+ghost use Rattle.bson_datum.specs.Same.{same, same_items, same_fields, same_field, same_segment, same_path};
 
 use crate::{Datum, Field, Path, Segment, Text};
 
@@ -103,7 +103,7 @@ impl PartialEq for Datum<'_> {
 
 // Whether two data stand for one value.
 #[cycle(same)]
-#[tactic(auto, using(crate::proofs::Views::rows_items))]
+#[tactic(auto, using(crate::proofs::Views::item_rows_items, crate::proofs::Sames::unlike_sequence, crate::proofs::Sames::unlike_struct))]
 fn is_same(a: &Datum<'_>, b: &Datum<'_>) -> bool
     ensures { result ≡ same (view a.now) (view b.now) }
 {
@@ -117,20 +117,37 @@ fn is_same(a: &Datum<'_>, b: &Datum<'_>) -> bool
         (Datum::U32(number), Datum::U32(other)) => number == other,
         (Datum::U64(number), Datum::U64(other)) => number == other,
         (Datum::Str(text), Datum::Str(other)) => text == other,
+        (Datum::Seq(items), Datum::Seq(others)) => are_same_items(items, others),
         (
             Datum::Struct { name, fields },
             Datum::Struct {
                 name: other,
                 fields: others,
             },
-        ) => name == other && are_same(fields, others),
+        ) => name == other && are_same_fields(fields, others),
         _ => false,
     }
 }
 
+// Whether as many data stand in both, equal one by one.
+#[cycle(same)]
+fn are_same_items(a: &[Datum<'_>], b: &[Datum<'_>]) -> bool
+    ensures { result ≡ same_items (items_view a.now) (items_view b.now) }
+{
+    if a.len() != b.len() {
+        return false;
+    }
+    for (i, item) in a.iter().enumerate() {
+        if !is_same(item, &b[i]) {
+            return false;
+        }
+    }
+    true
+}
+
 // Whether as many fields stand in both, equal one by one.
 #[cycle(same)]
-fn are_same(a: &[Field<'_>], b: &[Field<'_>]) -> bool
+fn are_same_fields(a: &[Field<'_>], b: &[Field<'_>]) -> bool
     ensures { result ≡ same_fields (fields_view a.now) (fields_view b.now) }
 {
     if a.len() != b.len() {

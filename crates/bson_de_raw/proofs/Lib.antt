@@ -1,7 +1,8 @@
 pub mod Refusals
+pub mod Items
 pub mod Places
 pub mod Filled
 pub mod Finished
 pub mod Passed
-pub mod ReadBack
 pub mod OtherKinds
+pub mod ReadBack

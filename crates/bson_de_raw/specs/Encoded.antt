@@ -9,7 +9,7 @@ use Rattle.bson_rawdoc.specs.RawValue.{RawValue, value_in}
 use Rattle.bson_rawdoc.specs.declared.raw.Error as raw_error
 use Rattle.bson_shape.specs.Form.{Form}
 use Rattle.bson_datum.specs.Value.{Value}
-use Rattle.bson_laws.specs.Reads.{Reading, judged, document_of, reads}
+use Rattle.bson_laws.specs.Reads.{Reading, judged, array_of, document_of, reads}
 use Rattle.bson_de_raw.specs.declared.encoded.Encoded.{Encoded}
 use Rattle.bson_de_raw.specs.declared.encoded.Encoded.TheVariants.{Document, Element}
 
@@ -30,6 +30,10 @@ raw_in v = value_in (encoded_kind v) (encoded_bytes v)
 -- the bytes of a value that is a document, where a level is left for it
 abbrev pub entered : ℕ → Encoded → Reading Bytes
 entered levels v = judged levels (raw_in v) >>= document_of
+
+-- the bytes of a value that is an array, where a level is left for it
+abbrev pub entered_array : ℕ → Encoded → Reading Bytes
+entered_array levels v = judged levels (raw_in v) >>= array_of
 
 -- the value at a shape, with so many levels left
 abbrev pub reads_encoded : Form → ℕ → Encoded → Reading Value

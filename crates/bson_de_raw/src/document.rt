@@ -16,15 +16,17 @@ use bson_rawdoc::RawDocument;
 use bson_shape::Shape;
 use std::alloc::Global;
 
-/// The most levels of documents inside one another, the whole document included.
+/// The most levels of documents and arrays inside one another, the whole document included.
 const MAX_LEVELS: u32 = 200;
 
 /// The value that the bytes of a document are at a shape, by serde's data model.
 ///
-/// An integer type takes an Int32 or an Int64 whose number lies in its range; `string` takes a String.
-/// A struct takes each of its fields from the element that has the field's name as its key, in any
-/// order; elements of other keys are walked to their ends and dropped. The names in the value are
-/// copies of those in the shape, the texts copies of those in the document.
+/// An integer type takes an Int32 or an Int64 whose number lies in its range; `string` takes a String,
+/// and a Binary of subtype 0 whose bytes are UTF-8. A sequence takes the elements of an array in order;
+/// their keys are not looked at. A struct takes each of its fields from the element that has the
+/// field's name as its key, in any order; elements of other keys are walked to their ends, those of
+/// every document, array and scope in them too, and dropped. The names in the value are copies of those
+/// in the shape, the texts copies of those in the document.
 ///
 /// Keys in the shape's order are found at once. The first other key of a struct with sixteen or more
 /// fields has the names put into a map, where it and each key after it that is not found at once is
@@ -35,13 +37,18 @@ const MAX_LEVELS: u32 = 200;
 ///
 /// - `DeserializationError` with `Raw`, without a path, exactly where the envelope refuses the bytes:
 ///   they are fewer than five, they announce another length than theirs, or the last is not zero.
-/// - `WithPath` round a `DeserializationError`, with the path of the value that is refused; the path of
-///   the document itself is empty. The first refusal in the order of the bytes is answered, and its
+/// - `WithPath` round a `DeserializationError`, with the path of the value that is refused: the keys and
+///   the indexes that lead to it. The path of the document itself is empty. A value in the scope of a
+///   code has `$scope` behind the code's own path. The first refusal in the order of the bytes is answered, and its
 ///   cause is one of these.
 ///   - `Raw`: a fault of the bytes, before any shape looks at the value.
-///   - `TooDeep`: a document at level 201.
+///   - `TooDeep`: a document, an array or a scope at level 201.
 ///   - `InvalidType`: a value of another kind than the shape takes.
+///   - `NotBuilt`: at a struct an array, or a value of a kind that serde's data model lacks (ObjectId,
+///     DateTime, Binary of a subtype other than 0, and the like). A struct is to take both; neither is
+///     built yet.
 ///   - `OutOfRange`: a number that does not lie in the range of the shape's integer type.
+///   - `NotUtf8`: at `string` a Binary of subtype 0 whose bytes are not UTF-8.
 ///   - `DuplicateField`: a second element of a field; its value is not looked at.
 ///   - `MissingField`: at the end of a document, the first field in the shape's order without an element.
 /// - `NoMemory` where memory ran out.

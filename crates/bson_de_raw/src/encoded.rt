@@ -1,17 +1,17 @@
 ghost use Rattle.std.specs.Prelude.{◌≡◌};
 ghost use Rattle.bson_base.specs.Outcome.{result_map};
 ghost use Rattle.bson_rawdoc.specs.ValueView.{raw_value};
-ghost use Rattle.bson_rawdoc.specs.DocumentView.{document_bytes};
+ghost use Rattle.bson_rawdoc.specs.DocumentView.{array_bytes, document_bytes};
 ghost use Rattle.bson_datum.specs.ErrorView.{cause_view};
 ghost use Rattle.bson_laws.specs.Reads as reads;
 ghost use Rattle.bson_laws.specs.Reads.{judged};
-ghost use Rattle.bson_de_raw.specs.Encoded.{raw_in, entered};
+ghost use Rattle.bson_de_raw.specs.Encoded.{raw_in, entered, entered_array};
 ghost use Rattle.bson_de_raw.specs.Gives.{Reaches};
 
 use crate::reading::{Reading, refused};
 use bson_base::ElementType;
 use bson_datum::Cause;
-use bson_rawdoc::{RawBsonRef, RawDocument, RawElement, raw};
+use bson_rawdoc::{RawArray, RawBsonRef, RawDocument, RawElement, raw};
 use std::alloc::Global;
 
 /// A value in its bytes.
@@ -52,6 +52,16 @@ impl<'de> Encoded<'_, 'de> {
     {
         let value = self.judge(alloc, levels)?;
         document(alloc, value)
+    }
+
+    /// The array that the value is, where a level is left for it.
+    pub(crate) fn enter_array(self, alloc: Global, levels: u32) -> Reading<RawArray<'de>>
+        ensures { Reaches array_bytes result (entered_array levels self.entry) }
+    {
+        match self.judge(alloc, levels)? {
+            RawBsonRef::Array(array) => Ok(array),
+            other => Err(refused(alloc, Cause::InvalidType(other.element_type()))),
+        }
     }
 }
 

@@ -1,10 +1,10 @@
 ghost use Rattle.std.specs.Prelude.{◌≡◌, IfOk, length};
-ghost use Rattle.bson_rawdoc.specs.DocumentView.{document_bytes};
+ghost use Rattle.bson_rawdoc.specs.DocumentView.{array_bytes, document_bytes};
 ghost use Rattle.bson_rawdoc.specs.Walk.{walk};
 ghost use Rattle.bson_shape.specs.Form as form;
 ghost use Rattle.bson_shape.specs.Makers.{AreDistinct};
 ghost use Rattle.bson_shape.specs.ShapeView.{fields_of};
-ghost use Rattle.bson_datum.specs.View.{view};
+ghost use Rattle.bson_datum.specs.View.{view, items_view};
 ghost use Rattle.bson_laws.specs.Reads as reads;
 ghost use Rattle.bson_de_raw.specs.Encoded.{reads_encoded};
 ghost use Rattle.bson_de_raw.specs.Gives.{Reaches};
@@ -17,7 +17,7 @@ use crate::leaf::read_leaf;
 use crate::reading::{Reading, refused};
 use crate::slots::Slots;
 use bson_datum::{Cause, Datum, Text};
-use bson_rawdoc::{RawDocument, RawElement};
+use bson_rawdoc::{RawArray, RawDocument, RawElement};
 use bson_shape::{FieldShape, Form, Shape};
 use std::alloc::Global;
 
@@ -34,8 +34,52 @@ pub(crate) fn read_value<'de>(
     shape.known();
     match shape.form() {
         Form::Leaf(leaf) => read_leaf(alloc, leaf, value.judge(alloc, levels)?),
+        Form::Seq(item) => read_sequence(alloc, item, levels, value),
         Form::Struct(name, fields) => read_struct(alloc, name, fields, levels, value),
     }
+}
+
+/// The value at a sequence whose items have this shape.
+#[cycle(read)]
+fn read_sequence<'de>(
+    alloc: Global,
+    item: &Shape,
+    levels: u32,
+    value: Encoded<'_, 'de>,
+) -> Reading<Datum<'de>>
+    ensures { Reaches view result (reads_encoded (form.sequence item.now) levels value.entry) }
+{
+    let array = value.enter_array(alloc, levels)?;
+    let items = read_items(alloc, item, levels - 1, array)?;
+    Ok(Datum::Seq(items))
+}
+
+/// The items of an array, each at this shape, with so many levels left inside it.
+#[cycle(read)]
+fn read_items<'de>(
+    alloc: Global,
+    item: &Shape,
+    levels: u32,
+    array: RawArray<'de>,
+) -> Reading<Vec<Datum<'de>>>
+    ensures { Reaches (λ v. items_view v.items) result
+        (reads.reads_items (reads.reads item.now levels) 0 (walk (array_bytes array.entry))) }
+{
+    let mut items = Vec::new(alloc);
+    let mut elements = array.as_doc().iter_elements();
+    let mut index = 0;
+    while let Some(step) = elements.next() {
+        let element = match step {
+            Ok(element) => element,
+            Err(fault) => return Err(refused(alloc, Cause::Raw(fault))),
+        };
+        match read_value(alloc, item, levels, Encoded::Element(&element)) {
+            Ok(value) => items.push(value)?,
+            Err(stop) => return Err(stop.under_index(index)),
+        }
+        index += 1;
+    }
+    Ok(items)
 }
 
 /// The value at a struct of this name with these fields.

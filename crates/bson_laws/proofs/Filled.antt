@@ -1,77 +1,24 @@
 -- Fields that are filled by their keys, in any order.
-use Rattle.std.proofs.Common.{◌≡◌, ℕ, zero, suc, ◌+◌, ◌^◌, ◌<◌, ◌≤◌, [], ◌∷◌, length, get_or, set, Bool, true, false, cond, Option, Some, None, Ok, Err, refl, ap, sym, subst, ◌∙◌, arith, eqb}
+use Rattle.std.proofs.Common.{◌≡◌, ℕ, zero, suc, ◌^◌, ◌<◌, ◌≤◌, [], ◌∷◌, length, get_or, set, Bool, true, false, cond, Option, Some, None, Ok, refl, ap, sym, subst, ◌∙◌, arith}
 use Rattle.std.specs.Prelude.{is_some, option_map, option_and_then}
 use Rattle.std.specs.Str.{bytes_eq}
-use Rattle.std.proofs.lemmas.Bool.Decides.{nat_tests}
-use Rattle.bson_base.specs.Text.{Bytes, Utf8}
+use Rattle.bson_base.specs.Text.{Utf8}
 use Rattle.bson_base.specs.Outcome.{◌>>=◌, result_map}
 use Rattle.bson_base.specs.Sound.{IsClean, ArePairsClean, Lacks}
-use Rattle.bson_base.specs.Tree.{Tree, string, int32, int64, document, Pairs, no_pairs, pair, kind, enc, elements, depth, pairs_depth}
-use Rattle.bson_base.proofs.Lengths.{head_size, tail_size, elements_size}
-use Rattle.bson_base.proofs.Outcomes.{some_map, some_then}
-use Rattle.bson_rawdoc.specs.RawValue as raw_value
-use Rattle.bson_rawdoc.specs.RawValue.{RawValue, value_in}
-use Rattle.bson_rawdoc.specs.Walk.{Element, walk, walk_elements}
+use Rattle.bson_base.specs.Tree.{Tree, Pairs, no_pairs, pair, kind, enc, elements, depth, pairs_depth}
+use Rattle.bson_base.proofs.Lengths.{head_size, tail_size}
+use Rattle.bson_base.proofs.Outcomes.{some_is, some_map, some_then}
+use Rattle.bson_rawdoc.specs.Walk.{Element, walk_elements}
 use Rattle.bson_rawdoc.proofs.Walks.{walk-nil}
 use Rattle.bson_shape.specs.Form.{Form, Fields, no_fields, field}
 use Rattle.bson_datum.specs.Value.{Value, FieldValues, no_field_values, field_value}
-use Rattle.bson_datum.specs.Cause.{too_deep, duplicate_field}
-use Rattle.bson_datum.specs.Refusal.{Segment, under}
-use Rattle.bson_laws.specs.Reads.{Reading, refused, faultless, with_level, judged, at_its_key, pass_elements, pass_inside, ignores, one_further, place_of, Slots, no_slots, fill_found, fill_one, fill, finish, reads_field}
+use Rattle.bson_datum.specs.Cause.{duplicate_field}
+use Rattle.bson_datum.specs.Refusal.{under}
+use Rattle.bson_laws.specs.Reads.{Reading, refused, one_further, place_of, Slots, no_slots, fill_found, fill_one, fill, finish, reads_field}
 use Rattle.bson_laws.specs.Views.{lookup, views, views_fields}
-use Rattle.bson_laws.proofs.Spelled.{tree_is}
 use Rattle.bson_laws.proofs.Fitted.{bytes_same, Unnamed}
-use Rattle.bson_laws.proofs.Encoded.{elem, inside_again, text_again, document_again, walk_again}
-
--- ---- documents
-
-suc_not_zero : (n : ℕ) → eqb (suc n) 0 ≡ false
-suc_not_zero n = grind (arith, nat_tests)
-
-go_on : (d : Bool) (x y : Reading RawValue) → d ≡ false → cond d x y ≡ y
-go_on true x y e = absurd cc
-go_on false x y e = refl
-
-level_left : (levels : ℕ) (b : Bytes) → 0 < levels → with_level levels (raw_value.document b) ≡ Ok (raw_value.document b)
-level_left zero b h = absurd (omega arith)
-level_left (suc n) b h = go_on (eqb (suc n) 0) (refused too_deep) (Ok (raw_value.document b)) (suc_not_zero n)
-
--- an encoded document is a document, where a level is left
-pub judged_again : (levels : ℕ) (ps : Pairs) → 0 < levels → judged levels (value_in (kind (document ps)) (enc (document ps))) ≡ Ok (raw_value.document (enc (document ps)))
-judged_again levels ps h = ap (λ r. faultless (result_map raw_value.document r) >>= with_level levels) (document_again ps) ∙ level_left levels (enc (document ps)) h
-
-pub walk_inside : (ps : Pairs) → walk (enc (document ps)) ≡ walk_elements (elements ps)
-walk_inside ps = ap walk_elements (inside_again (length (elements ps) + 5) (elements ps))
-
--- ---- what no field names
-
--- what stands inside a value that is dropped, with so many levels left inside it
-abbrev pass_on : ℕ → (ℕ → Element → Segment) → Bytes → Reading (Unit {0})
-pass_on n place inner = pass_elements place (ignores n) 0 (walk inner)
-
-abbrev pass_none : (ℕ → Element → Segment) → Bytes → Reading (Unit {0})
-pass_none place inner = refused too_deep
-
-mutual
-  pub ignores_again : (t : Tree) (levels : ℕ) → IsClean t → depth t ≤ levels → length (enc t) < 2 ^ 31 → ignores levels (kind t) (enc t) ≡ Ok tt
-  ignores_again (string t) zero c d l = ap (λ r. faultless (result_map raw_value.string r) >>= pass_inside pass_none) (text_again t c)
-  ignores_again (string t) (suc n) c d l = ap (λ r. faultless (result_map raw_value.string r) >>= pass_inside (pass_on n)) (text_again t c)
-  ignores_again (int32 z) zero c d l = refl
-  ignores_again (int32 z) (suc n) c d l = refl
-  ignores_again (int64 z) zero c d l = refl
-  ignores_again (int64 z) (suc n) c d l = refl
-  ignores_again (document ps) zero c d l = absurd (omega arith)
-  ignores_again (document ps) (suc n) c d l =
-      ap (λ r. faultless (result_map raw_value.document r) >>= pass_inside (pass_on n)) (document_again ps)
-      ∙ ap (pass_elements at_its_key (ignores n) 0) (walk_inside ps)
-      ∙ pass_pairs_again ps n 0 c (omega arith) (omega (arith, elements_size ps))
-
-  pub pass_pairs_again : (ps : Pairs) (n i : ℕ) → ArePairsClean ps → pairs_depth ps ≤ n → length (elements ps) < 2 ^ 31 → pass_elements at_its_key (ignores n) i (walk_elements (elements ps)) ≡ Ok tt
-  pass_pairs_again no_pairs n i c d l = ap (pass_elements at_its_key (ignores n) i) walk-nil
-  pass_pairs_again (pair k t ps) n i c d l =
-      ap (pass_elements at_its_key (ignores n) i) (walk_again k t ps c.0 (omega (arith, head_size k t ps)))
-      ∙ ap (λ r. under k r >>= λ _. pass_elements at_its_key (ignores n) (suc i) (walk_elements (elements ps))) (ignores_again t n c.2 (omega arith) (omega (arith, head_size k t ps)))
-      ∙ pass_pairs_again ps n (suc i) c.3 (omega arith) (omega (arith, tail_size k t ps))
+use Rattle.bson_laws.proofs.Encoded.{elem, walk_again}
+use Rattle.bson_laws.proofs.Ignored.{ignores_again}
 
 -- ---- slots
 
@@ -214,7 +161,7 @@ module _ (fs : Fields) (levels : ℕ) (distinct : Distinct fs) (r : ReadsViews f
   pub fill_again : (ps : Pairs) (sl : Slots) → ArePairsClean ps → pairs_depth ps ≤ levels → length (elements ps) < 2 ^ 31 → AllView fs ps → Free fs ps sl → fill one (walk_elements (elements ps)) sl ≡ Ok (merge fs ps sl)
   fill_again no_pairs sl c d l a f = ap (λ w. fill one w sl) walk-nil ∙ ap Ok (merge_none fs sl)
   fill_again (pair k t ps) sl c d l a f =
-      ap (λ w. fill one w sl) (walk_again k t ps c.0 (omega (arith, head_size k t ps)))
+      ap (λ w. fill one w sl) (walk_again k t ps c.0 c.2 l)
       ∙ by_place (λ sl' f'. fill_again ps sl' c.3 (omega arith) (omega (arith, tail_size k t ps)) (all_less fs k t ps c.1 a) f') (place_of fs k) refl where
         by_place : ((sl' : Slots) → Free fs ps sl' → fill one (walk_elements (elements ps)) sl' ≡ Ok (merge fs ps sl')) → (o : Option ℕ) → place_of fs k ≡ o → (one (elem k t) sl >>= fill one (walk_elements (elements ps))) ≡ Ok (merge fs (pair k t ps) sl)
         by_place again None e =
@@ -231,24 +178,18 @@ module _ (fs : Fields) (levels : ℕ) (distinct : Distinct fs) (r : ReadsViews f
             ∙ again (set sl i (Some w.0)) p.free
             ∙ ap Ok p.merged
 
-abbrev found_values : FieldValues → Option FieldValues
-found_values v = Some v
-
-values_are : (v w : FieldValues) → found_values v ≡ found_values w → v ≡ w
-values_are v w e = cc
-
 pub free_first : (fs : Fields) (ps : Pairs) → Free fs ps (no_slots fs)
 free_first no_fields ps = tt
 free_first (field n s fs) ps = (λ _. refl, free_first fs ps)
 
 -- each field has a view, and they are finished in order
 pub all_view : (fs : Fields) (ps : Pairs) (vs : FieldValues) → views_fields fs ps ≡ Some vs → AllView fs ps × (finish fs (merge fs ps (no_slots fs)) ≡ Ok vs)
-all_view no_fields ps vs e = (tt, ap Ok (values_are no_field_values vs e))
+all_view no_fields ps vs e = (tt, ap Ok (some_is no_field_values vs e))
 all_view (field n s fs) ps vs e =
     let a = some_then (λ t. option_and_then (λ v. option_map (field_value n v) (views_fields fs ps)) (views s t)) (lookup n ps) vs e in
     let b = some_then (λ v. option_map (field_value n v) (views_fields fs ps)) (views s a.0) vs a.2 in
     let c = some_map (field_value n b.0) (views_fields fs ps) vs b.2 in
     let rest = all_view fs ps c.0 c.1 in (
-      (λ t h. (b.0, (let same : a.0 ≡ t = tree_is a.0 t (sym a.1 ∙ h) in ap (views s) (sym same) ∙ b.1)), rest.0),
+      (λ t h. (b.0, (let same : a.0 ≡ t = some_is a.0 t (sym a.1 ∙ h) in ap (views s) (sym same) ∙ b.1)), rest.0),
       (λ i. finish (field n s fs) (slot_of s (a.1 i) None ∷ merge fs ps (no_slots fs))) ∙ (λ i. finish (field n s fs) (b.1 i ∷ merge fs ps (no_slots fs))) ∙ ap (result_map (field_value n b.0)) rest.1 ∙ ap Ok c.2,
     )

@@ -1,22 +1,22 @@
 -- The meaning of a value that fits a shape is viewed at the shape as the normal form of that value.
-use Rattle.std.proofs.Common.{◌≡◌, Bool, true, false, cond, Option, Some, None, refl, ap, sym, subst, ◌∙◌, arith, pos, negsuc, ℤ}
+use Rattle.std.proofs.Common.{◌≡◌, Bool, true, false, cond, Option, Some, None, refl, ap, sym, subst, ◌∙◌, ℤ}
 use Rattle.std.specs.Prelude.{option_map, option_and_then}
 use Rattle.std.specs.Str.{bytes_eq}
 use Rattle.std.proofs.lemmas.Slice.Eq.{bytes_eq-Decides}
 use Rattle.bson_base.specs.Text.{Utf8}
 use Rattle.bson_base.specs.Reserved.{reserved_kind}
-use Rattle.bson_base.specs.Sound.{IsClean, ArePairsClean, Lacks}
+use Rattle.bson_base.specs.Sound.{IsClean, ArePairsClean, AreTreesClean, Lacks}
 use Rattle.bson_base.specs.declared.element_type.ElementType.{ElementType}
 use Rattle.bson_base.specs.declared.element_type.ElementType.TheVariants.{Int32}
-use Rattle.bson_base.specs.Tree.{Tree, string, int32, int64, document, Pairs, no_pairs, pair}
+use Rattle.bson_base.specs.Tree.{Tree, string, int32, int64, document, array, Pairs, pair, Trees, no_trees, tree}
 use Rattle.bson_base.proofs.Outcomes.{some_map, some_then}
-use Rattle.bson_shape.specs.Form.{Form, leaf, structure, Fields, no_fields, field}
+use Rattle.bson_shape.specs.Form.{Form, leaf, sequence, structure, Fields, no_fields, field}
 use Rattle.bson_datum.specs.Value as value
-use Rattle.bson_datum.specs.Value.{IntegerType, in_range, written_as, Value, integer, str, FieldValues, no_field_values, field_value}
-use Rattle.bson_laws.specs.Views.{lookup, as_integer, integer_of_tree, text_of_tree, views_leaf, views, views_fields}
-use Rattle.bson_laws.specs.Means.{number_of, means, means_fields, norm, norm_fields}
-use Rattle.bson_laws.specs.Fits.{Fits, FieldsFit}
-use Rattle.bson_laws.proofs.Spelled.{tree_is, unreserved}
+use Rattle.bson_datum.specs.Value.{IntegerType, in_range, written_as, Value, integer, str, Items, no_items, item, FieldValues, no_field_values, field_value}
+use Rattle.bson_laws.specs.Views.{lookup, as_integer, integer_of_tree, text_of_tree, views_leaf, views, views_items, views_fields}
+use Rattle.bson_laws.specs.Means.{number_of, means, means_items, means_fields, norm, norm_items, norm_fields}
+use Rattle.bson_laws.specs.Fits.{Fits, ItemsFit, FieldsFit}
+use Rattle.bson_laws.proofs.Spelled.{tree_is, trees_are, unreserved}
 
 pub bytes_eq-refl : (xs : Utf8) → bytes_eq xs xs ≡ true
 bytes_eq-refl xs = (bytes_eq-Decides xs xs).1 refl
@@ -81,17 +81,36 @@ mutual
   pub views_means : (v : Value) (s : Form) (t : Tree) → Fits v s → means v ≡ Some t → IsClean t → views s t ≡ Some (norm v)
   views_means (integer type n) (leaf l) t f e c =
       ap (λ k. views_leaf k t) f.0 ∙ ap (option_and_then (as_integer type)) (number_tree (written_as type) n t e) ∙ in_range_is type n (in_range type n) refl f.1
+  views_means (integer type n) (sequence s) t f e c = absurd f
   views_means (integer type n) (structure name fs) t f e c = absurd f
   views_means (str x) (leaf l) t f e c = ap (λ k. views_leaf k t) f.0 ∙ ap (λ u. option_map str (text_of_tree u)) (sym (tree_is (string x) t e))
+  views_means (str x) (sequence s) t f e c = absurd f
   views_means (str x) (structure name fs) t f e c = absurd f
+  views_means (value.sequence vs) (leaf l) t f e c = absurd f
+  views_means (value.sequence vs) (sequence s) t f e c =
+      let a = some_map array (means_items vs) t e in
+      subst (λ x. IsClean x → views (sequence s) x ≡ Some (value.sequence (norm_items vs))) a.2 (λ c'. ap (option_map value.sequence) (views_means_items vs s a.0 f a.1 c')) c
+  views_means (value.sequence vs) (structure n fs) t f e c = absurd f
   views_means (value.structure m vs) (leaf l) t f e c = absurd f
+  views_means (value.structure m vs) (sequence s) t f e c = absurd f
   views_means (value.structure m vs) (structure n fs) t f e c =
       let u = unreserved (reserved_kind m) (option_map document (means_fields vs)) t e in
       let a = some_map document (means_fields vs) t u.1 in
       subst (λ x. IsClean x → views (structure n fs) x ≡ Some (value.structure m (norm_fields vs))) a.2
       (λ c'. ap (option_map (value.structure n)) (views_means_fields vs fs a.0 f.1 a.1 c') ∙ ap (λ x. Some (value.structure x (norm_fields vs))) (sym f.0)) c
 
-  pub views_means_fields : (vs : FieldValues) (fs : Fields) (ps : Pairs) → FieldsFit vs fs → means_fields vs ≡ Some ps → ArePairsClean ps → views_fields fs ps ≡ Some (norm_fields vs)
+  views_means_items : (vs : Items) (s : Form) (ts : Trees) → ItemsFit vs s → means_items vs ≡ Some ts → AreTreesClean ts → views_items (views s) ts ≡ Some (norm_items vs)
+  views_means_items no_items s ts f e c = ap (views_items (views s)) (sym (trees_are no_trees ts e))
+  views_means_items (item v vs) s ts f e c =
+      let a = some_then (λ t. option_map (tree t) (means_items vs)) (means v) ts e in
+      let b = some_map (tree a.0) (means_items vs) ts a.2 in
+      subst (λ x. AreTreesClean x → views_items (views s) x ≡ Some (item (norm v) (norm_items vs))) b.2
+      (λ c'.
+      ap (option_and_then (λ w. option_map (item w) (views_items (views s) b.0))) (views_means v s a.0 f.0 a.1 c'.0)
+      ∙ ap (option_map (item (norm v))) (views_means_items vs s b.0 f.1 b.1 c'.1))
+      c
+
+  views_means_fields : (vs : FieldValues) (fs : Fields) (ps : Pairs) → FieldsFit vs fs → means_fields vs ≡ Some ps → ArePairsClean ps → views_fields fs ps ≡ Some (norm_fields vs)
   views_means_fields no_field_values no_fields ps f e c = refl
   views_means_fields no_field_values (field n s fs) ps f e c = absurd f
   views_means_fields (field_value m v vs) no_fields ps f e c = absurd f

@@ -1,9 +1,16 @@
 pub mod Sizes
 pub mod Spelled
 pub mod Fitted
+pub mod Numbers
+pub mod Closed
+pub mod Values
+pub mod Extents
 pub mod Encoded
+pub mod Ignored
 pub mod Filled
-pub mod ReadBack
+pub mod Viewed
 pub mod Keys
 pub mod Writable
+pub mod Items
+pub mod ReadBack
 pub mod Rewritten

@@ -1,37 +1,34 @@
--- What is read at a shape is written: structs, field by field.
-use Rattle.std.proofs.Common.{◌≡◌, ℕ, zero, suc, ◌-◌, [], ◌∷◌, set, get_or, Bool, true, false, cond, Option, Some, None, Result, Ok, Err, refl, ap, sym, subst, ◌∙◌, arith, eqb}
+-- What is read at a shape is written: sequences item by item, and structs field by field.
+use Rattle.std.proofs.Common.{◌≡◌, ℕ, zero, suc, ◌-◌, [], ◌∷◌, set, get_or, Bool, true, false, cond, Option, Some, None, Result, Ok, Err, refl, ap, sym, subst, ◌∙◌, arith}
 use Rattle.std.specs.Prelude.{is_some}
 use Rattle.std.specs.Str.{bytes_eq}
 use Rattle.bson_base.specs.Text.{Bytes, Utf8, has_zero}
 use Rattle.bson_base.specs.Outcome.{◌>>=◌, result_map}
-use Rattle.bson_base.specs.Reserved.{reserved_kind}
 use Rattle.bson_base.specs.Sound.{max_levels}
-use Rattle.bson_base.specs.Tree.{Tree, document, Pairs, no_pairs, pair}
+use Rattle.bson_base.specs.Tree.{Tree, document, array, Pairs, no_pairs, pair}
 use Rattle.bson_base.specs.declared.element_type.ElementType.{ElementType}
 use Rattle.bson_base.specs.declared.element_type.ElementType.TheVariants.{EmbeddedDocument}
-use Rattle.bson_base.proofs.Outcomes.{map_ok, bind_ok}
+use Rattle.bson_base.proofs.Outcomes.{ok_is, map_ok, bind_ok}
 use Rattle.bson_rawdoc.specs.Envelope.{envelope, is_closed}
 use Rattle.bson_rawdoc.specs.RawValue as raw_value
 use Rattle.bson_rawdoc.specs.RawValue.{RawValue, value_in}
 use Rattle.bson_rawdoc.specs.Walk.{Element, Walk, ended, faulty, then_walk, walk}
 use Rattle.bson_rawdoc.specs.declared.raw.Error as raw_error
 use Rattle.bson_rawdoc.specs.declared.raw.Error.TheVariants.{ValueUnclosed}
-use Rattle.bson_shape.specs.Form.{Form, leaf, structure, Fields, no_fields, field}
+use Rattle.bson_shape.specs.Form.{Form, leaf, sequence, structure, Fields, no_fields, field}
 use Rattle.bson_shape.specs.Makers.{IsShape, AreShapes}
 use Rattle.bson_datum.specs.Value as value
-use Rattle.bson_datum.specs.Value.{Value, FieldValues, no_field_values, field_value, kind_of, reserved_or_document}
+use Rattle.bson_datum.specs.Value.{Value, Items, FieldValues, no_field_values, field_value, kind_of, reserved_or_document}
 use Rattle.bson_datum.specs.Cause.{raw, duplicate_field}
-use Rattle.bson_datum.specs.Refusal.{WriteFault, Refusal, Failure, ReadFault, under, here, bare, unreadable, invalid_cstring}
+use Rattle.bson_datum.specs.Refusal.{Failure, ReadFault, under, here, bare, unreadable, invalid_cstring}
 use Rattle.bson_laws.specs.Integers.{LeafKind, numbers, texts, leaf_kind}
-use Rattle.bson_laws.specs.Reads.{Reading, refused, judged, ignores, read_leaf, document_of, one_further, place_of, Slots, no_slots, fill_found, fill_one, fill, finish, reads_fields, reads, reads_field, answered, reads_document}
-use Rattle.bson_laws.specs.Spell.{Writing, enclosed_at, struct_at, named, spell, spell_fields, at_top, spell_document}
+use Rattle.bson_laws.specs.Reads.{Reading, refused, judged, ignores, read_leaf, document_of, array_of, reads_items, one_further, place_of, Slots, no_slots, fill_found, fill_one, fill, finish, reads_fields, reads, reads_field, answered, reads_document}
+use Rattle.bson_laws.specs.Spell.{struct_at, spell, spell_items, spell_fields, at_top, spell_document}
 use Rattle.bson_laws.proofs.Fitted.{bytes_same}
 use Rattle.bson_laws.proofs.Keys.{KeysFree, walk_free}
+use Rattle.bson_laws.proofs.Items.{items_written}
+use Rattle.bson_laws.proofs.Sizes.{under_ok}
 use Rattle.bson_laws.proofs.Writable.{Written, value_small, judged_is, leaf_written}
-
-under_is : {A : Type 0} (key : Utf8) (r : Reading A) (x : A) → under key r ≡ Ok x → r ≡ Ok x
-under_is key (Ok y) x e = e
-under_is key (Err f) x e = absurd cc
 
 -- ---- slots
 
@@ -89,12 +86,6 @@ module _ (levels : ℕ) where
 
   -- ---- elements
 
-  abbrev slots_found : Slots → Reading Slots
-  slots_found slots = Ok slots
-
-  slots_are : (slots more : Slots) → slots_found slots ≡ slots_found more → slots ≡ more
-  slots_are slots more e = cc
-
   not_refused : (b : Bool) (key : Utf8) (r : Reading Slots) (out : Slots) → cond b (refused (duplicate_field key)) r ≡ Ok out → r ≡ Ok out
   not_refused true key r out e = absurd cc
   not_refused false key r out e = e
@@ -105,15 +96,15 @@ module _ (levels : ℕ) where
 
     found_held : (e : Element) (slots out : Slots) (o : Option ℕ) → place_of fs e.key ≡ o → has_zero e.key ≡ false → fill_found levels read e slots o ≡ Ok out → Held fs slots → Held fs out
     found_held e slots out None is z q h =
-        let b = bind_ok (under e.key (ignores levels e.kind e.value)) (λ _. slots_found slots) out q in
-        subst (Held fs) (slots_are slots out b.2) h
+        let b = bind_ok (under e.key (ignores levels e.kind e.value)) (λ _. Ok slots) out q in
+        subst (Held fs) (ok_is slots out b.2) h
     found_held e slots out (Some i) is z q h =
         let r = not_refused (is_some (get_or slots i None)) e.key (under e.key (read i e.kind e.value) >>= λ v. Ok (set slots i (Some v))) out q in
-        let b = bind_ok (under e.key (read i e.kind e.value)) (λ v. slots_found (set slots i (Some v))) out r in
-        subst (Held fs) (slots_are (set slots i (Some b.0)) out b.2) (set_held fs e.key i b.0 slots z (each i e.kind e.value b.0 (under_is e.key (read i e.kind e.value) b.0 b.1)) is h)
+        let b = bind_ok (under e.key (read i e.kind e.value)) (λ v. Ok (set slots i (Some v))) out r in
+        subst (Held fs) (ok_is (set slots i (Some b.0)) out b.2) (set_held fs e.key i b.0 slots z (each i e.kind e.value b.0 (under_ok e.key (read i e.kind e.value) b.0 b.1)) is h)
 
     pub fill_held : (w : Walk) (slots out : Slots) → KeysFree w → fill (fill_one fs levels read) w slots ≡ Ok out → Held fs slots → Held fs out
-    fill_held ended slots out k q h = subst (Held fs) (slots_are slots out q) h
+    fill_held ended slots out k q h = subst (Held fs) (ok_is slots out q) h
     fill_held (faulty f) slots out k q h = absurd cc
     fill_held (then_walk e w) slots out k q h =
         let b = bind_ok (fill_one fs levels read e slots) (fill (fill_one fs levels read) w) out q in
@@ -132,6 +123,21 @@ no_level (Ok (raw_value.document c)) b e = absurd cc
 no_level (Ok (raw_value.array c)) b e = absurd cc
 no_level (Ok v) b e = absurd cc
 
+no_array_level : (r : Result RawValue raw_error.Error) (b : Bytes) → (judged zero r >>= array_of) ≡ Ok b → ⊥
+no_array_level (Err f) b e = absurd cc
+no_array_level (Ok (raw_value.document c)) b e = absurd cc
+no_array_level (Ok (raw_value.array c)) b e = absurd cc
+no_array_level (Ok v) b e = absurd cc
+
+-- what a sequence is read from: the bytes of an array, and its values
+sequence_read : (s : Form) (levels : ℕ) (k : ElementType) (b : Bytes) (v : Value) → reads (sequence s) levels k b ≡ Ok v
+    → (c : Bytes) × (vs : Items) × ((judged levels (value_in k b) >>= array_of) ≡ Ok c) × (reads_items (reads s (levels - 1)) 0 (walk c) ≡ Ok vs) × (value.sequence vs ≡ v)
+sequence_read s levels k b v e =
+    let below = levels - 1 in
+    let d = bind_ok (judged levels (value_in k b) >>= array_of) (λ c. result_map value.sequence (reads_items (reads s below) 0 (walk c))) v e in
+    let m = map_ok value.sequence (reads_items (reads s below) 0 (walk d.0)) v d.2 in
+    (d.0, m.0, d.1, m.1, m.2)
+
 -- what a struct is read from: the bytes of a document, and its fields
 struct_read : (name : Utf8) (fs : Fields) (levels : ℕ) (k : ElementType) (b : Bytes) (v : Value) → reads (structure name fs) levels k b ≡ Ok v
     → (c : Bytes) × (vs : FieldValues) × ((judged levels (value_in k b) >>= document_of) ≡ Ok c) × (reads_fields fs (levels - 1) (λ i. reads_field fs i (levels - 1)) (walk c) ≡ Ok vs) × (value.structure name vs ≡ v)
@@ -146,6 +152,12 @@ mutual
   reads_written (leaf l) levels k b v p e =
       let r = bind_ok (judged levels (value_in k b)) (read_leaf (leaf_kind l)) v e in
       leaf_written (leaf_kind l) r.0 v levels (value_small k b r.0 (judged_is levels (value_in k b) r.0 r.1)) r.2
+  reads_written (sequence s) zero k b v p e = let r = sequence_read s zero k b v e in absurd (no_array_level (value_in k b) r.0 r.2)
+  reads_written (sequence s) (suc levels) k b v p e =
+      let r = sequence_read s (suc levels) k b v e in
+      let below : suc levels - 1 ≡ levels = omega arith in
+      let w = items_written (reads s (suc levels - 1)) (suc levels - 1) (λ k' b' v' q. reads_written s (suc levels - 1) k' b' v' p.1 q) 0 (walk r.0) r.1 r.3 in
+      subst (Written (suc levels)) r.4 (array w.0, ap (λ n. result_map array (spell_items 0 r.1 n)) (sym below) ∙ ap (result_map array) w.1)
   reads_written (structure name fs) zero k b v p e = let r = struct_read name fs zero k b v e in absurd (no_level (value_in k b) r.0 r.2)
   reads_written (structure name fs) (suc levels) k b v p e =
       let r = struct_read name fs (suc levels) k b v e in
@@ -172,8 +184,13 @@ leaf_at_top true (numbers type) b d e = absurd cc
 leaf_at_top true texts b d e = absurd cc
 leaf_at_top false k b d e = absurd cc
 
+sequence_at_top : (c : Bool) (b a : Bytes) → (judged max_levels (result_map raw_value.document (cond c (Ok b) (Err ValueUnclosed))) >>= array_of) ≡ Ok a → ⊥
+sequence_at_top true b a e = absurd cc
+sequence_at_top false b a e = absurd cc
+
 top_written : (s : Form) (b : Bytes) (d : Value) → IsShape s → reads s max_levels EmbeddedDocument b ≡ Ok d → (t : Tree) × (spell_document d ≡ Ok t)
 top_written (leaf l) b d p e = absurd (leaf_at_top (is_closed b) (leaf_kind l) b d e)
+top_written (sequence s) b d p e = let r = sequence_read s max_levels EmbeddedDocument b d e in absurd (sequence_at_top (is_closed b) b r.0 r.2)
 top_written (structure name fs) b d p e =
     let w = reads_written (structure name fs) max_levels EmbeddedDocument b d p e in
     let r = struct_read name fs max_levels EmbeddedDocument b d e in

@@ -1,17 +1,18 @@
 -- What is written is as long as the size says, and of the kind of the value.
 use Rattle.std.proofs.Common.{◌≡◌, ℕ, ℤ, zero, suc, ◌+◌, ◌∷◌, ◌++◌, length, Bool, true, false, cond, Option, Some, None, Result, Ok, Err, refl, ap, sym, ◌∙◌, arith}
 use Rattle.std.proofs.lemmas.List.{length-append}
+use Rattle.std.specs.Fmt.{decimal}
 use Rattle.bson_base.specs.Text.{Utf8, has_zero}
 use Rattle.bson_base.specs.Outcome.{◌>>=◌}
 use Rattle.bson_base.specs.Reserved.{reserved_kind}
-use Rattle.bson_base.specs.Tree.{Tree, string, int32, int64, document, Pairs, no_pairs, pair, enc, elements, kind}
+use Rattle.bson_base.specs.Tree.{Tree, string, int32, int64, document, array, Pairs, no_pairs, pair, Trees, no_trees, tree, enc, elements, array_elements, kind}
 use Rattle.bson_base.specs.declared.element_type.ElementType.{ElementType}
 use Rattle.bson_base.specs.declared.element_type.ElementType.TheVariants.{Int32}
 use Rattle.bson_base.proofs.Outcomes.{map_ok, bind_ok}
-use Rattle.bson_base.proofs.Lengths.{length-le32, length-le64, length-text, length-document}
-use Rattle.bson_datum.specs.Value.{IntegerType, i8, i16, i32, i64, u8, u16, u32, u64, written_as, Value, integer, str, structure, FieldValues, no_field_values, field_value, kind_of, reserved_or_document}
-use Rattle.bson_datum.specs.Refusal.{Refusal, WriteFault, under}
-use Rattle.bson_laws.specs.Spell.{Writing, enclosed_at, struct_at, named, number_size, spell_number, spell, spell_fields, size, size_fields}
+use Rattle.bson_base.proofs.Lengths.{length-le32, length-le64, length-text, length-document, length-array}
+use Rattle.bson_datum.specs.Value.{IntegerType, i8, i16, i32, i64, u8, u16, u32, u64, written_as, Value, integer, str, sequence, structure, Items, no_items, item, FieldValues, no_field_values, field_value, kind_of, reserved_or_document}
+use Rattle.bson_datum.specs.Refusal.{Segment, at_key, at_index, Refusal, WriteFault, inside, under, under_index}
+use Rattle.bson_laws.specs.Spell.{Writing, enclosed_at, struct_at, named, number_size, spell_number, spell, spell_items, spell_fields, size, size_items, size_fields}
 
 abbrev done : {A : Type 0} → A → Writing A
 done x = Ok x
@@ -19,10 +20,13 @@ done x = Ok x
 pub ok_is : {A : Type 0} (x y : A) → done x ≡ done y → x ≡ y
 ok_is x y e = cc
 
--- what is under a key is the same value
+-- what is at a segment is the same value
+pub inside_ok : {A F : Type 0} (segment : Segment) (r : Result A (Refusal F)) (x : A) → inside segment r ≡ Ok x → r ≡ Ok x
+inside_ok segment (Ok y) x e = e
+inside_ok segment (Err f) x e = absurd cc
+
 pub under_ok : {A F : Type 0} (key : Utf8) (r : Result A (Refusal F)) (x : A) → under key r ≡ Ok x → r ≡ Ok x
-under_ok key (Ok y) x e = e
-under_ok key (Err f) x e = absurd cc
+under_ok key r x e = inside_ok (at_key key) r x e
 
 named_cases : (b : Bool) (f : Refusal WriteFault) (r : Writing Tree) (t : Tree) → cond b (Err f) r ≡ Ok t → (b ≡ false) × (r ≡ Ok t)
 named_cases true f r t e = absurd cc
@@ -31,12 +35,17 @@ named_cases false f r t e = (refl, e)
 pub named_ok : (name : Utf8) (r : Writing Tree) (t : Tree) → named name r ≡ Ok t → (has_zero name ≡ false) × (r ≡ Ok t)
 named_ok name r t e = let c = named_cases (has_zero name) _ (under name r) t e in (c.0, under_ok name r t c.1)
 
+-- a container that is written has its parts one level further in
+pub enclosed_ok : {A : Type 0} (container : A → Tree) (levels : ℕ) (parts : ℕ → Writing A) (t : Tree) → enclosed_at container levels parts ≡ Ok t
+    → (n : ℕ) × (levels ≡ suc n) × ((ps : A) × (parts n ≡ Ok ps) × (container ps ≡ t))
+enclosed_ok container zero parts t e = absurd cc
+enclosed_ok container (suc n) parts t e = (n, refl, map_ok container (parts n) t e)
+
 -- a struct that is written is a document, one level further in
 pub struct_ok : (o : Option ElementType) (levels : ℕ) (pairs : ℕ → Writing Pairs) (t : Tree) → struct_at o levels pairs ≡ Ok t
     → (o ≡ None) × ((n : ℕ) × (levels ≡ suc n) × ((ps : Pairs) × (pairs n ≡ Ok ps) × (document ps ≡ t)))
 struct_ok (Some k) levels pairs t e = absurd cc
-struct_ok None zero pairs t e = absurd cc
-struct_ok None (suc n) pairs t e = (refl, (n, refl, map_ok document (pairs n) t e))
+struct_ok None levels pairs t e = (refl, enclosed_ok document levels pairs t e)
 
 wide_is : (b : Bool) (f : Refusal WriteFault) (n : ℤ) (t : Tree) → cond b (Err f) (done (int64 n)) ≡ Ok t → int64 n ≡ t
 wide_is true f n t e = absurd cc
@@ -59,15 +68,28 @@ number_length k n t e = ap (λ u. length (enc u)) (sym (wide_is _ _ n t e)) ∙ 
 pub spell_kind : (v : Value) (levels : ℕ) (t : Tree) → spell v levels ≡ Ok t → kind t ≡ kind_of v
 spell_kind (integer type n) levels t e = number_kind type n t e
 spell_kind (str x) levels t e = ap kind (sym (ok_is (string x) t e))
+spell_kind (sequence vs) levels t e = let m = enclosed_ok array levels (spell_items 0 vs) t e in ap kind (sym m.2.2)
 spell_kind (structure name fs) levels t e = let m = struct_ok (reserved_kind name) levels (spell_fields fs) t e in ap kind (sym m.1.2.2) ∙ ap reserved_or_document (sym m.0)
 
 mutual
   pub length-spell : (v : Value) (levels : ℕ) (t : Tree) → spell v levels ≡ Ok t → length (enc t) ≡ size v
   length-spell (integer type n) levels t e = number_length (written_as type) n t e
   length-spell (str x) levels t e = ap (λ u. length (enc u)) (sym (ok_is (string x) t e)) ∙ length-text x
+  length-spell (sequence vs) levels t e =
+      let m = enclosed_ok array levels (spell_items 0 vs) t e in
+      ap (λ u. length (enc u)) (sym m.2.2) ∙ length-array m.2.0 ∙ ap (λ k. k + 5) (length-spell_items 0 vs m.0 m.2.0 m.2.1)
   length-spell (structure name fs) levels t e =
       let m = struct_ok (reserved_kind name) levels (spell_fields fs) t e in
       ap (λ u. length (enc u)) (sym m.1.2.2) ∙ length-document m.1.2.0 ∙ ap (λ k. k + 5) (length-spell_fields fs m.1.0 m.1.2.0 m.1.2.1)
+
+  pub length-spell_items : (i : ℕ) (vs : Items) (levels : ℕ) (ts : Trees) → spell_items i vs levels ≡ Ok ts → length (array_elements i ts) ≡ size_items i vs
+  length-spell_items i no_items levels ts e = ap (λ u. length (array_elements i u)) (sym (ok_is no_trees ts e))
+  length-spell_items i (item v vs) levels ts e =
+      let a = bind_ok (under_index i (spell v levels)) (λ t. spell_items (suc i) vs levels >>= λ us. Ok (tree t us)) ts e in
+      let b = bind_ok (spell_items (suc i) vs levels) (λ us. Ok (tree a.0 us)) ts a.2 in
+      let k = inside_ok (at_index i) (spell v levels) a.0 a.1 in
+      ap (λ u. length (array_elements i u)) (sym (ok_is (tree a.0 b.0) ts b.2))
+      ∙ omega (arith, length-append (decimal i) (0 ∷ enc a.0), length-append (decimal i ++ (0 ∷ enc a.0)) (array_elements (suc i) b.0), length-spell v levels a.0 k, length-spell_items (suc i) vs levels b.0 b.1)
 
   pub length-spell_fields : (fs : FieldValues) (levels : ℕ) (ps : Pairs) → spell_fields fs levels ≡ Ok ps → length (elements ps) ≡ size_fields fs
   length-spell_fields no_field_values levels ps e = ap (λ u. length (elements u)) (sym (ok_is no_pairs ps e))

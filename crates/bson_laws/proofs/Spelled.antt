@@ -3,15 +3,15 @@ use Rattle.std.proofs.Common.{◌≡◌, ℕ, ℤ, Bool, true, false, zero, suc,
 use Rattle.std.specs.Prelude.{option_map, is_some}
 use Rattle.bson_base.specs.Outcome.{◌>>=◌, result_map}
 use Rattle.bson_base.specs.Reserved.{reserved_kind}
-use Rattle.bson_base.specs.Sound.{max_levels, IsClean, ArePairsClean, IsSound, IsDocument}
-use Rattle.bson_base.specs.Tree.{Tree, string, int32, int64, document, Pairs, no_pairs, pair, enc, depth, pairs_depth}
+use Rattle.bson_base.specs.Sound.{max_levels, IsClean, ArePairsClean, AreTreesClean, IsSound, IsDocument}
+use Rattle.bson_base.specs.Tree.{Tree, string, int32, int64, document, array, Pairs, no_pairs, pair, Trees, no_trees, tree, enc, depth, pairs_depth, trees_depth}
 use Rattle.bson_base.specs.declared.element_type.ElementType.{ElementType}
 use Rattle.bson_base.specs.declared.element_type.ElementType.TheVariants.{Int32}
 use Rattle.bson_base.proofs.Outcomes.{some_map, some_then}
-use Rattle.bson_datum.specs.Value.{written_as, Value, integer, str, structure, FieldValues, no_field_values, field_value, reserved_or_document}
-use Rattle.bson_datum.specs.Refusal.{WriteFault, Refusal, here, invalid_cstring, under}
-use Rattle.bson_laws.specs.Means.{number_of, means, means_fields}
-use Rattle.bson_laws.specs.Spell.{spell_number, enclosed_at, struct_at, spell, spell_fields, at_top, spell_document, size}
+use Rattle.bson_datum.specs.Value.{written_as, Value, integer, str, sequence, structure, Items, no_items, item, FieldValues, no_field_values, field_value, reserved_or_document}
+use Rattle.bson_datum.specs.Refusal.{WriteFault, Refusal, here, invalid_cstring, under, under_index}
+use Rattle.bson_laws.specs.Means.{number_of, means, means_items, means_fields}
+use Rattle.bson_laws.specs.Spell.{Writing, spell_number, enclosed_at, struct_at, spell, spell_items, spell_fields, at_top, spell_document, size}
 use Rattle.bson_laws.proofs.Sizes.{length-spell}
 
 abbrev pub pairs_found : Pairs → Option Pairs
@@ -46,19 +46,41 @@ pub unreserved : (o : Option ElementType) (r : Option Tree) (t : Tree) → cond 
 unreserved (Some k) r t e = absurd cc
 unreserved None r t e = (refl, e)
 
-enclosed : (fs : FieldValues) (ps : Pairs) (levels : ℕ) → depth (document ps) ≤ levels → ((n : ℕ) → pairs_depth ps ≤ n → spell_fields fs n ≡ Ok ps) → enclosed_at levels (spell_fields fs) ≡ Ok (document ps)
-enclosed fs ps zero d h = absurd (omega arith)
-enclosed fs ps (suc n) d h = ap (result_map document) (h n (omega arith))
+-- a container whose parts are written, however many levels are left for them, is written where one more is left
+enclosed : {A : Type 0} (container : A → Tree) (parts : ℕ → Writing A) (ps : A) (inner levels : ℕ) → suc inner ≤ levels → ((n : ℕ) → inner ≤ n → parts n ≡ Ok ps) → enclosed_at container levels parts ≡ Ok (container ps)
+enclosed container parts ps inner zero d h = absurd (omega arith)
+enclosed container parts ps inner (suc n) d h = ap (result_map container) (h n (omega arith))
+
+abbrev pub trees_found : Trees → Option Trees
+trees_found ts = Some ts
+
+pub trees_are : (ts us : Trees) → trees_found ts ≡ trees_found us → ts ≡ us
+trees_are ts us e = cc
 
 mutual
   pub spell_is : (v : Value) (t : Tree) (levels : ℕ) → means v ≡ Some t → IsClean t → depth t ≤ levels → spell v levels ≡ Ok t
   spell_is (integer type n) t levels e c d = number_spelled (written_as type) n t e
   spell_is (str x) t levels e c d = ap Ok (tree_is (string x) t e)
+  spell_is (sequence vs) t levels e c d =
+      let m = some_map array (means_items vs) t e in
+      subst (λ x. IsClean x → depth x ≤ levels → spell (sequence vs) levels ≡ Ok x) m.2
+      (λ c' d'. enclosed array (spell_items 0 vs) m.0 (trees_depth m.0) levels d' (λ n le. spell_items_are 0 vs m.0 n m.1 c' le)) c d
   spell_is (structure name fs) t levels e c d =
       let u = unreserved (reserved_kind name) (option_map document (means_fields fs)) t e in
       let m = some_map document (means_fields fs) t u.1 in
       subst (λ x. IsClean x → depth x ≤ levels → spell (structure name fs) levels ≡ Ok x) m.2
-      (λ c' d'. ap (λ o. struct_at o levels (spell_fields fs)) u.0 ∙ enclosed fs m.0 levels d' (λ n le. spell_fields_are fs m.0 n m.1 c' le)) c d
+      (λ c' d'. ap (λ o. struct_at o levels (spell_fields fs)) u.0 ∙ enclosed document (spell_fields fs) m.0 (pairs_depth m.0) levels d' (λ n le. spell_fields_are fs m.0 n m.1 c' le)) c d
+
+  pub spell_items_are : (i : ℕ) (vs : Items) (ts : Trees) (levels : ℕ) → means_items vs ≡ Some ts → AreTreesClean ts → trees_depth ts ≤ levels → spell_items i vs levels ≡ Ok ts
+  spell_items_are i no_items ts levels e c d = ap Ok (trees_are no_trees ts e)
+  spell_items_are i (item v vs) ts levels e c d =
+      let a = some_then (λ t. option_map (tree t) (means_items vs)) (means v) ts e in
+      let b = some_map (tree a.0) (means_items vs) ts a.2 in
+      subst (λ us. AreTreesClean us → trees_depth us ≤ levels → spell_items i (item v vs) levels ≡ Ok us) b.2
+      (λ c' d'.
+      ap (λ r. under_index i r >>= λ t. spell_items (suc i) vs levels >>= λ us. Ok (tree t us)) (spell_is v a.0 levels a.1 c'.0 (omega arith))
+      ∙ ap (λ r. r >>= λ us. Ok (tree a.0 us)) (spell_items_are (suc i) vs b.0 levels b.1 c'.1 (omega arith)))
+      c d
 
   pub spell_fields_are : (fs : FieldValues) (ps : Pairs) (levels : ℕ) → means_fields fs ≡ Some ps → ArePairsClean ps → pairs_depth ps ≤ levels → spell_fields fs levels ≡ Ok ps
   spell_fields_are no_field_values ps levels e c d = ap Ok (pairs_are no_pairs ps e)
@@ -75,6 +97,7 @@ mutual
 document_only : (v : Value) (t : Tree) → means v ≡ Some t → IsDocument t → spell v max_levels ≡ Ok t → spell_document v ≡ Ok t
 document_only (integer type n) t e doc h = absurd (number_no_document (written_as type) n t e doc)
 document_only (str x) t e doc h = absurd (subst IsDocument (sym (tree_is (string x) t e)) doc)
+document_only (sequence vs) t e doc h = let m = some_map array (means_items vs) t e in absurd (subst IsDocument (sym m.2) doc)
 document_only (structure name fs) t e doc h =
     let u = unreserved (reserved_kind name) (option_map document (means_fields fs)) t e in
     ap (λ o. at_top (reserved_or_document o) (spell (structure name fs) max_levels)) u.0 ∙ h

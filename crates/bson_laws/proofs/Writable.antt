@@ -1,33 +1,26 @@
 -- What is read at a shape is written, unless it is too long.
-use Rattle.std.proofs.Common.{◌≡◌, ℕ, ℤ, pos, negsuc, zero, suc, ◌+◌, ◌-◌, ◌^◌, [], ◌∷◌, set, get_or, Bool, true, false, cond, Option, Some, None, Result, Ok, Err, refl, ap, sym, subst, ◌∙◌, arith, eqb, ltb}
-use Rattle.std.proofs.lemmas.Int.{ints, to_z_pos}
-use Rattle.std.specs.Prelude.{is_some, int_lt, ◌&&◌}
+use Rattle.std.proofs.Common.{◌≡◌, ℕ, ℤ, pos, negsuc, zero, suc, ◌-◌, ◌^◌, Bool, true, false, cond, Result, Ok, Err, refl, ap, subst, ◌∙◌, arith, eqb, ltb}
+use Rattle.std.proofs.lemmas.Int.{ints}
+use Rattle.std.specs.Prelude.{int_lt, ◌&&◌}
 use Rattle.std.specs.Int.{w32, w64, from_le_bytes}
-use Rattle.std.specs.Str.{bytes_eq, is_utf8}
-use Rattle.bson_base.specs.Text.{Bytes, Utf8, has_zero}
-use Rattle.bson_base.specs.Outcome.{◌>>=◌, result_map}
-use Rattle.bson_base.specs.Reserved.{reserved_kind}
-use Rattle.bson_base.specs.Sound.{max_levels}
-use Rattle.bson_base.specs.Tree.{Tree, string, int32, int64, document, Pairs, no_pairs, pair}
+use Rattle.std.specs.Str.{is_utf8}
+use Rattle.bson_base.specs.Text.{Bytes, Utf8}
+use Rattle.bson_base.specs.Outcome.{result_map}
+use Rattle.bson_base.specs.Tree.{Tree, string, int32, int64}
 use Rattle.bson_base.specs.declared.element_type.ElementType.{ElementType}
 use Rattle.bson_base.specs.declared.element_type.ElementType.TheVariants.{Double, String, EmbeddedDocument, Array, Binary, Undefined, ObjectId, Boolean, DateTime, Null, RegularExpression, DbPointer, JavaScriptCode, Symbol, JavaScriptCodeWithScope, Int32, Timestamp, Int64, Decimal128, MaxKey, MinKey}
 use Rattle.bson_base.proofs.Outcomes.{map_ok, bind_ok}
-use Rattle.bson_rawdoc.specs.Envelope.{envelope, is_closed}
 use Rattle.bson_rawdoc.specs.Numbers.{int32_in, int64_in}
 use Rattle.bson_rawdoc.specs.RawValue as raw_value
 use Rattle.bson_rawdoc.specs.RawValue.{RawValue, value_in}
-use Rattle.bson_rawdoc.specs.Walk.{Element, Walk, ended, faulty, then_walk, walk}
 use Rattle.bson_rawdoc.specs.declared.raw.Error as raw_error
-use Rattle.bson_shape.specs.Form.{Form, leaf, structure, Fields, no_fields, field}
-use Rattle.bson_shape.specs.Makers.{IsShape, AreShapes}
 use Rattle.bson_datum.specs.Value as value
 use Rattle.bson_datum.specs.Value.{IntegerType, i64, greatest, in_range, written_as, Value, FieldValues, no_field_values, field_value}
 use Rattle.bson_datum.specs.Cause.{out_of_range, not_utf8, too_deep}
-use Rattle.bson_datum.specs.Refusal.{ReadFault, WriteFault, Refusal, under, here, unsigned_exceeds, invalid_cstring}
-use Rattle.bson_laws.specs.Integers.{LeafKind, numbers, texts, leaf_kind}
+use Rattle.bson_datum.specs.Refusal.{WriteFault, Refusal}
+use Rattle.bson_laws.specs.Integers.{LeafKind, numbers, texts}
 use Rattle.bson_laws.specs.Reads.{Reading, refused, faultless, is_container, with_level, judged, text_of_binary, read_leaf}
-use Rattle.bson_laws.specs.Spell.{Writing, spell_number, spell}
-use Rattle.bson_laws.proofs.Keys.{KeysFree, walk_free}
+use Rattle.bson_laws.specs.Spell.{spell_number, spell}
 
 -- the value is written, where so many levels are left
 abbrev pub Written : ℕ → Value → Type 0

@@ -1,5 +1,4 @@
 -- The leaves that are integer types. Source: serde's data model.
-use Rattle.std.specs.Prelude.{Option, Some, None}
 use Rattle.bson_shape.specs.declared.leaf.Leaf.{Leaf}
 use Rattle.bson_shape.specs.declared.leaf.Leaf.TheVariants.{I8, I16, I32, I64, U8, U16, U32, U64, String}
 use Rattle.bson_datum.specs.Value.{IntegerType, i8, i16, i32, i64, u8, u16, u32, u64}

@@ -3,8 +3,8 @@ use Rattle.std.specs.Prelude.{ℤ, int_lt, Option, Some, None, is_some, if◌the
 use Rattle.bson_base.specs.Reserved.{reserved_kind}
 use Rattle.bson_base.specs.declared.element_type.ElementType.{ElementType}
 use Rattle.bson_base.specs.declared.element_type.ElementType.TheVariants.{Int32}
-use Rattle.bson_base.specs.Tree.{Tree, string, int32, int64, document, Pairs, no_pairs, pair}
-use Rattle.bson_datum.specs.Value.{i64, greatest, written_as, Value, integer, str, structure, FieldValues, no_field_values, field_value}
+use Rattle.bson_base.specs.Tree.{Tree, string, int32, int64, document, array, Pairs, no_pairs, pair, Trees, no_trees, tree}
+use Rattle.bson_datum.specs.Value.{i64, greatest, written_as, Value, integer, str, sequence, structure, Items, no_items, item, FieldValues, no_field_values, field_value}
 
 -- a number as a value of a kind; an Int64 is none that is greater than the greatest of `i64`
 abbrev pub number_of : ElementType → ℤ → Option Tree
@@ -16,7 +16,12 @@ abbrev mutual
   pub means : Value → Option Tree
   means (integer type n) = number_of (written_as type) n
   means (str t) = Some (string t)
+  means (sequence vs) = option_map array (means_items vs)
   means (structure name fs) = if is_some (reserved_kind name) then None else option_map document (means_fields fs)
+
+  pub means_items : Items → Option Trees
+  means_items no_items = Some no_trees
+  means_items (item v vs) = option_and_then (λ t. option_map (tree t) (means_items vs)) (means v)
 
   pub means_fields : FieldValues → Option Pairs
   means_fields no_field_values = Some no_pairs
@@ -27,7 +32,12 @@ abbrev mutual
   pub norm : Value → Value
   norm (integer type n) = integer type n
   norm (str t) = str t
+  norm (sequence vs) = sequence (norm_items vs)
   norm (structure name fs) = structure name (norm_fields fs)
+
+  pub norm_items : Items → Items
+  norm_items no_items = no_items
+  norm_items (item v vs) = item (norm v) (norm_items vs)
 
   pub norm_fields : FieldValues → FieldValues
   norm_fields no_field_values = no_field_values

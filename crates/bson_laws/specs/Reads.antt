@@ -10,12 +10,12 @@ use Rattle.bson_rawdoc.specs.Envelope.{envelope}
 use Rattle.bson_rawdoc.specs.Walk.{Element, Walk, ended, faulty, then_walk, walk}
 use Rattle.bson_rawdoc.specs.RawValue.{RawValue, double, string, document, array, binary, boolean, null, javascript_code_with_scope, int32, int64, kind_of, value_in}
 use Rattle.bson_rawdoc.specs.declared.raw.Error as raw_error
-use Rattle.bson_shape.specs.Form.{Form, leaf, structure, Fields, no_fields, field}
+use Rattle.bson_shape.specs.Form.{Form, leaf, sequence, structure, Fields, no_fields, field}
 use Rattle.bson_laws.specs.Integers.{LeafKind, numbers, texts, leaf_kind}
 use Rattle.bson_datum.specs.Value as value
-use Rattle.bson_datum.specs.Value.{IntegerType, in_range, Value, FieldValues, no_field_values, field_value}
+use Rattle.bson_datum.specs.Value.{IntegerType, in_range, Value, Items, no_items, item, FieldValues, no_field_values, field_value}
 use Rattle.bson_datum.specs.Cause.{Cause, raw, too_deep, invalid_type, out_of_range, not_utf8, missing_field, duplicate_field, not_built}
-use Rattle.bson_datum.specs.Refusal.{Segment, at_key, at_index, ReadFault, unreadable, Refusal, here, inside, under, Failure, bare, with_path}
+use Rattle.bson_datum.specs.Refusal.{Segment, at_key, at_index, ReadFault, unreadable, Refusal, here, inside, under, under_index, Failure, bare, with_path}
 
 -- an answer of reading: something, or a refusal with its path
 abbrev pub Reading : Type 0 → Type 0
@@ -122,6 +122,17 @@ document_of (document bytes) = Ok bytes
 document_of (array bytes) = refused (not_built Array)
 document_of v = refused (no_document v)
 
+-- the bytes of a value that is an array
+abbrev pub array_of : RawValue → Reading Bytes
+array_of (array bytes) = Ok bytes
+array_of v = refused (invalid_type (kind_of v))
+
+-- the values in an array from this index on, up to the fault that ends their list
+abbrev pub reads_items : (ElementType → Bytes → Reading Value) → ℕ → Walk → Reading Items
+reads_items read i ended = Ok no_items
+reads_items read i (faulty e) = refused (raw e)
+reads_items read i (then_walk e w) = under_index i (read e.kind e.value) >>= λ v. result_map (item v) (reads_items read (suc i) w)
+
 -- the place of the field that has a name, from 0
 abbrev pub one_further : Option ℕ → Option ℕ
 one_further None = None
@@ -178,6 +189,7 @@ abbrev mutual
   -- the value of this kind in these bytes at a shape, with so many levels of documents left
   pub reads : Form → ℕ → ElementType → Bytes → Reading Value
   reads (leaf l) levels k bytes = judged levels (value_in k bytes) >>= read_leaf (leaf_kind l)
+  reads (sequence s) levels k bytes = judged levels (value_in k bytes) >>= array_of >>= λ b. result_map value.sequence (reads_items (reads s (levels - 1)) 0 (walk b))
   reads (structure name fs) levels k bytes =
       judged levels (value_in k bytes) >>= document_of >>= λ b. result_map (value.structure name) (reads_fields fs (levels - 1) (λ i. reads_field fs i (levels - 1)) (walk b))
 

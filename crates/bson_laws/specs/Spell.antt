@@ -1,28 +1,29 @@
 -- The tree that a value is written as, or why it is not written, and how large it is.
 use Rattle.std.specs.Prelude.{ℕ, ℤ, int_lt, zero, suc, ◌+◌, length, Option, Some, None, if◌then◌else◌, Result, Ok, Err}
+use Rattle.std.specs.Fmt.{decimal}
 use Rattle.bson_base.specs.Text.{Utf8, has_zero}
 use Rattle.bson_base.specs.Outcome.{◌>>=◌, result_map}
 use Rattle.bson_base.specs.Reserved.{reserved_kind}
 use Rattle.bson_base.specs.Sound.{max_levels}
-use Rattle.bson_base.specs.Tree.{Tree, string, int32, int64, document, Pairs, no_pairs, pair}
+use Rattle.bson_base.specs.Tree.{Tree, string, int32, int64, document, array, Pairs, no_pairs, pair, Trees, no_trees, tree}
 use Rattle.bson_base.specs.declared.element_type.ElementType.{ElementType}
 use Rattle.bson_base.specs.declared.element_type.ElementType.TheVariants.{EmbeddedDocument, Int32}
-use Rattle.bson_datum.specs.Value.{i64, greatest, written_as, Value, integer, str, structure, FieldValues, no_field_values, field_value, kind_of}
+use Rattle.bson_datum.specs.Value.{i64, greatest, written_as, Value, integer, str, sequence, structure, Items, no_items, item, FieldValues, no_field_values, field_value, kind_of}
 use Rattle.bson_datum.specs.Cause.{too_deep, top_level, not_built}
-use Rattle.bson_datum.specs.Refusal.{WriteFault, unwritable, invalid_cstring, unsigned_exceeds, Refusal, here, under}
+use Rattle.bson_datum.specs.Refusal.{WriteFault, unwritable, invalid_cstring, unsigned_exceeds, Refusal, here, under, under_index}
 
 -- an answer of writing: something, or a refusal with its path
 abbrev pub Writing : Type 0 → Type 0
 Writing A = Result A (Refusal WriteFault)
 
--- a document takes one of the levels that are left
-abbrev pub enclosed_at : ℕ → (ℕ → Writing Pairs) → Writing Tree
-enclosed_at zero pairs = Err (here (unwritable too_deep))
-enclosed_at (suc levels) pairs = result_map document (pairs levels)
+-- a document or an array, whose parts these are with so many levels left for them, takes one of the levels that are left
+abbrev pub enclosed_at : {A : Type 0} → (A → Tree) → ℕ → (ℕ → Writing A) → Writing Tree
+enclosed_at container zero parts = Err (here (unwritable too_deep))
+enclosed_at container (suc levels) parts = result_map container (parts levels)
 
 -- a struct of a name: one of a reserved name is not written yet
 abbrev pub struct_at : Option ElementType → ℕ → (ℕ → Writing Pairs) → Writing Tree
-struct_at None levels pairs = enclosed_at levels pairs
+struct_at None levels pairs = enclosed_at document levels pairs
 struct_at (Some k) levels pairs = Err (here (unwritable (not_built k)))
 
 -- the value of a field, whose name is judged before it
@@ -39,7 +40,13 @@ abbrev mutual
   pub spell : Value → ℕ → Writing Tree
   spell (integer type n) levels = spell_number (written_as type) n
   spell (str t) levels = Ok (string t)
+  spell (sequence vs) levels = enclosed_at array levels (spell_items 0 vs)
   spell (structure name fs) levels = struct_at (reserved_kind name) levels (spell_fields fs)
+
+  -- the values of a sequence from this index on
+  pub spell_items : ℕ → Items → ℕ → Writing Trees
+  spell_items i no_items levels = Ok no_trees
+  spell_items i (item v vs) levels = under_index i (spell v levels) >>= λ t. spell_items (suc i) vs levels >>= λ ts. Ok (tree t ts)
 
   pub spell_fields : FieldValues → ℕ → Writing Pairs
   spell_fields no_field_values levels = Ok no_pairs
@@ -64,9 +71,14 @@ abbrev mutual
   pub size : Value → ℕ
   size (integer type n) = number_size (written_as type)
   size (str t) = length t + 5
+  size (sequence vs) = size_items 0 vs + 5
   size (structure name fs) = size_fields fs + 5
 
-  -- an element takes one byte for its kind, its key and a zero, and its value
+  -- an element takes one byte for its kind, its key and a zero, and its value; the keys of an array are the decimal indexes from this one on
+  pub size_items : ℕ → Items → ℕ
+  size_items i no_items = 0
+  size_items i (item v vs) = length (decimal i) + 2 + size v + size_items (suc i) vs
+
   pub size_fields : FieldValues → ℕ
   size_fields no_field_values = 0
   size_fields (field_value name v fs) = length name + 2 + size v + size_fields fs

@@ -6,7 +6,7 @@ use Rattle.std.proofs.lemmas.Bool.{eqb-true}
 use Rattle.bson_base.specs.Sound.{IsSound}
 use Rattle.bson_base.specs.Text.{Bytes, Utf8}
 use Rattle.bson_base.specs.Tree.{Tree, enc}
-use Rattle.bson_shape.specs.Form.{Form, leaf, structure}
+use Rattle.bson_shape.specs.Form.{Form, leaf, sequence, structure}
 use Rattle.bson_shape.specs.Machine.{parsed}
 use Rattle.bson_shape.specs.Makers.{IsShape}
 use Rattle.bson_shape.proofs.Texts.{parsed-shape}
@@ -56,6 +56,7 @@ no_option (leaf U16) = refl
 no_option (leaf U32) = refl
 no_option (leaf U64) = refl
 no_option (leaf String) = refl
+no_option (sequence s) = refl
 no_option (structure [] fs) = refl
 no_option (structure (c ∷ name) fs) = begins_no_option (bare (c ∷ name)) (c ∷ name) _ refl
 

@@ -1,4 +1,4 @@
--- The end of a document.
+-- The end of a document or an array.
 use Rattle.std.proofs.Common.{◌≡◌, ℕ, ◌+◌, ◌-◌, ◌≤◌, [], ◌∷◌, ◌++◌, length, take, drop, ap, sym, ◌∙◌, append_assoc, arith}
 use Rattle.std.specs.Int.{w32, to_le_bytes, cast_signed}
 use Rattle.std.proofs.lemmas.Int.{of_z-to_z}
@@ -8,9 +8,9 @@ use Rattle.bson_base.specs.Sound.{max_bytes}
 use Rattle.bson_base.specs.Tree.{le32}
 use Rattle.bson_base.proofs.Lengths.{length-le32}
 use Rattle.bson_io.specs.Output.{Output, Appended, Patched, patched, i32_bytes}
+use Rattle.bson_ser_stream.specs.Writing.{length_place}
 use Rattle.bson_ser_stream.specs.Halting.{Ends, Grows}
 use Rattle.bson_ser_stream.proofs.Growth.{Grows-trans, Grows-appended, Grows-longer}
-use Rattle.bson_ser_stream.proofs.Written.{zeros}
 
 -- a length in four bytes
 pub length_bytes : (n : ℕ) → n ≤ max_bytes → i32_bytes (cast_signed w32 n) ≡ le32 n
@@ -39,11 +39,11 @@ length-patched : (bytes piece : Bytes) (at : ℕ) → at + length piece ≤ leng
 length-patched bytes piece at inside =
     omega (arith, length-append (take at bytes ++ piece) (drop (at + length piece) bytes), length-append (take at bytes) piece, length-take-le at bytes (omega arith), length-drop (at + length piece) bytes)
 
--- a document that was begun, filled and ended was appended
-pub Grows-document : (old begun mid new : Output) (start s0 s1 s2 s3 : ℕ) → start ≡ length old.bytes → Appended old begun zeros s0 s1 → Grows begun mid s1 s2 → Ends mid new start s2 s3 → Grows old new s0 s3
-Grows-document old begun mid new start s0 s1 s2 s3 at begins grows ends =
-    let filled = Grows-trans old begun mid s0 s1 s2 (Grows-appended old begun zeros s0 s1 begins) grows in
-    let four : length begun.bytes ≡ length old.bytes + 4 = ap length begins.bytes ∙ length-append old.bytes zeros in
+-- a document or an array that was begun, filled and ended was appended
+pub Grows-container : (old begun mid new : Output) (start s0 s1 s2 s3 : ℕ) → start ≡ length old.bytes → Appended old begun length_place s0 s1 → Grows begun mid s1 s2 → Ends mid new start s2 s3 → Grows old new s0 s3
+Grows-container old begun mid new start s0 s1 s2 s3 at begins grows ends =
+    let filled = Grows-trans old begun mid s0 s1 s2 (Grows-appended old begun length_place s0 s1 begins) grows in
+    let four : length begun.bytes ≡ length old.bytes + 4 = ap length begins.bytes ∙ length-append old.bytes length_place in
     let longer = Grows-longer begun mid s1 s2 grows in
     let closed : length (mid.bytes ++ 0 ∷ []) ≡ length mid.bytes + 1 = length-append mid.bytes (0 ∷ []) in
     let n : ℕ = length mid.bytes + 1 - start in

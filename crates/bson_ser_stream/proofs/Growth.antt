@@ -1,9 +1,8 @@
 -- Bytes appended behind bytes appended.
-use Rattle.std.proofs.Common.{◌≡◌, ℕ, ◌+◌, ◌≤◌, [], ◌∷◌, ◌++◌, length, take, refl, ap, ◌∙◌, arith}
+use Rattle.std.proofs.Common.{◌≡◌, ℕ, ◌≤◌, [], ◌∷◌, length, take, refl, ap, ◌∙◌, arith}
 use Rattle.std.proofs.lemmas.List.{length-append, take_at}
-use Rattle.bson_base.specs.Text.{Bytes, Utf8}
+use Rattle.bson_base.specs.Text.{Bytes}
 use Rattle.bson_io.specs.Output.{Output, Appended}
-use Rattle.bson_ser_stream.specs.Writing.{front}
 use Rattle.bson_ser_stream.specs.Halting.{Grows}
 
 taken_longer : (a b : Bytes) → take (length a) b ≡ a → length a ≤ length b
@@ -31,7 +30,3 @@ Grows-appended a b piece before now p =
 
 pub Grows-longer : (a b : Output) (before now : ℕ) → Grows a b before now → length a.bytes ≤ length b.bytes
 Grows-longer a b before now h = taken_longer a.bytes b.bytes h.kept
-
--- the front of an element is two bytes longer than its key
-pub length-front : (a b : Output) (key : Utf8) → b.bytes ≡ a.bytes ++ front key → length b.bytes ≡ length a.bytes + length key + 2
-length-front a b key e = omega (arith, ap length e, length-append a.bytes (front key), length-append key (0 ∷ []))

@@ -1,92 +1,78 @@
 -- Why a part was not written tells why the whole was not.
-use Rattle.std.proofs.Common.{◌≡◌, ℕ, ◌+◌, ◌<◌, ◌≤◌, [], ◌∷◌, ◌++◌, length, reverse, Bool, true, false, cond, Result, Ok, Err, refl, ap, sym, subst, ◌∙◌, arith}
+use Rattle.std.proofs.Common.{◌≡◌, ℕ, suc, ◌+◌, ◌≤◌, length, Result, Ok, Err, refl, ap, sym, subst, ◌∙◌, arith}
 use Rattle.std.specs.Prelude.{Some, IsOk, is_ok}
-use Rattle.std.proofs.lemmas.List.{reverse-append}
-use Rattle.bson_base.specs.Text.{Bytes, Utf8, has_zero}
+use Rattle.std.specs.Fmt.{decimal}
+use Rattle.bson_base.specs.Text.{Bytes, Utf8}
 use Rattle.bson_base.specs.Outcome.{◌>>=◌}
 use Rattle.bson_base.specs.Sound.{IsSound}
-use Rattle.bson_base.specs.Tree.{Tree, Pairs, pair}
-use Rattle.bson_datum.specs.Value.{Value, FieldValues, field_value}
-use Rattle.bson_datum.specs.Refusal.{Refusal, WriteFault, in_key, under, at_key}
-use Rattle.bson_datum.specs.Stop.{segments_out}
-use Rattle.bson_datum.specs.ErrorView.{write_fault}
-use Rattle.bson_datum.specs.declared.ser.Fault.{Fault}
-use Rattle.bson_datum.specs.declared.stop.Refused as code
+use Rattle.bson_base.specs.Tree.{Tree, pair, tree, elements, array_elements}
+use Rattle.bson_datum.specs.Value.{Value, Items, item, FieldValues, field_value}
+use Rattle.bson_datum.specs.Refusal.{Refusal, WriteFault, under_index}
 use Rattle.bson_datum.specs.declared.stop.Stop.TheVariants.{Refused, NoMemory}
 use Rattle.bson_io.specs.Output.{Output}
 use Rattle.bson_laws.specs.Means.{means}
-use Rattle.bson_laws.specs.Spell.{Writing, named, spell, spell_fields, spell_document, size, size_fields}
+use Rattle.bson_laws.specs.Spell.{Writing, named, spell, spell_items, spell_fields, spell_document, size, size_items, size_fields}
 use Rattle.bson_laws.proofs.Spelled.{spell_means}
-use Rattle.bson_ser_stream.specs.Writing.{with_tree, with_element, with_elements}
-use Rattle.bson_ser_stream.specs.Halting.{Halts, Gives, Grows, EndHalts, IsUnder}
-use Rattle.bson_ser_stream.proofs.Written.{length-with_elements}
+use Rattle.bson_ser_stream.specs.Writing.{with_bytes, with_tree, with_element, with_elements, with_array_elements}
+use Rattle.bson_ser_stream.specs.Halting.{Halts, Gives, Grows, EndHalts}
+use Rattle.bson_ser_stream.proofs.Written.{length-with_elements, length-with_array_elements}
 use Rattle.bson_ser_stream.specs.declared.halt.Halt.{Halt}
 use Rattle.bson_ser_stream.specs.declared.halt.Halt.TheVariants.{Stopped, TooLong}
 
 pub gives_err : {X Y : Type 0} (size spare : ℕ) (view : X → Y) (result : Result X Halt) (h : Halt) (due : Writing Y) → result ≡ Err h → Halts size spare due h → Gives size spare view result due
 gives_err size spare view result h due is halts = subst (λ r. Gives size spare view r due) (sym is) halts
 
--- a document that is not ended
+-- a document or an array that is not ended
 pub unended : {A : Type 0} (h : Halt) (total spare start : ℕ) (mid : Output) (due : Writing A) → length mid.bytes + 1 ≡ total + start → spare + start ≤ length mid.bytes + mid.spare → EndHalts mid start h → Halts total spare due h
 unended (Stopped NoMemory) total spare start mid due long room e = λ _. omega (arith, e.1)
 unended (Stopped (Refused r)) total spare start mid due long room e = absurd e.0
 unended TooLong total spare start mid due long room e = omega (arith, e)
 
-ok_inside : (b : Bool) (f : Refusal WriteFault) (r : Writing Tree) (old front key : Bytes) → b ≡ false → IsOk (with_element old key (cond b (Err f) (under key r))) → IsOk (with_tree front r)
-ok_inside true f r old front key e h = absurd cc
-ok_inside false f (Ok t) old front key e h = refl
-ok_inside false f (Err g) old front key e h = absurd cc
-
-err_outside : (b : Bool) (f g : Refusal WriteFault) (r : Writing Tree) (old front key : Bytes) → b ≡ false → with_tree front r ≡ Err g → with_element old key (cond b (Err f) (under key r)) ≡ Err (in_key key g)
-err_outside true f g r old front key e h = absurd cc
-err_outside false f g (Ok t) old front key e h = absurd cc
-err_outside false f g (Err d) old front key e h = let same : d ≡ g = cc in ap (λ x. Err (in_key key x)) same
-
 no_ok : {A : Type 0} (r : Writing A) (f : Refusal WriteFault) → r ≡ Err f → IsOk r → ⊥
 no_ok (Ok x) f e h = absurd cc
 no_ok (Err g) f e h = absurd cc
-
--- one more step of the path
-one_more : (r s : code.Refused Fault) (key : Utf8) → s.fault ≡ r.fault → segments_out s ≡ segments_out r ++ at_key key ∷ [] → in_key key (record { path = reverse (segments_out r); fault = write_fault r.fault }) ≡ record { path = reverse (segments_out s); fault = write_fault s.fault }
-one_more r s key same more =
-    let path : at_key key ∷ reverse (segments_out r) ≡ reverse (segments_out s) = sym (ap reverse more ∙ reverse-append (segments_out r) (at_key key ∷ [])) in
-    λ i. record { path = path i; fault = write_fault (sym same i) }
-
--- an element whose value is not written
-pub under_halts : (h u : Halt) (key : Utf8) (v : Value) (levels spare : ℕ) (old : Bytes) (front : Output) → has_zero key ≡ false → spare < front.spare + length key + 3
-    → Halts (size v) front.spare (with_tree front.bytes (spell v levels)) h → IsUnder key h u → Halts (length key + 2 + size v) spare (with_element old key (named key (spell v levels))) u
-under_halts TooLong u key v levels spare old front z room halts is = subst (Halts (length key + 2 + size v) spare (with_element old key (named key (spell v levels)))) (sym is) (omega (arith, halts))
-under_halts (Stopped s) TooLong key v levels spare old front z room halts is = absurd is
-under_halts (Stopped NoMemory) (Stopped NoMemory) key v levels spare old front z room halts is = λ ok. let less = halts (ok_inside (has_zero key) _ (spell v levels) old front.bytes key z ok) in omega (arith, less)
-under_halts (Stopped NoMemory) (Stopped (Refused s)) key v levels spare old front z room halts is = absurd is
-under_halts (Stopped (Refused r)) (Stopped NoMemory) key v levels spare old front z room halts is = λ ok. absurd (no_ok (with_tree front.bytes (spell v levels)) _ halts (ok_inside (has_zero key) _ (spell v levels) old front.bytes key z ok))
-under_halts (Stopped (Refused r)) (Stopped (Refused s)) key v levels spare old front z room halts is =
-    err_outside (has_zero key) _ _ (spell v levels) old front.bytes key z halts ∙ ap Err (one_more r s key is.0 is.1)
 
 ok_value : {A : Type 0} (r : Writing A) → IsOk r → (x : A) × (r ≡ Ok x)
 ok_value (Ok x) h = (x, refl)
 ok_value (Err f) h = absurd cc
 
-ok_first : (r : Writing Tree) (s : Writing Pairs) (old key new : Bytes) → with_elements old (r >>= λ t. s >>= λ ps. Ok (pair key t ps)) ≡ Ok new → IsOk (with_element old key r)
-ok_first (Ok t) s old key new e = refl
-ok_first (Err f) s old key new e = absurd cc
+-- an element and those behind it
+abbrev first_and : {A : Type 0} → (Tree → A → A) → Writing Tree → Writing A → Writing A
+first_and join r s = r >>= λ t. s >>= λ xs. Ok (join t xs)
 
-err_first : (r : Writing Tree) (s : Writing Pairs) (old key : Bytes) (f : Refusal WriteFault) → with_element old key r ≡ Err f → with_elements old (r >>= λ t. s >>= λ ps. Ok (pair key t ps)) ≡ Err f
-err_first (Ok t) s old key f e = absurd cc
-err_first (Err g) s old key f e = let same : g ≡ f = cc in ap Err same
+ok_first : {A : Type 0} (bytes : A → Bytes) (join : Tree → A → A) (r : Writing Tree) (s : Writing A) (old key new : Bytes) → with_bytes bytes old (first_and join r s) ≡ Ok new → IsOk (with_element old key r)
+ok_first bytes join (Ok t) s old key new e = refl
+ok_first bytes join (Err f) s old key new e = absurd cc
+
+err_first : {A : Type 0} (bytes : A → Bytes) (join : Tree → A → A) (r : Writing Tree) (s : Writing A) (old key : Bytes) (f : Refusal WriteFault) → with_element old key r ≡ Err f → with_bytes bytes old (first_and join r s) ≡ Err f
+err_first bytes join (Ok t) s old key f e = absurd cc
+err_first bytes join (Err g) s old key f e = let same : g ≡ f = cc in ap Err same
+
+-- elements of which one is not written, behind others that were
+rest_halts : {A : Type 0} (bytes : A → Bytes) (join : Tree → A → A) (r : Writing Tree) (s : Writing A) (due : Writing Bytes) (key : Utf8) (h : Halt) (first left all before now : ℕ) (old mid : Output) → with_bytes bytes mid.bytes (first_and join r s) ≡ due
+    → ((new : Bytes) → due ≡ Ok new → length new ≡ length old.bytes + all) → ((new : Bytes) → due ≡ Ok new → length new ≡ length mid.bytes + left) → first ≤ left → left ≤ all → Grows old mid before now
+    → Halts first mid.spare (with_element mid.bytes key r) h → Halts all old.spare due h
+rest_halts bytes join r s due key TooLong first left all before now old mid same long longer within less grows halts = omega (arith, halts)
+rest_halts bytes join r s due key (Stopped (Refused x)) first left all before now old mid same long longer within less grows halts = sym same ∙ err_first bytes join r s mid.bytes key _ halts
+rest_halts bytes join r s due key (Stopped NoMemory) first left all before now old mid same long longer within less grows halts = λ ok.
+    let whole = ok_value due ok in
+    omega (arith, halts (ok_first bytes join r s mid.bytes key whole.0 (same ∙ whole.1)), grows.room, long whole.0 whole.1, longer whole.0 whole.1)
 
 -- the fields behind a field that is not written
 pub field_halts : (h : Halt) (key : Utf8) (v : Value) (rest left all : FieldValues) (levels before now : ℕ) (old mid : Output) → left ≡ field_value key v rest
-    → with_elements mid.bytes (spell_fields left levels) ≡ with_elements old.bytes (spell_fields all levels) → size_fields left ≤ size_fields all → Grows old mid before now
-    → Halts (length key + 2 + size v) mid.spare (with_element mid.bytes key (named key (spell v levels))) h → Halts (size_fields all) old.spare (with_elements old.bytes (spell_fields all levels)) h
-field_halts TooLong key v rest left all levels before now old mid is same less grows halts = omega (arith, ap size_fields is, halts)
-field_halts (Stopped (Refused r)) key v rest left all levels before now old mid is same less grows halts =
-    sym same ∙ ap (λ l. with_elements mid.bytes (spell_fields l levels)) is ∙ err_first (named key (spell v levels)) (spell_fields rest levels) mid.bytes key _ halts
-field_halts (Stopped NoMemory) key v rest left all levels before now old mid is same less grows halts = λ ok.
-    let whole = ok_value (with_elements old.bytes (spell_fields all levels)) ok in
-    let here : with_elements mid.bytes (spell_fields left levels) ≡ Ok whole.0 = same ∙ whole.1 in
-    let first = ok_first (named key (spell v levels)) (spell_fields rest levels) mid.bytes key whole.0 (ap (λ l. with_elements mid.bytes (spell_fields l levels)) (sym is) ∙ here) in
-    omega (arith, halts first, grows.room, ap size_fields is, length-with_elements old.bytes whole.0 all levels whole.1, length-with_elements mid.bytes whole.0 left levels here)
+    → with_elements mid.bytes (spell_fields left levels) ≡ with_elements old.bytes (spell_fields all levels) → size_fields left ≤ size_fields all → Grows old mid before now → Halts (length key + 2 + size v) mid.spare (with_element mid.bytes key (named key (spell v levels))) h
+    → Halts (size_fields all) old.spare (with_elements old.bytes (spell_fields all levels)) h
+field_halts h key v rest left all levels before now old mid is same less grows halts =
+    rest_halts elements (pair key) (named key (spell v levels)) (spell_fields rest levels) _ key h (length key + 2 + size v) (size_fields left) (size_fields all) before now old mid
+    (ap (λ l. with_elements mid.bytes (spell_fields l levels)) (sym is) ∙ same) (λ new e. length-with_elements old.bytes new all levels e) (λ new e. length-with_elements mid.bytes new left levels (same ∙ e)) (omega (arith, ap size_fields is)) less grows halts
+
+-- the values behind a value of a sequence that is not written
+pub item_halts : (h : Halt) (i : ℕ) (v : Value) (rest left all : Items) (levels before now : ℕ) (old mid : Output) → left ≡ item v rest
+    → with_array_elements mid.bytes i (spell_items i left levels) ≡ with_array_elements old.bytes 0 (spell_items 0 all levels) → size_items i left ≤ size_items 0 all → Grows old mid before now → Halts (length (decimal i) + 2 + size v) mid.spare (with_element mid.bytes (decimal i) (under_index i (spell v levels))) h
+    → Halts (size_items 0 all) old.spare (with_array_elements old.bytes 0 (spell_items 0 all levels)) h
+item_halts h i v rest left all levels before now old mid is same less grows halts =
+    rest_halts (array_elements i) tree (under_index i (spell v levels)) (spell_items (suc i) rest levels) _ (decimal i) h (length (decimal i) + 2 + size v) (size_items i left) (size_items 0 all) before now old mid
+    (ap (λ l. with_array_elements mid.bytes i (spell_items i l levels)) (sym is) ∙ same) (λ new e. length-with_array_elements old.bytes new 0 all levels e) (λ new e. length-with_array_elements mid.bytes new i left levels (same ∙ e)) (omega (arith, ap (size_items i) is)) less grows halts
 
 -- what means a sound document is written where its room is spare
 pub sound_written : (h : Halt) (v : Value) (t : Tree) (old : Bytes) (spare : ℕ) → means v ≡ Some t → IsSound t → size v ≤ spare → Halts (size v) spare (with_tree old (spell_document v)) h → ⊥

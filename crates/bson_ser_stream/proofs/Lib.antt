@@ -4,6 +4,8 @@ pub mod Ended
 pub mod Texts
 pub mod Elements
 pub mod Halted
+pub mod Containers
 pub mod Structs
+pub mod Sequences
 pub mod Limits
 pub mod Meant

@@ -5,13 +5,13 @@ use Rattle.bson_base.specs.Text.{Bytes, Utf8, has_zero}
 use Rattle.bson_base.specs.Outcome.{◌>>=◌, result_map}
 use Rattle.bson_base.specs.Reserved.{reserved_kind}
 use Rattle.bson_base.specs.Sound.{max_bytes, max_levels}
-use Rattle.bson_base.specs.Tree.{Tree, int64, document, Pairs, pair}
+use Rattle.bson_base.specs.Tree.{Tree, int64, document, array, Pairs, pair, tree}
 use Rattle.bson_base.specs.declared.element_type.ElementType.{ElementType}
 use Rattle.bson_base.specs.declared.element_type.ElementType.TheVariants.{EmbeddedDocument, Int32}
 use Rattle.bson_datum.specs.Cause.{Cause, too_long}
-use Rattle.bson_datum.specs.Refusal.{WriteFault, unwritable, invalid_cstring, unsigned_exceeds, Refusal, here, under, Failure, no_memory, bare, placed, with_path}
-use Rattle.bson_datum.specs.Value.{i64, greatest, written_as, Value, integer, str, structure, FieldValues, no_field_values, field_value, kind_of}
-use Rattle.bson_laws.specs.Spell.{Writing, spell_number, struct_at, named, spell, spell_fields, at_top, spell_document, size}
+use Rattle.bson_datum.specs.Refusal.{WriteFault, unwritable, invalid_cstring, unsigned_exceeds, Refusal, Segment, at_key, at_index, here, inside, under_index, under, Failure, no_memory, bare, placed, with_path}
+use Rattle.bson_datum.specs.Value.{i64, greatest, written_as, Value, integer, str, sequence, structure, Items, no_items, item, FieldValues, no_field_values, field_value, kind_of}
+use Rattle.bson_laws.specs.Spell.{Writing, spell_number, enclosed_at, struct_at, named, spell, spell_items, spell_fields, at_top, spell_document, size}
 use Rattle.bson_datum.specs.Stop.{IsPlaced}
 use Rattle.bson_datum.specs.declared.stop.Stop.TheVariants.{Refused, NoMemory}
 use Rattle.bson_ser_stream.specs.Writing.{with_tree, IsDue, Fails, too_long_failure}
@@ -33,24 +33,30 @@ abbrev Else : {A : Type 0} → Writing A → Type 0
 Else (Ok x) = Unit {0}
 Else (Err r) = IsLengthFault r.fault → ⊥
 
-mapped : (r : Writing Pairs) → Else r → Else (result_map document r)
-mapped (Ok ps) h = tt
-mapped (Err r) h = h
+mapped : {A : Type 0} (container : A → Tree) (r : Writing A) → Else r → Else (result_map container r)
+mapped container (Ok x) h = tt
+mapped container (Err r) h = h
+
+enclosed_else : {A : Type 0} (container : A → Tree) (levels : ℕ) (parts : ℕ → Writing A) → ((n : ℕ) → Else (parts n)) → Else (enclosed_at container levels parts)
+enclosed_else container zero parts h = λ e. e
+enclosed_else container (suc n) parts h = mapped container (parts n) (h n)
 
 struct_else : (o : Option ElementType) (levels : ℕ) (pairs : ℕ → Writing Pairs) → ((n : ℕ) → Else (pairs n)) → Else (struct_at o levels pairs)
 struct_else (Some k) levels pairs h = λ e. e
-struct_else None zero pairs h = λ e. e
-struct_else None (suc n) pairs h = mapped (pairs n) (h n)
+struct_else None levels pairs h = enclosed_else document levels pairs h
+
+inside_else : (segment : Segment) (r : Writing Tree) → Else r → Else (inside segment r)
+inside_else segment (Ok t) h = tt
+inside_else segment (Err f) h = h
 
 named_else : (b : Bool) (name : Utf8) (r : Writing Tree) → Else r → Else (cond b (Err (here (invalid_cstring name))) (under name r))
 named_else true name r h = λ e. e
-named_else false name (Ok t) h = tt
-named_else false name (Err f) h = h
+named_else false name r h = inside_else (at_key name) r h
 
-both_else : (name : Utf8) (r : Writing Tree) (s : Writing Pairs) → Else r → Else s → Else (r >>= λ t. s >>= λ ps. Ok (pair name t ps))
-both_else name (Err f) s h k = h
-both_else name (Ok t) (Err f) h k = k
-both_else name (Ok t) (Ok ps) h k = tt
+both_else : {A : Type 0} (join : Tree → A → A) (r : Writing Tree) (s : Writing A) → Else r → Else s → Else (r >>= λ t. s >>= λ xs. Ok (join t xs))
+both_else join (Err f) s h k = h
+both_else join (Ok t) (Err f) h k = k
+both_else join (Ok t) (Ok xs) h k = tt
 
 wide_else : (b : Bool) (n : ℤ) → Else (cond b (Err (here (unsigned_exceeds n))) (Ok (int64 n)))
 wide_else true n = λ e. e
@@ -64,11 +70,16 @@ mutual
   spell_else : (v : Value) (levels : ℕ) → Else (spell v levels)
   spell_else (integer type n) levels = number_else (written_as type) n
   spell_else (str t) levels = tt
+  spell_else (sequence vs) levels = enclosed_else array levels (spell_items 0 vs) (λ n. items_else 0 vs n)
   spell_else (structure name fs) levels = struct_else (reserved_kind name) levels (spell_fields fs) (λ n. fields_else fs n)
+
+  items_else : (i : ℕ) (vs : Items) (levels : ℕ) → Else (spell_items i vs levels)
+  items_else i no_items levels = tt
+  items_else i (item v vs) levels = both_else tree (under_index i (spell v levels)) (spell_items (suc i) vs levels) (inside_else (at_index i) (spell v levels) (spell_else v levels)) (items_else (suc i) vs levels)
 
   fields_else : (fs : FieldValues) (levels : ℕ) → Else (spell_fields fs levels)
   fields_else no_field_values levels = tt
-  fields_else (field_value name v fs) levels = both_else name (named name (spell v levels)) (spell_fields fs levels) (named_else (has_zero name) name (spell v levels) (spell_else v levels)) (fields_else fs levels)
+  fields_else (field_value name v fs) levels = both_else (pair name) (named name (spell v levels)) (spell_fields fs levels) (named_else (has_zero name) name (spell v levels) (spell_else v levels)) (fields_else fs levels)
 
 top_else : (k : ElementType) (r : Writing Tree) → Else r → Else (at_top k r)
 top_else EmbeddedDocument r h = h

@@ -1,11 +1,11 @@
 -- What a writer leaves, whether it comes to its end or halts.
 use Rattle.std.specs.Prelude.{◌≡◌, ℕ, ◌+◌, ◌-◌, ◌*◌, ◌<◌, ◌≤◌, [], ◌∷◌, ◌++◌, length, take, Option, Some, Result, Ok, Err, IsOk, MatchOption, IfSome}
-use Rattle.bson_base.specs.Text.{Utf8}
 use Rattle.bson_base.specs.Sound.{max_bytes}
 use Rattle.bson_base.specs.Tree.{le32}
 use Rattle.bson_datum.specs.Cause.{too_long}
-use Rattle.bson_datum.specs.Refusal.{WriteFault, unwritable, Refusal, here}
-use Rattle.bson_datum.specs.Stop.{stop_view, IsOutOfMemory, IsUnderKey}
+use Rattle.bson_datum.specs.Refusal.{WriteFault, unwritable, Refusal, here, Segment}
+use Rattle.bson_datum.specs.Stop as stop
+use Rattle.bson_datum.specs.Stop.{stop_view, IsOutOfMemory}
 use Rattle.bson_datum.specs.ErrorView.{write_fault}
 use Rattle.bson_io.specs.Output.{Output, patched}
 use Rattle.bson_laws.specs.Spell.{Writing}
@@ -32,11 +32,11 @@ abbrev pub IsHereOrWant : WriteFault → Halt → Type 0
 IsHereOrWant f (Stopped s) = IfSome (stop_view write_fault s) (λ r. r ≡ here f)
 IsHereOrWant f TooLong = ⊥
 
--- the same, seen from the document that has the value at this key, or want of memory
-abbrev pub IsUnder : Utf8 → Halt → Halt → Type 0
-IsUnder key (Stopped s) (Stopped t) = IsUnderKey key s t
-IsUnder key (Stopped s) TooLong = ⊥
-IsUnder key TooLong h = h ≡ TooLong
+-- the same, seen from the value that has the value at this segment, or want of memory
+abbrev pub IsUnder : Segment → Halt → Halt → Type 0
+IsUnder segment (Stopped s) (Stopped t) = stop.IsUnder segment s t
+IsUnder segment (Stopped s) TooLong = ⊥
+IsUnder segment TooLong h = h ≡ TooLong
 
 -- Why something of a size is not written into so much spare room: a refusal is the one that is due, memory runs out only where
 -- another refusal is due or the room is too small, and only what has more bytes than a document may is too long.
@@ -56,14 +56,14 @@ pub record Grows (old new : Output) (before now : ℕ) : Type 0 where
   pub least : before + length new.bytes ≤ now + length old.bytes
   pub most : now + 2 * length old.bytes ≤ before + 2 * length new.bytes
 
--- A document that begins at a place is ended: a zero stands behind it, and its length in its first four bytes.
+-- A document or an array that begins at a place is ended: a zero stands behind it, and its length in its first four bytes.
 pub record Ends (old new : Output) (start before now : ℕ) : Type 0 where
   pub bytes : new.bytes ≡ patched (old.bytes ++ 0 ∷ []) start (le32 (length old.bytes + 1 - start))
   pub fits : length old.bytes + 1 - start ≤ max_bytes
   pub spare : old.spare ≤ new.spare + 1
   pub steps : now ≡ before + 5
 
--- why a document that begins at a place is not ended: no byte is spare, or it has too many bytes
+-- why a document or an array that begins at a place is not ended: no byte is spare, or it has too many bytes
 abbrev pub EndHalts : Output → ℕ → Halt → Type 0
 EndHalts old start (Stopped s) = IsOutOfMemory s × (old.spare < 1)
 EndHalts old start TooLong = max_bytes < length old.bytes + 1 - start

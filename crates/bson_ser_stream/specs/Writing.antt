@@ -1,19 +1,23 @@
 -- What a writer answers.
-use Rattle.std.specs.Prelude.{◌≡◌, ℕ, ◌<◌, [], ◌∷◌, ◌++◌, ◌⊎◌, Result, Ok, Err}
+use Rattle.std.specs.Prelude.{◌≡◌, ℕ, zero, suc, ◌<◌, [], ◌∷◌, ◌++◌, ◌⊎◌, Result, Ok, Err}
 use Rattle.std.specs.Global.{Vec}
 use Rattle.bson_base.specs.Text.{Bytes, Utf8}
 use Rattle.bson_base.specs.Outcome.{result_map}
 use Rattle.bson_base.specs.Sound.{max_bytes}
-use Rattle.bson_base.specs.Tree.{Tree, Pairs, enc, elements, element, kind}
-use Rattle.bson_datum.specs.Cause.{too_long}
+use Rattle.bson_base.specs.Tree.{Tree, Pairs, Trees, enc, elements, array_elements, element, kind}
+use Rattle.bson_datum.specs.Cause.{too_deep, too_long}
 use Rattle.bson_datum.specs.Refusal.{WriteFault, unwritable, here, Failure, no_memory, with_path}
 use Rattle.bson_datum.specs.ErrorView.{write_failure}
 use Rattle.bson_datum.specs.declared.ser.Error.{Error}
 use Rattle.bson_laws.specs.Spell.{Writing}
 
+-- the bytes so far, with those of what is written behind them
+abbrev pub with_bytes : {A : Type 0} → (A → Bytes) → Bytes → Writing A → Writing Bytes
+with_bytes bytes old r = result_map (λ x. old ++ bytes x) r
+
 -- the bytes so far, with those of a value behind them
 abbrev pub with_tree : Bytes → Writing Tree → Writing Bytes
-with_tree old r = result_map (λ t. old ++ enc t) r
+with_tree = with_bytes enc
 
 -- the front of an element before its kind is known: a zero in the place of the kind, and the key closed by a zero
 abbrev pub front : Utf8 → Bytes
@@ -21,11 +25,24 @@ front key = 0 ∷ (key ++ 0 ∷ [])
 
 -- the bytes so far, with an element behind them
 abbrev pub with_element : Bytes → Utf8 → Writing Tree → Writing Bytes
-with_element old key r = result_map (λ t. old ++ element (kind t) key (enc t)) r
+with_element old key = with_bytes (λ t. element (kind t) key (enc t)) old
 
 -- the bytes so far, with the elements of a document behind them
 abbrev pub with_elements : Bytes → Writing Pairs → Writing Bytes
-with_elements old r = result_map (λ ps. old ++ elements ps) r
+with_elements = with_bytes elements
+
+-- the bytes so far, with the elements of an array from an index on behind them
+abbrev pub with_array_elements : Bytes → ℕ → Writing Trees → Writing Bytes
+with_array_elements old i = with_bytes (array_elements i) old
+
+-- four zeros in the place of a length
+abbrev pub length_place : Bytes
+length_place = 0 ∷ 0 ∷ 0 ∷ 0 ∷ []
+
+-- how many levels are left for what stands in a document or an array, which takes one of those that are left
+abbrev pub level_inside : ℕ → Writing ℕ
+level_inside zero = Err (here (unwritable too_deep))
+level_inside (suc levels) = Ok levels
 
 -- the failure for a document that would have more bytes than a document may; it names no value inside
 abbrev pub too_long_failure : Failure WriteFault

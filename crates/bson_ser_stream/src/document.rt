@@ -18,7 +18,7 @@ use bson_datum::{Cause, Datum};
 use bson_io::{Ledger, Out, Steps, Tally};
 use std::alloc::Global;
 
-// The most levels of documents.
+// The most levels of documents and arrays.
 const MAX_LEVELS: u32 = 200;
 
 // A whole document, or as much of it as was written before a refusal.
@@ -43,16 +43,17 @@ fn put_whole<L: Ledger>(
 
 /// Appends the bytes of a document to an output buffer, in one pass over the datum.
 ///
-/// A struct is a document of its fields, in order. `I8`, `I16`, `I32`, `U8` and `U16` are an int32, `I64`, `U32` and `U64` an
-/// int64, and `Str` is a string (bsonspec.org, version 1.1). `steps` counts one for each byte that is appended, and one for
-/// each byte that is written over the place of a kind or a length.
+/// A struct is a document of its fields, in order. A sequence is an array of its values, in order, whose keys are their indexes
+/// from 0 in decimal digits. `I8`, `I16`, `I32`, `U8` and `U16` are an int32, `I64`, `U32` and `U64` an int64, and `Str` is a
+/// string (bsonspec.org, version 1.1). `steps` counts one for each byte that is appended, and one for each byte that is written
+/// over the place of a kind or a length.
 ///
 /// # Errors
 ///
 /// The first refusal in document order, as `WithPath`, or `NoMemory`. After any error `out` holds the bytes that it had.
 ///
 /// - `SerializationError` with `TopLevel`: the datum is written as a value of this kind, which is no document.
-/// - `SerializationError` with `TooDeep`: a struct stands at level 201. The whole document is at level 1.
+/// - `SerializationError` with `TooDeep`: a struct or a sequence stands at level 201. The whole document is at level 1.
 /// - `SerializationError` with `NotBuilt`: a struct has a reserved name.
 /// - `UnsignedIntegerExceededRange`: a `U64` is greater than 9223372036854775807, the greatest that an int64 holds.
 /// - `InvalidCString`: a zero character stands in the name of a field. The path is that of its struct.

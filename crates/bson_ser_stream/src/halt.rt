@@ -1,6 +1,6 @@
 // Why writing stopped before its end.
 ghost use Rattle.std.specs.Prelude.{◌≡◌};
-ghost use Rattle.bson_datum.specs.Refusal.{unwritable};
+ghost use Rattle.bson_datum.specs.Refusal.{unwritable, at_key, at_index};
 ghost use Rattle.bson_datum.specs.Stop.{IsPlaced};
 ghost use Rattle.bson_datum.specs.ErrorView.{cause_view, write_fault, write_failure};
 ghost use Rattle.bson_ser_stream.specs.Halting.{halt_view, IsHere, IsUnder};
@@ -35,10 +35,20 @@ impl Halt {
 
     /// The same, seen from the document that has the value at this key; or want of memory.
     pub(crate) fn under_key(self, key: &str) -> Halt
-        ensures under { IsUnder key.now self result }
+        ensures under { IsUnder (at_key key.now) self result }
     {
         match self {
             Halt::Stopped(stop) => Halt::Stopped(stop.under_key(key)),
+            Halt::TooLong => Halt::TooLong,
+        }
+    }
+
+    /// The same, seen from the array that has the value at this index, from 0; or want of memory.
+    pub(crate) fn under_index(self, index: u64) -> Halt
+        ensures under { IsUnder (at_index index) self result }
+    {
+        match self {
+            Halt::Stopped(stop) => Halt::Stopped(stop.under_index(index)),
             Halt::TooLong => Halt::TooLong,
         }
     }

@@ -1,6 +1,7 @@
 //! Writing data as the bytes of a document, in one pass.
 #![tactic(auto)]
 
+mod container;
 mod document;
 mod element;
 mod halt;

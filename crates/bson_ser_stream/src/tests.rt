@@ -60,6 +60,21 @@ fn a_struct_stands_in_a_struct(rt: HostRuntime) -> Result<(), Fail> {
 }
 
 #[test]
+fn a_sequence_is_an_array(rt: HostRuntime) -> Result<(), Fail> {
+    let alloc = rt.alloc();
+    let mut items = Vec::new(alloc);
+    items.push(Datum::I32(1))?;
+    items.push(Datum::I32(2))?;
+    let value = one_field(alloc, "a", Datum::Seq(items))?;
+    let document = [
+        0x1b, 0, 0, 0, 0x04, 0x61, 0, 0x13, 0, 0, 0, 0x10, 0x30, 0, 0x01, 0, 0, 0, 0x10, 0x31, 0,
+        0x02, 0, 0, 0, 0, 0,
+    ];
+    assert_eq!(rt; to_vec_at(alloc, &value)?.as_slice(), document.as_slice());
+    Ok(())
+}
+
+#[test]
 fn each_integer_and_a_text_is_written(rt: HostRuntime) -> Result<(), Fail> {
     let alloc = rt.alloc();
     let mut fields = Vec::new(alloc);
@@ -105,5 +120,24 @@ fn a_refusal_names_its_place_and_leaves_the_output(rt: HostRuntime) -> Result<()
         }
     }
     assert_eq!(rt; out.as_bytes(), [7].as_slice());
+    Ok(())
+}
+
+#[test]
+fn a_refusal_in_an_array_names_its_index(rt: HostRuntime) -> Result<(), Fail> {
+    let alloc = rt.alloc();
+    let mut items = Vec::new(alloc);
+    items.push(Datum::I32(1))?;
+    items.push(one_field(alloc, "a\0b", Datum::I32(5))?)?;
+    let value = one_field(alloc, "list", Datum::Seq(items))?;
+    match to_vec_at(alloc, &value) {
+        Ok(_) => assert!(rt; false),
+        Err(e) => {
+            assert_eq!(rt;
+                format!(in alloc; "{e}")?.as_str(),
+                "error at list[1]: cstrings cannot contain null bytes"
+            );
+        }
+    }
     Ok(())
 }

@@ -1,16 +1,19 @@
 // One pass over a datum. What is known only behind a value is written over its place there: the kind of each element, and the
-// length of each document.
-ghost use Rattle.std.specs.Prelude.{◌≡◌, ◌≤◌, ◌+◌, length, pos, IsOk, OnOk, OnErr, IfOk, IfErr, Ok};
+// length of each document and array.
+ghost use Rattle.std.specs.Prelude.{◌≡◌, ◌≤◌, ◌+◌, length, pos, IsOk, OnOk, IfOk, Ok};
+ghost use Rattle.std.specs.Fmt.{decimal};
 ghost use Rattle.bson_base.specs.Sound.{max_bytes};
-ghost use Rattle.bson_base.specs.Tree.{string, int32, int64, closed_text};
+ghost use Rattle.bson_base.specs.Tree.{string, int32, int64, document, array, closed_text};
+ghost use Rattle.bson_datum.specs.Refusal.{under_index};
 ghost use Rattle.bson_datum.specs.TextView.{text_view};
 ghost use Rattle.bson_datum.specs.Value.{kind_of};
-ghost use Rattle.bson_datum.specs.View.{view, fields_view};
+ghost use Rattle.bson_datum.specs.View.{view, items_view, fields_view};
 ghost use Rattle.bson_io.specs.Output.{Appended};
-ghost use Rattle.bson_laws.specs.Spell.{spell, spell_number, spell_fields, named, enclosed_at, size, size_fields};
-ghost use Rattle.bson_ser_stream.specs.Writing.{with_tree, with_element, with_elements};
-ghost use Rattle.bson_ser_stream.specs.Halting.{Gives, Grows, Ends, EndHalts};
+ghost use Rattle.bson_laws.specs.Spell.{spell, spell_number, spell_items, spell_fields, named, enclosed_at, size, size_items, size_fields};
+ghost use Rattle.bson_ser_stream.specs.Writing.{with_tree, with_element, with_elements, with_array_elements};
+ghost use Rattle.bson_ser_stream.specs.Halting.{Gives, Grows};
 
+use crate::container::{Container, MAX_BYTES};
 use crate::element::{begin_element, has_zero, zero_in};
 use crate::halt::Halt;
 use bson_base::{ElementType, reserved_kind};
@@ -18,25 +21,6 @@ use bson_datum::ser::Fault;
 use bson_datum::{Cause, Datum, Field};
 use bson_io::{Ledger, Out, Steps};
 use std::alloc::AllocError;
-
-// The most bytes of a document.
-const MAX_BYTES: usize = 2147483647;
-
-// Ends the document that begins at a place: a zero, and the length of it all in its first four bytes.
-fn end_document<L: Ledger>(out: &mut Out, steps: &mut Steps<L>, start: usize) -> Result<(), Halt>
-    requires { start + 4 ≤ length out.old.bytes }
-    ensures ok { OnOk result (Ends out.old out.new start steps.old steps.new) }
-    ensures err { IfErr result (EndHalts out.old start) }
-    ensures grows { OnErr result (Grows out.old out.new steps.old steps.new) }
-{
-    out.push(0, steps)?;
-    let len = out.len() - start;
-    if len > MAX_BYTES {
-        return Err(Halt::TooLong);
-    }
-    out.patch_i32(start, len as i32, steps);
-    Ok(())
-}
 
 // A number in four bytes.
 #[tactic(auto, unfolding(bson_base::specs::Tree::le32))]
@@ -104,7 +88,7 @@ fn put_text<L: Ledger>(out: &mut Out, steps: &mut Steps<L>, text: &str) -> Resul
     Ok(ElementType::String)
 }
 
-/// Appends a value, with so many levels of documents left, and answers the kind that it wrote.
+/// Appends a value, with so many levels of documents and arrays left, and answers the kind that it wrote.
 #[cycle(put)]
 pub(crate) fn put_value<L: Ledger>(
     out: &mut Out,
@@ -128,6 +112,7 @@ pub(crate) fn put_value<L: Ledger>(
         Datum::U32(n) => put_i64(out, steps, i64::from(*n)),
         Datum::U64(n) => put_u64(out, steps, *n),
         Datum::Str(text) => put_text(out, steps, text.as_str()),
+        Datum::Seq(items) => put_array(out, steps, items, levels),
         Datum::Struct { name, fields } => match reserved_kind(name.as_str()) {
             Some(kind) => Err(Halt::caused(out.allocator(), Cause::NotBuilt(kind))),
             None => put_document(out, steps, fields, levels),
@@ -135,7 +120,7 @@ pub(crate) fn put_value<L: Ledger>(
     }
 }
 
-// A document of these fields: a place for its length, its elements, and its end.
+// A document of these fields.
 #[cycle(put)]
 fn put_document<L: Ledger>(
     out: &mut Out,
@@ -146,18 +131,35 @@ fn put_document<L: Ledger>(
     ensures kind { IfOk result (λ k. k ≡ ElementType.EmbeddedDocument) }
     ensures bytes { let values = fields_view fields.now in
         Gives (size_fields values + 5) out.old.spare (λ _. out.new.bytes) result
-        (with_tree out.old.bytes (enclosed_at levels (spell_fields values))) }
+        (with_tree out.old.bytes (enclosed_at document levels (spell_fields values))) }
     ensures fits { OnOk result (size_fields (fields_view fields.now) + 5 ≤ max_bytes) }
     ensures grows { Grows out.old out.new steps.old steps.new }
 {
-    if levels == 0 {
-        return Err(Halt::caused(out.allocator(), Cause::TooDeep));
-    }
-    let start = out.len();
-    out.push_all(&[0; 4], steps)?;
-    put_fields(out, steps, fields, levels - 1)?;
-    end_document(out, steps, start)?;
+    let document = Container::begin(out, steps, levels)?;
+    put_fields(out, steps, fields, document.levels)?;
+    document.end(out, steps)?;
     Ok(ElementType::EmbeddedDocument)
+}
+
+// An array of these values.
+#[cycle(put)]
+fn put_array<L: Ledger>(
+    out: &mut Out,
+    steps: &mut Steps<L>,
+    items: &[Datum<'_>],
+    levels: u32,
+) -> Result<ElementType, Halt>
+    ensures kind { IfOk result (λ k. k ≡ ElementType.Array) }
+    ensures bytes { let values = items_view items.now in
+        Gives (size_items 0 values + 5) out.old.spare (λ _. out.new.bytes) result
+        (with_tree out.old.bytes (enclosed_at array levels (spell_items 0 values))) }
+    ensures fits { OnOk result (size_items 0 (items_view items.now) + 5 ≤ max_bytes) }
+    ensures grows { Grows out.old out.new steps.old steps.new }
+{
+    let array = Container::begin(out, steps, levels)?;
+    put_items(out, steps, items, array.levels)?;
+    array.end(out, steps)?;
+    Ok(ElementType::Array)
 }
 
 // The elements of these fields.
@@ -179,7 +181,26 @@ fn put_fields<L: Ledger>(
     Ok(())
 }
 
-// An element: the field's name, which is judged before its value, and the value, whose kind is known behind it.
+// The elements of these values, whose keys are their indexes.
+#[cycle(put)]
+fn put_items<L: Ledger>(
+    out: &mut Out,
+    steps: &mut Steps<L>,
+    items: &[Datum<'_>],
+    levels: u32,
+) -> Result<(), Halt>
+    ensures bytes { let values = items_view items.now in
+        Gives (size_items 0 values) out.old.spare (λ _. out.new.bytes) result
+        (with_array_elements out.old.bytes 0 (spell_items 0 values levels)) }
+    ensures grows { Grows out.old out.new steps.old steps.new }
+{
+    for (index, item) in items.iter().enumerate() {
+        put_item(out, steps, index as u64, item, levels)?;
+    }
+    Ok(())
+}
+
+// The element of a field, whose name is judged before its value.
 #[cycle(put)]
 fn put_field<L: Ledger>(
     out: &mut Out,
@@ -196,13 +217,50 @@ fn put_field<L: Ledger>(
     if has_zero(key) {
         return Err(zero_in(out.allocator(), key));
     }
-    let start = out.len();
-    begin_element(out, steps, key)?;
-    match put_value(out, steps, &field.value, levels) {
-        Ok(kind) => {
-            out.patch_byte(start, kind.byte(), steps);
-            Ok(())
-        }
+    match put_element(out, steps, key, &field.value, levels) {
+        Ok(()) => Ok(()),
         Err(halt) => Err(halt.under_key(key)),
     }
+}
+
+// The element of a value in an array, whose key is its index in decimal digits.
+#[cycle(put)]
+fn put_item<L: Ledger>(
+    out: &mut Out,
+    steps: &mut Steps<L>,
+    index: u64,
+    item: &Datum<'_>,
+    levels: u32,
+) -> Result<(), Halt>
+    ensures bytes { let value = view item.now in
+        Gives (length (decimal index) + 2 + size value) out.old.spare (λ _. out.new.bytes) result
+        (with_element out.old.bytes (decimal index) (under_index index (spell value levels))) }
+    ensures grows { Grows out.old out.new steps.old steps.new }
+{
+    let mut digits = itoa::Buffer::new();
+    match put_element(out, steps, digits.format(index), item, levels) {
+        Ok(()) => Ok(()),
+        Err(halt) => Err(halt.under_index(index)),
+    }
+}
+
+// An element: its key and its value, whose kind is known behind it. A refusal is seen from the value.
+#[cycle(put)]
+fn put_element<L: Ledger>(
+    out: &mut Out,
+    steps: &mut Steps<L>,
+    key: &str,
+    value: &Datum<'_>,
+    levels: u32,
+) -> Result<(), Halt>
+    ensures bytes { let value = view value.now in
+        Gives (length key.now + 2 + size value) out.old.spare (λ _. out.new.bytes) result
+        (with_element out.old.bytes key.now (spell value levels)) }
+    ensures grows { Grows out.old out.new steps.old steps.new }
+{
+    let start = out.len();
+    begin_element(out, steps, key)?;
+    let kind = put_value(out, steps, value, levels)?;
+    out.patch_byte(start, kind.byte(), steps);
+    Ok(())
 }

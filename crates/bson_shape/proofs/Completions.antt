@@ -3,12 +3,12 @@ use Rattle.std.proofs.Common.{◌≡◌, ℕ, Bool, true, false, ◌&&◌, List,
 use Rattle.std.specs.List.{list_all}
 use Rattle.std.specs.Str.{is_utf8}
 use Rattle.bson_base.specs.Text.{Utf8}
-use Rattle.bson_shape.specs.Form.{Form, structure, no_fields}
+use Rattle.bson_shape.specs.Form.{Form, sequence, structure, no_fields}
 use Rattle.bson_shape.specs.Notation.{begins_bare, in_bare, bare, escaped, quoted, name_text, struct_name_text, text}
-use Rattle.bson_shape.specs.Machine.{Open, Level, Owner, Form_at, Field_of, Mode, Form_due, First_field, Field_due, Bare, Quoted, Escape, Named, Done, State, grown, is_unwritten}
+use Rattle.bson_shape.specs.Machine.{Open, Level, In_field, In_sequence, Owner, Form_at, Field_of, Mode, Form_due, First_field, Field_due, Bare, Quoted, Escape, Named, Done, State, grown, is_unwritten}
 use Rattle.bson_shape.specs.Fronts.{HasTextNames, BeginsNotation}
 use Rattle.bson_shape.proofs.TextStates.{TextOpen, TextOwner, TextLevels, TextMode, TextState, text-nil, text-one, text-push, texts-snoc}
-use Rattle.bson_shape.proofs.States.{sep, open_text, owner_text, levels_text, mode_text, written, ValidMode, closed_text, grown_text, levels_grown, name-bare, name-quoted}
+use Rattle.bson_shape.proofs.States.{sep, open_text, owner_text, levels_text, mode_text, written, ValidMode, closed_text, grown_text, levels_grown, levels_item, name-bare, name-quoted}
 use Rattle.bson_shape.proofs.Steps.{escaped-plain, escaped-marked}
 
 at_bytes : (xs ys : Utf8) → xs ≡ ys → BeginsNotation xs → BeginsNotation ys
@@ -17,18 +17,23 @@ at_bytes xs ys e h = subst BeginsNotation e h
 front_of : (xs ys : Utf8) → BeginsNotation (xs ++ ys) → BeginsNotation xs
 front_of xs ys h = record { form = h.form; names = h.names; rest = ys ++ h.rest; begins = h.begins ∙ append_assoc xs ys h.rest }
 
-TextOpen-grown : (l : Level) (f : Form) → TextOpen l.open_struct → is_utf8 l.field_name ≡ true → HasTextNames f → TextOpen (grown l f)
-TextOpen-grown l f h t k = (h.0, texts-snoc l.open_struct.fields l.field_name f h.1 t k)
+TextOpen-grown : (o : Open) (name : Utf8) (f : Form) → TextOpen o → is_utf8 name ≡ true → HasTextNames f → TextOpen (grown o name f)
+TextOpen-grown o name f h t k = (h.0, texts-snoc o.fields name f h.1 t k)
 
--- the structs around are closed
+-- the forms around are closed
 close_levels : (st : List Level) (f : Form) → TextLevels st → HasTextNames f → BeginsNotation (levels_text st ++ text f)
 close_levels [] f v h = record { form = f; names = h; rest = []; begins = sym (append-nil (text f)) }
-close_levels (l ∷ st) f v h =
-    let o = grown l f in
+close_levels (In_field around name ∷ st) f v h =
+    let o = grown around name f in
+    let l : Level = In_field around name in
     front_of (levels_text (l ∷ st) ++ text f) (125 ∷ [])
     (at_bytes (levels_text st ++ text (structure o.name o.fields)) ((levels_text (l ∷ st) ++ text f) ++ 125 ∷ [])
-    (ap (λ xs. levels_text st ++ xs) (closed_text o) ∙ sym (append_assoc (levels_text st) (open_text o) (125 ∷ [])) ∙ ap (λ xs. xs ++ 125 ∷ []) (sym (levels_grown l st f)))
-    (close_levels st (structure o.name o.fields) v.2 (TextOpen-grown l f v.0 v.1 h)))
+    (ap (λ xs. levels_text st ++ xs) (closed_text o) ∙ sym (append_assoc (levels_text st) (open_text o) (125 ∷ [])) ∙ ap (λ xs. xs ++ 125 ∷ []) (sym (levels_grown around name st f)))
+    (close_levels st (structure o.name o.fields) v.2 (TextOpen-grown around name f v.0 v.1 h)))
+close_levels (In_sequence place ∷ st) f v h =
+    let l : Level = In_sequence place in
+    front_of (levels_text (l ∷ st) ++ text f) (93 ∷ [])
+    (at_bytes (levels_text st ++ text (sequence f)) ((levels_text (l ∷ st) ++ text f) ++ 93 ∷ []) (levels_item place st f) (close_levels st (sequence f) v h))
 
 -- ---- names
 
@@ -111,14 +116,13 @@ with_owner (Form_at place) bytes v c = record {
   begins = ap (λ xs. xs ++ 123 ∷ 125 ∷ []) (struct_name_written c.name place c.written ∙ c.begins) ∙ append_assoc bytes c.rest (123 ∷ 125 ∷ []);
 }
 with_owner (Field_of o) bytes v c =
-    let l : Level = record { open_struct = o; field_name = c.name } in
     let inner : Form = structure [] no_fields in
-    let g = grown l inner in
+    let g = grown o c.name inner in
     record {
       form = structure g.name g.fields;
-      names = TextOpen-grown l inner v c.is_text (text-nil, tt);
+      names = TextOpen-grown o c.name inner v c.is_text (text-nil, tt);
       rest = c.rest ++ (58 ∷ 123 ∷ 125 ∷ 125 ∷ []);
-      begins = closed_text g ∙ ap (λ xs. xs ++ 125 ∷ []) (grown_text l inner) ∙ ap (λ xs. (open_text o ++ (sep o.fields ++ (xs ++ 58 ∷ 123 ∷ 125 ∷ []))) ++ 125 ∷ []) c.begins ∙ regrouped (open_text o) (sep o.fields) bytes c.rest;
+      begins = closed_text g ∙ ap (λ xs. xs ++ 125 ∷ []) (grown_text o c.name inner) ∙ ap (λ xs. (open_text o ++ (sep o.fields ++ (xs ++ 58 ∷ 123 ∷ 125 ∷ []))) ++ 125 ∷ []) c.begins ∙ regrouped (open_text o) (sep o.fields) bytes c.rest;
     }
   where
     regrouped : (a b c d : Utf8) → (a ++ (b ++ ((c ++ d) ++ 58 ∷ 123 ∷ 125 ∷ []))) ++ 125 ∷ [] ≡ ((a ++ b) ++ c) ++ (d ++ (58 ∷ 123 ∷ 125 ∷ 125 ∷ []))

@@ -1,17 +1,18 @@
 -- A first refusal comes at a form of which its cause holds.
-use Rattle.std.proofs.Common.{◌≡◌, ℕ, ◌+◌, ◌≤◌, ◌<◌, Bool, true, false, cond, List, [], ◌∷◌, ◌++◌, length, Option, Some, None, Ok, Err, refl, subst, arith, inl, inr}
+use Rattle.std.proofs.Common.{◌≡◌, ℕ, ◌+◌, ◌≤◌, ◌<◌, Bool, true, false, cond, List, [], ◌∷◌, ◌++◌, length, Option, Some, None, Ok, Err, refl, sym, ap, ◌∙◌, subst, arith, inl, inr}
 use Rattle.std.specs.Prelude.{◌⊎◌, nat_le, nat_lt, is_some, Contains}
 use Rattle.std.proofs.lemmas.Bool.Decides.{nat_tests}
 use Rattle.std.proofs.lemmas.List.Elements.{Contains-append_left, Contains-append_right}
 use Rattle.bson_base.specs.Text.{Utf8}
 use Rattle.bson_base.specs.Reserved.{reserved_kind}
-use Rattle.bson_shape.specs.Form.{Form, leaf, structure, Fields, no_fields, field}
+use Rattle.bson_shape.specs.Form.{Form, leaf, sequence, structure, Fields, no_fields, field}
 use Rattle.bson_shape.specs.Levels.{levels, deepest}
-use Rattle.bson_shape.specs.Makers.{made_structure, repeats}
+use Rattle.bson_shape.specs.Makers.{made_sequence, made_structure, repeats}
 use Rattle.bson_shape.specs.Notation.{text, name_text, struct_name_text, listed, field_texts}
 use Rattle.bson_shape.specs.FirstRefusal.{MakerRefusal, or_else, too_deep, refusal_of, first_refusal, fields_refusal}
 use Rattle.bson_shape.specs.InnerForms.{Inner, inner_forms, field_forms, HasCause, HasFault}
 use Rattle.bson_shape.specs.declared.error.ShapeError.TheVariants.{ReservedName, RepeatedName, TooDeep}
+use Rattle.bson_shape.proofs.Made.{made_sequence-few}
 
 -- the first, or the later one
 one_of : (a b : Option MakerRefusal) (r : MakerRefusal) → or_else a b ≡ Some r → (a ≡ Some r) ⊎ ((a ≡ None) × (b ≡ Some r))
@@ -35,6 +36,12 @@ mutual
   -- a form in which nothing is refused is not too deep
   fits : (f : Form) (at around : ℕ) → first_refusal at around f ≡ None → around + levels f ≤ 512
   fits (leaf l) at around e = omega (arith, none_deep (nat_le 512 around) at around refl e)
+  fits (sequence f) at around e =
+      let inner = at + 1 in
+      let made = refusal_of (inner + length (text f)) at (made_sequence f) in
+      let first = neither (too_deep at around) (or_else (first_refusal inner (around + 1) f) made) e in
+      let item = neither (first_refusal inner (around + 1) f) made first.1 in
+      omega (arith, fits f inner (around + 1) item.0)
   fits (structure n fs) at around e =
       let inner = at + length (struct_name_text n) + 1 in
       let made = refusal_of (inner + length (listed (field_texts fs))) at (made_structure n fs) in
@@ -96,12 +103,27 @@ not_deeper n fs h = no_more (levels (structure n fs)) (omega arith)
     no_more : (k : ℕ) → k ≤ 512 → nat_lt 512 k ≡ false
     no_more k l = grind (arith, nat_tests)
 
+-- a sequence that is not too deep is made
+none_made : (f : Form) (met at : ℕ) (r : MakerRefusal) → levels (sequence f) ≤ 512 → refusal_of met at (made_sequence f) ≡ Some r → ⊥
+none_made f met at r few e = let none : refusal_of met at (made_sequence f) ≡ None = ap (refusal_of met at) (made_sequence-few f few) in let g : (let x : Option MakerRefusal = None in x) ≡ Some r = sym none ∙ e in cc
+
 under : (i : Inner) (is : List Inner) (r : MakerRefusal) → FaultIn is r → FaultIn (i ∷ is) r
 under i is r h = in_later (i ∷ []) is r h
 
 mutual
   form_fault : (f : Form) (at around : ℕ) (r : MakerRefusal) → around ≤ 512 → first_refusal at around f ≡ Some r → FaultIn (inner_forms at around f) r
   form_fault (leaf l) at around r few e = deep_fault (nat_le 512 around) at around (leaf l) [] r refl few e
+  form_fault (sequence f) at around r few e =
+      let inner = at + 1 in
+      let made = refusal_of (inner + length (text f)) at (made_sequence f) in
+      let rest = inner_forms inner (around + 1) f in
+      elim (one_of (too_deep at around) (or_else (first_refusal inner (around + 1) f) made) r e) [
+        | inl h ↦ deep_fault (nat_le 512 around) at around (sequence f) rest r refl few h
+        | inr h ↦ elim (one_of (first_refusal inner (around + 1) f) made r h.1) [
+          | inl g ↦ under _ rest r (form_fault f inner (around + 1) r (none_deep (nat_le 512 around) at around refl h.0) g)
+          | inr g ↦ absurd (none_made f (inner + length (text f)) at r (omega (arith, fits f inner (around + 1) g.0)) g.1)
+        ]
+      ]
   form_fault (structure n fs) at around r few e =
       let inner = at + length (struct_name_text n) + 1 in
       let met = inner + length (listed (field_texts fs)) in

@@ -1,19 +1,19 @@
 -- What the machine answers on the text of a form: its first refusal, or the state behind it.
 use Rattle.std.proofs.Common.{◌≡◌, ℕ, ◌+◌, Bool, true, false, cond, eqb, ◌||◌, List, [], ◌∷◌, ◌++◌, length, Option, Some, None, Result, Ok, Err, refl, sym, ap, ◌∙◌, subst, arith, append_assoc, append-nil, length-append}
-use Rattle.std.specs.Prelude.{nat_le, nat_lt, is_some}
+use Rattle.std.specs.Prelude.{nat_le, IfOk}
 use Rattle.bson_base.specs.Text.{Utf8}
-use Rattle.bson_base.specs.Reserved.{reserved_kind}
-use Rattle.bson_shape.specs.Form.{Form, leaf, structure, Fields, no_fields, field}
+use Rattle.bson_shape.specs.Form.{Form, leaf, sequence, structure, Fields, no_fields, field, joined}
 use Rattle.bson_shape.specs.Leaf.{word}
 use Rattle.bson_shape.specs.declared.leaf.Leaf.{Leaf}
-use Rattle.bson_shape.specs.Levels.{levels, max_shape_levels}
-use Rattle.bson_shape.specs.Makers.{made_structure, repeats}
+use Rattle.bson_shape.specs.Makers.{made_sequence, made_structure}
 use Rattle.bson_shape.specs.declared.error.ShapeError.{ShapeError}
-use Rattle.bson_shape.specs.declared.error.ShapeError.TheVariants.{ReservedName, RepeatedName, TooDeep}
+use Rattle.bson_shape.specs.declared.error.ShapeError.TheVariants.{TooDeep}
 use Rattle.std.specs.List.{list_all}
 use Rattle.bson_shape.specs.Notation.{begins_bare, in_bare, bare, escaped, quoted, name_text, struct_name_text, after_commas, listed, text, field_texts}
 use Rattle.bson_shape.specs.FirstRefusal.{MakerRefusal, or_else, refusal_of, first_refusal, fields_refusal}
-use Rattle.bson_shape.specs.Machine.{Refusal, Refused, Open, Level, Form_at, Field_of, Mode, Form_due, First_field, Field_due, Bare, Named, Done, State, ◌>>=◌, with_fields, opened, grown, made, closed, form_ended, begins_name, name_begun, begins_form, form_begun, form_due, field_due, first_field, word_ended, bare_name, is_unwritten, step, run}
+use Rattle.bson_shape.specs.Machine.{Refusal, Refused, Open, Level, In_field, In_sequence, Form_at, Field_of, Mode, Form_due, First_field, Field_due, Bare, Named, Done, State, ◌>>=◌, opened, grown, made, closed, form_ended, begins_name, name_begun, opens_form, begins_form, form_begun, form_due, field_due, first_field, word_ended, bare_name, is_unwritten, step, run}
+use Rattle.bson_shape.proofs.Made.{made_sequence-made, made_structure-made}
+use Rattle.bson_shape.proofs.Shapes.{joined-assoc, joined-none}
 use Rattle.bson_shape.proofs.Words.{and_true, differs, of_word-word, bare-word}
 use Rattle.bson_shape.proofs.NameRuns.{run_step, run_refused, same_run, name_mode, BeginsName, name_read, colon_step, brace_step}
 
@@ -22,41 +22,35 @@ abbrev pub settle : Option MakerRefusal → Result State Refusal → Result Stat
 settle None r = r
 settle (Some x) r = Err (Refused x)
 
+settle_both : (a b : Option MakerRefusal) (r : Result State Refusal) → settle a (settle b r) ≡ settle (or_else a b) r
+settle_both None b r = refl
+settle_both (Some x) b r = refl
+
 settle_all : (a b c : Option MakerRefusal) (r : Result State Refusal) → settle a (settle (or_else b c) r) ≡ settle (or_else (or_else a b) c) r
 settle_all None b c r = refl
 settle_all (Some x) b c r = refl
 
-pub with_fields-assoc : (a b c : Fields) → with_fields (with_fields a b) c ≡ with_fields a (with_fields b c)
-with_fields-assoc no_fields b c = refl
-with_fields-assoc (field n f fs) b c = ap (field n f) (with_fields-assoc fs b c)
+-- ---- the last byte of a form
 
-pub with_fields-none : (a : Fields) → with_fields a no_fields ≡ a
-with_fields-none no_fields = refl
-with_fields-none (field n f fs) = ap (field n f) (with_fields-none fs)
-
--- ---- the closing brace
-
-made_cases : (a b c : Bool) (f : Form) (at place : ℕ) (st : List Level) (rest : Utf8)
-    → (let r : Result Form ShapeError = cond a (Err ReservedName) (cond b (Err RepeatedName) (cond c (Err TooDeep) (Ok f))) in
-    (made at place st r >>= λ u. run (at + 1) u rest) ≡ settle (refusal_of at place r) (run (at + 1) (Done f, st) rest))
-made_cases true b c f at place st rest = refl
-made_cases false true c f at place st rest = refl
-made_cases false false true f at place st rest = refl
-made_cases false false false f at place st rest = refl
+-- the maker makes the form or refuses
+made_settles : (r : Result Form ShapeError) (f : Form) (at place : ℕ) (st : List Level) (rest : Utf8) → IfOk r (λ g. g ≡ f)
+    → (made at place st r >>= λ u. run (at + 1) u rest) ≡ settle (refusal_of at place r) (run (at + 1) (Done f, st) rest)
+made_settles (Ok g) f at place st rest same = ap (λ h. run (at + 1) (Done h, st) rest) same
+made_settles (Err e) f at place st rest same = refl
 
 closes : (o : Open) (m : Mode) (levels' st : List Level) (at : ℕ) (rest : Utf8) → step at m levels' 125 ≡ closed at o st
     → run at (m, levels') (125 ∷ rest) ≡ settle (refusal_of at o.place (made_structure o.name o.fields)) (run (at + 1) (Done (structure o.name o.fields), st) rest)
 unfolding run
 closes o m levels' st at rest h =
     ap (λ r. r >>= λ u. run (at + 1) u rest) h
-    ∙ made_cases (is_some (reserved_kind o.name)) (repeats o.fields) (nat_lt max_shape_levels (levels (structure o.name o.fields))) (structure o.name o.fields) at o.place st rest
+    ∙ made_settles (made_structure o.name o.fields) (structure o.name o.fields) at o.place st rest (made_structure-made o.name o.fields)
 
 -- what the maker says of the struct with these fields, and the state behind it
 abbrev pub brace_refusal : ℕ → Open → Fields → Option MakerRefusal
-brace_refusal at o fs = refusal_of at o.place (made_structure o.name (with_fields o.fields fs))
+brace_refusal at o fs = refusal_of at o.place (made_structure o.name (joined o.fields fs))
 
 abbrev pub done_with : Open → Fields → Mode
-done_with o fs = Done (structure o.name (with_fields o.fields fs))
+done_with o fs = Done (structure o.name (joined o.fields fs))
 
 same_end : (a : Option MakerRefusal) (i j k l p : ℕ) (n : Utf8) (gs hs : Fields) (st : List Level) (rest : Utf8) → i ≡ j → k ≡ l → gs ≡ hs
     → settle (or_else a (refusal_of i p (made_structure n gs))) (run k (Done (structure n gs), st) rest) ≡ settle (or_else a (refusal_of j p (made_structure n hs))) (run l (Done (structure n hs), st) rest)
@@ -67,18 +61,28 @@ same_end a i j k l p n gs hs st rest e d f = cc
 -- the state behind a form that begins at the place
 abbrev pub resumed : ℕ → Form → Mode
 resumed place (leaf l) = Bare (Form_at place) (word l)
-resumed place (structure name fs) = Done (structure name fs)
+resumed place f = Done f
 
--- a comma or a closing brace is the same behind a leaf and behind a struct
-comma_step : (f : Form) (place : ℕ) (l : Level) (st : List Level) (at : ℕ) → step at (resumed place f) (l ∷ st) 44 ≡ Ok (Field_due (grown l f), st)
-unfolding step form_ended bare_name word_ended
-comma_step (leaf w) place l st at = rw (of_word-word w) refl
-comma_step (structure name fs) place l st at = refl
+-- a byte that ends a word and opens no brace is read alike behind a leaf and behind another form
+ended_step : (f : Form) (place : ℕ) (st : List Level) (at b : ℕ) → in_bare b ≡ false → eqb b 123 ≡ false → step at (resumed place f) st b ≡ form_ended at f st b
+unfolding step bare_name word_ended
+ended_step (leaf w) place st at b h k = rw (h, k, of_word-word w) refl
+ended_step f place st at b h k = refl
 
-close_step : (f : Form) (place : ℕ) (l : Level) (st : List Level) (at : ℕ) → step at (resumed place f) (l ∷ st) 125 ≡ closed at (grown l f) st
-unfolding step form_ended bare_name word_ended
-close_step (leaf w) place l st at = rw (of_word-word w) refl
-close_step (structure name fs) place l st at = refl
+comma_step : (f : Form) (place : ℕ) (o : Open) (n : Utf8) (st : List Level) (at : ℕ) → step at (resumed place f) (In_field o n ∷ st) 44 ≡ Ok (Field_due (grown o n f), st)
+unfolding form_ended
+comma_step f place o n st at = ended_step f place (In_field o n ∷ st) at 44 refl refl
+
+close_step : (f : Form) (place : ℕ) (o : Open) (n : Utf8) (st : List Level) (at : ℕ) → step at (resumed place f) (In_field o n ∷ st) 125 ≡ closed at (grown o n f) st
+unfolding form_ended
+close_step f place o n st at = ended_step f place (In_field o n ∷ st) at 125 refl refl
+
+-- the closing bracket of a sequence that begins at the second place
+item_closed : (f : Form) (inner place : ℕ) (rest : Utf8) (at : ℕ) (st : List Level)
+    → run at (resumed inner f, In_sequence place ∷ st) (93 ∷ rest) ≡ settle (refusal_of at place (made_sequence f)) (run (at + 1) (Done (sequence f), st) rest)
+unfolding run form_ended
+item_closed f inner place rest at st =
+    ap (λ r. r >>= λ u. run (at + 1) u rest) (ended_step f inner (In_sequence place ∷ st) at 93 refl refl) ∙ made_settles (made_sequence f) (sequence f) at place st rest (made_sequence-made f)
 
 -- ---- where a field is due
 
@@ -99,16 +103,16 @@ field_length name text' more = omega (arith, length-append (name ++ 58 ∷ text'
 -- a field, and those after it
 one_field : (n : Utf8) (f : Form) (fs : Fields) (o : Open) (rest : Utf8) (at : ℕ) (m : Mode) (st : List Level)
     → BeginsName at m (Field_of o) st
-    → (let l : Level = record { open_struct = o; field_name = n } in
+    → (let l : Level = In_field o n in
     let inner = at + length (name_text n) + 1 in
     let bytes = (name_text n ++ 58 ∷ text f) ++ after_commas (field_texts fs) in
     run inner (Form_due, l ∷ st) (text f ++ (after_commas (field_texts fs) ++ 125 ∷ rest)) ≡ settle (first_refusal inner (length (l ∷ st)) f) (run (inner + length (text f)) (resumed inner f, l ∷ st) (after_commas (field_texts fs) ++ 125 ∷ rest))
     → run (inner + length (text f)) (resumed inner f, l ∷ st) (after_commas (field_texts fs) ++ 125 ∷ rest)
-    ≡ settle (or_else (fields_refusal (inner + length (text f) + 1) (length st + 1) fs) (brace_refusal (inner + length (text f) + length (after_commas (field_texts fs))) (grown l f) fs)) (run (inner + length (text f) + length (after_commas (field_texts fs)) + 1) (done_with (grown l f) fs, st) rest)
+    ≡ settle (or_else (fields_refusal (inner + length (text f) + 1) (length st + 1) fs) (brace_refusal (inner + length (text f) + length (after_commas (field_texts fs))) (grown o n f) fs)) (run (inner + length (text f) + length (after_commas (field_texts fs)) + 1) (done_with (grown o n f) fs, st) rest)
     → run at (m, st) (bytes ++ 125 ∷ rest)
     ≡ settle (or_else (fields_refusal at (length st + 1) (field n f fs)) (brace_refusal (at + length bytes) o (field n f fs))) (run (at + length bytes + 1) (done_with o (field n f fs), st) rest))
 one_field n f fs o rest at m st begins = λ first more.
-    let l : Level = record { open_struct = o; field_name = n } in
+    let l : Level = In_field o n in
     let inner = at + length (name_text n) + 1 in
     let tail = after_commas (field_texts fs) in
     let bytes = (name_text n ++ 58 ∷ text f) ++ tail in
@@ -122,13 +126,13 @@ one_field n f fs o rest at m st begins = λ first more.
     ∙ first
     ∙ ap (λ i. settle (first_refusal inner i f) (run (inner + length (text f)) (resumed inner f, l ∷ st) (tail ++ 125 ∷ rest))) around
     ∙ ap (settle a) more
-    ∙ settle_all a b (brace_refusal (inner + length (text f) + length tail) (grown l f) fs) _
-    ∙ same_end (or_else a b) (inner + length (text f) + length tail) (at + length bytes) (inner + length (text f) + length tail + 1) (at + length bytes + 1) o.place o.name (with_fields (grown l f).fields fs) (with_fields o.fields (field n f fs)) st rest
-    place (ap (λ i. i + 1) place) (with_fields-assoc o.fields (field n f no_fields) fs)
+    ∙ settle_all a b (brace_refusal (inner + length (text f) + length tail) (grown o n f) fs) _
+    ∙ same_end (or_else a b) (inner + length (text f) + length tail) (at + length bytes) (inner + length (text f) + length tail + 1) (at + length bytes + 1) o.place o.name (joined (grown o n f).fields fs) (joined o.fields (field n f fs)) st rest
+    place (ap (λ i. i + 1) place) (joined-assoc o.fields (field n f no_fields) fs)
 
 -- ---- where a form is due
 
-form_step : (b at : ℕ) (st : List Level) → begins_form b ≡ true → nat_le 512 (length st) ≡ false → step at Form_due st b ≡ Ok (form_begun at b, st)
+form_step : (b at : ℕ) (st : List Level) → begins_form b ≡ true → nat_le 512 (length st) ≡ false → step at Form_due st b ≡ Ok (form_begun at st b)
 unfolding step form_due
 form_step b at st h d = rw (h, d) refl
 
@@ -138,7 +142,8 @@ deep_step b at st h d = rw (h, d) refl
 
 form_begins : (at : ℕ) (st : List Level) → nat_le 512 (length st) ≡ false → BeginsName at Form_due (Form_at at) st
 form_begins at st d b h =
-    form_step b at st (ap (λ t. t || eqb b 123) h) d ∙ ap (λ t. Ok (cond t (First_field (opened at [])) (name_begun (Form_at at) b), st)) (differs begins_name b 123 h refl)
+    form_step b at st (ap (λ t. t || opens_form b) h) d
+    ∙ ap (λ (t : Bool × Bool). Ok (cond t.0 (First_field (opened at []), st) (cond t.1 (Form_due, In_sequence at ∷ st) (name_begun (Form_at at) b, st)))) (λ i. (differs begins_name b 123 h refl i, differs begins_name b 91 h refl i))
 
 -- a struct's name and its brace
 opens : (n rest : Utf8) (at : ℕ) (st : List Level) → nat_le 512 (length st) ≡ false → run at (Form_due, st) (struct_name_text n ++ 123 ∷ rest) ≡ run (at + length (struct_name_text n) + 1) (First_field (opened at n), st) rest
@@ -179,6 +184,7 @@ name_begins false n rest h = record { byte = 34; rest = (escaped n ++ 34 ∷ [])
 
 text_begins : (f : Form) → Begun (text f)
 text_begins (leaf l) = subst Begun (append-nil (word l)) (bare_begun (word l) [] (bare-word l))
+text_begins (sequence f) = record { byte = 91; rest = text f ++ 93 ∷ []; whole = refl; begins = refl }
 text_begins (structure [] fs) = record { byte = 123; rest = listed (field_texts fs) ++ 125 ∷ []; whole = refl; begins = refl }
 text_begins (structure (b ∷ bs) fs) = name_begins (bare (b ∷ bs)) (b ∷ bs) (123 ∷ (listed (field_texts fs) ++ 125 ∷ [])) refl
 
@@ -190,6 +196,7 @@ deep_read f rest at st d =
 
 deep_refusal : (f : Form) (at around : ℕ) → nat_le 512 around ≡ true → first_refusal at around f ≡ Some (record { met = at; place = at; cause = TooDeep })
 deep_refusal (leaf l) at around d = rw d refl
+deep_refusal (sequence f) at around d = rw d refl
 deep_refusal (structure n fs) at around d = rw d refl
 
 by_depth : (t : Bool) (f : Form) (rest : Utf8) (at : ℕ) (st : List Level) → nat_le 512 (length st) ≡ t
@@ -209,20 +216,33 @@ first_closed : (o : Open) (rest : Utf8) (at : ℕ) (st : List Level)
 unfolding step first_field
 first_closed o rest at st =
     closes o (First_field o) st st at rest refl
-    ∙ same_end None at (at + 0) (at + 1) (at + 0 + 1) o.place o.name o.fields (with_fields o.fields no_fields) st rest (omega arith) (omega arith) (sym (with_fields-none o.fields))
+    ∙ same_end None at (at + 0) (at + 1) (at + 0 + 1) o.place o.name o.fields (joined o.fields no_fields) st rest (omega arith) (omega arith) (sym (joined-none o.fields))
 
-next_closed : (f : Form) (place : ℕ) (l : Level) (rest : Utf8) (at : ℕ) (st : List Level)
-    → run at (resumed place f, l ∷ st) (125 ∷ rest) ≡ settle (brace_refusal (at + 0) (grown l f) no_fields) (run (at + 0 + 1) (done_with (grown l f) no_fields, st) rest)
-next_closed f place l rest at st =
-    let o = grown l f in
-    closes o (resumed place f) (l ∷ st) st at rest (close_step f place l st at)
-    ∙ same_end None at (at + 0) (at + 1) (at + 0 + 1) o.place o.name o.fields (with_fields o.fields no_fields) st rest (omega arith) (omega arith) (sym (with_fields-none o.fields))
+next_closed : (f : Form) (place : ℕ) (o : Open) (n : Utf8) (rest : Utf8) (at : ℕ) (st : List Level)
+    → run at (resumed place f, In_field o n ∷ st) (125 ∷ rest) ≡ settle (brace_refusal (at + 0) (grown o n f) no_fields) (run (at + 0 + 1) (done_with (grown o n f) no_fields, st) rest)
+next_closed f place o n rest at st =
+    let g = grown o n f in
+    closes g (resumed place f) (In_field o n ∷ st) st at rest (close_step f place o n st at)
+    ∙ same_end None at (at + 0) (at + 1) (at + 0 + 1) g.place g.name g.fields (joined g.fields no_fields) st rest (omega arith) (omega arith) (sym (joined-none g.fields))
 
 mutual
   pub reads_form : (f : Form) (rest : Utf8) (at : ℕ) (st : List Level) → run at (Form_due, st) (text f ++ rest) ≡ settle (first_refusal at (length st) f) (run (at + length (text f)) (resumed at f, st) rest)
   reads_form (leaf l) rest at st =
       by_depth (nat_le 512 (length st)) (leaf l) rest at st refl
       (λ d. word_read l rest at st d ∙ sym (ap (λ t. settle (cond t (Some (record { met = at; place = at; cause = TooDeep })) None) (run (at + length (word l)) (Bare (Form_at at) (word l), st) rest)) d))
+  reads_form (sequence f) rest at st =
+      let inner = at + 1 in
+      let l : Level = In_sequence at in
+      let item = first_refusal inner (length st + 1) f in
+      let made = refusal_of (inner + length (text f)) at (made_sequence f) in
+      let around : length (l ∷ st) ≡ length st + 1 = omega arith in
+      by_depth (nat_le 512 (length st)) (sequence f) rest at st refl
+      (λ d. run_step at Form_due st 91 ((text f ++ 93 ∷ []) ++ rest) _ (form_step 91 at st refl d) ∙ ap (run inner (Form_due, l ∷ st)) (append_assoc (text f) (93 ∷ []) rest) ∙ reads_form f (93 ∷ rest) inner (l ∷ st)
+      ∙ ap (λ i. settle (first_refusal inner i f) (run (inner + length (text f)) (resumed inner f, l ∷ st) (93 ∷ rest))) around
+      ∙ ap (settle item) (item_closed f inner at rest (inner + length (text f)) st)
+      ∙ settle_both item made (run (inner + length (text f) + 1) (Done (sequence f), st) rest)
+      ∙ ap (λ i. settle (or_else item made) (run i (Done (sequence f), st) rest)) (let e : inner + length (text f) + 1 ≡ at + length (text (sequence f)) = omega (arith, length-append (text f) (93 ∷ [])) in e)
+      ∙ sym (ap (λ t. settle (or_else (cond t (Some (record { met = at; place = at; cause = TooDeep })) None) (or_else item made)) (run (at + length (text (sequence f))) (Done (sequence f), st) rest)) d))
   reads_form (structure n fs) rest at st =
       let inner = at + length (struct_name_text n) + 1 in
       let fields = listed (field_texts fs) in
@@ -237,20 +257,20 @@ mutual
       ≡ settle (or_else (fields_refusal at (length st + 1) fs) (brace_refusal (at + length (listed (field_texts fs))) o fs)) (run (at + length (listed (field_texts fs)) + 1) (done_with o fs, st) rest)
   reads_fields no_fields o rest at st = first_closed o rest at st
   reads_fields (field n f fs) o rest at st =
-      let l : Level = record { open_struct = o; field_name = n } in
+      let l : Level = In_field o n in
       let inner = at + length (name_text n) + 1 in
-      one_field n f fs o rest at (First_field o) st (first_begins at o st) (reads_form f (after_commas (field_texts fs) ++ 125 ∷ rest) inner (l ∷ st)) (reads_more fs f inner l rest (inner + length (text f)) st)
+      one_field n f fs o rest at (First_field o) st (first_begins at o st) (reads_form f (after_commas (field_texts fs) ++ 125 ∷ rest) inner (l ∷ st)) (reads_more fs f inner o n rest (inner + length (text f)) st)
 
-  reads_more : (fs : Fields) (f : Form) (place : ℕ) (l : Level) (rest : Utf8) (at : ℕ) (st : List Level)
-      → run at (resumed place f, l ∷ st) (after_commas (field_texts fs) ++ 125 ∷ rest)
-      ≡ settle (or_else (fields_refusal (at + 1) (length st + 1) fs) (brace_refusal (at + length (after_commas (field_texts fs))) (grown l f) fs)) (run (at + length (after_commas (field_texts fs)) + 1) (done_with (grown l f) fs, st) rest)
-  reads_more no_fields f place l rest at st = next_closed f place l rest at st
-  reads_more (field n g fs) f place l rest at st =
-      let o = grown l f in
-      let m : Level = record { open_struct = o; field_name = n } in
+  reads_more : (fs : Fields) (f : Form) (place : ℕ) (before : Open) (name : Utf8) (rest : Utf8) (at : ℕ) (st : List Level)
+      → run at (resumed place f, In_field before name ∷ st) (after_commas (field_texts fs) ++ 125 ∷ rest)
+      ≡ settle (or_else (fields_refusal (at + 1) (length st + 1) fs) (brace_refusal (at + length (after_commas (field_texts fs))) (grown before name f) fs)) (run (at + length (after_commas (field_texts fs)) + 1) (done_with (grown before name f) fs, st) rest)
+  reads_more no_fields f place before name rest at st = next_closed f place before name rest at st
+  reads_more (field n g fs) f place before name rest at st =
+      let o = grown before name f in
+      let m : Level = In_field o n in
       let inner = at + 1 + length (name_text n) + 1 in
       let bytes = (name_text n ++ 58 ∷ text g) ++ after_commas (field_texts fs) in
-      run_step at (resumed place f) (l ∷ st) 44 (bytes ++ 125 ∷ rest) _ (comma_step f place l st at)
-      ∙ one_field n g fs o rest (at + 1) (Field_due o) st (next_begins (at + 1) o st) (reads_form g (after_commas (field_texts fs) ++ 125 ∷ rest) inner (m ∷ st)) (reads_more fs g inner m rest (inner + length (text g)) st)
-      ∙ same_end (fields_refusal (at + 1) (length st + 1) (field n g fs)) (at + 1 + length bytes) (at + length (44 ∷ bytes)) (at + 1 + length bytes + 1) (at + length (44 ∷ bytes) + 1) o.place o.name (with_fields o.fields (field n g fs)) (with_fields o.fields (field n g fs)) st rest
+      run_step at (resumed place f) (In_field before name ∷ st) 44 (bytes ++ 125 ∷ rest) _ (comma_step f place before name st at)
+      ∙ one_field n g fs o rest (at + 1) (Field_due o) st (next_begins (at + 1) o st) (reads_form g (after_commas (field_texts fs) ++ 125 ∷ rest) inner (m ∷ st)) (reads_more fs g inner o n rest (inner + length (text g)) st)
+      ∙ same_end (fields_refusal (at + 1) (length st + 1) (field n g fs)) (at + 1 + length bytes) (at + length (44 ∷ bytes)) (at + 1 + length bytes + 1) (at + length (44 ∷ bytes) + 1) o.place o.name (joined o.fields (field n g fs)) (joined o.fields (field n g fs)) st rest
       (omega arith) (omega arith) refl

@@ -8,7 +8,6 @@ pub mod Made
 pub mod Names
 pub mod Sames
 pub mod Shapes
-pub mod Grown
 pub mod CharRuns
 pub mod Loop
 pub mod Printed

@@ -1,12 +1,15 @@
--- What the maker of a struct lets through.
-use Rattle.std.proofs.Common.{◌≡◌, ◌<◌, true, false, nat_lt, Option, Some, None, Ok, is_some, refl, ap, ◌∙◌, arith}
+-- What the makers let through.
+use Rattle.std.proofs.Common.{◌≡◌, ◌<◌, ◌≤◌, Bool, true, false, cond, nat_lt, Option, Some, None, Result, Ok, Err, is_some, refl, ap, ◌∙◌, arith}
+use Rattle.std.specs.Prelude.{IfOk}
 use Rattle.std.specs.Str.{is_utf8}
 use Rattle.std.proofs.lemmas.Bool.{true≢false, cond-false, le-ltb}
 use Rattle.bson_base.specs.Text.{Utf8}
 use Rattle.bson_base.specs.Reserved.{reserved_kind}
-use Rattle.bson_shape.specs.Form.{structure, Fields}
+use Rattle.bson_shape.specs.Form.{Form, sequence, structure, Fields}
 use Rattle.bson_shape.specs.Levels.{levels, deepest, max_shape_levels}
-use Rattle.bson_shape.specs.Makers.{AreDistinct, repeats, IsStruct, IsShape, AreShapes, made_structure}
+use Rattle.bson_shape.specs.Makers.{AreDistinct, repeats, IsStruct, IsShape, AreShapes, Makes, made_sequence, made_structure}
+use Rattle.bson_shape.specs.declared.error.ShapeError.{ShapeError}
+use Rattle.bson_shape.specs.declared.error.ShapeError.TheVariants.{ReservedName, RepeatedName, TooDeep}
 
 none_from : {A : Type 0} (o : Option A) → is_some o ≡ false → o ≡ None
 none_from None e = refl
@@ -20,3 +23,36 @@ structure_passed name fs text free distinct few shapes = (record { text = text; 
 pub made_structure-IsStruct : (name : Utf8) (fs : Fields) → IsStruct name fs → made_structure name fs ≡ Ok (structure name fs)
 made_structure-IsStruct name fs is =
     cond-false (is_some (reserved_kind name)) _ _ (ap is_some is.free) ∙ cond-false (repeats fs) _ _ is.distinct ∙ cond-false (nat_lt max_shape_levels (levels (structure name fs))) _ _ (le-ltb _ _ is.few)
+
+-- the maker makes each sequence of few levels
+pub made_sequence-few : (f : Form) → levels (sequence f) ≤ max_shape_levels → made_sequence f ≡ Ok (sequence f)
+made_sequence-few f few = cond-false (nat_lt max_shape_levels (levels (sequence f))) _ _ (le-ltb _ _ few)
+
+-- ---- the answers of the makers
+
+sequence_answers : (P : Result Form ShapeError → Type 0) (f : Form) → P (Err TooDeep) → P (Ok (sequence f)) → P (made_sequence f)
+sequence_answers P f deep made = by_test (nat_lt max_shape_levels (levels (sequence f)))
+  where
+    by_test : (d : Bool) → P (cond d (Err TooDeep) (Ok (sequence f)))
+    by_test true = deep
+    by_test false = made
+
+structure_answers : (P : Result Form ShapeError → Type 0) (name : Utf8) (fs : Fields) → P (Err ReservedName) → P (Err RepeatedName) → P (Err TooDeep) → P (Ok (structure name fs)) → P (made_structure name fs)
+structure_answers P name fs reserved repeated deep made = by_tests (is_some (reserved_kind name)) (repeats fs) (nat_lt max_shape_levels (levels (structure name fs)))
+  where
+    by_tests : (r t d : Bool) → P (cond r (Err ReservedName) (cond t (Err RepeatedName) (cond d (Err TooDeep) (Ok (structure name fs)))))
+    by_tests true t d = reserved
+    by_tests false true d = repeated
+    by_tests false false true = deep
+    by_tests false false false = made
+
+-- a maker makes the form that it is asked for, or refuses
+pub made_sequence-made : (f : Form) → IfOk (made_sequence f) (λ g. g ≡ sequence f)
+made_sequence-made f = sequence_answers (λ r. IfOk r (λ g. g ≡ sequence f)) f tt refl
+
+pub made_structure-made : (name : Utf8) (fs : Fields) → IfOk (made_structure name fs) (λ g. g ≡ structure name fs)
+made_structure-made name fs = structure_answers (λ r. IfOk r (λ g. g ≡ structure name fs)) name fs tt tt tt refl
+
+-- the maker of a struct takes no memory
+pub made_structure-makes : (name : Utf8) (fs : Fields) → Makes (made_structure name fs) (made_structure name fs)
+made_structure-makes name fs = structure_answers (λ r. Makes r r) name fs refl refl refl refl

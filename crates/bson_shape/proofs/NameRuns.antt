@@ -3,7 +3,7 @@ use Rattle.std.proofs.Common.{◌≡◌, ℕ, ◌+◌, Bool, true, false, cond, 
 use Rattle.std.specs.List.{list_all}
 use Rattle.bson_base.specs.Text.{Utf8}
 use Rattle.bson_shape.specs.Notation.{begins_bare, in_bare, bare, is_escaped, escaped, quoted, name_text}
-use Rattle.bson_shape.specs.Machine.{Refusal, Open, Level, Owner, Form_at, Field_of, Mode, Form_due, First_field, Bare, Quoted, Escape, Named, State, ◌>>=◌, opened, begins_name, name_begun, named, word_ended, bare_name, is_unwritten, name_closed, quoted_name, escape, step, run}
+use Rattle.bson_shape.specs.Machine.{Refusal, Open, Level, In_field, Owner, Form_at, Field_of, Mode, Form_due, First_field, Bare, Quoted, Escape, Named, State, ◌>>=◌, opened, begins_name, name_begun, named, word_ended, bare_name, is_unwritten, name_closed, quoted_name, escape, step, run}
 use Rattle.bson_shape.proofs.Words.{and_true, or_false, differs}
 
 -- a byte that is taken
@@ -98,9 +98,9 @@ pub name_read : (n rest : Utf8) (at : ℕ) (m : Mode) (owner : Owner) (st : List
 name_read n rest at m owner st begins w = read_as (bare n) n rest at m owner st begins w refl
 
 -- a field's name and its colon
-pub colon_step : (at : ℕ) (o : Open) (n : Utf8) (st : List Level) → step at (name_mode (Field_of o) n) st 58 ≡ Ok (Form_due, record { open_struct = o; field_name = n } ∷ st)
+pub colon_step : (at : ℕ) (o : Open) (n : Utf8) (st : List Level) → step at (name_mode (Field_of o) n) st 58 ≡ Ok (Form_due, In_field o n ∷ st)
 unfolding step bare_name word_ended named
-colon_step at o n st = elim (bare n) as (λ t. step at (cond t (Bare (Field_of o) n) (Named (Field_of o) n)) st 58 ≡ Ok (Form_due, record { open_struct = o; field_name = n } ∷ st)) [ true ↦ refl | false ↦ refl ]
+colon_step at o n st = elim (bare n) as (λ t. step at (cond t (Bare (Field_of o) n) (Named (Field_of o) n)) st 58 ≡ Ok (Form_due, In_field o n ∷ st)) [ true ↦ refl | false ↦ refl ]
 
 -- a struct's name and its brace
 pub brace_step : (at place : ℕ) (n : Utf8) (st : List Level) → step at (name_mode (Form_at place) n) st 123 ≡ Ok (First_field (opened place n), st)

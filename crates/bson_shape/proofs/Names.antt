@@ -7,11 +7,11 @@ use Rattle.std.proofs.lemmas.Bool.Decides.{same_from_decides}
 use Rattle.std.proofs.lemmas.List.{take-append-drop}
 use Rattle.std.proofs.lemmas.Slice.Eq.{bytes_eq-Decides}
 use Rattle.bson_base.specs.Text.{Utf8}
-use Rattle.bson_shape.specs.Form.{Form, Fields, no_fields, field}
+use Rattle.bson_shape.specs.Form.{Form, Fields, no_fields, field, joined, push_field}
 use Rattle.bson_shape.specs.Makers.{has_field, repeats, AreDistinct}
 use Rattle.bson_shape.specs.ShapeView.{fields_of}
 use Rattle.bson_shape.specs.declared.shape.FieldShape.{FieldShape}
-use Rattle.bson_shape.proofs.Shapes.{joined, push_field, fields_of-append, fields_of-take_more}
+use Rattle.bson_shape.proofs.Shapes.{fields_of-append, fields_of-take_more}
 
 -- the middle two of four tests change places
 or_crossed : (a b c d : Bool) → ((a || b) || (c || d)) ≡ ((a || c) || (b || d))

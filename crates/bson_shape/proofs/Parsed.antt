@@ -13,6 +13,7 @@ use Rattle.bson_shape.specs.Fronts.{IsMet, IsNotNotationAt, IsRefusedAt}
 use Rattle.bson_shape.specs.declared.error.ParseError.{ParseError}
 use Rattle.bson_shape.specs.declared.error.ParseError.TheVariants as errors
 use Rattle.bson_shape.specs.declared.error.ShapeError.{ShapeError}
+use Rattle.bson_shape.specs.declared.error.ShapeError.TheVariants.{NoMemory}
 use Rattle.bson_shape.proofs.Texts.{parsed-shape}
 use Rattle.bson_shape.proofs.Faults.{refusal_fault}
 use Rattle.bson_shape.proofs.Places.{parsed_text, parsed_met, parsed_place, met_parsed}
@@ -58,3 +59,7 @@ refused bytes (Err (errors.Refused q d)) u given p c e =
     let place : q ≡ p = cc in
     let cause : d ≡ c = cc in
     subst (λ (x : ℕ × ShapeError). IsRefusedAt bytes x.0 x.1) (λ i. (place i, cause i)) (refused_at bytes u q d given)
+
+-- want of memory is a cause of no form
+pub no_memory : (bytes : Utf8) (r : Result Form ParseError) → IsUtf8 bytes → Gives (λ f. f) r (parsed bytes) → (p : ℕ) → r ≡ Err (errors.Refused p NoMemory) → ⊥
+no_memory bytes r u given p e = (refused bytes r u given p NoMemory e).fault.is

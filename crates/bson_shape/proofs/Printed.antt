@@ -14,7 +14,7 @@ use Rattle.bson_shape.specs.PrinterView.{comma_at}
 use Rattle.bson_shape.proofs.States.{sep, listed-snoc}
 use Rattle.bson_shape.proofs.Steps.{escaped-append}
 use Rattle.bson_shape.proofs.CharRuns.{AreHigh, high_encode, not_escaped}
-use Rattle.bson_shape.proofs.Grown.{fields_of-push}
+use Rattle.bson_shape.proofs.Shapes.{fields_of-push}
 use Rattle.bson_shape.proofs.Loop.{next_of}
 
 escaped-high : (bs : Utf8) → AreHigh bs → escaped bs ≡ bs

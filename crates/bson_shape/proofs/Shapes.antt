@@ -4,20 +4,19 @@ use Rattle.std.specs.Str.{is_utf8}
 use Rattle.std.proofs.lemmas.List.{take_more}
 use Rattle.std.proofs.lemmas.Str.{is_utf8-from_IsUtf8, IsUtf8-had}
 use Rattle.bson_base.specs.Text.{Utf8}
-use Rattle.bson_shape.specs.Form.{Form, leaf, structure, Fields, no_fields, field}
+use Rattle.bson_shape.specs.Form.{Form, leaf, sequence, structure, Fields, no_fields, field, joined, push_field}
 use Rattle.bson_shape.specs.Levels.{levels, deepest, max_shape_levels}
 use Rattle.bson_shape.specs.Makers.{IsShape, AreShapes}
 use Rattle.bson_shape.specs.ShapeView.{fields_of, nodes, fields_nodes}
 use Rattle.bson_shape.specs.declared.shape.FieldShape.{FieldShape}
 
--- the fields of one list, and then those of another
-abbrev pub joined : Fields → Fields → Fields
-joined no_fields gs = gs
-joined (field name f fs) gs = field name f (joined fs gs)
+pub joined-assoc : (a b c : Fields) → joined (joined a b) c ≡ joined a (joined b c)
+joined-assoc no_fields b c = refl
+joined-assoc (field name f fs) b c = ap (field name f) (joined-assoc fs b c)
 
--- one more field at the end
-abbrev pub push_field : Fields → Utf8 → Form → Fields
-push_field fs name f = joined fs (field name f no_fields)
+pub joined-none : (a : Fields) → joined a no_fields ≡ a
+joined-none no_fields = refl
+joined-none (field name f fs) = ap (field name f) (joined-none fs)
 
 pub fields_of-append : (fs gs : List FieldShape) → fields_of (fs ++ gs) ≡ joined (fields_of fs) (fields_of gs)
 fields_of-append [] gs = refl
@@ -55,6 +54,7 @@ AreShapes_more fs i d h shapes shape =
 
 pub levels_few : (f : Form) → IsShape f → levels f ≤ max_shape_levels
 levels_few (leaf l) shape = omega arith
+levels_few (sequence f) shape = shape.0
 levels_few (structure name fs) shape = shape.0.few
 
 -- each field's shape has fewer nodes than the fields

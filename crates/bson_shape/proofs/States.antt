@@ -1,9 +1,9 @@
 -- What a state of the machine has read.
 use Rattle.std.proofs.Common.{◌≡◌, ℕ, true, false, List, [], ◌∷◌, ◌++◌, refl, sym, ap, ◌∙◌, append_assoc, append-nil}
 use Rattle.bson_base.specs.Text.{Utf8}
-use Rattle.bson_shape.specs.Form.{Form, structure, Fields, no_fields, field}
+use Rattle.bson_shape.specs.Form.{Form, sequence, structure, Fields, no_fields, field, push_field}
 use Rattle.bson_shape.specs.Notation.{bare, escaped, quoted, name_text, struct_name_text, after_commas, listed, text, field_texts}
-use Rattle.bson_shape.specs.Machine.{Open, Level, Owner, Form_at, Field_of, Mode, Form_due, First_field, Field_due, Bare, Quoted, Escape, Named, Done, State, with_fields, grown, is_unwritten}
+use Rattle.bson_shape.specs.Machine.{Open, Level, In_field, In_sequence, Owner, Form_at, Field_of, Mode, Form_due, First_field, Field_due, Bare, Quoted, Escape, Named, Done, State, grown, is_unwritten}
 
 -- the comma before a further field
 abbrev pub sep : Fields → Utf8
@@ -18,9 +18,14 @@ abbrev pub owner_text : Owner → Utf8
 owner_text (Form_at place) = []
 owner_text (Field_of o) = open_text o ++ sep o.fields
 
+-- what is written of a form before the one inside it
+abbrev pub level_text : Level → Utf8
+level_text (In_field o n) = open_text o ++ (sep o.fields ++ (name_text n ++ 58 ∷ []))
+level_text (In_sequence place) = 91 ∷ []
+
 abbrev pub levels_text : List Level → Utf8
 levels_text [] = []
-levels_text (l ∷ st) = levels_text st ++ (open_text l.open_struct ++ (sep l.open_struct.fields ++ (name_text l.field_name ++ 58 ∷ [])))
+levels_text (l ∷ st) = levels_text st ++ level_text l
 
 abbrev pub mode_text : Mode → Utf8
 mode_text Form_due = []
@@ -45,19 +50,19 @@ ValidMode (Escape owner n) = Unit {0}
 ValidMode (Named owner n) = (bare n ≡ false) × (is_unwritten owner n ≡ false)
 ValidMode (Done f) = Unit {0}
 
-after_commas-snoc : (fs : Fields) (n : Utf8) (f : Form) → after_commas (field_texts (with_fields fs (field n f no_fields))) ≡ after_commas (field_texts fs) ++ 44 ∷ (name_text n ++ 58 ∷ text f)
+after_commas-snoc : (fs : Fields) (n : Utf8) (f : Form) → after_commas (field_texts (push_field fs n f)) ≡ after_commas (field_texts fs) ++ 44 ∷ (name_text n ++ 58 ∷ text f)
 after_commas-snoc no_fields n f = ap (λ xs. 44 ∷ xs) (append-nil (name_text n ++ 58 ∷ text f))
 after_commas-snoc (field m g fs) n f =
     let y = name_text m ++ 58 ∷ text g in
     ap (λ xs. 44 ∷ (y ++ xs)) (after_commas-snoc fs n f) ∙ ap (λ xs. 44 ∷ xs) (sym (append_assoc y (after_commas (field_texts fs)) (44 ∷ (name_text n ++ 58 ∷ text f))))
 
-pub listed-snoc : (fs : Fields) (n : Utf8) (f : Form) → listed (field_texts (with_fields fs (field n f no_fields))) ≡ listed (field_texts fs) ++ (sep fs ++ (name_text n ++ 58 ∷ text f))
+pub listed-snoc : (fs : Fields) (n : Utf8) (f : Form) → listed (field_texts (push_field fs n f)) ≡ listed (field_texts fs) ++ (sep fs ++ (name_text n ++ 58 ∷ text f))
 listed-snoc no_fields n f = append-nil (name_text n ++ 58 ∷ text f)
 listed-snoc (field m g fs) n f =
     let y = name_text m ++ 58 ∷ text g in
     ap (λ xs. y ++ xs) (after_commas-snoc fs n f) ∙ sym (append_assoc y (after_commas (field_texts fs)) (44 ∷ (name_text n ++ 58 ∷ text f)))
 
-pub sep-snoc : (fs : Fields) (n : Utf8) (f : Form) → sep (with_fields fs (field n f no_fields)) ≡ 44 ∷ []
+pub sep-snoc : (fs : Fields) (n : Utf8) (f : Form) → sep (push_field fs n f) ≡ 44 ∷ []
 sep-snoc no_fields n f = refl
 sep-snoc (field m g fs) n f = refl
 
@@ -66,21 +71,26 @@ pub closed_text : (o : Open) → text (structure o.name o.fields) ≡ open_text 
 closed_text o = sym (append_assoc (struct_name_text o.name) (123 ∷ listed (field_texts o.fields)) (125 ∷ []))
 
 -- with one more field
-pub grown_text : (l : Level) (f : Form) → open_text (grown l f) ≡ open_text l.open_struct ++ (sep l.open_struct.fields ++ (name_text l.field_name ++ 58 ∷ text f))
-grown_text l f =
-    let o = l.open_struct in
-    ap (λ xs. struct_name_text o.name ++ 123 ∷ xs) (listed-snoc o.fields l.field_name f)
-    ∙ sym (append_assoc (struct_name_text o.name) (123 ∷ listed (field_texts o.fields)) (sep o.fields ++ (name_text l.field_name ++ 58 ∷ text f)))
+pub grown_text : (o : Open) (name : Utf8) (f : Form) → open_text (grown o name f) ≡ open_text o ++ (sep o.fields ++ (name_text name ++ 58 ∷ text f))
+grown_text o name f =
+    ap (λ xs. struct_name_text o.name ++ 123 ∷ xs) (listed-snoc o.fields name f)
+    ∙ sym (append_assoc (struct_name_text o.name) (123 ∷ listed (field_texts o.fields)) (sep o.fields ++ (name_text name ++ 58 ∷ text f)))
 
-pub levels_grown : (l : Level) (st : List Level) (f : Form) → levels_text (l ∷ st) ++ text f ≡ levels_text st ++ open_text (grown l f)
-levels_grown l st f =
-    let o = l.open_struct in
-    let n = name_text l.field_name in
+pub levels_grown : (o : Open) (name : Utf8) (st : List Level) (f : Form) → levels_text (In_field o name ∷ st) ++ text f ≡ levels_text st ++ open_text (grown o name f)
+levels_grown o name st f =
+    let n = name_text name in
     append_assoc (levels_text st) (open_text o ++ (sep o.fields ++ (n ++ 58 ∷ []))) (text f)
     ∙ ap (λ xs. levels_text st ++ xs)
     (append_assoc (open_text o) (sep o.fields ++ (n ++ 58 ∷ [])) (text f)
     ∙ ap (λ xs. open_text o ++ xs) (append_assoc (sep o.fields) (n ++ 58 ∷ []) (text f) ∙ ap (λ xs. sep o.fields ++ xs) (append_assoc n (58 ∷ []) (text f)))
-    ∙ sym (grown_text l f))
+    ∙ sym (grown_text o name f))
+
+-- a sequence's text is that of its items' form between brackets
+pub levels_item : (place : ℕ) (st : List Level) (f : Form) → levels_text st ++ text (sequence f) ≡ (levels_text (In_sequence place ∷ st) ++ text f) ++ 93 ∷ []
+levels_item place st f = regrouped (levels_text st) (text f)
+  where
+    regrouped : (a b : Utf8) → a ++ 91 ∷ (b ++ 93 ∷ []) ≡ ((a ++ 91 ∷ []) ++ b) ++ 93 ∷ []
+    regrouped a b = simp append_assoc
 
 pub struct_name-bare : (n : Utf8) → bare n ≡ true → struct_name_text n ≡ n
 struct_name-bare [] h = refl

@@ -1,25 +1,25 @@
 -- A byte that is taken is written behind what was read; a byte that is refused is refused at its place.
 use Rattle.std.proofs.Common.{◌≡◌, ℕ, Bool, true, false, cond, eqb, ◌&&◌, ◌||◌, List, [], ◌∷◌, ◌++◌, length, Option, Some, None, Result, Ok, Err, refl, sym, ap, subst, ◌∙◌, append_assoc, append-nil}
 use Rattle.std.specs.List.{list_all}
-use Rattle.std.specs.Prelude.{nat_le, nat_lt, is_some}
+use Rattle.std.specs.Prelude.{nat_le, IfOk}
 use Rattle.std.proofs.lemmas.Bool.{eqb-true}
 use Rattle.bson_base.specs.Text.{Utf8}
-use Rattle.bson_base.specs.Reserved.{reserved_kind}
-use Rattle.bson_shape.specs.Form.{Form, leaf, structure}
+use Rattle.bson_shape.specs.Form.{Form, leaf, sequence, structure}
 use Rattle.bson_shape.specs.Leaf.{of_word}
 use Rattle.bson_shape.specs.declared.leaf.Leaf.{Leaf}
-use Rattle.bson_shape.specs.Levels.{levels, max_shape_levels}
-use Rattle.bson_shape.specs.Makers.{repeats}
-use Rattle.bson_shape.specs.declared.error.ShapeError.TheVariants.{ReservedName, RepeatedName, TooDeep}
+use Rattle.bson_shape.specs.Makers.{made_sequence, made_structure}
+use Rattle.bson_shape.specs.declared.error.ShapeError.{ShapeError}
+use Rattle.bson_shape.specs.declared.error.ShapeError.TheVariants.{TooDeep}
 use Rattle.bson_shape.specs.Notation.{begins_bare, in_bare, bare, is_escaped, escaped, quoted, name_text, text}
 use Rattle.bson_shape.specs.FirstRefusal.{MakerRefusal}
-use Rattle.bson_shape.specs.Machine.{Refusal, Not_notation, Refused, Open, Level, Owner, Form_at, Field_of, Mode, Form_due, First_field, Field_due, Bare, Quoted, Escape, Named, Done, State, opened, grown, made, closed, form_ended, begins_name, name_begun, begins_form, form_begun, form_due, field_due, first_field, named, leaf_ended, word_ended, bare_name, is_unwritten, name_closed, quoted_name, escape, step}
+use Rattle.bson_shape.specs.Machine.{Refusal, Not_notation, Refused, Open, Level, In_field, In_sequence, Owner, Form_at, Field_of, Mode, Form_due, First_field, Field_due, Bare, Quoted, Escape, Named, Done, State, opened, grown, made, closed, form_ended, begins_name, name_begun, opens_form, begins_form, form_begun, form_due, field_due, first_field, named, leaf_ended, word_ended, bare_name, is_unwritten, name_closed, quoted_name, escape, step}
+use Rattle.bson_shape.proofs.Made.{made_sequence-made, made_structure-made}
 use Rattle.bson_shape.proofs.Words.{and_true, or_false, or_rest, of_word-is}
 use Rattle.std.specs.Str.{is_utf8}
 use Rattle.std.proofs.Common.{◌<◌}
 use Rattle.bson_shape.specs.Fronts.{HasTextNames}
 use Rattle.bson_shape.proofs.TextStates.{TextOpen, TextOwner, TextLevels, TextState, text-nil, text-one, text-push, texts-snoc}
-use Rattle.bson_shape.proofs.States.{sep, open_text, owner_text, levels_text, written, ValidMode, sep-snoc, closed_text, levels_grown, struct_name-bare, name-bare, name-quoted, struct_name-quoted}
+use Rattle.bson_shape.proofs.States.{sep, open_text, owner_text, levels_text, written, ValidMode, sep-snoc, closed_text, levels_grown, levels_item, struct_name-bare, name-bare, name-quoted, struct_name-quoted}
 
 -- the state after a byte
 pub record Takes (s : State) (b : ℕ) (t : State) : Type 0 where
@@ -45,18 +45,16 @@ chosen : (at : ℕ) (s : State) (b : ℕ) (t : Bool) (x y : Result State Refusal
 chosen at s b true x y f g = f refl
 chosen at s b false x y f g = g refl
 
--- ---- the closing brace
+-- ---- the last byte of a form
 
-made_cases : (a b c : Bool) (f : Form) (at place : ℕ) (st : List Level) (s : State) → Takes s 125 (Done f, st)
-    → Leaves at s 125 (made at place st (cond a (Err ReservedName) (cond b (Err RepeatedName) (cond c (Err TooDeep) (Ok f)))))
-made_cases true b c f at place st s h = record { met = refl; state = (Done f, st); takes = h }
-made_cases false true c f at place st s h = record { met = refl; state = (Done f, st); takes = h }
-made_cases false false true f at place st s h = record { met = refl; state = (Done f, st); takes = h }
-made_cases false false false f at place st s h = h
+-- the maker makes the form or refuses
+made_leaves : (r : Result Form ShapeError) (f : Form) (at place : ℕ) (st : List Level) (s : State) (b : ℕ) → IfOk r (λ g. g ≡ f) → Takes s b (Done f, st) → Leaves at s b (made at place st r)
+made_leaves (Ok g) f at place st s b same h = subst (λ g. Takes s b (Done g, st)) (sym same) h
+made_leaves (Err e) f at place st s b same h = record { met = refl; state = (Done f, st); takes = h }
 
 closed_leaves : (at : ℕ) (o : Open) (st : List Level) (s : State) → written s ≡ levels_text st ++ open_text o → (TextState s → TextOpen o × TextLevels st) → Leaves at s 125 (closed at o st)
 closed_leaves at o st s so_far has =
-    made_cases (is_some (reserved_kind o.name)) (repeats o.fields) (nat_lt max_shape_levels (levels (structure o.name o.fields))) (structure o.name o.fields) at o.place st s
+    made_leaves (made_structure o.name o.fields) (structure o.name o.fields) at o.place st s 125 (made_structure-made o.name o.fields)
     (record {
       valid = tt;
       grew = ap (λ xs. levels_text st ++ xs) (closed_text o) ∙ sym (append_assoc (levels_text st) (open_text o) (125 ∷ [])) ∙ ap (λ xs. xs ++ 125 ∷ []) (sym so_far);
@@ -66,19 +64,29 @@ closed_leaves at o st s so_far has =
 ended_leaves : (at : ℕ) (f : Form) (st : List Level) (b : ℕ) (s : State) → written s ≡ levels_text st ++ text f → (TextState s → HasTextNames f × TextLevels st) → Leaves at s b (form_ended at f st b)
 unfolding form_ended
 ended_leaves at f [] b s so_far has = refl
-ended_leaves at f (l ∷ st) b s so_far has =
-    let o = grown l f in
-    let grown_has : TextState s → TextOpen o × TextLevels st = λ h. let t = has h in ((t.1.0.0, texts-snoc l.open_struct.fields l.field_name f t.1.0.1 t.1.1 t.0), t.1.2) in
-    let now : written s ≡ levels_text st ++ open_text o = so_far ∙ levels_grown l st f in
+ended_leaves at f (In_sequence place ∷ st) b s so_far has =
+    chosen at s b (eqb b 93) (made at place st (made_sequence f)) _
+    (λ h. rw (eqb-true b 93 h)
+    (made_leaves (made_sequence f) (sequence f) at place st s 93 (made_sequence-made f)
+    (record { valid = tt; grew = levels_item place st f ∙ ap (λ xs. xs ++ 93 ∷ []) (sym so_far); texts = λ k _. record { mode = (has k).0; levels = (has k).1 } })))
+    (λ h. refl)
+ended_leaves at f (In_field around name ∷ st) b s so_far has =
+    let o = grown around name f in
+    let grown_has : TextState s → TextOpen o × TextLevels st = λ h. let t = has h in ((t.1.0.0, texts-snoc around.fields name f t.1.0.1 t.1.1 t.0), t.1.2) in
+    let now : written s ≡ levels_text st ++ open_text o = so_far ∙ levels_grown around name st f in
     chosen at s b (eqb b 44) (Ok (Field_due o, st)) _
     (λ h. record {
-      valid = sep-snoc l.open_struct.fields l.field_name f;
+      valid = sep-snoc around.fields name f;
       grew = sym (append_assoc (levels_text st) (open_text o) (44 ∷ [])) ∙ ap (λ xs. xs ++ 44 ∷ []) (sym now) ∙ ap (λ x. written s ++ x ∷ []) (sym (eqb-true b 44 h));
       texts = λ k _. record { mode = (grown_has k).0; levels = (grown_has k).1 };
     })
     (λ h. chosen at s b (eqb b 125) (closed at o st) _ (λ k. rw (eqb-true b 125 k) (closed_leaves at o st s now grown_has)) (λ k. refl))
 
 -- ---- names
+
+either_false : (a b : Bool) → a ≡ false → b ≡ false → (a || b) ≡ false
+either_false true b h k = absurd cc
+either_false false b h k = k
 
 begun_takes : (t : Bool) (owner : Owner) (st : List Level) (b : ℕ) (s : State) → eqb b 34 ≡ t → begins_name b ≡ true → written s ≡ levels_text st ++ owner_text owner → (TextState s → TextOwner owner × TextLevels st) → Takes s b (cond t (Quoted owner []) (Bare owner (b ∷ [])), st)
 begun_takes true owner st b s is h so_far has = record { valid = tt; texts = λ k _. record { mode = ((has k).0, text-nil); levels = (has k).1 }; grew = sym (append_assoc (levels_text st) (owner_text owner) (34 ∷ [])) ∙ ap (λ xs. xs ++ 34 ∷ []) (sym so_far) ∙ ap (λ x. written s ++ x ∷ []) (sym (eqb-true b 34 is)) }
@@ -92,17 +100,23 @@ field_leaves : (at : ℕ) (o : Open) (st : List Level) (b : ℕ) (s : State) →
 unfolding field_due
 field_leaves at o st b s so_far has = chosen at s b (begins_name b) (Ok (name_begun (Field_of o) b, st)) _ (λ h. begun_takes (eqb b 34) (Field_of o) st b s refl h so_far has) (λ h. refl)
 
-form_begun_takes : (t : Bool) (at : ℕ) (st : List Level) (b : ℕ) (s : State) → eqb b 123 ≡ t → begins_form b ≡ true → written s ≡ levels_text st ++ [] → (TextState s → TextLevels st) → Takes s b (cond t (First_field (opened at [])) (name_begun (Form_at at) b), st)
-form_begun_takes true at st b s is h so_far has = record { valid = refl; texts = λ k _. record { mode = (text-nil, tt); levels = has k }; grew = sym (append_assoc (levels_text st) [] (123 ∷ [])) ∙ ap (λ xs. xs ++ 123 ∷ []) (sym so_far) ∙ ap (λ x. written s ++ x ∷ []) (sym (eqb-true b 123 is)) }
-form_begun_takes false at st b s is h so_far has = begun_takes (eqb b 34) (Form_at at) st b s refl (or_rest (begins_name b) (eqb b 123) h is) so_far (λ k. (tt, has k))
+form_begun_takes : (brace bracket : Bool) (at : ℕ) (st : List Level) (b : ℕ) (s : State) → eqb b 123 ≡ brace → eqb b 91 ≡ bracket → begins_form b ≡ true → written s ≡ levels_text st ++ [] → (TextState s → TextLevels st)
+    → Takes s b (cond brace (First_field (opened at []), st) (cond bracket (Form_due, In_sequence at ∷ st) (name_begun (Form_at at) b, st)))
+form_begun_takes true bracket at st b s is other h so_far has = record { valid = refl; texts = λ k _. record { mode = (text-nil, tt); levels = has k }; grew = sym (append_assoc (levels_text st) [] (123 ∷ [])) ∙ ap (λ xs. xs ++ 123 ∷ []) (sym so_far) ∙ ap (λ x. written s ++ x ∷ []) (sym (eqb-true b 123 is)) }
+form_begun_takes false true at st b s other is h so_far has = record {
+  valid = tt;
+  texts = λ k _. record { mode = tt; levels = has k };
+  grew = append-nil (levels_text st ++ 91 ∷ []) ∙ sym (append_assoc (levels_text st) [] (91 ∷ [])) ∙ ap (λ xs. xs ++ 91 ∷ []) (sym so_far) ∙ ap (λ x. written s ++ x ∷ []) (sym (eqb-true b 91 is));
+}
+form_begun_takes false false at st b s is other h so_far has = begun_takes (eqb b 34) (Form_at at) st b s refl (or_rest (begins_name b) (opens_form b) h (either_false (eqb b 91) (eqb b 123) other is)) so_far (λ k. (tt, has k))
 
 form_leaves : (at : ℕ) (st : List Level) (b : ℕ) → Leaves at (Form_due, st) b (form_due at st b)
 unfolding form_due
 form_leaves at st b =
     let s : State = (Form_due, st) in
-    let begun : begins_form b ≡ true → Takes s b (form_begun at b, st) = λ h. form_begun_takes (eqb b 123) at st b s refl h refl (λ k. k.levels) in
+    let begun : begins_form b ≡ true → Takes s b (form_begun at st b) = λ h. form_begun_takes (eqb b 123) (eqb b 91) at st b s refl refl h refl (λ k. k.levels) in
     chosen at s b (begins_form b) _ _
-    (λ h. chosen at s b (nat_le 512 (length st)) (Err (Refused (record { met = at; place = at; cause = TooDeep }))) _ (λ d. record { met = refl; state = (form_begun at b, st); takes = begun h }) (λ d. begun h))
+    (λ h. chosen at s b (nat_le 512 (length st)) (Err (Refused (record { met = at; place = at; cause = TooDeep }))) _ (λ d. record { met = refl; state = form_begun at st b; takes = begun h }) (λ d. begun h))
     (λ h. refl)
 
 -- behind a name, as it is written
@@ -118,7 +132,7 @@ named_leaves at (Form_at place) n st b s piece as_struct as_name so_far has =
     })
     (λ h. refl)
 named_leaves at (Field_of o) n st b s piece as_struct as_name so_far has =
-    chosen at s b (eqb b 58) (Ok (Form_due, record { open_struct = o; field_name = n } ∷ st)) _
+    chosen at s b (eqb b 58) (Ok (Form_due, In_field o n ∷ st)) _
     (λ h. record {
       valid = tt;
       texts = λ k _. record { mode = tt; levels = ((has k).0.0, (has k).0.1, (has k).1) };
@@ -176,10 +190,6 @@ escaped-plain n b h = escaped-append n (b ∷ []) ∙ ap (λ t. escaped n ++ con
 
 pub escaped-marked : (n : Utf8) (b : ℕ) → is_escaped b ≡ true → escaped (n ++ b ∷ []) ≡ escaped n ++ (92 ∷ b ∷ [])
 escaped-marked n b h = escaped-append n (b ∷ []) ∙ ap (λ t. escaped n ++ cond t (92 ∷ b ∷ []) (b ∷ [])) h
-
-either_false : (a b : Bool) → a ≡ false → b ≡ false → (a || b) ≡ false
-either_false true b h k = absurd cc
-either_false false b h k = k
 
 closing_leaves : (at : ℕ) (owner : Owner) (n : Utf8) (st : List Level) → Leaves at (Quoted owner n, st) 34 (name_closed at owner n st)
 unfolding name_closed

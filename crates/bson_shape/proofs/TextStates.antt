@@ -5,8 +5,8 @@ use Rattle.std.specs.Char.{IsScalar}
 use lib.Utf8.{encode, low_scalar}
 use Rattle.std.proofs.lemmas.Str.{IsUtf8-append, IsUtf8-encode, IsUtf8-nil, IsUtf8-from_is_utf8, is_utf8-from_IsUtf8, encode_ascii}
 use Rattle.bson_base.specs.Text.{Utf8}
-use Rattle.bson_shape.specs.Form.{Form, Fields, no_fields, field}
-use Rattle.bson_shape.specs.Machine.{Open, Level, Owner, Form_at, Field_of, Mode, Form_due, First_field, Field_due, Bare, Quoted, Escape, Named, Done, State, with_fields}
+use Rattle.bson_shape.specs.Form.{Form, Fields, no_fields, field, push_field}
+use Rattle.bson_shape.specs.Machine.{Open, Level, In_field, In_sequence, Owner, Form_at, Field_of, Mode, Form_due, First_field, Field_due, Bare, Quoted, Escape, Named, Done, State}
 use Rattle.bson_shape.specs.Fronts.{HasTextNames, HaveTextNames}
 use Rattle.std.proofs.Common.{arith}
 
@@ -34,7 +34,8 @@ TextOwner (Field_of o) = TextOpen o
 
 abbrev pub TextLevels : List Level → Type 0
 TextLevels [] = Unit {0}
-TextLevels (l ∷ st) = TextOpen l.open_struct × (is_utf8 l.field_name ≡ true) × TextLevels st
+TextLevels (In_field o n ∷ st) = TextOpen o × (is_utf8 n ≡ true) × TextLevels st
+TextLevels (In_sequence place ∷ st) = TextLevels st
 
 abbrev pub TextMode : Mode → Type 0
 TextMode Form_due = Unit {0}
@@ -50,6 +51,6 @@ pub record TextState (s : State) : Type 0 where
   pub mode : TextMode s.0
   pub levels : TextLevels s.1
 
-pub texts-snoc : (fs : Fields) (n : Utf8) (f : Form) → HaveTextNames fs → is_utf8 n ≡ true → HasTextNames f → HaveTextNames (with_fields fs (field n f no_fields))
+pub texts-snoc : (fs : Fields) (n : Utf8) (f : Form) → HaveTextNames fs → is_utf8 n ≡ true → HasTextNames f → HaveTextNames (push_field fs n f)
 texts-snoc no_fields n f h t k = (t, k, tt)
 texts-snoc (field m g fs) n f h t k = (h.0, h.1, texts-snoc fs n f h.2 t k)

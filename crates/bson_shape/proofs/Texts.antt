@@ -3,14 +3,14 @@ use Rattle.std.proofs.Common.{◌≡◌, ℕ, ◌+◌, ◌≤◌, ◌<◌, false
 use Rattle.std.specs.Prelude.{nat_le}
 use Rattle.std.proofs.lemmas.List.{append-nil}
 use Rattle.std.proofs.lemmas.Bool.Decides.{nat_tests}
-use Rattle.bson_shape.specs.Form.{Form, leaf, structure, Fields, no_fields, field}
+use Rattle.bson_shape.specs.Form.{Form, leaf, sequence, structure, Fields, no_fields, field}
 use Rattle.bson_shape.specs.Levels.{levels, deepest}
-use Rattle.bson_shape.specs.Makers.{IsShape, AreShapes, made_structure}
+use Rattle.bson_shape.specs.Makers.{IsShape, AreShapes, made_sequence, made_structure}
 use Rattle.bson_shape.specs.Notation.{text, name_text, struct_name_text, listed, field_texts}
 use Rattle.bson_shape.specs.FirstRefusal.{MakerRefusal, or_else, too_deep, refusal_of, first_refusal, fields_refusal}
 use Rattle.bson_shape.specs.Machine.{Refusal, Refused, Form_due, ◌>>=◌, run, finish, parsed}
 use Rattle.bson_shape.proofs.Words.{of_word-word}
-use Rattle.bson_shape.proofs.Made.{made_structure-IsStruct}
+use Rattle.bson_shape.proofs.Made.{made_sequence-few, made_structure-IsStruct}
 use Rattle.bson_shape.proofs.Shapes.{levels_few}
 use Rattle.bson_shape.proofs.FormRuns.{settle, resumed, reads_form}
 
@@ -22,7 +22,7 @@ judged (Some r) f = Err (Refused r)
 finished : (f : Form) (place at : ℕ) → finish at (resumed place f) [] ≡ Ok f
 unfolding finish
 finished (leaf l) place at = rw (of_word-word l) refl
-finished (structure n fs) place at = refl
+finished f place at = refl
 
 settled : (o : Option MakerRefusal) (f : Form) (at : ℕ) → (settle o (Ok (resumed 0 f, [])) >>= λ s. finish at s.0 s.1) ≡ judged o f
 settled None f at = finished f 0 at
@@ -44,6 +44,13 @@ mutual
   -- no maker refuses in a shape
   pub first_refusal-IsShape : (f : Form) (at around : ℕ) → IsShape f → around + levels f ≤ 512 → first_refusal at around f ≡ None
   first_refusal-IsShape (leaf l) at around h few = let d : nat_le 512 around ≡ false = few_around around (omega arith) in rw d refl
+  first_refusal-IsShape (sequence f) at around h few =
+      let inner = at + 1 in
+      let d : nat_le 512 around ≡ false = few_around around (omega arith) in
+      let item : first_refusal inner (around + 1) f ≡ None = first_refusal-IsShape f inner (around + 1) h.1 (omega arith) in
+      ap (λ o. or_else o (or_else (first_refusal inner (around + 1) f) (refusal_of (inner + length (text f)) at (made_sequence f)))) (deep at around d)
+      ∙ ap (λ o. or_else o (refusal_of (inner + length (text f)) at (made_sequence f))) item
+      ∙ ap (refusal_of (inner + length (text f)) at) (made_sequence-few f h.0)
   first_refusal-IsShape (structure n fs) at around h few =
       let inner = at + length (struct_name_text n) + 1 in
       let d : nat_le 512 around ≡ false = few_around around (omega arith) in

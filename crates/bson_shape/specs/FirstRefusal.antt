@@ -1,8 +1,8 @@
 -- The first refusal of a maker that is met in reading a notation from left to right.
 use Rattle.std.specs.Prelude.{ℕ, ◌+◌, nat_le, if◌then◌else◌, length, Option, Some, None, Result, Ok, Err}
-use Rattle.bson_shape.specs.Form.{Form, leaf, structure, Fields, no_fields, field}
+use Rattle.bson_shape.specs.Form.{Form, leaf, sequence, structure, Fields, no_fields, field}
 use Rattle.bson_shape.specs.Levels.{max_shape_levels}
-use Rattle.bson_shape.specs.Makers.{made_structure}
+use Rattle.bson_shape.specs.Makers.{made_sequence, made_structure}
 use Rattle.bson_shape.specs.Notation.{text, name_text, struct_name_text, listed, field_texts}
 use Rattle.bson_shape.specs.declared.error.ShapeError.{ShapeError}
 use Rattle.bson_shape.specs.declared.error.ShapeError.TheVariants.{TooDeep}
@@ -29,9 +29,14 @@ refusal_of met place (Ok f) = None
 refusal_of met place (Err e) = Some (record { met = met; place = place; cause = e })
 
 abbrev mutual
-  -- of a form whose text begins at this place, inside so many others; the maker of a struct is called at its last byte
+  -- of a form whose text begins at this place, inside so many others; the maker of a form is called at its last byte
   pub first_refusal : ℕ → ℕ → Form → Option MakerRefusal
   first_refusal at around (leaf l) = too_deep at around
+  first_refusal at around (sequence f) =
+      let inner = at + 1 in
+      or_else (too_deep at around)
+      (or_else (first_refusal inner (around + 1) f)
+      (refusal_of (inner + length (text f)) at (made_sequence f)))
   first_refusal at around (structure name fs) =
       let inner = at + length (struct_name_text name) + 1 in
       or_else (too_deep at around)

@@ -9,9 +9,11 @@ use Rattle.bson_shape.specs.declared.leaf.Leaf.{Leaf}
 use Rattle.bson_shape.specs.contracts.leaf.Leaf as leaf_type
 
 mutual
-  -- what a reader asks for: a leaf, or a struct with a name and fields in order
+  -- what a reader asks for: a leaf, a sequence, or a struct with a name and fields in order
   pub data Form : Type 0 where
     leaf : Leaf → Form
+    -- an array whose elements have this form
+    sequence : (item : Form) → Form
     structure : (name : Utf8) → (fields : Fields) → Form
 
   -- the fields of a struct, in order
@@ -19,12 +21,22 @@ mutual
     no_fields : Fields
     field : (name : Utf8) → (form : Form) → (rest : Fields) → Fields
 
+-- the fields of one list, and then those of another
+abbrev pub joined : Fields → Fields → Fields
+joined no_fields gs = gs
+joined (field name f fs) gs = field name f (joined fs gs)
+
+-- one more field at the end
+abbrev pub push_field : Fields → Utf8 → Form → Fields
+push_field fs name f = joined fs (field name f no_fields)
+
 abbrev text_coded : Coded Utf8
 text_coded = coded_list coded_ℕ
 
 abbrev mutual
   pub form_code : Form → Gv
   form_code (leaf l) = gcons (gnum 0) (leaf_type.the_row.coded.code l)
+  form_code (sequence f) = gcons (gnum 2) (form_code f)
   form_code (structure n fs) = gcons (gnum 1) (gcons (text_coded.code n) (fields_code fs))
 
   pub fields_code : Fields → Gv
@@ -34,6 +46,7 @@ abbrev mutual
 mutual
   pub form_inj : (x y : Form) → form_code x ≡ form_code y → x ≡ y
   form_inj (leaf l) (leaf m) p = ap leaf (leaf_type.the_row.coded.inj l m (ap (λ g. tail g) p))
+  form_inj (sequence f) (sequence g) p = ap sequence (form_inj f g (ap (λ g. tail g) p))
   form_inj (structure n fs) (structure m gs) p = λ i. structure (text_coded.inj n m (ap (λ g. head (tail g)) p) i) (fields_inj fs gs (ap (λ g. tail (tail g)) p) i)
   form_inj x y p = absurd (omega (arith, ap (λ g. num (head g)) p))
 

@@ -2,7 +2,7 @@
 use Rattle.std.specs.Prelude.{◌≡◌, ℕ, ◌+◌, ◌<◌, ◌≤◌, ◌++◌, true, length, take, Some}
 use Rattle.std.specs.Str.{is_utf8}
 use Rattle.bson_base.specs.Text.{Utf8}
-use Rattle.bson_shape.specs.Form.{Form, leaf, structure, Fields, no_fields, field}
+use Rattle.bson_shape.specs.Form.{Form, leaf, sequence, structure, Fields, no_fields, field}
 use Rattle.bson_shape.specs.Notation.{text}
 use Rattle.bson_shape.specs.FirstRefusal.{MakerRefusal, first_refusal}
 use Rattle.bson_shape.specs.InnerForms.{HasFault}
@@ -12,6 +12,7 @@ abbrev mutual
   -- each name in the form is a text
   pub HasTextNames : Form → Type 0
   HasTextNames (leaf l) = Unit {0}
+  HasTextNames (sequence f) = HasTextNames f
   HasTextNames (structure name fs) = (is_utf8 name ≡ true) × HaveTextNames fs
 
   pub HaveTextNames : Fields → Type 0

@@ -1,12 +1,12 @@
 -- The forms in a form, each with its place.
 use Rattle.std.specs.Prelude.{◌≡◌, ℕ, ◌+◌, true, List, [], ◌∷◌, ◌++◌, length, is_some, Contains}
 use Rattle.bson_base.specs.Reserved.{reserved_kind}
-use Rattle.bson_shape.specs.Form.{Form, leaf, structure, Fields, no_fields, field}
+use Rattle.bson_shape.specs.Form.{Form, leaf, sequence, structure, Fields, no_fields, field}
 use Rattle.bson_shape.specs.Levels.{max_shape_levels}
 use Rattle.bson_shape.specs.Makers.{repeats}
 use Rattle.bson_shape.specs.Notation.{text, name_text, struct_name_text}
 use Rattle.bson_shape.specs.declared.error.ShapeError.{ShapeError}
-use Rattle.bson_shape.specs.declared.error.ShapeError.TheVariants.{ReservedName, RepeatedName, TooDeep}
+use Rattle.bson_shape.specs.declared.error.ShapeError.TheVariants.{ReservedName, RepeatedName, TooDeep, NoMemory}
 
 -- A form in a notation: the place of its first byte, and how many forms are around it.
 pub record Inner : Type 0 where
@@ -18,6 +18,7 @@ abbrev mutual
   -- a form whose text begins at this place, inside so many others, and the forms in it
   pub inner_forms : ℕ → ℕ → Form → List Inner
   inner_forms at around (leaf l) = record { place = at; around = around; form = leaf l } ∷ []
+  inner_forms at around (sequence f) = record { place = at; around = around; form = sequence f } ∷ inner_forms (at + 1) (around + 1) f
   inner_forms at around (structure name fs) =
       record { place = at; around = around; form = structure name fs } ∷ field_forms (at + length (struct_name_text name) + 1) (around + 1) fs
 
@@ -30,17 +31,20 @@ abbrev mutual
 
 abbrev pub HasReservedName : Form → Type 0
 HasReservedName (leaf l) = ⊥
+HasReservedName (sequence f) = ⊥
 HasReservedName (structure name fs) = is_some (reserved_kind name) ≡ true
 
 abbrev pub HasRepeatedName : Form → Type 0
 HasRepeatedName (leaf l) = ⊥
+HasRepeatedName (sequence f) = ⊥
 HasRepeatedName (structure name fs) = repeats fs ≡ true
 
--- the cause holds of the form
+-- the cause holds of the form; want of memory holds of none
 abbrev pub HasCause : ShapeError → Inner → Type 0
 HasCause ReservedName i = HasReservedName i.form
 HasCause RepeatedName i = HasRepeatedName i.form
 HasCause TooDeep i = i.around ≡ max_shape_levels
+HasCause NoMemory i = ⊥
 
 -- In the form's notation a form begins at the place, and the cause holds of it.
 pub record HasFault (f : Form) (place : ℕ) (cause : ShapeError) : Type 0 where

@@ -1,6 +1,6 @@
 -- How many forms stand inside one another in a shape.
 use Rattle.std.specs.Prelude.{ℕ, suc, max}
-use Rattle.bson_shape.specs.Form.{Form, leaf, structure, Fields, no_fields, field}
+use Rattle.bson_shape.specs.Form.{Form, leaf, sequence, structure, Fields, no_fields, field}
 
 -- the most levels of a shape
 abbrev pub max_shape_levels : ℕ
@@ -10,6 +10,7 @@ abbrev mutual
   -- a form without inner forms has one level, another has one more than its deepest inner form
   pub levels : Form → ℕ
   levels (leaf l) = 1
+  levels (sequence f) = suc (levels f)
   levels (structure name fs) = suc (deepest fs)
 
   -- the levels of the deepest field, 0 where there is none

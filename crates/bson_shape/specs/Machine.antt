@@ -1,12 +1,12 @@
 -- Reading a notation from left to right, a byte at a time.
 use Rattle.std.specs.Prelude.{ℕ, ◌+◌, Bool, true, false, ◌||◌, ◌==◌, nat_le, if◌then◌else◌, List, [], ◌∷◌, ◌++◌, length, Option, Some, None, Result, Ok, Err}
 use Rattle.bson_base.specs.Text.{Utf8}
-use Rattle.bson_shape.specs.Form.{Form, leaf, Fields, no_fields, field}
+use Rattle.bson_shape.specs.Form.{Form, leaf, Fields, no_fields, push_field}
 use Rattle.bson_shape.specs.Leaf.{of_word}
 use Rattle.bson_shape.specs.declared.leaf.Leaf.{Leaf}
 use Rattle.bson_shape.specs.Levels.{max_shape_levels}
-use Rattle.bson_shape.specs.Makers.{made_structure}
-use Rattle.bson_shape.specs.Notation.{quote, comma, colon, backslash, open_brace, close_brace, begins_bare, in_bare, bare, is_escaped}
+use Rattle.bson_shape.specs.Makers.{made_sequence, made_structure}
+use Rattle.bson_shape.specs.Notation.{quote, comma, colon, open_bracket, backslash, close_bracket, open_brace, close_brace, begins_bare, in_bare, bare, is_escaped}
 use Rattle.bson_shape.specs.FirstRefusal.{MakerRefusal}
 use Rattle.bson_shape.specs.declared.error.ShapeError.{ShapeError}
 use Rattle.bson_shape.specs.declared.error.ShapeError.TheVariants.{TooDeep}
@@ -24,10 +24,12 @@ pub record Open : Type 0 where
   pub name : Utf8
   pub fields : Fields
 
--- A form around the one that is read: a struct, and the name of the field.
-pub record Level : Type 0 where
-  pub open_struct : Open
-  pub field_name : Utf8
+-- A form around the one that is read.
+pub data Level : Type 0 where
+  -- a struct, and the name of the field
+  In_field : Open → Utf8 → Level
+  -- a sequence that begins at this place
+  In_sequence : ℕ → Level
 
 -- Whose name is read.
 pub data Owner : Type 0 where
@@ -64,17 +66,12 @@ abbrev pub ◌>>=◌ : {A B : Type 0} → Result A Refusal → (A → Result B R
 (Ok x) >>= f = f x
 (Err e) >>= f = Err e
 
--- fields, and then others
-abbrev pub with_fields : Fields → Fields → Fields
-with_fields no_fields gs = gs
-with_fields (field name f fs) gs = field name f (with_fields fs gs)
-
 abbrev pub opened : ℕ → Utf8 → Open
 opened place name = record { place = place; name = name; fields = no_fields }
 
 -- the struct with one more field
-abbrev pub grown : Level → Form → Open
-grown l f = record { place = l.open_struct.place; name = l.open_struct.name; fields = with_fields l.open_struct.fields (field l.field_name f no_fields) }
+abbrev pub grown : Open → Utf8 → Form → Open
+grown o name f = record { place = o.place; name = o.name; fields = push_field o.fields name f }
 
 -- the maker's answer, at this place
 abbrev pub made : ℕ → ℕ → List Level → Result Form ShapeError → Result State Refusal
@@ -85,13 +82,22 @@ made at place st (Err e) = Err (Refused (record { met = at; place = place; cause
 abbrev pub closed : ℕ → Open → List Level → Result State Refusal
 closed at o st = made at o.place st (made_structure o.name o.fields)
 
+-- behind a field, with which the struct is this
+abbrev pub field_ended : ℕ → Open → List Level → ℕ → Result State Refusal
+field_ended at o st b =
+    if b == comma then Ok (Field_due o, st)
+    else (if b == close_brace then closed at o st
+    else Err (Not_notation at))
+
+-- behind the form of the items of a sequence that begins at the second place
+abbrev pub item_ended : ℕ → ℕ → Form → List Level → ℕ → Result State Refusal
+item_ended at place f st b = if b == close_bracket then made at place st (made_sequence f) else Err (Not_notation at)
+
 -- behind a form
 unfoldable pub form_ended : ℕ → Form → List Level → ℕ → Result State Refusal
 form_ended at f [] b = Err (Not_notation at)
-form_ended at f (l ∷ st) b =
-    if b == comma then Ok (Field_due (grown l f), st)
-    else (if b == close_brace then closed at (grown l f) st
-    else Err (Not_notation at))
+form_ended at f (In_field o name ∷ st) b = field_ended at (grown o name f) st b
+form_ended at f (In_sequence place ∷ st) b = item_ended at place f st b
 
 abbrev pub begins_name : ℕ → Bool
 begins_name b = begins_bare b || (b == quote)
@@ -100,17 +106,24 @@ begins_name b = begins_bare b || (b == quote)
 abbrev pub name_begun : Owner → ℕ → Mode
 name_begun owner b = if b == quote then Quoted owner [] else Bare owner (b ∷ [])
 
+-- the first byte of a form that no name begins
+abbrev pub opens_form : ℕ → Bool
+opens_form b = (b == open_bracket) || (b == open_brace)
+
 abbrev pub begins_form : ℕ → Bool
-begins_form b = begins_name b || (b == open_brace)
+begins_form b = begins_name b || opens_form b
 
 -- the first byte of a form
-abbrev pub form_begun : ℕ → ℕ → Mode
-form_begun at b = if b == open_brace then First_field (opened at []) else name_begun (Form_at at) b
+abbrev pub form_begun : ℕ → List Level → ℕ → State
+form_begun at st b =
+    if b == open_brace then (First_field (opened at []), st)
+    else (if b == open_bracket then (Form_due, In_sequence at ∷ st)
+    else (name_begun (Form_at at) b, st))
 
 -- where a form is due
 unfoldable pub form_due : ℕ → List Level → ℕ → Result State Refusal
 form_due at st b =
-    if begins_form b then (if nat_le max_shape_levels (length st) then Err (Refused (record { met = at; place = at; cause = TooDeep })) else Ok (form_begun at b, st))
+    if begins_form b then (if nat_le max_shape_levels (length st) then Err (Refused (record { met = at; place = at; cause = TooDeep })) else Ok (form_begun at st b))
     else Err (Not_notation at)
 
 -- where the name of a field is due
@@ -124,7 +137,7 @@ first_field at o st b = if b == close_brace then closed at o st else field_due a
 -- behind a name
 unfoldable pub named : ℕ → Owner → Utf8 → List Level → ℕ → Result State Refusal
 named at (Form_at place) name st b = if b == open_brace then Ok (First_field (opened place name), st) else Err (Not_notation at)
-named at (Field_of o) name st b = if b == colon then Ok (Form_due, record { open_struct = o; field_name = name } ∷ st) else Err (Not_notation at)
+named at (Field_of o) name st b = if b == colon then Ok (Form_due, In_field o name ∷ st) else Err (Not_notation at)
 
 -- behind a word that is no name, with the leaf that it stands for
 abbrev pub leaf_ended : ℕ → Option Leaf → List Level → ℕ → Result State Refusal

@@ -1,12 +1,12 @@
 -- What the makers of shapes ask for, and what they answer.
-use Rattle.std.specs.Prelude.{◌≡◌, ◌≤◌, Bool, true, false, ◌||◌, if◌then◌else◌, nat_lt, None, is_some, Result, Ok, Err}
+use Rattle.std.specs.Prelude.{◌≡◌, ◌≤◌, Bool, true, false, ◌||◌, if◌then◌else◌, nat_lt, None, is_some, Result, Ok, Err, IsOk}
 use Rattle.std.specs.Str.{bytes_eq, is_utf8}
 use Rattle.bson_base.specs.Text.{Utf8}
 use Rattle.bson_base.specs.Reserved.{reserved_kind}
-use Rattle.bson_shape.specs.Form.{Form, leaf, structure, Fields, no_fields, field}
+use Rattle.bson_shape.specs.Form.{Form, leaf, sequence, structure, Fields, no_fields, field}
 use Rattle.bson_shape.specs.Levels.{levels, max_shape_levels}
 use Rattle.bson_shape.specs.declared.error.ShapeError.{ShapeError}
-use Rattle.bson_shape.specs.declared.error.ShapeError.TheVariants.{ReservedName, RepeatedName, TooDeep}
+use Rattle.bson_shape.specs.declared.error.ShapeError.TheVariants.{ReservedName, RepeatedName, TooDeep, NoMemory}
 
 -- a field has the name
 abbrev pub has_field : Utf8 → Fields → Bool
@@ -30,9 +30,10 @@ pub record IsStruct (name : Utf8) (fields : Fields) : Type 0 where
   pub few : levels (structure name fields) ≤ max_shape_levels
 
 abbrev mutual
-  -- each struct in the form is as its maker asks, and each field's name is a text
+  -- each sequence in the form has few levels, each struct is as its maker asks, and each field's name is a text
   pub IsShape : Form → Type 0
   IsShape (leaf l) = Unit {0}
+  IsShape (sequence f) = (levels (sequence f) ≤ max_shape_levels) × IsShape f
   IsShape (structure name fs) = IsStruct name fs × AreShapes fs
 
   pub AreShapes : Fields → Type 0
@@ -46,3 +47,13 @@ made_structure name fs =
     else (if repeats fs then Err RepeatedName
     else (if nat_lt max_shape_levels (levels (structure name fs)) then Err TooDeep
     else Ok (structure name fs)))
+
+-- what the maker of a sequence answers
+abbrev pub made_sequence : Form → Result Form ShapeError
+made_sequence f = if nat_lt max_shape_levels (levels (sequence f)) then Err TooDeep else Ok (sequence f)
+
+-- What a maker that takes memory answers, where this is due: what is due, or that memory ran out where no refusal is due.
+abbrev pub Makes : Result Form ShapeError → Result Form ShapeError → Type 0
+Makes (Ok f) due = due ≡ Ok f
+Makes (Err NoMemory) due = IsOk due
+Makes (Err e) due = due ≡ Err e

@@ -2,7 +2,7 @@
 use Rattle.std.specs.Prelude.{ℕ, Bool, false, ◌&&◌, ◌||◌, nat_le, ◌==◌, if◌then◌else◌, List, [], ◌∷◌, ◌++◌}
 use Rattle.std.specs.List.{list_all}
 use Rattle.bson_base.specs.Text.{Utf8}
-use Rattle.bson_shape.specs.Form.{Form, leaf, structure, Fields, no_fields, field}
+use Rattle.bson_shape.specs.Form.{Form, leaf, sequence, structure, Fields, no_fields, field}
 use Rattle.bson_shape.specs.Leaf.{word}
 
 -- `"`
@@ -17,9 +17,17 @@ comma = 44
 abbrev pub colon : ℕ
 colon = 58
 
+-- `[`
+abbrev pub open_bracket : ℕ
+open_bracket = 91
+
 -- `\`
 abbrev pub backslash : ℕ
 backslash = 92
+
+-- `]`
+abbrev pub close_bracket : ℕ
+close_bracket = 93
 
 -- `{`
 abbrev pub open_brace : ℕ
@@ -77,9 +85,10 @@ listed [] = []
 listed (x ∷ xs) = x ++ after_commas xs
 
 abbrev mutual
-  -- a leaf is its word, a struct is `NAME{f:s,g:s}`
+  -- a leaf is its word, a sequence is `[s]`, a struct is `NAME{f:s,g:s}`
   pub text : Form → Utf8
   text (leaf l) = word l
+  text (sequence f) = open_bracket ∷ (text f ++ close_bracket ∷ [])
   text (structure name fs) = struct_name_text name ++ open_brace ∷ (listed (field_texts fs) ++ close_brace ∷ [])
 
   pub field_texts : Fields → List Utf8

@@ -4,6 +4,7 @@ use Rattle.bson_shape.specs.ShapeView.{fields_of}
 use Rattle.bson_shape.specs.Machine as machine
 use Rattle.bson_shape.specs.declared.parser.Open.{Open}
 use Rattle.bson_shape.specs.declared.parser.Level.{Level}
+use Rattle.bson_shape.specs.declared.parser.Level.TheVariants as levels
 use Rattle.bson_shape.specs.declared.parser.Owner.{Owner}
 use Rattle.bson_shape.specs.declared.parser.Owner.TheVariants as owners
 use Rattle.bson_shape.specs.declared.parser.Mode.{Mode}
@@ -13,7 +14,8 @@ abbrev pub open_view : Open → machine.Open
 open_view o = record { place = o.place; name = string_bytes o.name; fields = fields_of o.fields.items }
 
 abbrev pub level_view : Level → machine.Level
-level_view l = record { open_struct = open_view l.open_struct; field_name = string_bytes l.field_name }
+level_view (levels.InField o name) = machine.In_field (open_view o) (string_bytes name)
+level_view (levels.InSequence place) = machine.In_sequence place
 
 abbrev pub owner_view : Owner → machine.Owner
 owner_view (owners.FormAt place) = machine.Form_at place

@@ -2,18 +2,19 @@
 use Rattle.std.specs.Prelude.{codes}
 use Rattle.bson_base.specs.Text.{Utf8}
 use Rattle.bson_shape.specs.declared.error.ShapeError.{ShapeError}
-use Rattle.bson_shape.specs.declared.error.ShapeError.TheVariants.{ReservedName, RepeatedName, TooDeep}
+use Rattle.bson_shape.specs.declared.error.ShapeError.TheVariants as causes
 use Rattle.bson_shape.specs.declared.error.ParseError.{ParseError}
-use Rattle.bson_shape.specs.declared.error.ParseError.TheVariants.{NotNotation, Refused, NoMemory}
+use Rattle.bson_shape.specs.declared.error.ParseError.TheVariants as errors
 
 -- the refusal of a maker
 abbrev pub shape_error_text : ShapeError → Utf8
-shape_error_text ReservedName = codes "reserved name"
-shape_error_text RepeatedName = codes "repeated name"
-shape_error_text TooDeep = codes "shape deeper than 512 levels"
+shape_error_text causes.ReservedName = codes "reserved name"
+shape_error_text causes.RepeatedName = codes "repeated name"
+shape_error_text causes.TooDeep = codes "shape deeper than 512 levels"
+shape_error_text causes.NoMemory = codes "out of memory"
 
 -- the refusal of a text, without its place
 abbrev pub refusal_text : ParseError → Utf8
-refusal_text (NotNotation place) = codes "not a shape"
-refusal_text (Refused place e) = shape_error_text e
-refusal_text NoMemory = codes "out of memory"
+refusal_text (errors.NotNotation place) = codes "not a shape"
+refusal_text (errors.Refused place e) = shape_error_text e
+refusal_text errors.NoMemory = codes "out of memory"

@@ -25,11 +25,15 @@ fn is_same(a: &Shape, b: &Shape) -> bool
     match a.form() {
         Form::Leaf(leaf) => match b.form() {
             Form::Leaf(other) => leaf == other,
-            Form::Struct(_, _) => false,
+            Form::Seq(_) | Form::Struct(_, _) => false,
+        },
+        Form::Seq(item) => match b.form() {
+            Form::Seq(other) => is_same(item, other),
+            Form::Leaf(_) | Form::Struct(_, _) => false,
         },
         Form::Struct(name, fields) => match b.form() {
-            Form::Leaf(_) => false,
             Form::Struct(other, others) => name == other && are_same(fields, others),
+            Form::Leaf(_) | Form::Seq(_) => false,
         },
     }
 }

@@ -10,6 +10,8 @@ pub enum ShapeError {
     RepeatedName,
     /// The shape would have more than 512 levels.
     TooDeep,
+    /// The memory that the call asked for was refused.
+    NoMemory,
 }
 
 impl fmt::Display for ShapeError {
@@ -23,7 +25,19 @@ impl fmt::Display for ShapeError {
             ShapeError::ReservedName => "reserved name",
             ShapeError::RepeatedName => "repeated name",
             ShapeError::TooDeep => "shape deeper than 512 levels",
+            ShapeError::NoMemory => "out of memory",
         })
+    }
+}
+
+impl<T: Drop> From<AllocFailed<T>> for ShapeError {
+    ghost use Rattle.std.specs.Prelude.{◌≡◌};
+    ghost use Rattle.bson_shape.specs.declared.error.ShapeError.TheVariants.{NoMemory};
+
+    ghost from_gives = { λ _ e. e ≡ NoMemory };
+
+    fn from(_error: AllocFailed<T>) -> ShapeError {
+        ShapeError::NoMemory
     }
 }
 
@@ -32,7 +46,7 @@ impl fmt::Display for ShapeError {
 pub enum ParseError {
     /// The text is no notation of a shape. The number is the count of bytes of the longest beginning that it shares with a notation.
     NotNotation(usize),
-    /// A maker refuses a form of the text. The number is the index of the form's first byte.
+    /// A maker refuses a form of the text, and not for want of memory. The number is the index of the form's first byte.
     Refused(usize, ShapeError),
     /// The memory that the call asked for was refused.
     NoMemory,

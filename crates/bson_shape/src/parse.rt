@@ -8,6 +8,7 @@ ghost use Rattle.bson_shape.specs.Machine as machine;
 ghost use Rattle.bson_shape.specs.Answers.{Gives};
 ghost use Rattle.bson_shape.specs.Fronts.{IsMet, IsNotNotationAt, IsRefusedAt};
 ghost use Rattle.bson_shape.specs.declared.error.ShapeError.{ShapeError};
+ghost use Rattle.bson_shape.specs.declared.error.ShapeError.TheVariants.{NoMemory};
 
 use crate::parser::read;
 use crate::{ParseError, Shape};
@@ -20,7 +21,7 @@ impl Shape {
     /// bytes from the start of the text. `NotNotation` has the number of bytes of the longest front of the text with
     /// which some notation begins. `Refused` has the first byte of the form whose maker refuses: a reserved or a
     /// repeated name is met at the last byte of the struct, inner structs first, and a form inside 512 others at its
-    /// first byte. `NoMemory` is answered where memory runs out.
+    /// first byte. `NoMemory` is answered where memory runs out, in a maker too: `Refused` never holds it.
     pub fn parse(alloc: Global, text: &str) -> Result<Shape, ParseError>
         // The text is the notation of what is read.
         ensures found { IfOk result (λ s. notation.text s ≡ text.now) }
@@ -30,6 +31,9 @@ impl Shape {
 
         // A maker's refusal is answered only where it is the first one that is met,
         ensures refused { (p : ℕ) → (e : ShapeError) → result ≡ Err (ParseError.Refused p e) → IsRefusedAt text.now p e }
+
+        // never for want of memory,
+        ensures memory { (p : ℕ) → result ≡ Err (ParseError.Refused p NoMemory) → ⊥ }
 
         // and wherever one is met.
         ensures met { (r : MakerRefusal) → IsMet text.now r → Gives (λ s. s) result (Err (machine.Refused r)) }

@@ -1,6 +1,8 @@
 // Reading a notation from left to right, with the forms around on a stack of its own.
-ghost use Rattle.std.specs.Prelude.{◌≡◌, ◌<◌, ◌≤◌, ◌∷◌, ◌++◌, [], IfOk, OnOk, string_bytes, encode_utf8};
-ghost use Rattle.bson_shape.specs.Form.{no_fields};
+ghost use Rattle.std.specs.Prelude.{◌≡◌, ℕ, ◌<◌, ◌≤◌, List, ◌∷◌, ◌++◌, [], Result, IfOk, OnOk, string_bytes, encode_utf8};
+ghost use Rattle.bson_shape.specs.Form.{Form};
+ghost use Rattle.bson_shape.specs.Makers.{Makes};
+ghost use Rattle.bson_shape.specs.declared.error.ShapeError.{ShapeError};
 ghost use Rattle.bson_shape.specs.Machine as machine;
 ghost use Rattle.bson_shape.specs.ParserView.{open_view, level_view, owner_view, mode_view, levels_view};
 ghost use Rattle.bson_shape.specs.Answers.{Gives};
@@ -20,11 +22,13 @@ struct Open {
     fields: Vec<FieldShape>,
 }
 
-/// A form around the one that is read: a struct, and the name of the field.
+/// A form around the one that is read.
 #[derive(Drop)]
-struct Level {
-    open_struct: Open,
-    field_name: String,
+enum Level {
+    /// A struct, and the name of the field.
+    InField(Open, String),
+    /// A sequence that begins at this place.
+    InSequence(usize),
 }
 
 /// Whose name is read.
@@ -77,15 +81,23 @@ fn opened_at(alloc: Global, place: usize, name: String) -> Open
 }
 
 /// The struct with one more field.
-fn grown(level: Level, shape: Shape) -> Result<Open, AllocError>
-    ensures { IfOk result (λ o. open_view o ≡ machine.grown (level_view level) shape) }
+fn grown(opened: Open, name: String, shape: Shape) -> Result<Open, AllocError>
+    ensures { IfOk result (λ o. open_view o ≡ machine.grown (open_view opened) (string_bytes name) shape) }
 {
-    let mut grown = level.open_struct;
-    grown.fields.push(FieldShape {
-        name: level.field_name,
-        shape,
-    })?;
+    let mut grown = opened;
+    grown.fields.push(FieldShape { name, shape })?;
     Ok(grown)
+}
+
+/// Behind a form that begins at the place, with what its maker answered.
+fn made(place: usize, answer: Result<Shape, ShapeError>) -> Result<Mode, ParseError>
+    ensures { (at : ℕ) → (st : List machine.Level) → (due : Result Form ShapeError) → Makes answer due → Gives (λ m. (mode_view m, st)) result (machine.made at place st due) }
+{
+    match answer {
+        Ok(shape) => Ok(Mode::Done(shape)),
+        Err(ShapeError::NoMemory) => Err(ParseError::NoMemory),
+        Err(cause) => Err(ParseError::Refused(place, cause)),
+    }
 }
 
 /// A closing brace.
@@ -93,24 +105,54 @@ fn closed(opened: Open, levels: &Vec<Level>, at: usize) -> Result<Mode, ParseErr
     ensures { Gives (λ m. (mode_view m, levels_view levels.now.items)) result (machine.closed at (open_view opened) (levels_view levels.now.items)) }
 {
     let place = opened.place;
-    match Shape::structure(opened.name, opened.fields) {
-        Ok(shape) => Ok(Mode::Done(shape)),
-        Err(cause) => Err(ParseError::Refused(place, cause)),
+    made(place, Shape::structure(opened.name, opened.fields))
+}
+
+/// Behind a field, with which the struct is this.
+fn field_ended(opened: Open, levels: &Vec<Level>, at: usize, b: u8) -> Result<Mode, ParseError>
+    ensures { Gives (λ m. (mode_view m, levels_view levels.now.items)) result (machine.field_ended at (open_view opened) (levels_view levels.now.items) b) }
+{
+    match b {
+        b',' => Ok(Mode::FieldDue(opened)),
+        b'}' => closed(opened, levels, at),
+        _ => Err(ParseError::NotNotation(at)),
     }
+}
+
+/// Behind the form of the items of a sequence that begins at the place.
+fn item_ended(
+    alloc: Global,
+    place: usize,
+    item: Shape,
+    levels: &Vec<Level>,
+    at: usize,
+    b: u8,
+) -> Result<Mode, ParseError>
+    ensures { Gives (λ m. (mode_view m, levels_view levels.now.items)) result (machine.item_ended at place item (levels_view levels.now.items) b) }
+{
+    if b != b']' {
+        return Err(ParseError::NotNotation(at));
+    }
+    made(place, Shape::seq(alloc, item))
 }
 
 /// Behind a form.
 #[tactic(auto, unfolding(crate::specs::Machine::form_ended))]
-fn form_ended(shape: Shape, levels: &mut Vec<Level>, at: usize, b: u8) -> Result<Mode, ParseError>
+fn form_ended(
+    alloc: Global,
+    shape: Shape,
+    levels: &mut Vec<Level>,
+    at: usize,
+    b: u8,
+) -> Result<Mode, ParseError>
     ensures { Gives (λ m. (mode_view m, levels_view levels.new.items)) result (machine.form_ended at shape (levels_view levels.old.items) b) }
 {
     match levels.pop() {
         None => Err(ParseError::NotNotation(at)),
-        Some(level) => match b {
-            b',' => Ok(Mode::FieldDue(grown(level, shape)?)),
-            b'}' => closed(grown(level, shape)?, levels, at),
-            _ => Err(ParseError::NotNotation(at)),
-        },
+        Some(Level::InField(opened, name)) => {
+            field_ended(grown(opened, name, shape)?, levels, at, b)
+        }
+        Some(Level::InSequence(place)) => item_ended(alloc, place, shape, levels, at, b),
     }
 }
 
@@ -127,30 +169,41 @@ fn name_begun(alloc: Global, owner: Owner, b: u8) -> Result<Mode, AllocError>
     Ok(Mode::Bare(owner, name))
 }
 
+/// Whether a form begins with the byte.
+fn begins_form(b: u8) -> bool
+    ensures { result ≡ machine.begins_form b }
+{
+    begins_bare(b) || matches!(b, b'"' | b'[' | b'{')
+}
+
 /// The first byte of a form.
-fn form_begun(alloc: Global, at: usize, b: u8) -> Result<Mode, AllocError>
+fn form_begun(alloc: Global, levels: &mut Vec<Level>, at: usize, b: u8) -> Result<Mode, AllocError>
     requires { b < 128 }
-    ensures { IfOk result (λ m. mode_view m ≡ machine.form_begun at b) }
+    ensures { IfOk result (λ m. machine.form_begun at (levels_view levels.old.items) b ≡ (mode_view m, levels_view levels.new.items)) }
 {
     if b == b'{' {
         return Ok(Mode::FirstField(opened_at(alloc, at, String::new(alloc))));
+    }
+    if b == b'[' {
+        levels.push(Level::InSequence(at))?;
+        return Ok(Mode::FormDue);
     }
     name_begun(alloc, Owner::FormAt(at), b)
 }
 
 /// Where a form is due.
 #[tactic(auto, unfolding(crate::specs::Machine::form_due))]
-fn form_due(alloc: Global, levels: &Vec<Level>, at: usize, b: u8) -> Result<Mode, ParseError>
+fn form_due(alloc: Global, levels: &mut Vec<Level>, at: usize, b: u8) -> Result<Mode, ParseError>
     requires { b < 128 }
-    ensures { Gives (λ m. (mode_view m, levels_view levels.now.items)) result (machine.form_due at (levels_view levels.now.items) b) }
+    ensures { Gives (λ m. (mode_view m, levels_view levels.new.items)) result (machine.form_due at (levels_view levels.old.items) b) }
 {
-    if !(begins_bare(b) || b == b'"' || b == b'{') {
+    if !begins_form(b) {
         return Err(ParseError::NotNotation(at));
     }
     if levels.len() >= MAX_AROUND {
         return Err(ParseError::Refused(at, ShapeError::TooDeep));
     }
-    Ok(form_begun(alloc, at, b)?)
+    Ok(form_begun(alloc, levels, at, b)?)
 }
 
 /// Where the name of a field is due.
@@ -210,10 +263,7 @@ fn named(
         }
         Owner::FieldOf(opened) => {
             if b == b':' {
-                levels.push(Level {
-                    open_struct: opened,
-                    field_name: name,
-                })?;
+                levels.push(Level::InField(opened, name))?;
                 return Ok(Mode::FormDue);
             }
             Err(ParseError::NotNotation(at))
@@ -240,7 +290,7 @@ fn word_ended(
             }
             match Leaf::from_word(name.as_str()) {
                 None => Err(ParseError::NotNotation(at)),
-                Some(leaf) => form_ended(Shape::leaf(leaf), levels, at, b),
+                Some(leaf) => form_ended(alloc, Shape::leaf(leaf), levels, at, b),
             }
         }
         Owner::FieldOf(opened) => named(alloc, Owner::FieldOf(opened), name, levels, at, b),
@@ -357,7 +407,7 @@ fn step(
         Mode::Quoted(owner, name) => quoted_name(owner, name, levels, at, b),
         Mode::Escape(owner, name) => escape(owner, name, levels, at, b),
         Mode::Named(owner, name) => named(alloc, owner, name, levels, at, b),
-        Mode::Done(shape) => form_ended(shape, levels, at, b),
+        Mode::Done(shape) => form_ended(alloc, shape, levels, at, b),
     }
 }
 

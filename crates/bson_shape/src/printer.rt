@@ -71,6 +71,12 @@ fn put(out: &mut String, shape: &Shape) -> Result<(), AllocError>
 {
     match shape.form() {
         Form::Leaf(leaf) => out.push_str(leaf.word()),
+        Form::Seq(item) => {
+            out.push('[')?;
+            put(out, item)?;
+            out.push(']')?;
+            Ok(())
+        }
         Form::Struct(name, fields) => {
             put_struct_name(out, name)?;
             out.push('{')?;

@@ -1,13 +1,14 @@
 ghost use Rattle.std.specs.Prelude.{◌≡◌, ◌≤◌, string_bytes};
 ghost use Rattle.bson_shape.specs.Form as form;
 ghost use Rattle.bson_shape.specs.Levels.{levels, deepest, max_shape_levels};
-ghost use Rattle.bson_shape.specs.Makers.{IsShape, AreShapes, made_structure};
+ghost use Rattle.bson_shape.specs.Makers.{IsShape, AreShapes, Makes, made_sequence, made_structure};
 ghost use Rattle.bson_shape.specs.ShapeView.{fields_of, form_view};
 ghost use Rattle.bson_shape.specs.declared.leaf.Leaf.TheVariants.{I8, I16, I32, I64, U8, U16, U32, U64, String};
 
 use crate::distinct::has_repeated_name;
 use crate::{Form, Leaf, ShapeError};
 use bson_base::reserved_kind;
+use std::alloc::Global;
 use std::marker::Model;
 
 /// The most levels that a shape may have.
@@ -28,6 +29,7 @@ pub struct Shape {
 #[derive(Debug, Drop)]
 enum Node {
     Leaf(Leaf),
+    Seq(Box<Shape>),
     Struct(String, Vec<FieldShape>),
 }
 
@@ -138,6 +140,23 @@ impl Shape {
         }
     }
 
+    /// A sequence whose items have this shape.
+    ///
+    /// The refusals, of which the first that applies is answered: `TooDeep` where the sequence would have more than 512
+    /// levels, `NoMemory` where memory runs out.
+    pub fn seq(alloc: Global, item: Shape) -> Result<Shape, ShapeError>
+        ensures made { Makes result (made_sequence item) }
+    {
+        let item_levels = item.levels();
+        if item_levels >= MAX_LEVELS {
+            return Err(ShapeError::TooDeep);
+        }
+        Ok(Shape {
+            level_count: item_levels + 1,
+            node: Node::Seq(Box::new(alloc, item)?),
+        })
+    }
+
     /// A struct of this name, with these fields in this order.
     ///
     /// The refusals, of which the first that applies is answered: `ReservedName` where the name is one of the thirteen
@@ -168,6 +187,7 @@ impl Shape {
     {
         match &self.node {
             Node::Leaf(leaf) => Form::Leaf(*leaf),
+            Node::Seq(item) => Form::Seq(item),
             Node::Struct(name, fields) => Form::Struct(name.as_str(), fields.as_slice()),
         }
     }

@@ -1,4 +1,5 @@
-use Rattle.bson_laws.proofs.ReadBack.{views_reads, views_fit, norm_same}
+use Rattle.bson_laws.proofs.ReadBack.{views_reads}
+use Rattle.bson_laws.proofs.Viewed.{views_fit, norm_same}
 use Rattle.bson_laws.proofs.law_views_reads.Goals as goal
 
 pub returns : goal.returns

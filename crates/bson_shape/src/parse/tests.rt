@@ -24,6 +24,19 @@ fn nested(alloc: Global, count: usize) -> Result<String, AllocError> {
     Ok(text)
 }
 
+/// A text of so many sequences inside one another, around an `i32`.
+fn brackets(alloc: Global, count: usize) -> Result<String, AllocError> {
+    let mut text = String::new(alloc);
+    for _ in 0..count {
+        text.push('[')?;
+    }
+    text.push_str("i32")?;
+    for _ in 0..count {
+        text.push(']')?;
+    }
+    Ok(text)
+}
+
 #[test]
 fn reads_what_it_prints(rt: HostRuntime) -> Result<(), Fail> {
     let alloc = rt.alloc();
@@ -32,6 +45,8 @@ fn reads_what_it_prints(rt: HostRuntime) -> Result<(), Fail> {
         "i32",
         "{}",
         "{i:i32}",
+        "[i32]",
+        "[{a:[[string]],b:u8}]",
         "i32{i32:i32,_:i32}",
         "Point{x:i32,y:{z:i32},\"\":i32}",
         "\"a b\"{\"é\\\"\\\\\":i32}",
@@ -54,6 +69,14 @@ fn refuses_what_is_no_notation(rt: HostRuntime) -> Result<(), Fail> {
         ("{i:i33}", 6),
         ("{i:i32,}", 7),
         ("{i:i32", 6),
+        ("[", 1),
+        ("[]", 1),
+        ("[i32", 4),
+        ("[i32}", 4),
+        ("[i32,", 4),
+        ("{i:[i32}", 7),
+        ("{i:i32]", 6),
+        ("[i32]]", 5),
         ("{\"i\":i32}", 3),
         ("\"a\"{}", 2),
         ("\"\"{}", 1),
@@ -70,7 +93,11 @@ fn refuses_what_is_no_notation(rt: HostRuntime) -> Result<(), Fail> {
 #[test]
 fn refuses_what_a_maker_refuses(rt: HostRuntime) -> Result<(), Fail> {
     let alloc = rt.alloc();
-    for (text, place) in [("{a:i32,a:i32}", 0), ("{a:N{b:i32,b:i32}?", 3)] {
+    for (text, place) in [
+        ("{a:i32,a:i32}", 0),
+        ("{a:N{b:i32,b:i32}?", 3),
+        ("[{b:i32,b:i32}?", 1),
+    ] {
         let refusal = Shape::parse(alloc, text).err();
         assert_eq!(rt;
             refusal,
@@ -84,6 +111,14 @@ fn refuses_what_a_maker_refuses(rt: HostRuntime) -> Result<(), Fail> {
             Some(ParseError::Refused(place, ShapeError::ReservedName))
         );
     }
+    let deepest = brackets(alloc, 511)?;
+    assert!(rt; Shape::parse(alloc, deepest.as_str()).is_ok());
+    let deeper = brackets(alloc, 512)?;
+    let refusal = Shape::parse(alloc, deeper.as_str()).err();
+    assert_eq!(rt;
+        refusal,
+        Some(ParseError::Refused(512, ShapeError::TooDeep))
+    );
     let deepest = nested(alloc, 512)?;
     assert!(rt; Shape::parse(alloc, deepest.as_str()).is_ok());
     let deeper = nested(alloc, 513)?;

@@ -44,6 +44,12 @@ fn makes_shapes(rt: HostRuntime) -> Result<(), Fail> {
     let leaf = Shape::leaf(Leaf::I32);
     assert!(rt; matches!(leaf.form(), Form::Leaf(Leaf::I32)));
     leaf.known();
+    let sequence = Shape::seq(alloc, Shape::string())?;
+    let Form::Seq(item) = sequence.form() else {
+        return Err(Fail::from("no sequence"));
+    };
+    assert!(rt; *item == Shape::string());
+    assert!(rt; sequence != Shape::seq(alloc, Shape::i32())?);
     let point = numbers(alloc, "Point", &["x", "y"])??;
     let Form::Struct(name, fields) = point.form() else {
         return Err(Fail::from("no struct"));
@@ -73,7 +79,11 @@ fn refuses_shapes(rt: HostRuntime) -> Result<(), Fail> {
         numbers(alloc, "", &twice)?.err(),
         Some(ShapeError::RepeatedName)
     );
-    assert!(rt; nested(alloc, 512)?.is_ok());
+    assert!(rt; Shape::seq(alloc, nested(alloc, 511)??).is_ok());
+    assert_eq!(rt;
+        Shape::seq(alloc, nested(alloc, 512)??).err(),
+        Some(ShapeError::TooDeep)
+    );
     assert_eq!(rt; nested(alloc, 513)?.err(), Some(ShapeError::TooDeep));
     Ok(())
 }
@@ -99,5 +109,7 @@ fn prints_refusals(rt: HostRuntime) -> Result<(), Fail> {
     ] {
         assert_eq!(rt; format!(in alloc; "{refusal}")?.as_str(), text);
     }
+    let refusal = ShapeError::NoMemory;
+    assert_eq!(rt; format!(in alloc; "{refusal}")?.as_str(), "out of memory");
     Ok(())
 }

@@ -1,6 +1,9 @@
 use Rattle.std.proofs.Common.{◌≡◌}
-use Rattle.bson_datum.proofs.Sames.{same_from}
+use Rattle.bson_datum.proofs.Sames.{same_items_from, same_fields_from}
 use Rattle.bson_datum.proofs.equality.+same.Given as goal
 
-abbrev pub invariant-are_same-loop-i : goal.invariant-are_same-loop-i
-invariant-are_same-loop-i l = same_from l.i l.a l.b ≡ same_from 0 l.a l.b
+abbrev pub invariant-are_same_items-loop-i : goal.invariant-are_same_items-loop-i
+invariant-are_same_items-loop-i l = same_items_from l.i l.a l.b ≡ same_items_from 0 l.a l.b
+
+abbrev pub invariant-are_same_fields-loop-i : goal.invariant-are_same_fields-loop-i
+invariant-are_same_fields-loop-i l = same_fields_from l.i l.a l.b ≡ same_fields_from 0 l.a l.b

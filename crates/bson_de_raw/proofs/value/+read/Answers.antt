@@ -1,13 +1,15 @@
 use Rattle.std.proofs.Common.{rules, Ok, ◌+◌, ◌*◌, ◌<◌, ap, sym, subst, ◌∙◌, get_or, arith}
 use Rattle.bson_shape.specs.ShapeView.{fields_of, nodes, fields_nodes}
 use Rattle.bson_shape.proofs.Shapes.{field_smaller}
-use Rattle.bson_rawdoc.specs.DocumentView.{document_bytes}
+use Rattle.bson_rawdoc.specs.DocumentView.{array_bytes, document_bytes}
+use Rattle.bson_rawdoc.specs.Next.{count}
 use Rattle.bson_datum.specs.Stop.{IsUnderKey}
 use Rattle.bson_datum.specs.View.{view}
-use Rattle.bson_laws.specs.Reads.{place_of, reads_field}
+use Rattle.bson_laws.specs.Reads.{place_of, reads, reads_field}
 use Rattle.bson_de_raw.specs.SlotsView.{slots_view}
 use Rattle.bson_de_raw.proofs.Filled.{field_read, one_filled, one_stops, struct_read}
-use Rattle.bson_de_raw.proofs.Refusals.{StopsAs}
+use Rattle.bson_de_raw.proofs.Items.{items_step, items_end, sequence_read}
+use Rattle.bson_de_raw.proofs.Refusals.{StopsAs, next_is}
 use Rattle.bson_de_raw.proofs.value.+read.Goals as goal
 
 pub fill_one-read_value-requires : goal.fill_one-read_value-requires
@@ -38,3 +40,17 @@ fill_one-returns-in-Err-read_value-clause-exact t c =
 pub read_struct-returns : goal.read_struct-returns
 read_struct-returns t c =
     struct_read c.args.name.now (fields_of c.args.fields.now) c.args.levels c.args.value (document_bytes c.in_ok-document.document) _ c.in_ok-from_str.field-0 c.in_ok-fields.fields c.in_ok-document.ensures c.in_ok-slots.ensures.exact c.in_ok-fields.ensures c.in_ok-from_str.ensures.ok
+
+pub read_items-loop-step-preserved : goal.read_items-loop-step-preserved
+read_items-loop-step-preserved t c =
+    let first = next_is _ _ c.in-Some.step c.in-Ok.element c.in-Some.ensures.next c.in-Ok.is in (
+      omega (arith, c.loop-step.invariant.0, ap count first),
+      items_step (reads c.args.item.now c.args.levels) c.loop-step.index c.loop-step.items.items c.loop-step.elements _ c.loop-step.invariant.1 c.in-Ok.element c.next.new.self c.in-Ok-read_value.value c.push.new.self.items first c.in-Ok-read_value.ensures
+          c.in_ok-push-in-Ok-read_value.ensures.items,
+    )
+
+pub read_items-returns : goal.read_items-returns
+read_items-returns t c = items_end (reads c.args.item.now c.args.levels) c.loop-step.index c.loop-step.items.items c.loop-step.elements _ c.loop-step.invariant.1 c.in_default.ensures.next.0
+
+pub read_sequence-returns : goal.read_sequence-returns
+read_sequence-returns t c = sequence_read c.args.item.now c.args.levels c.args.value (array_bytes c.in_ok-array.array) c.in_ok-items.items c.in_ok-array.ensures c.in_ok-items.ensures

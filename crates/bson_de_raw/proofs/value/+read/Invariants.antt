@@ -1,14 +1,31 @@
-use Rattle.std.proofs.Common.{◌≡◌, ◌+◌, ◌*◌, length}
-use Rattle.bson_rawdoc.specs.DocumentView.{document_bytes}
+use Rattle.std.proofs.Common.{◌≡◌, ◌+◌, ◌*◌, ◌<◌, ◌^◌, length}
+use Rattle.bson_base.specs.Outcome.{result_map}
+use Rattle.bson_rawdoc.specs.DocumentView.{array_bytes, document_bytes}
 use Rattle.bson_rawdoc.specs.Next.{count}
 use Rattle.bson_rawdoc.specs.Walk.{walk}
 use Rattle.bson_shape.specs.ShapeView.{fields_of, nodes, fields_nodes}
-use Rattle.bson_laws.specs.Reads.{fill, no_slots}
+use Rattle.bson_laws.specs.Reads.{reads_items, fill, no_slots, reads}
 use Rattle.bson_de_raw.specs.SlotsView.{slots_view, filled_by}
+use Rattle.bson_de_raw.proofs.Items.{items_before}
 use Rattle.bson_de_raw.proofs.value.+read.Given as goal
 
 abbrev pub decreases-read_value : goal.decreases-read_value
 decreases-read_value l = 4 * nodes l.shape.now
+
+abbrev pub decreases-read_sequence : goal.decreases-read_sequence
+decreases-read_sequence l = 4 * nodes l.item.now + 2
+
+abbrev pub decreases-read_items : goal.decreases-read_items
+decreases-read_items l = 4 * nodes l.item.now + 1
+
+-- the items so far, and what is left of the array, are all that is in it
+abbrev pub invariant-read_items-loop-step : goal.invariant-read_items-loop-step
+invariant-read_items-loop-step l =
+    let read = reads l.item l.levels in
+    (l.index + count l.elements < 2 ^ 31) × (result_map (items_before l.items.items) (reads_items read l.index l.elements) ≡ reads_items read 0 (walk (array_bytes l.array)))
+
+abbrev pub decreases-read_items-loop-step : goal.decreases-read_items-loop-step
+decreases-read_items-loop-step l = count l.elements
 
 abbrev pub decreases-read_struct : goal.decreases-read_struct
 decreases-read_struct l = 4 * fields_nodes (fields_of l.fields.now) + 3

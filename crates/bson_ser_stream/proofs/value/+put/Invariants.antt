@@ -1,8 +1,8 @@
--- The fields so far were appended: what is to come is what was to come from the fields that are left.
+-- What was appended so far leaves to come what was to come from the fields or the values that are left.
 use Rattle.std.proofs.Common.{◌≡◌, ◌≤◌, drop}
-use Rattle.bson_datum.specs.View.{fields_view}
-use Rattle.bson_laws.specs.Spell.{spell_fields, size_fields}
-use Rattle.bson_ser_stream.specs.Writing.{with_elements}
+use Rattle.bson_datum.specs.View.{items_view, fields_view}
+use Rattle.bson_laws.specs.Spell.{spell_items, spell_fields, size_items, size_fields}
+use Rattle.bson_ser_stream.specs.Writing.{with_elements, with_array_elements}
 use Rattle.bson_ser_stream.specs.Halting.{Grows}
 use Rattle.bson_ser_stream.proofs.value.+put.Given as goal
 
@@ -12,5 +12,14 @@ invariant-put_fields-loop-field g l =
     record {
       bytes : with_elements l.out.bytes (spell_fields left l.levels) ≡ with_elements l.initial.out.bytes (spell_fields (fields_view l.fields) l.levels);
       size : size_fields left ≤ size_fields (fields_view l.fields);
+      grows : Grows l.initial.out l.out l.initial.steps l.steps;
+    }
+
+abbrev pub invariant-put_items-loop-index : goal.invariant-put_items-loop-index
+invariant-put_items-loop-index g l =
+    let left = items_view (drop l.index l.items) in
+    record {
+      bytes : with_array_elements l.out.bytes l.index (spell_items l.index left l.levels) ≡ with_array_elements l.initial.out.bytes 0 (spell_items 0 (items_view l.items) l.levels);
+      size : size_items l.index left ≤ size_items 0 (items_view l.items);
       grows : Grows l.initial.out l.out l.initial.steps l.steps;
     }

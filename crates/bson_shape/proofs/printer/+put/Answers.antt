@@ -7,8 +7,8 @@ use Rattle.bson_shape.proofs.Shapes.{field_smaller}
 use Rattle.bson_shape.proofs.Printed.{more_printed}
 use Rattle.bson_shape.proofs.printer.+put.Goals as goal
 
-pub put-requires : goal.put-requires
-put-requires t c =
+pub put-requires-in-loop-i : goal.put-requires-in-loop-i
+put-requires-in-loop-i t c =
     let fields = c.in-Struct.fields.now in
     let f = c.index-fields-i.result in
     let whole : structure c.in-Struct.name.now (fields_of fields) ≡ c.args.shape.now = sym (ap form_view c.in-Struct.is) ∙ c.form.ensures.form in

@@ -1,0 +1,60 @@
+// What a document and an array share: a place for the length, what stands inside, and the end.
+ghost use Rattle.std.specs.Prelude.{◌≡◌, ◌≤◌, ◌+◌, length, OnOk, OnErr, IfOk, IfErr};
+ghost use Rattle.bson_io.specs.Output.{Appended};
+ghost use Rattle.bson_ser_stream.specs.Writing.{length_place, level_inside};
+ghost use Rattle.bson_ser_stream.specs.Halting.{Gives, Grows, Ends, EndHalts};
+
+use crate::halt::Halt;
+use bson_datum::Cause;
+use bson_io::{Ledger, Out, Steps};
+
+/// The most bytes of a document.
+pub(crate) const MAX_BYTES: usize = 2147483647;
+
+/// A document or an array that was begun.
+#[derive(Drop)]
+pub(crate) struct Container {
+    start: usize,
+    /// How many levels are left for what stands in it.
+    pub(crate) levels: u32,
+}
+
+impl Container {
+    /// Begins a document or an array with so many levels left: appends a place for its length.
+    pub(crate) fn begin<L: Ledger>(
+        out: &mut Out,
+        steps: &mut Steps<L>,
+        levels: u32,
+    ) -> Result<Container, Halt>
+        ensures levels { Gives 4 out.old.spare (λ c. c.levels) result (level_inside levels) }
+        ensures start { IfOk result (λ c. c.start ≡ length out.old.bytes) }
+        ensures ok { OnOk result (Appended out.old out.new length_place steps.old steps.new) }
+        ensures grows { Grows out.old out.new steps.old steps.new }
+    {
+        if levels == 0 {
+            return Err(Halt::caused(out.allocator(), Cause::TooDeep));
+        }
+        let start = out.len();
+        out.push_all(&[0; 4], steps)?;
+        Ok(Container {
+            start,
+            levels: levels - 1,
+        })
+    }
+
+    /// Ends it: appends a zero, and writes the length of it all into its first four bytes.
+    pub(crate) fn end<L: Ledger>(self, out: &mut Out, steps: &mut Steps<L>) -> Result<(), Halt>
+        requires { self.start + 4 ≤ length out.old.bytes }
+        ensures ok { OnOk result (Ends out.old out.new self.start steps.old steps.new) }
+        ensures err { IfErr result (EndHalts out.old self.start) }
+        ensures grows { OnErr result (Grows out.old out.new steps.old steps.new) }
+    {
+        out.push(0, steps)?;
+        let len = out.len() - self.start;
+        if len > MAX_BYTES {
+            return Err(Halt::TooLong);
+        }
+        out.patch_i32(self.start, len as i32, steps);
+        Ok(())
+    }
+}
