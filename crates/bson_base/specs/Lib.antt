@@ -5,4 +5,10 @@ pub mod Tree
 pub mod Sound
 pub mod Outcome
 pub mod Stored
+pub mod StoredTree
 pub mod Instant
+pub mod BsonView
+pub mod Pairs
+pub mod Next
+pub mod Same
+pub mod Decided

@@ -1,3 +1,5 @@
+pub mod Copies
+pub mod Lent
 pub mod Reversed
 pub mod Sames
 pub mod SegmentTexts

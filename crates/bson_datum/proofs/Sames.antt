@@ -6,6 +6,8 @@ use Rattle.std.specs.Str.{bytes_eq}
 use Rattle.std.specs.Global.{Vec}
 use Rattle.std.specs.Cmp.Lexicographic.{pointwise}
 use Rattle.std.proofs.lemmas.Bool.{and_right}
+use Rattle.bson_base.specs.Text.{Utf8}
+use Rattle.bson_datum.specs.Value.{Items, FieldValues, sequence, structure}
 use Rattle.bson_datum.specs.TextView.{text_view}
 use Rattle.bson_datum.specs.PathView.{segment_view}
 use Rattle.bson_datum.specs.View.{view, items_view, fields_view}
@@ -49,18 +51,20 @@ same_fields-lengths (f ∷ fs) [] h = refl
 same_fields-lengths (f ∷ fs) (g ∷ gs) h = and_right _ _ (same_fields-lengths fs gs (λ e. h (omega arith)))
 
 -- a sequence and a datum that is none
-pub unlike_sequence : (d e : Datum) (ds : Vec Datum) → d ≡ Seq ds → ((es : Vec Datum) → e ≡ Seq es → ⊥) → false ≡ same (view d) (view e)
-unlike_sequence d (Seq' shape rows) ds is none = absurd (none _ (sym (roll-out-Datum (Seq' shape rows)) ∙ ap roll-Datum (outs-Seq' shape rows) ∙ rolls-Seq _))
-unlike_sequence d e ds is none = sym (ap (λ x. same (view x) (view e)) is)
+pub unlike_sequence : (is : Items) (d : Datum) → ((ds : Vec Datum) → d ≡ Seq ds → ⊥) → false ≡ same (sequence is) (view d)
+unlike_sequence is (Seq' shape rows) none = absurd (none _ (sym (roll-out-Datum (Seq' shape rows)) ∙ ap roll-Datum (outs-Seq' shape rows) ∙ rolls-Seq _))
+unlike_sequence is d none = refl
 
 -- a struct and a datum that is none
-pub unlike_struct : (d e : Datum) (n : Text) (fs : Vec Field) → d ≡ Struct n fs → ((m : Text) (gs : Vec Field) → e ≡ Struct m gs → ⊥) → false ≡ same (view d) (view e)
-unlike_struct d (Struct' m shape rows) n fs is none = absurd (none m _ (sym (roll-out-Datum (Struct' m shape rows)) ∙ ap roll-Datum (outs-Struct' m shape rows) ∙ rolls-Struct m _))
-unlike_struct d e n fs is none = sym (ap (λ x. same (view x) (view e)) is)
+pub unlike_struct : (n : Utf8) (fs : FieldValues) (d : Datum) → ((m : Text) (gs : Vec Field) → d ≡ Struct m gs → ⊥) → false ≡ same (structure n fs) (view d)
+unlike_struct n fs (Struct' m shape rows) none = absurd (none m _ (sym (roll-out-Datum (Struct' m shape rows)) ∙ ap roll-Datum (outs-Struct' m shape rows) ∙ rolls-Struct m _))
+unlike_struct n fs d none = refl
+
+-- the value of a struct, whose fields are lent
+pub struct_lent : (d : Datum) (n : Text) (fs : Vec Field) (xs : List Field) → d ≡ Struct n fs → xs ≡ fs.items → structure (text_view n) (fields_view xs) ≡ view d
+struct_lent d n fs xs is lent = ap (λ ys. structure (text_view n) (fields_view ys)) lent ∙ sym (ap view is ∙ view-Struct n fs)
 
 -- two structs of one name
-pub same_structs : (d e : Datum) (n m : Text) (fs gs : Vec Field) (xs ys : List Field) → d ≡ Struct n fs → e ≡ Struct m gs → xs ≡ fs.items → ys ≡ gs.items → bytes_eq (text_view n) (text_view m) ≡ true
-    → same_fields (fields_view xs) (fields_view ys) ≡ same (view d) (view e)
-same_structs d e n m fs gs xs ys is other lent lent-2 named =
-    (λ i. sym named i && same_fields (fields_view (lent i)) (fields_view (lent-2 i)))
-    ∙ sym (λ i. same ((ap view is ∙ view-Struct n fs) i) ((ap view other ∙ view-Struct m gs) i))
+pub same_structs : (n : Utf8) (fs : FieldValues) (d : Datum) (m : Text) (gs : Vec Field) (ys : List Field) → d ≡ Struct m gs → ys ≡ gs.items → bytes_eq n (text_view m) ≡ true
+    → same_fields fs (fields_view ys) ≡ same (structure n fs) (view d)
+same_structs n fs d m gs ys is lent named = ap (λ b. b && same_fields fs (fields_view ys)) (sym named) ∙ ap (same (structure n fs)) (struct_lent d m gs ys is lent)

@@ -1,5 +1,5 @@
 -- Why a value is refused.
-use Rattle.std.specs.Prelude.{ℤ}
+use Rattle.std.specs.Prelude.{ℕ, ℤ}
 use Rattle.bson_base.specs.Text.{Utf8}
 use Rattle.bson_base.specs.declared.element_type.ElementType.{ElementType}
 use Rattle.bson_rawdoc.specs.declared.raw.Error as raw_error
@@ -13,14 +13,22 @@ pub data Cause : Type 0 where
   invalid_type : ElementType → Cause
   -- the number does not fit the shape's type
   out_of_range : ℤ → Cause
+  -- the text is not one character
+  not_one_char : Cause
   -- the bytes of a binary are not UTF-8
   not_utf8 : Cause
+  -- the shape takes a part of the input lent, and the value cannot be lent
+  not_borrowed : Cause
+  -- the value has this many elements or bytes, and the shape takes another number
+  invalid_length : ℕ → Cause
   -- no element has the name of this field
   missing_field : Utf8 → Cause
   -- two elements have the name of this field
   duplicate_field : Utf8 → Cause
   -- a value of this kind stands where a document is due
   top_level : ElementType → Cause
+  -- a binary of so many bytes, which are more than a binary may have
+  binary_too_long : ℕ → Cause
   -- the document would have more bytes than a document may
   too_long : Cause
   -- a value of this kind is not written yet

@@ -4,26 +4,28 @@ use Rattle.std.specs.Prelude.{◌&&◌, if◌then◌else◌, eqb}
 use Rattle.std.specs.Bool.{Decides}
 use Rattle.std.specs.Ordering.{int_eq}
 use Rattle.std.specs.Str.{bytes_eq}
-use Rattle.std.specs.Cmp.{IsPartialEquivalence, partial_equiv_from_equiv, decided, on_equiv, signed_Decides, unsigned_Decides}
+use Rattle.std.specs.Cmp.{IsPartialEquivalence, partial_equiv_from_equiv, decided, on_equiv, booleans_Decides, signed_Decides, unsigned_Decides}
 use Rattle.std.specs.Cmp.Lexicographic.{pointwise_decides}
 use Rattle.std.proofs.lemmas.Bool.{and_parts, and_from, false≢true}
 use Rattle.std.proofs.lemmas.Slice.Eq.{bytes_eq-Decides}
-use Rattle.bson_base.specs.Text.{Utf8}
-use Rattle.bson_datum.specs.Value.{IntegerType, i8, i16, i32, i64, u8, u16, u32, u64, Value, integer, str, sequence, structure, Items, no_items, item, FieldValues, no_field_values, field_value}
+use Rattle.bson_base.specs.Text.{Bytes, Utf8}
+use Rattle.bson_datum.specs.Value.{IntegerType, i8, i16, i32, i64, u8, u16, u32, u64, Value, boolean, integer, double, character, str, bytes, none, some, unit, unit_structure, newtype, sequence, structure, Items, no_items, item, FieldValues, no_field_values, field_value}
 use Rattle.bson_datum.specs.Refusal as refusal
 use Rattle.bson_datum.specs.Refusal.{at_key, at_index}
 use Rattle.bson_datum.specs.Same.{type_number, same_type, same, same_items, same_fields, same_field, same_segment, same_path}
 use Rattle.bson_datum.specs.TextView.{text_view}
+use Rattle.bson_datum.specs.ByteStrView.{bytes_view}
 use Rattle.bson_datum.specs.PathView.{path_view, segment_view}
 use Rattle.bson_datum.specs.View.{view, field_view}
 use Rattle.bson_datum.specs.declared.text.Text.{Text}
+use Rattle.bson_datum.specs.declared.byte_str.ByteStr.{ByteStr}
 use Rattle.bson_datum.specs.declared.path.Segment.{Segment}
 use Rattle.bson_datum.specs.declared.path.Path.{Path}
 use Rattle.bson_datum.specs.declared.datum.Field.{Field}
 use Rattle.bson_datum.specs.declared.datum.Datum.{Datum}
 
-bytes_alike : (name : Utf8) → bytes_eq name name ≡ true
-bytes_alike name = (bytes_eq-Decides name name).1 refl
+bytes_alike : (bs : Bytes) → bytes_eq bs bs ≡ true
+bytes_alike bs = (bytes_eq-Decides bs bs).1 refl
 
 -- the integer type of a number
 abbrev of_number : ℕ → IntegerType
@@ -46,10 +48,21 @@ type_same type other e = sym (of_type_number type) ∙ ap of_number ((unsigned_D
 
 mutual
   same_is : (v w : Value) → same v w ≡ true → v ≡ w
+  same_is (boolean a) (boolean b) e = ap boolean ((booleans_Decides a b).0 e)
   same_is (integer type m) (integer other n) e =
       let b = and_parts (same_type type other) (int_eq m n) e in
       λ i. integer (type_same type other b.0 i) ((signed_Decides m n).0 b.1 i)
+  same_is (double a) (double b) e = ap double ((bytes_eq-Decides a b).0 e)
+  same_is (character a) (character b) e = ap character ((unsigned_Decides a b).0 e)
   same_is (str t) (str u) e = ap str ((bytes_eq-Decides t u).0 e)
+  same_is (bytes a) (bytes b) e = ap bytes ((bytes_eq-Decides a b).0 e)
+  same_is none none e = refl
+  same_is (some v) (some w) e = ap some (same_is v w e)
+  same_is unit unit e = refl
+  same_is (unit_structure name) (unit_structure n) e = ap unit_structure ((bytes_eq-Decides name n).0 e)
+  same_is (newtype name v) (newtype n w) e =
+      let b = and_parts (bytes_eq name n) (same v w) e in
+      λ i. newtype ((bytes_eq-Decides name n).0 b.0 i) (same_is v w b.1 i)
   same_is (sequence is) (sequence js) e = ap sequence (items_are is js e)
   same_is (structure name fs) (structure n gs) e =
       let b = and_parts (bytes_eq name n) (same_fields fs gs) e in
@@ -73,8 +86,17 @@ mutual
 
 mutual
   same_itself : (v : Value) → same v v ≡ true
+  same_itself (boolean b) = (booleans_Decides b b).1 refl
   same_itself (integer type n) = and_from _ _ ((unsigned_Decides (type_number type) (type_number type)).1 refl) ((signed_Decides n n).1 refl)
+  same_itself (double bits) = bytes_alike bits
+  same_itself (character c) = (unsigned_Decides c c).1 refl
   same_itself (str t) = bytes_alike t
+  same_itself (bytes bs) = bytes_alike bs
+  same_itself none = refl
+  same_itself (some v) = same_itself v
+  same_itself unit = refl
+  same_itself (unit_structure name) = bytes_alike name
+  same_itself (newtype name v) = and_from _ _ (bytes_alike name) (same_itself v)
   same_itself (sequence is) = items_alike is
   same_itself (structure name fs) = and_from _ _ (bytes_alike name) (fields_alike fs)
 
@@ -114,6 +136,9 @@ same_path_decides = pointwise_decides same_segment_decides
 -- the laws of `==`
 pub text_laws : IsPartialEquivalence (λ (a : Text) (b : Text). bytes_eq (text_view a) (text_view b))
 text_laws = partial_equiv_from_equiv (on_equiv text_view (decided bytes_eq bytes_eq-Decides))
+
+pub byte_str_laws : IsPartialEquivalence (λ (a : ByteStr) (b : ByteStr). bytes_eq (bytes_view a) (bytes_view b))
+byte_str_laws = partial_equiv_from_equiv (on_equiv bytes_view (decided bytes_eq bytes_eq-Decides))
 
 pub segment_laws : IsPartialEquivalence (λ (a : Segment) (b : Segment). same_segment (segment_view a) (segment_view b))
 segment_laws = partial_equiv_from_equiv (on_equiv segment_view (decided same_segment same_segment_decides))

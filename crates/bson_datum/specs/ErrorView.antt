@@ -4,7 +4,7 @@ use Rattle.bson_datum.specs.Cause as cause
 use Rattle.bson_datum.specs.Refusal.{ReadFault, unreadable, WriteFault, unwritable, invalid_cstring, unsigned_exceeds, Failure, no_memory, bare, placed}
 use Rattle.bson_datum.specs.PathView.{path_view}
 use Rattle.bson_datum.specs.declared.cause.Cause.{Cause}
-use Rattle.bson_datum.specs.declared.cause.Cause.TheVariants.{Raw, TooDeep, InvalidType, OutOfRange, NotUtf8, MissingField, DuplicateField, TopLevel, TooLong, NotBuilt}
+use Rattle.bson_datum.specs.declared.cause.Cause.TheVariants.{Raw, TooDeep, InvalidType, OutOfRange, NotOneChar, NotUtf8, NotBorrowed, InvalidLength, MissingField, DuplicateField, TopLevel, BinaryTooLong, TooLong, NotBuilt}
 use Rattle.bson_datum.specs.declared.de.Fault as de_fault
 use Rattle.bson_datum.specs.declared.de.Fault.TheVariants as de_faults
 use Rattle.bson_datum.specs.declared.ser.Fault as ser_fault
@@ -17,10 +17,14 @@ cause_view (Raw f) = cause.raw f
 cause_view TooDeep = cause.too_deep
 cause_view (InvalidType k) = cause.invalid_type k
 cause_view (OutOfRange n) = cause.out_of_range n
+cause_view NotOneChar = cause.not_one_char
 cause_view NotUtf8 = cause.not_utf8
+cause_view NotBorrowed = cause.not_borrowed
+cause_view (InvalidLength n) = cause.invalid_length n
 cause_view (MissingField t) = cause.missing_field (string_bytes t)
 cause_view (DuplicateField t) = cause.duplicate_field (string_bytes t)
 cause_view (TopLevel k) = cause.top_level k
+cause_view (BinaryTooLong n) = cause.binary_too_long n
 cause_view TooLong = cause.too_long
 cause_view (NotBuilt k) = cause.not_built k
 

@@ -1,6 +1,8 @@
 pub mod Value
 pub mod TextView
+pub mod ByteStrView
 pub mod View
+pub mod Loans
 pub mod Cause
 pub mod Refusal
 pub mod PathView

@@ -4,7 +4,7 @@ use Rattle.std.specs.Fmt.{decimal, signed_decimal}
 use Rattle.bson_base.specs.Text.{Utf8}
 use Rattle.bson_base.specs.Kind.{name}
 use Rattle.bson_rawdoc.specs.Printed.{printed_fault}
-use Rattle.bson_datum.specs.Cause.{Cause, raw, too_deep, invalid_type, out_of_range, not_utf8, missing_field, duplicate_field, top_level, too_long, not_built}
+use Rattle.bson_datum.specs.Cause.{Cause, raw, too_deep, invalid_type, out_of_range, not_one_char, not_utf8, not_borrowed, invalid_length, missing_field, duplicate_field, top_level, binary_too_long, too_long, not_built}
 use Rattle.bson_datum.specs.Refusal.{Segment, Path, at_key, at_index, ReadFault, unreadable, WriteFault, unwritable, invalid_cstring, unsigned_exceeds, Failure, no_memory, bare, placed}
 
 -- the segment at a place of a path: a key has a point before it unless it comes first, an index stands in brackets
@@ -34,10 +34,14 @@ printed_cause (raw f) = printed_fault f
 printed_cause too_deep = codes "nested deeper than 200 levels"
 printed_cause (invalid_type k) = codes "invalid type: " ++ name k
 printed_cause (out_of_range n) = codes "integer " ++ signed_decimal n ++ codes " out of range"
+printed_cause not_one_char = codes "not one character"
 printed_cause not_utf8 = codes "bytes are not UTF-8"
+printed_cause not_borrowed = codes "cannot be borrowed"
+printed_cause (invalid_length n) = codes "invalid length " ++ decimal n
 printed_cause (missing_field t) = codes "missing field " ++ t
 printed_cause (duplicate_field t) = codes "duplicate field " ++ t
 printed_cause (top_level k) = codes "non-document type at the top level: " ++ name k
+printed_cause (binary_too_long n) = codes "binary length " ++ decimal n ++ codes " exceeded maximum size"
 printed_cause too_long = codes "value exceeds maximum length"
 printed_cause (not_built k) = not_built_text (name k)
 

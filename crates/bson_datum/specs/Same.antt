@@ -1,10 +1,11 @@
--- Whether two values, or two paths, are equal: part by part, texts by their contents.
+-- Whether two values, or two paths, are equal: part by part, texts and byte strings by their contents.
 use Rattle.std.specs.Prelude.{ℕ, Bool, true, false, ◌&&◌, nat_eq}
+use Rattle.std.specs.Bool.{beq}
 use Rattle.std.specs.Ordering.{int_eq}
 use Rattle.std.specs.Str.{bytes_eq}
 use Rattle.std.specs.Cmp.Lexicographic.{pointwise}
 use Rattle.bson_base.specs.Text.{Utf8}
-use Rattle.bson_datum.specs.Value.{IntegerType, i8, i16, i32, i64, u8, u16, u32, u64, Value, integer, str, sequence, structure, Items, no_items, item, FieldValues, no_field_values, field_value}
+use Rattle.bson_datum.specs.Value.{IntegerType, i8, i16, i32, i64, u8, u16, u32, u64, Value, boolean, integer, double, character, str, bytes, none, some, unit, unit_structure, newtype, sequence, structure, Items, no_items, item, FieldValues, no_field_values, field_value}
 use Rattle.bson_datum.specs.Refusal.{Segment, Path, at_key, at_index}
 
 -- the number of an integer type
@@ -25,8 +26,17 @@ same_type type other = nat_eq (type_number type) (type_number other)
 abbrev mutual
   -- two values are of one form, and their parts are equal
   pub same : Value → Value → Bool
+  same (boolean a) (boolean b) = beq a b
   same (integer type m) (integer other n) = same_type type other && int_eq m n
+  same (double a) (double b) = bytes_eq a b
+  same (character a) (character b) = nat_eq a b
   same (str t) (str u) = bytes_eq t u
+  same (bytes a) (bytes b) = bytes_eq a b
+  same none none = true
+  same (some v) (some w) = same v w
+  same unit unit = true
+  same (unit_structure name) (unit_structure n) = bytes_eq name n
+  same (newtype name v) (newtype n w) = bytes_eq name n && same v w
   same (sequence is) (sequence js) = same_items is js
   same (structure name fs) (structure n gs) = bytes_eq name n && same_fields fs gs
   same v w = false

@@ -1,9 +1,10 @@
 -- Values of serde's data model.
-use Rattle.std.specs.Prelude.{ℤ, pos, negsuc, Bool, ◌&&◌, not, int_lt, Option, Some, None}
-use Rattle.bson_base.specs.Text.{Utf8}
+use Rattle.std.specs.Prelude.{ℕ, ℤ, pos, negsuc, Bool, ◌&&◌, not, int_lt, if◌then◌else◌, Option, Some, None, codes}
+use Rattle.std.specs.Str.{bytes_eq}
+use Rattle.bson_base.specs.Text.{Bytes, Utf8}
 use Rattle.bson_base.specs.Reserved.{reserved_kind}
 use Rattle.bson_base.specs.declared.element_type.ElementType.{ElementType}
-use Rattle.bson_base.specs.declared.element_type.ElementType.TheVariants.{Array, EmbeddedDocument, Int32, Int64, String}
+use Rattle.bson_base.specs.declared.element_type.ElementType.TheVariants.{Double, String, EmbeddedDocument, Array, Binary, Boolean, Null, Int32, Int64}
 
 -- the integer types
 pub data IntegerType : Type 0 where
@@ -56,8 +57,20 @@ written_as u64 = Int64
 mutual
   -- a value
   pub data Value : Type 0 where
+    boolean : Bool → Value
     integer : (type : IntegerType) → (number : ℤ) → Value
+    -- a floating point number of 64 bits, by its eight bytes
+    double : Bytes → Value
+    -- a character, by its code point
+    character : ℕ → Value
     str : Utf8 → Value
+    bytes : Bytes → Value
+    -- an optional value that is not there, and one that is
+    none : Value
+    some : Value → Value
+    unit : Value
+    unit_structure : (name : Utf8) → Value
+    newtype : (name : Utf8) → (value : Value) → Value
     sequence : (items : Items) → Value
     structure : (name : Utf8) → (fields : FieldValues) → Value
 
@@ -79,9 +92,26 @@ reserved_or_document None = EmbeddedDocument
 abbrev pub struct_kind : Utf8 → ElementType
 struct_kind name = reserved_or_document (reserved_kind name)
 
+-- the name of the newtype that a UUID is given by
+abbrev pub uuid_newtype : Utf8
+uuid_newtype = codes "$__bson_private_uuid"
+
+-- the kind that a newtype of this name is written as: a UUID as a binary, any other as its content
+abbrev pub newtype_kind : (name : Utf8) → (content : ElementType) → ElementType
+newtype_kind name content = if bytes_eq name uuid_newtype then Binary else content
+
 -- the kind that a value is written as
 abbrev pub kind_of : Value → ElementType
+kind_of (boolean b) = Boolean
 kind_of (integer type n) = written_as type
+kind_of (double bits) = Double
+kind_of (character c) = String
 kind_of (str t) = String
+kind_of (bytes bs) = Binary
+kind_of none = Null
+kind_of (some v) = kind_of v
+kind_of unit = Null
+kind_of (unit_structure name) = Null
+kind_of (newtype name v) = newtype_kind name (kind_of v)
 kind_of (sequence is) = Array
 kind_of (structure name fs) = struct_kind name

@@ -2,12 +2,15 @@
 use Rattle.std.specs.Prelude.{pos, List, [], ◌∷◌}
 use Rattle.bson_base.specs.Text.{Utf8}
 use Rattle.bson_datum.specs.TextView.{text_view}
-use Rattle.bson_datum.specs.Value.{Value, integer, i8, i16, i32, i64, u8, u16, u32, u64, str, sequence, structure, Items, no_items, item, FieldValues, no_field_values, field_value}
+use Rattle.bson_datum.specs.ByteStrView.{bytes_view}
+use Rattle.bson_datum.specs.Value.{Value, boolean, integer, i8, i16, i32, i64, u8, u16, u32, u64, double, character, str, bytes, none, some, unit, unit_structure, newtype, sequence, structure, Items, no_items, item, FieldValues, no_field_values, field_value}
 use Rattle.bson_datum.specs.declared.datum.Field.{Field}
-use Rattle.bson_datum.specs.declared.datum.Datum.{Datum, I8, I16, I32, I64, U8, U16, U32, U64, Str, Seq', Struct', Row_of-Datum, end_of-Datum, more_of-Datum, Row_of-Field, end_of-Field, more_of-Field}
+use Rattle.bson_datum.specs.declared.datum.Datum as datum
+use Rattle.bson_datum.specs.declared.datum.Datum.{Datum, Bool, I8, I16, I32, I64, U8, U16, U32, U64, Double, Char, Str, Bytes, UnitStruct, NewtypeStruct', Seq', Struct', Row_of-Datum, end_of-Datum, more_of-Datum, Row_of-Field, end_of-Field, more_of-Field}
 
 abbrev mutual
   pub view : Datum → Value
+  view (Bool b) = boolean b
   view (I8 n) = integer i8 n
   view (I16 n) = integer i16 n
   view (I32 n) = integer i32 n
@@ -16,7 +19,15 @@ abbrev mutual
   view (U16 n) = integer u16 (pos n)
   view (U32 n) = integer u32 (pos n)
   view (U64 n) = integer u64 (pos n)
+  view (Double d) = double d.0
+  view (Char c) = character c
   view (Str t) = str (text_view t)
+  view (Bytes b) = bytes (bytes_view b)
+  view datum.None = none
+  view (datum.Some' p d) = some (view d)
+  view datum.Unit = unit
+  view (UnitStruct name) = unit_structure (text_view name)
+  view (NewtypeStruct' name p d) = newtype (text_view name) (view d)
   view (Seq' shape rows) = sequence (item_rows_view rows)
   view (Struct' name shape rows) = structure (text_view name) (rows_view rows)
 

@@ -13,14 +13,22 @@ pub enum Cause {
     InvalidType(ElementType),
     /// The number does not fit the shape's type.
     OutOfRange(i64),
+    /// The text is not one character.
+    NotOneChar,
     /// The bytes of a binary are not UTF-8.
     NotUtf8,
+    /// The shape takes a part of the input lent, and the value cannot be lent.
+    NotBorrowed,
+    /// The value has this many elements or bytes, and the shape takes another number.
+    InvalidLength(u64),
     /// No element has the name of this field.
     MissingField(String),
     /// Two elements have the name of this field.
     DuplicateField(String),
     /// A value of this kind stands where a document is due.
     TopLevel(ElementType),
+    /// A binary of so many bytes, which are more than 16777216.
+    BinaryTooLong(u64),
     /// The document would have more than 2147483647 bytes.
     TooLong,
     /// A value of this kind is not written yet.
@@ -40,10 +48,16 @@ impl fmt::Display for Cause {
             Cause::TooDeep => f.write_str("nested deeper than 200 levels"),
             Cause::InvalidType(kind) => write!(f, "invalid type: {kind}"),
             Cause::OutOfRange(number) => write!(f, "integer {number} out of range"),
+            Cause::NotOneChar => f.write_str("not one character"),
             Cause::NotUtf8 => f.write_str("bytes are not UTF-8"),
+            Cause::NotBorrowed => f.write_str("cannot be borrowed"),
+            Cause::InvalidLength(length) => write!(f, "invalid length {length}"),
             Cause::MissingField(name) => write!(f, "missing field {name}"),
             Cause::DuplicateField(name) => write!(f, "duplicate field {name}"),
             Cause::TopLevel(kind) => write!(f, "non-document type at the top level: {kind}"),
+            Cause::BinaryTooLong(length) => {
+                write!(f, "binary length {length} exceeded maximum size")
+            }
             Cause::TooLong => f.write_str("value exceeds maximum length"),
             Cause::NotBuilt(kind) => write!(f, "kind {kind} is not built yet"),
         }

@@ -1,10 +1,11 @@
 ghost use Rattle.std.specs.Prelude.{◌≡◌};
-ghost use Rattle.bson_datum.specs.Value.{kind_of, struct_kind};
+ghost use Rattle.bson_datum.specs.Value.{kind_of, newtype_kind, struct_kind};
 ghost use Rattle.bson_datum.specs.TextView.{text_view};
 ghost use Rattle.bson_datum.specs.View.{view};
 
+use crate::byte_str::ByteStr;
 use crate::text::Text;
-use bson_base::{ElementType, reserved_kind};
+use bson_base::{Double, ElementType, reserved_kind};
 
 /// A field of a struct, with its value.
 #[cycle(datum)]
@@ -20,6 +21,8 @@ pub struct Field<'a> {
 #[cycle(datum)]
 #[derive(Debug, Drop)]
 pub enum Datum<'a> {
+    /// True or false.
+    Bool(bool),
     /// A signed number of 8 bits.
     I8(i8),
     /// A signed number of 16 bits.
@@ -36,8 +39,32 @@ pub enum Datum<'a> {
     U32(u32),
     /// A number of 64 bits.
     U64(u64),
+    /// A floating point number of 64 bits, by its eight bytes.
+    Double(Double),
+    /// One character.
+    Char(char),
     /// A text.
     Str(Text<'a>),
+    /// A byte string.
+    Bytes(ByteStr<'a>),
+    /// No value, where there may be one.
+    None,
+    /// The value that is there, where there may be none.
+    Some(Box<Datum<'a>>),
+    /// The value `()`.
+    Unit,
+    /// A struct without fields.
+    UnitStruct {
+        /// The name of the struct.
+        name: Text<'a>,
+    },
+    /// A struct around one value.
+    NewtypeStruct {
+        /// The name of the struct.
+        name: Text<'a>,
+        /// The value in it.
+        value: Box<Datum<'a>>,
+    },
     /// A sequence of values, in order.
     Seq(Vec<Datum<'a>>),
     /// A struct with a name and fields in order.
@@ -55,14 +82,30 @@ impl Datum<'_> {
         ensures kind { result ≡ kind_of (view self.now) }
     {
         match self {
+            Datum::Bool(_) => ElementType::Boolean,
             Datum::I8(_) | Datum::I16(_) | Datum::I32(_) | Datum::U8(_) | Datum::U16(_) => {
                 ElementType::Int32
             }
             Datum::I64(_) | Datum::U32(_) | Datum::U64(_) => ElementType::Int64,
-            Datum::Str(_) => ElementType::String,
+            Datum::Double(_) => ElementType::Double,
+            Datum::Char(_) | Datum::Str(_) => ElementType::String,
+            Datum::Bytes(_) => ElementType::Binary,
+            Datum::None | Datum::Unit | Datum::UnitStruct { .. } => ElementType::Null,
+            Datum::Some(content) => content.element_type(),
+            Datum::NewtypeStruct { name, value } => newtype_kind(name, value.element_type()),
             Datum::Seq(_) => ElementType::Array,
             Datum::Struct { name, .. } => struct_kind(name),
         }
+    }
+}
+
+// The kind that a newtype of this name is written as, where its content is written as that kind.
+fn newtype_kind(name: &Text<'_>, content: ElementType) -> ElementType
+    ensures { result ≡ newtype_kind (text_view name.now) content }
+{
+    match name.as_str() {
+        "$__bson_private_uuid" => ElementType::Binary,
+        _ => content,
     }
 }
 

@@ -1,11 +1,13 @@
 ghost use Rattle.std.specs.Prelude.{◌≡◌, ◌↔◌, IsTrue};
 ghost use Rattle.std.specs.Str.{bytes_eq};
 ghost use Rattle.bson_datum.specs.TextView.{text_view};
+ghost use Rattle.bson_datum.specs.ByteStrView.{bytes_view};
 ghost use Rattle.bson_datum.specs.PathView.{path_view, segment_view};
+ghost use Rattle.bson_datum.specs.Value.{sequence, structure};
 ghost use Rattle.bson_datum.specs.View.{view, items_view, field_view, fields_view};
 ghost use Rattle.bson_datum.specs.Same.{same, same_items, same_fields, same_field, same_segment, same_path};
 
-use crate::{Datum, Field, Path, Segment, Text};
+use crate::{ByteStr, Datum, Field, Path, Segment, Text};
 
 /// Two texts are equal exactly where their contents are, whoever owns them.
 impl PartialEq for Text<'_> {
@@ -22,6 +24,24 @@ impl PartialEq for Text<'_> {
         ensures equal { IsTrue result ↔ (text_view self.now ≡ text_view other.now) }
     {
         self.as_str() == other.as_str()
+    }
+}
+
+/// Two byte strings are equal exactly where their contents are, whoever owns them.
+impl PartialEq for ByteStr<'_> {
+    ghost use Rattle.std.specs.Str.{bytes_eq};
+    ghost use Rattle.bson_datum.specs.ByteStrView.{bytes_view};
+    ghost use Rattle.bson_datum.specs.Decided.{byte_str_laws};
+
+    ghost eq = { λ a b. bytes_eq (bytes_view a) (bytes_view b) };
+
+    ghost laws = { byte_str_laws };
+
+    fn eq(&self, other: &Self) -> bool
+        ensures value { result ≡ bytes_eq (bytes_view self.now) (bytes_view other.now) }
+        ensures equal { IsTrue result ↔ (bytes_view self.now ≡ bytes_view other.now) }
+    {
+        self.as_bytes() == other.as_bytes()
     }
 }
 
@@ -103,11 +123,12 @@ impl PartialEq for Datum<'_> {
 
 // Whether two data stand for one value.
 #[cycle(same)]
-#[tactic(auto, using(crate::proofs::Views::item_rows_items, crate::proofs::Sames::unlike_sequence, crate::proofs::Sames::unlike_struct))]
+#[tactic(auto, using(crate::proofs::Views::item_rows_items, crate::proofs::Views::rows_items))]
 fn is_same(a: &Datum<'_>, b: &Datum<'_>) -> bool
     ensures { result ≡ same (view a.now) (view b.now) }
 {
     match (a, b) {
+        (Datum::Bool(truth), Datum::Bool(other)) => truth == other,
         (Datum::I8(number), Datum::I8(other)) => number == other,
         (Datum::I16(number), Datum::I16(other)) => number == other,
         (Datum::I32(number), Datum::I32(other)) => number == other,
@@ -116,15 +137,49 @@ fn is_same(a: &Datum<'_>, b: &Datum<'_>) -> bool
         (Datum::U16(number), Datum::U16(other)) => number == other,
         (Datum::U32(number), Datum::U32(other)) => number == other,
         (Datum::U64(number), Datum::U64(other)) => number == other,
+        (Datum::Double(number), Datum::Double(other)) => number == other,
+        (Datum::Char(character), Datum::Char(other)) => character == other,
         (Datum::Str(text), Datum::Str(other)) => text == other,
-        (Datum::Seq(items), Datum::Seq(others)) => are_same_items(items, others),
+        (Datum::Bytes(bytes), Datum::Bytes(other)) => bytes == other,
+        (Datum::None, Datum::None) | (Datum::Unit, Datum::Unit) => true,
+        (Datum::Some(value), Datum::Some(other)) => is_same(value, other),
+        (Datum::UnitStruct { name }, Datum::UnitStruct { name: other }) => name == other,
         (
-            Datum::Struct { name, fields },
-            Datum::Struct {
+            Datum::NewtypeStruct { name, value },
+            Datum::NewtypeStruct {
                 name: other,
-                fields: others,
+                value: content,
             },
-        ) => name == other && are_same_fields(fields, others),
+        ) => name == other && is_same(value, content),
+        (Datum::Seq(items), _) => is_sequence_of(items, b),
+        (Datum::Struct { name, fields }, _) => is_structure_of(name, fields, b),
+        _ => false,
+    }
+}
+
+// Whether a datum is a sequence of these values.
+#[cycle(same)]
+#[tactic(auto, using(crate::proofs::Views::item_rows_items, crate::proofs::Sames::unlike_sequence))]
+fn is_sequence_of(items: &[Datum<'_>], datum: &Datum<'_>) -> bool
+    ensures { result ≡ same (sequence (items_view items.now)) (view datum.now) }
+{
+    match datum {
+        Datum::Seq(others) => are_same_items(items, others),
+        _ => false,
+    }
+}
+
+// Whether a datum is a struct of this name with these fields.
+#[cycle(same)]
+#[tactic(auto, using(crate::proofs::Views::rows_items, crate::proofs::Sames::unlike_struct))]
+fn is_structure_of(name: &Text<'_>, fields: &[Field<'_>], datum: &Datum<'_>) -> bool
+    ensures { result ≡ same (structure (text_view name.now) (fields_view fields.now)) (view datum.now) }
+{
+    match datum {
+        Datum::Struct {
+            name: other,
+            fields: others,
+        } => name == other && are_same_fields(fields, others),
         _ => false,
     }
 }

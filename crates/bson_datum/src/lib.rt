@@ -1,7 +1,9 @@
 //! Values of serde's data model, paths, and the errors of readers and writers with their printed texts.
 #![tactic(auto)]
 
+mod byte_str;
 mod cause;
+mod clone;
 mod datum;
 pub mod de;
 mod equality;
@@ -11,6 +13,7 @@ mod stop;
 mod text;
 
 pub use bson_shape::{FieldShape, Form, Leaf, ParseError, Shape, ShapeError};
+pub use byte_str::ByteStr;
 pub use cause::Cause;
 pub use datum::{Datum, Field};
 pub use path::{Path, Segment};

@@ -1,6 +1,44 @@
-// What no clause says: that errors are made where there is memory, and what is printed of them.
-use crate::{Cause, Stop, de, ser};
+// What no clause says: that errors and copies are made where there is memory, and what is printed of errors.
+use crate::{ByteStr, Cause, Datum, Field, Stop, Text, de, ser};
+use std::alloc::{AllocError, Global};
 use std::test::Fail;
+
+// A struct with a value of each form that holds others, its texts and its byte string lent.
+fn lent_struct<'a>(alloc: Global) -> Result<Datum<'a>, AllocError> {
+    let bytes = Datum::Bytes(ByteStr::Borrowed(b"ab"));
+    let newtype = Datum::NewtypeStruct {
+        name: Text::Borrowed("N"),
+        value: Box::new(alloc, bytes)?,
+    };
+    let mut items = Vec::new(alloc);
+    items.push(Datum::Some(Box::new(alloc, newtype)?))?;
+    items.push(Datum::Str(Text::Borrowed("a")))?;
+    let mut fields = Vec::new(alloc);
+    fields.push(Field {
+        name: Text::Borrowed("f"),
+        value: Datum::Seq(items),
+    })?;
+    Ok(Datum::Struct {
+        name: Text::Borrowed("S"),
+        fields,
+    })
+}
+
+#[test]
+fn copies_a_datum(rt: HostRuntime) -> Result<(), Fail> {
+    let alloc = rt.alloc();
+    let datum = lent_struct(alloc)?;
+    assert!(rt; datum.try_clone(alloc)? == datum);
+    Ok(())
+}
+
+#[test]
+fn owns_a_datum(rt: HostRuntime) -> Result<(), Fail> {
+    let alloc = rt.alloc();
+    let owned = lent_struct(alloc)?.into_owned(alloc)?;
+    assert!(rt; owned == lent_struct(alloc)?);
+    Ok(())
+}
 
 #[test]
 fn prints_an_error_of_reading(rt: HostRuntime) -> Result<(), Fail> {

@@ -1,5 +1,8 @@
 pub mod Refusals
 pub mod Items
+pub mod ByteItems
+pub mod Characters
+pub mod NumberLeaves
 pub mod Places
 pub mod Filled
 pub mod Finished

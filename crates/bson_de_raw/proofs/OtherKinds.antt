@@ -1,8 +1,8 @@
 -- Values of the kinds that a reader does not name.
-use Rattle.std.proofs.Common.{◌≡◌, ℕ, zero, suc, ◌<◌, Bool, true, false, cond, Ok, Err, refl, ap, sym, ◌∙◌}
+use Rattle.std.proofs.Common.{◌≡◌, ℕ, Bool, true, false, cond, Ok, refl, ap, sym, ◌∙◌}
 use Rattle.std.specs.Str.{IsUtf8, is_utf8}
 use Rattle.std.proofs.lemmas.Str.{is_utf8-from_IsUtf8}
-use Rattle.bson_base.specs.Text.{Bytes, Utf8}
+use Rattle.bson_base.specs.Text.{Bytes}
 use Rattle.bson_rawdoc.specs.ValueView.{raw_value}
 use Rattle.bson_rawdoc.specs.declared.array.RawArray.{RawArray}
 use Rattle.bson_rawdoc.specs.declared.document.RawDocument.{RawDocument}
@@ -10,7 +10,7 @@ use Rattle.bson_rawdoc.specs.declared.value.RawBsonRef.{RawBsonRef}
 use Rattle.bson_rawdoc.specs.declared.value.RawBsonRef.TheVariants.{Document, Array}
 use Rattle.bson_rawdoc.proofs.Keys.{not_text}
 use Rattle.bson_datum.specs.Cause.{not_utf8}
-use Rattle.bson_laws.specs.Reads.{Reading, refused, no_document, document_of, text_of_binary}
+use Rattle.bson_laws.specs.Reads.{refused, no_document, document_of, text_of_binary}
 
 -- a value that is neither a document nor an array
 pub other_document : (v : RawBsonRef) → ((d : RawDocument) → v ≡ Document d → ⊥) → ((a : RawArray) → v ≡ Array a → ⊥) → document_of (raw_value v) ≡ refused (no_document (raw_value v))

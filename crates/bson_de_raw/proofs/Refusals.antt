@@ -1,7 +1,7 @@
 -- A refusal goes on through what would have followed, and out of the documents round it.
 use Rattle.std.proofs.Common.{◌≡◌, Option, Some, None, Result, Ok, Err, ap, sym, ◌∙◌, reverse, [], ◌∷◌, ◌++◌}
 use Rattle.std.proofs.lemmas.List.{reverse-append}
-use Rattle.bson_base.specs.Outcome.{◌>>=◌}
+use Rattle.bson_base.specs.Outcome.{◌>>=◌, result_map}
 use Rattle.bson_rawdoc.specs.Walk.{Element, Walk, then_walk}
 use Rattle.bson_rawdoc.specs.Next.{IsNext}
 use Rattle.bson_rawdoc.specs.declared.raw.Error as raw_error
@@ -25,6 +25,13 @@ bind_as (Some x) r f h = ap (λ q. q >>= f) h
 
 pub stops_bind : {A B : Type 0} (s : Stop Fault) (r : Reading A) (f : A → Reading B) → StopsAs s r → StopsAs s (r >>= f)
 stops_bind s r f h = bind_as (stop_view read_fault s) r f h
+
+map_as : {A B : Type 0} (o : Option (Refusal ReadFault)) (f : A → B) (r : Reading A) → RefusesAs o r → RefusesAs o (result_map f r)
+map_as None f r h = tt
+map_as (Some x) f r h = ap (result_map f) h
+
+pub stops_map : {A B : Type 0} (s : Stop Fault) (f : A → B) (r : Reading A) → StopsAs s r → StopsAs s (result_map f r)
+stops_map s f r h = map_as (stop_view read_fault s) f r h
 
 out_of : (segment : Segment) (s t : code.Refused Fault) → t.fault ≡ s.fault → segments_out t ≡ segments_out s ++ segment ∷ []
     → in_segment segment (record { path = reverse (segments_out s); fault = read_fault s.fault }) ≡ record { path = reverse (segments_out t); fault = read_fault t.fault }

@@ -21,12 +21,21 @@ const MAX_LEVELS: u32 = 200;
 
 /// The value that the bytes of a document are at a shape, by serde's data model.
 ///
-/// An integer type takes an Int32 or an Int64 whose number lies in its range; `string` takes a String,
-/// and a Binary of subtype 0 whose bytes are UTF-8. A sequence takes the elements of an array in order;
-/// their keys are not looked at. A struct takes each of its fields from the element that has the
-/// field's name as its key, in any order; elements of other keys are walked to their ends, those of
-/// every document, array and scope in them too, and dropped. The names in the value are copies of those
-/// in the shape, the texts copies of those in the document.
+/// - `bool` takes a Boolean, `double` a Double, `unit` and a unit struct a Null. An integer type takes an Int32
+///   or an Int64 whose number lies in its range.
+/// - `char` takes a String of one character. `str` and `string` take a String, and a Binary of subtype 0
+///   whose bytes are UTF-8.
+/// - `bytes` and `bytebuf` take the bytes of a Binary of subtype 0 and those of a String; `bytes` also the
+///   twelve of an ObjectId, and `bytebuf` an array of Int32 and Int64 whose numbers are bytes.
+/// - An option is none at a Null, and some value of its shape at every other kind. A newtype takes what its
+///   shape takes.
+/// - A sequence takes the elements of an array in order. The keys in an array are not looked at.
+/// - A struct takes each of its fields from the element that has the field's name as its key, in any
+///   order. A field that no element has is none where its shape is an option. Elements of other keys are
+///   walked to their ends, those of every document, array and scope in them too, and dropped.
+///
+/// The texts at `str` and the byte strings at `bytes` are lent from the input. All others are copies, and so
+/// are the names in the value, which are those in the shape.
 ///
 /// Keys in the shape's order are found at once. The first other key of a struct with sixteen or more
 /// fields has the names put into a map, where it and each key after it that is not found at once is
@@ -39,18 +48,21 @@ const MAX_LEVELS: u32 = 200;
 ///   they are fewer than five, they announce another length than theirs, or the last is not zero.
 /// - `WithPath` round a `DeserializationError`, with the path of the value that is refused: the keys and
 ///   the indexes that lead to it. The path of the document itself is empty. A value in the scope of a
-///   code has `$scope` behind the code's own path. The first refusal in the order of the bytes is answered, and its
-///   cause is one of these.
+///   code has `$scope` behind the code's own path. The first refusal in the order of the bytes is answered,
+///   and its cause is one of these.
 ///   - `Raw`: a fault of the bytes, before any shape looks at the value.
 ///   - `TooDeep`: a document, an array or a scope at level 201.
 ///   - `InvalidType`: a value of another kind than the shape takes.
 ///   - `NotBuilt`: at a struct an array, or a value of a kind that serde's data model lacks (ObjectId,
 ///     DateTime, Binary of a subtype other than 0, and the like). A struct is to take both; neither is
 ///     built yet.
-///   - `OutOfRange`: a number that does not lie in the range of the shape's integer type.
-///   - `NotUtf8`: at `string` a Binary of subtype 0 whose bytes are not UTF-8.
+///   - `OutOfRange`: a number that does not lie in the range of the shape's integer type, or one in an array
+///     at `bytebuf` that is no byte.
+///   - `NotOneChar`: at `char` a String of no character or of more than one.
+///   - `NotUtf8`: at `str` and `string` a Binary of subtype 0 whose bytes are not UTF-8.
 ///   - `DuplicateField`: a second element of a field; its value is not looked at.
-///   - `MissingField`: at the end of a document, the first field in the shape's order without an element.
+///   - `MissingField`: at the end of a document, the first field in the shape's order that is no option
+///     and has no element.
 /// - `NoMemory` where memory ran out.
 pub fn from_slice_at<'de>(alloc: Global, shape: &Shape, bytes: &'de [u8]) -> de::Result<Datum<'de>>
     ensures exact { Gives view result (reads_document shape.now bytes.now) }

@@ -1,11 +1,11 @@
-ghost use Rattle.std.specs.Prelude.{◌≡◌};
+ghost use Rattle.std.specs.Prelude.{◌≡◌, IfOk, Ok};
 ghost use Rattle.bson_base.specs.Outcome.{result_map};
 ghost use Rattle.bson_rawdoc.specs.ValueView.{raw_value};
 ghost use Rattle.bson_rawdoc.specs.DocumentView.{array_bytes, document_bytes};
 ghost use Rattle.bson_datum.specs.ErrorView.{cause_view};
 ghost use Rattle.bson_laws.specs.Reads as reads;
 ghost use Rattle.bson_laws.specs.Reads.{judged};
-ghost use Rattle.bson_de_raw.specs.Encoded.{raw_in, entered, entered_array};
+ghost use Rattle.bson_de_raw.specs.Encoded.{encoded_kind, encoded_bytes, raw_in, entered, entered_array};
 ghost use Rattle.bson_de_raw.specs.Gives.{Reaches};
 
 use crate::reading::{Reading, refused};
@@ -24,6 +24,26 @@ pub(crate) enum Encoded<'e, 'de> {
 }
 
 impl<'de> Encoded<'_, 'de> {
+    /// Its kind.
+    pub(crate) fn kind(self) -> ElementType
+        ensures { result ≡ encoded_kind self.entry }
+    {
+        match self {
+            Encoded::Document(_) => ElementType::EmbeddedDocument,
+            Encoded::Element(element) => element.element_type(),
+        }
+    }
+
+    /// Its bytes, lent from the document that it stands in.
+    pub(crate) fn bytes(self) -> &'de [u8]
+        ensures { result.now ≡ encoded_bytes self.entry }
+    {
+        match self {
+            Encoded::Document(document) => document.as_bytes(),
+            Encoded::Element(element) => element.slice(),
+        }
+    }
+
     /// The value, or its first fault.
     fn value(self) -> Result<RawBsonRef<'de>, raw::Error>
         ensures { result_map raw_value result ≡ raw_in self.entry }
@@ -37,7 +57,8 @@ impl<'de> Encoded<'_, 'de> {
     /// The value, judged before any shape looks at it: it is refused for its fault, and then, where
     /// no level is left, for being a document or an array.
     pub(crate) fn judge(self, alloc: Global, levels: u32) -> Reading<RawBsonRef<'de>>
-        ensures { Reaches raw_value result (judged levels (raw_in self.entry)) }
+        ensures exact { Reaches raw_value result (judged levels (raw_in self.entry)) }
+        ensures faultless { IfOk result (λ v. raw_in self.entry ≡ Ok (raw_value v)) }
     {
         match self.value() {
             Err(fault) => Err(refused(alloc, Cause::Raw(fault))),

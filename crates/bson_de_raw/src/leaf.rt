@@ -1,31 +1,97 @@
 // Values at shapes without inner shapes.
 ghost use Rattle.std.specs.Prelude.{◌≡◌, option_map};
 ghost use Rattle.bson_rawdoc.specs.ValueView.{raw_value};
+ghost use Rattle.bson_shape.specs.Form as form;
 ghost use Rattle.bson_datum.specs.View.{view};
-ghost use Rattle.bson_laws.specs.Integers.{leaf_kind};
+ghost use Rattle.bson_laws.specs.Leaves.{leaf_kind};
 ghost use Rattle.bson_laws.specs.Reads as reads;
+ghost use Rattle.bson_de_raw.specs.Encoded.{reads_encoded};
 ghost use Rattle.bson_de_raw.specs.Gives.{Reaches};
-ghost use Rattle.bson_de_raw.specs.Leaves.{number_as};
+ghost use Rattle.bson_de_raw.specs.Leaves.{number_as, reads_number};
 
+use crate::byte_string::{buffer, byte_string};
+use crate::encoded::Encoded;
 use crate::reading::{Reading, refused};
-use bson_base::ElementType;
-use bson_datum::{Cause, Datum, Text};
-use bson_rawdoc::{RawBinaryRef, RawBsonRef};
+use crate::text::{character, text};
+use bson_base::Double;
+use bson_datum::{ByteStr, Cause, Datum, Text};
+use bson_rawdoc::RawBsonRef;
 use bson_shape::Leaf;
 use std::alloc::Global;
 
-/// The value at a leaf. A text is a copy of that in the document.
+/// The value at a leaf. Those at `str` and `bytes` are lent from the document, all others are copies.
 pub(crate) fn read_leaf<'de>(
     alloc: Global,
     leaf: Leaf,
-    value: RawBsonRef<'_>,
+    levels: u32,
+    value: Encoded<'_, 'de>,
 ) -> Reading<Datum<'de>>
-    ensures { Reaches view result (reads.read_leaf (leaf_kind leaf) (raw_value value.entry)) }
+    ensures { Reaches view result (reads_encoded (form.leaf leaf) levels value.entry) }
 {
-    if leaf == Leaf::String {
-        let text = String::from_str(alloc, text(alloc, value)?)?;
-        return Ok(Datum::Str(Text::Owned(text)));
+    let raw = value.judge(alloc, levels)?;
+    match leaf {
+        Leaf::Bool => Ok(Datum::Bool(boolean(alloc, raw)?)),
+        Leaf::Double => Ok(Datum::Double(double(alloc, raw)?)),
+        Leaf::Char => character(alloc, raw),
+        Leaf::Str => Ok(Datum::Str(Text::Borrowed(text(alloc, raw)?))),
+        Leaf::String => {
+            let text = String::from_str(alloc, text(alloc, raw)?)?;
+            Ok(Datum::Str(Text::Owned(text)))
+        }
+        Leaf::Bytes => {
+            let bytes = byte_string(alloc, value, raw)?;
+            Ok(Datum::Bytes(ByteStr::Borrowed(bytes)))
+        }
+        Leaf::ByteBuf => Ok(Datum::Bytes(ByteStr::Owned(buffer(alloc, levels, raw)?))),
+        Leaf::Unit => {
+            null(alloc, raw)?;
+            Ok(Datum::Unit)
+        }
+        Leaf::I8
+        | Leaf::I16
+        | Leaf::I32
+        | Leaf::I64
+        | Leaf::U8
+        | Leaf::U16
+        | Leaf::U32
+        | Leaf::U64 => number(alloc, leaf, raw),
     }
+}
+
+/// The boolean that a value is.
+fn boolean(alloc: Global, value: RawBsonRef<'_>) -> Reading<bool>
+    ensures { Reaches (λ b. b) result (reads.boolean_of (raw_value value.entry)) }
+{
+    match value {
+        RawBsonRef::Boolean(boolean) => Ok(boolean),
+        other => Err(refused(alloc, Cause::InvalidType(other.element_type()))),
+    }
+}
+
+/// The double that a value is.
+fn double(alloc: Global, value: RawBsonRef<'_>) -> Reading<Double>
+    ensures { Reaches (λ d. d.0) result (reads.double_of (raw_value value.entry)) }
+{
+    match value {
+        RawBsonRef::Double(double) => Ok(double),
+        other => Err(refused(alloc, Cause::InvalidType(other.element_type()))),
+    }
+}
+
+/// Nothing, where the value is null.
+pub(crate) fn null(alloc: Global, value: RawBsonRef<'_>) -> Reading<()>
+    ensures { Reaches (λ u. u) result (reads.null_of (raw_value value.entry)) }
+{
+    match value {
+        RawBsonRef::Null => Ok(()),
+        other => Err(refused(alloc, Cause::InvalidType(other.element_type()))),
+    }
+}
+
+/// The number that a value is, at a leaf that takes numbers of an integer type.
+fn number<'de>(alloc: Global, leaf: Leaf, value: RawBsonRef<'_>) -> Reading<Datum<'de>>
+    ensures { Reaches view result (reads_number (leaf_kind leaf) (raw_value value.entry)) }
+{
     let number = integer(alloc, value)?;
     match narrowed(leaf, number) {
         Some(datum) => Ok(datum),
@@ -34,37 +100,13 @@ pub(crate) fn read_leaf<'de>(
 }
 
 /// The number of a value that is one.
-fn integer(alloc: Global, value: RawBsonRef<'_>) -> Reading<i64>
+pub(crate) fn integer(alloc: Global, value: RawBsonRef<'_>) -> Reading<i64>
     ensures { Reaches (λ n. n) result (reads.integer_of (raw_value value.entry)) }
 {
     match value {
         RawBsonRef::Int32(number) => Ok(i64::from(number)),
         RawBsonRef::Int64(number) => Ok(number),
         other => Err(refused(alloc, Cause::InvalidType(other.element_type()))),
-    }
-}
-
-/// The text of a value that is one.
-fn text<'a>(alloc: Global, value: RawBsonRef<'a>) -> Reading<&'a str>
-    ensures { Reaches (λ t. t.now) result (reads.text_of (raw_value value.entry)) }
-{
-    match value {
-        RawBsonRef::String(text) => Ok(text),
-        RawBsonRef::Binary(binary) => text_of_binary(alloc, binary),
-        other => Err(refused(alloc, Cause::InvalidType(other.element_type()))),
-    }
-}
-
-/// The bytes of a binary of subtype 0 as a text.
-fn text_of_binary<'a>(alloc: Global, binary: RawBinaryRef<'a>) -> Reading<&'a str>
-    ensures { Reaches (λ t. t.now) result (reads.text_of_binary binary.entry.subtype.0 binary.entry.bytes.now) }
-{
-    if binary.subtype.0 != 0 {
-        return Err(refused(alloc, Cause::InvalidType(ElementType::Binary)));
-    }
-    match str::from_utf8(binary.bytes) {
-        Ok(text) => Ok(text),
-        Err(_) => Err(refused(alloc, Cause::NotUtf8)),
     }
 }
 
@@ -81,6 +123,6 @@ fn narrowed<'de>(leaf: Leaf, number: i64) -> Option<Datum<'de>>
         Leaf::U16 => Some(Datum::U16(u16::try_from(number).ok()?)),
         Leaf::U32 => Some(Datum::U32(u32::try_from(number).ok()?)),
         Leaf::U64 => Some(Datum::U64(u64::try_from(number).ok()?)),
-        Leaf::String => None,
+        _ => None,
     }
 }

@@ -1,6 +1,7 @@
 //! Reading the bytes of a document at a shape.
 #![tactic(auto)]
 
+mod byte_string;
 mod document;
 mod encoded;
 mod ignored;
@@ -10,6 +11,7 @@ mod reading;
 mod slots;
 #[cfg(test)]
 mod tests;
+mod text;
 mod value;
 
 pub use document::from_slice_at;

@@ -1,7 +1,7 @@
 // What no clause says: that documents are read where there is memory, values that others give for them, and
 // what is printed of refusals.
 use crate::from_slice_at;
-use bson_datum::{Datum, de};
+use bson_datum::{ByteStr, Datum, Text, de};
 use bson_shape::{FieldShape, Shape};
 use std::alloc::Global;
 use std::test::Fail;
@@ -98,6 +98,109 @@ fn refuses_documents(rt: HostRuntime) -> Result<(), Fail> {
     assert_eq!(rt;
         refusal(alloc, inner)?.as_str(),
         "error at d: missing field i"
+    );
+    Ok(())
+}
+
+#[test]
+fn reads_options(rt: HostRuntime) -> Result<(), Fail> {
+    let alloc = rt.alloc();
+    // A Null, and no element at all.
+    let null = [8, 0, 0, 0, 10, 105, 0, 0];
+    let nothing = [5, 0, 0, 0, 0];
+    let option = around(alloc, "i", Shape::option(alloc, Shape::i32())?)?;
+
+    let Ok(Datum::Struct { fields, .. }) = from_slice_at(alloc, &option, &DOCUMENT) else {
+        return Err(Fail::from("no value"));
+    };
+    assert_eq!(rt; fields.len(), 1);
+    assert!(rt; matches!(&fields[0].value, Datum::Some(value) if matches!(**value, Datum::I32(1))));
+
+    let Ok(Datum::Struct { fields, .. }) = from_slice_at(alloc, &option, &null) else {
+        return Err(Fail::from("no null"));
+    };
+    assert_eq!(rt; fields.len(), 1);
+    assert!(rt; matches!(fields[0].value, Datum::None));
+
+    let Ok(Datum::Struct { fields, .. }) = from_slice_at(alloc, &option, &nothing) else {
+        return Err(Fail::from("no missing value"));
+    };
+    assert_eq!(rt; fields.len(), 1);
+    assert!(rt; matches!(fields[0].value, Datum::None));
+
+    let unit = around(alloc, "i", Shape::unit())?;
+    let unit = from_slice_at(alloc, &unit, &nothing);
+    assert_eq!(rt;
+        refusal(alloc, unit)?.as_str(),
+        "error at .: missing field i"
+    );
+    Ok(())
+}
+
+#[test]
+fn lends_texts_and_byte_strings(rt: HostRuntime) -> Result<(), Fail> {
+    let alloc = rt.alloc();
+    // A String, and an ObjectId.
+    let text = [15, 0, 0, 0, 2, 116, 0, 3, 0, 0, 0, 104, 105, 0, 0];
+    let id = [
+        20, 0, 0, 0, 7, 105, 0, 1, 2, 3, 4, 5, 6, 7, 8, 9, 10, 11, 12, 0,
+    ];
+    let shape = around(alloc, "t", Shape::str())?;
+    let Ok(Datum::Struct { fields, .. }) = from_slice_at(alloc, &shape, &text) else {
+        return Err(Fail::from("no text"));
+    };
+    assert_eq!(rt; fields.len(), 1);
+    assert!(rt; matches!(&fields[0].value, Datum::Str(Text::Borrowed(text)) if *text == "hi"));
+
+    let shape = around(alloc, "i", Shape::bytes())?;
+    let Ok(Datum::Struct { fields, .. }) = from_slice_at(alloc, &shape, &id) else {
+        return Err(Fail::from("no bytes"));
+    };
+    assert_eq!(rt; fields.len(), 1);
+    assert!(rt;
+        matches!(&fields[0].value, Datum::Bytes(ByteStr::Borrowed(bytes)) if *bytes == &id[7..19])
+    );
+    Ok(())
+}
+
+#[test]
+fn reads_bytes_of_an_array(rt: HostRuntime) -> Result<(), Fail> {
+    let alloc = rt.alloc();
+    // An array of the Int32 7 and the Int32 with this lowest byte and this one behind it.
+    let array = |low: u8, next: u8| {
+        [
+            27, 0, 0, 0, 4, 97, 0, 19, 0, 0, 0, 16, 48, 0, 7, 0, 0, 0, 16, 49, 0, low, next, 0, 0,
+            0, 0,
+        ]
+    };
+    let shape = around(alloc, "a", Shape::byte_buf())?;
+    let good = array(255, 0);
+    let Ok(Datum::Struct { fields, .. }) = from_slice_at(alloc, &shape, &good) else {
+        return Err(Fail::from("no bytes"));
+    };
+    assert_eq!(rt; fields.len(), 1);
+    assert!(rt;
+        matches!(&fields[0].value, Datum::Bytes(bytes) if bytes.as_bytes() == [7, 255].as_slice())
+    );
+
+    let wide = array(44, 1);
+    let wide = from_slice_at(alloc, &shape, &wide);
+    assert_eq!(rt;
+        refusal(alloc, wide)?.as_str(),
+        "error at a[1]: integer 300 out of range"
+    );
+    Ok(())
+}
+
+#[test]
+fn refuses_a_text_of_two_characters(rt: HostRuntime) -> Result<(), Fail> {
+    let alloc = rt.alloc();
+    let text = [15, 0, 0, 0, 2, 116, 0, 3, 0, 0, 0, 104, 105, 0, 0];
+    let character = around(alloc, "t", Shape::char())?;
+    let answer = from_slice_at(alloc, &character, &text);
+    assert_eq!(rt;
+        refusal(alloc, answer)?.as_str(),
+        "error at t: not one character"
     );
     Ok(())
 }

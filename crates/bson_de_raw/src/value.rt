@@ -8,14 +8,15 @@ ghost use Rattle.bson_datum.specs.View.{view, items_view};
 ghost use Rattle.bson_laws.specs.Reads as reads;
 ghost use Rattle.bson_de_raw.specs.Encoded.{reads_encoded};
 ghost use Rattle.bson_de_raw.specs.Gives.{Reaches};
-ghost use Rattle.bson_de_raw.specs.SlotsView.{slots_view, filled_by};
+ghost use Rattle.bson_de_raw.specs.SlotsView.{slots_view, slot_names, names_of, filled_by};
 
 use crate::encoded::Encoded;
 use crate::ignored::ignore;
 use crate::index::FieldIndex;
-use crate::leaf::read_leaf;
+use crate::leaf::{null, read_leaf};
 use crate::reading::{Reading, refused};
 use crate::slots::Slots;
+use bson_base::ElementType;
 use bson_datum::{Cause, Datum, Text};
 use bson_rawdoc::{RawArray, RawDocument, RawElement};
 use bson_shape::{FieldShape, Form, Shape};
@@ -33,10 +34,63 @@ pub(crate) fn read_value<'de>(
 {
     shape.known();
     match shape.form() {
-        Form::Leaf(leaf) => read_leaf(alloc, leaf, value.judge(alloc, levels)?),
+        Form::Leaf(leaf) => read_leaf(alloc, leaf, levels, value),
+        Form::Option(inner) => read_option(alloc, inner, levels, value),
         Form::Seq(item) => read_sequence(alloc, item, levels, value),
+        Form::Newtype(name, inner) => read_newtype(alloc, name, inner, levels, value),
+        Form::UnitStruct(name) => read_unit_struct(alloc, name, levels, value),
         Form::Struct(name, fields) => read_struct(alloc, name, fields, levels, value),
     }
+}
+
+/// The value at an option whose value has this shape. Of a null the kind alone is looked at.
+#[cycle(read)]
+fn read_option<'de>(
+    alloc: Global,
+    inner: &Shape,
+    levels: u32,
+    value: Encoded<'_, 'de>,
+) -> Reading<Datum<'de>>
+    ensures { Reaches view result (reads_encoded (form.optional inner.now) levels value.entry) }
+{
+    if value.kind() == ElementType::Null {
+        return Ok(Datum::None);
+    }
+    let value = read_value(alloc, inner, levels, value)?;
+    Ok(Datum::Some(Box::new(alloc, value)?))
+}
+
+/// The value at a newtype of this name, whose value has this shape.
+#[cycle(read)]
+fn read_newtype<'de>(
+    alloc: Global,
+    name: &str,
+    inner: &Shape,
+    levels: u32,
+    value: Encoded<'_, 'de>,
+) -> Reading<Datum<'de>>
+    ensures { Reaches view result
+        (reads_encoded (form.newtype name.now inner.now) levels value.entry) }
+{
+    let value = read_value(alloc, inner, levels, value)?;
+    let value = Box::new(alloc, value)?;
+    let name = Text::Owned(String::from_str(alloc, name)?);
+    Ok(Datum::NewtypeStruct { name, value })
+}
+
+/// The value at a unit struct of this name.
+fn read_unit_struct<'de>(
+    alloc: Global,
+    name: &str,
+    levels: u32,
+    value: Encoded<'_, 'de>,
+) -> Reading<Datum<'de>>
+    ensures { Reaches view result
+        (reads_encoded (form.unit_structure name.now) levels value.entry) }
+{
+    null(alloc, value.judge(alloc, levels)?)?;
+    let name = Text::Owned(String::from_str(alloc, name)?);
+    Ok(Datum::UnitStruct { name })
 }
 
 /// The value at a sequence whose items have this shape.
@@ -112,6 +166,7 @@ fn fill<'de>(
 ) -> Reading<Slots<'de>>
     requires { AreDistinct (fields_of fields.now) }
     ensures len { IfOk result (λ s. length (slots_view s) ≡ length fields.now) }
+    ensures names { IfOk result (λ s. slot_names s ≡ names_of fields.now) }
     ensures exact { Reaches slots_view result
         (reads.fill (filled_by (fields_of fields.now) levels)
         (walk (document_bytes document.entry)) (reads.no_slots (fields_of fields.now))) }
@@ -141,6 +196,7 @@ fn fill_one<'de>(
     requires { length (slots_view slots.old) ≡ length index.old.fields.now }
     ensures fields { index.new.fields ≡ index.old.fields }
     ensures kept { length (slots_view slots.new) ≡ length (slots_view slots.old) }
+    ensures names { slot_names slots.new ≡ slot_names slots.old }
     ensures exact { Reaches (λ _. slots_view slots.new) result
         (filled_by (fields_of index.old.fields.now) levels element.now (slots_view slots.old)) }
 {

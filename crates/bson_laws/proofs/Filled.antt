@@ -1,6 +1,6 @@
 -- Fields that are filled by their keys, in any order.
 use Rattle.std.proofs.Common.{◌≡◌, ℕ, zero, suc, ◌^◌, ◌<◌, ◌≤◌, [], ◌∷◌, length, get_or, set, Bool, true, false, cond, Option, Some, None, Ok, refl, ap, sym, subst, ◌∙◌, arith}
-use Rattle.std.specs.Prelude.{is_some, option_map, option_and_then}
+use Rattle.std.specs.Prelude.{is_some, option_map}
 use Rattle.std.specs.Str.{bytes_eq}
 use Rattle.bson_base.specs.Text.{Utf8}
 use Rattle.bson_base.specs.Outcome.{◌>>=◌, result_map}
@@ -14,9 +14,9 @@ use Rattle.bson_shape.specs.Form.{Form, Fields, no_fields, field}
 use Rattle.bson_datum.specs.Value.{Value, FieldValues, no_field_values, field_value}
 use Rattle.bson_datum.specs.Cause.{duplicate_field}
 use Rattle.bson_datum.specs.Refusal.{under}
-use Rattle.bson_laws.specs.Reads.{Reading, refused, one_further, place_of, Slots, no_slots, fill_found, fill_one, fill, finish, reads_field}
-use Rattle.bson_laws.specs.Views.{lookup, views, views_fields}
-use Rattle.bson_laws.proofs.Fitted.{bytes_same, Unnamed}
+use Rattle.bson_laws.specs.Reads.{Reading, refused, one_further, place_of, Slots, no_slots, fill_found, fill_one, fill, value_or, finish, reads_field}
+use Rattle.bson_laws.specs.Views.{lookup, absent, views_at, views, views_fields}
+use Rattle.bson_laws.proofs.Fitted.{chosen_f, bytes_same, Unnamed}
 use Rattle.bson_laws.proofs.Encoded.{elem, walk_again}
 use Rattle.bson_laws.proofs.Ignored.{ignores_again}
 
@@ -60,10 +60,6 @@ still_some : (b : Bool) (t : Tree) (o : Option Tree) → is_some o ≡ true → 
 still_some true t o e = refl
 still_some false t o e = e
 
-other : (b : Bool) (t : Tree) (o : Option Tree) → b ≡ false → cond b (Some t) o ≡ o
-other true t o e = absurd cc
-other false t o e = refl
-
 free_less : (fs : Fields) (k : Utf8) (t : Tree) (ps : Pairs) (sl : Slots) → Free fs (pair k t ps) sl → Free fs ps sl
 free_less no_fields k t ps sl h = tt
 free_less (field n s fs) k t ps [] h = h
@@ -72,7 +68,7 @@ free_less (field n s fs) k t ps (x ∷ sl) h = (λ e. h.0 (still_some (bytes_eq 
 merge_lacks : (fs : Fields) (k : Utf8) (t : Tree) (ps : Pairs) (sl : Slots) → Unnamed k fs → merge fs (pair k t ps) sl ≡ merge fs ps sl
 merge_lacks no_fields k t ps sl h = refl
 merge_lacks (field n s fs) k t ps [] h = refl
-merge_lacks (field n s fs) k t ps (x ∷ sl) h = λ i. slot_of s (other (bytes_eq n k) t (lookup n ps) h.0 i) x ∷ merge_lacks fs k t ps sl h.1 i
+merge_lacks (field n s fs) k t ps (x ∷ sl) h = λ i. slot_of s (chosen_f (bytes_eq n k) t (lookup n ps) h.0 i) x ∷ merge_lacks fs k t ps sl h.1 i
 
 found_later : (o : Option ℕ) (i : ℕ) → one_further o ≡ Some i → (j : ℕ) × (o ≡ Some j) × (i ≡ suc j)
 found_later None i e = absurd cc
@@ -123,7 +119,7 @@ placed (field n s fs) k t ps (x ∷ sl) i v p l h e w = by_case (λ j e' w'. pla
   further j unlike q = record {
     empty = q.empty;
     free = (λ some. h.0 (still_some (bytes_eq n k) t (lookup n ps) some), q.free);
-    merged = λ m. slot_of s (sym (other (bytes_eq n k) t (lookup n ps) unlike) m) x ∷ q.merged m;
+    merged = λ m. slot_of s (sym (chosen_f (bytes_eq n k) t (lookup n ps) unlike) m) x ∷ q.merged m;
   }
 
   by_case : ((j : ℕ) → place_of fs k ≡ Some j → views_nth fs j t ≡ Some v → Placed fs k t ps sl j v) → (b : Bool) → bytes_eq n k ≡ b → (m : ℕ) → cond b (Some 0) (one_further (place_of fs k)) ≡ Some m → views_nth (field n s fs) m t ≡ Some v → Placed (field n s fs) k t ps (x ∷ sl) m v
@@ -182,14 +178,20 @@ pub free_first : (fs : Fields) (ps : Pairs) → Free fs ps (no_slots fs)
 free_first no_fields ps = tt
 free_first (field n s fs) ps = (λ _. refl, free_first fs ps)
 
--- each field has a view, and they are finished in order
+-- what a field is at what stands at its key, or at nothing, is its value in the end
+one_viewed : (n : Utf8) (s : Form) (o : Option Tree) (v : Value) → views_at (views s) (absent s) o ≡ Some v
+    → ((t : Tree) → o ≡ Some t → (w : Value) × (views s t ≡ Some w)) × (value_or n (absent s) (slot_of s o None) ≡ Ok v)
+one_viewed n s None v e = (λ t h. absurd cc, ap (λ m. value_or n m None) e)
+one_viewed n s (Some t) v e = (λ u h. (v, ap (views s) (sym (some_is t u h)) ∙ e), ap (value_or n (absent s)) e)
+
+-- what stands at each key has a view, and the fields are finished in order
 pub all_view : (fs : Fields) (ps : Pairs) (vs : FieldValues) → views_fields fs ps ≡ Some vs → AllView fs ps × (finish fs (merge fs ps (no_slots fs)) ≡ Ok vs)
 all_view no_fields ps vs e = (tt, ap Ok (some_is no_field_values vs e))
 all_view (field n s fs) ps vs e =
-    let a = some_then (λ t. option_and_then (λ v. option_map (field_value n v) (views_fields fs ps)) (views s t)) (lookup n ps) vs e in
-    let b = some_then (λ v. option_map (field_value n v) (views_fields fs ps)) (views s a.0) vs a.2 in
-    let c = some_map (field_value n b.0) (views_fields fs ps) vs b.2 in
-    let rest = all_view fs ps c.0 c.1 in (
-      (λ t h. (b.0, (let same : a.0 ≡ t = some_is a.0 t (sym a.1 ∙ h) in ap (views s) (sym same) ∙ b.1)), rest.0),
-      (λ i. finish (field n s fs) (slot_of s (a.1 i) None ∷ merge fs ps (no_slots fs))) ∙ (λ i. finish (field n s fs) (b.1 i ∷ merge fs ps (no_slots fs))) ∙ ap (result_map (field_value n b.0)) rest.1 ∙ ap Ok c.2,
+    let a = some_then (λ v. option_map (field_value n v) (views_fields fs ps)) (views_at (views s) (absent s) (lookup n ps)) vs e in
+    let b = some_map (field_value n a.0) (views_fields fs ps) vs a.2 in
+    let first = one_viewed n s (lookup n ps) a.0 a.1 in
+    let rest = all_view fs ps b.0 b.1 in (
+      (first.0, rest.0),
+      ap (λ r. r >>= λ v. result_map (field_value n v) (finish fs (merge fs ps (no_slots fs)))) first.1 ∙ ap (result_map (field_value n a.0)) rest.1 ∙ ap Ok b.2,
     )

@@ -1,22 +1,28 @@
 -- The meaning of a value that fits a shape is viewed at the shape as the normal form of that value.
-use Rattle.std.proofs.Common.{◌≡◌, Bool, true, false, cond, Option, Some, None, refl, ap, sym, subst, ◌∙◌, ℤ}
-use Rattle.std.specs.Prelude.{option_map, option_and_then}
-use Rattle.std.specs.Str.{bytes_eq}
+use Rattle.std.proofs.Common.{◌≡◌, ◌⊎◌, inl, inr, ℕ, [], ◌∷◌, Bool, true, false, cond, Option, Some, None, refl, ap, sym, subst, ◌∙◌, ℤ, append-nil}
+use Rattle.std.specs.Prelude.{encode_utf8, ◌&&◌, option_map, option_and_then}
+use Rattle.std.specs.Char.{IsScalar}
+use Rattle.std.specs.Str.{bytes_eq, chars}
 use Rattle.std.proofs.lemmas.Slice.Eq.{bytes_eq-Decides}
-use Rattle.bson_base.specs.Text.{Utf8}
+use Rattle.std.proofs.lemmas.Str.{chars-encodes}
+use Rattle.bson_base.specs.Text.{Bytes, Utf8}
 use Rattle.bson_base.specs.Reserved.{reserved_kind}
 use Rattle.bson_base.specs.Sound.{IsClean, ArePairsClean, AreTreesClean, Lacks}
 use Rattle.bson_base.specs.declared.element_type.ElementType.{ElementType}
 use Rattle.bson_base.specs.declared.element_type.ElementType.TheVariants.{Int32}
-use Rattle.bson_base.specs.Tree.{Tree, string, int32, int64, document, array, Pairs, pair, Trees, no_trees, tree}
+use Rattle.bson_base.specs.Tree as tree
+use Rattle.bson_base.specs.Tree.{Tree, string, binary, null, int32, int64, document, array, Pairs, pair, Trees, no_trees}
 use Rattle.bson_base.proofs.Outcomes.{some_map, some_then}
-use Rattle.bson_shape.specs.Form.{Form, leaf, sequence, structure, Fields, no_fields, field}
+use Rattle.bson_shape.specs.Form.{Form, leaf, optional, sequence, newtype, unit_structure, structure, Fields, no_fields, field}
+use Rattle.bson_shape.specs.Makers.{is_reserved_newtype}
+use Rattle.bson_shape.specs.declared.leaf.Leaf.{Leaf}
 use Rattle.bson_datum.specs.Value as value
 use Rattle.bson_datum.specs.Value.{IntegerType, in_range, written_as, Value, integer, str, Items, no_items, item, FieldValues, no_field_values, field_value}
-use Rattle.bson_laws.specs.Views.{lookup, as_integer, integer_of_tree, text_of_tree, views_leaf, views, views_items, views_fields}
-use Rattle.bson_laws.specs.Means.{number_of, means, means_items, means_fields, norm, norm_items, norm_fields}
+use Rattle.bson_laws.specs.Leaves.{LeafKind, booleans, doubles, characters, texts, byte_strings, byte_buffers, units, leaf_kind}
+use Rattle.bson_laws.specs.Views.{lookup, as_integer, integer_of_tree, null_of_tree, one_character, as_character, views_leaf, views_option, absent, views_at, views, views_items, views_fields}
+use Rattle.bson_laws.specs.Means.{number_of, some_or_none, means, means_items, means_fields, norm, norm_items, norm_fields}
 use Rattle.bson_laws.specs.Fits.{Fits, ItemsFit, FieldsFit}
-use Rattle.bson_laws.proofs.Spelled.{tree_is, trees_are, unreserved}
+use Rattle.bson_laws.proofs.Spelled.{found, tree_is, trees_are, unreserved, free_newtype}
 
 pub bytes_eq-refl : (xs : Utf8) → bytes_eq xs xs ≡ true
 bytes_eq-refl xs = (bytes_eq-Decides xs xs).1 refl
@@ -41,7 +47,7 @@ chosen_t : (a : Bool) (t : Tree) (o : Option Tree) → a ≡ true → cond a (So
 chosen_t true t o p = refl
 chosen_t false t o p = absurd cc
 
-chosen_f : (a : Bool) (t : Tree) (o : Option Tree) → a ≡ false → cond a (Some t) o ≡ o
+pub chosen_f : (a : Bool) (t : Tree) (o : Option Tree) → a ≡ false → cond a (Some t) o ≡ o
 chosen_f true t o p = absurd cc
 chosen_f false t o p = refl
 
@@ -64,7 +70,7 @@ unlike_swap xs ys e = not_true (bytes_eq ys xs) (λ t. differ xs ys e (sym (byte
 pub views-more : (fs : Fields) (key : Utf8) (t : Tree) (ps : Pairs) → Unnamed key fs → views_fields fs (pair key t ps) ≡ views_fields fs ps
 views-more no_fields key t ps h = refl
 views-more (field name s fs) key t ps h =
-    (λ i. option_and_then (λ u. option_and_then (λ v. option_map (field_value name v) (views-more fs key t ps h.1 i)) (views s u)) (chosen_f (bytes_eq name key) t (lookup name ps) h.0 i))
+    (λ i. option_and_then (λ v. option_map (field_value name v) (views-more fs key t ps h.1 i)) (views_at (views s) (absent s) (chosen_f (bytes_eq name key) t (lookup name ps) h.0 i)))
 
 -- the fields of a shape are named as the keys of what a value of it means
 unnamed : (key : Utf8) (vs : FieldValues) (fs : Fields) (ps : Pairs) → FieldsFit vs fs → means_fields vs ≡ Some ps → Lacks key ps → Unnamed key fs
@@ -77,33 +83,64 @@ unnamed key (field_value m v vs) (field n s fs) ps f e l =
     let h = subst (Lacks key) (sym b.2) l in
     (subst (λ x. bytes_eq x key ≡ false) f.0 (unlike_swap key m h.0), unnamed key vs fs b.0 f.2 b.1 h.1)
 
+-- ---- leaves
+
+-- the text of a character has that character alone
+one_again : (c : ℕ) → IsScalar c → chars (encode_utf8 c) ≡ c ∷ []
+one_again c h = ap chars (sym (append-nil (encode_utf8 c))) ∙ chars-encodes (c ∷ []) (ap (λ b. b && true) h)
+
+character_again : (c : ℕ) → IsScalar c → as_character (encode_utf8 c) ≡ Some (value.character c)
+character_again c h = ap (λ cs. option_map value.character (one_character cs)) (one_again c h)
+
+-- what a leaf of a kind takes from a tree is what it takes from the tree that a value means
+as_leaf : (l : Leaf) (k : LeafKind) (u t : Tree) (v : Value) → leaf_kind l ≡ k → found u ≡ Some t → views_leaf k u ≡ Some v → views (leaf l) t ≡ Some v
+as_leaf l k u t v is e h = ap (λ j. views_leaf j t) is ∙ ap (views_leaf k) (sym (tree_is u t e)) ∙ h
+
+bytes_viewed : (l : Leaf) (bytes : Bytes) (t : Tree) → (leaf_kind l ≡ byte_strings) ⊎ (leaf_kind l ≡ byte_buffers) → found (binary 0 bytes) ≡ Some t → views (leaf l) t ≡ Some (value.bytes bytes)
+bytes_viewed l bytes t (inl is) e = as_leaf l byte_strings (binary 0 bytes) t (value.bytes bytes) is e refl
+bytes_viewed l bytes t (inr is) e = as_leaf l byte_buffers (binary 0 bytes) t (value.bytes bytes) is e refl
+
+-- ---- options
+
+-- a value of the form is at an option some value, but null is none
+present : (view : Tree → Option Value) (t : Tree) (v : Value) → view t ≡ Some v → views_option view t ≡ Some (some_or_none (Some t) v)
+present view null v e = refl
+present view t v e = ap (option_map value.some) e
+
+-- ---- all values
+
 mutual
   pub views_means : (v : Value) (s : Form) (t : Tree) → Fits v s → means v ≡ Some t → IsClean t → views s t ≡ Some (norm v)
+  views_means (value.boolean b) (leaf l) t f e c = as_leaf l booleans (tree.boolean b) t (value.boolean b) f e refl
   views_means (integer type n) (leaf l) t f e c =
       ap (λ k. views_leaf k t) f.0 ∙ ap (option_and_then (as_integer type)) (number_tree (written_as type) n t e) ∙ in_range_is type n (in_range type n) refl f.1
-  views_means (integer type n) (sequence s) t f e c = absurd f
-  views_means (integer type n) (structure name fs) t f e c = absurd f
-  views_means (str x) (leaf l) t f e c = ap (λ k. views_leaf k t) f.0 ∙ ap (λ u. option_map str (text_of_tree u)) (sym (tree_is (string x) t e))
-  views_means (str x) (sequence s) t f e c = absurd f
-  views_means (str x) (structure name fs) t f e c = absurd f
-  views_means (value.sequence vs) (leaf l) t f e c = absurd f
+  views_means (value.double bits) (leaf l) t f e c = as_leaf l doubles (tree.double bits) t (value.double bits) f.0 e refl
+  views_means (value.character x) (leaf l) t f e c = as_leaf l characters (string (encode_utf8 x)) t (value.character x) f.0 e (character_again x f.1)
+  views_means (str x) (leaf l) t f e c = as_leaf l texts (string x) t (str x) f.0 e refl
+  views_means (value.bytes bs) (leaf l) t f e c = bytes_viewed l bs t f.0 e
+  views_means value.unit (leaf l) t f e c = as_leaf l units null t value.unit f e refl
+  views_means value.none (optional s) t f e c = ap (views_option (views s)) (sym (tree_is null t e))
+  views_means (value.some v) (optional s) t f e c = present (views s) t (norm v) (views_means v s t f e c) ∙ ap (λ o. Some (some_or_none o (norm v))) (sym e)
+  views_means (value.newtype m v) (newtype n s) t f e c =
+      let u = free_newtype (is_reserved_newtype m) (means v) t e in
+      ap (option_map (value.newtype n)) (views_means v s t f.1 u.1 c) ∙ ap (λ x. Some (value.newtype x (norm v))) (sym f.0)
+  views_means (value.unit_structure m) (unit_structure n) t f e c =
+      ap (λ u. option_map (λ _. value.unit_structure n) (null_of_tree u)) (sym (tree_is null t e)) ∙ ap (λ x. Some (value.unit_structure x)) (sym f)
   views_means (value.sequence vs) (sequence s) t f e c =
       let a = some_map array (means_items vs) t e in
       subst (λ x. IsClean x → views (sequence s) x ≡ Some (value.sequence (norm_items vs))) a.2 (λ c'. ap (option_map value.sequence) (views_means_items vs s a.0 f a.1 c')) c
-  views_means (value.sequence vs) (structure n fs) t f e c = absurd f
-  views_means (value.structure m vs) (leaf l) t f e c = absurd f
-  views_means (value.structure m vs) (sequence s) t f e c = absurd f
   views_means (value.structure m vs) (structure n fs) t f e c =
       let u = unreserved (reserved_kind m) (option_map document (means_fields vs)) t e in
       let a = some_map document (means_fields vs) t u.1 in
       subst (λ x. IsClean x → views (structure n fs) x ≡ Some (value.structure m (norm_fields vs))) a.2
       (λ c'. ap (option_map (value.structure n)) (views_means_fields vs fs a.0 f.1 a.1 c') ∙ ap (λ x. Some (value.structure x (norm_fields vs))) (sym f.0)) c
+  views_means v s t f e c = absurd f
 
   views_means_items : (vs : Items) (s : Form) (ts : Trees) → ItemsFit vs s → means_items vs ≡ Some ts → AreTreesClean ts → views_items (views s) ts ≡ Some (norm_items vs)
   views_means_items no_items s ts f e c = ap (views_items (views s)) (sym (trees_are no_trees ts e))
   views_means_items (item v vs) s ts f e c =
-      let a = some_then (λ t. option_map (tree t) (means_items vs)) (means v) ts e in
-      let b = some_map (tree a.0) (means_items vs) ts a.2 in
+      let a = some_then (λ t. option_map (tree.tree t) (means_items vs)) (means v) ts e in
+      let b = some_map (tree.tree a.0) (means_items vs) ts a.2 in
       subst (λ x. AreTreesClean x → views_items (views s) x ≡ Some (item (norm v) (norm_items vs))) b.2
       (λ c'.
       ap (option_and_then (λ w. option_map (item w) (views_items (views s) b.0))) (views_means v s a.0 f.0 a.1 c'.0)
@@ -119,7 +156,7 @@ mutual
       let b = some_map (pair m a.0) (means_fields vs) ps a.2 in
       subst (λ x. ArePairsClean x → views_fields (field n s fs) x ≡ Some (field_value m (norm v) (norm_fields vs))) b.2
       (λ c'.
-      ap (option_and_then (λ u. option_and_then (λ w. option_map (field_value n w) (views_fields fs (pair m a.0 b.0))) (views s u))) (chosen_t (bytes_eq n m) a.0 (lookup n b.0) (subst (λ x. bytes_eq x m ≡ true) f.0 (bytes_eq-refl m)))
+      ap (λ o. option_and_then (λ w. option_map (field_value n w) (views_fields fs (pair m a.0 b.0))) (views_at (views s) (absent s) o)) (chosen_t (bytes_eq n m) a.0 (lookup n b.0) (subst (λ x. bytes_eq x m ≡ true) f.0 (bytes_eq-refl m)))
       ∙ ap (option_and_then (λ w. option_map (field_value n w) (views_fields fs (pair m a.0 b.0)))) (views_means v s a.0 f.1 a.1 c'.2)
       ∙ ap (option_map (field_value n (norm v))) (views-more fs m a.0 b.0 (unnamed m vs fs b.0 f.2 b.1 c'.1) ∙ views_means_fields vs fs b.0 f.2 b.1 c'.3)
       ∙ ap (λ x. Some (field_value x (norm v) (norm_fields vs))) (sym f.0))

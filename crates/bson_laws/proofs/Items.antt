@@ -1,5 +1,5 @@
 -- The values of an array, one after another: read back, and written again.
-use Rattle.std.proofs.Common.{◌≡◌, ℕ, suc, ◌^◌, ◌<◌, ◌≤◌, length, Some, Ok, refl, ap, subst, ◌∙◌, arith}
+use Rattle.std.proofs.Common.{◌≡◌, ℕ, suc, ◌^◌, ◌<◌, ◌≤◌, length, Some, Ok, ap, subst, ◌∙◌, arith}
 use Rattle.std.specs.Prelude.{option_map}
 use Rattle.bson_base.specs.Text.{Bytes}
 use Rattle.bson_base.specs.Outcome.{◌>>=◌, result_map}
@@ -14,11 +14,11 @@ use Rattle.bson_shape.specs.Form.{Form}
 use Rattle.bson_datum.specs.Value.{Value, Items, no_items, item}
 use Rattle.bson_datum.specs.Refusal.{at_index, under_index}
 use Rattle.bson_laws.specs.Reads.{Reading, reads_items, reads}
-use Rattle.bson_laws.specs.Spell.{spell_items}
+use Rattle.bson_laws.specs.Spell.{spell, spell_items, IsWrittenUnlessLong}
 use Rattle.bson_laws.specs.Views.{views, views_items}
 use Rattle.bson_laws.proofs.Encoded.{array_walk_again}
 use Rattle.bson_laws.proofs.Sizes.{inside_ok}
-use Rattle.bson_laws.proofs.Writable.{Written}
+use Rattle.bson_laws.proofs.Writable.{unless_bind, unless_inside, Written}
 
 -- what the values of an array are at a shape is read from its bytes, where what each is at the shape is
 module _ (s : Form) (levels : ℕ) (each : (t : Tree) (v : Value) → IsClean t → depth t ≤ levels → length (enc t) < 2 ^ 31 → views s t ≡ Some v → reads s levels (kind t) (enc t) ≡ Ok v) where
@@ -33,17 +33,15 @@ module _ (s : Form) (levels : ℕ) (each : (t : Tree) (v : Value) → IsClean t 
       ∙ ap (result_map (item a.0)) (items_again (suc i) ts b.0 c.1 (omega arith) (omega (arith, later_size i t ts)) b.1)
       ∙ ap Ok b.2
 
--- the values that are read in an array are written, where each value that is read is
+-- the values that are read in an array are written, where each value that is read is, unless a binary in them is too long
 module _ (read : ElementType → Bytes → Reading Value) (levels : ℕ) (each : (k : ElementType) (b : Bytes) (v : Value) → read k b ≡ Ok v → Written levels v) where
-  pub items_written : (i : ℕ) (w : Walk) (vs : Items) → reads_items read i w ≡ Ok vs → (ts : Trees) × (spell_items i vs levels ≡ Ok ts)
-  items_written i ended vs e = subst (λ x. (ts : Trees) × (spell_items i x levels ≡ Ok ts)) (ok_is no_items vs e) (no_trees, refl)
+  pub items_written : (i : ℕ) (w : Walk) (vs : Items) → reads_items read i w ≡ Ok vs → IsWrittenUnlessLong (spell_items i vs levels)
+  items_written i ended vs e = subst (λ x. IsWrittenUnlessLong (spell_items i x levels)) (ok_is no_items vs e) tt
   items_written i (faulty f) vs e = absurd cc
   items_written i (then_walk x w) vs e =
       let a = bind_ok (under_index i (read x.kind x.value)) (λ v. result_map (item v) (reads_items read (suc i) w)) vs e in
       let b = map_ok (item a.0) (reads_items read (suc i) w) vs a.2 in
       let first = each x.kind x.value a.0 (inside_ok (at_index i) (read x.kind x.value) a.0 a.1) in
       let later = items_written (suc i) w b.0 b.1 in
-      subst (λ y. (ts : Trees) × (spell_items i y levels ≡ Ok ts)) b.2 (
-        tree first.0 later.0,
-        ap (λ r. under_index i r >>= λ t. spell_items (suc i) b.0 levels >>= λ ts. Ok (tree t ts)) first.1 ∙ ap (λ r. r >>= λ ts. Ok (tree first.0 ts)) later.1,
-      )
+      subst (λ y. IsWrittenUnlessLong (spell_items i y levels)) b.2
+      (unless_bind (under_index i (spell a.0 levels)) _ (unless_inside (at_index i) (spell a.0 levels) first) (λ t. unless_bind (spell_items (suc i) b.0 levels) _ later (λ ts. tt)))

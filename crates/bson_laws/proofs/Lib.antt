@@ -9,7 +9,6 @@ pub mod Encoded
 pub mod Ignored
 pub mod Filled
 pub mod Viewed
-pub mod Keys
 pub mod Writable
 pub mod Items
 pub mod ReadBack

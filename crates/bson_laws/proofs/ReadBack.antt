@@ -1,32 +1,32 @@
 -- What a sound tree is at a shape is read from its bytes.
-use Rattle.std.proofs.Common.{◌≡◌, ℕ, zero, suc, ◌+◌, ◌-◌, ◌^◌, ◌<◌, ◌≤◌, [], ◌∷◌, ◌++◌, length, Bool, true, false, cond, Some, Ok, Err, refl, ap, sym, subst, ◌∙◌, arith, pos}
+use Rattle.std.proofs.Common.{◌≡◌, ℕ, zero, suc, ◌+◌, ◌-◌, ◌^◌, ◌<◌, ◌≤◌, [], ◌∷◌, ◌++◌, length, Bool, true, false, cond, Option, Some, Ok, Err, refl, ap, sym, subst, ◌∙◌, arith, pos}
 use Rattle.std.specs.Prelude.{option_map, nat_lt, not, ◌||◌}
-use Rattle.std.specs.Str.{bytes_eq}
+use Rattle.std.specs.Str.{bytes_eq, chars}
 use Rattle.std.proofs.lemmas.Bool.{le-ltb}
 use Rattle.bson_base.specs.Text.{Bytes, Utf8}
 use Rattle.bson_base.specs.Outcome.{◌>>=◌, result_map}
 use Rattle.bson_base.specs.Sound.{max_levels, IsClean, IsSound}
-use Rattle.bson_base.specs.Tree.{Tree, string, int32, int64, document, array, Pairs, Trees, kind, enc, elements, array_elements, depth}
+use Rattle.bson_base.specs.Tree.{Tree, double, string, boolean, binary, null, int32, int64, document, array, Pairs, Trees, kind, enc, elements, array_elements, depth}
 use Rattle.bson_base.specs.declared.element_type.ElementType.TheVariants.{EmbeddedDocument, Array}
 use Rattle.bson_base.proofs.Lengths.{length-document, elements_size, array_elements_size}
-use Rattle.bson_base.proofs.Outcomes.{some_map, some_then}
+use Rattle.bson_base.proofs.Outcomes.{some_is, some_map, some_then}
 use Rattle.bson_rawdoc.specs.declared.raw.Error.TheVariants.{TooShort, LengthDiffers, NoTerminator}
 use Rattle.bson_rawdoc.specs.Envelope.{is_closed, envelope}
 use Rattle.bson_rawdoc.specs.Numbers.{int32_in}
 use Rattle.std.specs.Ordering.{int_eq}
 use Rattle.std.proofs.lemmas.Bool.Decides.{Decides-int_eq}
 use Rattle.bson_rawdoc.specs.Walk.{walk}
-use Rattle.bson_shape.specs.Form.{Form, leaf, sequence, structure, Fields, no_fields, field}
+use Rattle.bson_shape.specs.Form.{Form, leaf, optional, sequence, newtype, unit_structure, structure, Fields, no_fields, field}
 use Rattle.bson_shape.specs.Makers.{has_field, repeats, IsShape, AreShapes}
-use Rattle.bson_laws.specs.Integers.{LeafKind, numbers, texts, leaf_kind}
+use Rattle.bson_laws.specs.Leaves.{LeafKind, booleans, numbers, doubles, characters, texts, byte_strings, byte_buffers, units, leaf_kind}
 use Rattle.bson_rawdoc.specs.RawValue as raw_value
 use Rattle.bson_rawdoc.specs.RawValue.{value_in}
 use Rattle.bson_datum.specs.Value as value
 use Rattle.bson_datum.specs.Value.{IntegerType, in_range, Value, FieldValues, no_field_values, field_value}
 use Rattle.bson_datum.specs.Cause.{raw}
 use Rattle.bson_datum.specs.Refusal.{bare, unreadable}
-use Rattle.bson_laws.specs.Reads.{with_level, judged, document_of, array_of, reads_items, read_leaf, finish, no_slots, reads_fields, reads, reads_field, answered, reads_document}
-use Rattle.bson_laws.specs.Views.{pairs_of, trees_of, views_leaf, views, views_items, views_fields}
+use Rattle.bson_laws.specs.Reads.{Reading, with_level, judged, read_character, document_of, array_of, reads_items, read_leaf, finish, no_slots, reads_fields, reads_option, reads, reads_field, answered, reads_document}
+use Rattle.bson_laws.specs.Views.{pairs_of, trees_of, one_character, views_leaf, views_option, views, views_items, views_fields}
 use Rattle.bson_laws.proofs.Fitted.{Unnamed, unlike_swap}
 use Rattle.bson_laws.proofs.Numbers.{length_again}
 use Rattle.bson_laws.proofs.Closed.{closed_again}
@@ -53,15 +53,37 @@ distinct_from (field n s fs) e = let b = neither (has_field n fs) (repeats fs) e
 
 -- ---- leaves
 
-leaf_read : (k : LeafKind) (t : Tree) (v : Value) (levels : ℕ) → views_leaf k t ≡ Some v → (with_level levels (raw_of t) >>= read_leaf k) ≡ Ok v
+leaf_read : (k : LeafKind) (t : Tree) (v : Value) (levels : ℕ) → views_leaf k t ≡ Some v → (with_level levels (raw_of t) >>= read_leaf levels k) ≡ Ok v
+leaf_read booleans (boolean b) v levels e = ap Ok (some_is (value.boolean b) v e)
+leaf_read booleans t v levels e = absurd cc
 leaf_read (numbers type) (int32 n) v levels e = (in_range_or type n (in_range type n) v e).0
 leaf_read (numbers type) (int64 n) v levels e = (in_range_or type n (in_range type n) v e).0
 leaf_read (numbers type) t v levels e = absurd cc
-leaf_read texts (string t) v levels e = ap Ok cc
+leaf_read doubles (double bits) v levels e = ap Ok (some_is (value.double bits) v e)
+leaf_read doubles t v levels e = absurd cc
+leaf_read characters (string t) v levels e = let m = some_map value.character (one_character (chars t)) v e in ap read_character m.1 ∙ ap Ok m.2
+leaf_read characters t v levels e = absurd cc
+leaf_read texts (string t) v levels e = ap Ok (some_is (value.str t) v e)
 leaf_read texts t v levels e = absurd cc
+leaf_read byte_strings (binary zero bs) v levels e = ap Ok (some_is (value.bytes bs) v e)
+leaf_read byte_strings t v levels e = absurd cc
+leaf_read byte_buffers (binary zero bs) v levels e = ap Ok (some_is (value.bytes bs) v e)
+leaf_read byte_buffers t v levels e = absurd cc
+leaf_read units null v levels e = ap Ok (some_is value.unit v e)
+leaf_read units t v levels e = absurd cc
 
-leaf_again : (k : LeafKind) (t : Tree) (v : Value) (levels : ℕ) → IsClean t → length (enc t) < 2 ^ 31 → views_leaf k t ≡ Some v → (judged levels (value_in (kind t) (enc t)) >>= read_leaf k) ≡ Ok v
-leaf_again k t v levels c l e = ap (λ r. judged levels r >>= read_leaf k) (value_again t c l) ∙ leaf_read k t v levels e
+leaf_again : (k : LeafKind) (t : Tree) (v : Value) (levels : ℕ) → IsClean t → length (enc t) < 2 ^ 31 → views_leaf k t ≡ Some v → (judged levels (value_in (kind t) (enc t)) >>= read_leaf levels k) ≡ Ok v
+leaf_again k t v levels c l e = ap (λ r. judged levels r >>= read_leaf levels k) (value_again t c l) ∙ leaf_read k t v levels e
+
+-- ---- null, and what is not null
+
+option_again : (view : Tree → Option Value) (t : Tree) (v : Value) (r : Reading Value) → ((w : Value) → view t ≡ Some w → r ≡ Ok w) → views_option view t ≡ Some v → reads_option (kind t) r ≡ Ok v
+option_again view null v r inner e = ap Ok (some_is value.none v e)
+option_again view t v r inner e = let m = some_map value.some (view t) v e in ap (result_map value.some) (inner m.0 m.1) ∙ ap Ok m.2
+
+unit_again : (name : Utf8) (t : Tree) (v : Value) (levels : ℕ) → views (unit_structure name) t ≡ Some v → reads (unit_structure name) levels (kind t) (enc t) ≡ Ok v
+unit_again name null v levels e = ap Ok (some_is (value.unit_structure name) v e)
+unit_again name t v levels e = absurd cc
 
 -- ---- documents and arrays
 
@@ -76,6 +98,11 @@ trees_then t ts e = absurd cc
 mutual
   pub reads_again : (s : Form) (t : Tree) (v : Value) (levels : ℕ) → IsShape s → IsClean t → depth t ≤ levels → length (enc t) < 2 ^ 31 → views s t ≡ Some v → reads s levels (kind t) (enc t) ≡ Ok v
   reads_again (leaf w) t v levels p c d l e = leaf_again (leaf_kind w) t v levels c l e
+  reads_again (optional s) t v levels p c d l e = option_again (views s) t v (reads s levels (kind t) (enc t)) (λ w h. reads_again s t w levels p.1 c d l h) e
+  reads_again (newtype name s) t v levels p c d l e =
+      let m = some_map (value.newtype name) (views s t) v e in
+      ap (result_map (value.newtype name)) (reads_again s t m.0 levels p.1 c d l m.1) ∙ ap Ok m.2
+  reads_again (unit_structure name) t v levels p c d l e = unit_again name t v levels e
   reads_again (sequence s) t v levels p c d l e =
       let a = some_then (λ ts. option_map value.sequence (views_items (views s) ts)) (trees_of t) v e in
       let b = some_map value.sequence (views_items (views s) a.0) v a.2 in

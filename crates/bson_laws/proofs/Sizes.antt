@@ -1,18 +1,20 @@
 -- What is written is as long as the size says, and of the kind of the value.
 use Rattle.std.proofs.Common.{◌≡◌, ℕ, ℤ, zero, suc, ◌+◌, ◌∷◌, ◌++◌, length, Bool, true, false, cond, Option, Some, None, Result, Ok, Err, refl, ap, sym, ◌∙◌, arith}
 use Rattle.std.proofs.lemmas.List.{length-append}
+use Rattle.std.specs.Prelude.{encode_utf8}
 use Rattle.std.specs.Fmt.{decimal}
-use Rattle.bson_base.specs.Text.{Utf8, has_zero}
+use Rattle.bson_base.specs.Text.{Bytes, Utf8, has_zero}
 use Rattle.bson_base.specs.Outcome.{◌>>=◌}
 use Rattle.bson_base.specs.Reserved.{reserved_kind}
-use Rattle.bson_base.specs.Tree.{Tree, string, int32, int64, document, array, Pairs, no_pairs, pair, Trees, no_trees, tree, enc, elements, array_elements, kind}
+use Rattle.bson_base.specs.Tree as tree
+use Rattle.bson_base.specs.Tree.{Tree, string, binary, null, int32, int64, document, array, Pairs, no_pairs, pair, Trees, no_trees, enc, elements, array_elements, kind}
 use Rattle.bson_base.specs.declared.element_type.ElementType.{ElementType}
-use Rattle.bson_base.specs.declared.element_type.ElementType.TheVariants.{Int32}
+use Rattle.bson_base.specs.declared.element_type.ElementType.TheVariants.{EmbeddedDocument, Binary, Int32}
 use Rattle.bson_base.proofs.Outcomes.{map_ok, bind_ok}
-use Rattle.bson_base.proofs.Lengths.{length-le32, length-le64, length-text, length-document, length-array}
-use Rattle.bson_datum.specs.Value.{IntegerType, i8, i16, i32, i64, u8, u16, u32, u64, written_as, Value, integer, str, sequence, structure, Items, no_items, item, FieldValues, no_field_values, field_value, kind_of, reserved_or_document}
+use Rattle.bson_base.proofs.Lengths.{length-le32, length-le64, length-text, length-boolean, length-binary, length-document, length-array}
+use Rattle.bson_datum.specs.Value.{IntegerType, i8, i16, i32, i64, u8, u16, u32, u64, written_as, Value, boolean, integer, double, character, str, bytes, none, some, unit, unit_structure, newtype, sequence, structure, Items, no_items, item, FieldValues, no_field_values, field_value, newtype_kind, kind_of, reserved_or_document}
 use Rattle.bson_datum.specs.Refusal.{Segment, at_key, at_index, Refusal, WriteFault, inside, under, under_index}
-use Rattle.bson_laws.specs.Spell.{Writing, enclosed_at, struct_at, named, number_size, spell_number, spell, spell_items, spell_fields, size, size_items, size_fields}
+use Rattle.bson_laws.specs.Spell.{Writing, enclosed_at, struct_at, named, number_size, spell_number, unbuilt_newtype, newtype_at, spell, spell_items, spell_fields, size, size_items, size_fields}
 
 abbrev done : {A : Type 0} → A → Writing A
 done x = Ok x
@@ -65,8 +67,33 @@ number_length : (k : ElementType) (n : ℤ) (t : Tree) → spell_number k n ≡ 
 number_length Int32 n t e = ap (λ u. length (enc u)) (sym (ok_is (int32 n) t e)) ∙ length-le32 _
 number_length k n t e = ap (λ u. length (enc u)) (sym (wide_is _ _ n t e)) ∙ length-le64 _
 
+bytes_is : (b : Bool) (f : Refusal WriteFault) (bs : Bytes) (t : Tree) → cond b (Err f) (done (binary 0 bs)) ≡ Ok t → binary 0 bs ≡ t
+bytes_is true f bs t e = absurd cc
+bytes_is false f bs t e = ok_is (binary 0 bs) t e
+
+-- a newtype that is written is its content
+pub newtype_ok : (o : Option ElementType) (r : Writing Tree) (t : Tree) → newtype_at o r ≡ Ok t → (o ≡ None) × (r ≡ Ok t)
+newtype_ok (Some k) r t e = absurd cc
+newtype_ok None r t e = (refl, e)
+
+none_first : (a b : Bool) → cond a (Some Binary) (cond b (Some EmbeddedDocument) None) ≡ None → a ≡ false
+none_first true b e = absurd cc
+none_first false b e = refl
+
+pub built_kind : (name : Utf8) (k : ElementType) → unbuilt_newtype name ≡ None → newtype_kind name k ≡ k
+built_kind name k e = ap (λ b. cond b Binary k) (none_first _ _ e)
+
 pub spell_kind : (v : Value) (levels : ℕ) (t : Tree) → spell v levels ≡ Ok t → kind t ≡ kind_of v
 spell_kind (integer type n) levels t e = number_kind type n t e
+spell_kind (boolean b) levels t e = ap kind (sym (ok_is (tree.boolean b) t e))
+spell_kind (double bits) levels t e = ap kind (sym (ok_is (tree.double bits) t e))
+spell_kind (character c) levels t e = ap kind (sym (ok_is (string (encode_utf8 c)) t e))
+spell_kind (bytes bs) levels t e = ap kind (sym (bytes_is _ _ bs t e))
+spell_kind none levels t e = ap kind (sym (ok_is null t e))
+spell_kind (some v) levels t e = spell_kind v levels t e
+spell_kind unit levels t e = ap kind (sym (ok_is null t e))
+spell_kind (unit_structure name) levels t e = ap kind (sym (ok_is null t e))
+spell_kind (newtype name v) levels t e = let m = newtype_ok (unbuilt_newtype name) (spell v levels) t e in spell_kind v levels t m.1 ∙ sym (built_kind name (kind_of v) m.0)
 spell_kind (str x) levels t e = ap kind (sym (ok_is (string x) t e))
 spell_kind (sequence vs) levels t e = let m = enclosed_ok array levels (spell_items 0 vs) t e in ap kind (sym m.2.2)
 spell_kind (structure name fs) levels t e = let m = struct_ok (reserved_kind name) levels (spell_fields fs) t e in ap kind (sym m.1.2.2) ∙ ap reserved_or_document (sym m.0)
@@ -74,6 +101,15 @@ spell_kind (structure name fs) levels t e = let m = struct_ok (reserved_kind nam
 mutual
   pub length-spell : (v : Value) (levels : ℕ) (t : Tree) → spell v levels ≡ Ok t → length (enc t) ≡ size v
   length-spell (integer type n) levels t e = number_length (written_as type) n t e
+  length-spell (boolean b) levels t e = ap (λ u. length (enc u)) (sym (ok_is (tree.boolean b) t e)) ∙ length-boolean b
+  length-spell (double bits) levels t e = ap (λ u. length (enc u)) (sym (ok_is (tree.double bits) t e))
+  length-spell (character c) levels t e = ap (λ u. length (enc u)) (sym (ok_is (string (encode_utf8 c)) t e)) ∙ length-text (encode_utf8 c)
+  length-spell (bytes bs) levels t e = ap (λ u. length (enc u)) (sym (bytes_is _ _ bs t e)) ∙ length-binary 0 bs
+  length-spell none levels t e = ap (λ u. length (enc u)) (sym (ok_is null t e))
+  length-spell (some v) levels t e = length-spell v levels t e
+  length-spell unit levels t e = ap (λ u. length (enc u)) (sym (ok_is null t e))
+  length-spell (unit_structure name) levels t e = ap (λ u. length (enc u)) (sym (ok_is null t e))
+  length-spell (newtype name v) levels t e = length-spell v levels t (newtype_ok (unbuilt_newtype name) (spell v levels) t e).1
   length-spell (str x) levels t e = ap (λ u. length (enc u)) (sym (ok_is (string x) t e)) ∙ length-text x
   length-spell (sequence vs) levels t e =
       let m = enclosed_ok array levels (spell_items 0 vs) t e in
@@ -85,10 +121,10 @@ mutual
   pub length-spell_items : (i : ℕ) (vs : Items) (levels : ℕ) (ts : Trees) → spell_items i vs levels ≡ Ok ts → length (array_elements i ts) ≡ size_items i vs
   length-spell_items i no_items levels ts e = ap (λ u. length (array_elements i u)) (sym (ok_is no_trees ts e))
   length-spell_items i (item v vs) levels ts e =
-      let a = bind_ok (under_index i (spell v levels)) (λ t. spell_items (suc i) vs levels >>= λ us. Ok (tree t us)) ts e in
-      let b = bind_ok (spell_items (suc i) vs levels) (λ us. Ok (tree a.0 us)) ts a.2 in
+      let a = bind_ok (under_index i (spell v levels)) (λ t. spell_items (suc i) vs levels >>= λ us. Ok (tree.tree t us)) ts e in
+      let b = bind_ok (spell_items (suc i) vs levels) (λ us. Ok (tree.tree a.0 us)) ts a.2 in
       let k = inside_ok (at_index i) (spell v levels) a.0 a.1 in
-      ap (λ u. length (array_elements i u)) (sym (ok_is (tree a.0 b.0) ts b.2))
+      ap (λ u. length (array_elements i u)) (sym (ok_is (tree.tree a.0 b.0) ts b.2))
       ∙ omega (arith, length-append (decimal i) (0 ∷ enc a.0), length-append (decimal i ++ (0 ∷ enc a.0)) (array_elements (suc i) b.0), length-spell v levels a.0 k, length-spell_items (suc i) vs levels b.0 b.1)
 
   pub length-spell_fields : (fs : FieldValues) (levels : ℕ) (ps : Pairs) → spell_fields fs levels ≡ Ok ps → length (elements ps) ≡ size_fields fs

@@ -1,18 +1,22 @@
 -- What means a clean tree is spelled as it.
 use Rattle.std.proofs.Common.{◌≡◌, ℕ, ℤ, Bool, true, false, zero, suc, ◌≤◌, length, cond, Option, Some, None, Ok, Err, refl, ap, sym, subst, ◌∙◌, arith}
-use Rattle.std.specs.Prelude.{option_map, is_some}
+use Rattle.std.specs.Prelude.{encode_utf8, option_map, is_some, ◌||◌}
+use Rattle.std.proofs.lemmas.Bool.{le-ltb}
+use Rattle.bson_base.specs.Text.{Bytes, Utf8}
 use Rattle.bson_base.specs.Outcome.{◌>>=◌, result_map}
 use Rattle.bson_base.specs.Reserved.{reserved_kind}
 use Rattle.bson_base.specs.Sound.{max_levels, IsClean, ArePairsClean, AreTreesClean, IsSound, IsDocument}
-use Rattle.bson_base.specs.Tree.{Tree, string, int32, int64, document, array, Pairs, no_pairs, pair, Trees, no_trees, tree, enc, depth, pairs_depth, trees_depth}
+use Rattle.bson_base.specs.Tree as tree
+use Rattle.bson_base.specs.Tree.{Tree, string, binary, null, int32, int64, document, array, Pairs, no_pairs, pair, Trees, no_trees, enc, depth, pairs_depth, trees_depth}
 use Rattle.bson_base.specs.declared.element_type.ElementType.{ElementType}
-use Rattle.bson_base.specs.declared.element_type.ElementType.TheVariants.{Int32}
+use Rattle.bson_base.specs.declared.element_type.ElementType.TheVariants.{EmbeddedDocument, Binary, Int32}
 use Rattle.bson_base.proofs.Outcomes.{some_map, some_then}
-use Rattle.bson_datum.specs.Value.{written_as, Value, integer, str, sequence, structure, Items, no_items, item, FieldValues, no_field_values, field_value, reserved_or_document}
+use Rattle.bson_shape.specs.Makers.{is_reserved_newtype}
+use Rattle.bson_datum.specs.Value.{written_as, Value, boolean, integer, double, character, str, bytes, none, some, unit, unit_structure, newtype, sequence, structure, Items, no_items, item, FieldValues, no_field_values, field_value, kind_of, reserved_or_document}
 use Rattle.bson_datum.specs.Refusal.{WriteFault, Refusal, here, invalid_cstring, under, under_index}
 use Rattle.bson_laws.specs.Means.{number_of, means, means_items, means_fields}
-use Rattle.bson_laws.specs.Spell.{Writing, spell_number, enclosed_at, struct_at, spell, spell_items, spell_fields, at_top, spell_document, size}
-use Rattle.bson_laws.proofs.Sizes.{length-spell}
+use Rattle.bson_laws.specs.Spell.{Writing, spell_number, spell_bytes, unbuilt_newtype, newtype_at, enclosed_at, struct_at, spell, spell_items, spell_fields, at_top, spell_document, size}
+use Rattle.bson_laws.proofs.Sizes.{built_kind, length-spell}
 
 abbrev pub pairs_found : Pairs → Option Pairs
 pairs_found t = Some t
@@ -46,6 +50,30 @@ pub unreserved : (o : Option ElementType) (r : Option Tree) (t : Tree) → cond 
 unreserved (Some k) r t e = absurd cc
 unreserved None r t e = (refl, e)
 
+allowed : (b : Bool) (f : Refusal WriteFault) (bs : Bytes) → b ≡ false → cond b (Err f) (Ok (binary 0 bs)) ≡ Ok (binary 0 bs)
+allowed true f bs e = absurd cc
+allowed false f bs e = refl
+
+-- a binary that is clean is written
+bytes_spelled : (bs : Bytes) → IsClean (binary 0 bs) → spell_bytes bs ≡ Ok (binary 0 bs)
+bytes_spelled bs c = allowed _ _ bs (le-ltb _ _ c.fits)
+
+-- a newtype that means something has no reserved name
+pub free_newtype : (b : Bool) (r : Option Tree) (t : Tree) → cond b None r ≡ Some t → (b ≡ false) × (r ≡ Some t)
+free_newtype true r t e = absurd cc
+free_newtype false r t e = (refl, e)
+
+abbrev no_kind : Option ElementType
+no_kind = None
+
+none_of : (a b c : Bool) → (a || (b || (c || false))) ≡ false → cond a (Some Binary) (cond b (Some EmbeddedDocument) None) ≡ no_kind
+none_of true b c e = absurd cc
+none_of false true c e = absurd cc
+none_of false false c e = refl
+
+pub built : (name : Utf8) → is_reserved_newtype name ≡ false → unbuilt_newtype name ≡ None
+built name e = none_of _ _ _ e
+
 -- a container whose parts are written, however many levels are left for them, is written where one more is left
 enclosed : {A : Type 0} (container : A → Tree) (parts : ℕ → Writing A) (ps : A) (inner levels : ℕ) → suc inner ≤ levels → ((n : ℕ) → inner ≤ n → parts n ≡ Ok ps) → enclosed_at container levels parts ≡ Ok (container ps)
 enclosed container parts ps inner zero d h = absurd (omega arith)
@@ -60,6 +88,17 @@ trees_are ts us e = cc
 mutual
   pub spell_is : (v : Value) (t : Tree) (levels : ℕ) → means v ≡ Some t → IsClean t → depth t ≤ levels → spell v levels ≡ Ok t
   spell_is (integer type n) t levels e c d = number_spelled (written_as type) n t e
+  spell_is (boolean b) t levels e c d = ap Ok (tree_is (tree.boolean b) t e)
+  spell_is (double bits) t levels e c d = ap Ok (tree_is (tree.double bits) t e)
+  spell_is (character x) t levels e c d = ap Ok (tree_is (string (encode_utf8 x)) t e)
+  spell_is (bytes bs) t levels e c d = let is = tree_is (binary 0 bs) t e in bytes_spelled bs (subst IsClean (sym is) c) ∙ ap Ok is
+  spell_is none t levels e c d = ap Ok (tree_is null t e)
+  spell_is (some v) t levels e c d = spell_is v t levels e c d
+  spell_is unit t levels e c d = ap Ok (tree_is null t e)
+  spell_is (unit_structure name) t levels e c d = ap Ok (tree_is null t e)
+  spell_is (newtype name v) t levels e c d =
+      let m = free_newtype (is_reserved_newtype name) (means v) t e in
+      ap (λ o. newtype_at o (spell v levels)) (built name m.0) ∙ spell_is v t levels m.1 c d
   spell_is (str x) t levels e c d = ap Ok (tree_is (string x) t e)
   spell_is (sequence vs) t levels e c d =
       let m = some_map array (means_items vs) t e in
@@ -74,12 +113,12 @@ mutual
   pub spell_items_are : (i : ℕ) (vs : Items) (ts : Trees) (levels : ℕ) → means_items vs ≡ Some ts → AreTreesClean ts → trees_depth ts ≤ levels → spell_items i vs levels ≡ Ok ts
   spell_items_are i no_items ts levels e c d = ap Ok (trees_are no_trees ts e)
   spell_items_are i (item v vs) ts levels e c d =
-      let a = some_then (λ t. option_map (tree t) (means_items vs)) (means v) ts e in
-      let b = some_map (tree a.0) (means_items vs) ts a.2 in
+      let a = some_then (λ t. option_map (tree.tree t) (means_items vs)) (means v) ts e in
+      let b = some_map (tree.tree a.0) (means_items vs) ts a.2 in
       subst (λ us. AreTreesClean us → trees_depth us ≤ levels → spell_items i (item v vs) levels ≡ Ok us) b.2
       (λ c' d'.
-      ap (λ r. under_index i r >>= λ t. spell_items (suc i) vs levels >>= λ us. Ok (tree t us)) (spell_is v a.0 levels a.1 c'.0 (omega arith))
-      ∙ ap (λ r. r >>= λ us. Ok (tree a.0 us)) (spell_items_are (suc i) vs b.0 levels b.1 c'.1 (omega arith)))
+      ap (λ r. under_index i r >>= λ t. spell_items (suc i) vs levels >>= λ us. Ok (tree.tree t us)) (spell_is v a.0 levels a.1 c'.0 (omega arith))
+      ∙ ap (λ r. r >>= λ us. Ok (tree.tree a.0 us)) (spell_items_are (suc i) vs b.0 levels b.1 c'.1 (omega arith)))
       c d
 
   pub spell_fields_are : (fs : FieldValues) (ps : Pairs) (levels : ℕ) → means_fields fs ≡ Some ps → ArePairsClean ps → pairs_depth ps ≤ levels → spell_fields fs levels ≡ Ok ps
@@ -96,6 +135,19 @@ mutual
 
 document_only : (v : Value) (t : Tree) → means v ≡ Some t → IsDocument t → spell v max_levels ≡ Ok t → spell_document v ≡ Ok t
 document_only (integer type n) t e doc h = absurd (number_no_document (written_as type) n t e doc)
+document_only (boolean b) t e doc h = absurd (subst IsDocument (sym (tree_is (tree.boolean b) t e)) doc)
+document_only (double bits) t e doc h = absurd (subst IsDocument (sym (tree_is (tree.double bits) t e)) doc)
+document_only (character x) t e doc h = absurd (subst IsDocument (sym (tree_is (string (encode_utf8 x)) t e)) doc)
+document_only (bytes bs) t e doc h = absurd (subst IsDocument (sym (tree_is (binary 0 bs) t e)) doc)
+document_only none t e doc h = absurd (subst IsDocument (sym (tree_is null t e)) doc)
+document_only (some v) t e doc h = document_only v t e doc h
+document_only unit t e doc h = absurd (subst IsDocument (sym (tree_is null t e)) doc)
+document_only (unit_structure name) t e doc h = absurd (subst IsDocument (sym (tree_is null t e)) doc)
+document_only (newtype name v) t e doc h =
+    let m = free_newtype (is_reserved_newtype name) (means v) t e in
+    let none = built name m.0 in
+    let inner = sym (ap (λ o. newtype_at o (spell v max_levels)) none) ∙ h in
+    (λ i. at_top (built_kind name (kind_of v) none i) (newtype_at (none i) (spell v max_levels))) ∙ document_only v t m.1 doc inner
 document_only (str x) t e doc h = absurd (subst IsDocument (sym (tree_is (string x) t e)) doc)
 document_only (sequence vs) t e doc h = let m = some_map array (means_items vs) t e in absurd (subst IsDocument (sym m.2) doc)
 document_only (structure name fs) t e doc h =

@@ -1,7 +1,8 @@
-pub mod Integers
+pub mod Leaves
 pub mod Views
 pub mod Means
 pub mod Fits
 pub mod Plain
+pub mod Names
 pub mod Reads
 pub mod Spell

@@ -1,19 +1,35 @@
 -- The document that a value means. Source: serde's data model, and the kinds of bsonspec.org.
-use Rattle.std.specs.Prelude.{ℤ, int_lt, Option, Some, None, is_some, if◌then◌else◌, option_map, option_and_then}
+use Rattle.std.specs.Prelude.{encode_utf8, ℤ, int_lt, Option, Some, None, is_some, if◌then◌else◌, option_map, option_and_then}
 use Rattle.bson_base.specs.Reserved.{reserved_kind}
 use Rattle.bson_base.specs.declared.element_type.ElementType.{ElementType}
 use Rattle.bson_base.specs.declared.element_type.ElementType.TheVariants.{Int32}
-use Rattle.bson_base.specs.Tree.{Tree, string, int32, int64, document, array, Pairs, no_pairs, pair, Trees, no_trees, tree}
-use Rattle.bson_datum.specs.Value.{i64, greatest, written_as, Value, integer, str, sequence, structure, Items, no_items, item, FieldValues, no_field_values, field_value}
+use Rattle.bson_base.specs.Tree as tree
+use Rattle.bson_base.specs.Tree.{Tree, string, document, array, binary, null, int32, int64, Pairs, no_pairs, pair, Trees, no_trees}
+use Rattle.bson_shape.specs.Makers.{is_reserved_newtype}
+use Rattle.bson_datum.specs.Value.{i64, greatest, written_as, Value, boolean, integer, double, character, str, bytes, none, some, unit, unit_structure, newtype, sequence, structure, Items, no_items, item, FieldValues, no_field_values, field_value}
 
 -- a number as a value of a kind; an Int64 is none that is greater than the greatest of `i64`
 abbrev pub number_of : ElementType → ℤ → Option Tree
 number_of Int32 n = Some (int32 n)
 number_of k n = if int_lt (greatest i64) n then None else Some (int64 n)
 
+-- the value where there is one, and none where it is read back so: a value that means null
+abbrev pub some_or_none : Option Tree → Value → Value
+some_or_none (Some null) v = none
+some_or_none t v = some v
+
 abbrev mutual
-  -- the tree that a value is written as, where it is written; a struct of a reserved name is not written yet
+  -- the tree that a value is written as, where it is written; a struct or a newtype of a reserved name is not written yet
   pub means : Value → Option Tree
+  means (boolean b) = Some (tree.boolean b)
+  means (double bits) = Some (tree.double bits)
+  means (character c) = Some (string (encode_utf8 c))
+  means (bytes bs) = Some (binary 0 bs)
+  means none = Some null
+  means (some v) = means v
+  means unit = Some null
+  means (unit_structure name) = Some null
+  means (newtype name v) = if is_reserved_newtype name then None else means v
   means (integer type n) = number_of (written_as type) n
   means (str t) = Some (string t)
   means (sequence vs) = option_map array (means_items vs)
@@ -21,15 +37,24 @@ abbrev mutual
 
   pub means_items : Items → Option Trees
   means_items no_items = Some no_trees
-  means_items (item v vs) = option_and_then (λ t. option_map (tree t) (means_items vs)) (means v)
+  means_items (item v vs) = option_and_then (λ t. option_map (tree.tree t) (means_items vs)) (means v)
 
   pub means_fields : FieldValues → Option Pairs
   means_fields no_field_values = Some no_pairs
   means_fields (field_value name v fs) = option_and_then (λ t. option_map (pair name t) (means_fields fs)) (means v)
 
 abbrev mutual
-  -- the value that a value is read back as
+  -- the value that a value is read back as: null is read as none at an option
   pub norm : Value → Value
+  norm (boolean b) = boolean b
+  norm (double bits) = double bits
+  norm (character c) = character c
+  norm (bytes bs) = bytes bs
+  norm none = none
+  norm (some v) = some_or_none (means v) (norm v)
+  norm unit = unit
+  norm (unit_structure name) = unit_structure name
+  norm (newtype name v) = newtype name (norm v)
   norm (integer type n) = integer type n
   norm (str t) = str t
   norm (sequence vs) = sequence (norm_items vs)

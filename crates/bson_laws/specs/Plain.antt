@@ -1,7 +1,7 @@
 -- The shapes whose documents are read back as they were written.
 use Rattle.std.specs.Prelude.{◌≡◌, false}
 use Rattle.bson_base.specs.Text.{Utf8, has_zero, begins_with_dollar}
-use Rattle.bson_shape.specs.Form.{Form, leaf, sequence, structure, Fields, no_fields, field}
+use Rattle.bson_shape.specs.Form.{Form, leaf, optional, sequence, newtype, unit_structure, structure, Fields, no_fields, field}
 
 -- The name does not begin with `$` and holds no zero character.
 pub record IsFreeName (name : Utf8) : Type 0 where
@@ -9,9 +9,12 @@ pub record IsFreeName (name : Utf8) : Type 0 where
   pub no_dollar : begins_with_dollar name ≡ false
 
 abbrev mutual
-  -- each name of a struct and of a field is free
+  -- each name of a newtype, a struct and a field is free
   pub IsPlain : Form → Type 0
   IsPlain (leaf l) = Unit {0}
+  IsPlain (optional s) = IsPlain s
+  IsPlain (newtype name s) = IsFreeName name × IsPlain s
+  IsPlain (unit_structure name) = Unit {0}
   IsPlain (sequence s) = IsPlain s
   IsPlain (structure name fs) = IsFreeName name × AreFieldsPlain fs
 

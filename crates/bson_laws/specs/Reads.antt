@@ -1,20 +1,21 @@
 -- Reading a document's bytes at a shape. Source: serde's data model, over the walk of the bytes.
-use Rattle.std.specs.Prelude.{ℕ, zero, suc, ◌-◌, List, [], ◌∷◌, set, get_or, Bool, true, false, not, ◌&&◌, if◌then◌else◌, ℤ, eqb, Option, Some, None, is_some, Result, Ok, Err, codes}
-use Rattle.std.specs.Str.{bytes_eq, is_utf8}
+use Rattle.std.specs.Prelude.{unsigned_abs, ℕ, zero, suc, ◌-◌, List, [], ◌∷◌, set, get_or, Bool, true, false, not, ◌&&◌, if◌then◌else◌, ℤ, eqb, Option, Some, None, is_some, Result, Ok, Err, codes}
+use Rattle.std.specs.Str.{bytes_eq, is_utf8, chars}
 use Rattle.bson_base.specs.Text.{Bytes, Utf8}
 use Rattle.bson_base.specs.Outcome.{◌>>=◌, result_map}
 use Rattle.bson_base.specs.Sound.{max_levels}
 use Rattle.bson_base.specs.declared.element_type.ElementType.{ElementType}
-use Rattle.bson_base.specs.declared.element_type.ElementType.TheVariants.{EmbeddedDocument, Array, Binary}
+use Rattle.bson_base.specs.declared.element_type.ElementType.TheVariants.{EmbeddedDocument, Array, Binary, Null}
 use Rattle.bson_rawdoc.specs.Envelope.{envelope}
 use Rattle.bson_rawdoc.specs.Walk.{Element, Walk, ended, faulty, then_walk, walk}
-use Rattle.bson_rawdoc.specs.RawValue.{RawValue, double, string, document, array, binary, boolean, null, javascript_code_with_scope, int32, int64, kind_of, value_in}
+use Rattle.bson_rawdoc.specs.RawValue.{RawValue, double, string, document, array, binary, object_id, boolean, null, javascript_code_with_scope, int32, int64, kind_of, value_in}
 use Rattle.bson_rawdoc.specs.declared.raw.Error as raw_error
-use Rattle.bson_shape.specs.Form.{Form, leaf, sequence, structure, Fields, no_fields, field}
-use Rattle.bson_laws.specs.Integers.{LeafKind, numbers, texts, leaf_kind}
+use Rattle.bson_shape.specs.Form.{Form, leaf, optional, sequence, newtype, unit_structure, structure, Fields, no_fields, field}
+use Rattle.bson_laws.specs.Leaves.{LeafKind, booleans, numbers, doubles, characters, texts, byte_strings, byte_buffers, units, leaf_kind}
+use Rattle.bson_laws.specs.Views.{one_character, absent}
 use Rattle.bson_datum.specs.Value as value
-use Rattle.bson_datum.specs.Value.{IntegerType, in_range, Value, Items, no_items, item, FieldValues, no_field_values, field_value}
-use Rattle.bson_datum.specs.Cause.{Cause, raw, too_deep, invalid_type, out_of_range, not_utf8, missing_field, duplicate_field, not_built}
+use Rattle.bson_datum.specs.Value.{IntegerType, u8, in_range, Value, Items, no_items, item, FieldValues, no_field_values, field_value}
+use Rattle.bson_datum.specs.Cause.{Cause, raw, too_deep, invalid_type, out_of_range, not_one_char, not_utf8, missing_field, duplicate_field, not_built}
 use Rattle.bson_datum.specs.Refusal.{Segment, at_key, at_index, ReadFault, unreadable, Refusal, here, inside, under, under_index, Failure, bare, with_path}
 
 -- an answer of reading: something, or a refusal with its path
@@ -72,31 +73,90 @@ abbrev pub ignores : ℕ → ElementType → Bytes → Reading (Unit {0})
 ignores zero k bytes = faultless (value_in k bytes) >>= pass_inside (λ place inner. refused too_deep)
 ignores (suc levels) k bytes = faultless (value_in k bytes) >>= pass_inside (λ place inner. pass_elements place (ignores levels) 0 (walk inner))
 
--- the number of a value that is one
+-- ---- a value of a kind that a shape takes
+
+abbrev pub boolean_of : RawValue → Reading Bool
+boolean_of (boolean b) = Ok b
+boolean_of v = refused (invalid_type (kind_of v))
+
 abbrev pub integer_of : RawValue → Reading ℤ
 integer_of (int32 n) = Ok n
 integer_of (int64 n) = Ok n
 integer_of v = refused (invalid_type (kind_of v))
+
+abbrev pub double_of : RawValue → Reading Bytes
+double_of (double bits) = Ok bits
+double_of v = refused (invalid_type (kind_of v))
+
+abbrev pub string_of : RawValue → Reading Utf8
+string_of (string t) = Ok t
+string_of v = refused (invalid_type (kind_of v))
 
 -- the bytes of a binary as a text: those of subtype 0 that are UTF-8
 abbrev pub text_of_binary : ℕ → Bytes → Reading Utf8
 text_of_binary zero bytes = if is_utf8 bytes then Ok bytes else refused not_utf8
 text_of_binary (suc subtype) bytes = refused (invalid_type Binary)
 
--- the text of a value that is one
 abbrev pub text_of : RawValue → Reading Utf8
 text_of (string t) = Ok t
 text_of (binary subtype bytes) = text_of_binary subtype bytes
 text_of v = refused (invalid_type (kind_of v))
 
+abbrev pub bytes_of_binary : ℕ → Bytes → Reading Bytes
+bytes_of_binary zero bytes = Ok bytes
+bytes_of_binary (suc subtype) bytes = refused (invalid_type Binary)
+
+-- the bytes of a binary of subtype 0, of a text, of an ObjectId
+abbrev pub bytes_of : RawValue → Reading Bytes
+bytes_of (binary subtype bytes) = bytes_of_binary subtype bytes
+bytes_of (string t) = Ok t
+bytes_of (object_id id) = Ok id
+bytes_of v = refused (invalid_type (kind_of v))
+
+abbrev pub null_of : RawValue → Reading (Unit {0})
+null_of null = Ok tt
+null_of v = refused (invalid_type (kind_of v))
+
+-- ---- leaves
+
 -- the number as a value of an integer type, where it is one of the type
 abbrev pub read_integer : IntegerType → ℤ → Reading Value
 read_integer type n = if in_range type n then Ok (value.integer type n) else refused (out_of_range n)
 
--- a number of the leaf's type, or a text
-abbrev pub read_leaf : LeafKind → RawValue → Reading Value
-read_leaf (numbers type) v = integer_of v >>= read_integer type
-read_leaf texts v = result_map value.str (text_of v)
+abbrev pub read_character : Option ℕ → Reading Value
+read_character (Some c) = Ok (value.character c)
+read_character None = refused not_one_char
+
+-- a number as a byte, where it is one
+abbrev pub as_byte : ℤ → Reading ℕ
+as_byte n = if in_range u8 n then Ok (unsigned_abs n) else refused (out_of_range n)
+
+-- the bytes that the elements of an array from this index on are, up to the fault that ends their list
+abbrev pub reads_bytes : ℕ → ℕ → Walk → Reading Bytes
+reads_bytes levels i ended = Ok []
+reads_bytes levels i (faulty e) = refused (raw e)
+reads_bytes levels i (then_walk e w) =
+    under_index i (judged levels (value_in e.kind e.value) >>= integer_of >>= as_byte) >>= λ b. result_map (λ bs. b ∷ bs) (reads_bytes levels (suc i) w)
+
+-- the bytes of a binary of subtype 0, of a text, of an array of numbers
+abbrev pub buffer_of : ℕ → RawValue → Reading Bytes
+buffer_of levels (binary subtype bytes) = bytes_of_binary subtype bytes
+buffer_of levels (string t) = Ok t
+buffer_of levels (array bytes) = reads_bytes (levels - 1) 0 (walk bytes)
+buffer_of levels v = refused (invalid_type (kind_of v))
+
+-- a value of the leaf's kind, with so many levels left
+abbrev pub read_leaf : ℕ → LeafKind → RawValue → Reading Value
+read_leaf levels booleans v = result_map value.boolean (boolean_of v)
+read_leaf levels (numbers type) v = integer_of v >>= read_integer type
+read_leaf levels doubles v = result_map value.double (double_of v)
+read_leaf levels characters v = string_of v >>= λ t. read_character (one_character (chars t))
+read_leaf levels texts v = result_map value.str (text_of v)
+read_leaf levels byte_strings v = result_map value.bytes (bytes_of v)
+read_leaf levels byte_buffers v = result_map value.bytes (buffer_of levels v)
+read_leaf levels units v = result_map (λ _. value.unit) (null_of v)
+
+-- ---- containers
 
 -- a value that no kind of serde's data model is: none of Double, String, EmbeddedDocument, Array, Boolean, Null, Int32 and Int64, and no
 -- binary of subtype 0
@@ -174,21 +234,34 @@ fill one ended slots = Ok slots
 fill one (faulty e) slots = refused (raw e)
 fill one (then_walk e w) slots = one e slots >>= fill one w
 
+-- the value that was read for a field; where none was read, what stands for a missing one, if anything does
+abbrev pub value_or : Utf8 → Option Value → Option Value → Reading Value
+value_or name missing (Some v) = Ok v
+value_or name (Some v) None = Ok v
+value_or name None None = refused (missing_field name)
+
 -- all fields with their values in the shape's order, or the first that has none
 abbrev pub finish : Fields → Slots → Reading FieldValues
 finish no_fields slots = Ok no_field_values
 finish (field name s fs) [] = refused (missing_field name)
-finish (field name s fs) (None ∷ slots) = refused (missing_field name)
-finish (field name s fs) (Some v ∷ slots) = result_map (field_value name v) (finish fs slots)
+finish (field name s fs) (o ∷ slots) = value_or name (absent s) o >>= λ v. result_map (field_value name v) (finish fs slots)
 
 -- the fields of a struct from the elements of a document, with so many levels left for what stands inside
 abbrev pub reads_fields : Fields → ℕ → ReadField → Walk → Reading FieldValues
 reads_fields fs levels read w = fill (fill_one fs levels read) w (no_slots fs) >>= finish fs
 
+-- null at an option, and a value of its form elsewhere; an option looks at the kind alone
+abbrev pub reads_option : ElementType → Reading Value → Reading Value
+reads_option Null r = Ok value.none
+reads_option k r = result_map value.some r
+
 abbrev mutual
   -- the value of this kind in these bytes at a shape, with so many levels of documents left
   pub reads : Form → ℕ → ElementType → Bytes → Reading Value
-  reads (leaf l) levels k bytes = judged levels (value_in k bytes) >>= read_leaf (leaf_kind l)
+  reads (leaf l) levels k bytes = judged levels (value_in k bytes) >>= read_leaf levels (leaf_kind l)
+  reads (optional s) levels k bytes = reads_option k (reads s levels k bytes)
+  reads (newtype name s) levels k bytes = result_map (value.newtype name) (reads s levels k bytes)
+  reads (unit_structure name) levels k bytes = judged levels (value_in k bytes) >>= null_of >>= λ _. Ok (value.unit_structure name)
   reads (sequence s) levels k bytes = judged levels (value_in k bytes) >>= array_of >>= λ b. result_map value.sequence (reads_items (reads s (levels - 1)) 0 (walk b))
   reads (structure name fs) levels k bytes =
       judged levels (value_in k bytes) >>= document_of >>= λ b. result_map (value.structure name) (reads_fields fs (levels - 1) (λ i. reads_field fs i (levels - 1)) (walk b))

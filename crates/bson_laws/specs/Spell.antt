@@ -1,15 +1,17 @@
 -- The tree that a value is written as, or why it is not written, and how large it is.
-use Rattle.std.specs.Prelude.{ℕ, ℤ, int_lt, zero, suc, ◌+◌, length, Option, Some, None, if◌then◌else◌, Result, Ok, Err}
+use Rattle.std.specs.Prelude.{encode_utf8, ◌≡◌, ◌<◌, ℕ, ℤ, int_lt, nat_lt, zero, suc, ◌+◌, length, codes, Option, Some, None, if◌then◌else◌, Result, Ok, Err}
 use Rattle.std.specs.Fmt.{decimal}
-use Rattle.bson_base.specs.Text.{Utf8, has_zero}
+use Rattle.std.specs.Str.{bytes_eq}
+use Rattle.bson_base.specs.Text.{Bytes, Utf8, has_zero}
 use Rattle.bson_base.specs.Outcome.{◌>>=◌, result_map}
 use Rattle.bson_base.specs.Reserved.{reserved_kind}
-use Rattle.bson_base.specs.Sound.{max_levels}
-use Rattle.bson_base.specs.Tree.{Tree, string, int32, int64, document, array, Pairs, no_pairs, pair, Trees, no_trees, tree}
+use Rattle.bson_base.specs.Sound.{max_levels, max_binary}
+use Rattle.bson_base.specs.Tree as tree
+use Rattle.bson_base.specs.Tree.{Tree, string, document, array, binary, null, int32, int64, Pairs, no_pairs, pair, Trees, no_trees}
 use Rattle.bson_base.specs.declared.element_type.ElementType.{ElementType}
-use Rattle.bson_base.specs.declared.element_type.ElementType.TheVariants.{EmbeddedDocument, Int32}
-use Rattle.bson_datum.specs.Value.{i64, greatest, written_as, Value, integer, str, sequence, structure, Items, no_items, item, FieldValues, no_field_values, field_value, kind_of}
-use Rattle.bson_datum.specs.Cause.{too_deep, top_level, not_built}
+use Rattle.bson_base.specs.declared.element_type.ElementType.TheVariants.{EmbeddedDocument, Binary, Int32}
+use Rattle.bson_datum.specs.Value.{i64, greatest, written_as, Value, boolean, integer, double, character, str, bytes, none, some, unit, unit_structure, newtype, sequence, structure, Items, no_items, item, FieldValues, no_field_values, field_value, kind_of}
+use Rattle.bson_datum.specs.Cause.{too_deep, binary_too_long, top_level, not_built}
 use Rattle.bson_datum.specs.Refusal.{WriteFault, unwritable, invalid_cstring, unsigned_exceeds, Refusal, here, under, under_index}
 
 -- an answer of writing: something, or a refusal with its path
@@ -35,9 +37,34 @@ abbrev pub spell_number : ElementType → ℤ → Writing Tree
 spell_number Int32 n = Ok (int32 n)
 spell_number k n = if int_lt (greatest i64) n then Err (here (unsigned_exceeds n)) else Ok (int64 n)
 
+-- a binary of subtype 0, which has no more bytes than a binary may
+abbrev pub spell_bytes : Bytes → Writing Tree
+spell_bytes bs = if nat_lt (max_binary 0) (length bs) then Err (here (unwritable (binary_too_long (length bs)))) else Ok (binary 0 bs)
+
+-- the kind of the newtypes that are not written yet: those of a UUID and of the readable form
+abbrev pub unbuilt_newtype : Utf8 → Option ElementType
+unbuilt_newtype name =
+    if bytes_eq name (codes "$__bson_private_uuid") then Some Binary
+    else if bytes_eq name (codes "$__bson_private_human_readable") then Some EmbeddedDocument
+    else None
+
+-- the content of a newtype
+abbrev pub newtype_at : Option ElementType → Writing Tree → Writing Tree
+newtype_at None content = content
+newtype_at (Some k) content = Err (here (unwritable (not_built k)))
+
 abbrev mutual
   -- the tree of a value with so many levels left, or the first refusal in document order
   pub spell : Value → ℕ → Writing Tree
+  spell (boolean b) levels = Ok (tree.boolean b)
+  spell (double bits) levels = Ok (tree.double bits)
+  spell (character c) levels = Ok (string (encode_utf8 c))
+  spell (bytes bs) levels = spell_bytes bs
+  spell none levels = Ok null
+  spell (some v) levels = spell v levels
+  spell unit levels = Ok null
+  spell (unit_structure name) levels = Ok null
+  spell (newtype name v) levels = newtype_at (unbuilt_newtype name) (spell v levels)
   spell (integer type n) levels = spell_number (written_as type) n
   spell (str t) levels = Ok (string t)
   spell (sequence vs) levels = enclosed_at array levels (spell_items 0 vs)
@@ -46,7 +73,7 @@ abbrev mutual
   -- the values of a sequence from this index on
   pub spell_items : ℕ → Items → ℕ → Writing Trees
   spell_items i no_items levels = Ok no_trees
-  spell_items i (item v vs) levels = under_index i (spell v levels) >>= λ t. spell_items (suc i) vs levels >>= λ ts. Ok (tree t ts)
+  spell_items i (item v vs) levels = under_index i (spell v levels) >>= λ t. spell_items (suc i) vs levels >>= λ ts. Ok (tree.tree t ts)
 
   pub spell_fields : FieldValues → ℕ → Writing Pairs
   spell_fields no_field_values levels = Ok no_pairs
@@ -69,6 +96,15 @@ number_size k = 8
 abbrev mutual
   -- how many bytes a value takes; a struct of a reserved name, which is not written yet, counts as any other
   pub size : Value → ℕ
+  size (boolean b) = 1
+  size (double bits) = length bits
+  size (character c) = length (encode_utf8 c) + 5
+  size (bytes bs) = length bs + 5
+  size none = 0
+  size (some v) = size v
+  size unit = 0
+  size (unit_structure name) = 0
+  size (newtype name v) = size v
   size (integer type n) = number_size (written_as type)
   size (str t) = length t + 5
   size (sequence vs) = size_items 0 vs + 5
@@ -82,3 +118,8 @@ abbrev mutual
   pub size_fields : FieldValues → ℕ
   size_fields no_field_values = 0
   size_fields (field_value name v fs) = length name + 2 + size v + size_fields fs
+
+-- It is written, or refused for nothing but a binary that has more bytes than a binary may.
+abbrev pub IsWrittenUnlessLong : {A : Type 0} → Writing A → Type 0
+IsWrittenUnlessLong (Ok x) = Unit {0}
+IsWrittenUnlessLong (Err r) = (n : ℕ) × (r.fault ≡ unwritable (binary_too_long n)) × (max_binary 0 < n)

@@ -12,8 +12,9 @@ ghost use Rattle.bson_laws.specs.Views.{views};
 ghost use Rattle.bson_laws.specs.Means.{means, norm};
 ghost use Rattle.bson_laws.specs.Fits.{Fits};
 ghost use Rattle.bson_laws.specs.Plain.{IsPlain};
+ghost use Rattle.bson_laws.specs.Names.{HasCStringNames};
 ghost use Rattle.bson_laws.specs.Reads.{reads_document};
-ghost use Rattle.bson_laws.specs.Spell.{spell_document, size};
+ghost use Rattle.bson_laws.specs.Spell.{IsWrittenUnlessLong, spell_document, size};
 
 /// What a sound document is at a plain shape is read from its bytes; it fits the shape, and is its own normal form.
 ///
@@ -50,10 +51,11 @@ pub fn law_read_back()
         → reads_document s (enc t) ≡ Ok (norm d) }
 {}
 
-/// What is read at a shape is written, unless it is too long: no other refusal of the writer is due for it.
+/// What is read at a shape is written, unless it or a binary in it is too long: no other refusal of the writer is due for it.
 ///
-/// It does nothing.
+/// No name of a field may hold a zero character: an option's field that no pair has is read as none, and is written under its
+/// name. The call does nothing.
 pub fn law_reads_spell()
-    ensures spells { (s : Form) (bytes : Bytes) (d : Value) → IsShape s → reads_document s bytes ≡ Ok d
-        → (t : Tree) × (spell_document d ≡ Ok t) }
+    ensures spells { (s : Form) (bytes : Bytes) (d : Value) → IsShape s → HasCStringNames s → reads_document s bytes ≡ Ok d
+        → IsWrittenUnlessLong (spell_document d) }
 {}

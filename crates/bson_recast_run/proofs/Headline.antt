@@ -6,12 +6,12 @@ use Rattle.std.proofs.lemmas.Bool.{eqb-true}
 use Rattle.bson_base.specs.Sound.{IsSound}
 use Rattle.bson_base.specs.Text.{Bytes, Utf8}
 use Rattle.bson_base.specs.Tree.{Tree, enc}
-use Rattle.bson_shape.specs.Form.{Form, leaf, sequence, structure}
+use Rattle.bson_shape.specs.Form.{Form, leaf, optional, newtype, unit_structure, sequence, structure}
 use Rattle.bson_shape.specs.Machine.{parsed}
 use Rattle.bson_shape.specs.Makers.{IsShape}
 use Rattle.bson_shape.proofs.Texts.{parsed-shape}
 use Rattle.bson_shape.specs.Notation.{text, bare, quoted}
-use Rattle.bson_shape.specs.declared.leaf.Leaf.TheVariants.{I8, I16, I32, I64, U8, U16, U32, U64, String}
+use Rattle.bson_shape.specs.declared.leaf.Leaf.TheVariants as leaves
 use Rattle.bson_datum.specs.Value.{Value}
 use Rattle.bson_laws.specs.Means.{means}
 use Rattle.bson_laws.specs.Views.{views}
@@ -47,15 +47,25 @@ begins_no_option true (c ∷ name) rest e = not_both (nat_eq 45 c) _ (bare_no_da
 
 -- no notation begins as an option does
 pub no_option : (s : Form) → is_option (text s) ≡ false
-no_option (leaf I8) = refl
-no_option (leaf I16) = refl
-no_option (leaf I32) = refl
-no_option (leaf I64) = refl
-no_option (leaf U8) = refl
-no_option (leaf U16) = refl
-no_option (leaf U32) = refl
-no_option (leaf U64) = refl
-no_option (leaf String) = refl
+no_option (leaf leaves.I8) = refl
+no_option (leaf leaves.I16) = refl
+no_option (leaf leaves.I32) = refl
+no_option (leaf leaves.I64) = refl
+no_option (leaf leaves.U8) = refl
+no_option (leaf leaves.U16) = refl
+no_option (leaf leaves.U32) = refl
+no_option (leaf leaves.U64) = refl
+no_option (leaf leaves.Bool) = refl
+no_option (leaf leaves.Double) = refl
+no_option (leaf leaves.Char) = refl
+no_option (leaf leaves.Str) = refl
+no_option (leaf leaves.String) = refl
+no_option (leaf leaves.Bytes) = refl
+no_option (leaf leaves.ByteBuf) = refl
+no_option (leaf leaves.Unit) = refl
+no_option (optional s) = refl
+no_option (newtype name s) = begins_no_option (bare name) name _ refl
+no_option (unit_structure name) = begins_no_option (bare name) name _ refl
 no_option (sequence s) = refl
 no_option (structure [] fs) = refl
 no_option (structure (c ∷ name) fs) = begins_no_option (bare (c ∷ name)) (c ∷ name) _ refl

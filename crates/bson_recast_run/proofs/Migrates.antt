@@ -9,11 +9,12 @@ use Rattle.bson_base.specs.Tree.{Tree, enc}
 use Rattle.bson_shape.specs.Form.{Form}
 use Rattle.bson_shape.specs.Makers.{IsShape}
 use Rattle.bson_datum.specs.Value.{Value}
-use Rattle.bson_datum.specs.Refusal.{ReadFault, WriteFault, Failure}
+use Rattle.bson_datum.specs.Refusal.{ReadFault, WriteFault, Failure, bare, placed}
 use Rattle.bson_datum.specs.ErrorView.{read_failure, write_failure}
+use Rattle.bson_laws.specs.Names.{HasCStringNames}
 use Rattle.bson_laws.specs.Means.{means}
 use Rattle.bson_laws.specs.Reads.{reads_document}
-use Rattle.bson_laws.specs.Spell.{Writing, spell_document, size}
+use Rattle.bson_laws.specs.Spell.{Writing, IsWrittenUnlessLong, spell_document, size}
 use Rattle.bson_laws.specs.Views.{views}
 use Rattle.bson_laws.proofs.ReadBack.{views_reads}
 use Rattle.bson_laws.proofs.Rewritten.{document_written}
@@ -21,7 +22,7 @@ use Rattle.bson_laws.proofs.Spelled.{spell_means}
 use Rattle.bson_ser_stream.specs.Writing.{IsDue, too_long_failure}
 use Rattle.bson_recast_run.specs.declared.recasting.RecastError.{RecastError}
 use Rattle.bson_recast_run.specs.declared.recasting.RecastError.TheVariants.{Read, Write, NoMemory}
-use Rattle.bson_recast_run.specs.Recasting.{Recasts, ReadRefuses, WriteRefuses, IsRecast, GivesBytes, IsForSize}
+use Rattle.bson_recast_run.specs.Recasting.{Recasts, ReadRefuses, WriteRefuses, IsRecast, GivesBytes, IsTooLarge, IsForSize}
 
 abbrev read : Value → Result Value (Failure ReadFault)
 read d = Ok d
@@ -72,16 +73,19 @@ module _ (s : Form) (bytes : Bytes) (shape : IsShape s) where
   value_is : (d e : Value) → reads_document s bytes ≡ Ok d → reads_document s bytes ≡ Ok e → d ≡ e
   value_is d e p q = let both : read d ≡ read e = sym p ∙ q in cc
 
-  size_alone : (f : Failure WriteFault) (h : WriteRefuses s bytes f) → (f ≡ too_long_failure) × (max_bytes < size h.value)
-  size_alone f h = by_cause h.refused where
-    by_cause : IsDue (spell_document h.value) f ⊎ ((f ≡ too_long_failure) × (max_bytes < size h.value)) → (f ≡ too_long_failure) × (max_bytes < size h.value)
-    by_cause (inl due) = let w = document_written s bytes h.value shape h.read in absurd (never_due f w.0 (spell_document h.value) w.1 due)
-    by_cause (inr long) = long
+  -- of what is read only a binary that is too long is refused
+  due_for_size : (w : Writing Tree) (f : Failure WriteFault) → IsWrittenUnlessLong w → IsDue w f → IsTooLarge s bytes f
+  due_for_size (Ok t) f u due = absurd due
+  due_for_size (Err r) f u due = inr (r.path, u.0, due ∙ ap (λ (x : WriteFault). placed r.path (bare x)) u.1, u.2)
 
-  pub for_size : (r : Result (Vec ℕ) RecastError) → IsRecast s bytes r → IsForSize s bytes r
-  for_size (Ok v) h = tt
-  for_size (Err (Read e)) h = tt
-  for_size (Err (Write e)) h =
-      let a = size_alone (write_failure e) h in
-      (a.0, λ d is. subst (λ x. max_bytes < size x) (value_is h.value d h.read is) a.1)
-  for_size (Err NoMemory) h = tt
+  too_large : HasCStringNames s → (f : Failure WriteFault) (h : WriteRefuses s bytes f) → IsTooLarge s bytes f
+  too_large names f h = by_cause h.refused where
+    by_cause : IsDue (spell_document h.value) f ⊎ ((f ≡ too_long_failure) × (max_bytes < size h.value)) → IsTooLarge s bytes f
+    by_cause (inl due) = due_for_size (spell_document h.value) f (document_written s bytes h.value shape names h.read) due
+    by_cause (inr long) = inl (long.0, λ d is. subst (λ x. max_bytes < size x) (value_is h.value d h.read is) long.1)
+
+  pub for_size : HasCStringNames s → (r : Result (Vec ℕ) RecastError) → IsRecast s bytes r → IsForSize s bytes r
+  for_size names (Ok v) h = tt
+  for_size names (Err (Read e)) h = tt
+  for_size names (Err (Write e)) h = too_large names (write_failure e) h
+  for_size names (Err NoMemory) h = tt

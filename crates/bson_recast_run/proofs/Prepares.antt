@@ -40,3 +40,10 @@ pub due_answer : (words : List Utf8) (input : SourceChange) (s : Form) (bytes sa
     → IfOk r (λ a. Answers s same a.status a.bytes.items (string_bytes a.line)) → IfOk r (λ a. IsDue words input a.status a.bytes.items (string_bytes a.line))
 due_answer words input s bytes same (Ok a) asked read is h = due_read words input s bytes a.status a.bytes.items (string_bytes a.line) asked read (subst (λ b. Answers s b a.status a.bytes.items (string_bytes a.line)) is h)
 due_answer words input s bytes same (Err e) asked read is h = tt
+
+-- the row of the answer to an input that was not
+pub due_failure : (words : List Utf8) (input : SourceChange) (s : Form) (e : ReadFault) (r : Result Answer AllocError) → AsksFor words s
+    → ((e ≡ faults.TooLong → ⊥) → TakesAtMost max_bytes input.before input.after) → (e ≡ faults.Failed → Rose input.faults_before input.faults_after) → (e ≡ faults.TooLong → TakesMore max_bytes input.before input.after)
+    → IfOk r (λ a. Reports e a.status a.bytes.items (string_bytes a.line)) → IfOk r (λ a. IsDue words input a.status a.bytes.items (string_bytes a.line))
+due_failure words input s e (Ok a) asked within failed long h = due_fault words input s e a.status a.bytes.items (string_bytes a.line) asked within failed long h
+due_failure words input s e (Err x) asked within failed long h = tt

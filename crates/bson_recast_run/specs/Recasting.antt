@@ -3,11 +3,12 @@ use Rattle.std.specs.Prelude.{◌≡◌, ◌≢◌, ◌⊎◌, ℕ, ◌<◌, ◌
 use Rattle.std.specs.Global.{Vec}
 use Rattle.bson_base.specs.Text.{Bytes}
 use Rattle.bson_base.specs.Outcome.{result_map}
-use Rattle.bson_base.specs.Sound.{max_bytes}
+use Rattle.bson_base.specs.Sound.{max_bytes, max_binary}
 use Rattle.bson_base.specs.Tree.{enc}
 use Rattle.bson_shape.specs.Form.{Form}
 use Rattle.bson_datum.specs.Value.{Value}
-use Rattle.bson_datum.specs.Refusal.{ReadFault, WriteFault, Failure, no_memory}
+use Rattle.bson_datum.specs.Cause.{binary_too_long}
+use Rattle.bson_datum.specs.Refusal.{Path, ReadFault, WriteFault, unwritable, Failure, no_memory, bare, placed}
 use Rattle.bson_datum.specs.declared.de.Error as de
 use Rattle.bson_datum.specs.declared.ser.Error as ser
 use Rattle.bson_datum.specs.ErrorView.{read_failure, write_failure}
@@ -48,11 +49,17 @@ GivesBytes bytes (Err (Read e)) = ⊥
 GivesBytes bytes (Err (Write e)) = ⊥
 GivesBytes bytes (Err NoMemory) = Unit {0}
 
--- a refusal to write is that of a value that takes more bytes than a document may
+-- a value is too large: it takes more bytes than a document may, or a binary in it has more than a binary may
+abbrev pub IsTooLarge : Form → Bytes → Failure WriteFault → Type 0
+IsTooLarge s bytes f =
+    ((f ≡ too_long_failure) × ((d : Value) → reads_document s bytes ≡ Ok d → max_bytes < size d))
+    ⊎ ((path : Path) × (n : ℕ) × (f ≡ placed path (bare (unwritable (binary_too_long n)))) × (max_binary 0 < n))
+
+-- a refusal to write is that of a value that is too large
 abbrev pub IsForSize : Form → Bytes → Result (Vec ℕ) RecastError → Type 0
 IsForSize s bytes (Ok v) = Unit {0}
 IsForSize s bytes (Err (Read e)) = Unit {0}
-IsForSize s bytes (Err (Write e)) = (write_failure e ≡ too_long_failure) × ((d : Value) → reads_document s bytes ≡ Ok d → max_bytes < size d)
+IsForSize s bytes (Err (Write e)) = IsTooLarge s bytes (write_failure e)
 IsForSize s bytes (Err NoMemory) = Unit {0}
 
 -- an error of reading, unless it is want of memory

@@ -3,6 +3,7 @@ ghost use Rattle.bson_base.specs.Sound.{IsSound};
 ghost use Rattle.bson_base.specs.Tree.{Tree, enc};
 ghost use Rattle.bson_datum.specs.Value.{Value};
 ghost use Rattle.bson_laws.specs.Views.{views};
+ghost use Rattle.bson_laws.specs.Names.{HasCStringNames};
 ghost use Rattle.bson_laws.specs.Means.{means};
 ghost use Rattle.bson_laws.specs.Plain.{IsPlain};
 ghost use Rattle.bson_recast_run.specs.Recasting.{IsRecast, GivesBytes, IsForSize, IsReadError, IsWriteError};
@@ -29,15 +30,16 @@ pub enum RecastError {
 ///
 /// `Read` exactly where `from_slice_at` refuses the bytes at the shape, `Write` exactly where it reads a value that
 /// `to_vec_at` refuses, each with that call's error; `NoMemory` where memory ran out. What was read is refused by the writer
-/// for its size alone: a number may take more bytes when it is written than it took before.
+/// for its size alone, unless a field of the shape has a zero character in its name and is missing at an option: a number may take more bytes when it is written than it took before, and a text that is read as a byte
+/// string is written as a binary, which may have no more than 16777216 bytes.
 pub fn recast(alloc: Global, shape: &Shape, bytes: &[u8]) -> Result<Vec<u8>, RecastError>
     // What is read at the shape is written.
     ensures exact { IsRecast shape.now bytes.now result }
     // A sound document, whose value at a plain shape means a sound document, becomes that document.
     ensures migrates { (t u : Tree) (d : Value) → IsPlain shape.now → IsSound t → views shape.now t ≡ Some d → means d ≡ Some u → IsSound u
         → bytes.now ≡ enc t → GivesBytes (enc u) result }
-    // What was read is refused by the writer for its size alone.
-    ensures too_long { IsForSize shape.now bytes.now result }
+    // What was read at a shape whose names may be keys is refused by the writer for its size alone.
+    ensures too_long { HasCStringNames shape.now → IsForSize shape.now bytes.now result }
 {
     shape.known();
     through(alloc, shape, bytes)

@@ -2,6 +2,7 @@ pub mod Growth
 pub mod Written
 pub mod Ended
 pub mod Texts
+pub mod Binaries
 pub mod Elements
 pub mod Halted
 pub mod Containers

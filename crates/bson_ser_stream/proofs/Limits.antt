@@ -1,17 +1,17 @@
 -- What is refused on its way is never refused for its length: that is judged of whole documents alone.
-use Rattle.std.proofs.Common.{◌≡◌, ℕ, ℤ, zero, suc, ◌<◌, Bool, true, false, cond, ◌⊎◌, inl, inr, Option, Some, None, Ok, Err, ap, sym, subst, refl, ◌∙◌}
-use Rattle.std.specs.Prelude.{int_lt}
+use Rattle.std.proofs.Common.{◌≡◌, ℕ, ℤ, zero, suc, ◌<◌, length, Bool, true, false, cond, ◌⊎◌, inl, inr, Option, Some, None, Ok, Err, ap, sym, subst, refl, ◌∙◌}
+use Rattle.std.specs.Prelude.{int_lt, nat_lt}
 use Rattle.bson_base.specs.Text.{Bytes, Utf8, has_zero}
 use Rattle.bson_base.specs.Outcome.{◌>>=◌, result_map}
 use Rattle.bson_base.specs.Reserved.{reserved_kind}
-use Rattle.bson_base.specs.Sound.{max_bytes, max_levels}
-use Rattle.bson_base.specs.Tree.{Tree, int64, document, array, Pairs, pair, tree}
+use Rattle.bson_base.specs.Sound.{max_bytes, max_levels, max_binary}
+use Rattle.bson_base.specs.Tree.{Tree, int64, document, array, binary, Pairs, pair, tree}
 use Rattle.bson_base.specs.declared.element_type.ElementType.{ElementType}
 use Rattle.bson_base.specs.declared.element_type.ElementType.TheVariants.{EmbeddedDocument, Int32}
-use Rattle.bson_datum.specs.Cause.{Cause, too_long}
+use Rattle.bson_datum.specs.Cause.{Cause, binary_too_long, too_long}
 use Rattle.bson_datum.specs.Refusal.{WriteFault, unwritable, invalid_cstring, unsigned_exceeds, Refusal, Segment, at_key, at_index, here, inside, under_index, under, Failure, no_memory, bare, placed, with_path}
-use Rattle.bson_datum.specs.Value.{i64, greatest, written_as, Value, integer, str, sequence, structure, Items, no_items, item, FieldValues, no_field_values, field_value, kind_of}
-use Rattle.bson_laws.specs.Spell.{Writing, spell_number, enclosed_at, struct_at, named, spell, spell_items, spell_fields, at_top, spell_document, size}
+use Rattle.bson_datum.specs.Value.{i64, greatest, written_as, Value, boolean, integer, double, character, str, bytes, none, some, unit, unit_structure, newtype, sequence, structure, Items, no_items, item, FieldValues, no_field_values, field_value, kind_of}
+use Rattle.bson_laws.specs.Spell.{Writing, spell_number, unbuilt_newtype, newtype_at, enclosed_at, struct_at, named, spell, spell_items, spell_fields, at_top, spell_document, size}
 use Rattle.bson_datum.specs.Stop.{IsPlaced}
 use Rattle.bson_datum.specs.declared.stop.Stop.TheVariants.{Refused, NoMemory}
 use Rattle.bson_ser_stream.specs.Writing.{with_tree, IsDue, Fails, too_long_failure}
@@ -66,9 +66,26 @@ number_else : (k : ElementType) (n : ℤ) → Else (spell_number k n)
 number_else Int32 n = tt
 number_else k n = wide_else (int_lt (greatest i64) n) n
 
+allowed_else : (b : Bool) (n : ℕ) (t : Tree) → Else (cond b (Err (here (unwritable (binary_too_long n)))) (Ok t))
+allowed_else true n t = λ e. e
+allowed_else false n t = tt
+
+newtype_else : (o : Option ElementType) (r : Writing Tree) → Else r → Else (newtype_at o r)
+newtype_else (Some k) r h = λ e. e
+newtype_else None r h = h
+
 mutual
   spell_else : (v : Value) (levels : ℕ) → Else (spell v levels)
   spell_else (integer type n) levels = number_else (written_as type) n
+  spell_else (boolean b) levels = tt
+  spell_else (double bits) levels = tt
+  spell_else (character c) levels = tt
+  spell_else (bytes bs) levels = allowed_else (nat_lt (max_binary 0) (length bs)) (length bs) (binary 0 bs)
+  spell_else none levels = tt
+  spell_else (some v) levels = spell_else v levels
+  spell_else unit levels = tt
+  spell_else (unit_structure name) levels = tt
+  spell_else (newtype name v) levels = newtype_else (unbuilt_newtype name) (spell v levels) (spell_else v levels)
   spell_else (str t) levels = tt
   spell_else (sequence vs) levels = enclosed_else array levels (spell_items 0 vs) (λ n. items_else 0 vs n)
   spell_else (structure name fs) levels = struct_else (reserved_kind name) levels (spell_fields fs) (λ n. fields_else fs n)
@@ -89,10 +106,10 @@ due_else : (r : Writing Tree) (f : Failure WriteFault) → Else r → IsDue r f 
 due_else (Ok t) f h due is = due
 due_else (Err r) f h due is = let same : r.fault ≡ unwritable too_long = cc in h (subst IsLengthFault (sym same) tt)
 
-any_of : (f : Failure WriteFault) (r : Writing Tree) (bytes : ℕ) → Else r → Fails bytes r f → f ≡ too_long_failure → max_bytes < bytes
-any_of f r bytes h (inl none) is = absurd cc
-any_of f r bytes h (inr (inl due)) is = absurd (due_else r f h due is)
-any_of f r bytes h (inr (inr long)) is = long.1
+any_of : (f : Failure WriteFault) (r : Writing Tree) (total : ℕ) → Else r → Fails total r f → f ≡ too_long_failure → max_bytes < total
+any_of f r total h (inl want) is = absurd cc
+any_of f r total h (inr (inl due)) is = absurd (due_else r f h due is)
+any_of f r total h (inr (inr long)) is = long.1
 
 -- what fails with `TooLong` has more bytes than a document may
 pub only_too_long : (v : Value) (f : Failure WriteFault) → Fails (size v) (spell_document v) f → f ≡ too_long_failure → max_bytes < size v
@@ -108,7 +125,7 @@ placed_is g (bare x) h = inr h
 placed_is g (placed path x) h = inr h
 
 -- what a caller sees of a halt
-pub fails : (h : Halt) (f : Failure WriteFault) (bytes spare : ℕ) (old : Bytes) (r : Writing Tree) → Halts bytes spare (with_tree old r) h → IsPlaced (halt_view h) f → Fails bytes r f
-fails (Stopped NoMemory) f bytes spare old r halts is = inl is
-fails (Stopped (Refused x)) f bytes spare old r halts is = elim (placed_is _ f is) [ inl none ↦ inl none | inr due ↦ inr (inl (due_is r old _ f halts due)) ]
-fails TooLong f bytes spare old r halts is = elim (placed_is _ f is) [ inl none ↦ inl none | inr long ↦ inr (inr (long, halts)) ]
+pub fails : (h : Halt) (f : Failure WriteFault) (total spare : ℕ) (old : Bytes) (r : Writing Tree) → Halts total spare (with_tree old r) h → IsPlaced (halt_view h) f → Fails total r f
+fails (Stopped NoMemory) f total spare old r halts is = inl is
+fails (Stopped (Refused x)) f total spare old r halts is = elim (placed_is _ f is) [ inl want ↦ inl want | inr due ↦ inr (inl (due_is r old _ f halts due)) ]
+fails TooLong f total spare old r halts is = elim (placed_is _ f is) [ inl want ↦ inl want | inr long ↦ inr (inr (long, halts)) ]

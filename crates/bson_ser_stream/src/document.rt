@@ -44,9 +44,10 @@ fn put_whole<L: Ledger>(
 /// Appends the bytes of a document to an output buffer, in one pass over the datum.
 ///
 /// A struct is a document of its fields, in order. A sequence is an array of its values, in order, whose keys are their indexes
-/// from 0 in decimal digits. `I8`, `I16`, `I32`, `U8` and `U16` are an int32, `I64`, `U32` and `U64` an int64, and `Str` is a
-/// string (bsonspec.org, version 1.1). `steps` counts one for each byte that is appended, and one for each byte that is written
-/// over the place of a kind or a length.
+/// from 0 in decimal digits. `Bool` is a boolean, `I8`, `I16`, `I32`, `U8` and `U16` are an int32, `I64`, `U32` and `U64` an
+/// int64, `Double` is a double, `Str` and `Char` are a string, and `Bytes` is a binary of subtype 0 (bsonspec.org, version 1.1).
+/// `None`, `Unit` and `UnitStruct` are null. `Some` and `NewtypeStruct` are the value in them. `steps` counts one for each byte
+/// that is appended, and one for each byte that is written over the place of a kind or a length.
 ///
 /// # Errors
 ///
@@ -54,7 +55,9 @@ fn put_whole<L: Ledger>(
 ///
 /// - `SerializationError` with `TopLevel`: the datum is written as a value of this kind, which is no document.
 /// - `SerializationError` with `TooDeep`: a struct or a sequence stands at level 201. The whole document is at level 1.
-/// - `SerializationError` with `NotBuilt`: a struct has a reserved name.
+/// - `SerializationError` with `NotBuilt`: a struct has a reserved name, or a newtype the name `$__bson_private_uuid` (the kind
+///   is `Binary`) or `$__bson_private_human_readable` (`EmbeddedDocument`).
+/// - `SerializationError` with `BinaryTooLong`: a `Bytes` has so many bytes, and a binary has at most 16777216.
 /// - `UnsignedIntegerExceededRange`: a `U64` is greater than 9223372036854775807, the greatest that an int64 holds.
 /// - `InvalidCString`: a zero character stands in the name of a field. The path is that of its struct.
 /// - `SerializationError` with `TooLong`, with the empty path: the document would have more than 2147483647 bytes. Where it

@@ -5,6 +5,7 @@ mod container;
 mod document;
 mod element;
 mod halt;
+mod scalar;
 #[cfg(test)]
 mod tests;
 mod value;

@@ -1,6 +1,7 @@
 // What no clause says: that each call succeeds where there is memory, over documents written out by hand after bsonspec.org.
 use crate::{to_buf, to_vec_at, to_vec_counted};
-use bson_datum::{Datum, Field, Text};
+use bson_base::Double;
+use bson_datum::{ByteStr, Datum, Field, Text};
 use bson_io::{Out, Steps, Tally};
 use std::alloc::{AllocFailed, Global};
 use std::test::Fail;
@@ -96,6 +97,35 @@ fn each_integer_and_a_text_is_written(rt: HostRuntime) -> Result<(), Fail> {
         0xff, 0xff, 0xff, 0xff, 0xff, 0xff, 0xff, 0x12, 0x66, 0, 0xff, 0xff, 0xff, 0xff, 0, 0, 0,
         0, 0x12, 0x67, 0, 0xff, 0xff, 0xff, 0xff, 0xff, 0xff, 0xff, 0x7f, 0x02, 0x68, 0, 0x03, 0,
         0, 0, 0x68, 0x69, 0, 0,
+    ];
+    assert_eq!(rt; to_vec_at(alloc, &value)?.as_slice(), document.as_slice());
+    Ok(())
+}
+
+#[test]
+fn each_plain_value_is_written(rt: HostRuntime) -> Result<(), Fail> {
+    let alloc = rt.alloc();
+    let mut fields = Vec::new(alloc);
+    fields.push(field("a", Datum::Bool(true)))?;
+    fields.push(field("b", Datum::Double(Double([0, 0, 0, 0, 0, 0, 0xf8, 0x3f]))))?;
+    fields.push(field("c", Datum::Char('é')))?;
+    fields.push(field("d", Datum::Bytes(ByteStr::Borrowed(&[7, 8]))))?;
+    fields.push(field("e", Datum::None))?;
+    fields.push(field("f", Datum::Some(Box::new(alloc, Datum::Bool(false))?)))?;
+    fields.push(field("g", Datum::Unit))?;
+    let name = Text::Borrowed("U");
+    fields.push(field("h", Datum::UnitStruct { name }))?;
+    let name = Text::Borrowed("N");
+    let value = Box::new(alloc, Datum::I8(1))?;
+    fields.push(field("i", Datum::NewtypeStruct { name, value }))?;
+    let value = Datum::Struct {
+        name: Text::Borrowed("S"),
+        fields,
+    };
+    let document = [
+        0x3c, 0, 0, 0, 0x08, 0x61, 0, 0x01, 0x01, 0x62, 0, 0, 0, 0, 0, 0, 0, 0xf8, 0x3f, 0x02,
+        0x63, 0, 0x03, 0, 0, 0, 0xc3, 0xa9, 0, 0x05, 0x64, 0, 0x02, 0, 0, 0, 0, 0x07, 0x08, 0x0a,
+        0x65, 0, 0x08, 0x66, 0, 0, 0x0a, 0x67, 0, 0x0a, 0x68, 0, 0x10, 0x69, 0, 0x01, 0, 0, 0, 0,
     ];
     assert_eq!(rt; to_vec_at(alloc, &value)?.as_slice(), document.as_slice());
     Ok(())

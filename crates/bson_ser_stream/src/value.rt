@@ -1,91 +1,36 @@
 // One pass over a datum. What is known only behind a value is written over its place there: the kind of each element, and the
 // length of each document and array.
-ghost use Rattle.std.specs.Prelude.{◌≡◌, ◌≤◌, ◌+◌, length, pos, IsOk, OnOk, IfOk, Ok};
+ghost use Rattle.std.specs.Prelude.{◌≡◌, ◌≤◌, ◌+◌, length, OnOk, IfOk};
 ghost use Rattle.std.specs.Fmt.{decimal};
 ghost use Rattle.bson_base.specs.Sound.{max_bytes};
-ghost use Rattle.bson_base.specs.Tree.{string, int32, int64, document, array, closed_text};
+ghost use Rattle.bson_base.specs.Tree.{document, array};
 ghost use Rattle.bson_datum.specs.Refusal.{under_index};
 ghost use Rattle.bson_datum.specs.TextView.{text_view};
-ghost use Rattle.bson_datum.specs.Value.{kind_of};
+ghost use Rattle.bson_datum.specs.Value.{newtype_kind, kind_of};
 ghost use Rattle.bson_datum.specs.View.{view, items_view, fields_view};
-ghost use Rattle.bson_io.specs.Output.{Appended};
-ghost use Rattle.bson_laws.specs.Spell.{spell, spell_number, spell_items, spell_fields, named, enclosed_at, size, size_items, size_fields};
+ghost use Rattle.bson_laws.specs.Spell.{unbuilt_newtype, newtype_at, spell, spell_items, spell_fields, named, enclosed_at, size, size_items, size_fields};
 ghost use Rattle.bson_ser_stream.specs.Writing.{with_tree, with_element, with_elements, with_array_elements};
 ghost use Rattle.bson_ser_stream.specs.Halting.{Gives, Grows};
 
-use crate::container::{Container, MAX_BYTES};
+use crate::container::Container;
 use crate::element::{begin_element, has_zero, zero_in};
 use crate::halt::Halt;
+use crate::scalar::{
+    put_bool, put_bytes, put_char, put_double, put_i32, put_i64, put_text, put_u64,
+};
 use bson_base::{ElementType, reserved_kind};
-use bson_datum::ser::Fault;
-use bson_datum::{Cause, Datum, Field};
+use bson_datum::{Cause, Datum, Field, Text};
 use bson_io::{Ledger, Out, Steps};
-use std::alloc::AllocError;
 
-// A number in four bytes.
-#[tactic(auto, unfolding(bson_base::specs::Tree::le32))]
-fn put_i32<L: Ledger>(out: &mut Out, steps: &mut Steps<L>, n: i32) -> Result<ElementType, Halt>
-    ensures kind { IfOk result (λ k. k ≡ ElementType.Int32) }
-    ensures bytes { Gives 4 out.old.spare (λ _. out.new.bytes) result
-        (with_tree out.old.bytes (Ok (int32 n))) }
-    ensures grows { Grows out.old out.new steps.old steps.new }
+// The kind of a newtype that is not written yet: one of a reserved name.
+fn unbuilt_newtype(name: &str) -> Option<ElementType>
+    ensures kind { result ≡ unbuilt_newtype name.now }
 {
-    out.push_all(&n.to_le_bytes(), steps)?;
-    Ok(ElementType::Int32)
-}
-
-// A number in eight bytes.
-#[tactic(auto, unfolding(bson_base::specs::Tree::le64))]
-fn put_i64<L: Ledger>(out: &mut Out, steps: &mut Steps<L>, number: i64) -> Result<ElementType, Halt>
-    ensures kind { IfOk result (λ k. k ≡ ElementType.Int64) }
-    ensures bytes { Gives 8 out.old.spare (λ _. out.new.bytes) result
-        (with_tree out.old.bytes (Ok (int64 number))) }
-    ensures grows { Grows out.old out.new steps.old steps.new }
-{
-    out.push_all(&number.to_le_bytes(), steps)?;
-    Ok(ElementType::Int64)
-}
-
-// A number in eight bytes, where an Int64 holds it.
-fn put_u64<L: Ledger>(out: &mut Out, steps: &mut Steps<L>, number: u64) -> Result<ElementType, Halt>
-    ensures kind { IfOk result (λ k. k ≡ ElementType.Int64) }
-    ensures bytes { Gives 8 out.old.spare (λ _. out.new.bytes) result
-        (with_tree out.old.bytes (spell_number ElementType.Int64 (pos number))) }
-    ensures grows { Grows out.old out.new steps.old steps.new }
-{
-    match i64::try_from(number) {
-        Ok(signed) => put_i64(out, steps, signed),
-        Err(_) => Err(Halt::here(out.allocator(), Fault::UnsignedIntegerExceededRange(number))),
+    match name {
+        "$__bson_private_uuid" => Some(ElementType::Binary),
+        "$__bson_private_human_readable" => Some(ElementType::EmbeddedDocument),
+        _ => None,
     }
-}
-
-// Appends a text whose length an Int32 holds: the length with the zero, the text, the zero.
-fn push_text<L: Ledger>(out: &mut Out, steps: &mut Steps<L>, text: &str) -> Result<(), AllocError>
-    requires { length text.now + 5 ≤ max_bytes }
-    ensures ok { OnOk result (Appended out.old out.new (closed_text text.now) steps.old steps.new) }
-    ensures free { length text.now + 5 ≤ out.old.spare → IsOk result }
-    ensures grows { Grows out.old out.new steps.old steps.new }
-{
-    let len = text.len() + 1;
-    out.push_all(&(len as i32).to_le_bytes(), steps)?;
-    out.push_all(text.as_bytes(), steps)?;
-    out.push(0, steps)?;
-    Ok(())
-}
-
-// A text. One that has more bytes than a document may is refused before anything is written.
-fn put_text<L: Ledger>(out: &mut Out, steps: &mut Steps<L>, text: &str) -> Result<ElementType, Halt>
-    ensures kind { IfOk result (λ k. k ≡ ElementType.String) }
-    ensures bytes { Gives (length text.now + 5) out.old.spare (λ _. out.new.bytes) result
-        (with_tree out.old.bytes (Ok (string text.now))) }
-    ensures fits { OnOk result (length text.now + 5 ≤ max_bytes) }
-    ensures grows { Grows out.old out.new steps.old steps.new }
-{
-    if text.len() + 5 > MAX_BYTES {
-        return Err(Halt::TooLong);
-    }
-    push_text(out, steps, text)?;
-    Ok(ElementType::String)
 }
 
 /// Appends a value, with so many levels of documents and arrays left, and answers the kind that it wrote.
@@ -103,6 +48,7 @@ pub(crate) fn put_value<L: Ledger>(
     ensures grows { Grows out.old out.new steps.old steps.new }
 {
     match value {
+        Datum::Bool(b) => put_bool(out, steps, *b),
         Datum::I8(n) => put_i32(out, steps, i32::from(*n)),
         Datum::I16(n) => put_i32(out, steps, i32::from(*n)),
         Datum::I32(n) => put_i32(out, steps, *n),
@@ -111,12 +57,41 @@ pub(crate) fn put_value<L: Ledger>(
         Datum::U16(n) => put_i32(out, steps, i32::from(*n)),
         Datum::U32(n) => put_i64(out, steps, i64::from(*n)),
         Datum::U64(n) => put_u64(out, steps, *n),
+        Datum::Double(number) => put_double(out, steps, *number),
+        Datum::Char(c) => put_char(out, steps, *c),
         Datum::Str(text) => put_text(out, steps, text.as_str()),
+        Datum::Bytes(bytes) => put_bytes(out, steps, bytes.as_bytes()),
+        Datum::None | Datum::Unit | Datum::UnitStruct { .. } => Ok(ElementType::Null),
+        Datum::Some(content) => put_value(out, steps, content, levels),
+        Datum::NewtypeStruct { name, value } => put_newtype(out, steps, name, value, levels),
         Datum::Seq(items) => put_array(out, steps, items, levels),
         Datum::Struct { name, fields } => match reserved_kind(name.as_str()) {
             Some(kind) => Err(Halt::caused(out.allocator(), Cause::NotBuilt(kind))),
             None => put_document(out, steps, fields, levels),
         },
+    }
+}
+
+// The content of a newtype.
+#[cycle(put)]
+fn put_newtype<L: Ledger>(
+    out: &mut Out,
+    steps: &mut Steps<L>,
+    name: &Text<'_>,
+    content: &Datum<'_>,
+    levels: u32,
+) -> Result<ElementType, Halt>
+    ensures kind { let name = text_view name.now in
+        IfOk result (λ k. k ≡ newtype_kind name (kind_of (view content.now))) }
+    ensures bytes { let name = text_view name.now in let value = view content.now in
+        Gives (size value) out.old.spare (λ _. out.new.bytes) result
+        (with_tree out.old.bytes (newtype_at (unbuilt_newtype name) (spell value levels))) }
+    ensures fits { OnOk result (size (view content.now) ≤ max_bytes) }
+    ensures grows { Grows out.old out.new steps.old steps.new }
+{
+    match unbuilt_newtype(name.as_str()) {
+        Some(kind) => Err(Halt::caused(out.allocator(), Cause::NotBuilt(kind))),
+        None => put_value(out, steps, content, levels),
     }
 }
 

@@ -4,8 +4,8 @@ use lib.Utf8.{encode}
 use lib.Dec.{ltb}
 use Rattle.std.proofs.lemmas.Str.{encode_ascii, length-encode, len_utf8_bounds}
 use Rattle.bson_base.specs.Text.{Utf8}
-use Rattle.bson_shape.specs.Notation.{begins_bare, in_bare, is_escaped}
-use Rattle.bson_shape.specs.Machine.{Refusal, Not_notation, Level, In_field, In_sequence, Owner, Form_at, Field_of, Mode, Form_due, First_field, Field_due, Bare, Quoted, Escape, Named, Done, State, ◌>>=◌, form_ended, begins_name, begins_form, form_due, field_due, first_field, named, word_ended, leaf_ended, bare_name, quoted_name, escape, step, other_character, run}
+use Rattle.bson_shape.specs.Notation.{begins_bare, in_bare, names_form, is_escaped}
+use Rattle.bson_shape.specs.Machine.{Refusal, Not_notation, Open, Level, In_field, In_option, In_sequence, In_newtype, Owner, Form_at, Field_of, Mode, Form_due, First_field, Field_due, Bare, Quoted, Escape, Named, Done, State, ◌>>=◌, wrapped, enclosed, form_ended, begins_name, begins_form, form_due, field_due, first_field, named, word_ended, leaf_ended, bare_name, quoted_name, escape, step, no_more, no_more_behind, other_character, run}
 use Rattle.bson_shape.proofs.NameRuns.{run_step, run_refused}
 use Rattle.std.proofs.lemmas.Bool.Decides.{nat_tests}
 use Rattle.bson_shape.specs.Answers.{Gives}
@@ -49,26 +49,37 @@ not_form b h = grind (arith, nat_tests)
 pub not_escaped : (b : ℕ) → 128 ≤ b → is_escaped b ≡ false
 not_escaped b h = grind (arith, nat_tests)
 
+not_naming : (b : ℕ) → 128 ≤ b → names_form b ≡ false
+not_naming b h = grind (arith, nat_tests)
+
 -- behind a form or a name there is no such byte
-ended_refused : (at : ℕ) (f : Form) (st : List Level) (b : ℕ) → 128 ≤ b → form_ended at f st b ≡ Err (Not_notation at)
+enclosed_refused : (at : ℕ) (f : Form) (st : List Level) (b : ℕ) → 128 ≤ b → enclosed at f st b ≡ Err (Not_notation at)
+enclosed_refused at f [] b h = refl
+enclosed_refused at f (In_option place ∷ st) b h = refl
+enclosed_refused at f (In_sequence place ∷ st) b h = rw (not_byte b 93 h (omega arith)) refl
+enclosed_refused at f (In_newtype place n ∷ st) b h = refl
+enclosed_refused at f (In_field o n ∷ st) b h = rw (not_byte b 44 h (omega arith), not_byte b 125 h (omega arith)) refl
+
+ended_refused : (at : ℕ) (f : Form) (st : List Level) (b : ℕ) → 128 ≤ b → form_ended at f st b ≡ no_more at f st
 unfolding form_ended
-ended_refused at f [] b h = refl
-ended_refused at f (In_sequence place ∷ st) b h = rw (not_byte b 93 h (omega arith)) refl
-ended_refused at f (In_field o n ∷ st) b h = rw (not_byte b 44 h (omega arith), not_byte b 125 h (omega arith)) refl
+ended_refused at f st b h = ap (λ k. wrapped at f st >>= k) (λ i e. enclosed_refused at e.0 e.1 b h i)
 
 named_refused : (at : ℕ) (owner : Owner) (n : Utf8) (st : List Level) (b : ℕ) → 128 ≤ b → named at owner n st b ≡ Err (Not_notation at)
 unfolding named
-named_refused at (Form_at p) n st b h = rw (not_byte b 123 h (omega arith)) refl
+named_refused at (Form_at p) n st b h = rw (not_byte b 61 h (omega arith), not_byte b 33 h (omega arith), not_byte b 123 h (omega arith)) refl
 named_refused at (Field_of o) n st b h = rw (not_byte b 58 h (omega arith)) refl
 
-leaf_refused : (o : Option Leaf) (at : ℕ) (st : List Level) (b : ℕ) → 128 ≤ b → leaf_ended at o st b ≡ Err (Not_notation at)
+leaf_refused : (o : Option Leaf) (at : ℕ) (st : List Level) (b : ℕ) → 128 ≤ b → leaf_ended at o st b ≡ no_more_behind at o st
 leaf_refused None at st b h = refl
 leaf_refused (Some l) at st b h = ended_refused at (leaf l) st b h
 
-word_refused : (at : ℕ) (owner : Owner) (n : Utf8) (st : List Level) (b : ℕ) → 128 ≤ b → word_ended at owner n st b ≡ Err (Not_notation at)
+word_refused : (at place : ℕ) (n : Utf8) (st : List Level) (b : ℕ) → 128 ≤ b → word_ended at (Form_at place) n st b ≡ no_more_behind at (of_word n) st
 unfolding word_ended
-word_refused at (Form_at p) n st b h = rw (not_byte b 123 h (omega arith)) (leaf_refused (of_word n) at st b h)
-word_refused at (Field_of o) n st b h = named_refused at (Field_of o) n st b h
+word_refused at place n st b h = rw (not_naming b h) (leaf_refused (of_word n) at st b h)
+
+field_refused : (at : ℕ) (o : Open) (n : Utf8) (st : List Level) (b : ℕ) → 128 ≤ b → word_ended at (Field_of o) n st b ≡ Err (Not_notation at)
+unfolding word_ended
+field_refused at o n st b h = named_refused at (Field_of o) n st b h
 
 -- such a byte is read between quotes alone
 pub high_step : (at : ℕ) (m : Mode) (st : List Level) (b : ℕ) → 128 ≤ b → step at m st b ≡ other_character at m st (b ∷ [])
@@ -76,7 +87,8 @@ unfolding step form_due first_field field_due bare_name quoted_name escape other
 high_step at Form_due st b h = rw (not_form b h) refl
 high_step at (First_field o) st b h = rw (not_byte b 125 h (omega arith), not_quote b h) refl
 high_step at (Field_due o) st b h = rw (not_quote b h) refl
-high_step at (Bare owner n) st b h = rw (not_in_bare b h) (word_refused at owner n st b h)
+high_step at (Bare (Form_at p) n) st b h = rw (not_in_bare b h) (word_refused at p n st b h)
+high_step at (Bare (Field_of o) n) st b h = rw (not_in_bare b h) (field_refused at o n st b h)
 high_step at (Quoted owner n) st b h = rw (not_byte b 34 h (omega arith), not_byte b 92 h (omega arith)) refl
 high_step at (Escape owner n) st b h = rw (not_escaped b h) refl
 high_step at (Named owner n) st b h = named_refused at owner n st b h
@@ -97,16 +109,30 @@ quoted_high (b ∷ bs) at owner n st h =
 refused_high : (bs : Utf8) (b at : ℕ) (m : Mode) (st : List Level) → 128 ≤ b → other_character at m st (b ∷ []) ≡ Err (Not_notation at) → run at (m, st) (b ∷ bs) ≡ Err (Not_notation at)
 refused_high bs b at m st h e = run_refused at m st b bs (Not_notation at) (high_step at m st b h ∙ e)
 
+-- nothing is taken, whatever comes next
+none_taken : {A B C : Type 0} (r : Result A Refusal) (e : Refusal) (next : B → Result C Refusal) → ((r >>= λ x. Err e) >>= next) ≡ (r >>= λ x. Err e)
+none_taken (Ok x) e next = refl
+none_taken (Err d) e next = refl
+
+ended_high : (f : Form) (bs : Utf8) (b at : ℕ) (m : Mode) (st : List Level) → 128 ≤ b → other_character at m st (b ∷ []) ≡ no_more at f st → run at (m, st) (b ∷ bs) ≡ no_more at f st
+unfolding run
+ended_high f bs b at m st h e = ap (λ r. r >>= λ u. run (at + 1) u bs) (high_step at m st b h ∙ e) ∙ none_taken (wrapped at f st) (Not_notation at) (λ u. run (at + 1) u bs)
+
+word_high : (o : Option Leaf) (bs : Utf8) (b at : ℕ) (m : Mode) (st : List Level) → 128 ≤ b → other_character at m st (b ∷ []) ≡ no_more_behind at o st → run at (m, st) (b ∷ bs) ≡ no_more_behind at o st
+word_high None bs b at m st h e = refused_high bs b at m st h e
+word_high (Some l) bs b at m st h e = ended_high (leaf l) bs b at m st h e
+
 high_run : (bs : Utf8) (b at : ℕ) (m : Mode) (st : List Level) → AreHigh (b ∷ bs) → run at (m, st) (b ∷ bs) ≡ other_character at m st (b ∷ bs)
 unfolding other_character
 high_run bs b at (Quoted owner n) st h = quoted_high (b ∷ bs) at owner n st h
 high_run bs b at Form_due st h = refused_high bs b at Form_due st h.0 refl
 high_run bs b at (First_field o) st h = refused_high bs b at (First_field o) st h.0 refl
 high_run bs b at (Field_due o) st h = refused_high bs b at (Field_due o) st h.0 refl
-high_run bs b at (Bare owner n) st h = refused_high bs b at (Bare owner n) st h.0 refl
+high_run bs b at (Bare (Form_at p) n) st h = word_high (of_word n) bs b at (Bare (Form_at p) n) st h.0 refl
+high_run bs b at (Bare (Field_of o) n) st h = refused_high bs b at (Bare (Field_of o) n) st h.0 refl
 high_run bs b at (Escape owner n) st h = refused_high bs b at (Escape owner n) st h.0 refl
 high_run bs b at (Named owner n) st h = refused_high bs b at (Named owner n) st h.0 refl
-high_run bs b at (Done f) st h = refused_high bs b at (Done f) st h.0 refl
+high_run bs b at (Done f) st h = ended_high f bs b at (Done f) st h.0 refl
 
 all_high : (bs : Utf8) (at : ℕ) (m : Mode) (st : List Level) → 0 < length bs → AreHigh bs → run at (m, st) bs ≡ other_character at m st bs
 all_high [] at m st l h = absurd (omega arith)

@@ -1,18 +1,19 @@
 -- A first refusal comes at a form of which its cause holds.
-use Rattle.std.proofs.Common.{◌≡◌, ℕ, ◌+◌, ◌≤◌, ◌<◌, Bool, true, false, cond, List, [], ◌∷◌, ◌++◌, length, Option, Some, None, Ok, Err, refl, sym, ap, ◌∙◌, subst, arith, inl, inr}
-use Rattle.std.specs.Prelude.{◌⊎◌, nat_le, nat_lt, is_some, Contains}
+use Rattle.std.proofs.Common.{◌≡◌, ℕ, ◌+◌, ◌≤◌, Bool, true, false, cond, List, [], ◌∷◌, ◌++◌, length, Option, Some, None, Err, refl, sym, ap, ◌∙◌, subst, arith, inl, inr}
+use Rattle.std.specs.Prelude.{◌⊎◌, nat_le, is_some, Contains}
 use Rattle.std.proofs.lemmas.Bool.Decides.{nat_tests}
 use Rattle.std.proofs.lemmas.List.Elements.{Contains-append_left, Contains-append_right}
 use Rattle.bson_base.specs.Text.{Utf8}
 use Rattle.bson_base.specs.Reserved.{reserved_kind}
-use Rattle.bson_shape.specs.Form.{Form, leaf, sequence, structure, Fields, no_fields, field}
+use Rattle.bson_shape.specs.Form.{Form, leaf, optional, sequence, newtype, unit_structure, structure, Fields, no_fields, field}
 use Rattle.bson_shape.specs.Levels.{levels, deepest}
-use Rattle.bson_shape.specs.Makers.{made_sequence, made_structure, repeats}
+use Rattle.bson_shape.specs.Makers.{is_reserved_newtype, repeats, within_levels, made_optional, made_sequence, made_newtype, made_structure}
 use Rattle.bson_shape.specs.Notation.{text, name_text, struct_name_text, listed, field_texts}
 use Rattle.bson_shape.specs.FirstRefusal.{MakerRefusal, or_else, too_deep, refusal_of, first_refusal, fields_refusal}
 use Rattle.bson_shape.specs.InnerForms.{Inner, inner_forms, field_forms, HasCause, HasFault}
+use Rattle.bson_shape.specs.declared.error.ShapeError.{ShapeError}
 use Rattle.bson_shape.specs.declared.error.ShapeError.TheVariants.{ReservedName, RepeatedName, TooDeep}
-use Rattle.bson_shape.proofs.Made.{made_sequence-few}
+use Rattle.bson_shape.proofs.Made.{within_levels-few}
 
 -- the first, or the later one
 one_of : (a b : Option MakerRefusal) (r : MakerRefusal) → or_else a b ≡ Some r → (a ≡ Some r) ⊎ ((a ≡ None) × (b ≡ Some r))
@@ -26,25 +27,33 @@ neither (Some x) b e = absurd cc
 -- ---- depth
 
 none_deep : (t : Bool) (at around : ℕ) → nat_le 512 around ≡ t → too_deep at around ≡ None → around + 1 ≤ 512
-none_deep true at around is e = absurd (let g : too_deep at around ≡ Some (record { met = at; place = at; cause = TooDeep }) = rw is refl in cc)
+none_deep true at around is e = absurd (let g : too_deep at around ≡ Some (record { met = at + 1; place = at; cause = TooDeep }) = rw is refl in cc)
 none_deep false at around is e = lower around is
   where
     lower : (k : ℕ) → nat_le 512 k ≡ false → k + 1 ≤ 512
     lower k h = grind (arith, nat_tests)
 
+-- nothing is refused in the inner form
+item_none : (at around : ℕ) (item made : Option MakerRefusal) → or_else (too_deep at around) (or_else item made) ≡ None → item ≡ None
+item_none at around item made e = (neither item made (neither (too_deep at around) (or_else item made) e).1).0
+
 mutual
   -- a form in which nothing is refused is not too deep
   fits : (f : Form) (at around : ℕ) → first_refusal at around f ≡ None → around + levels f ≤ 512
   fits (leaf l) at around e = omega (arith, none_deep (nat_le 512 around) at around refl e)
+  fits (optional f) at around e =
+      let inner = at + 1 in
+      omega (arith, fits f inner (around + 1) (item_none at around (first_refusal inner (around + 1) f) (refusal_of (inner + length (text f)) at (made_optional f)) e))
   fits (sequence f) at around e =
       let inner = at + 1 in
-      let made = refusal_of (inner + length (text f)) at (made_sequence f) in
-      let first = neither (too_deep at around) (or_else (first_refusal inner (around + 1) f) made) e in
-      let item = neither (first_refusal inner (around + 1) f) made first.1 in
-      omega (arith, fits f inner (around + 1) item.0)
+      omega (arith, fits f inner (around + 1) (item_none at around (first_refusal inner (around + 1) f) (refusal_of (inner + length (text f) + 1) at (made_sequence f)) e))
+  fits (newtype n f) at around e =
+      let inner = at + length (name_text n) + 1 in
+      omega (arith, fits f inner (around + 1) (item_none at around (first_refusal inner (around + 1) f) (refusal_of (inner + length (text f)) at (made_newtype n f)) e))
+  fits (unit_structure n) at around e = omega (arith, none_deep (nat_le 512 around) at around refl e)
   fits (structure n fs) at around e =
       let inner = at + length (struct_name_text n) + 1 in
-      let made = refusal_of (inner + length (listed (field_texts fs))) at (made_structure n fs) in
+      let made = refusal_of (inner + length (listed (field_texts fs)) + 1) at (made_structure n fs) in
       let first = neither (too_deep at around) (or_else (fields_refusal inner (around + 1) fs) made) e in
       let fields = neither (fields_refusal inner (around + 1) fs) made first.1 in
       omega (arith, none_deep (nat_le 512 around) at around refl first.0, fields_fit fs inner (around + 1) (none_deep (nat_le 512 around) at around refl first.0) fields.0)
@@ -75,7 +84,7 @@ in_later xs ys r h = record { inner = h.inner; stands = Contains-append_right xs
 
 deep_fault : (t : Bool) (at around : ℕ) (f : Form) (rest : List Inner) (r : MakerRefusal) → nat_le 512 around ≡ t → around ≤ 512 → too_deep at around ≡ Some r → FaultIn (record { place = at; around = around; form = f } ∷ rest) r
 deep_fault true at around f rest r is few e =
-    let here : (let x : MakerRefusal = record { met = at; place = at; cause = TooDeep } in x) ≡ r = let g : too_deep at around ≡ Some (record { met = at; place = at; cause = TooDeep }) = rw is refl in cc in
+    let here : (let x : MakerRefusal = record { met = at + 1; place = at; cause = TooDeep } in x) ≡ r = let g : too_deep at around ≡ Some (record { met = at + 1; place = at; cause = TooDeep }) = rw is refl in cc in
     let all : around ≡ 512 = exactly around is few in
     subst (FaultIn (record { place = at; around = around; form = f } ∷ rest)) here (record { inner = record { place = at; around = around; form = f }; stands = first_of_all _ rest; here = refl; is = all })
   where
@@ -83,60 +92,78 @@ deep_fault true at around f rest r is few e =
     exactly k h l = let g : 512 ≤ k = grind (arith, nat_tests) in omega arith
 deep_fault false at around f rest r is few e = absurd (let g : too_deep at around ≡ None = rw is refl in cc)
 
--- the maker's refusal, where the struct is not too deep
-made_fault : (a b c : Bool) (n : Utf8) (fs : Fields) (met at around : ℕ) (rest : List Inner) (r : MakerRefusal)
-    → is_some (reserved_kind n) ≡ a → repeats fs ≡ b → c ≡ false
-    → refusal_of met at (cond a (Err ReservedName) (cond b (Err RepeatedName) (cond c (Err TooDeep) (Ok (structure n fs))))) ≡ Some r
-    → FaultIn (record { place = at; around = around; form = structure n fs } ∷ rest) r
-made_fault true b c n fs met at around rest r p q few e =
-    let here : (let x : MakerRefusal = record { met = met; place = at; cause = ReservedName } in x) ≡ r = cc in
-    subst (FaultIn (record { place = at; around = around; form = structure n fs } ∷ rest)) here (record { inner = record { place = at; around = around; form = structure n fs }; stands = first_of_all _ rest; here = refl; is = p })
-made_fault false true c n fs met at around rest r p q few e =
-    let here : (let x : MakerRefusal = record { met = met; place = at; cause = RepeatedName } in x) ≡ r = cc in
-    subst (FaultIn (record { place = at; around = around; form = structure n fs } ∷ rest)) here (record { inner = record { place = at; around = around; form = structure n fs }; stands = first_of_all _ rest; here = refl; is = q })
-made_fault false false true n fs met at around rest r p q few e = absurd cc
-made_fault false false false n fs met at around rest r p q few e = absurd cc
+-- the maker's refusal, where the form is not too deep
+here_fault : (i : Inner) (rest : List Inner) (met : ℕ) (cause : ShapeError) (r : MakerRefusal) → HasCause cause i → refusal_of met i.place (Err cause) ≡ Some r → FaultIn (i ∷ rest) r
+here_fault i rest met cause r holds e =
+    let here : (let x : MakerRefusal = record { met = met; place = i.place; cause = cause } in x) ≡ r = cc in
+    subst (FaultIn (i ∷ rest)) here (record { inner = i; stands = first_of_all i rest; here = refl; is = holds })
 
-not_deeper : (n : Utf8) (fs : Fields) → deepest fs < 512 → nat_lt 512 (levels (structure n fs)) ≡ false
-not_deeper n fs h = no_more (levels (structure n fs)) (omega arith)
-  where
-    no_more : (k : ℕ) → k ≤ 512 → nat_lt 512 k ≡ false
-    no_more k l = grind (arith, nat_tests)
+none_made : (f : Form) (met at : ℕ) (r : MakerRefusal) → levels f ≤ 512 → refusal_of met at (within_levels f) ≡ Some r → ⊥
+none_made f met at r few e = let none : refusal_of met at (within_levels f) ≡ None = ap (refusal_of met at) (within_levels-few f few) in let g : (let x : Option MakerRefusal = None in x) ≡ Some r = sym none ∙ e in cc
 
--- a sequence that is not too deep is made
-none_made : (f : Form) (met at : ℕ) (r : MakerRefusal) → levels (sequence f) ≤ 512 → refusal_of met at (made_sequence f) ≡ Some r → ⊥
-none_made f met at r few e = let none : refusal_of met at (made_sequence f) ≡ None = ap (refusal_of met at) (made_sequence-few f few) in let g : (let x : Option MakerRefusal = None in x) ≡ Some r = sym none ∙ e in cc
+newtype_fault : (a : Bool) (n : Utf8) (f : Form) (met at around : ℕ) (rest : List Inner) (r : MakerRefusal) → is_reserved_newtype n ≡ a → levels (newtype n f) ≤ 512
+    → refusal_of met at (cond a (Err ReservedName) (within_levels (newtype n f))) ≡ Some r → FaultIn (record { place = at; around = around; form = newtype n f } ∷ rest) r
+newtype_fault true n f met at around rest r p few e = here_fault (record { place = at; around = around; form = newtype n f }) rest met ReservedName r p e
+newtype_fault false n f met at around rest r p few e = absurd (none_made (newtype n f) met at r few e)
+
+struct_fault : (a b : Bool) (n : Utf8) (fs : Fields) (met at around : ℕ) (rest : List Inner) (r : MakerRefusal) → is_some (reserved_kind n) ≡ a → repeats fs ≡ b → levels (structure n fs) ≤ 512
+    → refusal_of met at (cond a (Err ReservedName) (cond b (Err RepeatedName) (within_levels (structure n fs)))) ≡ Some r → FaultIn (record { place = at; around = around; form = structure n fs } ∷ rest) r
+struct_fault true b n fs met at around rest r p q few e = here_fault (record { place = at; around = around; form = structure n fs }) rest met ReservedName r p e
+struct_fault false true n fs met at around rest r p q few e = here_fault (record { place = at; around = around; form = structure n fs }) rest met RepeatedName r q e
+struct_fault false false n fs met at around rest r p q few e = absurd (none_made (structure n fs) met at r few e)
 
 under : (i : Inner) (is : List Inner) (r : MakerRefusal) → FaultIn is r → FaultIn (i ∷ is) r
 under i is r h = in_later (i ∷ []) is r h
 
+-- a form too deep, a fault of what is in it, or one of its maker
+around_fault : (this : Form) (inner : List Inner) (item made : Option MakerRefusal) (at around : ℕ) (r : MakerRefusal) → around ≤ 512
+    → (around + 1 ≤ 512 → item ≡ Some r → FaultIn inner r)
+    → (around + 1 ≤ 512 → item ≡ None → made ≡ Some r → FaultIn (record { place = at; around = around; form = this } ∷ inner) r)
+    → or_else (too_deep at around) (or_else item made) ≡ Some r → FaultIn (record { place = at; around = around; form = this } ∷ inner) r
+around_fault this inner item made at around r few in_item in_maker e =
+    elim (one_of (too_deep at around) (or_else item made) r e) [
+      | inl h ↦ deep_fault (nat_le 512 around) at around this inner r refl few h
+      | inr h ↦ let less = none_deep (nat_le 512 around) at around refl h.0 in
+          elim (one_of item made r h.1) [
+            | inl g ↦ under _ inner r (in_item less g)
+            | inr g ↦ in_maker less g.0 g.1
+          ]
+    ]
+
 mutual
   form_fault : (f : Form) (at around : ℕ) (r : MakerRefusal) → around ≤ 512 → first_refusal at around f ≡ Some r → FaultIn (inner_forms at around f) r
   form_fault (leaf l) at around r few e = deep_fault (nat_le 512 around) at around (leaf l) [] r refl few e
+  form_fault (optional f) at around r few e =
+      let inner = at + 1 in
+      let met = inner + length (text f) in
+      around_fault (optional f) (inner_forms inner (around + 1) f) (first_refusal inner (around + 1) f) (refusal_of met at (made_optional f)) at around r few
+      (λ less g. form_fault f inner (around + 1) r less g)
+      (λ less none g. absurd (none_made (optional f) met at r (omega (arith, fits f inner (around + 1) none)) g))
+      e
   form_fault (sequence f) at around r few e =
       let inner = at + 1 in
-      let made = refusal_of (inner + length (text f)) at (made_sequence f) in
+      let met = inner + length (text f) + 1 in
+      around_fault (sequence f) (inner_forms inner (around + 1) f) (first_refusal inner (around + 1) f) (refusal_of met at (made_sequence f)) at around r few
+      (λ less g. form_fault f inner (around + 1) r less g)
+      (λ less none g. absurd (none_made (sequence f) met at r (omega (arith, fits f inner (around + 1) none)) g))
+      e
+  form_fault (newtype n f) at around r few e =
+      let inner = at + length (name_text n) + 1 in
+      let met = inner + length (text f) in
       let rest = inner_forms inner (around + 1) f in
-      elim (one_of (too_deep at around) (or_else (first_refusal inner (around + 1) f) made) r e) [
-        | inl h ↦ deep_fault (nat_le 512 around) at around (sequence f) rest r refl few h
-        | inr h ↦ elim (one_of (first_refusal inner (around + 1) f) made r h.1) [
-          | inl g ↦ under _ rest r (form_fault f inner (around + 1) r (none_deep (nat_le 512 around) at around refl h.0) g)
-          | inr g ↦ absurd (none_made f (inner + length (text f)) at r (omega (arith, fits f inner (around + 1) g.0)) g.1)
-        ]
-      ]
+      around_fault (newtype n f) rest (first_refusal inner (around + 1) f) (refusal_of met at (made_newtype n f)) at around r few
+      (λ less g. form_fault f inner (around + 1) r less g)
+      (λ less none g. newtype_fault (is_reserved_newtype n) n f met at around rest r refl (omega (arith, fits f inner (around + 1) none)) g)
+      e
+  form_fault (unit_structure n) at around r few e = deep_fault (nat_le 512 around) at around (unit_structure n) [] r refl few e
   form_fault (structure n fs) at around r few e =
       let inner = at + length (struct_name_text n) + 1 in
-      let met = inner + length (listed (field_texts fs)) in
+      let met = inner + length (listed (field_texts fs)) + 1 in
       let rest = field_forms inner (around + 1) fs in
-      elim (one_of (too_deep at around) (or_else (fields_refusal inner (around + 1) fs) (refusal_of met at (made_structure n fs))) r e) [
-        | inl h ↦ deep_fault (nat_le 512 around) at around (structure n fs) rest r refl few h
-        | inr h ↦ elim (one_of (fields_refusal inner (around + 1) fs) (refusal_of met at (made_structure n fs)) r h.1) [
-          | inl g ↦ under _ rest r (fields_fault fs inner (around + 1) r (none_deep (nat_le 512 around) at around refl h.0) g)
-          | inr g ↦
-              let less : deepest fs < 512 = omega (arith, fields_fit fs inner (around + 1) (none_deep (nat_le 512 around) at around refl h.0) g.0) in
-              made_fault (is_some (reserved_kind n)) (repeats fs) (nat_lt 512 (levels (structure n fs))) n fs met at around rest r refl refl (not_deeper n fs less) g.1
-        ]
-      ]
+      around_fault (structure n fs) rest (fields_refusal inner (around + 1) fs) (refusal_of met at (made_structure n fs)) at around r few
+      (λ less g. fields_fault fs inner (around + 1) r less g)
+      (λ less none g. struct_fault (is_some (reserved_kind n)) (repeats fs) n fs met at around rest r refl refl (omega (arith, fields_fit fs inner (around + 1) less none)) g)
+      e
 
   fields_fault : (fs : Fields) (at around : ℕ) (r : MakerRefusal) → around ≤ 512 → fields_refusal at around fs ≡ Some r → FaultIn (field_forms at around fs) r
   fields_fault no_fields at around r few e = absurd cc

@@ -1,88 +1,126 @@
--- What the machine answers on the text of a form: its first refusal, or the state behind it.
-use Rattle.std.proofs.Common.{◌≡◌, ℕ, ◌+◌, Bool, true, false, cond, eqb, ◌||◌, List, [], ◌∷◌, ◌++◌, length, Option, Some, None, Result, Ok, Err, refl, sym, ap, ◌∙◌, subst, arith, append_assoc, append-nil, length-append}
+-- What the machine answers on the text of a form: its first refusal, or what it answers behind it.
+use Rattle.std.proofs.Common.{◌≡◌, ℕ, ◌+◌, Bool, true, false, cond, ◌||◌, List, [], ◌∷◌, ◌++◌, length, Option, Some, None, Result, Ok, Err, refl, sym, ap, ◌∙◌, subst, arith, append_assoc, append-nil, length-append}
 use Rattle.std.specs.Prelude.{nat_le, IfOk}
 use Rattle.bson_base.specs.Text.{Utf8}
-use Rattle.bson_shape.specs.Form.{Form, leaf, sequence, structure, Fields, no_fields, field, joined}
+use Rattle.bson_shape.specs.Form.{Form, leaf, optional, sequence, newtype, unit_structure, structure, Fields, no_fields, field, joined}
 use Rattle.bson_shape.specs.Leaf.{word}
 use Rattle.bson_shape.specs.declared.leaf.Leaf.{Leaf}
-use Rattle.bson_shape.specs.Makers.{made_sequence, made_structure}
+use Rattle.bson_shape.specs.Makers.{made_optional, made_sequence, made_newtype, made_structure}
 use Rattle.bson_shape.specs.declared.error.ShapeError.{ShapeError}
 use Rattle.bson_shape.specs.declared.error.ShapeError.TheVariants.{TooDeep}
 use Rattle.std.specs.List.{list_all}
-use Rattle.bson_shape.specs.Notation.{begins_bare, in_bare, bare, escaped, quoted, name_text, struct_name_text, after_commas, listed, text, field_texts}
-use Rattle.bson_shape.specs.FirstRefusal.{MakerRefusal, or_else, refusal_of, first_refusal, fields_refusal}
-use Rattle.bson_shape.specs.Machine.{Refusal, Refused, Open, Level, In_field, In_sequence, Form_at, Field_of, Mode, Form_due, First_field, Field_due, Bare, Named, Done, State, ◌>>=◌, opened, grown, made, closed, form_ended, begins_name, name_begun, opens_form, begins_form, form_begun, form_due, field_due, first_field, word_ended, bare_name, is_unwritten, step, run}
-use Rattle.bson_shape.proofs.Made.{made_sequence-made, made_structure-made}
+use Rattle.bson_shape.specs.Notation.{begins_bare, in_bare, bare, names_form, escaped, quoted, name_text, struct_name_text, after_commas, listed, text, field_texts}
+use Rattle.bson_shape.specs.FirstRefusal.{MakerRefusal, or_else, too_deep, refusal_of, first_refusal, fields_refusal}
+use Rattle.bson_shape.specs.Fronts.{goes_on}
+use Rattle.bson_shape.specs.Machine.{Refusal, Refused, Open, Level, In_field, In_option, In_sequence, In_newtype, Owner, Form_at, Field_of, Mode, Form_due, First_field, Field_due, Bare, Named, Done, State, ◌>>=◌, opened, grown, made, Ended, wrapped, closed, enclosed, form_ended, begins_name, name_begun, opens_form, begins_form, form_begun, form_due, field_due, first_field, word_ended, bare_name, alone, step, run, finish}
+use Rattle.bson_shape.proofs.Made.{within_levels-made, made_newtype-made, made_structure-made}
 use Rattle.bson_shape.proofs.Shapes.{joined-assoc, joined-none}
-use Rattle.bson_shape.proofs.Words.{and_true, differs, of_word-word, bare-word}
-use Rattle.bson_shape.proofs.NameRuns.{run_step, run_refused, same_run, name_mode, BeginsName, name_read, colon_step, brace_step}
+use Rattle.bson_shape.proofs.Words.{and_true, or_false, differs, of_word-word, bare-word}
+use Rattle.bson_shape.proofs.Loop.{bound_assoc}
+use Rattle.bson_shape.proofs.NameRuns.{run_step, run_refused, same_run, name_mode, BeginsName, name_read, colon_step, equals_step, exclamation_step, brace_step}
+
+-- what is answered from a state on, to the end of the text
+abbrev pub read : ℕ → State → Utf8 → Result Form Refusal
+read at s bs = run at s bs >>= λ t. finish (at + length bs) t.0 t.1
+
+read_run : (i j : ℕ) (s t : State) (xs ys : Utf8) → run i s xs ≡ run j t ys → i + length xs ≡ j + length ys → read i s xs ≡ read j t ys
+read_run i j s t xs ys e l = λ k. e k >>= λ u. finish (l k) u.0 u.1
+
+-- a byte that is taken
+read_step : (at : ℕ) (m : Mode) (st : List Level) (b : ℕ) (bs : Utf8) (t : State) → step at m st b ≡ Ok t → read at (m, st) (b ∷ bs) ≡ read (at + 1) t bs
+read_step at m st b bs t h = read_run at (at + 1) (m, st) t (b ∷ bs) bs (run_step at m st b bs t h) (omega arith)
+
+read_name : (n rest : Utf8) (at : ℕ) (m : Mode) (owner : Owner) (st : List Level) → BeginsName at m owner st → read at (m, st) (name_text n ++ rest) ≡ read (at + length (name_text n)) (name_mode owner n, st) rest
+read_name n rest at m owner st begins =
+    read_run at (at + length (name_text n)) (m, st) (name_mode owner n, st) (name_text n ++ rest) rest (name_read n rest at m owner st begins) (omega (arith, length-append (name_text n) rest))
 
 -- the refusal, if there is one
-abbrev pub settle : Option MakerRefusal → Result State Refusal → Result State Refusal
+abbrev pub settle : Option MakerRefusal → Result Form Refusal → Result Form Refusal
 settle None r = r
 settle (Some x) r = Err (Refused x)
 
-settle_both : (a b : Option MakerRefusal) (r : Result State Refusal) → settle a (settle b r) ≡ settle (or_else a b) r
+settle_both : (a b : Option MakerRefusal) (r : Result Form Refusal) → settle a (settle b r) ≡ settle (or_else a b) r
 settle_both None b r = refl
 settle_both (Some x) b r = refl
 
-settle_all : (a b c : Option MakerRefusal) (r : Result State Refusal) → settle a (settle (or_else b c) r) ≡ settle (or_else (or_else a b) c) r
+settle_all : (a b c : Option MakerRefusal) (r : Result Form Refusal) → settle a (settle (or_else b c) r) ≡ settle (or_else (or_else a b) c) r
 settle_all None b c r = refl
 settle_all (Some x) b c r = refl
+
+-- ---- behind a form
+
+-- what is answered behind the forms that end together
+abbrev beyond : ℕ → Utf8 → Ended → Result Form Refusal
+beyond at [] e = alone at e.0 e.1
+beyond at (b ∷ bs) e = enclosed at e.0 e.1 b >>= λ u. read (at + 1) u bs
+
+stepped : (r : Result State Refusal) (at : ℕ) (bs : Utf8) → ((r >>= λ u. run (at + 1) u bs) >>= λ t. finish (at + (length bs + 1)) t.0 t.1) ≡ (r >>= λ u. read (at + 1) u bs)
+stepped (Ok u) at bs = ap (λ i. run (at + 1) u bs >>= λ t. finish i t.0 t.1) (omega arith)
+stepped (Err e) at bs = refl
+
+done_read : (rest : Utf8) (at : ℕ) (f : Form) (st : List Level) → read at (Done f, st) rest ≡ (wrapped at f st >>= λ e. beyond at rest e)
+unfolding run step form_ended finish
+done_read [] at f st = ap (λ i. finish i (Done f) st) (omega arith)
+done_read (b ∷ bs) at f st =
+    ap (λ i. (form_ended at f st b >>= λ u. run (at + 1) u bs) >>= λ t. finish i t.0 t.1) (omega arith)
+    ∙ stepped (form_ended at f st b) at bs
+    ∙ bound_assoc (wrapped at f st) (λ e. enclosed at e.0 e.1 b) (λ u. read (at + 1) u bs)
+
+-- a form that ends with the one inside it
+wrap_made : (r : Result Form ShapeError) (at place : ℕ) (g : Form) (st : List Level) (rest : Utf8) → IfOk r (λ h. h ≡ g)
+    → ((made at place r >>= λ h. wrapped at h st) >>= λ e. beyond at rest e) ≡ settle (refusal_of at place r) (read at (Done g, st) rest)
+wrap_made (Ok h) at place g st rest same = sym (done_read rest at h st) ∙ ap (λ h. read at (Done h, st) rest) same
+wrap_made (Err e) at place g st rest same = refl
+
+option_read : (f : Form) (at place : ℕ) (st : List Level) (rest : Utf8) → read at (Done f, In_option place ∷ st) rest ≡ settle (refusal_of at place (made_optional f)) (read at (Done (optional f), st) rest)
+unfolding wrapped
+option_read f at place st rest = done_read rest at f (In_option place ∷ st) ∙ wrap_made (made_optional f) at place (optional f) st rest (within_levels-made (optional f))
+
+newtype_read : (n : Utf8) (f : Form) (at place : ℕ) (st : List Level) (rest : Utf8) → read at (Done f, In_newtype place n ∷ st) rest ≡ settle (refusal_of at place (made_newtype n f)) (read at (Done (newtype n f), st) rest)
+unfolding wrapped
+newtype_read n f at place st rest = done_read rest at f (In_newtype place n ∷ st) ∙ wrap_made (made_newtype n f) at place (newtype n f) st rest (made_newtype-made n f)
+
+-- the word of a leaf, where it does not go on
+leaf_read : (rest : Utf8) (l : Leaf) (at place : ℕ) (st : List Level) → goes_on rest ≡ false → read at (Bare (Form_at place) (word l), st) rest ≡ read at (Done (leaf l), st) rest
+unfolding run step bare_name word_ended finish
+leaf_read [] l at place st ends = rw (of_word-word l) refl
+leaf_read (b ∷ bs) l at place st ends = let both = or_false (in_bare b) (names_form b) ends in rw (both.0, both.1, of_word-word l) refl
 
 -- ---- the last byte of a form
 
 -- the maker makes the form or refuses
-made_settles : (r : Result Form ShapeError) (f : Form) (at place : ℕ) (st : List Level) (rest : Utf8) → IfOk r (λ g. g ≡ f)
-    → (made at place st r >>= λ u. run (at + 1) u rest) ≡ settle (refusal_of at place r) (run (at + 1) (Done f, st) rest)
-made_settles (Ok g) f at place st rest same = ap (λ h. run (at + 1) (Done h, st) rest) same
-made_settles (Err e) f at place st rest same = refl
-
-closes : (o : Open) (m : Mode) (levels' st : List Level) (at : ℕ) (rest : Utf8) → step at m levels' 125 ≡ closed at o st
-    → run at (m, levels') (125 ∷ rest) ≡ settle (refusal_of at o.place (made_structure o.name o.fields)) (run (at + 1) (Done (structure o.name o.fields), st) rest)
-unfolding run
-closes o m levels' st at rest h =
-    ap (λ r. r >>= λ u. run (at + 1) u rest) h
-    ∙ made_settles (made_structure o.name o.fields) (structure o.name o.fields) at o.place st rest (made_structure-made o.name o.fields)
+closed_read : (r : Result Form ShapeError) (f : Form) (m : Mode) (levels' st : List Level) (at place b : ℕ) (rest : Utf8) → IfOk r (λ g. g ≡ f) → step at m levels' b ≡ closed at place st r
+    → read at (m, levels') (b ∷ rest) ≡ settle (refusal_of (at + 1) place r) (read (at + 1) (Done f, st) rest)
+closed_read (Ok g) f m levels' st at place b rest same h = read_step at m levels' b rest (Done g, st) h ∙ ap (λ h. read (at + 1) (Done h, st) rest) same
+closed_read (Err e) f m levels' st at place b rest same h = ap (λ r. r >>= λ t. finish (at + length (b ∷ rest)) t.0 t.1) (run_refused at m levels' b rest _ h)
 
 -- what the maker says of the struct with these fields, and the state behind it
 abbrev pub brace_refusal : ℕ → Open → Fields → Option MakerRefusal
-brace_refusal at o fs = refusal_of at o.place (made_structure o.name (joined o.fields fs))
+brace_refusal at o fs = refusal_of (at + 1) o.place (made_structure o.name (joined o.fields fs))
 
 abbrev pub done_with : Open → Fields → Mode
 done_with o fs = Done (structure o.name (joined o.fields fs))
 
+struct_read : (o : Open) (m : Mode) (levels' st : List Level) (at : ℕ) (rest : Utf8) → step at m levels' 125 ≡ closed at o.place st (made_structure o.name o.fields)
+    → read at (m, levels') (125 ∷ rest) ≡ settle (refusal_of (at + 1) o.place (made_structure o.name o.fields)) (read (at + 1) (Done (structure o.name o.fields), st) rest)
+struct_read o m levels' st at rest h = closed_read (made_structure o.name o.fields) (structure o.name o.fields) m levels' st at o.place 125 rest (made_structure-made o.name o.fields) h
+
 same_end : (a : Option MakerRefusal) (i j k l p : ℕ) (n : Utf8) (gs hs : Fields) (st : List Level) (rest : Utf8) → i ≡ j → k ≡ l → gs ≡ hs
-    → settle (or_else a (refusal_of i p (made_structure n gs))) (run k (Done (structure n gs), st) rest) ≡ settle (or_else a (refusal_of j p (made_structure n hs))) (run l (Done (structure n hs), st) rest)
+    → settle (or_else a (refusal_of i p (made_structure n gs))) (read k (Done (structure n gs), st) rest) ≡ settle (or_else a (refusal_of j p (made_structure n hs))) (read l (Done (structure n hs), st) rest)
 same_end a i j k l p n gs hs st rest e d f = cc
 
--- ---- behind a form
+comma_step : (f : Form) (o : Open) (n : Utf8) (st : List Level) (at : ℕ) → step at (Done f) (In_field o n ∷ st) 44 ≡ Ok (Field_due (grown o n f), st)
+unfolding step form_ended wrapped
+comma_step f o n st at = refl
 
--- the state behind a form that begins at the place
-abbrev pub resumed : ℕ → Form → Mode
-resumed place (leaf l) = Bare (Form_at place) (word l)
-resumed place f = Done f
+close_step : (f : Form) (o : Open) (n : Utf8) (st : List Level) (at : ℕ) → step at (Done f) (In_field o n ∷ st) 125 ≡ closed at o.place st (made_structure (grown o n f).name (grown o n f).fields)
+unfolding step form_ended wrapped
+close_step f o n st at = refl
 
--- a byte that ends a word and opens no brace is read alike behind a leaf and behind another form
-ended_step : (f : Form) (place : ℕ) (st : List Level) (at b : ℕ) → in_bare b ≡ false → eqb b 123 ≡ false → step at (resumed place f) st b ≡ form_ended at f st b
-unfolding step bare_name word_ended
-ended_step (leaf w) place st at b h k = rw (h, k, of_word-word w) refl
-ended_step f place st at b h k = refl
-
-comma_step : (f : Form) (place : ℕ) (o : Open) (n : Utf8) (st : List Level) (at : ℕ) → step at (resumed place f) (In_field o n ∷ st) 44 ≡ Ok (Field_due (grown o n f), st)
-unfolding form_ended
-comma_step f place o n st at = ended_step f place (In_field o n ∷ st) at 44 refl refl
-
-close_step : (f : Form) (place : ℕ) (o : Open) (n : Utf8) (st : List Level) (at : ℕ) → step at (resumed place f) (In_field o n ∷ st) 125 ≡ closed at (grown o n f) st
-unfolding form_ended
-close_step f place o n st at = ended_step f place (In_field o n ∷ st) at 125 refl refl
-
--- the closing bracket of a sequence that begins at the second place
-item_closed : (f : Form) (inner place : ℕ) (rest : Utf8) (at : ℕ) (st : List Level)
-    → run at (resumed inner f, In_sequence place ∷ st) (93 ∷ rest) ≡ settle (refusal_of at place (made_sequence f)) (run (at + 1) (Done (sequence f), st) rest)
-unfolding run form_ended
-item_closed f inner place rest at st =
-    ap (λ r. r >>= λ u. run (at + 1) u rest) (ended_step f inner (In_sequence place ∷ st) at 93 refl refl) ∙ made_settles (made_sequence f) (sequence f) at place st rest (made_sequence-made f)
+-- the closing bracket of a sequence that begins at the place
+item_step : (f : Form) (place : ℕ) (st : List Level) (at : ℕ) → step at (Done f) (In_sequence place ∷ st) 93 ≡ closed at place st (made_sequence f)
+unfolding step form_ended wrapped
+item_step f place st at = refl
 
 -- ---- where a field is due
 
@@ -106,11 +144,11 @@ one_field : (n : Utf8) (f : Form) (fs : Fields) (o : Open) (rest : Utf8) (at : �
     → (let l : Level = In_field o n in
     let inner = at + length (name_text n) + 1 in
     let bytes = (name_text n ++ 58 ∷ text f) ++ after_commas (field_texts fs) in
-    run inner (Form_due, l ∷ st) (text f ++ (after_commas (field_texts fs) ++ 125 ∷ rest)) ≡ settle (first_refusal inner (length (l ∷ st)) f) (run (inner + length (text f)) (resumed inner f, l ∷ st) (after_commas (field_texts fs) ++ 125 ∷ rest))
-    → run (inner + length (text f)) (resumed inner f, l ∷ st) (after_commas (field_texts fs) ++ 125 ∷ rest)
-    ≡ settle (or_else (fields_refusal (inner + length (text f) + 1) (length st + 1) fs) (brace_refusal (inner + length (text f) + length (after_commas (field_texts fs))) (grown o n f) fs)) (run (inner + length (text f) + length (after_commas (field_texts fs)) + 1) (done_with (grown o n f) fs, st) rest)
-    → run at (m, st) (bytes ++ 125 ∷ rest)
-    ≡ settle (or_else (fields_refusal at (length st + 1) (field n f fs)) (brace_refusal (at + length bytes) o (field n f fs))) (run (at + length bytes + 1) (done_with o (field n f fs), st) rest))
+    read inner (Form_due, l ∷ st) (text f ++ (after_commas (field_texts fs) ++ 125 ∷ rest)) ≡ settle (first_refusal inner (length (l ∷ st)) f) (read (inner + length (text f)) (Done f, l ∷ st) (after_commas (field_texts fs) ++ 125 ∷ rest))
+    → read (inner + length (text f)) (Done f, l ∷ st) (after_commas (field_texts fs) ++ 125 ∷ rest)
+    ≡ settle (or_else (fields_refusal (inner + length (text f) + 1) (length st + 1) fs) (brace_refusal (inner + length (text f) + length (after_commas (field_texts fs))) (grown o n f) fs)) (read (inner + length (text f) + length (after_commas (field_texts fs)) + 1) (done_with (grown o n f) fs, st) rest)
+    → read at (m, st) (bytes ++ 125 ∷ rest)
+    ≡ settle (or_else (fields_refusal at (length st + 1) (field n f fs)) (brace_refusal (at + length bytes) o (field n f fs))) (read (at + length bytes + 1) (done_with o (field n f fs), st) rest))
 one_field n f fs o rest at m st begins = λ first more.
     let l : Level = In_field o n in
     let inner = at + length (name_text n) + 1 in
@@ -120,15 +158,15 @@ one_field n f fs o rest at m st begins = λ first more.
     let b = fields_refusal (inner + length (text f) + 1) (length st + 1) fs in
     let around : length (l ∷ st) ≡ length st + 1 = omega arith in
     let place : inner + length (text f) + length tail ≡ at + length bytes = omega (arith, field_length (name_text n) (text f) tail) in
-    ap (run at (m, st)) (regroup (name_text n) (text f) tail (125 ∷ rest))
-    ∙ name_read n (58 ∷ (text f ++ (tail ++ 125 ∷ rest))) at m (Field_of o) st begins refl
-    ∙ run_step (at + length (name_text n)) (name_mode (Field_of o) n) st 58 (text f ++ (tail ++ 125 ∷ rest)) _ (colon_step (at + length (name_text n)) o n st)
+    ap (read at (m, st)) (regroup (name_text n) (text f) tail (125 ∷ rest))
+    ∙ read_name n (58 ∷ (text f ++ (tail ++ 125 ∷ rest))) at m (Field_of o) st begins
+    ∙ read_step (at + length (name_text n)) (name_mode (Field_of o) n) st 58 (text f ++ (tail ++ 125 ∷ rest)) _ (colon_step (at + length (name_text n)) o n st)
     ∙ first
-    ∙ ap (λ i. settle (first_refusal inner i f) (run (inner + length (text f)) (resumed inner f, l ∷ st) (tail ++ 125 ∷ rest))) around
+    ∙ ap (λ i. settle (first_refusal inner i f) (read (inner + length (text f)) (Done f, l ∷ st) (tail ++ 125 ∷ rest))) around
     ∙ ap (settle a) more
     ∙ settle_all a b (brace_refusal (inner + length (text f) + length tail) (grown o n f) fs) _
-    ∙ same_end (or_else a b) (inner + length (text f) + length tail) (at + length bytes) (inner + length (text f) + length tail + 1) (at + length bytes + 1) o.place o.name (joined (grown o n f).fields fs) (joined o.fields (field n f fs)) st rest
-    place (ap (λ i. i + 1) place) (joined-assoc o.fields (field n f no_fields) fs)
+    ∙ same_end (or_else a b) (inner + length (text f) + length tail + 1) (at + length bytes + 1) (inner + length (text f) + length tail + 1) (at + length bytes + 1) o.place o.name (joined (grown o n f).fields fs) (joined o.fields (field n f fs)) st rest
+    (ap (λ i. i + 1) place) (ap (λ i. i + 1) place) (joined-assoc o.fields (field n f no_fields) fs)
 
 -- ---- where a form is due
 
@@ -136,14 +174,15 @@ form_step : (b at : ℕ) (st : List Level) → begins_form b ≡ true → nat_le
 unfolding step form_due
 form_step b at st h d = rw (h, d) refl
 
-deep_step : (b at : ℕ) (st : List Level) → begins_form b ≡ true → nat_le 512 (length st) ≡ true → step at Form_due st b ≡ Err (Refused (record { met = at; place = at; cause = TooDeep }))
+deep_step : (b at : ℕ) (st : List Level) → begins_form b ≡ true → nat_le 512 (length st) ≡ true → step at Form_due st b ≡ Err (Refused (record { met = at + 1; place = at; cause = TooDeep }))
 unfolding step form_due
 deep_step b at st h d = rw (h, d) refl
 
 form_begins : (at : ℕ) (st : List Level) → nat_le 512 (length st) ≡ false → BeginsName at Form_due (Form_at at) st
 form_begins at st d b h =
     form_step b at st (ap (λ t. t || opens_form b) h) d
-    ∙ ap (λ (t : Bool × Bool). Ok (cond t.0 (First_field (opened at []), st) (cond t.1 (Form_due, In_sequence at ∷ st) (name_begun (Form_at at) b, st)))) (λ i. (differs begins_name b 123 h refl i, differs begins_name b 91 h refl i))
+    ∙ ap (λ (t : Bool × Bool × Bool). Ok (cond t.0 (First_field (opened at []), st) (cond t.1 (Form_due, In_sequence at ∷ st) (cond t.2 (Form_due, In_option at ∷ st) (name_begun (Form_at at) b, st)))))
+    (λ i. (differs begins_name b 123 h refl i, differs begins_name b 91 h refl i, differs begins_name b 63 h refl i))
 
 -- a struct's name and its brace
 opens : (n rest : Utf8) (at : ℕ) (st : List Level) → nat_le 512 (length st) ≡ false → run at (Form_due, st) (struct_name_text n ++ 123 ∷ rest) ≡ run (at + length (struct_name_text n) + 1) (First_field (opened at n), st) rest
@@ -151,19 +190,15 @@ opens [] rest at st d =
     run_step at Form_due st 123 rest _ (form_step 123 at st refl d) ∙ same_run (at + 1) (at + 0 + 1) (First_field (opened at [])) (First_field (opened at [])) st rest (omega arith) refl
 opens (b ∷ bs) rest at st d =
     let n = b ∷ bs in
-    name_read n (123 ∷ rest) at Form_due (Form_at at) st (form_begins at st d) refl
-    ∙ run_step (at + length (name_text n)) (name_mode (Form_at at) n) st 123 rest _ (brace_step (at + length (name_text n)) at n st)
+    name_read n (123 ∷ rest) at Form_due (Form_at at) st (form_begins at st d)
+    ∙ run_step (at + length (name_text n)) (name_mode (Form_at at) n) st 123 rest _ (brace_step (at + length (name_text n)) at b bs st)
 
-written : (n : Utf8) (place : ℕ) → bare n ≡ true → is_unwritten (Form_at place) n ≡ false
-written [] place h = absurd cc
-written (b ∷ bs) place h = refl
-
-word_read : (l : Leaf) (rest : Utf8) (at : ℕ) (st : List Level) → nat_le 512 (length st) ≡ false → run at (Form_due, st) (word l ++ rest) ≡ run (at + length (word l)) (Bare (Form_at at) (word l), st) rest
+word_read : (l : Leaf) (rest : Utf8) (at : ℕ) (st : List Level) → nat_le 512 (length st) ≡ false → read at (Form_due, st) (word l ++ rest) ≡ read (at + length (word l)) (Bare (Form_at at) (word l), st) rest
 word_read l rest at st d =
     let is : bare (word l) ≡ true = bare-word l in
     let plain : name_text (word l) ≡ word l = ap (λ t. cond t (word l) (quoted (word l))) is in
-    ap (λ xs. run at (Form_due, st) (xs ++ rest)) (sym plain) ∙ name_read (word l) rest at Form_due (Form_at at) st (form_begins at st d) (written (word l) at is)
-    ∙ same_run (at + length (name_text (word l))) (at + length (word l)) (name_mode (Form_at at) (word l)) (Bare (Form_at at) (word l)) st rest (ap (λ xs. at + length xs) plain) (ap (λ t. cond t (Bare (Form_at at) (word l)) (Named (Form_at at) (word l))) is)
+    ap (λ xs. read at (Form_due, st) (xs ++ rest)) (sym plain) ∙ read_name (word l) rest at Form_due (Form_at at) st (form_begins at st d)
+    ∙ (λ i. read (at + length (plain i)) (cond (is i) (Bare (Form_at at) (word l)) (Named (Form_at at) (word l)), st) rest)
 
 -- a form begins with one of these bytes
 record Begun (bytes : Utf8) : Type 0 where
@@ -182,28 +217,40 @@ name_begins : (t : Bool) (n rest : Utf8) → bare n ≡ t → Begun (cond t n (q
 name_begins true n rest h = bare_begun n rest h
 name_begins false n rest h = record { byte = 34; rest = (escaped n ++ 34 ∷ []) ++ rest; whole = refl; begins = refl }
 
+name_begun_with : (n more : Utf8) → Begun (name_text n ++ more)
+name_begun_with n more = name_begins (bare n) n more refl
+
 text_begins : (f : Form) → Begun (text f)
 text_begins (leaf l) = subst Begun (append-nil (word l)) (bare_begun (word l) [] (bare-word l))
+text_begins (optional f) = record { byte = 63; rest = text f; whole = refl; begins = refl }
 text_begins (sequence f) = record { byte = 91; rest = text f ++ 93 ∷ []; whole = refl; begins = refl }
+text_begins (newtype n f) = name_begun_with n (61 ∷ text f)
+text_begins (unit_structure n) = name_begun_with n (33 ∷ [])
 text_begins (structure [] fs) = record { byte = 123; rest = listed (field_texts fs) ++ 125 ∷ []; whole = refl; begins = refl }
-text_begins (structure (b ∷ bs) fs) = name_begins (bare (b ∷ bs)) (b ∷ bs) (123 ∷ (listed (field_texts fs) ++ 125 ∷ [])) refl
+text_begins (structure (b ∷ bs) fs) = name_begun_with (b ∷ bs) (123 ∷ (listed (field_texts fs) ++ 125 ∷ []))
 
 -- inside 512 others
-deep_read : (f : Form) (rest : Utf8) (at : ℕ) (st : List Level) → nat_le 512 (length st) ≡ true → run at (Form_due, st) (text f ++ rest) ≡ Err (Refused (record { met = at; place = at; cause = TooDeep }))
+deep_read : (f : Form) (rest : Utf8) (at : ℕ) (st : List Level) → nat_le 512 (length st) ≡ true → read at (Form_due, st) (text f ++ rest) ≡ Err (Refused (record { met = at + 1; place = at; cause = TooDeep }))
 deep_read f rest at st d =
     let t = text_begins f in
-    ap (λ xs. run at (Form_due, st) (xs ++ rest)) t.whole ∙ run_refused at Form_due st t.byte (t.rest ++ rest) _ (deep_step t.byte at st t.begins d)
+    ap (λ xs. read at (Form_due, st) (xs ++ rest)) t.whole
+    ∙ ap (λ r. r >>= λ u. finish (at + length ((t.byte ∷ t.rest) ++ rest)) u.0 u.1) (run_refused at Form_due st t.byte (t.rest ++ rest) _ (deep_step t.byte at st t.begins d))
 
-deep_refusal : (f : Form) (at around : ℕ) → nat_le 512 around ≡ true → first_refusal at around f ≡ Some (record { met = at; place = at; cause = TooDeep })
-deep_refusal (leaf l) at around d = rw d refl
-deep_refusal (sequence f) at around d = rw d refl
-deep_refusal (structure n fs) at around d = rw d refl
+deep_refusal : (at around : ℕ) (x : Option MakerRefusal) → nat_le 512 around ≡ true → or_else (too_deep at around) x ≡ Some (record { met = at + 1; place = at; cause = TooDeep })
+deep_refusal at around x d = rw d refl
 
-by_depth : (t : Bool) (f : Form) (rest : Utf8) (at : ℕ) (st : List Level) → nat_le 512 (length st) ≡ t
-    → (nat_le 512 (length st) ≡ false → run at (Form_due, st) (text f ++ rest) ≡ settle (first_refusal at (length st) f) (run (at + length (text f)) (resumed at f, st) rest))
-    → run at (Form_due, st) (text f ++ rest) ≡ settle (first_refusal at (length st) f) (run (at + length (text f)) (resumed at f, st) rest)
-by_depth true f rest at st d shallow = deep_read f rest at st d ∙ sym (ap (λ x. settle x (run (at + length (text f)) (resumed at f, st) rest)) (deep_refusal f at (length st) d))
-by_depth false f rest at st d shallow = shallow d
+shallow_refusal : (at around : ℕ) (x : Option MakerRefusal) → nat_le 512 around ≡ false → or_else (too_deep at around) x ≡ x
+shallow_refusal at around x d = rw d refl
+
+or_none : (x : Option MakerRefusal) → x ≡ or_else x None
+or_none None = refl
+or_none (Some r) = refl
+
+by_depth : (t : Bool) (f : Form) (rest : Utf8) (at : ℕ) (st : List Level) (x : Option MakerRefusal) → nat_le 512 (length st) ≡ t → first_refusal at (length st) f ≡ or_else (too_deep at (length st)) x
+    → (nat_le 512 (length st) ≡ false → read at (Form_due, st) (text f ++ rest) ≡ settle x (read (at + length (text f)) (Done f, st) rest))
+    → read at (Form_due, st) (text f ++ rest) ≡ settle (first_refusal at (length st) f) (read (at + length (text f)) (Done f, st) rest)
+by_depth true f rest at st x d is shallow = deep_read f rest at st d ∙ sym (ap (λ o. settle o (read (at + length (text f)) (Done f, st) rest)) (is ∙ deep_refusal at (length st) x d))
+by_depth false f rest at st x d is shallow = shallow d ∙ sym (ap (λ o. settle o (read (at + length (text f)) (Done f, st) rest)) (is ∙ shallow_refusal at (length st) x d))
 
 struct_length : (n : Utf8) (fs : Fields) → length (text (structure n fs)) ≡ length (struct_name_text n) + 1 + length (listed (field_texts fs)) + 1
 struct_length n fs = omega (arith, length-append (struct_name_text n) (123 ∷ (listed (field_texts fs) ++ 125 ∷ [])), length-append (listed (field_texts fs)) (125 ∷ []))
@@ -212,65 +259,102 @@ struct_group : (name fields rest : Utf8) → (name ++ 123 ∷ (fields ++ 125 ∷
 struct_group name fields rest = append_assoc name (123 ∷ (fields ++ 125 ∷ [])) rest ∙ ap (λ xs. name ++ 123 ∷ xs) (append_assoc fields (125 ∷ []) rest)
 
 first_closed : (o : Open) (rest : Utf8) (at : ℕ) (st : List Level)
-    → run at (First_field o, st) (125 ∷ rest) ≡ settle (brace_refusal (at + 0) o no_fields) (run (at + 0 + 1) (done_with o no_fields, st) rest)
+    → read at (First_field o, st) (125 ∷ rest) ≡ settle (brace_refusal (at + 0) o no_fields) (read (at + 0 + 1) (done_with o no_fields, st) rest)
 unfolding step first_field
 first_closed o rest at st =
-    closes o (First_field o) st st at rest refl
-    ∙ same_end None at (at + 0) (at + 1) (at + 0 + 1) o.place o.name o.fields (joined o.fields no_fields) st rest (omega arith) (omega arith) (sym (joined-none o.fields))
+    struct_read o (First_field o) st st at rest refl
+    ∙ same_end None (at + 1) (at + 0 + 1) (at + 1) (at + 0 + 1) o.place o.name o.fields (joined o.fields no_fields) st rest (omega arith) (omega arith) (sym (joined-none o.fields))
 
-next_closed : (f : Form) (place : ℕ) (o : Open) (n : Utf8) (rest : Utf8) (at : ℕ) (st : List Level)
-    → run at (resumed place f, In_field o n ∷ st) (125 ∷ rest) ≡ settle (brace_refusal (at + 0) (grown o n f) no_fields) (run (at + 0 + 1) (done_with (grown o n f) no_fields, st) rest)
-next_closed f place o n rest at st =
+next_closed : (f : Form) (o : Open) (n : Utf8) (rest : Utf8) (at : ℕ) (st : List Level)
+    → read at (Done f, In_field o n ∷ st) (125 ∷ rest) ≡ settle (brace_refusal (at + 0) (grown o n f) no_fields) (read (at + 0 + 1) (done_with (grown o n f) no_fields, st) rest)
+next_closed f o n rest at st =
     let g = grown o n f in
-    closes g (resumed place f) (In_field o n ∷ st) st at rest (close_step f place o n st at)
-    ∙ same_end None at (at + 0) (at + 1) (at + 0 + 1) g.place g.name g.fields (joined g.fields no_fields) st rest (omega arith) (omega arith) (sym (joined-none g.fields))
+    struct_read g (Done f) (In_field o n ∷ st) st at rest (close_step f o n st at)
+    ∙ same_end None (at + 1) (at + 0 + 1) (at + 1) (at + 0 + 1) g.place g.name g.fields (joined g.fields no_fields) st rest (omega arith) (omega arith) (sym (joined-none g.fields))
+
+-- behind a field's form no word goes on
+more_ends : (fs : Fields) (rest : Utf8) → goes_on (after_commas (field_texts fs) ++ 125 ∷ rest) ≡ false
+more_ends no_fields rest = refl
+more_ends (field n f fs) rest = refl
+
+-- an inner form, whose text is read at the place, and the maker of the one around it
+around_read : (f : Form) (inner : ℕ) (l : Level) (st : List Level) (rest : Utf8) (r : Option MakerRefusal) (last : Result Form Refusal)
+    → read inner (Form_due, l ∷ st) (text f ++ rest) ≡ settle (first_refusal inner (length (l ∷ st)) f) (read (inner + length (text f)) (Done f, l ∷ st) rest)
+    → read (inner + length (text f)) (Done f, l ∷ st) rest ≡ settle r last
+    → read inner (Form_due, l ∷ st) (text f ++ rest) ≡ settle (or_else (first_refusal inner (length st + 1) f) r) last
+around_read f inner l st rest r last first more =
+    let around : length (l ∷ st) ≡ length st + 1 = omega arith in
+    first ∙ ap (λ i. settle (first_refusal inner i f) (read (inner + length (text f)) (Done f, l ∷ st) rest)) around
+    ∙ ap (settle (first_refusal inner (length st + 1) f)) more
+    ∙ settle_both (first_refusal inner (length st + 1) f) r last
 
 mutual
-  pub reads_form : (f : Form) (rest : Utf8) (at : ℕ) (st : List Level) → run at (Form_due, st) (text f ++ rest) ≡ settle (first_refusal at (length st) f) (run (at + length (text f)) (resumed at f, st) rest)
-  reads_form (leaf l) rest at st =
-      by_depth (nat_le 512 (length st)) (leaf l) rest at st refl
-      (λ d. word_read l rest at st d ∙ sym (ap (λ t. settle (cond t (Some (record { met = at; place = at; cause = TooDeep })) None) (run (at + length (word l)) (Bare (Form_at at) (word l), st) rest)) d))
-  reads_form (sequence f) rest at st =
+  pub reads_form : (f : Form) (rest : Utf8) (at : ℕ) (st : List Level) → goes_on rest ≡ false → read at (Form_due, st) (text f ++ rest) ≡ settle (first_refusal at (length st) f) (read (at + length (text f)) (Done f, st) rest)
+  reads_form (leaf l) rest at st ends =
+      by_depth (nat_le 512 (length st)) (leaf l) rest at st None refl (or_none (too_deep at (length st))) (λ d. word_read l rest at st d ∙ leaf_read rest l (at + length (word l)) at st ends)
+  reads_form (optional f) rest at st ends =
       let inner = at + 1 in
-      let l : Level = In_sequence at in
-      let item = first_refusal inner (length st + 1) f in
-      let made = refusal_of (inner + length (text f)) at (made_sequence f) in
-      let around : length (l ∷ st) ≡ length st + 1 = omega arith in
-      by_depth (nat_le 512 (length st)) (sequence f) rest at st refl
-      (λ d. run_step at Form_due st 91 ((text f ++ 93 ∷ []) ++ rest) _ (form_step 91 at st refl d) ∙ ap (run inner (Form_due, l ∷ st)) (append_assoc (text f) (93 ∷ []) rest) ∙ reads_form f (93 ∷ rest) inner (l ∷ st)
-      ∙ ap (λ i. settle (first_refusal inner i f) (run (inner + length (text f)) (resumed inner f, l ∷ st) (93 ∷ rest))) around
-      ∙ ap (settle item) (item_closed f inner at rest (inner + length (text f)) st)
-      ∙ settle_both item made (run (inner + length (text f) + 1) (Done (sequence f), st) rest)
-      ∙ ap (λ i. settle (or_else item made) (run i (Done (sequence f), st) rest)) (let e : inner + length (text f) + 1 ≡ at + length (text (sequence f)) = omega (arith, length-append (text f) (93 ∷ [])) in e)
-      ∙ sym (ap (λ t. settle (or_else (cond t (Some (record { met = at; place = at; cause = TooDeep })) None) (or_else item made)) (run (at + length (text (sequence f))) (Done (sequence f), st) rest)) d))
-  reads_form (structure n fs) rest at st =
+      let end = inner + length (text f) in
+      let x = or_else (first_refusal inner (length st + 1) f) (refusal_of end at (made_optional f)) in
+      by_depth (nat_le 512 (length st)) (optional f) rest at st x refl refl
+      (λ d. read_step at Form_due st 63 (text f ++ rest) _ (form_step 63 at st refl d)
+      ∙ around_read f inner (In_option at) st rest (refusal_of end at (made_optional f)) (read end (Done (optional f), st) rest) (reads_form f rest inner (In_option at ∷ st) ends) (option_read f end at st rest)
+      ∙ ap (λ i. settle x (read i (Done (optional f), st) rest)) (let e : end ≡ at + length (text (optional f)) = omega arith in e))
+  reads_form (sequence f) rest at st ends =
+      let inner = at + 1 in
+      let end = inner + length (text f) in
+      let x = or_else (first_refusal inner (length st + 1) f) (refusal_of (end + 1) at (made_sequence f)) in
+      by_depth (nat_le 512 (length st)) (sequence f) rest at st x refl refl
+      (λ d. read_step at Form_due st 91 ((text f ++ 93 ∷ []) ++ rest) _ (form_step 91 at st refl d)
+      ∙ ap (read inner (Form_due, In_sequence at ∷ st)) (append_assoc (text f) (93 ∷ []) rest)
+      ∙ around_read f inner (In_sequence at) st (93 ∷ rest) (refusal_of (end + 1) at (made_sequence f)) (read (end + 1) (Done (sequence f), st) rest) (reads_form f (93 ∷ rest) inner (In_sequence at ∷ st) refl)
+      (closed_read (made_sequence f) (sequence f) (Done f) (In_sequence at ∷ st) st end at 93 rest (within_levels-made (sequence f)) (item_step f at st end))
+      ∙ ap (λ i. settle x (read i (Done (sequence f), st) rest)) (let e : end + 1 ≡ at + length (text (sequence f)) = omega (arith, length-append (text f) (93 ∷ [])) in e))
+  reads_form (newtype n f) rest at st ends =
+      let inner = at + length (name_text n) + 1 in
+      let end = inner + length (text f) in
+      let x = or_else (first_refusal inner (length st + 1) f) (refusal_of end at (made_newtype n f)) in
+      by_depth (nat_le 512 (length st)) (newtype n f) rest at st x refl refl
+      (λ d. ap (read at (Form_due, st)) (append_assoc (name_text n) (61 ∷ text f) rest)
+      ∙ read_name n (61 ∷ (text f ++ rest)) at Form_due (Form_at at) st (form_begins at st d)
+      ∙ read_step (at + length (name_text n)) (name_mode (Form_at at) n) st 61 (text f ++ rest) _ (equals_step (at + length (name_text n)) at n st)
+      ∙ around_read f inner (In_newtype at n) st rest (refusal_of end at (made_newtype n f)) (read end (Done (newtype n f), st) rest) (reads_form f rest inner (In_newtype at n ∷ st) ends) (newtype_read n f end at st rest)
+      ∙ ap (λ i. settle x (read i (Done (newtype n f), st) rest)) (let e : end ≡ at + length (text (newtype n f)) = omega (arith, length-append (name_text n) (61 ∷ text f)) in e))
+  reads_form (unit_structure n) rest at st ends =
+      by_depth (nat_le 512 (length st)) (unit_structure n) rest at st None refl (or_none (too_deep at (length st)))
+      (λ d. ap (read at (Form_due, st)) (append_assoc (name_text n) (33 ∷ []) rest)
+      ∙ read_name n (33 ∷ rest) at Form_due (Form_at at) st (form_begins at st d)
+      ∙ read_step (at + length (name_text n)) (name_mode (Form_at at) n) st 33 rest _ (exclamation_step (at + length (name_text n)) at n st)
+      ∙ ap (λ i. read i (Done (unit_structure n), st) rest) (let e : at + length (name_text n) + 1 ≡ at + length (text (unit_structure n)) = omega (arith, length-append (name_text n) (33 ∷ [])) in e))
+  reads_form (structure n fs) rest at st ends =
       let inner = at + length (struct_name_text n) + 1 in
       let fields = listed (field_texts fs) in
-      let refusal = or_else (fields_refusal inner (length st + 1) fs) (refusal_of (inner + length fields) at (made_structure n fs)) in
-      by_depth (nat_le 512 (length st)) (structure n fs) rest at st refl
-      (λ d. ap (run at (Form_due, st)) (struct_group (struct_name_text n) fields rest) ∙ opens n (fields ++ 125 ∷ rest) at st d ∙ reads_fields fs (opened at n) rest inner st
-      ∙ ap (λ i. settle refusal (run i (Done (structure n fs), st) rest)) (let e : inner + length fields + 1 ≡ at + length (text (structure n fs)) = omega (arith, struct_length n fs) in e)
-      ∙ sym (ap (λ t. settle (or_else (cond t (Some (record { met = at; place = at; cause = TooDeep })) None) refusal) (run (at + length (text (structure n fs))) (Done (structure n fs), st) rest)) d))
+      let x = or_else (fields_refusal inner (length st + 1) fs) (refusal_of (inner + length fields + 1) at (made_structure n fs)) in
+      by_depth (nat_le 512 (length st)) (structure n fs) rest at st x refl refl
+      (λ d. ap (read at (Form_due, st)) (struct_group (struct_name_text n) fields rest)
+      ∙ read_run at inner (Form_due, st) (First_field (opened at n), st) (struct_name_text n ++ 123 ∷ (fields ++ 125 ∷ rest)) (fields ++ 125 ∷ rest) (opens n (fields ++ 125 ∷ rest) at st d) (omega (arith, length-append (struct_name_text n) (123 ∷ (fields ++ 125 ∷ rest))))
+      ∙ reads_fields fs (opened at n) rest inner st
+      ∙ ap (λ i. settle x (read i (Done (structure n fs), st) rest)) (let e : inner + length fields + 1 ≡ at + length (text (structure n fs)) = omega (arith, struct_length n fs) in e))
 
   reads_fields : (fs : Fields) (o : Open) (rest : Utf8) (at : ℕ) (st : List Level)
-      → run at (First_field o, st) (listed (field_texts fs) ++ 125 ∷ rest)
-      ≡ settle (or_else (fields_refusal at (length st + 1) fs) (brace_refusal (at + length (listed (field_texts fs))) o fs)) (run (at + length (listed (field_texts fs)) + 1) (done_with o fs, st) rest)
+      → read at (First_field o, st) (listed (field_texts fs) ++ 125 ∷ rest)
+      ≡ settle (or_else (fields_refusal at (length st + 1) fs) (brace_refusal (at + length (listed (field_texts fs))) o fs)) (read (at + length (listed (field_texts fs)) + 1) (done_with o fs, st) rest)
   reads_fields no_fields o rest at st = first_closed o rest at st
   reads_fields (field n f fs) o rest at st =
       let l : Level = In_field o n in
       let inner = at + length (name_text n) + 1 in
-      one_field n f fs o rest at (First_field o) st (first_begins at o st) (reads_form f (after_commas (field_texts fs) ++ 125 ∷ rest) inner (l ∷ st)) (reads_more fs f inner o n rest (inner + length (text f)) st)
+      one_field n f fs o rest at (First_field o) st (first_begins at o st) (reads_form f (after_commas (field_texts fs) ++ 125 ∷ rest) inner (l ∷ st) (more_ends fs rest)) (reads_more fs f o n rest (inner + length (text f)) st)
 
-  reads_more : (fs : Fields) (f : Form) (place : ℕ) (before : Open) (name : Utf8) (rest : Utf8) (at : ℕ) (st : List Level)
-      → run at (resumed place f, In_field before name ∷ st) (after_commas (field_texts fs) ++ 125 ∷ rest)
-      ≡ settle (or_else (fields_refusal (at + 1) (length st + 1) fs) (brace_refusal (at + length (after_commas (field_texts fs))) (grown before name f) fs)) (run (at + length (after_commas (field_texts fs)) + 1) (done_with (grown before name f) fs, st) rest)
-  reads_more no_fields f place before name rest at st = next_closed f place before name rest at st
-  reads_more (field n g fs) f place before name rest at st =
+  reads_more : (fs : Fields) (f : Form) (before : Open) (name : Utf8) (rest : Utf8) (at : ℕ) (st : List Level)
+      → read at (Done f, In_field before name ∷ st) (after_commas (field_texts fs) ++ 125 ∷ rest)
+      ≡ settle (or_else (fields_refusal (at + 1) (length st + 1) fs) (brace_refusal (at + length (after_commas (field_texts fs))) (grown before name f) fs)) (read (at + length (after_commas (field_texts fs)) + 1) (done_with (grown before name f) fs, st) rest)
+  reads_more no_fields f before name rest at st = next_closed f before name rest at st
+  reads_more (field n g fs) f before name rest at st =
       let o = grown before name f in
       let m : Level = In_field o n in
       let inner = at + 1 + length (name_text n) + 1 in
       let bytes = (name_text n ++ 58 ∷ text g) ++ after_commas (field_texts fs) in
-      run_step at (resumed place f) (In_field before name ∷ st) 44 (bytes ++ 125 ∷ rest) _ (comma_step f place before name st at)
-      ∙ one_field n g fs o rest (at + 1) (Field_due o) st (next_begins (at + 1) o st) (reads_form g (after_commas (field_texts fs) ++ 125 ∷ rest) inner (m ∷ st)) (reads_more fs g inner o n rest (inner + length (text g)) st)
-      ∙ same_end (fields_refusal (at + 1) (length st + 1) (field n g fs)) (at + 1 + length bytes) (at + length (44 ∷ bytes)) (at + 1 + length bytes + 1) (at + length (44 ∷ bytes) + 1) o.place o.name (joined o.fields (field n g fs)) (joined o.fields (field n g fs)) st rest
+      read_step at (Done f) (In_field before name ∷ st) 44 (bytes ++ 125 ∷ rest) _ (comma_step f before name st at)
+      ∙ one_field n g fs o rest (at + 1) (Field_due o) st (next_begins (at + 1) o st) (reads_form g (after_commas (field_texts fs) ++ 125 ∷ rest) inner (m ∷ st) (more_ends fs rest)) (reads_more fs g o n rest (inner + length (text g)) st)
+      ∙ same_end (fields_refusal (at + 1) (length st + 1) (field n g fs)) (at + 1 + length bytes + 1) (at + length (44 ∷ bytes) + 1) (at + 1 + length bytes + 1) (at + length (44 ∷ bytes) + 1) o.place o.name (joined o.fields (field n g fs)) (joined o.fields (field n g fs)) st rest
       (omega arith) (omega arith) refl

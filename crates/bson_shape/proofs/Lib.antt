@@ -3,6 +3,7 @@ pub mod NameRuns
 pub mod FormRuns
 pub mod States
 pub mod TextStates
+pub mod Wraps
 pub mod Steps
 pub mod Made
 pub mod Names

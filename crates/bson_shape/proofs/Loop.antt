@@ -9,7 +9,7 @@ use Rattle.bson_shape.specs.declared.error.ParseError.TheVariants as errors
 use Rattle.bson_shape.specs.Machine.{State, Refusal, Not_notation, Refused, ◌>>=◌, step, run}
 use Rattle.bson_shape.specs.Answers.{error_of, Fails}
 
-bound_assoc : {A B C : Type 0} (r : Result A Refusal) (f : A → Result B Refusal) (g : B → Result C Refusal) → ((r >>= f) >>= g) ≡ (r >>= λ x. f x >>= g)
+pub bound_assoc : {A B C : Type 0} (r : Result A Refusal) (f : A → Result B Refusal) (g : B → Result C Refusal) → ((r >>= f) >>= g) ≡ (r >>= λ x. f x >>= g)
 bound_assoc (Ok x) f g = refl
 bound_assoc (Err e) f g = refl
 

@@ -5,9 +5,9 @@ use Rattle.std.specs.Str.{is_utf8}
 use Rattle.std.proofs.lemmas.Bool.{true≢false, cond-false, le-ltb}
 use Rattle.bson_base.specs.Text.{Utf8}
 use Rattle.bson_base.specs.Reserved.{reserved_kind}
-use Rattle.bson_shape.specs.Form.{Form, sequence, structure, Fields}
+use Rattle.bson_shape.specs.Form.{Form, newtype, structure, Fields}
 use Rattle.bson_shape.specs.Levels.{levels, deepest, max_shape_levels}
-use Rattle.bson_shape.specs.Makers.{AreDistinct, repeats, IsStruct, IsShape, AreShapes, Makes, made_sequence, made_structure}
+use Rattle.bson_shape.specs.Makers.{is_reserved_newtype, AreDistinct, repeats, IsNewtype, IsStruct, IsShape, AreShapes, Makes, within_levels, made_newtype, made_structure}
 use Rattle.bson_shape.specs.declared.error.ShapeError.{ShapeError}
 use Rattle.bson_shape.specs.declared.error.ShapeError.TheVariants.{ReservedName, RepeatedName, TooDeep}
 
@@ -19,23 +19,34 @@ none_from (Some x) e = absurd (true≢false e)
 pub structure_passed : (name : Utf8) (fs : Fields) → is_utf8 name ≡ true → is_some (reserved_kind name) ≡ false → AreDistinct fs → deepest fs < max_shape_levels → AreShapes fs → IsShape (structure name fs)
 structure_passed name fs text free distinct few shapes = (record { text = text; free = none_from _ free; distinct = distinct; few = omega arith }, shapes)
 
+-- a form of few levels is made
+pub within_levels-few : (f : Form) → levels f ≤ max_shape_levels → within_levels f ≡ Ok f
+within_levels-few f few = cond-false (nat_lt max_shape_levels (levels f)) _ _ (le-ltb _ _ few)
+
+-- the maker makes each newtype that is as it asks
+pub made_newtype-IsNewtype : (name : Utf8) (f : Form) → IsNewtype name f → made_newtype name f ≡ Ok (newtype name f)
+made_newtype-IsNewtype name f is = cond-false (is_reserved_newtype name) _ _ is.free ∙ within_levels-few (newtype name f) is.few
+
 -- the maker makes each struct that is as it asks
 pub made_structure-IsStruct : (name : Utf8) (fs : Fields) → IsStruct name fs → made_structure name fs ≡ Ok (structure name fs)
 made_structure-IsStruct name fs is =
-    cond-false (is_some (reserved_kind name)) _ _ (ap is_some is.free) ∙ cond-false (repeats fs) _ _ is.distinct ∙ cond-false (nat_lt max_shape_levels (levels (structure name fs))) _ _ (le-ltb _ _ is.few)
-
--- the maker makes each sequence of few levels
-pub made_sequence-few : (f : Form) → levels (sequence f) ≤ max_shape_levels → made_sequence f ≡ Ok (sequence f)
-made_sequence-few f few = cond-false (nat_lt max_shape_levels (levels (sequence f))) _ _ (le-ltb _ _ few)
+    cond-false (is_some (reserved_kind name)) _ _ (ap is_some is.free) ∙ cond-false (repeats fs) _ _ is.distinct ∙ within_levels-few (structure name fs) is.few
 
 -- ---- the answers of the makers
 
-sequence_answers : (P : Result Form ShapeError → Type 0) (f : Form) → P (Err TooDeep) → P (Ok (sequence f)) → P (made_sequence f)
-sequence_answers P f deep made = by_test (nat_lt max_shape_levels (levels (sequence f)))
+within_answers : (P : Result Form ShapeError → Type 0) (f : Form) → P (Err TooDeep) → P (Ok f) → P (within_levels f)
+within_answers P f deep made = by_test (nat_lt max_shape_levels (levels f))
   where
-    by_test : (d : Bool) → P (cond d (Err TooDeep) (Ok (sequence f)))
+    by_test : (d : Bool) → P (cond d (Err TooDeep) (Ok f))
     by_test true = deep
     by_test false = made
+
+newtype_answers : (P : Result Form ShapeError → Type 0) (name : Utf8) (f : Form) → P (Err ReservedName) → P (Err TooDeep) → P (Ok (newtype name f)) → P (made_newtype name f)
+newtype_answers P name f reserved deep made = by_test (is_reserved_newtype name)
+  where
+    by_test : (r : Bool) → P (cond r (Err ReservedName) (within_levels (newtype name f)))
+    by_test true = reserved
+    by_test false = within_answers P (newtype name f) deep made
 
 structure_answers : (P : Result Form ShapeError → Type 0) (name : Utf8) (fs : Fields) → P (Err ReservedName) → P (Err RepeatedName) → P (Err TooDeep) → P (Ok (structure name fs)) → P (made_structure name fs)
 structure_answers P name fs reserved repeated deep made = by_tests (is_some (reserved_kind name)) (repeats fs) (nat_lt max_shape_levels (levels (structure name fs)))
@@ -47,8 +58,11 @@ structure_answers P name fs reserved repeated deep made = by_tests (is_some (res
     by_tests false false false = made
 
 -- a maker makes the form that it is asked for, or refuses
-pub made_sequence-made : (f : Form) → IfOk (made_sequence f) (λ g. g ≡ sequence f)
-made_sequence-made f = sequence_answers (λ r. IfOk r (λ g. g ≡ sequence f)) f tt refl
+pub within_levels-made : (f : Form) → IfOk (within_levels f) (λ g. g ≡ f)
+within_levels-made f = within_answers (λ r. IfOk r (λ g. g ≡ f)) f tt refl
+
+pub made_newtype-made : (name : Utf8) (f : Form) → IfOk (made_newtype name f) (λ g. g ≡ newtype name f)
+made_newtype-made name f = newtype_answers (λ r. IfOk r (λ g. g ≡ newtype name f)) name f tt tt refl
 
 pub made_structure-made : (name : Utf8) (fs : Fields) → IfOk (made_structure name fs) (λ g. g ≡ structure name fs)
 made_structure-made name fs = structure_answers (λ r. IfOk r (λ g. g ≡ structure name fs)) name fs tt tt tt refl

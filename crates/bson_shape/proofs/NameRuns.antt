@@ -3,7 +3,8 @@ use Rattle.std.proofs.Common.{◌≡◌, ℕ, ◌+◌, Bool, true, false, cond, 
 use Rattle.std.specs.List.{list_all}
 use Rattle.bson_base.specs.Text.{Utf8}
 use Rattle.bson_shape.specs.Notation.{begins_bare, in_bare, bare, is_escaped, escaped, quoted, name_text}
-use Rattle.bson_shape.specs.Machine.{Refusal, Open, Level, In_field, Owner, Form_at, Field_of, Mode, Form_due, First_field, Bare, Quoted, Escape, Named, State, ◌>>=◌, opened, begins_name, name_begun, named, word_ended, bare_name, is_unwritten, name_closed, quoted_name, escape, step, run}
+use Rattle.bson_shape.specs.Form.{unit_structure}
+use Rattle.bson_shape.specs.Machine.{Refusal, Open, Level, In_field, In_newtype, Owner, Form_at, Field_of, Mode, Form_due, First_field, Bare, Quoted, Escape, Named, Done, State, ◌>>=◌, opened, begins_name, name_begun, named, word_ended, bare_name, name_closed, quoted_name, escape, step, run}
 use Rattle.bson_shape.proofs.Words.{and_true, or_false, differs}
 
 -- a byte that is taken
@@ -77,32 +78,44 @@ bare_read (b ∷ bs) rest at m owner st begins h =
     run_step at m st b (bs ++ rest) _ first ∙ bare_run bs (b ∷ []) rest (at + 1) owner st both.1
     ∙ same_run (at + 1 + length bs) (at + length (b ∷ bs)) (Bare owner (b ∷ bs)) (Bare owner (b ∷ bs)) st rest (omega arith) refl
 
-close_quote : (at : ℕ) (owner : Owner) (n : Utf8) (st : List Level) → bare n ≡ false → is_unwritten owner n ≡ false → step at (Quoted owner n) st 34 ≡ Ok (Named owner n, st)
+close_quote : (at : ℕ) (owner : Owner) (n : Utf8) (st : List Level) → bare n ≡ false → step at (Quoted owner n) st 34 ≡ Ok (Named owner n, st)
 unfolding step quoted_name name_closed
-close_quote at owner n st h w = rw (h, w) refl
+close_quote at owner n st h = rw h refl
 
-quoted_read : (n rest : Utf8) (at : ℕ) (m : Mode) (owner : Owner) (st : List Level) → BeginsName at m owner st → bare n ≡ false → is_unwritten owner n ≡ false → run at (m, st) (quoted n ++ rest) ≡ run (at + length (quoted n)) (Named owner n, st) rest
-quoted_read n rest at m owner st begins h w =
+quoted_read : (n rest : Utf8) (at : ℕ) (m : Mode) (owner : Owner) (st : List Level) → BeginsName at m owner st → bare n ≡ false → run at (m, st) (quoted n ++ rest) ≡ run (at + length (quoted n)) (Named owner n, st) rest
+quoted_read n rest at m owner st begins h =
     run_step at m st 34 ((escaped n ++ 34 ∷ []) ++ rest) _ (begins 34 refl)
     ∙ ap (run (at + 1) (Quoted owner [], st)) (append_assoc (escaped n) (34 ∷ []) rest)
     ∙ quoted_run n [] (34 ∷ rest) (at + 1) owner st
-    ∙ run_step (at + 1 + length (escaped n)) (Quoted owner n) st 34 rest _ (close_quote (at + 1 + length (escaped n)) owner n st h w)
+    ∙ run_step (at + 1 + length (escaped n)) (Quoted owner n) st 34 rest _ (close_quote (at + 1 + length (escaped n)) owner n st h)
     ∙ same_run (at + 1 + length (escaped n) + 1) (at + length (quoted n)) (Named owner n) (Named owner n) st rest (omega (arith, length-append (escaped n) (34 ∷ []))) refl
 
-read_as : (t : Bool) (n rest : Utf8) (at : ℕ) (m : Mode) (owner : Owner) (st : List Level) → BeginsName at m owner st → is_unwritten owner n ≡ false → bare n ≡ t
+read_as : (t : Bool) (n rest : Utf8) (at : ℕ) (m : Mode) (owner : Owner) (st : List Level) → BeginsName at m owner st → bare n ≡ t
     → run at (m, st) (cond t n (quoted n) ++ rest) ≡ run (at + length (cond t n (quoted n))) (cond t (Bare owner n) (Named owner n), st) rest
-read_as true n rest at m owner st begins w h = bare_read n rest at m owner st begins h
-read_as false n rest at m owner st begins w h = quoted_read n rest at m owner st begins h w
+read_as true n rest at m owner st begins h = bare_read n rest at m owner st begins h
+read_as false n rest at m owner st begins h = quoted_read n rest at m owner st begins h
 
-pub name_read : (n rest : Utf8) (at : ℕ) (m : Mode) (owner : Owner) (st : List Level) → BeginsName at m owner st → is_unwritten owner n ≡ false → run at (m, st) (name_text n ++ rest) ≡ run (at + length (name_text n)) (name_mode owner n, st) rest
-name_read n rest at m owner st begins w = read_as (bare n) n rest at m owner st begins w refl
+pub name_read : (n rest : Utf8) (at : ℕ) (m : Mode) (owner : Owner) (st : List Level) → BeginsName at m owner st → run at (m, st) (name_text n ++ rest) ≡ run (at + length (name_text n)) (name_mode owner n, st) rest
+name_read n rest at m owner st begins = read_as (bare n) n rest at m owner st begins refl
 
 -- a field's name and its colon
 pub colon_step : (at : ℕ) (o : Open) (n : Utf8) (st : List Level) → step at (name_mode (Field_of o) n) st 58 ≡ Ok (Form_due, In_field o n ∷ st)
 unfolding step bare_name word_ended named
 colon_step at o n st = elim (bare n) as (λ t. step at (cond t (Bare (Field_of o) n) (Named (Field_of o) n)) st 58 ≡ Ok (Form_due, In_field o n ∷ st)) [ true ↦ refl | false ↦ refl ]
 
--- a struct's name and its brace
-pub brace_step : (at place : ℕ) (n : Utf8) (st : List Level) → step at (name_mode (Form_at place) n) st 123 ≡ Ok (First_field (opened place n), st)
+-- a newtype's name and `=`
+pub equals_step : (at place : ℕ) (n : Utf8) (st : List Level) → step at (name_mode (Form_at place) n) st 61 ≡ Ok (Form_due, In_newtype place n ∷ st)
 unfolding step bare_name word_ended named
-brace_step at place n st = elim (bare n) as (λ t. step at (cond t (Bare (Form_at place) n) (Named (Form_at place) n)) st 123 ≡ Ok (First_field (opened place n), st)) [ true ↦ refl | false ↦ refl ]
+equals_step at place n st = elim (bare n) as (λ t. step at (cond t (Bare (Form_at place) n) (Named (Form_at place) n)) st 61 ≡ Ok (Form_due, In_newtype place n ∷ st)) [ true ↦ refl | false ↦ refl ]
+
+-- a unit struct's name and `!`
+pub exclamation_step : (at place : ℕ) (n : Utf8) (st : List Level) → step at (name_mode (Form_at place) n) st 33 ≡ Ok (Done (unit_structure n), st)
+unfolding step bare_name word_ended named
+exclamation_step at place n st = elim (bare n) as (λ t. step at (cond t (Bare (Form_at place) n) (Named (Form_at place) n)) st 33 ≡ Ok (Done (unit_structure n), st)) [ true ↦ refl | false ↦ refl ]
+
+-- a struct's name, which is not empty, and its brace
+pub brace_step : (at place b : ℕ) (bs : Utf8) (st : List Level) → step at (name_mode (Form_at place) (b ∷ bs)) st 123 ≡ Ok (First_field (opened place (b ∷ bs)), st)
+unfolding step bare_name word_ended named
+brace_step at place b bs st =
+    let n = b ∷ bs in
+    elim (bare n) as (λ t. step at (cond t (Bare (Form_at place) n) (Named (Form_at place) n)) st 123 ≡ Ok (First_field (opened place n), st)) [ true ↦ refl | false ↦ refl ]

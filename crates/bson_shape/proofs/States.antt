@@ -1,9 +1,9 @@
 -- What a state of the machine has read.
 use Rattle.std.proofs.Common.{◌≡◌, ℕ, true, false, List, [], ◌∷◌, ◌++◌, refl, sym, ap, ◌∙◌, append_assoc, append-nil}
 use Rattle.bson_base.specs.Text.{Utf8}
-use Rattle.bson_shape.specs.Form.{Form, sequence, structure, Fields, no_fields, field, push_field}
-use Rattle.bson_shape.specs.Notation.{bare, escaped, quoted, name_text, struct_name_text, after_commas, listed, text, field_texts}
-use Rattle.bson_shape.specs.Machine.{Open, Level, In_field, In_sequence, Owner, Form_at, Field_of, Mode, Form_due, First_field, Field_due, Bare, Quoted, Escape, Named, Done, State, grown, is_unwritten}
+use Rattle.bson_shape.specs.Form.{Form, optional, sequence, newtype, structure, Fields, no_fields, field, push_field}
+use Rattle.bson_shape.specs.Notation.{in_bare, bare, escaped, quoted, name_text, struct_name_text, after_commas, listed, text, field_texts}
+use Rattle.bson_shape.specs.Machine.{Open, Level, In_field, In_option, In_sequence, In_newtype, Owner, Form_at, Field_of, Mode, Form_due, First_field, Field_due, Bare, Quoted, Escape, Named, Done, State, grown, is_written}
 
 -- the comma before a further field
 abbrev pub sep : Fields → Utf8
@@ -21,7 +21,9 @@ owner_text (Field_of o) = open_text o ++ sep o.fields
 -- what is written of a form before the one inside it
 abbrev pub level_text : Level → Utf8
 level_text (In_field o n) = open_text o ++ (sep o.fields ++ (name_text n ++ 58 ∷ []))
+level_text (In_option place) = 63 ∷ []
 level_text (In_sequence place) = 91 ∷ []
+level_text (In_newtype place n) = name_text n ++ 61 ∷ []
 
 abbrev pub levels_text : List Level → Utf8
 levels_text [] = []
@@ -40,6 +42,13 @@ mode_text (Done f) = text f
 abbrev pub written : State → Utf8
 written s = levels_text s.1 ++ mode_text s.0
 
+-- a form's text has a last byte of its own, which belongs to no word
+pub record HasLastByte (f : Form) : Type 0 where
+  pub before : Utf8
+  pub byte : ℕ
+  pub whole : text f ≡ before ++ byte ∷ []
+  pub closes : in_bare byte ≡ false
+
 abbrev pub ValidMode : Mode → Type 0
 ValidMode Form_due = Unit {0}
 ValidMode (First_field o) = sep o.fields ≡ []
@@ -47,8 +56,8 @@ ValidMode (Field_due o) = sep o.fields ≡ 44 ∷ []
 ValidMode (Bare owner n) = bare n ≡ true
 ValidMode (Quoted owner n) = Unit {0}
 ValidMode (Escape owner n) = Unit {0}
-ValidMode (Named owner n) = (bare n ≡ false) × (is_unwritten owner n ≡ false)
-ValidMode (Done f) = Unit {0}
+ValidMode (Named owner n) = bare n ≡ false
+ValidMode (Done f) = HasLastByte f
 
 after_commas-snoc : (fs : Fields) (n : Utf8) (f : Form) → after_commas (field_texts (push_field fs n f)) ≡ after_commas (field_texts fs) ++ 44 ∷ (name_text n ++ 58 ∷ text f)
 after_commas-snoc no_fields n f = ap (λ xs. 44 ∷ xs) (append-nil (name_text n ++ 58 ∷ text f))
@@ -85,6 +94,14 @@ levels_grown o name st f =
     ∙ ap (λ xs. open_text o ++ xs) (append_assoc (sep o.fields) (n ++ 58 ∷ []) (text f) ∙ ap (λ xs. sep o.fields ++ xs) (append_assoc n (58 ∷ []) (text f)))
     ∙ sym (grown_text o name f))
 
+-- an option's text is that of its inner form behind `?`
+pub levels_inner : (place : ℕ) (st : List Level) (f : Form) → levels_text st ++ text (optional f) ≡ levels_text (In_option place ∷ st) ++ text f
+levels_inner place st f = sym (append_assoc (levels_text st) (63 ∷ []) (text f))
+
+-- a newtype's text is that of its inner form behind its name and `=`
+pub levels_named : (place : ℕ) (n : Utf8) (st : List Level) (f : Form) → levels_text st ++ text (newtype n f) ≡ levels_text (In_newtype place n ∷ st) ++ text f
+levels_named place n st f = ap (λ xs. levels_text st ++ xs) (sym (append_assoc (name_text n) (61 ∷ []) (text f))) ∙ sym (append_assoc (levels_text st) (name_text n ++ 61 ∷ []) (text f))
+
 -- a sequence's text is that of its items' form between brackets
 pub levels_item : (place : ℕ) (st : List Level) (f : Form) → levels_text st ++ text (sequence f) ≡ (levels_text (In_sequence place ∷ st) ++ text f) ++ 93 ∷ []
 levels_item place st f = regrouped (levels_text st) (text f)
@@ -102,6 +119,6 @@ name-bare n h = rw h refl
 pub name-quoted : (n : Utf8) → bare n ≡ false → name_text n ≡ quoted n
 name-quoted n h = rw h refl
 
-pub struct_name-quoted : (n : Utf8) (place : ℕ) → bare n ≡ false → is_unwritten (Form_at place) n ≡ false → struct_name_text n ≡ quoted n
-struct_name-quoted [] place h w = absurd cc
-struct_name-quoted (b ∷ bs) place h w = rw h refl
+pub struct_name-quoted : (n : Utf8) → bare n ≡ false → is_written n ≡ true → struct_name_text n ≡ quoted n
+struct_name-quoted [] h w = absurd cc
+struct_name-quoted (b ∷ bs) h w = rw h refl

@@ -4,22 +4,25 @@ use Rattle.std.specs.List.{list_all}
 use Rattle.std.specs.Prelude.{nat_le, IfOk}
 use Rattle.std.proofs.lemmas.Bool.{eqb-true}
 use Rattle.bson_base.specs.Text.{Utf8}
-use Rattle.bson_shape.specs.Form.{Form, leaf, sequence, structure}
+use Rattle.bson_shape.specs.Form.{Form, leaf, sequence, unit_structure, structure}
 use Rattle.bson_shape.specs.Leaf.{of_word}
 use Rattle.bson_shape.specs.declared.leaf.Leaf.{Leaf}
 use Rattle.bson_shape.specs.Makers.{made_sequence, made_structure}
 use Rattle.bson_shape.specs.declared.error.ShapeError.{ShapeError}
 use Rattle.bson_shape.specs.declared.error.ShapeError.TheVariants.{TooDeep}
-use Rattle.bson_shape.specs.Notation.{begins_bare, in_bare, bare, is_escaped, escaped, quoted, name_text, text}
+use Rattle.bson_shape.specs.Notation.{begins_bare, in_bare, bare, names_form, is_escaped, escaped, quoted, name_text, struct_name_text, text}
 use Rattle.bson_shape.specs.FirstRefusal.{MakerRefusal}
-use Rattle.bson_shape.specs.Machine.{Refusal, Not_notation, Refused, Open, Level, In_field, In_sequence, Owner, Form_at, Field_of, Mode, Form_due, First_field, Field_due, Bare, Quoted, Escape, Named, Done, State, opened, grown, made, closed, form_ended, begins_name, name_begun, opens_form, begins_form, form_begun, form_due, field_due, first_field, named, leaf_ended, word_ended, bare_name, is_unwritten, name_closed, quoted_name, escape, step}
-use Rattle.bson_shape.proofs.Made.{made_sequence-made, made_structure-made}
-use Rattle.bson_shape.proofs.Words.{and_true, or_false, or_rest, of_word-is}
+use Rattle.bson_shape.specs.Machine.{Refusal, Not_notation, Refused, Open, Level, In_field, In_option, In_sequence, In_newtype, Owner, Form_at, Field_of, Mode, Form_due, First_field, Field_due, Bare, Quoted, Escape, Named, Done, State, opened, grown, ◌>>=◌, Ended, wrapped, closed, struct_closed, enclosed, form_ended, begins_name, name_begun, opens_form, begins_form, form_begun, form_due, field_due, first_field, is_written, form_named, named, leaf_ended, word_ended, bare_name, name_closed, quoted_name, escape, step}
+use Rattle.bson_shape.proofs.Made.{within_levels-made, made_structure-made}
+use Rattle.bson_shape.proofs.Words.{and_true, or_rest, differs}
+use Rattle.std.specs.Prelude.{◌⊎◌}
 use Rattle.std.specs.Str.{is_utf8}
-use Rattle.std.proofs.Common.{◌<◌}
-use Rattle.bson_shape.specs.Fronts.{HasTextNames}
+use Rattle.std.proofs.Common.{◌+◌, ◌<◌, inl, inr, arith}
+use Rattle.std.proofs.lemmas.Bool.Decides.{nat_tests}
+use Rattle.bson_shape.specs.Fronts.{HasTextNames, goes_on}
 use Rattle.bson_shape.proofs.TextStates.{TextOpen, TextOwner, TextLevels, TextState, text-nil, text-one, text-push, texts-snoc}
 use Rattle.bson_shape.proofs.States.{sep, open_text, owner_text, levels_text, written, ValidMode, sep-snoc, closed_text, levels_grown, levels_item, struct_name-bare, name-bare, name-quoted, struct_name-quoted}
+use Rattle.bson_shape.proofs.Wraps.{Keeps, wrapped_keeps, IsWord, Behind, behind_text, behind_names, EndsForm}
 
 -- the state after a byte
 pub record Takes (s : State) (b : ℕ) (t : State) : Type 0 where
@@ -27,15 +30,22 @@ pub record Takes (s : State) (b : ℕ) (t : State) : Type 0 where
   pub grew : written t ≡ written s ++ b ∷ []
   pub texts : TextState s → b < 128 → TextState t
 
--- the byte goes on with a notation, and a maker refuses
+-- the byte goes on with a notation, and a maker refuses behind it
 pub record Refuses (at : ℕ) (s : State) (b : ℕ) (r : MakerRefusal) : Type 0 where
-  pub met : r.met ≡ at
+  pub met : r.met ≡ at + 1
+  pub low : b < 128
   pub state : State
   pub takes : Takes s b state
+  -- a byte of a word is the first one of a form
+  pub word : in_bare b ≡ true → IsWord state.0
+
+-- a maker refuses before the byte, where that ends a form
+abbrev pub RefusesBefore : ℕ → State → ℕ → MakerRefusal → Type 0
+RefusesBefore at s b r = EndsForm at s r × (IsWord s.0 → goes_on (b ∷ []) ≡ false)
 
 abbrev pub StopsAt : ℕ → State → ℕ → Refusal → Type 0
 StopsAt at s b (Not_notation q) = q ≡ at
-StopsAt at s b (Refused r) = Refuses at s b r
+StopsAt at s b (Refused r) = Refuses at s b r ⊎ RefusesBefore at s b r
 
 abbrev pub Leaves : ℕ → State → ℕ → Result State Refusal → Type 0
 Leaves at s b (Ok t) = Takes s b t
@@ -48,29 +58,34 @@ chosen at s b false x y f g = g refl
 -- ---- the last byte of a form
 
 -- the maker makes the form or refuses
-made_leaves : (r : Result Form ShapeError) (f : Form) (at place : ℕ) (st : List Level) (s : State) (b : ℕ) → IfOk r (λ g. g ≡ f) → Takes s b (Done f, st) → Leaves at s b (made at place st r)
-made_leaves (Ok g) f at place st s b same h = subst (λ g. Takes s b (Done g, st)) (sym same) h
-made_leaves (Err e) f at place st s b same h = record { met = refl; state = (Done f, st); takes = h }
+closed_leaves : (r : Result Form ShapeError) (f : Form) (at place : ℕ) (st : List Level) (s : State) (b : ℕ) → IfOk r (λ g. g ≡ f) → b < 128 → in_bare b ≡ false → Takes s b (Done f, st) → Leaves at s b (closed at place st r)
+closed_leaves (Ok g) f at place st s b same low closes h = subst (λ g. Takes s b (Done g, st)) (sym same) h
+closed_leaves (Err e) f at place st s b same low closes h = inl (record { met = refl; low = low; state = (Done f, st); takes = h; word = λ k. absurd (let clash : true ≡ false = sym k ∙ closes in cc) })
 
-closed_leaves : (at : ℕ) (o : Open) (st : List Level) (s : State) → written s ≡ levels_text st ++ open_text o → (TextState s → TextOpen o × TextLevels st) → Leaves at s 125 (closed at o st)
-closed_leaves at o st s so_far has =
-    made_leaves (made_structure o.name o.fields) (structure o.name o.fields) at o.place st s 125 (made_structure-made o.name o.fields)
+struct_leaves : (at : ℕ) (o : Open) (st : List Level) (s : State) → written s ≡ levels_text st ++ open_text o → (TextState s → TextOpen o × TextLevels st) → Leaves at s 125 (struct_closed at o st)
+struct_leaves at o st s so_far has =
+    closed_leaves (made_structure o.name o.fields) (structure o.name o.fields) at o.place st s 125 (made_structure-made o.name o.fields) (omega arith) refl
     (record {
-      valid = tt;
+      valid = record { before = open_text o; byte = 125; whole = closed_text o; closes = refl };
       grew = ap (λ xs. levels_text st ++ xs) (closed_text o) ∙ sym (append_assoc (levels_text st) (open_text o) (125 ∷ [])) ∙ ap (λ xs. xs ++ 125 ∷ []) (sym so_far);
       texts = λ h _. record { mode = (has h).0; levels = (has h).1 };
     })
 
-ended_leaves : (at : ℕ) (f : Form) (st : List Level) (b : ℕ) (s : State) → written s ≡ levels_text st ++ text f → (TextState s → HasTextNames f × TextLevels st) → Leaves at s b (form_ended at f st b)
-unfolding form_ended
-ended_leaves at f [] b s so_far has = refl
-ended_leaves at f (In_sequence place ∷ st) b s so_far has =
-    chosen at s b (eqb b 93) (made at place st (made_sequence f)) _
+enclosed_leaves : (at : ℕ) (f : Form) (st : List Level) (b : ℕ) (s : State) → written s ≡ levels_text st ++ text f → (TextState s → HasTextNames f × TextLevels st) → Leaves at s b (enclosed at f st b)
+enclosed_leaves at f [] b s so_far has = refl
+enclosed_leaves at f (In_option place ∷ st) b s so_far has = refl
+enclosed_leaves at f (In_newtype place n ∷ st) b s so_far has = refl
+enclosed_leaves at f (In_sequence place ∷ st) b s so_far has =
+    chosen at s b (eqb b 93) (closed at place st (made_sequence f)) _
     (λ h. rw (eqb-true b 93 h)
-    (made_leaves (made_sequence f) (sequence f) at place st s 93 (made_sequence-made f)
-    (record { valid = tt; grew = levels_item place st f ∙ ap (λ xs. xs ++ 93 ∷ []) (sym so_far); texts = λ k _. record { mode = (has k).0; levels = (has k).1 } })))
+    (closed_leaves (made_sequence f) (sequence f) at place st s 93 (within_levels-made (sequence f)) (omega arith) refl
+    (record {
+      valid = record { before = 91 ∷ text f; byte = 93; whole = refl; closes = refl };
+      grew = levels_item place st f ∙ ap (λ xs. xs ++ 93 ∷ []) (sym so_far);
+      texts = λ k _. record { mode = (has k).0; levels = (has k).1 };
+    })))
     (λ h. refl)
-ended_leaves at f (In_field around name ∷ st) b s so_far has =
+enclosed_leaves at f (In_field around name ∷ st) b s so_far has =
     let o = grown around name f in
     let grown_has : TextState s → TextOpen o × TextLevels st = λ h. let t = has h in ((t.1.0.0, texts-snoc around.fields name f t.1.0.1 t.1.1 t.0), t.1.2) in
     let now : written s ≡ levels_text st ++ open_text o = so_far ∙ levels_grown around name st f in
@@ -80,7 +95,18 @@ ended_leaves at f (In_field around name ∷ st) b s so_far has =
       grew = sym (append_assoc (levels_text st) (open_text o) (44 ∷ [])) ∙ ap (λ xs. xs ++ 44 ∷ []) (sym now) ∙ ap (λ x. written s ++ x ∷ []) (sym (eqb-true b 44 h));
       texts = λ k _. record { mode = (grown_has k).0; levels = (grown_has k).1 };
     })
-    (λ h. chosen at s b (eqb b 125) (closed at o st) _ (λ k. rw (eqb-true b 125 k) (closed_leaves at o st s now grown_has)) (λ k. refl))
+    (λ h. chosen at s b (eqb b 125) (struct_closed at o st) _ (λ k. rw (eqb-true b 125 k) (struct_leaves at o st s now grown_has)) (λ k. refl))
+
+-- the forms that end, and the byte
+wrapped_leaves : (r : Result Ended Refusal) (at : ℕ) (f : Form) (m : Mode) (st : List Level) (b : ℕ) → wrapped at f st ≡ r → Keeps at f st r → Behind f m → (IsWord m → goes_on (b ∷ []) ≡ false) → Leaves at (m, st) b (r >>= λ e. enclosed at e.0 e.1 b)
+wrapped_leaves (Ok e) at f m st b is k behind ends =
+    enclosed_leaves at e.0 e.1 b (m, st) (ap (λ xs. levels_text st ++ xs) (behind_text f m behind) ∙ sym k.0) (λ h. k.1 (behind_names f m behind h.mode) h.levels)
+wrapped_leaves (Err (Not_notation q)) at f m st b is k behind ends = absurd k
+wrapped_leaves (Err (Refused r)) at f m st b is k behind ends = inr (record { form = f; behind = behind; refused = is }, ends)
+
+ended_leaves : (at : ℕ) (f : Form) (m : Mode) (st : List Level) (b : ℕ) → Behind f m → (IsWord m → goes_on (b ∷ []) ≡ false) → Leaves at (m, st) b (form_ended at f st b)
+unfolding form_ended
+ended_leaves at f m st b behind ends = wrapped_leaves (wrapped at f st) at f m st b refl (wrapped_keeps st at f) behind ends
 
 -- ---- names
 
@@ -100,38 +126,71 @@ field_leaves : (at : ℕ) (o : Open) (st : List Level) (b : ℕ) (s : State) →
 unfolding field_due
 field_leaves at o st b s so_far has = chosen at s b (begins_name b) (Ok (name_begun (Field_of o) b, st)) _ (λ h. begun_takes (eqb b 34) (Field_of o) st b s refl h so_far has) (λ h. refl)
 
-form_begun_takes : (brace bracket : Bool) (at : ℕ) (st : List Level) (b : ℕ) (s : State) → eqb b 123 ≡ brace → eqb b 91 ≡ bracket → begins_form b ≡ true → written s ≡ levels_text st ++ [] → (TextState s → TextLevels st)
-    → Takes s b (cond brace (First_field (opened at []), st) (cond bracket (Form_due, In_sequence at ∷ st) (name_begun (Form_at at) b, st)))
-form_begun_takes true bracket at st b s is other h so_far has = record { valid = refl; texts = λ k _. record { mode = (text-nil, tt); levels = has k }; grew = sym (append_assoc (levels_text st) [] (123 ∷ [])) ∙ ap (λ xs. xs ++ 123 ∷ []) (sym so_far) ∙ ap (λ x. written s ++ x ∷ []) (sym (eqb-true b 123 is)) }
-form_begun_takes false true at st b s other is h so_far has = record {
+form_begun_takes : (brace bracket question : Bool) (at : ℕ) (st : List Level) (b : ℕ) (s : State) → eqb b 123 ≡ brace → eqb b 91 ≡ bracket → eqb b 63 ≡ question → begins_form b ≡ true → written s ≡ levels_text st ++ [] → (TextState s → TextLevels st)
+    → Takes s b (cond brace (First_field (opened at []), st) (cond bracket (Form_due, In_sequence at ∷ st) (cond question (Form_due, In_option at ∷ st) (name_begun (Form_at at) b, st))))
+form_begun_takes true bracket question at st b s is other third h so_far has = record { valid = refl; texts = λ k _. record { mode = (text-nil, tt); levels = has k }; grew = sym (append_assoc (levels_text st) [] (123 ∷ [])) ∙ ap (λ xs. xs ++ 123 ∷ []) (sym so_far) ∙ ap (λ x. written s ++ x ∷ []) (sym (eqb-true b 123 is)) }
+form_begun_takes false true question at st b s other is third h so_far has = record {
   valid = tt;
   texts = λ k _. record { mode = tt; levels = has k };
   grew = append-nil (levels_text st ++ 91 ∷ []) ∙ sym (append_assoc (levels_text st) [] (91 ∷ [])) ∙ ap (λ xs. xs ++ 91 ∷ []) (sym so_far) ∙ ap (λ x. written s ++ x ∷ []) (sym (eqb-true b 91 is));
 }
-form_begun_takes false false at st b s is other h so_far has = begun_takes (eqb b 34) (Form_at at) st b s refl (or_rest (begins_name b) (opens_form b) h (either_false (eqb b 91) (eqb b 123) other is)) so_far (λ k. (tt, has k))
+form_begun_takes false false true at st b s other third is h so_far has = record {
+  valid = tt;
+  texts = λ k _. record { mode = tt; levels = has k };
+  grew = append-nil (levels_text st ++ 63 ∷ []) ∙ sym (append_assoc (levels_text st) [] (63 ∷ [])) ∙ ap (λ xs. xs ++ 63 ∷ []) (sym so_far) ∙ ap (λ x. written s ++ x ∷ []) (sym (eqb-true b 63 is));
+}
+form_begun_takes false false false at st b s is other third h so_far has =
+    begun_takes (eqb b 34) (Form_at at) st b s refl (or_rest (begins_name b) (opens_form b) h (either_false (eqb b 63 || eqb b 91) (eqb b 123) (either_false (eqb b 63) (eqb b 91) third other) is)) so_far (λ k. (tt, has k))
+
+low_form : (b : ℕ) → begins_form b ≡ true → b < 128
+low_form b h = grind (arith, nat_tests)
+
+-- a byte of a word begins one
+word_begun : (at : ℕ) (st : List Level) (b : ℕ) → in_bare b ≡ true → IsWord (form_begun at st b).0
+word_begun at st b h = rw (differs in_bare b 123 h refl, differs in_bare b 91 h refl, differs in_bare b 63 h refl, differs in_bare b 34 h refl) tt
 
 form_leaves : (at : ℕ) (st : List Level) (b : ℕ) → Leaves at (Form_due, st) b (form_due at st b)
 unfolding form_due
 form_leaves at st b =
     let s : State = (Form_due, st) in
-    let begun : begins_form b ≡ true → Takes s b (form_begun at st b) = λ h. form_begun_takes (eqb b 123) (eqb b 91) at st b s refl refl h refl (λ k. k.levels) in
+    let begun : begins_form b ≡ true → Takes s b (form_begun at st b) = λ h. form_begun_takes (eqb b 123) (eqb b 91) (eqb b 63) at st b s refl refl refl h refl (λ k. k.levels) in
     chosen at s b (begins_form b) _ _
-    (λ h. chosen at s b (nat_le 512 (length st)) (Err (Refused (record { met = at; place = at; cause = TooDeep }))) _ (λ d. record { met = refl; state = form_begun at st b; takes = begun h }) (λ d. begun h))
+    (λ h. chosen at s b (nat_le 512 (length st)) (Err (Refused (record { met = at + 1; place = at; cause = TooDeep }))) _
+    (λ d. inl (record { met = refl; low = low_form b h; state = form_begun at st b; takes = begun h; word = word_begun at st b }))
+    (λ d. begun h))
     (λ h. refl)
 
--- behind a name, as it is written
-named_leaves : (at : ℕ) (owner : Owner) (n : Utf8) (st : List Level) (b : ℕ) (s : State) (piece : Utf8) → ((place : ℕ) → owner ≡ Form_at place → open_text (opened place n) ≡ piece ++ 123 ∷ []) → name_text n ≡ piece → written s ≡ levels_text st ++ (owner_text owner ++ piece)
-    → (TextState s → (TextOwner owner × (is_utf8 n ≡ true)) × TextLevels st) → Leaves at s b (named at owner n st b)
-unfolding named
-named_leaves at (Form_at place) n st b s piece as_struct as_name so_far has =
-    chosen at s b (eqb b 123) (Ok (First_field (opened place n), st)) _
+-- behind a name of a form, as it is written
+form_named_leaves : (at place : ℕ) (n : Utf8) (st : List Level) (b : ℕ) (s : State) (piece : Utf8) → (is_written n ≡ true → struct_name_text n ≡ piece) → name_text n ≡ piece → written s ≡ levels_text st ++ piece
+    → (TextState s → (is_utf8 n ≡ true) × TextLevels st) → Leaves at s b (form_named at place n st b)
+form_named_leaves at place n st b s piece as_struct as_name so_far has =
+    let more : (c : ℕ) → eqb b c ≡ true → levels_text st ++ (piece ++ c ∷ []) ≡ written s ++ b ∷ [] = λ c h. sym (append_assoc (levels_text st) piece (c ∷ [])) ∙ ap (λ xs. xs ++ c ∷ []) (sym so_far) ∙ ap (λ x. written s ++ x ∷ []) (sym (eqb-true b c h)) in
+    chosen at s b (eqb b 61) (Ok (Form_due, In_newtype place n ∷ st)) _
     (λ h. record {
-      valid = refl;
-      texts = λ k _. record { mode = ((has k).0.1, tt); levels = (has k).1 };
-      grew = ap (λ xs. levels_text st ++ xs) (as_struct place refl) ∙ sym (append_assoc (levels_text st) piece (123 ∷ [])) ∙ ap (λ xs. xs ++ 123 ∷ []) (sym so_far) ∙ ap (λ x. written s ++ x ∷ []) (sym (eqb-true b 123 h));
+      valid = tt;
+      texts = λ k _. record { mode = tt; levels = has k };
+      grew = append-nil (levels_text st ++ (name_text n ++ 61 ∷ [])) ∙ ap (λ xs. levels_text st ++ (xs ++ 61 ∷ [])) as_name ∙ more 61 h;
     })
-    (λ h. refl)
-named_leaves at (Field_of o) n st b s piece as_struct as_name so_far has =
+    (λ h. chosen at s b (eqb b 33) (Ok (Done (unit_structure n), st)) _
+    (λ k. record {
+      valid = record { before = name_text n; byte = 33; whole = refl; closes = refl };
+      texts = λ t _. record { mode = (has t).0; levels = (has t).1 };
+      grew = ap (λ xs. levels_text st ++ (xs ++ 33 ∷ [])) as_name ∙ more 33 k;
+    })
+    (λ k. chosen at s b (eqb b 123 && is_written n) (Ok (First_field (opened place n), st)) _
+    (λ both. let t = and_true (eqb b 123) (is_written n) both in
+    record {
+      valid = refl;
+      texts = λ t _. record { mode = ((has t).0, tt); levels = (has t).1 };
+      grew = ap (λ xs. levels_text st ++ (xs ++ 123 ∷ [])) (as_struct t.1) ∙ more 123 t.0;
+    })
+    (λ none. refl)))
+
+-- behind a name of a field, as it is written
+field_named_leaves : (at : ℕ) (o : Open) (n : Utf8) (st : List Level) (b : ℕ) (s : State) (piece : Utf8) → name_text n ≡ piece → written s ≡ levels_text st ++ (owner_text (Field_of o) ++ piece)
+    → (TextState s → (TextOpen o × (is_utf8 n ≡ true)) × TextLevels st) → Leaves at s b (named at (Field_of o) n st b)
+unfolding named
+field_named_leaves at o n st b s piece as_name so_far has =
     chosen at s b (eqb b 58) (Ok (Form_due, In_field o n ∷ st)) _
     (λ h. record {
       valid = tt;
@@ -146,25 +205,31 @@ named_leaves at (Field_of o) n st b s piece as_struct as_name so_far has =
     regrouped : (a b c d : Utf8) → a ++ (b ++ (c ++ (d ++ 58 ∷ []))) ≡ (a ++ ((b ++ c) ++ d)) ++ 58 ∷ []
     regrouped a b c d = simp append_assoc
 
-word_leaves : (at : ℕ) (o : Option Leaf) (n : Utf8) (place : ℕ) (st : List Level) (b : ℕ) → of_word n ≡ o → Leaves at (Bare (Form_at place) n, st) b (leaf_ended at o st b)
-word_leaves at None n place st b e = refl
-word_leaves at (Some l) n place st b e = ended_leaves at (leaf l) st b (Bare (Form_at place) n, st) (ap (λ xs. levels_text st ++ xs) (of_word-is n l e)) (λ k. (tt, k.levels))
+named_leaves : (at : ℕ) (owner : Owner) (n : Utf8) (st : List Level) (b : ℕ) (s : State) (piece : Utf8) → (is_written n ≡ true → struct_name_text n ≡ piece) → name_text n ≡ piece → written s ≡ levels_text st ++ (owner_text owner ++ piece)
+    → (TextState s → (TextOwner owner × (is_utf8 n ≡ true)) × TextLevels st) → Leaves at s b (named at owner n st b)
+unfolding named
+named_leaves at (Form_at place) n st b s piece as_struct as_name so_far has = form_named_leaves at place n st b s piece as_struct as_name so_far (λ k. ((has k).0.1, (has k).1))
+named_leaves at (Field_of o) n st b s piece as_struct as_name so_far has = field_named_leaves at o n st b s piece as_name so_far has
+
+word_leaves : (o : Option Leaf) (at place : ℕ) (n : Utf8) (st : List Level) (b : ℕ) → of_word n ≡ o → goes_on (b ∷ []) ≡ false → Leaves at (Bare (Form_at place) n, st) b (leaf_ended at o st b)
+word_leaves None at place n st b is ends = refl
+word_leaves (Some l) at place n st b is ends = ended_leaves at (leaf l) (Bare (Form_at place) n) st b (l, is, refl) (λ _. ends)
 
 bare_named : (at : ℕ) (owner : Owner) (n : Utf8) (st : List Level) (b : ℕ) → bare n ≡ true → Leaves at (Bare owner n, st) b (named at owner n st b)
-bare_named at owner n st b v =
-    named_leaves at owner n st b (Bare owner n, st) n (λ place e. ap (λ xs. xs ++ 123 ∷ []) (struct_name-bare n v)) (name-bare n v) refl (λ k. (k.mode, k.levels))
+bare_named at owner n st b v = named_leaves at owner n st b (Bare owner n, st) n (λ _. struct_name-bare n v) (name-bare n v) refl (λ k. (k.mode, k.levels))
 
-word_ended_leaves : (at : ℕ) (owner : Owner) (n : Utf8) (st : List Level) (b : ℕ) → bare n ≡ true → Leaves at (Bare owner n, st) b (word_ended at owner n st b)
+word_ended_leaves : (at : ℕ) (owner : Owner) (n : Utf8) (st : List Level) (b : ℕ) → bare n ≡ true → in_bare b ≡ false → Leaves at (Bare owner n, st) b (word_ended at owner n st b)
 unfolding word_ended
-word_ended_leaves at (Form_at place) n st b v =
-    chosen at (Bare (Form_at place) n, st) b (eqb b 123) (named at (Form_at place) n st b) _ (λ h. bare_named at (Form_at place) n st b v) (λ h. word_leaves at (of_word n) n place st b refl)
-word_ended_leaves at (Field_of o) n st b v = bare_named at (Field_of o) n st b v
+word_ended_leaves at (Form_at place) n st b v out =
+    chosen at (Bare (Form_at place) n, st) b (names_form b) (named at (Form_at place) n st b) _ (λ h. bare_named at (Form_at place) n st b v)
+    (λ h. word_leaves (of_word n) at place n st b refl (either_false (in_bare b) (names_form b) out h))
+word_ended_leaves at (Field_of o) n st b v out = bare_named at (Field_of o) n st b v
 
 all_snoc : (xs : Utf8) (b : ℕ) → list_all in_bare xs ≡ true → in_bare b ≡ true → list_all in_bare (xs ++ b ∷ []) ≡ true
 all_snoc [] b h e = ap (λ t. t && true) e
 all_snoc (x ∷ xs) b h e = let both = and_true (in_bare x) (list_all in_bare xs) h in ap (λ t. t && list_all in_bare (xs ++ b ∷ [])) both.0 ∙ all_snoc xs b both.1 e
 
-bare_snoc : (xs : Utf8) (b : ℕ) → bare xs ≡ true → in_bare b ≡ true → bare (xs ++ b ∷ []) ≡ true
+pub bare_snoc : (xs : Utf8) (b : ℕ) → bare xs ≡ true → in_bare b ≡ true → bare (xs ++ b ∷ []) ≡ true
 bare_snoc [] b h e = absurd cc
 bare_snoc (x ∷ xs) b h e = let both = and_true (begins_bare x) (list_all in_bare xs) h in ap (λ t. t && list_all in_bare (xs ++ b ∷ [])) both.0 ∙ all_snoc xs b both.1 e
 
@@ -173,7 +238,7 @@ unfolding bare_name
 bare_leaves at owner n st b v =
     chosen at (Bare owner n, st) b (in_bare b) (Ok (Bare owner (n ++ b ∷ []), st)) _
     (λ h. record { valid = bare_snoc n b v h; texts = λ k low. record { mode = (k.mode.0, text-push n b k.mode.1 low); levels = k.levels }; grew = ap (λ xs. levels_text st ++ xs) (sym (append_assoc (owner_text owner) n (b ∷ []))) ∙ sym (append_assoc (levels_text st) (owner_text owner ++ n) (b ∷ [])) })
-    (λ h. word_ended_leaves at owner n st b v)
+    (λ h. word_ended_leaves at owner n st b v h)
 
 -- ---- between quotes
 
@@ -194,9 +259,9 @@ escaped-marked n b h = escaped-append n (b ∷ []) ∙ ap (λ t. escaped n ++ co
 closing_leaves : (at : ℕ) (owner : Owner) (n : Utf8) (st : List Level) → Leaves at (Quoted owner n, st) 34 (name_closed at owner n st)
 unfolding name_closed
 closing_leaves at owner n st =
-    chosen at (Quoted owner n, st) 34 (bare n || is_unwritten owner n) (Err (Not_notation at)) _ (λ h. refl)
+    chosen at (Quoted owner n, st) 34 (bare n) (Err (Not_notation at)) _ (λ h. refl)
     (λ h. record {
-      valid = or_false (bare n) (is_unwritten owner n) h;
+      valid = h;
       texts = λ k _. record { mode = k.mode; levels = k.levels };
       grew = ap (λ xs. levels_text st ++ xs) (sym (append_assoc (owner_text owner) (34 ∷ escaped n) (34 ∷ []))) ∙ sym (append_assoc (levels_text st) (owner_text owner ++ 34 ∷ escaped n) (34 ∷ []));
     })
@@ -239,7 +304,7 @@ no_comma st o rest e = ap (λ xs. levels_text st ++ (open_text o ++ xs)) (sym e)
 first_leaves : (at : ℕ) (o : Open) (st : List Level) (b : ℕ) → sep o.fields ≡ [] → Leaves at (First_field o, st) b (first_field at o st b)
 unfolding first_field
 first_leaves at o st b v =
-    chosen at (First_field o, st) b (eqb b 125) (closed at o st) _ (λ h. rw (eqb-true b 125 h) (closed_leaves at o st (First_field o, st) refl (λ k. (k.mode, k.levels))))
+    chosen at (First_field o, st) b (eqb b 125) (struct_closed at o st) _ (λ h. rw (eqb-true b 125 h) (struct_leaves at o st (First_field o, st) refl (λ k. (k.mode, k.levels))))
     (λ h. field_leaves at o st b (First_field o, st) (ap (λ xs. levels_text st ++ xs) (sym (append-nil (open_text o))) ∙ no_comma st o [] v) (λ k. (k.mode, k.levels)))
 
 pub step_leaves : (at : ℕ) (m : Mode) (st : List Level) (b : ℕ) → ValidMode m → Leaves at (m, st) b (step at m st b)
@@ -251,5 +316,5 @@ step_leaves at (Bare owner n) st b v = bare_leaves at owner n st b v
 step_leaves at (Quoted owner n) st b v = quoted_leaves at owner n st b
 step_leaves at (Escape owner n) st b v = escape_leaves at owner n st b
 step_leaves at (Named owner n) st b v =
-    named_leaves at owner n st b (Named owner n, st) (quoted n) (λ place e. ap (λ xs. xs ++ 123 ∷ []) (struct_name-quoted n place v.0 (subst (λ w. is_unwritten w n ≡ false) e v.1))) (name-quoted n v.0) refl (λ k. (k.mode, k.levels))
-step_leaves at (Done f) st b v = ended_leaves at f st b (Done f, st) refl (λ k. (k.mode, k.levels))
+    named_leaves at owner n st b (Named owner n, st) (quoted n) (struct_name-quoted n v) (name-quoted n v) refl (λ k. (k.mode, k.levels))
+step_leaves at (Done f) st b v = ended_leaves at f (Done f) st b refl (λ h. absurd h)

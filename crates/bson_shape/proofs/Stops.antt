@@ -1,12 +1,15 @@
 -- Where reading stops.
-use Rattle.std.proofs.Common.{◌≡◌, ℕ, ◌+◌, ◌≤◌, ◌<◌, Bool, true, false, List, [], ◌∷◌, ◌++◌, length, Result, Ok, Err, refl, sym, ap, subst, ◌∙◌, append_assoc, append-nil, length-append, arith, inl, inr}
+use Rattle.std.proofs.Common.{◌≡◌, ℕ, ◌+◌, ◌≤◌, ◌<◌, Bool, true, false, List, [], ◌∷◌, ◌++◌, length, Option, Some, None, Result, Ok, Err, refl, sym, ap, subst, ◌∙◌, append_assoc, append-nil, length-append, arith, inl, inr}
 use Rattle.std.specs.Prelude.{◌⊎◌, nat_lt}
 use Rattle.std.specs.Char.{IsScalar}
 use lib.Utf8.{scalar, scalars, encode, encodes}
 use Rattle.std.proofs.lemmas.Bool.Decides.{nat_tests}
 use Rattle.std.proofs.lemmas.Str.{encode_ascii, length-encode, len_utf8_bounds}
 use Rattle.bson_base.specs.Text.{Utf8}
-use Rattle.bson_shape.specs.Machine.{Refusal, Not_notation, Level, Mode, Form_due, First_field, Field_due, Bare, Quoted, Escape, Named, Done, State, ◌>>=◌, step, other_character, run}
+use Rattle.bson_shape.specs.Form.{leaf}
+use Rattle.bson_shape.specs.Leaf.{of_word}
+use Rattle.bson_shape.specs.declared.leaf.Leaf.{Leaf}
+use Rattle.bson_shape.specs.Machine.{Refusal, Not_notation, Level, Form_at, Field_of, Mode, Form_due, First_field, Field_due, Bare, Quoted, Escape, Named, Done, State, ◌>>=◌, wrapped, step, no_more_behind, other_character, run}
 use Rattle.bson_shape.proofs.Words.{and_true}
 use Rattle.bson_shape.proofs.TextStates.{TextState, text-append, text-encode}
 use Rattle.bson_shape.proofs.States.{written, ValidMode}
@@ -83,18 +86,27 @@ run_stops (b ∷ bs) at s e h =
 pub record TextStops (at : ℕ) (s : State) (bs : Utf8) (e : Refusal) : Type 0 where
   pub stops : Stops at s bs e
   pub texts : TextState stops.state
-  pub low : stops.byte < 128 ⊎ (e ≡ Not_notation (at + length stops.front))
 
-other_refused : (at : ℕ) (m : Mode) (st : List Level) (xs : Utf8) (e : Refusal) → other_character at m st xs ≡ Err e → (e ≡ Not_notation at) × ((ys : Utf8) → other_character at m st ys ≡ Err e)
+-- the same is refused of other bytes
+other_refused : (at : ℕ) (m : Mode) (st : List Level) (xs ys : Utf8) (e : Refusal) → other_character at m st xs ≡ Err e → other_character at m st ys ≡ Err e
 unfolding other_character
-other_refused at (Quoted owner n) st xs e h = absurd (let g : (let r : Result State Refusal = Ok (Quoted owner (n ++ xs), st) in r) ≡ Err e = h in cc)
-other_refused at Form_due st xs e h = (let g : (let r : Result State Refusal = Err (Not_notation at) in r) ≡ Err e = h in cc, λ ys. h)
-other_refused at (First_field o) st xs e h = (let g : (let r : Result State Refusal = Err (Not_notation at) in r) ≡ Err e = h in cc, λ ys. h)
-other_refused at (Field_due o) st xs e h = (let g : (let r : Result State Refusal = Err (Not_notation at) in r) ≡ Err e = h in cc, λ ys. h)
-other_refused at (Bare owner n) st xs e h = (let g : (let r : Result State Refusal = Err (Not_notation at) in r) ≡ Err e = h in cc, λ ys. h)
-other_refused at (Escape owner n) st xs e h = (let g : (let r : Result State Refusal = Err (Not_notation at) in r) ≡ Err e = h in cc, λ ys. h)
-other_refused at (Named owner n) st xs e h = (let g : (let r : Result State Refusal = Err (Not_notation at) in r) ≡ Err e = h in cc, λ ys. h)
-other_refused at (Done f) st xs e h = (let g : (let r : Result State Refusal = Err (Not_notation at) in r) ≡ Err e = h in cc, λ ys. h)
+other_refused at (Quoted owner n) st xs ys e h = absurd (let g : (let r : Result State Refusal = Ok (Quoted owner (n ++ xs), st) in r) ≡ Err e = h in cc)
+other_refused at Form_due st xs ys e h = h
+other_refused at (First_field o) st xs ys e h = h
+other_refused at (Field_due o) st xs ys e h = h
+other_refused at (Bare (Form_at place) n) st xs ys e h = h
+other_refused at (Bare (Field_of o) n) st xs ys e h = h
+other_refused at (Escape owner n) st xs ys e h = h
+other_refused at (Named owner n) st xs ys e h = h
+other_refused at (Done f) st xs ys e h = h
+
+not_taken : {A : Type 0} (r : Result A Refusal) (e : Refusal) (t : State) → (r >>= λ x. Err e) ≡ Ok t → ⊥
+not_taken (Ok x) e t h = let g : (let r : Result State Refusal = Err e in r) ≡ Ok t = h in cc
+not_taken (Err d) e t h = let g : (let r : Result State Refusal = Err d in r) ≡ Ok t = h in cc
+
+word_not_taken : (o : Option Leaf) (at : ℕ) (st : List Level) (t : State) → no_more_behind at o st ≡ Ok t → ⊥
+word_not_taken None at st t h = let g : (let r : Result State Refusal = Err (Not_notation at) in r) ≡ Ok t = h in cc
+word_not_taken (Some l) at st t h = not_taken (wrapped at (leaf l) st) (Not_notation at) t h
 
 other_taken : (at : ℕ) (m : Mode) (st : List Level) (c : ℕ) (t : State) → IsScalar c → TextState (m, st) → other_character at m st (encode c) ≡ Ok t → TextState t
 unfolding other_character
@@ -104,10 +116,11 @@ other_taken at (Quoted owner n) st c t k h e =
 other_taken at Form_due st c t k h e = absurd (let g : (let r : Result State Refusal = Err (Not_notation at) in r) ≡ Ok t = e in cc)
 other_taken at (First_field o) st c t k h e = absurd (let g : (let r : Result State Refusal = Err (Not_notation at) in r) ≡ Ok t = e in cc)
 other_taken at (Field_due o) st c t k h e = absurd (let g : (let r : Result State Refusal = Err (Not_notation at) in r) ≡ Ok t = e in cc)
-other_taken at (Bare owner n) st c t k h e = absurd (let g : (let r : Result State Refusal = Err (Not_notation at) in r) ≡ Ok t = e in cc)
+other_taken at (Bare (Form_at place) n) st c t k h e = absurd (word_not_taken (of_word n) at st t e)
+other_taken at (Bare (Field_of o) n) st c t k h e = absurd (let g : (let r : Result State Refusal = Err (Not_notation at) in r) ≡ Ok t = e in cc)
 other_taken at (Escape owner n) st c t k h e = absurd (let g : (let r : Result State Refusal = Err (Not_notation at) in r) ≡ Ok t = e in cc)
 other_taken at (Named owner n) st c t k h e = absurd (let g : (let r : Result State Refusal = Err (Not_notation at) in r) ≡ Ok t = e in cc)
-other_taken at (Done f) st c t k h e = absurd (let g : (let r : Result State Refusal = Err (Not_notation at) in r) ≡ Ok t = e in cc)
+other_taken at (Done f) st c t k h e = absurd (not_taken (wrapped at f st) (Not_notation at) t e)
 
 below : (c : ℕ) → nat_lt c 128 ≡ true → c < 128
 below c h = grind (arith, nat_tests)
@@ -126,11 +139,9 @@ high_stops : (bs : Utf8) (at : ℕ) (s : State) (rest : Utf8) (e : Refusal) → 
 unfolding run
 high_stops [] at s rest e high l h g = absurd (omega arith)
 high_stops (b ∷ bs) at s rest e high l h g =
-    let o = other_refused at s.0 s.1 (b ∷ bs) e g in
     record {
-      stops = record { front = []; byte = b; tail = bs ++ rest; whole = refl; state = s; before = refl; refused = step_at at (at + 0) s b (Err e) (omega arith) (high_step at s.0 s.1 b high.0 ∙ o.1 (b ∷ [])) };
+      stops = record { front = []; byte = b; tail = bs ++ rest; whole = refl; state = s; before = refl; refused = step_at at (at + 0) s b (Err e) (omega arith) (high_step at s.0 s.1 b high.0 ∙ other_refused at s.0 s.1 (b ∷ bs) (b ∷ []) e g) };
       texts = h;
-      low = inr (o.0 ∙ ap Not_notation (omega arith));
     }
 
 character_stops : (low : Bool) (at : ℕ) (s : State) (c : ℕ) (rest : Utf8) (e : Refusal) → nat_lt c 128 ≡ low → TextState s → run at s (encode c) ≡ Err e → TextStops at s (encode c ++ rest) e
@@ -141,7 +152,6 @@ character_stops true at s c rest e is h g =
     record {
       stops = record { front = []; byte = c; tail = rest; whole = ap (λ xs. xs ++ rest) bytes; state = s; before = refl; refused = step_at at (at + 0) s c (Err e) (omega arith) (sym (ascii_read c at s.0 s.1 l) ∙ g) };
       texts = h;
-      low = inl l;
     }
 character_stops false at s c rest e is h g =
     let l = above c is in
@@ -163,7 +173,6 @@ later front bs at s t e before x =
         refused = step_at (at + length front + length k.front) (at + length (front ++ k.front)) k.state k.byte (Err e) place k.refused;
       };
       texts = x.texts;
-      low = elim x.low [ inl l ↦ inl l | inr q ↦ inr (q ∙ ap Not_notation place) ];
     }
 
 pub text_stops : (cs : List ℕ) (at : ℕ) (s : State) (e : Refusal) → scalars cs ≡ true → ValidMode s.0 → TextState s → run at s (encodes cs) ≡ Err e → TextStops at s (encodes cs) e

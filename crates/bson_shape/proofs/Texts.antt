@@ -3,39 +3,42 @@ use Rattle.std.proofs.Common.{◌≡◌, ℕ, ◌+◌, ◌≤◌, ◌<◌, false
 use Rattle.std.specs.Prelude.{nat_le}
 use Rattle.std.proofs.lemmas.List.{append-nil}
 use Rattle.std.proofs.lemmas.Bool.Decides.{nat_tests}
-use Rattle.bson_shape.specs.Form.{Form, leaf, sequence, structure, Fields, no_fields, field}
+use Rattle.bson_base.specs.Text.{Utf8}
+use Rattle.bson_shape.specs.declared.error.ShapeError.{ShapeError}
+use Rattle.bson_shape.specs.Form.{Form, leaf, optional, sequence, newtype, unit_structure, structure, Fields, no_fields, field}
 use Rattle.bson_shape.specs.Levels.{levels, deepest}
-use Rattle.bson_shape.specs.Makers.{IsShape, AreShapes, made_sequence, made_structure}
+use Rattle.bson_shape.specs.Makers.{IsShape, AreShapes, made_optional, made_sequence, made_newtype, made_structure}
 use Rattle.bson_shape.specs.Notation.{text, name_text, struct_name_text, listed, field_texts}
 use Rattle.bson_shape.specs.FirstRefusal.{MakerRefusal, or_else, too_deep, refusal_of, first_refusal, fields_refusal}
-use Rattle.bson_shape.specs.Machine.{Refusal, Refused, Form_due, ◌>>=◌, run, finish, parsed}
-use Rattle.bson_shape.proofs.Words.{of_word-word}
-use Rattle.bson_shape.proofs.Made.{made_sequence-few, made_structure-IsStruct}
+use Rattle.bson_shape.specs.Machine.{Refusal, Refused, Form_due, Done, ◌>>=◌, wrapped, run, finish, parsed}
+use Rattle.bson_shape.proofs.Made.{within_levels-few, made_newtype-IsNewtype, made_structure-IsStruct}
 use Rattle.bson_shape.proofs.Shapes.{levels_few}
-use Rattle.bson_shape.proofs.FormRuns.{settle, resumed, reads_form}
+use Rattle.bson_shape.proofs.FormRuns.{read, settle, reads_form}
 
 -- the answer at the text of a form
 abbrev pub judged : Option MakerRefusal → Form → Result Form Refusal
 judged None f = Ok f
 judged (Some r) f = Err (Refused r)
 
-finished : (f : Form) (place at : ℕ) → finish at (resumed place f) [] ≡ Ok f
-unfolding finish
-finished (leaf l) place at = rw (of_word-word l) refl
-finished f place at = refl
-
-settled : (o : Option MakerRefusal) (f : Form) (at : ℕ) → (settle o (Ok (resumed 0 f, [])) >>= λ s. finish at s.0 s.1) ≡ judged o f
-settled None f at = finished f 0 at
+settled : (o : Option MakerRefusal) (f : Form) (at : ℕ) → settle o (read at (Done f, []) []) ≡ judged o f
+unfolding run finish wrapped
+settled None f at = refl
 settled (Some r) f at = refl
 
+parsed-read : (bytes : Utf8) → parsed bytes ≡ read 0 (Form_due, []) bytes
+unfolding parsed
+parsed-read bytes = ap (λ i. run 0 (Form_due, []) bytes >>= λ s. finish i s.0 s.1) (omega arith)
+
 pub parsed-text : (f : Form) → parsed (text f) ≡ judged (first_refusal 0 0 f) f
-unfolding parsed run
-parsed-text f =
-    ap (λ r. r >>= λ s. finish (length (text f)) s.0 s.1) (ap (run 0 (Form_due, [])) (sym (append-nil (text f))) ∙ reads_form f [] 0 [])
-    ∙ settled (first_refusal 0 0 f) f (length (text f))
+parsed-text f = parsed-read (text f) ∙ ap (read 0 (Form_due, [])) (sym (append-nil (text f))) ∙ reads_form f [] 0 [] refl ∙ settled (first_refusal 0 0 f) f (0 + length (text f))
 
 deep : (at around : ℕ) → nat_le 512 around ≡ false → too_deep at around ≡ None
 deep at around d = rw d refl
+
+-- a form that is not too deep, in which nothing is refused, is made
+none_refused : (at around : ℕ) (item : Option MakerRefusal) (met place : ℕ) (r : Result Form ShapeError) (f : Form) → nat_le 512 around ≡ false → item ≡ None → r ≡ Ok f → or_else (too_deep at around) (or_else item (refusal_of met place r)) ≡ None
+none_refused at around item met place r f d none is =
+    ap (λ o. or_else o (or_else item (refusal_of met place r))) (deep at around d) ∙ ap (λ o. or_else o (refusal_of met place r)) none ∙ ap (refusal_of met place) is
 
 few_around : (around : ℕ) → around < 512 → nat_le 512 around ≡ false
 few_around around h = grind (arith, nat_tests)
@@ -44,21 +47,19 @@ mutual
   -- no maker refuses in a shape
   pub first_refusal-IsShape : (f : Form) (at around : ℕ) → IsShape f → around + levels f ≤ 512 → first_refusal at around f ≡ None
   first_refusal-IsShape (leaf l) at around h few = let d : nat_le 512 around ≡ false = few_around around (omega arith) in rw d refl
+  first_refusal-IsShape (optional f) at around h few =
+      let inner = at + 1 in
+      none_refused at around (first_refusal inner (around + 1) f) (inner + length (text f)) at (made_optional f) (optional f) (few_around around (omega arith)) (first_refusal-IsShape f inner (around + 1) h.1 (omega arith)) (within_levels-few (optional f) h.0)
   first_refusal-IsShape (sequence f) at around h few =
       let inner = at + 1 in
-      let d : nat_le 512 around ≡ false = few_around around (omega arith) in
-      let item : first_refusal inner (around + 1) f ≡ None = first_refusal-IsShape f inner (around + 1) h.1 (omega arith) in
-      ap (λ o. or_else o (or_else (first_refusal inner (around + 1) f) (refusal_of (inner + length (text f)) at (made_sequence f)))) (deep at around d)
-      ∙ ap (λ o. or_else o (refusal_of (inner + length (text f)) at (made_sequence f))) item
-      ∙ ap (refusal_of (inner + length (text f)) at) (made_sequence-few f h.0)
+      none_refused at around (first_refusal inner (around + 1) f) (inner + length (text f) + 1) at (made_sequence f) (sequence f) (few_around around (omega arith)) (first_refusal-IsShape f inner (around + 1) h.1 (omega arith)) (within_levels-few (sequence f) h.0)
+  first_refusal-IsShape (newtype n f) at around h few =
+      let inner = at + length (name_text n) + 1 in
+      none_refused at around (first_refusal inner (around + 1) f) (inner + length (text f)) at (made_newtype n f) (newtype n f) (few_around around (omega arith)) (first_refusal-IsShape f inner (around + 1) h.1 (omega arith)) (made_newtype-IsNewtype n f h.0)
+  first_refusal-IsShape (unit_structure n) at around h few = deep at around (few_around around (omega arith))
   first_refusal-IsShape (structure n fs) at around h few =
       let inner = at + length (struct_name_text n) + 1 in
-      let d : nat_le 512 around ≡ false = few_around around (omega arith) in
-      let fields : fields_refusal inner (around + 1) fs ≡ None = fields_refusal-AreShapes fs inner (around + 1) h.1 (omega arith) in
-      let made = made_structure-IsStruct n fs h.0 in
-      ap (λ o. or_else o (or_else (fields_refusal inner (around + 1) fs) (refusal_of (inner + length (listed (field_texts fs))) at (made_structure n fs)))) (deep at around d)
-      ∙ ap (λ o. or_else o (refusal_of (inner + length (listed (field_texts fs))) at (made_structure n fs))) fields
-      ∙ ap (refusal_of (inner + length (listed (field_texts fs))) at) made
+      none_refused at around (fields_refusal inner (around + 1) fs) (inner + length (listed (field_texts fs)) + 1) at (made_structure n fs) (structure n fs) (few_around around (omega arith)) (fields_refusal-AreShapes fs inner (around + 1) h.1 (omega arith)) (made_structure-IsStruct n fs h.0)
 
   pub fields_refusal-AreShapes : (fs : Fields) (at around : ℕ) → AreShapes fs → around + deepest fs ≤ 512 → fields_refusal at around fs ≡ None
   fields_refusal-AreShapes no_fields at around h few = refl

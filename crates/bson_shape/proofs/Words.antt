@@ -7,7 +7,7 @@ use Rattle.std.proofs.lemmas.Slice.Eq.{bytes_eq-Decides}
 use Rattle.bson_base.specs.Text.{Utf8}
 use Rattle.bson_shape.specs.Leaf.{word, with_word, leaves, of_word}
 use Rattle.bson_shape.specs.declared.leaf.Leaf.{Leaf}
-use Rattle.bson_shape.specs.declared.leaf.Leaf.TheVariants.{I8, I16, I32, I64, U8, U16, U32, U64, String}
+use Rattle.bson_shape.specs.declared.leaf.Leaf.TheVariants as leaf
 use Rattle.bson_shape.specs.Notation.{bare}
 
 pub and_true : (a b : Bool) → (a && b) ≡ true → (a ≡ true) × (b ≡ true)
@@ -48,23 +48,37 @@ of_word-is w l e = with_word-is w leaves l e
 
 pub of_word-word : (l : Leaf) → of_word (word l) ≡ Some l
 unfolding of_word
-of_word-word I8 = refl
-of_word-word I16 = refl
-of_word-word I32 = refl
-of_word-word I64 = refl
-of_word-word U8 = refl
-of_word-word U16 = refl
-of_word-word U32 = refl
-of_word-word U64 = refl
-of_word-word String = refl
+of_word-word leaf.Bool = refl
+of_word-word leaf.I8 = refl
+of_word-word leaf.I16 = refl
+of_word-word leaf.I32 = refl
+of_word-word leaf.I64 = refl
+of_word-word leaf.U8 = refl
+of_word-word leaf.U16 = refl
+of_word-word leaf.U32 = refl
+of_word-word leaf.U64 = refl
+of_word-word leaf.Double = refl
+of_word-word leaf.Char = refl
+of_word-word leaf.Str = refl
+of_word-word leaf.String = refl
+of_word-word leaf.Bytes = refl
+of_word-word leaf.ByteBuf = refl
+of_word-word leaf.Unit = refl
 
 pub bare-word : (l : Leaf) → bare (word l) ≡ true
-bare-word I8 = refl
-bare-word I16 = refl
-bare-word I32 = refl
-bare-word I64 = refl
-bare-word U8 = refl
-bare-word U16 = refl
-bare-word U32 = refl
-bare-word U64 = refl
-bare-word String = refl
+bare-word leaf.Bool = refl
+bare-word leaf.I8 = refl
+bare-word leaf.I16 = refl
+bare-word leaf.I32 = refl
+bare-word leaf.I64 = refl
+bare-word leaf.U8 = refl
+bare-word leaf.U16 = refl
+bare-word leaf.U32 = refl
+bare-word leaf.U64 = refl
+bare-word leaf.Double = refl
+bare-word leaf.Char = refl
+bare-word leaf.Str = refl
+bare-word leaf.String = refl
+bare-word leaf.Bytes = refl
+bare-word leaf.ByteBuf = refl
+bare-word leaf.Unit = refl

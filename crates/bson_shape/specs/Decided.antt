@@ -8,7 +8,7 @@ use Rattle.std.proofs.lemmas.Bool.{and_parts, and_from, false≢true}
 use Rattle.std.proofs.lemmas.Slice.Eq.{bytes_eq-Decides}
 use denote.Enum.Bare.{same_true, true_same}
 use Rattle.bson_base.specs.Text.{Utf8}
-use Rattle.bson_shape.specs.Form.{Form, leaf, sequence, structure, Fields, no_fields, field}
+use Rattle.bson_shape.specs.Form.{Form, leaf, optional, sequence, newtype, unit_structure, structure, Fields, no_fields, field}
 use Rattle.bson_shape.specs.Same.{same, same_fields}
 use Rattle.bson_shape.specs.contracts.leaf.Leaf as leaf_type
 
@@ -18,7 +18,12 @@ bytes_alike name = (bytes_eq-Decides name name).1 refl
 mutual
   same_is : (f g : Form) → same f g ≡ true → f ≡ g
   same_is (leaf l) (leaf m) e = ap leaf (same_true leaf_type.the_type tt l m e)
+  same_is (optional f) (optional g) e = ap optional (same_is f g e)
   same_is (sequence f) (sequence g) e = ap sequence (same_is f g e)
+  same_is (newtype name f) (newtype n g) e =
+      let b = and_parts (bytes_eq name n) (same f g) e in
+      λ i. newtype ((bytes_eq-Decides name n).0 b.0 i) (same_is f g b.1 i)
+  same_is (unit_structure name) (unit_structure n) e = ap unit_structure ((bytes_eq-Decides name n).0 e)
   same_is (structure name fs) (structure n gs) e =
       let b = and_parts (bytes_eq name n) (same_fields fs gs) e in
       λ i. structure ((bytes_eq-Decides name n).0 b.0 i) (fields_are fs gs b.1 i)
@@ -35,7 +40,10 @@ mutual
 mutual
   same_itself : (f : Form) → same f f ≡ true
   same_itself (leaf l) = true_same leaf_type.the_type l l refl
+  same_itself (optional f) = same_itself f
   same_itself (sequence f) = same_itself f
+  same_itself (newtype name f) = and_from _ _ (bytes_alike name) (same_itself f)
+  same_itself (unit_structure name) = bytes_alike name
   same_itself (structure name fs) = and_from _ _ (bytes_alike name) (fields_alike fs)
 
   fields_alike : (fs : Fields) → same_fields fs fs ≡ true

@@ -9,11 +9,18 @@ use Rattle.bson_shape.specs.declared.leaf.Leaf.{Leaf}
 use Rattle.bson_shape.specs.contracts.leaf.Leaf as leaf_type
 
 mutual
-  -- what a reader asks for: a leaf, a sequence, or a struct with a name and fields in order
+  -- what a reader asks for
   pub data Form : Type 0 where
     leaf : Leaf → Form
+    -- null, or a value of this form
+    optional : (inner : Form) → Form
     -- an array whose elements have this form
     sequence : (item : Form) → Form
+    -- a value of the inner form, under a name
+    newtype : (name : Utf8) → (inner : Form) → Form
+    -- null, under a name
+    unit_structure : (name : Utf8) → Form
+    -- a struct with a name and fields in order
     structure : (name : Utf8) → (fields : Fields) → Form
 
   -- the fields of a struct, in order
@@ -36,7 +43,10 @@ text_coded = coded_list coded_ℕ
 abbrev mutual
   pub form_code : Form → Gv
   form_code (leaf l) = gcons (gnum 0) (leaf_type.the_row.coded.code l)
+  form_code (optional f) = gcons (gnum 3) (form_code f)
   form_code (sequence f) = gcons (gnum 2) (form_code f)
+  form_code (newtype n f) = gcons (gnum 4) (gcons (text_coded.code n) (form_code f))
+  form_code (unit_structure n) = gcons (gnum 5) (text_coded.code n)
   form_code (structure n fs) = gcons (gnum 1) (gcons (text_coded.code n) (fields_code fs))
 
   pub fields_code : Fields → Gv
@@ -46,7 +56,10 @@ abbrev mutual
 mutual
   pub form_inj : (x y : Form) → form_code x ≡ form_code y → x ≡ y
   form_inj (leaf l) (leaf m) p = ap leaf (leaf_type.the_row.coded.inj l m (ap (λ g. tail g) p))
+  form_inj (optional f) (optional g) p = ap optional (form_inj f g (ap (λ g. tail g) p))
   form_inj (sequence f) (sequence g) p = ap sequence (form_inj f g (ap (λ g. tail g) p))
+  form_inj (newtype n f) (newtype m g) p = λ i. newtype (text_coded.inj n m (ap (λ g. head (tail g)) p) i) (form_inj f g (ap (λ g. tail (tail g)) p) i)
+  form_inj (unit_structure n) (unit_structure m) p = ap unit_structure (text_coded.inj n m (ap (λ g. tail g) p))
   form_inj (structure n fs) (structure m gs) p = λ i. structure (text_coded.inj n m (ap (λ g. head (tail g)) p) i) (fields_inj fs gs (ap (λ g. tail (tail g)) p) i)
   form_inj x y p = absurd (omega (arith, ap (λ g. num (head g)) p))
 

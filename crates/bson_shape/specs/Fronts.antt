@@ -1,9 +1,9 @@
 -- Which texts begin a notation, and where a text is refused, in the notation's own words.
-use Rattle.std.specs.Prelude.{◌≡◌, ℕ, ◌+◌, ◌<◌, ◌≤◌, ◌++◌, true, length, take, Some}
+use Rattle.std.specs.Prelude.{◌≡◌, ℕ, ◌+◌, ◌<◌, ◌≤◌, [], ◌∷◌, ◌++◌, Bool, true, false, ◌||◌, length, take, drop, Some}
 use Rattle.std.specs.Str.{is_utf8}
 use Rattle.bson_base.specs.Text.{Utf8}
-use Rattle.bson_shape.specs.Form.{Form, leaf, sequence, structure, Fields, no_fields, field}
-use Rattle.bson_shape.specs.Notation.{text}
+use Rattle.bson_shape.specs.Form.{Form, leaf, optional, sequence, newtype, unit_structure, structure, Fields, no_fields, field}
+use Rattle.bson_shape.specs.Notation.{in_bare, names_form, text}
 use Rattle.bson_shape.specs.FirstRefusal.{MakerRefusal, first_refusal}
 use Rattle.bson_shape.specs.InnerForms.{HasFault}
 use Rattle.bson_shape.specs.declared.error.ShapeError.{ShapeError}
@@ -12,7 +12,10 @@ abbrev mutual
   -- each name in the form is a text
   pub HasTextNames : Form → Type 0
   HasTextNames (leaf l) = Unit {0}
+  HasTextNames (optional f) = HasTextNames f
   HasTextNames (sequence f) = HasTextNames f
+  HasTextNames (newtype name f) = (is_utf8 name ≡ true) × HasTextNames f
+  HasTextNames (unit_structure name) = is_utf8 name ≡ true
   HasTextNames (structure name fs) = (is_utf8 name ≡ true) × HaveTextNames fs
 
   pub HaveTextNames : Fields → Type 0
@@ -32,14 +35,27 @@ pub record IsLongestFront (bytes : Utf8) (count : ℕ) : Type 0 where
   pub front : BeginsNotation (take count bytes)
   pub no_longer : count < length bytes → BeginsNotation (take (count + 1) bytes) → ⊥
 
--- The refusal is met in the text: some notation begins with the bytes up to the one at which it is met, and in that notation it is the first.
+-- the last byte is one of a bare name
+abbrev pub ends_in_word : Utf8 → Bool
+ends_in_word [] = false
+ends_in_word (b ∷ []) = in_bare b
+ends_in_word (b ∷ c ∷ bs) = ends_in_word (c ∷ bs)
+
+-- a word before these bytes goes on: it is longer, or it is the name of a form and no leaf
+abbrev pub goes_on : Utf8 → Bool
+goes_on [] = false
+goes_on (b ∷ bs) = in_bare b || names_form b
+
+-- The refusal is met in the text: some notation begins with the bytes that are read when it is met, and in that notation it is the first.
+-- A leaf has no closing byte, so a word that ends there in the notation has to end there in the text, too.
 pub record IsMet (bytes : Utf8) (r : MakerRefusal) : Type 0 where
-  pub within : r.met < length bytes
+  pub within : r.met ≤ length bytes
   pub form : Form
   pub names : HasTextNames form
   pub rest : Utf8
-  pub begins : text form ≡ take (r.met + 1) bytes ++ rest
+  pub begins : text form ≡ take r.met bytes ++ rest
   pub first : first_refusal 0 0 form ≡ Some r
+  pub ended : ends_in_word (take r.met bytes) ≡ true → goes_on rest ≡ false → goes_on (drop r.met bytes) ≡ false
 
 -- So many bytes are the longest front of the text with which some notation begins, and no maker refuses in it.
 pub record IsNotNotationAt (bytes : Utf8) (place : ℕ) : Type 0 where

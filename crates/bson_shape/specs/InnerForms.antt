@@ -1,9 +1,9 @@
 -- The forms in a form, each with its place.
 use Rattle.std.specs.Prelude.{◌≡◌, ℕ, ◌+◌, true, List, [], ◌∷◌, ◌++◌, length, is_some, Contains}
 use Rattle.bson_base.specs.Reserved.{reserved_kind}
-use Rattle.bson_shape.specs.Form.{Form, leaf, sequence, structure, Fields, no_fields, field}
+use Rattle.bson_shape.specs.Form.{Form, leaf, optional, sequence, newtype, unit_structure, structure, Fields, no_fields, field}
 use Rattle.bson_shape.specs.Levels.{max_shape_levels}
-use Rattle.bson_shape.specs.Makers.{repeats}
+use Rattle.bson_shape.specs.Makers.{is_reserved_newtype, repeats}
 use Rattle.bson_shape.specs.Notation.{text, name_text, struct_name_text}
 use Rattle.bson_shape.specs.declared.error.ShapeError.{ShapeError}
 use Rattle.bson_shape.specs.declared.error.ShapeError.TheVariants.{ReservedName, RepeatedName, TooDeep, NoMemory}
@@ -18,7 +18,11 @@ abbrev mutual
   -- a form whose text begins at this place, inside so many others, and the forms in it
   pub inner_forms : ℕ → ℕ → Form → List Inner
   inner_forms at around (leaf l) = record { place = at; around = around; form = leaf l } ∷ []
+  inner_forms at around (optional f) = record { place = at; around = around; form = optional f } ∷ inner_forms (at + 1) (around + 1) f
   inner_forms at around (sequence f) = record { place = at; around = around; form = sequence f } ∷ inner_forms (at + 1) (around + 1) f
+  inner_forms at around (newtype name f) =
+      record { place = at; around = around; form = newtype name f } ∷ inner_forms (at + length (name_text name) + 1) (around + 1) f
+  inner_forms at around (unit_structure name) = record { place = at; around = around; form = unit_structure name } ∷ []
   inner_forms at around (structure name fs) =
       record { place = at; around = around; form = structure name fs } ∷ field_forms (at + length (struct_name_text name) + 1) (around + 1) fs
 
@@ -31,12 +35,18 @@ abbrev mutual
 
 abbrev pub HasReservedName : Form → Type 0
 HasReservedName (leaf l) = ⊥
+HasReservedName (optional f) = ⊥
 HasReservedName (sequence f) = ⊥
+HasReservedName (newtype name f) = is_reserved_newtype name ≡ true
+HasReservedName (unit_structure name) = ⊥
 HasReservedName (structure name fs) = is_some (reserved_kind name) ≡ true
 
 abbrev pub HasRepeatedName : Form → Type 0
 HasRepeatedName (leaf l) = ⊥
+HasRepeatedName (optional f) = ⊥
 HasRepeatedName (sequence f) = ⊥
+HasRepeatedName (newtype name f) = ⊥
+HasRepeatedName (unit_structure name) = ⊥
 HasRepeatedName (structure name fs) = repeats fs ≡ true
 
 -- the cause holds of the form; want of memory holds of none

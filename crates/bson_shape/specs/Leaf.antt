@@ -3,9 +3,10 @@ use Rattle.std.specs.Prelude.{List, [], ◌∷◌, if◌then◌else◌, Option, 
 use Rattle.std.specs.Str.{bytes_eq}
 use Rattle.bson_base.specs.Text.{Utf8}
 use Rattle.bson_shape.specs.declared.leaf.Leaf.{Leaf}
-use Rattle.bson_shape.specs.declared.leaf.Leaf.TheVariants.{I8, I16, I32, I64, U8, U16, U32, U64, String}
+use Rattle.bson_shape.specs.declared.leaf.Leaf.TheVariants.{Bool, I8, I16, I32, I64, U8, U16, U32, U64, Double, Char, Str, String, Bytes, ByteBuf, Unit}
 
 abbrev pub word : Leaf → Utf8
+word Bool = codes "bool"
 word I8 = codes "i8"
 word I16 = codes "i16"
 word I32 = codes "i32"
@@ -14,11 +15,17 @@ word U8 = codes "u8"
 word U16 = codes "u16"
 word U32 = codes "u32"
 word U64 = codes "u64"
+word Double = codes "double"
+word Char = codes "char"
+word Str = codes "str"
 word String = codes "string"
+word Bytes = codes "bytes"
+word ByteBuf = codes "bytebuf"
+word Unit = codes "unit"
 
 -- all leaves
 abbrev pub leaves : List Leaf
-leaves = I8 ∷ I16 ∷ I32 ∷ I64 ∷ U8 ∷ U16 ∷ U32 ∷ U64 ∷ String ∷ []
+leaves = Bool ∷ I8 ∷ I16 ∷ I32 ∷ I64 ∷ U8 ∷ U16 ∷ U32 ∷ U64 ∷ Double ∷ Char ∷ Str ∷ String ∷ Bytes ∷ ByteBuf ∷ Unit ∷ []
 
 -- the one of these leaves that has the word
 abbrev pub with_word : Utf8 → List Leaf → Option Leaf

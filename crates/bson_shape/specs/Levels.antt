@@ -1,6 +1,6 @@
 -- How many forms stand inside one another in a shape.
 use Rattle.std.specs.Prelude.{ℕ, suc, max}
-use Rattle.bson_shape.specs.Form.{Form, leaf, sequence, structure, Fields, no_fields, field}
+use Rattle.bson_shape.specs.Form.{Form, leaf, optional, sequence, newtype, unit_structure, structure, Fields, no_fields, field}
 
 -- the most levels of a shape
 abbrev pub max_shape_levels : ℕ
@@ -10,7 +10,10 @@ abbrev mutual
   -- a form without inner forms has one level, another has one more than its deepest inner form
   pub levels : Form → ℕ
   levels (leaf l) = 1
+  levels (optional f) = suc (levels f)
   levels (sequence f) = suc (levels f)
+  levels (newtype name f) = suc (levels f)
+  levels (unit_structure name) = 1
   levels (structure name fs) = suc (deepest fs)
 
   -- the levels of the deepest field, 0 where there is none

@@ -1,12 +1,12 @@
 -- Reading a notation from left to right, a byte at a time.
-use Rattle.std.specs.Prelude.{ℕ, ◌+◌, Bool, true, false, ◌||◌, ◌==◌, nat_le, if◌then◌else◌, List, [], ◌∷◌, ◌++◌, length, Option, Some, None, Result, Ok, Err}
+use Rattle.std.specs.Prelude.{ℕ, ◌+◌, Bool, true, false, ◌&&◌, ◌||◌, ◌==◌, nat_le, if◌then◌else◌, List, [], ◌∷◌, ◌++◌, length, Option, Some, None, Result, Ok, Err}
 use Rattle.bson_base.specs.Text.{Utf8}
-use Rattle.bson_shape.specs.Form.{Form, leaf, Fields, no_fields, push_field}
+use Rattle.bson_shape.specs.Form.{Form, leaf, unit_structure, Fields, no_fields, push_field}
 use Rattle.bson_shape.specs.Leaf.{of_word}
 use Rattle.bson_shape.specs.declared.leaf.Leaf.{Leaf}
 use Rattle.bson_shape.specs.Levels.{max_shape_levels}
-use Rattle.bson_shape.specs.Makers.{made_sequence, made_structure}
-use Rattle.bson_shape.specs.Notation.{quote, comma, colon, open_bracket, backslash, close_bracket, open_brace, close_brace, begins_bare, in_bare, bare, is_escaped}
+use Rattle.bson_shape.specs.Makers.{made_optional, made_sequence, made_newtype, made_structure}
+use Rattle.bson_shape.specs.Notation.{exclamation, quote, comma, colon, equals, question, open_bracket, backslash, close_bracket, open_brace, close_brace, begins_bare, in_bare, bare, names_form, is_escaped}
 use Rattle.bson_shape.specs.FirstRefusal.{MakerRefusal}
 use Rattle.bson_shape.specs.declared.error.ShapeError.{ShapeError}
 use Rattle.bson_shape.specs.declared.error.ShapeError.TheVariants.{TooDeep}
@@ -28,8 +28,12 @@ pub record Open : Type 0 where
 pub data Level : Type 0 where
   -- a struct, and the name of the field
   In_field : Open → Utf8 → Level
+  -- an option that begins at this place
+  In_option : ℕ → Level
   -- a sequence that begins at this place
   In_sequence : ℕ → Level
+  -- a newtype that begins at this place, and its name
+  In_newtype : ℕ → Utf8 → Level
 
 -- Whose name is read.
 pub data Owner : Type 0 where
@@ -54,7 +58,7 @@ pub data Mode : Type 0 where
   Escape : Owner → Utf8 → Mode
   -- behind a quoted name
   Named : Owner → Utf8 → Mode
-  -- behind a form
+  -- behind the last byte of a form that has one of its own
   Done : Form → Mode
 
 -- With the levels around, the innermost first.
@@ -73,31 +77,53 @@ opened place name = record { place = place; name = name; fields = no_fields }
 abbrev pub grown : Open → Utf8 → Form → Open
 grown o name f = record { place = o.place; name = o.name; fields = push_field o.fields name f }
 
--- the maker's answer, at this place
-abbrev pub made : ℕ → ℕ → List Level → Result Form ShapeError → Result State Refusal
-made at place st (Ok f) = Ok (Done f, st)
-made at place st (Err e) = Err (Refused (record { met = at; place = place; cause = e }))
+-- the maker's answer behind so many bytes, for a form that begins at the place
+abbrev pub made : ℕ → ℕ → Result Form ShapeError → Result Form Refusal
+made read place (Ok f) = Ok f
+made read place (Err e) = Err (Refused (record { met = read; place = place; cause = e }))
+
+-- A form, with the levels around it.
+abbrev pub Ended : Type 0
+Ended = Form × List Level
+
+-- a form that ends behind so many bytes, with the options and newtypes around it that end with it
+unfoldable pub wrapped : ℕ → Form → List Level → Result Ended Refusal
+wrapped read f [] = Ok (f, [])
+wrapped read f (In_option place ∷ st) = made read place (made_optional f) >>= λ g. wrapped read g st
+wrapped read f (In_newtype place name ∷ st) = made read place (made_newtype name f) >>= λ g. wrapped read g st
+wrapped read f (In_field o name ∷ st) = Ok (f, In_field o name ∷ st)
+wrapped read f (In_sequence place ∷ st) = Ok (f, In_sequence place ∷ st)
+
+-- the last byte of a form that begins at the second place
+abbrev pub closed : ℕ → ℕ → List Level → Result Form ShapeError → Result State Refusal
+closed at place st r = made (at + 1) place r >>= λ f. Ok (Done f, st)
 
 -- a closing brace
-abbrev pub closed : ℕ → Open → List Level → Result State Refusal
-closed at o st = made at o.place st (made_structure o.name o.fields)
+abbrev pub struct_closed : ℕ → Open → List Level → Result State Refusal
+struct_closed at o st = closed at o.place st (made_structure o.name o.fields)
 
 -- behind a field, with which the struct is this
 abbrev pub field_ended : ℕ → Open → List Level → ℕ → Result State Refusal
 field_ended at o st b =
     if b == comma then Ok (Field_due o, st)
-    else (if b == close_brace then closed at o st
+    else (if b == close_brace then struct_closed at o st
     else Err (Not_notation at))
 
 -- behind the form of the items of a sequence that begins at the second place
 abbrev pub item_ended : ℕ → ℕ → Form → List Level → ℕ → Result State Refusal
-item_ended at place f st b = if b == close_bracket then made at place st (made_sequence f) else Err (Not_notation at)
+item_ended at place f st b = if b == close_bracket then closed at place st (made_sequence f) else Err (Not_notation at)
+
+-- behind a form, inside one with bytes of its own to come
+abbrev pub enclosed : ℕ → Form → List Level → ℕ → Result State Refusal
+enclosed at f (In_field o name ∷ st) b = field_ended at (grown o name f) st b
+enclosed at f (In_sequence place ∷ st) b = item_ended at place f st b
+enclosed at f (In_option place ∷ st) b = Err (Not_notation at)
+enclosed at f (In_newtype place name ∷ st) b = Err (Not_notation at)
+enclosed at f [] b = Err (Not_notation at)
 
 -- behind a form
 unfoldable pub form_ended : ℕ → Form → List Level → ℕ → Result State Refusal
-form_ended at f [] b = Err (Not_notation at)
-form_ended at f (In_field o name ∷ st) b = field_ended at (grown o name f) st b
-form_ended at f (In_sequence place ∷ st) b = item_ended at place f st b
+form_ended at f st b = wrapped at f st >>= λ e. enclosed at e.0 e.1 b
 
 abbrev pub begins_name : ℕ → Bool
 begins_name b = begins_bare b || (b == quote)
@@ -108,7 +134,7 @@ name_begun owner b = if b == quote then Quoted owner [] else Bare owner (b ∷ [
 
 -- the first byte of a form that no name begins
 abbrev pub opens_form : ℕ → Bool
-opens_form b = (b == open_bracket) || (b == open_brace)
+opens_form b = (b == question) || (b == open_bracket) || (b == open_brace)
 
 abbrev pub begins_form : ℕ → Bool
 begins_form b = begins_name b || opens_form b
@@ -118,12 +144,13 @@ abbrev pub form_begun : ℕ → List Level → ℕ → State
 form_begun at st b =
     if b == open_brace then (First_field (opened at []), st)
     else (if b == open_bracket then (Form_due, In_sequence at ∷ st)
-    else (name_begun (Form_at at) b, st))
+    else (if b == question then (Form_due, In_option at ∷ st)
+    else (name_begun (Form_at at) b, st)))
 
 -- where a form is due
 unfoldable pub form_due : ℕ → List Level → ℕ → Result State Refusal
 form_due at st b =
-    if begins_form b then (if nat_le max_shape_levels (length st) then Err (Refused (record { met = at; place = at; cause = TooDeep })) else Ok (form_begun at st b))
+    if begins_form b then (if nat_le max_shape_levels (length st) then Err (Refused (record { met = at + 1; place = at; cause = TooDeep })) else Ok (form_begun at st b))
     else Err (Not_notation at)
 
 -- where the name of a field is due
@@ -132,11 +159,24 @@ field_due at o st b = if begins_name b then Ok (name_begun (Field_of o) b, st) e
 
 -- behind the opening brace
 unfoldable pub first_field : ℕ → Open → List Level → ℕ → Result State Refusal
-first_field at o st b = if b == close_brace then closed at o st else field_due at o st b
+first_field at o st b = if b == close_brace then struct_closed at o st else field_due at o st b
+
+-- the empty name of a struct is not written
+abbrev pub is_written : Utf8 → Bool
+is_written [] = false
+is_written (b ∷ bs) = true
+
+-- behind the name of a form that begins at the second place
+abbrev pub form_named : ℕ → ℕ → Utf8 → List Level → ℕ → Result State Refusal
+form_named at place name st b =
+    if b == equals then Ok (Form_due, In_newtype place name ∷ st)
+    else (if b == exclamation then Ok (Done (unit_structure name), st)
+    else (if (b == open_brace) && is_written name then Ok (First_field (opened place name), st)
+    else Err (Not_notation at)))
 
 -- behind a name
 unfoldable pub named : ℕ → Owner → Utf8 → List Level → ℕ → Result State Refusal
-named at (Form_at place) name st b = if b == open_brace then Ok (First_field (opened place name), st) else Err (Not_notation at)
+named at (Form_at place) name st b = form_named at place name st b
 named at (Field_of o) name st b = if b == colon then Ok (Form_due, In_field o name ∷ st) else Err (Not_notation at)
 
 -- behind a word that is no name, with the leaf that it stands for
@@ -144,24 +184,18 @@ abbrev pub leaf_ended : ℕ → Option Leaf → List Level → ℕ → Result St
 leaf_ended at None st b = Err (Not_notation at)
 leaf_ended at (Some l) st b = form_ended at (leaf l) st b
 
--- behind a bare name: a form's that no brace follows is a leaf
+-- behind a bare name: where it does not name a form, it is a leaf
 unfoldable pub word_ended : ℕ → Owner → Utf8 → List Level → ℕ → Result State Refusal
-word_ended at (Form_at place) name st b = if b == open_brace then named at (Form_at place) name st b else leaf_ended at (of_word name) st b
+word_ended at (Form_at place) name st b = if names_form b then named at (Form_at place) name st b else leaf_ended at (of_word name) st b
 word_ended at (Field_of o) name st b = named at (Field_of o) name st b
 
 -- inside a bare name
 unfoldable pub bare_name : ℕ → Owner → Utf8 → List Level → ℕ → Result State Refusal
 bare_name at owner name st b = if in_bare b then Ok (Bare owner (name ++ b ∷ []), st) else word_ended at owner name st b
 
--- the empty name of a struct is not written
-abbrev pub is_unwritten : Owner → Utf8 → Bool
-is_unwritten (Form_at place) [] = true
-is_unwritten (Form_at place) (b ∷ bs) = false
-is_unwritten (Field_of o) name = false
-
 -- a closing quote: a bare name does not stand between quotes
 unfoldable pub name_closed : ℕ → Owner → Utf8 → List Level → Result State Refusal
-name_closed at owner name st = if bare name || is_unwritten owner name then Err (Not_notation at) else Ok (Named owner name, st)
+name_closed at owner name st = if bare name then Err (Not_notation at) else Ok (Named owner name, st)
 
 -- inside a quoted name
 unfoldable pub quoted_name : ℕ → Owner → Utf8 → List Level → ℕ → Result State Refusal
@@ -185,39 +219,57 @@ step at (Escape owner name) st b = escape at owner name st b
 step at (Named owner name) st b = named at owner name st b
 step at (Done f) st b = form_ended at f st b
 
+-- no further byte is taken
+abbrev pub no_more : ℕ → Form → List Level → Result State Refusal
+no_more at f st = wrapped at f st >>= λ e. Err (Not_notation at)
+
+-- behind the word of a leaf
+abbrev pub no_more_behind : ℕ → Option Leaf → List Level → Result State Refusal
+no_more_behind at None st = Err (Not_notation at)
+no_more_behind at (Some l) st = no_more at (leaf l) st
+
 -- the bytes of a character that is not ASCII: it stands between quotes alone
 unfoldable pub other_character : ℕ → Mode → List Level → Utf8 → Result State Refusal
 other_character at (Quoted owner name) st bytes = Ok (Quoted owner (name ++ bytes), st)
 other_character at Form_due st bytes = Err (Not_notation at)
 other_character at (First_field o) st bytes = Err (Not_notation at)
 other_character at (Field_due o) st bytes = Err (Not_notation at)
-other_character at (Bare owner name) st bytes = Err (Not_notation at)
+other_character at (Bare (Form_at place) name) st bytes = no_more_behind at (of_word name) st
+other_character at (Bare (Field_of o) name) st bytes = Err (Not_notation at)
 other_character at (Escape owner name) st bytes = Err (Not_notation at)
 other_character at (Named owner name) st bytes = Err (Not_notation at)
-other_character at (Done f) st bytes = Err (Not_notation at)
+other_character at (Done f) st bytes = no_more at f st
 
 -- all the bytes, from a place on
 unfoldable pub run : ℕ → State → Utf8 → Result State Refusal
 run at s [] = Ok s
 run at s (b ∷ bs) = step at s.0 s.1 b >>= λ t. run (at + 1) t bs
 
+-- a form that no other is around
+abbrev pub alone : ℕ → Form → List Level → Result Form Refusal
+alone at f [] = Ok f
+alone at f (l ∷ st) = Err (Not_notation at)
+
+-- the last form
+abbrev pub last : ℕ → Form → List Level → Result Form Refusal
+last at f st = wrapped at f st >>= λ e. alone at e.0 e.1
+
 -- the leaf that the last word stands for
-abbrev pub last_leaf : ℕ → Option Leaf → Result Form Refusal
-last_leaf at None = Err (Not_notation at)
-last_leaf at (Some l) = Ok (leaf l)
+abbrev pub last_leaf : ℕ → Option Leaf → List Level → Result Form Refusal
+last_leaf at None st = Err (Not_notation at)
+last_leaf at (Some l) st = last at (leaf l) st
 
 -- the end of the text
 unfoldable pub finish : ℕ → Mode → List Level → Result Form Refusal
-finish at m (l ∷ st) = Err (Not_notation at)
-finish at (Done f) [] = Ok f
-finish at (Bare (Form_at place) name) [] = last_leaf at (of_word name)
-finish at (Bare (Field_of o) name) [] = Err (Not_notation at)
-finish at Form_due [] = Err (Not_notation at)
-finish at (First_field o) [] = Err (Not_notation at)
-finish at (Field_due o) [] = Err (Not_notation at)
-finish at (Quoted owner name) [] = Err (Not_notation at)
-finish at (Escape owner name) [] = Err (Not_notation at)
-finish at (Named owner name) [] = Err (Not_notation at)
+finish at (Done f) st = last at f st
+finish at (Bare (Form_at place) name) st = last_leaf at (of_word name) st
+finish at (Bare (Field_of o) name) st = Err (Not_notation at)
+finish at Form_due st = Err (Not_notation at)
+finish at (First_field o) st = Err (Not_notation at)
+finish at (Field_due o) st = Err (Not_notation at)
+finish at (Quoted owner name) st = Err (Not_notation at)
+finish at (Escape owner name) st = Err (Not_notation at)
+finish at (Named owner name) st = Err (Not_notation at)
 
 -- the form that a text is the notation of, or the first refusal that is met
 unfoldable pub parsed : Utf8 → Result Form Refusal

@@ -2,8 +2,12 @@
 use Rattle.std.specs.Prelude.{ℕ, Bool, false, ◌&&◌, ◌||◌, nat_le, ◌==◌, if◌then◌else◌, List, [], ◌∷◌, ◌++◌}
 use Rattle.std.specs.List.{list_all}
 use Rattle.bson_base.specs.Text.{Utf8}
-use Rattle.bson_shape.specs.Form.{Form, leaf, sequence, structure, Fields, no_fields, field}
+use Rattle.bson_shape.specs.Form.{Form, leaf, optional, sequence, newtype, unit_structure, structure, Fields, no_fields, field}
 use Rattle.bson_shape.specs.Leaf.{word}
+
+-- `!`
+abbrev pub exclamation : ℕ
+exclamation = 33
 
 -- `"`
 abbrev pub quote : ℕ
@@ -16,6 +20,14 @@ comma = 44
 -- `:`
 abbrev pub colon : ℕ
 colon = 58
+
+-- `=`
+abbrev pub equals : ℕ
+equals = 61
+
+-- `?`
+abbrev pub question : ℕ
+question = 63
 
 -- `[`
 abbrev pub open_bracket : ℕ
@@ -53,6 +65,10 @@ abbrev pub bare : Utf8 → Bool
 bare [] = false
 bare (b ∷ bs) = begins_bare b && list_all in_bare bs
 
+-- the bytes that make a name of the word before them: `=`, `!` and `{`
+abbrev pub names_form : ℕ → Bool
+names_form b = (b == equals) || (b == exclamation) || (b == open_brace)
+
 -- `"` and `\`
 abbrev pub is_escaped : ℕ → Bool
 is_escaped b = (b == quote) || (b == backslash)
@@ -85,10 +101,13 @@ listed [] = []
 listed (x ∷ xs) = x ++ after_commas xs
 
 abbrev mutual
-  -- a leaf is its word, a sequence is `[s]`, a struct is `NAME{f:s,g:s}`
+  -- a leaf is its word, an option is `?s`, a sequence is `[s]`, a newtype is `NAME=s`, a unit struct is `NAME!`, a struct is `NAME{f:s,g:s}`
   pub text : Form → Utf8
   text (leaf l) = word l
+  text (optional f) = question ∷ text f
   text (sequence f) = open_bracket ∷ (text f ++ close_bracket ∷ [])
+  text (newtype name f) = name_text name ++ equals ∷ text f
+  text (unit_structure name) = name_text name ++ exclamation ∷ []
   text (structure name fs) = struct_name_text name ++ open_brace ∷ (listed (field_texts fs) ++ close_brace ∷ [])
 
   pub field_texts : Fields → List Utf8

@@ -1,10 +1,11 @@
 -- What the parser's values stand for.
-use Rattle.std.specs.Prelude.{List, map, reverse, string_bytes}
+use Rattle.std.specs.Prelude.{List, [], ◌∷◌, map, reverse, Option, Some, None, string_bytes}
 use Rattle.bson_shape.specs.ShapeView.{fields_of}
 use Rattle.bson_shape.specs.Machine as machine
-use Rattle.bson_shape.specs.declared.parser.Open.{Open}
-use Rattle.bson_shape.specs.declared.parser.Level.{Level}
-use Rattle.bson_shape.specs.declared.parser.Level.TheVariants as levels
+use Rattle.bson_shape.specs.declared.levels.Open.{Open}
+use Rattle.bson_shape.specs.declared.levels.Level.{Level}
+use Rattle.bson_shape.specs.declared.levels.Level.TheVariants as levels
+use Rattle.bson_shape.specs.declared.levels.Ended.{Ended}
 use Rattle.bson_shape.specs.declared.parser.Owner.{Owner}
 use Rattle.bson_shape.specs.declared.parser.Owner.TheVariants as owners
 use Rattle.bson_shape.specs.declared.parser.Mode.{Mode}
@@ -15,7 +16,9 @@ open_view o = record { place = o.place; name = string_bytes o.name; fields = fie
 
 abbrev pub level_view : Level → machine.Level
 level_view (levels.InField o name) = machine.In_field (open_view o) (string_bytes name)
+level_view (levels.InOption place) = machine.In_option place
 level_view (levels.InSequence place) = machine.In_sequence place
+level_view (levels.InNewtype place name) = machine.In_newtype place (string_bytes name)
 
 abbrev pub owner_view : Owner → machine.Owner
 owner_view (owners.FormAt place) = machine.Form_at place
@@ -34,3 +37,12 @@ mode_view (modes.Done shape) = machine.Done shape
 -- the last of the stack is the innermost
 abbrev pub levels_view : List Level → List machine.Level
 levels_view ls = reverse (map level_view ls)
+
+-- the level that was taken off, if there was one, and those around it
+abbrev pub around_view : Option Level → List machine.Level → List machine.Level
+around_view None st = []
+around_view (Some l) st = level_view l ∷ st
+
+-- a form that has ended
+abbrev pub ended_view : Ended → List machine.Level → machine.Ended
+ended_view e st = (e.shape, around_view e.around st)

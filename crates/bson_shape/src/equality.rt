@@ -25,15 +25,27 @@ fn is_same(a: &Shape, b: &Shape) -> bool
     match a.form() {
         Form::Leaf(leaf) => match b.form() {
             Form::Leaf(other) => leaf == other,
-            Form::Seq(_) | Form::Struct(_, _) => false,
+            _ => false,
+        },
+        Form::Option(inner) => match b.form() {
+            Form::Option(other) => is_same(inner, other),
+            _ => false,
         },
         Form::Seq(item) => match b.form() {
             Form::Seq(other) => is_same(item, other),
-            Form::Leaf(_) | Form::Struct(_, _) => false,
+            _ => false,
+        },
+        Form::Newtype(name, inner) => match b.form() {
+            Form::Newtype(other, others) => name == other && is_same(inner, others),
+            _ => false,
+        },
+        Form::UnitStruct(name) => match b.form() {
+            Form::UnitStruct(other) => name == other,
+            _ => false,
         },
         Form::Struct(name, fields) => match b.form() {
             Form::Struct(other, others) => name == other && are_same(fields, others),
-            Form::Leaf(_) | Form::Seq(_) => false,
+            _ => false,
         },
     }
 }

@@ -4,7 +4,7 @@ use std::fmt;
 /// Why a maker refuses a shape.
 #[derive(Debug, Drop, PartialEq, Eq)]
 pub enum ShapeError {
-    /// The name of a struct is one of the thirteen reserved names.
+    /// The name of a struct is one of the thirteen reserved names, or that of a newtype is one of the three for newtypes.
     ReservedName,
     /// Two fields of a struct have one name.
     RepeatedName,

@@ -5,8 +5,14 @@ use crate::{FieldShape, Leaf, Shape};
 pub enum Form<'a> {
     /// A shape without inner shapes.
     Leaf(Leaf),
+    /// An option: the shape of its value.
+    Option(&'a Shape),
     /// A sequence: the shape of its items.
     Seq(&'a Shape),
+    /// A newtype: its name and the shape of its value.
+    Newtype(&'a str, &'a Shape),
+    /// A unit struct: its name.
+    UnitStruct(&'a str),
     /// A struct: its name and its fields, in order.
     Struct(&'a str, &'a [FieldShape]),
 }

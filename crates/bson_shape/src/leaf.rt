@@ -4,6 +4,8 @@ ghost use Rattle.bson_shape.specs.Leaf as leaf;
 /// A shape without inner shapes, one for each leaf word of the notation.
 #[derive(Clone, Copy, Debug, PartialEq, Eq)]
 pub enum Leaf {
+    /// A boolean.
+    Bool,
     /// A signed number of 8 bits.
     I8,
     /// A signed number of 16 bits.
@@ -20,8 +22,20 @@ pub enum Leaf {
     U32,
     /// A number of 64 bits.
     U64,
+    /// A double: a number of 64 bits in binary floating point.
+    Double,
+    /// A text of one character.
+    Char,
+    /// A text, borrowed.
+    Str,
     /// A text, owned.
     String,
+    /// A byte string, borrowed.
+    Bytes,
+    /// A byte string, owned.
+    ByteBuf,
+    /// No value: null.
+    Unit,
 }
 
 impl Leaf {
@@ -30,6 +44,7 @@ impl Leaf {
         ensures word { result.now ≡ leaf.word self }
     {
         match self {
+            Leaf::Bool => "bool",
             Leaf::I8 => "i8",
             Leaf::I16 => "i16",
             Leaf::I32 => "i32",
@@ -38,7 +53,13 @@ impl Leaf {
             Leaf::U16 => "u16",
             Leaf::U32 => "u32",
             Leaf::U64 => "u64",
+            Leaf::Double => "double",
+            Leaf::Char => "char",
+            Leaf::Str => "str",
             Leaf::String => "string",
+            Leaf::Bytes => "bytes",
+            Leaf::ByteBuf => "bytebuf",
+            Leaf::Unit => "unit",
         }
     }
 
@@ -48,6 +69,7 @@ impl Leaf {
         ensures leaf { result ≡ leaf.of_word word.now }
     {
         let leaf = match word {
+            "bool" => Leaf::Bool,
             "i8" => Leaf::I8,
             "i16" => Leaf::I16,
             "i32" => Leaf::I32,
@@ -56,7 +78,13 @@ impl Leaf {
             "u16" => Leaf::U16,
             "u32" => Leaf::U32,
             "u64" => Leaf::U64,
+            "double" => Leaf::Double,
+            "char" => Leaf::Char,
+            "str" => Leaf::Str,
             "string" => Leaf::String,
+            "bytes" => Leaf::Bytes,
+            "bytebuf" => Leaf::ByteBuf,
+            "unit" => Leaf::Unit,
             _ => return None,
         };
         Some(leaf)

@@ -6,6 +6,7 @@ mod equality;
 mod error;
 mod form;
 mod leaf;
+mod levels;
 mod name;
 mod parse;
 mod parser;

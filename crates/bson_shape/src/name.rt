@@ -1,7 +1,8 @@
-// Which names stand in a notation as they are.
+// Which names stand in a notation as they are, and which no newtype may have.
 ghost use Rattle.std.specs.Prelude.{◌≡◌};
 ghost use Rattle.std.specs.List.{list_all};
 ghost use Rattle.bson_shape.specs.Notation as notation;
+ghost use Rattle.bson_shape.specs.Makers as makers;
 
 /// Whether the byte is an ASCII letter or `_`.
 pub(crate) fn begins_bare(b: u8) -> bool
@@ -31,4 +32,14 @@ fn are_in_bare(bytes: &[u8]) -> bool
     ensures { result ≡ list_all notation.in_bare bytes.now }
 {
     bytes.iter().all(|b| in_bare(*b))
+}
+
+/// Whether the name is that of a newtype that carries a UUID or a mark through serde's data model.
+pub(crate) fn is_reserved_newtype(name: &str) -> bool
+    ensures { result ≡ makers.is_reserved_newtype name.now }
+{
+    matches!(
+        name,
+        "$__bson_private_uuid" | "$__bson_private_human_readable" | "$__bson_private_utf8_lossy"
+    )
 }

@@ -1,35 +1,20 @@
 // Reading a notation from left to right, with the forms around on a stack of its own.
-ghost use Rattle.std.specs.Prelude.{◌≡◌, ℕ, ◌<◌, ◌≤◌, List, ◌∷◌, ◌++◌, [], Result, IfOk, OnOk, string_bytes, encode_utf8};
+ghost use Rattle.std.specs.Prelude.{◌≡◌, ℕ, ◌<◌, List, ◌∷◌, ◌++◌, [], Result, IfOk, OnOk, string_bytes, encode_utf8};
 ghost use Rattle.bson_shape.specs.Form.{Form};
 ghost use Rattle.bson_shape.specs.Makers.{Makes};
 ghost use Rattle.bson_shape.specs.declared.error.ShapeError.{ShapeError};
+ghost use Rattle.bson_shape.specs.Notation.{names_form};
 ghost use Rattle.bson_shape.specs.Machine as machine;
-ghost use Rattle.bson_shape.specs.ParserView.{open_view, level_view, owner_view, mode_view, levels_view};
+ghost use Rattle.bson_shape.specs.ParserView.{open_view, owner_view, mode_view, levels_view};
 ghost use Rattle.bson_shape.specs.Answers.{Gives};
 
+use crate::levels::{Ended, Level, Open, grown, made, opened_at, wrapped};
 use crate::name::{begins_bare, in_bare, is_bare};
-use crate::{FieldShape, Leaf, ParseError, Shape, ShapeError};
+use crate::{Leaf, ParseError, Shape, ShapeError};
 use std::alloc::{AllocError, Global};
 
 /// The most forms that may stand around a form.
 const MAX_AROUND: usize = 512;
-
-/// A struct whose closing brace has not come.
-#[derive(Drop)]
-struct Open {
-    place: usize,
-    name: String,
-    fields: Vec<FieldShape>,
-}
-
-/// A form around the one that is read.
-#[derive(Drop)]
-enum Level {
-    /// A struct, and the name of the field.
-    InField(Open, String),
-    /// A sequence that begins at this place.
-    InSequence(usize),
-}
 
 /// Whose name is read.
 #[derive(Drop)]
@@ -57,7 +42,7 @@ enum Mode {
     Escape(Owner, String),
     /// Behind a quoted name.
     Named(Owner, String),
-    /// Behind a form.
+    /// Behind the last byte of a form that has one of its own.
     Done(Shape),
 }
 
@@ -70,42 +55,19 @@ fn push_byte(name: &mut String, b: u8) -> Result<(), AllocError>
     Ok(())
 }
 
-fn opened_at(alloc: Global, place: usize, name: String) -> Open
-    ensures { open_view result ≡ machine.opened place (string_bytes name) }
+/// The last byte of a form that begins at the place, and what its maker answered.
+fn closed(place: usize, answer: Result<Shape, ShapeError>) -> Result<Mode, ParseError>
+    ensures { (at : ℕ) → (st : List machine.Level) → (due : Result Form ShapeError) → Makes answer due → Gives (λ m. (mode_view m, st)) result (machine.closed at place st due) }
 {
-    Open {
-        place,
-        name,
-        fields: Vec::new(alloc),
-    }
-}
-
-/// The struct with one more field.
-fn grown(opened: Open, name: String, shape: Shape) -> Result<Open, AllocError>
-    ensures { IfOk result (λ o. open_view o ≡ machine.grown (open_view opened) (string_bytes name) shape) }
-{
-    let mut grown = opened;
-    grown.fields.push(FieldShape { name, shape })?;
-    Ok(grown)
-}
-
-/// Behind a form that begins at the place, with what its maker answered.
-fn made(place: usize, answer: Result<Shape, ShapeError>) -> Result<Mode, ParseError>
-    ensures { (at : ℕ) → (st : List machine.Level) → (due : Result Form ShapeError) → Makes answer due → Gives (λ m. (mode_view m, st)) result (machine.made at place st due) }
-{
-    match answer {
-        Ok(shape) => Ok(Mode::Done(shape)),
-        Err(ShapeError::NoMemory) => Err(ParseError::NoMemory),
-        Err(cause) => Err(ParseError::Refused(place, cause)),
-    }
+    Ok(Mode::Done(made(place, answer)?))
 }
 
 /// A closing brace.
-fn closed(opened: Open, levels: &Vec<Level>, at: usize) -> Result<Mode, ParseError>
-    ensures { Gives (λ m. (mode_view m, levels_view levels.now.items)) result (machine.closed at (open_view opened) (levels_view levels.now.items)) }
+fn struct_closed(opened: Open, levels: &Vec<Level>, at: usize) -> Result<Mode, ParseError>
+    ensures { Gives (λ m. (mode_view m, levels_view levels.now.items)) result (machine.struct_closed at (open_view opened) (levels_view levels.now.items)) }
 {
     let place = opened.place;
-    made(place, Shape::structure(opened.name, opened.fields))
+    closed(place, Shape::structure(opened.name, opened.fields))
 }
 
 /// Behind a field, with which the struct is this.
@@ -114,7 +76,7 @@ fn field_ended(opened: Open, levels: &Vec<Level>, at: usize, b: u8) -> Result<Mo
 {
     match b {
         b',' => Ok(Mode::FieldDue(opened)),
-        b'}' => closed(opened, levels, at),
+        b'}' => struct_closed(opened, levels, at),
         _ => Err(ParseError::NotNotation(at)),
     }
 }
@@ -133,7 +95,7 @@ fn item_ended(
     if b != b']' {
         return Err(ParseError::NotNotation(at));
     }
-    made(place, Shape::seq(alloc, item))
+    closed(place, Shape::seq(alloc, item))
 }
 
 /// Behind a form.
@@ -147,12 +109,15 @@ fn form_ended(
 ) -> Result<Mode, ParseError>
     ensures { Gives (λ m. (mode_view m, levels_view levels.new.items)) result (machine.form_ended at shape (levels_view levels.old.items) b) }
 {
-    match levels.pop() {
-        None => Err(ParseError::NotNotation(at)),
+    let Ended { shape, around } = wrapped(alloc, shape, levels)?;
+    match around {
         Some(Level::InField(opened, name)) => {
             field_ended(grown(opened, name, shape)?, levels, at, b)
         }
         Some(Level::InSequence(place)) => item_ended(alloc, place, shape, levels, at, b),
+        Some(Level::InOption(_)) | Some(Level::InNewtype(_, _)) | None => {
+            Err(ParseError::NotNotation(at))
+        }
     }
 }
 
@@ -173,7 +138,7 @@ fn name_begun(alloc: Global, owner: Owner, b: u8) -> Result<Mode, AllocError>
 fn begins_form(b: u8) -> bool
     ensures { result ≡ machine.begins_form b }
 {
-    begins_bare(b) || matches!(b, b'"' | b'[' | b'{')
+    begins_bare(b) || matches!(b, b'"' | b'?' | b'[' | b'{')
 }
 
 /// The first byte of a form.
@@ -186,6 +151,10 @@ fn form_begun(alloc: Global, levels: &mut Vec<Level>, at: usize, b: u8) -> Resul
     }
     if b == b'[' {
         levels.push(Level::InSequence(at))?;
+        return Ok(Mode::FormDue);
+    }
+    if b == b'?' {
+        levels.push(Level::InOption(at))?;
         return Ok(Mode::FormDue);
     }
     name_begun(alloc, Owner::FormAt(at), b)
@@ -237,9 +206,31 @@ fn first_field(
     ensures { Gives (λ m. (mode_view m, levels_view levels.now.items)) result (machine.first_field at (open_view opened) (levels_view levels.now.items) b) }
 {
     if b == b'}' {
-        return closed(opened, levels, at);
+        return struct_closed(opened, levels, at);
     }
     field_due(alloc, opened, levels, at, b)
+}
+
+/// Behind the name of a form that begins at the place.
+fn form_named(
+    alloc: Global,
+    place: usize,
+    name: String,
+    levels: &mut Vec<Level>,
+    at: usize,
+    b: u8,
+) -> Result<Mode, ParseError>
+    ensures { Gives (λ m. (mode_view m, levels_view levels.new.items)) result (machine.form_named at place (string_bytes name) (levels_view levels.old.items) b) }
+{
+    match b {
+        b'=' => {
+            levels.push(Level::InNewtype(place, name))?;
+            Ok(Mode::FormDue)
+        }
+        b'!' => Ok(Mode::Done(Shape::unit_struct(name))),
+        b'{' if !name.is_empty() => Ok(Mode::FirstField(opened_at(alloc, place, name))),
+        _ => Err(ParseError::NotNotation(at)),
+    }
 }
 
 /// Behind a name.
@@ -255,12 +246,7 @@ fn named(
     ensures { Gives (λ m. (mode_view m, levels_view levels.new.items)) result (machine.named at (owner_view owner) (string_bytes name) (levels_view levels.old.items) b) }
 {
     match owner {
-        Owner::FormAt(place) => {
-            if b == b'{' {
-                return Ok(Mode::FirstField(opened_at(alloc, place, name)));
-            }
-            Err(ParseError::NotNotation(at))
-        }
+        Owner::FormAt(place) => form_named(alloc, place, name, levels, at, b),
         Owner::FieldOf(opened) => {
             if b == b':' {
                 levels.push(Level::InField(opened, name))?;
@@ -269,6 +255,13 @@ fn named(
             Err(ParseError::NotNotation(at))
         }
     }
+}
+
+/// Whether the byte makes a name of the word before it.
+fn names_form(b: u8) -> bool
+    ensures { result ≡ names_form b }
+{
+    matches!(b, b'=' | b'!' | b'{')
 }
 
 /// Behind a bare name.
@@ -285,7 +278,7 @@ fn word_ended(
 {
     match owner {
         Owner::FormAt(place) => {
-            if b == b'{' {
+            if names_form(b) {
                 return named(alloc, Owner::FormAt(place), name, levels, at, b);
             }
             match Leaf::from_word(name.as_str()) {
@@ -318,16 +311,6 @@ fn bare_name(
     word_ended(alloc, owner, name, levels, at, b)
 }
 
-/// Whether the name is the empty one of a struct, which is not written.
-fn is_unwritten(owner: &Owner, name: &str) -> bool
-    ensures { result ≡ machine.is_unwritten (owner_view owner.now) name.now }
-{
-    match owner {
-        Owner::FormAt(_) => name.is_empty(),
-        Owner::FieldOf(_) => false,
-    }
-}
-
 /// A closing quote.
 #[tactic(auto, unfolding(crate::specs::Machine::name_closed))]
 fn name_closed(
@@ -338,7 +321,7 @@ fn name_closed(
 ) -> Result<Mode, ParseError>
     ensures { Gives (λ m. (mode_view m, levels_view levels.now.items)) result (machine.name_closed at (owner_view owner) (string_bytes name) (levels_view levels.now.items)) }
 {
-    if is_bare(name.as_str()) || is_unwritten(&owner, name.as_str()) {
+    if is_bare(name.as_str()) {
         return Err(ParseError::NotNotation(at));
     }
     Ok(Mode::Named(owner, name))
@@ -411,10 +394,29 @@ fn step(
     }
 }
 
+/// Behind a form that no further byte belongs to.
+fn no_more(
+    alloc: Global,
+    shape: Shape,
+    levels: &mut Vec<Level>,
+    at: usize,
+) -> Result<Mode, ParseError>
+    ensures { Gives (λ m. (mode_view m, levels_view levels.new.items)) result (machine.no_more at shape (levels_view levels.old.items)) }
+{
+    wrapped(alloc, shape, levels)?;
+    Err(ParseError::NotNotation(at))
+}
+
 /// A character that is not ASCII, at a place.
 #[tactic(auto, unfolding(crate::specs::Machine::other_character))]
-fn other_character(mode: Mode, levels: &Vec<Level>, at: usize, c: char) -> Result<Mode, ParseError>
-    ensures { Gives (λ m. (mode_view m, levels_view levels.now.items)) result (machine.other_character at (mode_view mode) (levels_view levels.now.items) (encode_utf8 c)) }
+fn other_character(
+    alloc: Global,
+    mode: Mode,
+    levels: &mut Vec<Level>,
+    at: usize,
+    c: char,
+) -> Result<Mode, ParseError>
+    ensures { Gives (λ m. (mode_view m, levels_view levels.new.items)) result (machine.other_character at (mode_view mode) (levels_view levels.old.items) (encode_utf8 c)) }
 {
     match mode {
         Mode::Quoted(owner, name) => {
@@ -422,13 +424,17 @@ fn other_character(mode: Mode, levels: &Vec<Level>, at: usize, c: char) -> Resul
             longer.push(c)?;
             Ok(Mode::Quoted(owner, longer))
         }
+        Mode::Bare(Owner::FormAt(_), name) => match Leaf::from_word(name.as_str()) {
+            None => Err(ParseError::NotNotation(at)),
+            Some(leaf) => no_more(alloc, Shape::leaf(leaf), levels, at),
+        },
+        Mode::Done(shape) => no_more(alloc, shape, levels, at),
         Mode::FormDue => Err(ParseError::NotNotation(at)),
         Mode::FirstField(_) => Err(ParseError::NotNotation(at)),
         Mode::FieldDue(_) => Err(ParseError::NotNotation(at)),
-        Mode::Bare(_, _) => Err(ParseError::NotNotation(at)),
+        Mode::Bare(Owner::FieldOf(_), _) => Err(ParseError::NotNotation(at)),
         Mode::Escape(_, _) => Err(ParseError::NotNotation(at)),
         Mode::Named(_, _) => Err(ParseError::NotNotation(at)),
-        Mode::Done(_) => Err(ParseError::NotNotation(at)),
     }
 }
 
@@ -445,7 +451,7 @@ fn read_character(
     if c.is_ascii() {
         return step(alloc, mode, levels, at, c as u8);
     }
-    other_character(mode, levels, at, c)
+    other_character(alloc, mode, levels, at, c)
 }
 
 /// All the characters.
@@ -462,19 +468,37 @@ fn read_characters(alloc: Global, text: &str, levels: &mut Vec<Level>) -> Result
     Ok(mode)
 }
 
+/// The last form, which no other may be around.
+fn last(
+    alloc: Global,
+    shape: Shape,
+    levels: &mut Vec<Level>,
+    at: usize,
+) -> Result<Shape, ParseError>
+    ensures { Gives (λ s. s) result (machine.last at shape (levels_view levels.old.items)) }
+{
+    let Ended { shape, around } = wrapped(alloc, shape, levels)?;
+    match around {
+        None => Ok(shape),
+        Some(_) => Err(ParseError::NotNotation(at)),
+    }
+}
+
 /// The end of the text.
 #[tactic(auto, unfolding(crate::specs::Machine::finish))]
-fn finish(mode: Mode, levels: &Vec<Level>, at: usize) -> Result<Shape, ParseError>
-    ensures { Gives (λ s. s) result (machine.finish at (mode_view mode) (levels_view levels.now.items)) }
+fn finish(
+    alloc: Global,
+    mode: Mode,
+    levels: &mut Vec<Level>,
+    at: usize,
+) -> Result<Shape, ParseError>
+    ensures { Gives (λ s. s) result (machine.finish at (mode_view mode) (levels_view levels.old.items)) }
 {
-    if !levels.is_empty() {
-        return Err(ParseError::NotNotation(at));
-    }
     match mode {
-        Mode::Done(shape) => Ok(shape),
+        Mode::Done(shape) => last(alloc, shape, levels, at),
         Mode::Bare(Owner::FormAt(_), name) => match Leaf::from_word(name.as_str()) {
             None => Err(ParseError::NotNotation(at)),
-            Some(leaf) => Ok(Shape::leaf(leaf)),
+            Some(leaf) => last(alloc, Shape::leaf(leaf), levels, at),
         },
         _ => Err(ParseError::NotNotation(at)),
     }
@@ -487,5 +511,5 @@ pub(crate) fn read(alloc: Global, text: &str) -> Result<Shape, ParseError>
 {
     let mut levels = Vec::new(alloc);
     let mode = read_characters(alloc, text, &mut levels)?;
-    finish(mode, &levels, text.len())
+    finish(alloc, mode, &mut levels, text.len())
 }

@@ -71,10 +71,24 @@ fn put(out: &mut String, shape: &Shape) -> Result<(), AllocError>
 {
     match shape.form() {
         Form::Leaf(leaf) => out.push_str(leaf.word()),
+        Form::Option(inner) => {
+            out.push('?')?;
+            put(out, inner)
+        }
         Form::Seq(item) => {
             out.push('[')?;
             put(out, item)?;
             out.push(']')?;
+            Ok(())
+        }
+        Form::Newtype(name, inner) => {
+            put_name(out, name)?;
+            out.push('=')?;
+            put(out, inner)
+        }
+        Form::UnitStruct(name) => {
+            put_name(out, name)?;
+            out.push('!')?;
             Ok(())
         }
         Form::Struct(name, fields) => {

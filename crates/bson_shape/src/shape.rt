@@ -1,11 +1,11 @@
 ghost use Rattle.std.specs.Prelude.{◌≡◌, ◌≤◌, string_bytes};
 ghost use Rattle.bson_shape.specs.Form as form;
 ghost use Rattle.bson_shape.specs.Levels.{levels, deepest, max_shape_levels};
-ghost use Rattle.bson_shape.specs.Makers.{IsShape, AreShapes, Makes, made_sequence, made_structure};
+ghost use Rattle.bson_shape.specs.Makers.{IsShape, AreShapes, Makes, made_optional, made_sequence, made_newtype, made_structure};
 ghost use Rattle.bson_shape.specs.ShapeView.{fields_of, form_view};
-ghost use Rattle.bson_shape.specs.declared.leaf.Leaf.TheVariants.{I8, I16, I32, I64, U8, U16, U32, U64, String};
 
 use crate::distinct::has_repeated_name;
+use crate::name::is_reserved_newtype;
 use crate::{Form, Leaf, ShapeError};
 use bson_base::reserved_kind;
 use std::alloc::Global;
@@ -16,8 +16,8 @@ const MAX_LEVELS: u16 = 512;
 
 /// What a value has to look like to be read.
 ///
-/// A shape is made by the makers below alone, so that no struct in it has a reserved name or two fields of one name,
-/// and it has at most 512 levels. Contracts see a shape as its form.
+/// A shape is made by the makers below alone, so that no struct and no newtype in it has a reserved name, no struct has
+/// two fields of one name, and it has at most 512 levels. Contracts see a shape as its form.
 #[cycle(shape)]
 #[derive(Debug, Drop)]
 pub struct Shape {
@@ -29,7 +29,10 @@ pub struct Shape {
 #[derive(Debug, Drop)]
 enum Node {
     Leaf(Leaf),
+    Option(Box<Shape>),
     Seq(Box<Shape>),
+    Newtype(String, Box<Shape>),
+    UnitStruct(String),
     Struct(String, Vec<FieldShape>),
 }
 
@@ -67,67 +70,116 @@ impl Model for Shape {
 }
 
 impl Shape {
+    /// A boolean.
+    pub fn bool() -> Shape
+        ensures form { result ≡ form.leaf Leaf.Bool }
+    {
+        Shape::leaf(Leaf::Bool)
+    }
+
     /// A signed number of 32 bits.
     pub fn i32() -> Shape
-        ensures form { result ≡ form.leaf I32 }
+        ensures form { result ≡ form.leaf Leaf.I32 }
     {
         Shape::leaf(Leaf::I32)
     }
 
     /// A signed number of 8 bits.
     pub fn i8() -> Shape
-        ensures form { result ≡ form.leaf I8 }
+        ensures form { result ≡ form.leaf Leaf.I8 }
     {
         Shape::leaf(Leaf::I8)
     }
 
     /// A signed number of 16 bits.
     pub fn i16() -> Shape
-        ensures form { result ≡ form.leaf I16 }
+        ensures form { result ≡ form.leaf Leaf.I16 }
     {
         Shape::leaf(Leaf::I16)
     }
 
     /// A signed number of 64 bits.
     pub fn i64() -> Shape
-        ensures form { result ≡ form.leaf I64 }
+        ensures form { result ≡ form.leaf Leaf.I64 }
     {
         Shape::leaf(Leaf::I64)
     }
 
     /// A number of 8 bits.
     pub fn u8() -> Shape
-        ensures form { result ≡ form.leaf U8 }
+        ensures form { result ≡ form.leaf Leaf.U8 }
     {
         Shape::leaf(Leaf::U8)
     }
 
     /// A number of 16 bits.
     pub fn u16() -> Shape
-        ensures form { result ≡ form.leaf U16 }
+        ensures form { result ≡ form.leaf Leaf.U16 }
     {
         Shape::leaf(Leaf::U16)
     }
 
     /// A number of 32 bits.
     pub fn u32() -> Shape
-        ensures form { result ≡ form.leaf U32 }
+        ensures form { result ≡ form.leaf Leaf.U32 }
     {
         Shape::leaf(Leaf::U32)
     }
 
     /// A number of 64 bits.
     pub fn u64() -> Shape
-        ensures form { result ≡ form.leaf U64 }
+        ensures form { result ≡ form.leaf Leaf.U64 }
     {
         Shape::leaf(Leaf::U64)
     }
 
+    /// A double: a number of 64 bits in binary floating point.
+    pub fn double() -> Shape
+        ensures form { result ≡ form.leaf Leaf.Double }
+    {
+        Shape::leaf(Leaf::Double)
+    }
+
+    /// A text of one character.
+    pub fn char() -> Shape
+        ensures form { result ≡ form.leaf Leaf.Char }
+    {
+        Shape::leaf(Leaf::Char)
+    }
+
+    /// A text, borrowed.
+    pub fn str() -> Shape
+        ensures form { result ≡ form.leaf Leaf.Str }
+    {
+        Shape::leaf(Leaf::Str)
+    }
+
     /// A text, owned.
     pub fn string() -> Shape
-        ensures form { result ≡ form.leaf String }
+        ensures form { result ≡ form.leaf Leaf.String }
     {
         Shape::leaf(Leaf::String)
+    }
+
+    /// A byte string, borrowed.
+    pub fn bytes() -> Shape
+        ensures form { result ≡ form.leaf Leaf.Bytes }
+    {
+        Shape::leaf(Leaf::Bytes)
+    }
+
+    /// A byte string, owned.
+    pub fn byte_buf() -> Shape
+        ensures form { result ≡ form.leaf Leaf.ByteBuf }
+    {
+        Shape::leaf(Leaf::ByteBuf)
+    }
+
+    /// No value: null.
+    pub fn unit() -> Shape
+        ensures form { result ≡ form.leaf Leaf.Unit }
+    {
+        Shape::leaf(Leaf::Unit)
     }
 
     /// A shape without inner shapes.
@@ -138,6 +190,23 @@ impl Shape {
             level_count: 1,
             node: Node::Leaf(leaf),
         }
+    }
+
+    /// An option: null, or a value of this shape.
+    ///
+    /// The refusals, of which the first that applies is answered: `TooDeep` where the option would have more than 512
+    /// levels, `NoMemory` where memory runs out.
+    pub fn option(alloc: Global, inner: Shape) -> Result<Shape, ShapeError>
+        ensures made { Makes result (made_optional inner) }
+    {
+        let inner_levels = inner.levels();
+        if inner_levels >= MAX_LEVELS {
+            return Err(ShapeError::TooDeep);
+        }
+        Ok(Shape {
+            level_count: inner_levels + 1,
+            node: Node::Option(Box::new(alloc, inner)?),
+        })
     }
 
     /// A sequence whose items have this shape.
@@ -155,6 +224,37 @@ impl Shape {
             level_count: item_levels + 1,
             node: Node::Seq(Box::new(alloc, item)?),
         })
+    }
+
+    /// A newtype of this name, whose value has this shape.
+    ///
+    /// The refusals, of which the first that applies is answered: `ReservedName` where the name is
+    /// `$__bson_private_uuid`, `$__bson_private_human_readable` or `$__bson_private_utf8_lossy`, `TooDeep` where the
+    /// newtype would have more than 512 levels, `NoMemory` where memory runs out.
+    pub fn newtype(alloc: Global, name: String, value: Shape) -> Result<Shape, ShapeError>
+        ensures made { Makes result (made_newtype (string_bytes name) value) }
+    {
+        if is_reserved_newtype(name.as_str()) {
+            return Err(ShapeError::ReservedName);
+        }
+        let value_levels = value.levels();
+        if value_levels >= MAX_LEVELS {
+            return Err(ShapeError::TooDeep);
+        }
+        Ok(Shape {
+            level_count: value_levels + 1,
+            node: Node::Newtype(name, Box::new(alloc, value)?),
+        })
+    }
+
+    /// A unit struct of this name: its value is null.
+    pub fn unit_struct(name: String) -> Shape
+        ensures form { result ≡ form.unit_structure (string_bytes name) }
+    {
+        Shape {
+            level_count: 1,
+            node: Node::UnitStruct(name),
+        }
     }
 
     /// A struct of this name, with these fields in this order.
@@ -187,7 +287,10 @@ impl Shape {
     {
         match &self.node {
             Node::Leaf(leaf) => Form::Leaf(*leaf),
+            Node::Option(inner) => Form::Option(inner),
             Node::Seq(item) => Form::Seq(item),
+            Node::Newtype(name, inner) => Form::Newtype(name.as_str(), inner),
+            Node::UnitStruct(name) => Form::UnitStruct(name.as_str()),
             Node::Struct(name, fields) => Form::Struct(name.as_str(), fields.as_slice()),
         }
     }

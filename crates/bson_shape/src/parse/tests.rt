@@ -47,6 +47,13 @@ fn reads_what_it_prints(rt: HostRuntime) -> Result<(), Fail> {
         "{i:i32}",
         "[i32]",
         "[{a:[[string]],b:u8}]",
+        "??i32",
+        "N!",
+        "\"\"!",
+        "str=?string!",
+        "\"\"={a:?N=[\"a b\"!],b:M={}}",
+        "\"$oid\"=\"$__bson_private_uuid\"!",
+        "{a:bool,b:double,c:char,d:str,e:bytes,f:bytebuf,g:unit}",
         "i32{i32:i32,_:i32}",
         "Point{x:i32,y:{z:i32},\"\":i32}",
         "\"a b\"{\"é\\\"\\\\\":i32}",
@@ -79,7 +86,20 @@ fn refuses_what_is_no_notation(rt: HostRuntime) -> Result<(), Fail> {
         ("[i32]]", 5),
         ("{\"i\":i32}", 3),
         ("\"a\"{}", 2),
-        ("\"\"{}", 1),
+        ("\"\"", 2),
+        ("\"\"{}", 2),
+        ("?", 1),
+        ("?]", 1),
+        ("?i32]", 4),
+        ("{a:i32?}", 6),
+        ("{a=i32}", 2),
+        ("N=", 2),
+        ("N==", 2),
+        ("N!!", 2),
+        ("N=i32}", 5),
+        ("\"$__bson_private_uuid\"=strx", 27),
+        ("\"$__bson_private_uuid\"=str{", 27),
+        ("\"$__bson_private_uuid\"=é", 23),
         ("\"é", 3),
         ("\"\\a\"{}", 2),
         ("\"a b\"", 5),
@@ -97,6 +117,7 @@ fn refuses_what_a_maker_refuses(rt: HostRuntime) -> Result<(), Fail> {
         ("{a:i32,a:i32}", 0),
         ("{a:N{b:i32,b:i32}?", 3),
         ("[{b:i32,b:i32}?", 1),
+        ("\"$__bson_private_uuid\"={a:i32,a:i32}", 23),
     ] {
         let refusal = Shape::parse(alloc, text).err();
         assert_eq!(rt;
@@ -104,7 +125,16 @@ fn refuses_what_a_maker_refuses(rt: HostRuntime) -> Result<(), Fail> {
             Some(ParseError::Refused(place, ShapeError::RepeatedName))
         );
     }
-    for (text, place) in [("\"$oid\"{}", 0), ("{a:\"$oid\"{b:i32,b:i32}}", 3)] {
+    for (text, place) in [
+        ("\"$oid\"{}", 0),
+        ("{a:\"$oid\"{b:i32,b:i32}}", 3),
+        ("\"$__bson_private_uuid\"=i32", 0),
+        ("\"$__bson_private_uuid\"=str!}", 0),
+        ("\"$__bson_private_uuid\"=?i32é", 0),
+        ("{a:\"$__bson_private_utf8_lossy\"=i32", 3),
+        ("[?\"$__bson_private_human_readable\"=[i32]", 2),
+        ("M=\"$__bson_private_uuid\"={a:i32}x", 2),
+    ] {
         let refusal = Shape::parse(alloc, text).err();
         assert_eq!(rt;
             refusal,
@@ -115,6 +145,12 @@ fn refuses_what_a_maker_refuses(rt: HostRuntime) -> Result<(), Fail> {
     assert!(rt; Shape::parse(alloc, deepest.as_str()).is_ok());
     let deeper = brackets(alloc, 512)?;
     let refusal = Shape::parse(alloc, deeper.as_str()).err();
+    assert_eq!(rt;
+        refusal,
+        Some(ParseError::Refused(512, ShapeError::TooDeep))
+    );
+    let options = format!(in alloc; "{}i32", "?".repeat(alloc, 512)?)?;
+    let refusal = Shape::parse(alloc, options.as_str()).err();
     assert_eq!(rt;
         refusal,
         Some(ParseError::Refused(512, ShapeError::TooDeep))

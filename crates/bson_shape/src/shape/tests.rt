@@ -50,6 +50,20 @@ fn makes_shapes(rt: HostRuntime) -> Result<(), Fail> {
     };
     assert!(rt; *item == Shape::string());
     assert!(rt; sequence != Shape::seq(alloc, Shape::i32())?);
+    let option = Shape::option(alloc, Shape::bool())?;
+    let Form::Option(inner) = option.form() else {
+        return Err(Fail::from("no option"));
+    };
+    assert!(rt; *inner == Shape::bool());
+    let newtype = Shape::newtype(alloc, String::from_str(alloc, "N")?, Shape::unit())?;
+    let Form::Newtype(name, inner) = newtype.form() else {
+        return Err(Fail::from("no newtype"));
+    };
+    assert_eq!(rt; name, "N");
+    assert!(rt; *inner == Shape::unit());
+    let unit = Shape::unit_struct(String::from_str(alloc, "N")?);
+    assert!(rt; matches!(unit.form(), Form::UnitStruct("N")));
+    assert!(rt; newtype != unit);
     let point = numbers(alloc, "Point", &["x", "y"])??;
     let Form::Struct(name, fields) = point.form() else {
         return Err(Fail::from("no struct"));
@@ -68,6 +82,15 @@ fn refuses_shapes(rt: HostRuntime) -> Result<(), Fail> {
         numbers(alloc, "$oid", &["a", "a"])?.err(),
         Some(ShapeError::ReservedName)
     );
+    assert_eq!(rt;
+        Shape::newtype(
+            alloc,
+            String::from_str(alloc, "$__bson_private_uuid")?,
+            Shape::unit()
+        )
+        .err(),
+        Some(ShapeError::ReservedName)
+    );
     let twenty = [
         "a", "b", "c", "d", "e", "f", "g", "h", "i", "j", "k", "l", "m", "n", "o", "p", "q", "r",
         "s", "t",
@@ -82,6 +105,14 @@ fn refuses_shapes(rt: HostRuntime) -> Result<(), Fail> {
     assert!(rt; Shape::seq(alloc, nested(alloc, 511)??).is_ok());
     assert_eq!(rt;
         Shape::seq(alloc, nested(alloc, 512)??).err(),
+        Some(ShapeError::TooDeep)
+    );
+    assert_eq!(rt;
+        Shape::option(alloc, nested(alloc, 512)??).err(),
+        Some(ShapeError::TooDeep)
+    );
+    assert_eq!(rt;
+        Shape::newtype(alloc, String::new(alloc), nested(alloc, 512)??).err(),
         Some(ShapeError::TooDeep)
     );
     assert_eq!(rt; nested(alloc, 513)?.err(), Some(ShapeError::TooDeep));

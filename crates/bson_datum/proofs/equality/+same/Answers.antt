@@ -1,5 +1,8 @@
-use Rattle.std.proofs.Common.{sym, ◌∙◌}
-use Rattle.bson_datum.proofs.Sames.{same_items-lengths, same_fields-lengths, same_structs}
+use Rattle.std.proofs.Common.{sym, ap, ◌∙◌}
+use Rattle.bson_datum.specs.TextView.{text_view}
+use Rattle.bson_datum.specs.View.{view, fields_view}
+use Rattle.bson_datum.specs.Same.{same}
+use Rattle.bson_datum.proofs.Sames.{same_items-lengths, same_fields-lengths, struct_lent, same_structs}
 use Rattle.bson_datum.proofs.equality.+same.Goals as goal
 
 pub are_same_items-returns-then-a-b : goal.are_same_items-returns-then-a-b
@@ -8,8 +11,13 @@ are_same_items-returns-then-a-b t c = sym (same_items-lengths c.args.a.now c.arg
 pub are_same_fields-returns-then-a-b : goal.are_same_fields-returns-then-a-b
 are_same_fields-returns-then-a-b t c = sym (same_fields-lengths c.args.a.now c.args.b.now c.if-a-b.true)
 
-pub is_same-returns-then-eq : goal.is_same-returns-then-eq
-is_same-returns-then-eq t c =
-    let pair = c.in-Struct-Struct in
+pub is_same-returns-in-Struct-default : goal.is_same-returns-in-Struct-default
+is_same-returns-in-Struct-default t c =
+    let it = c.in-Struct-default in
+    c.is_structure_of.ensures ∙ ap (λ v. same v (view c.args.b.now)) (struct_lent c.args.a.now it.name it.fields _ it.is-0 c.deref-in-Struct-default.ensures.value)
+
+pub is_structure_of-returns-then-eq : goal.is_structure_of-returns-then-eq
+is_structure_of-returns-then-eq t c =
+    let it = c.in-Struct in
     c.are_same_fields.ensures
-    ∙ same_structs c.args.a.now c.args.b.now pair.name pair.other pair.fields pair.others _ _ pair.is-0 pair.is-1 c.deref-then-eq.ensures.value c.deref-then-eq-2.ensures.value (sym c.eq-in-Struct-Struct.ensures ∙ c.if-eq.true)
+    ∙ same_structs (text_view c.args.name.now) (fields_view c.args.fields.now) c.args.datum.now it.other it.others _ it.is c.deref.ensures.value (sym c.eq.ensures ∙ c.if-eq.true)

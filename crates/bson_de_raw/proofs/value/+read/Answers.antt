@@ -19,6 +19,16 @@ fill_one-read_value-requires t c =
     let less : 4 * nodes (get_or fs c.in-Some.place c.index-fields-place.result).shape < 4 * fields_nodes (fields_of fs) + 1 = omega (arith, smaller) in
     (search rules, tt)
 
+pub read_option-read_value-requires : goal.read_option-read_value-requires
+read_option-read_value-requires t c =
+    let less : 4 * nodes c.args.inner.now < 4 * nodes c.args.inner.now + 1 = omega arith in
+    (search rules, tt)
+
+pub read_newtype-read_value-requires : goal.read_newtype-read_value-requires
+read_newtype-read_value-requires t c =
+    let less : 4 * nodes c.args.inner.now < 4 * nodes c.args.inner.now + 1 = omega arith in
+    (search rules, tt)
+
 pub fill_one-returns-in-Ok-clause-exact : goal.fill_one-returns-in-Ok-clause-exact
 fill_one-returns-in-Ok-clause-exact t c =
     let fs = c.args.index.now.fields.now in
@@ -26,7 +36,7 @@ fill_one-returns-in-Ok-clause-exact t c =
     let i = c.in-Some.place in
     one_filled (fields_of fs) c.args.levels (λ j. reads_field (fields_of fs) j c.args.levels) e (slots_view c.args.slots.now) i (sym (c.in-Some.ensures.place ∙ ap (place_of (fields_of fs)) c.key-key.ensures.key)) (sym c.if-is_filled.ensures) (view c.in-Ok.value)
     (field_read fs i c.index-fields-place.result c.args.levels e.kind e.value c.in-Some.ensures.within ∙ c.in-Ok.ensures)
-    ∙ ap Ok (sym c.put.ensures)
+    ∙ ap Ok (sym c.put.ensures.filled)
 
 pub fill_one-returns-in-Err-read_value-clause-exact : goal.fill_one-returns-in-Err-read_value-clause-exact
 fill_one-returns-in-Err-read_value-clause-exact t c =

@@ -70,13 +70,13 @@ put_element-returns-clause-bytes g t c =
     (subst (λ b. Patched c.put_value.new.out c.patch_byte.new.self c.len-start.result (b ∷ []) c.put_value.new.steps c.patch_byte.new.steps) c.byte.ensures.byte c.patch_byte.ensures) (view c.args.value.now) c.args.levels c.in_ok-kind.ensures.kind c.in_ok-kind.ensures.bytes
 
 pub put_value-returns-in-Seq-clause-bytes : goal.put_value-returns-in-Seq-clause-bytes
-put_value-returns-in-Seq-clause-bytes g t c = wrote_sequence c.args.value.now c.in-Seq.items c.deref.result.now c.in-Seq.is c.deref.ensures.value c.args.levels c.args.out.now.spare c.args.out.now.bytes c.put_array.new.out.bytes c.put_array.result c.put_array.ensures.bytes
+put_value-returns-in-Seq-clause-bytes g t c = wrote_sequence c.args.value.now c.in-Seq.items c.deref-in-Seq.result.now c.in-Seq.is c.deref-in-Seq.ensures.value c.args.levels c.args.out.now.spare c.args.out.now.bytes c.put_array.new.out.bytes c.put_array.result c.put_array.ensures.bytes
 
 pub put_value-returns-in-Seq-clause-fits : goal.put_value-returns-in-Seq-clause-fits
-put_value-returns-in-Seq-clause-fits g t c = sequence_fits c.args.value.now c.in-Seq.items c.deref.result.now c.in-Seq.is c.deref.ensures.value c.put_array.result c.put_array.ensures.fits
+put_value-returns-in-Seq-clause-fits g t c = sequence_fits c.args.value.now c.in-Seq.items c.deref-in-Seq.result.now c.in-Seq.is c.deref-in-Seq.ensures.value c.put_array.result c.put_array.ensures.fits
 
-pub put_value-returns-in-None-clause-bytes : goal.put_value-returns-in-None-clause-bytes
-put_value-returns-in-None-clause-bytes g t c = wrote_struct c.args.value.now c.in-Struct.name c.in-Struct.fields c.deref-in-None.result.now c.in-Struct.is c.deref-in-None.ensures.value c.args.levels c.args.out.now.spare c.args.out.now.bytes c.put_document.new.out.bytes c.put_document.result (ap reserved_kind (sym c.as_str-in-Struct.ensures.text) ∙ sym c.in-None.ensures.kind) c.put_document.ensures.bytes
+pub put_value-returns-in-None-reserved_kind-clause-bytes : goal.put_value-returns-in-None-reserved_kind-clause-bytes
+put_value-returns-in-None-reserved_kind-clause-bytes g t c = wrote_struct c.args.value.now c.in-Struct.name c.in-Struct.fields c.deref-in-None-reserved_kind.result.now c.in-Struct.is c.deref-in-None-reserved_kind.ensures.value c.args.levels c.args.out.now.spare c.args.out.now.bytes c.put_document.new.out.bytes c.put_document.result (ap reserved_kind (sym c.as_str-in-Struct.ensures.text) ∙ sym c.in-None-reserved_kind.ensures.kind) c.put_document.ensures.bytes
 
-pub put_value-returns-in-None-clause-fits : goal.put_value-returns-in-None-clause-fits
-put_value-returns-in-None-clause-fits g t c = struct_fits c.args.value.now c.in-Struct.name c.in-Struct.fields c.deref-in-None.result.now c.in-Struct.is c.deref-in-None.ensures.value c.put_document.result c.put_document.ensures.fits
+pub put_value-returns-in-None-reserved_kind-clause-fits : goal.put_value-returns-in-None-reserved_kind-clause-fits
+put_value-returns-in-None-reserved_kind-clause-fits g t c = struct_fits c.args.value.now c.in-Struct.name c.in-Struct.fields c.deref-in-None-reserved_kind.result.now c.in-Struct.is c.deref-in-None-reserved_kind.ensures.value c.put_document.result c.put_document.ensures.fits

@@ -1,12 +1,8 @@
-use Rattle.std.proofs.Common.{◌≡◌, ◌++◌, length, drop, map}
-use Rattle.std.specs.Prelude.{option_map}
-use Rattle.bson_shape.specs.ShapeView.{fields_of}
-use Rattle.bson_datum.specs.View.{view}
-use Rattle.bson_laws.specs.Reads.{no_slots}
+use Rattle.std.proofs.Common.{◌≡◌, length, take}
+use Rattle.bson_de_raw.specs.SlotsView.{names_of}
+use Rattle.bson_de_raw.proofs.Finished.{field_names}
 use Rattle.bson_de_raw.proofs.slots.Slots.new.Given as goal
 
--- the slots so far, and one for each field that is left
+-- the slots stand under the names of the fields so far
 abbrev pub invariant-loop-field : goal.invariant-loop-field
-invariant-loop-field l =
-    (length l.values.items ≡ l._field-index)
-    × (map (option_map view) l.values.items ++ no_slots (fields_of (drop l._field-index l.fields)) ≡ no_slots (fields_of l.fields))
+invariant-loop-field l = (length l.named.items ≡ l.field-index) × (field_names l.named.items ≡ names_of (take l.field-index l.fields))

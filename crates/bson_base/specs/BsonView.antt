@@ -1,0 +1,57 @@
+-- What contracts see of the owned values: a `Bson` as a tree, a `Document` as its pairs.
+use Rattle.std.specs.Prelude.{List, [], ◌∷◌, string_bytes}
+use Rattle.std.specs.Global.{Global}
+use Rattle.std.specs.declared.string.String.{String}
+use Rattle.bson_base.specs.Instant.{millis}
+use Rattle.bson_base.specs.Tree.{Tree, double, string, document, array, binary, undefined, object_id, boolean, date_time, null, javascript_code, symbol, int32, timestamp, int64, decimal128, max_key, min_key, Pairs, no_pairs, pair, Trees, no_trees, tree}
+use Rattle.bson_base.specs.declared.binary.Binary.{Binary}
+use Rattle.bson_base.specs.declared.bson.Bson as bson
+use Rattle.bson_base.specs.declared.bson.Bson.{Bson, Row_of-Bson, end_of-Bson, more_of-Bson}
+use Rattle.bson_base.specs.declared.document.Document.{Document}
+
+abbrev pub binary_of : Binary → Tree
+binary_of b = binary b.subtype.0 b.bytes.items
+
+-- a key, as a document holds it
+abbrev pub Key : Type 0
+Key = String Global
+
+-- each key with the value at its index
+abbrev pub zipped : List Key → Trees → Pairs
+zipped [] ts = no_pairs
+zipped (k ∷ ks) no_trees = no_pairs
+zipped (k ∷ ks) (tree t ts) = pair (string_bytes k) t (zipped ks ts)
+
+abbrev mutual
+  pub tree_of : Bson → Tree
+  tree_of (bson.Double d) = double d.0
+  tree_of (bson.String t) = string (string_bytes t)
+  tree_of (bson.Array' shape row) = array (row_of row)
+  tree_of (bson.Document' keys shape row) = document (zipped keys.keys (row_of row))
+  tree_of (bson.Boolean b) = boolean b
+  tree_of bson.Null = null
+  tree_of (bson.JavaScriptCode t) = javascript_code (string_bytes t)
+  tree_of (bson.Int32 n) = int32 n
+  tree_of (bson.Int64 n) = int64 n
+  tree_of (bson.Timestamp t) = timestamp t.time t.increment
+  tree_of (bson.Binary b) = binary_of b
+  tree_of (bson.ObjectId id) = object_id id.0
+  tree_of (bson.DateTime d) = date_time (millis d)
+  tree_of (bson.Symbol t) = symbol (string_bytes t)
+  tree_of (bson.Decimal128 d) = decimal128 d.0
+  tree_of bson.Undefined = undefined
+  tree_of bson.MaxKey = max_key
+  tree_of bson.MinKey = min_key
+
+  pub row_of : {m : _} → Row_of-Bson m → Trees
+  row_of end_of-Bson = no_trees
+  row_of (more_of-Bson b rest) = tree (tree_of b) (row_of rest)
+
+-- the values of a `Vec` or a slice
+abbrev pub trees_of : List Bson → Trees
+trees_of [] = no_trees
+trees_of (b ∷ bs) = tree (tree_of b) (trees_of bs)
+
+-- the pairs of a document
+abbrev pub pairs_of : Document → Pairs
+pairs_of d = zipped d.keys.keys (trees_of d.values.items)

@@ -1,0 +1,26 @@
+-- The pairs of a document as an ordered map.
+use Rattle.std.specs.Prelude.{ℕ, suc, if◌then◌else◌, Option, None, Some}
+use Rattle.std.specs.Str.{bytes_eq}
+use Rattle.bson_base.specs.Text.{Utf8}
+use Rattle.bson_base.specs.Tree.{Tree, Pairs, no_pairs, pair}
+use Rattle.bson_base.specs.Sound.{Lacks}
+
+-- the value of a key
+abbrev pub lookup : Utf8 → Pairs → Option Tree
+lookup key no_pairs = None
+lookup key (pair k t ps) = if bytes_eq key k then Some t else lookup key ps
+
+-- a key that is there keeps its place and takes the value; another goes last
+abbrev pub put : Utf8 → Tree → Pairs → Pairs
+put key value no_pairs = pair key value no_pairs
+put key value (pair k t ps) = if bytes_eq key k then pair k value ps else pair k t (put key value ps)
+
+-- how many pairs there are
+abbrev pub count : Pairs → ℕ
+count no_pairs = 0
+count (pair k t ps) = suc (count ps)
+
+-- no key stands twice
+abbrev pub AreDistinct : Pairs → Type 0
+AreDistinct no_pairs = Unit {0}
+AreDistinct (pair k t ps) = Lacks k ps × AreDistinct ps

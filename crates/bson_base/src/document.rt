@@ -1,0 +1,137 @@
+ghost use Rattle.std.specs.Prelude.{◌≡◌, ◌==◌, length, string_bytes, IfOk, OnOk, OnErr};
+ghost use Rattle.std.specs.Option.{option_map};
+ghost use Rattle.bson_base.specs.Tree.{no_pairs};
+ghost use Rattle.bson_base.specs.Pairs.{lookup, put, count, AreDistinct};
+ghost use Rattle.bson_base.specs.BsonView.{tree_of, trees_of, zipped, pairs_of};
+
+use crate::bson::{Bson, copies_of};
+use crate::iter::{IntoIter, Iter};
+use indexmap::IndexSet;
+use std::alloc::{AllocError, Global};
+use std::mem;
+
+/// A document: pairs of a key and a value, in order, where no key stands twice.
+///
+/// Source: bsonspec.org, version 1.1, `document`.
+#[cycle(bson)]
+#[derive(Debug, Drop)]
+pub struct Document {
+    // Each value stands at the index of its key, so there are as many keys as values. A type that holds itself has no
+    // place to state that, so each method goes by the indexes that have both.
+    keys: IndexSet<String>,
+    values: Vec<Bson>,
+}
+
+impl Document {
+    /// The empty document. It takes no memory.
+    pub fn new(alloc: Global) -> Document
+        ensures empty { pairs_of result ≡ no_pairs }
+    {
+        Document {
+            keys: IndexSet::new(alloc),
+            values: Vec::new(alloc),
+        }
+    }
+
+    /// How many pairs there are.
+    pub fn len(&self) -> usize
+        ensures len { result ≡ count (pairs_of self.now) }
+        ensures distinct { AreDistinct (pairs_of self.now) }
+    {
+        self.keys.len().min(self.values.len())
+    }
+
+    /// Whether there is no pair.
+    pub fn is_empty(&self) -> bool
+        ensures empty { result ≡ (count (pairs_of self.now) == 0) }
+    {
+        self.len() == 0
+    }
+
+    /// The value of a key; `None` where the key is not there. It takes no memory.
+    pub fn get(&self, key: &str) -> Option<&Bson>
+        ensures value { option_map (λ b. tree_of b.now) result ≡ lookup key.now (pairs_of self.now) }
+    {
+        let index = self.keys.get_index_of(key)?;
+        self.values.get(index)
+    }
+
+    /// Puts a value at a key, and hands back the value that stood there; `None` where the key is new.
+    ///
+    /// A new key goes last, and a key that is there keeps its place.
+    ///
+    /// # Errors
+    ///
+    /// Want of memory; the document is then unchanged.
+    pub fn insert(&mut self, key: String, value: Bson) -> Result<Option<Bson>, AllocError>
+        ensures new { OnOk result (pairs_of self.new ≡ put (string_bytes key) (tree_of value) (pairs_of self.old)) }
+        ensures old { IfOk result (λ old. option_map tree_of old ≡ lookup (string_bytes key) (pairs_of self.old)) }
+        ensures err { OnErr result (pairs_of self.new ≡ pairs_of self.old) }
+    {
+        self.even_out();
+        if let Some(index) = self.keys.get_index_of(&key) {
+            let old = mem::replace(&mut self.values[index], value);
+            return Ok(Some(old));
+        }
+        self.values.reserve(1)?;
+        self.keys.insert(key)?;
+        self.values.push(value)?;
+        Ok(None)
+    }
+
+    /// The pairs in order, lent. It takes no memory.
+    pub fn iter(&self) -> Iter<'_>
+        ensures pairs { result ≡ pairs_of self.now }
+    {
+        let (keys, values) = self.parts();
+        Iter::over(keys, values)
+    }
+
+    /// An equal document, with keys and values of its own.
+    ///
+    /// # Errors
+    ///
+    /// Want of memory.
+    #[cycle(copy)]
+    #[tactic(auto, using(crate::proofs::Rows::row_items))]
+    pub fn try_clone(&self, alloc: Global) -> Result<Document, AllocError>
+        ensures equal { IfOk result (λ d. pairs_of d ≡ pairs_of self.now) }
+    {
+        let keys = self.keys.clone()?;
+        let values = copies_of(alloc, &self.values)?;
+        Ok(Document { keys, values })
+    }
+
+    // The keys that have a value, and the values that have a key.
+    pub(crate) fn parts(&self) -> (&[String], &[Bson])
+        ensures pairs { zipped result.0.now (trees_of result.1.now) ≡ pairs_of self.now }
+        ensures even { length result.0.now ≡ length result.1.now }
+    {
+        let len = self.len();
+        (&self.keys.as_slice()[..len], &self.values[..len])
+    }
+
+    // Lets go of a key without a value, and of a value without a key.
+    fn even_out(&mut self)
+        ensures same { pairs_of self.new ≡ pairs_of self.old }
+        ensures even { length self.new.keys.keys ≡ length self.new.values.items }
+    {
+        let len = self.len();
+        self.keys.truncate(len);
+        self.values.truncate(len);
+    }
+}
+
+impl IntoIterator for Document {
+    type Item = (String, Bson);
+
+    type IntoIter = IntoIter;
+
+    ghost into_iter_gives = { λ document pairs. pairs ≡ pairs_of document };
+
+    /// The pairs in order, handed over. It takes no memory.
+    fn into_iter(self) -> IntoIter {
+        let Document { keys, values } = self;
+        IntoIter::over(keys, values)
+    }
+}

@@ -1,0 +1,79 @@
+-- Copies of the parts of a datum, item by item.
+use Rattle.std.proofs.Common.{◌≡◌, ℕ, ◌≤◌, List, [], ◌∷◌, ◌++◌, Option, None, map, length, take, refl, ap, sym, ◌∙◌}
+use Rattle.std.proofs.lemmas.List.{map-id, take_all}
+use Rattle.std.proofs.lemmas.Iterator.Adapters.{YieldsList-from_vec}
+use Rattle.std.proofs.lemmas.Iterator.Consumers.{YieldsList-end}
+use Rattle.std.specs.Global.{Global, Vec}
+use Rattle.std.specs.Iterator.{Yields}
+use Rattle.std.specs.Vec.Iter.{into_iter_items, into_iter_len, into_iter_steps}
+use Rattle.std.specs.declared.vec.IntoIter.{IntoIter}
+use Rattle.std.specs.List.{flat_map}
+use Rattle.bson_base.specs.Text.{Utf8}
+use Rattle.bson_datum.specs.TextView.{text_view}
+use Rattle.bson_datum.specs.Value.{Value, structure, Items, no_items, item, FieldValues, no_field_values, field_value}
+use Rattle.bson_datum.specs.View.{view, items_view, field_view, fields_view}
+use Rattle.bson_datum.specs.Loans.{text_lent, loans, fields_loans}
+use Rattle.bson_datum.specs.declared.text.Text.{Text}
+use Rattle.bson_datum.specs.declared.datum.Field.{Field}
+use Rattle.bson_datum.specs.declared.datum.Datum.{Datum, Struct}
+use Rattle.bson_datum.proofs.Views.{view-Struct}
+use Rattle.bson_datum.proofs.Lent.{rows_lent}
+
+abbrev items_of : List Value → Items
+items_of [] = no_items
+items_of (v ∷ vs) = item v (items_of vs)
+
+items_view-map : (ds : List Datum) → items_view ds ≡ items_of (map view ds)
+items_view-map [] = refl
+items_view-map (d ∷ ds) = ap (item (view d)) (items_view-map ds)
+
+abbrev fields_of : List (Utf8 × Value) → FieldValues
+fields_of [] = no_field_values
+fields_of (f ∷ fs) = field_value f.0 f.1 (fields_of fs)
+
+fields_view-map : (fs : List Field) → fields_view fs ≡ fields_of (map field_view fs)
+fields_view-map [] = refl
+fields_view-map (f ∷ fs) = ap (field_value (text_view f.name) (view f.value)) (fields_view-map fs)
+
+abbrev joined : {A : Type 0} → List (List A) → List A
+joined [] = []
+joined (l ∷ ls) = l ++ joined ls
+
+flat_map-map : {X A : Type 0} (f : X → List A) (xs : List X) → flat_map f xs ≡ joined (map f xs)
+flat_map-map f [] = refl
+flat_map-map f (x ∷ xs) = ap (λ l. f x ++ l) (flat_map-map f xs)
+
+-- data whose values are those of others, one by one
+pub same_items_view : (cs ds : List Datum) → map view cs ≡ map view ds → items_view cs ≡ items_view ds
+same_items_view cs ds e = items_view-map cs ∙ ap items_of e ∙ sym (items_view-map ds)
+
+-- fields whose names and values are those of others, one by one
+pub same_fields_view : (cs fs : List Field) → map field_view cs ≡ map field_view fs → fields_view cs ≡ fields_view fs
+same_fields_view cs fs e = fields_view-map cs ∙ ap fields_of e ∙ sym (fields_view-map fs)
+
+-- lists of the parts of others, one by one
+pub same_parts : {X A : Type 0} (f : X → List A) (cs xs : List X) → map f cs ≡ map f xs → flat_map f cs ≡ flat_map f xs
+same_parts f cs xs e = flat_map-map f cs ∙ ap joined e ∙ sym (flat_map-map f xs)
+
+-- what a loop has seen after the last item
+pub seen_all : {X A : Type 0} (f : X → A) (seen : List A) (xs : List X) (i : ℕ) → length xs ≤ i → seen ≡ map f (take i xs) → seen ≡ map f xs
+seen_all f seen xs i le e = e ∙ ap (map f) (take_all i xs le)
+
+-- a struct of a name and fields that are those of another
+pub struct_copied : (d : Datum) (n m : Text) (fs gs : Vec Field) (xs : List Field) → d ≡ Struct n fs → xs ≡ fs.items → text_view m ≡ text_view n → fields_view gs.items ≡ fields_view xs
+    → view (Struct m gs) ≡ view d
+struct_copied d n m fs gs xs is lent named same =
+    view-Struct m gs ∙ (λ i. structure (named i) ((same ∙ ap fields_view lent) i)) ∙ sym (ap view is ∙ view-Struct n fs)
+
+loans-Struct : (n : Text) (fs : Vec Field) → loans (Struct n fs) ≡ text_lent n ∷ fields_loans fs.items
+loans-Struct n fs = ap (λ l. text_lent n ∷ l) (rows_lent fs)
+
+-- a struct whose name and fields are lent where those of another are
+pub struct_copied_lent : (d : Datum) (n m : Text) (fs gs : Vec Field) (xs : List Field) → d ≡ Struct n fs → xs ≡ fs.items → text_lent m ≡ text_lent n → fields_loans gs.items ≡ fields_loans xs
+    → loans (Struct m gs) ≡ loans d
+struct_copied_lent d n m fs gs xs is lent named same =
+    loans-Struct m gs ∙ (λ i. named i ∷ (same ∙ ap fields_loans lent) i) ∙ sym (ap loans is ∙ loans-Struct n fs)
+
+-- the items that a `for` over a `Vec` has yielded when none is left
+pub all_yielded : {A : Type 0} (xs ys : List A) (s t u : IntoIter A Global) (r : Option A) → into_iter_items s ≡ xs → into_iter_len s ≡ length xs → Yields into_iter_steps s ys t → r ≡ None → into_iter_steps t r u → ys ≡ xs
+all_yielded xs ys s t u r items len yields none step = sym (map-id ys) ∙ (YieldsList-end (YieldsList-from_vec xs items len) ys t yields r u none step).0

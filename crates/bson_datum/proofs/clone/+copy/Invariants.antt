@@ -1,0 +1,16 @@
+use Rattle.std.proofs.Common.{◌≡◌, map, take}
+use Rattle.bson_datum.specs.View.{view, field_view}
+use Rattle.bson_datum.specs.Loans.{loans, field_loans}
+use Rattle.bson_datum.proofs.clone.+copy.Given as goal
+
+abbrev pub invariant-copy_items-loop-item : goal.invariant-copy_items-loop-item
+invariant-copy_items-loop-item l = record {
+  equal : map view l.copies.items ≡ map view (take l.item-index l.items);
+  lent : map loans l.copies.items ≡ map loans (take l.item-index l.items);
+}
+
+abbrev pub invariant-copy_fields-loop-field : goal.invariant-copy_fields-loop-field
+invariant-copy_fields-loop-field l = record {
+  equal : map field_view l.copies.items ≡ map field_view (take l.field-index l.fields);
+  lent : map field_loans l.copies.items ≡ map field_loans (take l.field-index l.fields);
+}

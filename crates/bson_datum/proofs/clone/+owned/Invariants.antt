@@ -1,0 +1,16 @@
+use Rattle.std.proofs.Common.{◌≡◌, map}
+use Rattle.bson_datum.specs.View.{view, field_view}
+use Rattle.bson_datum.specs.Loans.{items_loans, fields_loans, NoneLent}
+use Rattle.bson_datum.proofs.clone.+owned.Given as goal
+
+abbrev pub invariant-owned_items-loop-item : goal.invariant-owned_items-loop-item
+invariant-owned_items-loop-item l = record {
+  equal : map view l.copies.items ≡ map view l.yielded;
+  owned : NoneLent (items_loans l.copies.items);
+}
+
+abbrev pub invariant-owned_fields-loop-field : goal.invariant-owned_fields-loop-field
+invariant-owned_fields-loop-field l = record {
+  equal : map field_view l.copies.items ≡ map field_view l.yielded;
+  owned : NoneLent (fields_loans l.copies.items);
+}

@@ -1,0 +1,220 @@
+ghost use Rattle.std.specs.Prelude.{◌≡◌, IfOk, false};
+ghost use Rattle.bson_datum.specs.TextView.{text_view};
+ghost use Rattle.bson_datum.specs.ByteStrView.{bytes_view};
+ghost use Rattle.bson_datum.specs.View.{view, items_view, fields_view};
+ghost use Rattle.bson_datum.specs.Loans.{text_lent, bytes_lent, loans, items_loans, fields_loans, NoneLent, IsOwned};
+
+use crate::{ByteStr, Datum, Field, Text};
+use std::alloc::{AllocError, Global};
+
+impl<'a> Text<'a> {
+    /// An equal text: lent where this one is, else a copy.
+    pub fn try_clone(&self, alloc: Global) -> Result<Text<'a>, AllocError>
+        ensures equal { IfOk result (λ t. text_view t ≡ text_view self.now) }
+        ensures lent { IfOk result (λ t. text_lent t ≡ text_lent self.now) }
+    {
+        match self {
+            Text::Borrowed(text) => Ok(Text::Borrowed(text)),
+            Text::Owned(text) => Ok(Text::Owned(String::from_str(alloc, text.as_str())?)),
+        }
+    }
+
+    /// An equal text that is owned: a copy where this one is lent.
+    pub fn into_owned<'x>(self, alloc: Global) -> Result<Text<'x>, AllocError>
+        ensures equal { IfOk result (λ t. text_view t ≡ text_view self.entry) }
+        ensures owned { IfOk result (λ t. text_lent t ≡ false) }
+    {
+        match self {
+            Text::Borrowed(text) => Ok(Text::Owned(String::from_str(alloc, text)?)),
+            Text::Owned(text) => Ok(Text::Owned(text)),
+        }
+    }
+}
+
+impl<'a> ByteStr<'a> {
+    /// An equal byte string: lent where this one is, else a copy.
+    pub fn try_clone(&self, alloc: Global) -> Result<ByteStr<'a>, AllocError>
+        ensures equal { IfOk result (λ b. bytes_view b ≡ bytes_view self.now) }
+        ensures lent { IfOk result (λ b. bytes_lent b ≡ bytes_lent self.now) }
+    {
+        match self {
+            ByteStr::Borrowed(bytes) => Ok(ByteStr::Borrowed(bytes)),
+            ByteStr::Owned(bytes) => Ok(ByteStr::Owned(bytes.as_slice().to_vec(alloc)?)),
+        }
+    }
+
+    /// An equal byte string that is owned: a copy where this one is lent.
+    pub fn into_owned<'x>(self, alloc: Global) -> Result<ByteStr<'x>, AllocError>
+        ensures equal { IfOk result (λ b. bytes_view b ≡ bytes_view self.entry) }
+        ensures owned { IfOk result (λ b. bytes_lent b ≡ false) }
+    {
+        match self {
+            ByteStr::Borrowed(bytes) => Ok(ByteStr::Owned(bytes.to_vec(alloc)?)),
+            ByteStr::Owned(bytes) => Ok(ByteStr::Owned(bytes)),
+        }
+    }
+}
+
+impl<'a> Datum<'a> {
+    /// An equal datum. Its parts are lent where those of this one are, else copies.
+    pub fn try_clone(&self, alloc: Global) -> Result<Datum<'a>, AllocError>
+        ensures equal { IfOk result (λ d. view d ≡ view self.now) }
+        ensures lent { IfOk result (λ d. loans d ≡ loans self.now) }
+    {
+        copy(alloc, self)
+    }
+
+    /// An equal datum in which nothing is lent: a copy stands where a part of this one is lent.
+    pub fn into_owned<'x>(self, alloc: Global) -> Result<Datum<'x>, AllocError>
+        ensures equal { IfOk result (λ d. view d ≡ view self.entry) }
+        ensures owned { IfOk result IsOwned }
+    {
+        owned(alloc, self)
+    }
+}
+
+// The same datum again.
+#[cycle(copy)]
+#[tactic(auto, using(crate::proofs::Views::item_rows_items, crate::proofs::Views::rows_items, crate::proofs::Lent::item_rows_lent, crate::proofs::Lent::rows_lent))]
+fn copy<'a>(alloc: Global, datum: &Datum<'a>) -> Result<Datum<'a>, AllocError>
+    ensures equal { IfOk result (λ d. view d ≡ view datum.now) }
+    ensures lent { IfOk result (λ d. loans d ≡ loans datum.now) }
+{
+    match datum {
+        Datum::Bool(truth) => Ok(Datum::Bool(*truth)),
+        Datum::I8(number) => Ok(Datum::I8(*number)),
+        Datum::I16(number) => Ok(Datum::I16(*number)),
+        Datum::I32(number) => Ok(Datum::I32(*number)),
+        Datum::I64(number) => Ok(Datum::I64(*number)),
+        Datum::U8(number) => Ok(Datum::U8(*number)),
+        Datum::U16(number) => Ok(Datum::U16(*number)),
+        Datum::U32(number) => Ok(Datum::U32(*number)),
+        Datum::U64(number) => Ok(Datum::U64(*number)),
+        Datum::Double(number) => Ok(Datum::Double(*number)),
+        Datum::Char(character) => Ok(Datum::Char(*character)),
+        Datum::Str(text) => Ok(Datum::Str(text.try_clone(alloc)?)),
+        Datum::Bytes(bytes) => Ok(Datum::Bytes(bytes.try_clone(alloc)?)),
+        Datum::None => Ok(Datum::None),
+        Datum::Some(value) => Ok(Datum::Some(Box::new(alloc, copy(alloc, value)?)?)),
+        Datum::Unit => Ok(Datum::Unit),
+        Datum::UnitStruct { name } => Ok(Datum::UnitStruct {
+            name: name.try_clone(alloc)?,
+        }),
+        Datum::NewtypeStruct { name, value } => Ok(Datum::NewtypeStruct {
+            name: name.try_clone(alloc)?,
+            value: Box::new(alloc, copy(alloc, value)?)?,
+        }),
+        Datum::Seq(items) => Ok(Datum::Seq(copy_items(alloc, items)?)),
+        Datum::Struct { name, fields } => Ok(Datum::Struct {
+            name: name.try_clone(alloc)?,
+            fields: copy_fields(alloc, fields)?,
+        }),
+    }
+}
+
+// The same data again.
+#[cycle(copy)]
+fn copy_items<'a>(alloc: Global, items: &[Datum<'a>]) -> Result<Vec<Datum<'a>>, AllocError>
+    ensures equal { IfOk result (λ v. items_view v.items ≡ items_view items.now) }
+    ensures lent { IfOk result (λ v. items_loans v.items ≡ items_loans items.now) }
+{
+    let mut copies = Vec::with_capacity(alloc, items.len())?;
+    for item in items {
+        copies.push(copy(alloc, item)?)?;
+    }
+    Ok(copies)
+}
+
+// The same fields again.
+#[cycle(copy)]
+fn copy_fields<'a>(alloc: Global, fields: &[Field<'a>]) -> Result<Vec<Field<'a>>, AllocError>
+    ensures equal { IfOk result (λ v. fields_view v.items ≡ fields_view fields.now) }
+    ensures lent { IfOk result (λ v. fields_loans v.items ≡ fields_loans fields.now) }
+{
+    let mut copies = Vec::with_capacity(alloc, fields.len())?;
+    for field in fields {
+        copies.push(Field {
+            name: field.name.try_clone(alloc)?,
+            value: copy(alloc, &field.value)?,
+        })?;
+    }
+    Ok(copies)
+}
+
+// The same datum, with nothing lent in it.
+#[cycle(owned)]
+#[tactic(auto, using(crate::proofs::Views::item_rows_items, crate::proofs::Views::rows_items, crate::proofs::Lent::item_rows_lent, crate::proofs::Lent::rows_lent))]
+fn owned<'x>(alloc: Global, datum: Datum<'_>) -> Result<Datum<'x>, AllocError>
+    ensures equal { IfOk result (λ d. view d ≡ view datum.entry) }
+    ensures owned { IfOk result IsOwned }
+{
+    match datum {
+        Datum::Bool(truth) => Ok(Datum::Bool(truth)),
+        Datum::I8(number) => Ok(Datum::I8(number)),
+        Datum::I16(number) => Ok(Datum::I16(number)),
+        Datum::I32(number) => Ok(Datum::I32(number)),
+        Datum::I64(number) => Ok(Datum::I64(number)),
+        Datum::U8(number) => Ok(Datum::U8(number)),
+        Datum::U16(number) => Ok(Datum::U16(number)),
+        Datum::U32(number) => Ok(Datum::U32(number)),
+        Datum::U64(number) => Ok(Datum::U64(number)),
+        Datum::Double(number) => Ok(Datum::Double(number)),
+        Datum::Char(character) => Ok(Datum::Char(character)),
+        Datum::Str(text) => Ok(Datum::Str(text.into_owned(alloc)?)),
+        Datum::Bytes(bytes) => Ok(Datum::Bytes(bytes.into_owned(alloc)?)),
+        Datum::None => Ok(Datum::None),
+        Datum::Some(value) => Ok(Datum::Some(owned_box(alloc, value)?)),
+        Datum::Unit => Ok(Datum::Unit),
+        Datum::UnitStruct { name } => Ok(Datum::UnitStruct {
+            name: name.into_owned(alloc)?,
+        }),
+        Datum::NewtypeStruct { name, value } => Ok(Datum::NewtypeStruct {
+            name: name.into_owned(alloc)?,
+            value: owned_box(alloc, value)?,
+        }),
+        Datum::Seq(items) => Ok(Datum::Seq(owned_items(alloc, items)?)),
+        Datum::Struct { name, fields } => Ok(Datum::Struct {
+            name: name.into_owned(alloc)?,
+            fields: owned_fields(alloc, fields)?,
+        }),
+    }
+}
+
+// The same datum in a box, with nothing lent in it.
+#[cycle(owned)]
+fn owned_box<'x>(alloc: Global, value: Box<Datum<'_>>) -> Result<Box<Datum<'x>>, AllocError>
+    ensures equal { IfOk result (λ b. view b.value ≡ view value.entry.value) }
+    ensures owned { IfOk result (λ b. IsOwned b.value) }
+{
+    let value = owned(alloc, Box::into_inner(value))?;
+    Ok(Box::new(alloc, value)?)
+}
+
+// The same data, with nothing lent in them.
+#[cycle(owned)]
+fn owned_items<'x>(alloc: Global, items: Vec<Datum<'_>>) -> Result<Vec<Datum<'x>>, AllocError>
+    ensures equal { IfOk result (λ v. items_view v.items ≡ items_view items.entry.items) }
+    ensures owned { IfOk result (λ v. NoneLent (items_loans v.items)) }
+{
+    let mut copies = Vec::with_capacity(alloc, items.len())?;
+    for item in items {
+        copies.push(owned(alloc, item)?)?;
+    }
+    Ok(copies)
+}
+
+// The same fields, with nothing lent in them.
+#[cycle(owned)]
+fn owned_fields<'x>(alloc: Global, fields: Vec<Field<'_>>) -> Result<Vec<Field<'x>>, AllocError>
+    ensures equal { IfOk result (λ v. fields_view v.items ≡ fields_view fields.entry.items) }
+    ensures owned { IfOk result (λ v. NoneLent (fields_loans v.items)) }
+{
+    let mut copies = Vec::with_capacity(alloc, fields.len())?;
+    for field in fields {
+        copies.push(Field {
+            name: field.name.into_owned(alloc)?,
+            value: owned(alloc, field.value)?,
+        })?;
+    }
+    Ok(copies)
+}

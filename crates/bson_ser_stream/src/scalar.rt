@@ -1,0 +1,189 @@
+// Values in which no other value stands.
+ghost use Rattle.std.specs.Prelude.{◌≡◌, ◌≤◌, ◌+◌, length, encode_utf8, pos, IsOk, OnOk, IfOk, Ok};
+ghost use Rattle.bson_base.specs.Sound.{max_bytes, max_binary};
+ghost use Rattle.bson_base.specs.Tree.{boolean, double, string, int32, int64, closed_text, after_length};
+ghost use Rattle.bson_io.specs.Output.{Appended};
+ghost use Rattle.bson_laws.specs.Spell.{spell_number, spell_bytes};
+ghost use Rattle.bson_ser_stream.specs.Writing.{with_tree};
+ghost use Rattle.bson_ser_stream.specs.Halting.{Gives, Grows};
+
+use crate::container::MAX_BYTES;
+use crate::halt::Halt;
+use bson_base::{Double, ElementType};
+use bson_datum::Cause;
+use bson_datum::ser::Fault;
+use bson_io::{Ledger, Out, Steps};
+use std::alloc::AllocError;
+
+// The most bytes of a binary.
+const MAX_BINARY: usize = 16777216;
+
+// The subtype of bytes without a further meaning.
+const GENERIC: u8 = 0;
+
+/// Appends a boolean: the byte 1 where it is true, else 0.
+pub(crate) fn put_bool<L: Ledger>(
+    out: &mut Out,
+    steps: &mut Steps<L>,
+    b: bool,
+) -> Result<ElementType, Halt>
+    ensures kind { IfOk result (λ k. k ≡ ElementType.Boolean) }
+    ensures bytes { Gives 1 out.old.spare (λ _. out.new.bytes) result
+        (with_tree out.old.bytes (Ok (boolean b))) }
+    ensures grows { Grows out.old out.new steps.old steps.new }
+{
+    out.push(u8::from(b), steps)?;
+    Ok(ElementType::Boolean)
+}
+
+/// Appends a number in four bytes.
+#[tactic(auto, unfolding(bson_base::specs::Tree::le32))]
+pub(crate) fn put_i32<L: Ledger>(
+    out: &mut Out,
+    steps: &mut Steps<L>,
+    n: i32,
+) -> Result<ElementType, Halt>
+    ensures kind { IfOk result (λ k. k ≡ ElementType.Int32) }
+    ensures bytes { Gives 4 out.old.spare (λ _. out.new.bytes) result
+        (with_tree out.old.bytes (Ok (int32 n))) }
+    ensures grows { Grows out.old out.new steps.old steps.new }
+{
+    out.push_all(&n.to_le_bytes(), steps)?;
+    Ok(ElementType::Int32)
+}
+
+/// Appends a number in eight bytes.
+#[tactic(auto, unfolding(bson_base::specs::Tree::le64))]
+pub(crate) fn put_i64<L: Ledger>(
+    out: &mut Out,
+    steps: &mut Steps<L>,
+    number: i64,
+) -> Result<ElementType, Halt>
+    ensures kind { IfOk result (λ k. k ≡ ElementType.Int64) }
+    ensures bytes { Gives 8 out.old.spare (λ _. out.new.bytes) result
+        (with_tree out.old.bytes (Ok (int64 number))) }
+    ensures grows { Grows out.old out.new steps.old steps.new }
+{
+    out.push_all(&number.to_le_bytes(), steps)?;
+    Ok(ElementType::Int64)
+}
+
+/// Appends a number in eight bytes, where an Int64 holds it.
+pub(crate) fn put_u64<L: Ledger>(
+    out: &mut Out,
+    steps: &mut Steps<L>,
+    number: u64,
+) -> Result<ElementType, Halt>
+    ensures kind { IfOk result (λ k. k ≡ ElementType.Int64) }
+    ensures bytes { Gives 8 out.old.spare (λ _. out.new.bytes) result
+        (with_tree out.old.bytes (spell_number ElementType.Int64 (pos number))) }
+    ensures grows { Grows out.old out.new steps.old steps.new }
+{
+    match i64::try_from(number) {
+        Ok(signed) => put_i64(out, steps, signed),
+        Err(_) => Err(Halt::here(out.allocator(), Fault::UnsignedIntegerExceededRange(number))),
+    }
+}
+
+/// Appends a floating point number, by its eight bytes.
+pub(crate) fn put_double<L: Ledger>(
+    out: &mut Out,
+    steps: &mut Steps<L>,
+    number: Double,
+) -> Result<ElementType, Halt>
+    ensures kind { IfOk result (λ k. k ≡ ElementType.Double) }
+    ensures bytes { Gives (length number.0) out.old.spare (λ _. out.new.bytes) result
+        (with_tree out.old.bytes (Ok (double number.0))) }
+    ensures fits { OnOk result (length number.0 ≤ max_bytes) }
+    ensures grows { Grows out.old out.new steps.old steps.new }
+{
+    out.push_all(&number.0, steps)?;
+    Ok(ElementType::Double)
+}
+
+// Appends a text whose length an Int32 holds: the length with the zero, the text, the zero.
+fn push_text<L: Ledger>(out: &mut Out, steps: &mut Steps<L>, text: &str) -> Result<(), AllocError>
+    requires { length text.now + 5 ≤ max_bytes }
+    ensures ok { OnOk result (Appended out.old out.new (closed_text text.now) steps.old steps.new) }
+    ensures free { length text.now + 5 ≤ out.old.spare → IsOk result }
+    ensures grows { Grows out.old out.new steps.old steps.new }
+{
+    let len = text.len() + 1;
+    out.push_all(&(len as i32).to_le_bytes(), steps)?;
+    out.push_all(text.as_bytes(), steps)?;
+    out.push(0, steps)?;
+    Ok(())
+}
+
+/// Appends a text. One that has more bytes than a document may is refused before anything is written.
+pub(crate) fn put_text<L: Ledger>(
+    out: &mut Out,
+    steps: &mut Steps<L>,
+    text: &str,
+) -> Result<ElementType, Halt>
+    ensures kind { IfOk result (λ k. k ≡ ElementType.String) }
+    ensures bytes { Gives (length text.now + 5) out.old.spare (λ _. out.new.bytes) result
+        (with_tree out.old.bytes (Ok (string text.now))) }
+    ensures fits { OnOk result (length text.now + 5 ≤ max_bytes) }
+    ensures grows { Grows out.old out.new steps.old steps.new }
+{
+    if text.len() + 5 > MAX_BYTES {
+        return Err(Halt::TooLong);
+    }
+    push_text(out, steps, text)?;
+    Ok(ElementType::String)
+}
+
+/// Appends a character, as the text of it alone.
+pub(crate) fn put_char<L: Ledger>(
+    out: &mut Out,
+    steps: &mut Steps<L>,
+    c: char,
+) -> Result<ElementType, Halt>
+    ensures kind { IfOk result (λ k. k ≡ ElementType.String) }
+    ensures bytes { Gives (length (encode_utf8 c) + 5) out.old.spare (λ _. out.new.bytes) result
+        (with_tree out.old.bytes (Ok (string (encode_utf8 c)))) }
+    ensures fits { OnOk result (length (encode_utf8 c) + 5 ≤ max_bytes) }
+    ensures grows { Grows out.old out.new steps.old steps.new }
+{
+    let mut buffer = [0; 4];
+    put_text(out, steps, c.encode_utf8(&mut buffer))
+}
+
+// Appends a binary of subtype 0 whose length an Int32 holds: the length, the subtype, the bytes.
+fn push_binary<L: Ledger>(
+    out: &mut Out,
+    steps: &mut Steps<L>,
+    bytes: &[u8],
+) -> Result<(), AllocError>
+    requires { length bytes.now ≤ max_binary 0 }
+    ensures ok { OnOk result (Appended out.old out.new (after_length 0 bytes.now) steps.old steps.new) }
+    ensures free { length bytes.now + 5 ≤ out.old.spare → IsOk result }
+    ensures grows { Grows out.old out.new steps.old steps.new }
+{
+    out.push_all(&(bytes.len() as i32).to_le_bytes(), steps)?;
+    out.push(GENERIC, steps)?;
+    out.push_all(bytes, steps)?;
+    Ok(())
+}
+
+/// Appends a byte string, as a binary of subtype 0. One that has more bytes than a binary may is refused before anything is
+/// written.
+pub(crate) fn put_bytes<L: Ledger>(
+    out: &mut Out,
+    steps: &mut Steps<L>,
+    bytes: &[u8],
+) -> Result<ElementType, Halt>
+    ensures kind { IfOk result (λ k. k ≡ ElementType.Binary) }
+    ensures bytes { Gives (length bytes.now + 5) out.old.spare (λ _. out.new.bytes) result
+        (with_tree out.old.bytes (spell_bytes bytes.now)) }
+    ensures fits { OnOk result (length bytes.now + 5 ≤ max_bytes) }
+    ensures grows { Grows out.old out.new steps.old steps.new }
+{
+    if bytes.len() > MAX_BINARY {
+        let length = bytes.len() as u64;
+        return Err(Halt::caused(out.allocator(), Cause::BinaryTooLong(length)));
+    }
+    push_binary(out, steps, bytes)?;
+    Ok(ElementType::Binary)
+}
