@@ -10,10 +10,11 @@ use Rattle.std.specs.declared.vec.IntoIter.{IntoIter}
 use Rattle.std.specs.List.{flat_map}
 use Rattle.bson_base.specs.Text.{Utf8}
 use Rattle.bson_datum.specs.TextView.{text_view}
-use Rattle.bson_datum.specs.Value.{Value, structure, Items, no_items, item, FieldValues, no_field_values, field_value}
-use Rattle.bson_datum.specs.View.{view, items_view, field_view, fields_view}
+use Rattle.bson_datum.specs.Value.{Value, structure, Items, no_items, item, Entries, no_entries, entry, FieldValues, no_field_values, field_value}
+use Rattle.bson_datum.specs.View.{view, items_view, entry_view, entries_view, field_view, fields_view}
 use Rattle.bson_datum.specs.Loans.{text_lent, loans, fields_loans}
 use Rattle.bson_datum.specs.declared.text.Text.{Text}
+use Rattle.bson_datum.specs.declared.datum.Entry.{Entry}
 use Rattle.bson_datum.specs.declared.datum.Field.{Field}
 use Rattle.bson_datum.specs.declared.datum.Datum.{Datum, Struct}
 use Rattle.bson_datum.proofs.Views.{view-Struct}
@@ -26,6 +27,14 @@ items_of (v ∷ vs) = item v (items_of vs)
 items_view-map : (ds : List Datum) → items_view ds ≡ items_of (map view ds)
 items_view-map [] = refl
 items_view-map (d ∷ ds) = ap (item (view d)) (items_view-map ds)
+
+abbrev entries_of : List (Value × Value) → Entries
+entries_of [] = no_entries
+entries_of (e ∷ es) = entry e.0 e.1 (entries_of es)
+
+entries_view-map : (es : List Entry) → entries_view es ≡ entries_of (map entry_view es)
+entries_view-map [] = refl
+entries_view-map (e ∷ es) = ap (entry (view e.key) (view e.value)) (entries_view-map es)
 
 abbrev fields_of : List (Utf8 × Value) → FieldValues
 fields_of [] = no_field_values
@@ -46,6 +55,10 @@ flat_map-map f (x ∷ xs) = ap (λ l. f x ++ l) (flat_map-map f xs)
 -- data whose values are those of others, one by one
 pub same_items_view : (cs ds : List Datum) → map view cs ≡ map view ds → items_view cs ≡ items_view ds
 same_items_view cs ds e = items_view-map cs ∙ ap items_of e ∙ sym (items_view-map ds)
+
+-- entries whose keys and values are those of others, one by one
+pub same_entries_view : (cs es : List Entry) → map entry_view cs ≡ map entry_view es → entries_view cs ≡ entries_view es
+same_entries_view cs es e = entries_view-map cs ∙ ap entries_of e ∙ sym (entries_view-map es)
 
 -- fields whose names and values are those of others, one by one
 pub same_fields_view : (cs fs : List Field) → map field_view cs ≡ map field_view fs → fields_view cs ≡ fields_view fs

@@ -7,16 +7,18 @@ use Rattle.std.specs.Global.{Vec}
 use Rattle.std.specs.Cmp.Lexicographic.{pointwise}
 use Rattle.std.proofs.lemmas.Bool.{and_right}
 use Rattle.bson_base.specs.Text.{Utf8}
-use Rattle.bson_datum.specs.Value.{Items, FieldValues, sequence, structure}
+use Rattle.bson_datum.specs.Value as value
+use Rattle.bson_datum.specs.Value.{Items, Entries, FieldValues, sequence, structure}
 use Rattle.bson_datum.specs.TextView.{text_view}
 use Rattle.bson_datum.specs.PathView.{segment_view}
-use Rattle.bson_datum.specs.View.{view, items_view, fields_view}
-use Rattle.bson_datum.specs.Same.{same, same_items, same_fields, same_segment, same_path}
+use Rattle.bson_datum.specs.View.{view, items_view, entries_view, fields_view}
+use Rattle.bson_datum.specs.Same.{same, same_items, same_entries, same_fields, same_segment, same_path}
 use Rattle.bson_datum.specs.declared.text.Text.{Text}
 use Rattle.bson_datum.specs.declared.path.Segment.{Segment}
+use Rattle.bson_datum.specs.declared.datum.Entry.{Entry}
 use Rattle.bson_datum.specs.declared.datum.Field.{Field}
-use Rattle.bson_datum.specs.declared.datum.Datum.{Datum, Seq, Seq', Struct, Struct'}
-use Rattle.bson_datum.specs.declared.datum.Datum.TheViews.{roll-Datum, roll-out-Datum, rolls-Seq, outs-Seq', rolls-Struct, outs-Struct'}
+use Rattle.bson_datum.specs.declared.datum.Datum.{Datum, Seq, Seq', Map, Map', Struct, Struct'}
+use Rattle.bson_datum.specs.declared.datum.Datum.TheViews.{roll-Datum, roll-out-Datum, rolls-Seq, outs-Seq', rolls-Map, outs-Map', rolls-Struct, outs-Struct'}
 use Rattle.bson_datum.proofs.Views.{view-Struct}
 
 -- what a test that decides a fact answers says of the fact
@@ -40,6 +42,16 @@ same_items-lengths [] (e ∷ es) h = refl
 same_items-lengths (d ∷ ds) [] h = refl
 same_items-lengths (d ∷ ds) (e ∷ es) h = and_right _ _ (same_items-lengths ds es (λ e. h (omega arith)))
 
+-- the entries that a loop has left to compare
+abbrev pub same_entries_from : ℕ → List Entry → List Entry → Bool
+same_entries_from i cs ds = same_entries (entries_view (drop i cs)) (entries_view (drop i ds))
+
+pub same_entries-lengths : (cs ds : List Entry) → (length cs ≡ length ds → ⊥) → same_entries (entries_view cs) (entries_view ds) ≡ false
+same_entries-lengths [] [] h = absurd (h refl)
+same_entries-lengths [] (d ∷ ds) h = refl
+same_entries-lengths (c ∷ cs) [] h = refl
+same_entries-lengths (c ∷ cs) (d ∷ ds) h = and_right _ _ (same_entries-lengths cs ds (λ e. h (omega arith)))
+
 -- the fields that a loop has left to compare
 abbrev pub same_fields_from : ℕ → List Field → List Field → Bool
 same_fields_from i fs gs = same_fields (fields_view (drop i fs)) (fields_view (drop i gs))
@@ -54,6 +66,11 @@ same_fields-lengths (f ∷ fs) (g ∷ gs) h = and_right _ _ (same_fields-lengths
 pub unlike_sequence : (is : Items) (d : Datum) → ((ds : Vec Datum) → d ≡ Seq ds → ⊥) → false ≡ same (sequence is) (view d)
 unlike_sequence is (Seq' shape rows) none = absurd (none _ (sym (roll-out-Datum (Seq' shape rows)) ∙ ap roll-Datum (outs-Seq' shape rows) ∙ rolls-Seq _))
 unlike_sequence is d none = refl
+
+-- a map and a datum that is none
+pub unlike_map : (es : Entries) (d : Datum) → ((ds : Vec Entry) → d ≡ Map ds → ⊥) → false ≡ same (value.map es) (view d)
+unlike_map es (Map' shape rows) none = absurd (none _ (sym (roll-out-Datum (Map' shape rows)) ∙ ap roll-Datum (outs-Map' shape rows) ∙ rolls-Map _))
+unlike_map es d none = refl
 
 -- a struct and a datum that is none
 pub unlike_struct : (n : Utf8) (fs : FieldValues) (d : Datum) → ((m : Text) (gs : Vec Field) → d ≡ Struct m gs → ⊥) → false ≡ same (structure n fs) (view d)

@@ -1,13 +1,14 @@
--- The value of a datum whose values or fields stand in a `Vec`.
+-- The value of a datum whose values, entries or fields stand in a `Vec`.
 use Rattle.std.proofs.Common.{◌≡◌, refl, ap, ◌∙◌}
 use Rattle.std.specs.Global.{Vec}
 use Rattle.bson_datum.specs.TextView.{text_view}
-use Rattle.bson_datum.specs.Value.{sequence, item, structure, field_value}
-use Rattle.bson_datum.specs.View.{view, item_rows_view, items_view, rows_view, fields_view}
+use Rattle.bson_datum.specs.Value.{sequence, item, map, entry, structure, field_value}
+use Rattle.bson_datum.specs.View.{view, item_rows_view, items_view, entry_rows_view, entries_view, rows_view, fields_view}
 use Rattle.bson_datum.specs.declared.text.Text.{Text}
+use Rattle.bson_datum.specs.declared.datum.Entry.{Entry}
 use Rattle.bson_datum.specs.declared.datum.Field.{Field}
-use Rattle.bson_datum.specs.declared.datum.Datum.TheBlock.{hidden-the_row-Datum-0, hidden-the_row-Field-1}
-use Rattle.bson_datum.specs.declared.datum.Datum.{Datum, Seq, Struct, Row_of-Datum, end_of-Datum, more_of-Datum, items-the_row-Datum, items_hidden-the_row-Datum-0, Row_of-Field, end_of-Field, more_of-Field, items-the_row-Field, items_hidden-the_row-Field-1}
+use Rattle.bson_datum.specs.declared.datum.Datum.TheBlock.{hidden-the_row-Datum-0, hidden-the_row-Entry-1, hidden-the_row-Field-2}
+use Rattle.bson_datum.specs.declared.datum.Datum.{Datum, Seq, Map, Struct, Row_of-Datum, end_of-Datum, more_of-Datum, items-the_row-Datum, items_hidden-the_row-Datum-0, Row_of-Entry, end_of-Entry, more_of-Entry, items-the_row-Entry, items_hidden-the_row-Entry-1, Row_of-Field, end_of-Field, more_of-Field, items-the_row-Field, items_hidden-the_row-Field-2}
 
 item_rows_are : (m : _) (rows : Row_of-Datum m) → item_rows_view rows ≡ items_view (items-the_row-Datum m rows)
 item_rows_are m end_of-Datum = refl
@@ -19,12 +20,22 @@ item_rows_items ds = item_rows_are _ (hidden-the_row-Datum-0 ds) ∙ ap items_vi
 pub view-Seq : (ds : Vec Datum) → view (Seq ds) ≡ sequence (items_view ds.items)
 view-Seq ds = ap sequence (item_rows_items ds)
 
+entry_rows_are : (m : _) (rows : Row_of-Entry m) → entry_rows_view rows ≡ entries_view (items-the_row-Entry m rows)
+entry_rows_are m end_of-Entry = refl
+entry_rows_are m (more_of-Entry k v rest) = ap (entry (view k) (view v)) (entry_rows_are _ rest)
+
+pub entry_rows_items : (es : Vec Entry) → entry_rows_view (hidden-the_row-Entry-1 es) ≡ entries_view es.items
+entry_rows_items es = entry_rows_are _ (hidden-the_row-Entry-1 es) ∙ ap entries_view (items_hidden-the_row-Entry-1 es)
+
+pub view-Map : (es : Vec Entry) → view (Map es) ≡ map (entries_view es.items)
+view-Map es = ap map (entry_rows_items es)
+
 rows_are : (m : _) (rows : Row_of-Field m) → rows_view rows ≡ fields_view (items-the_row-Field m rows)
 rows_are m end_of-Field = refl
 rows_are m (more_of-Field name v rest) = ap (field_value (text_view name) (view v)) (rows_are _ rest)
 
-pub rows_items : (fs : Vec Field) → rows_view (hidden-the_row-Field-1 fs) ≡ fields_view fs.items
-rows_items fs = rows_are _ (hidden-the_row-Field-1 fs) ∙ ap fields_view (items_hidden-the_row-Field-1 fs)
+pub rows_items : (fs : Vec Field) → rows_view (hidden-the_row-Field-2 fs) ≡ fields_view fs.items
+rows_items fs = rows_are _ (hidden-the_row-Field-2 fs) ∙ ap fields_view (items_hidden-the_row-Field-2 fs)
 
 pub view-Struct : (n : Text) (fs : Vec Field) → view (Struct n fs) ≡ structure (text_view n) (fields_view fs.items)
 view-Struct n fs = ap (structure (text_view n)) (rows_items fs)

@@ -9,18 +9,19 @@ use Rattle.std.specs.Cmp.Lexicographic.{pointwise_decides}
 use Rattle.std.proofs.lemmas.Bool.{and_parts, and_from, false≢true}
 use Rattle.std.proofs.lemmas.Slice.Eq.{bytes_eq-Decides}
 use Rattle.bson_base.specs.Text.{Bytes, Utf8}
-use Rattle.bson_datum.specs.Value.{IntegerType, i8, i16, i32, i64, u8, u16, u32, u64, Value, boolean, integer, double, character, str, bytes, none, some, unit, unit_structure, newtype, sequence, structure, Items, no_items, item, FieldValues, no_field_values, field_value}
+use Rattle.bson_datum.specs.Value.{IntegerType, i8, i16, i32, i64, u8, u16, u32, u64, Value, boolean, integer, double, character, str, bytes, none, some, unit, unit_structure, newtype, sequence, map, structure, Items, no_items, item, Entries, no_entries, entry, FieldValues, no_field_values, field_value}
 use Rattle.bson_datum.specs.Refusal as refusal
 use Rattle.bson_datum.specs.Refusal.{at_key, at_index}
-use Rattle.bson_datum.specs.Same.{type_number, same_type, same, same_items, same_fields, same_field, same_segment, same_path}
+use Rattle.bson_datum.specs.Same.{type_number, same_type, same, same_items, same_entries, same_entry, same_fields, same_field, same_segment, same_path}
 use Rattle.bson_datum.specs.TextView.{text_view}
 use Rattle.bson_datum.specs.ByteStrView.{bytes_view}
 use Rattle.bson_datum.specs.PathView.{path_view, segment_view}
-use Rattle.bson_datum.specs.View.{view, field_view}
+use Rattle.bson_datum.specs.View.{view, entry_view, field_view}
 use Rattle.bson_datum.specs.declared.text.Text.{Text}
 use Rattle.bson_datum.specs.declared.byte_str.ByteStr.{ByteStr}
 use Rattle.bson_datum.specs.declared.path.Segment.{Segment}
 use Rattle.bson_datum.specs.declared.path.Path.{Path}
+use Rattle.bson_datum.specs.declared.datum.Entry.{Entry}
 use Rattle.bson_datum.specs.declared.datum.Field.{Field}
 use Rattle.bson_datum.specs.declared.datum.Datum.{Datum}
 
@@ -64,6 +65,7 @@ mutual
       let b = and_parts (bytes_eq name n) (same v w) e in
       λ i. newtype ((bytes_eq-Decides name n).0 b.0 i) (same_is v w b.1 i)
   same_is (sequence is) (sequence js) e = ap sequence (items_are is js e)
+  same_is (map es) (map ds) e = ap map (entries_are es ds e)
   same_is (structure name fs) (structure n gs) e =
       let b = and_parts (bytes_eq name n) (same_fields fs gs) e in
       λ i. structure ((bytes_eq-Decides name n).0 b.0 i) (fields_are fs gs b.1 i)
@@ -75,6 +77,14 @@ mutual
       let b = and_parts (same v w) (same_items is js) e in
       λ i. item (same_is v w b.0 i) (items_are is js b.1 i)
   items_are is js e = absurd (false≢true e)
+
+  entries_are : (es ds : Entries) → same_entries es ds ≡ true → es ≡ ds
+  entries_are no_entries no_entries e = refl
+  entries_are (entry k v es) (entry l w ds) e =
+      let b = and_parts (same k l && same v w) (same_entries es ds) e in
+      let d = and_parts (same k l) (same v w) b.0 in
+      λ i. entry (same_is k l d.0 i) (same_is v w d.1 i) (entries_are es ds b.1 i)
+  entries_are es ds e = absurd (false≢true e)
 
   fields_are : (fs gs : FieldValues) → same_fields fs gs ≡ true → fs ≡ gs
   fields_are no_field_values no_field_values e = refl
@@ -98,11 +108,16 @@ mutual
   same_itself (unit_structure name) = bytes_alike name
   same_itself (newtype name v) = and_from _ _ (bytes_alike name) (same_itself v)
   same_itself (sequence is) = items_alike is
+  same_itself (map es) = entries_alike es
   same_itself (structure name fs) = and_from _ _ (bytes_alike name) (fields_alike fs)
 
   items_alike : (is : Items) → same_items is is ≡ true
   items_alike no_items = refl
   items_alike (item v is) = and_from _ _ (same_itself v) (items_alike is)
+
+  entries_alike : (es : Entries) → same_entries es es ≡ true
+  entries_alike no_entries = refl
+  entries_alike (entry k v es) = and_from _ _ (and_from _ _ (same_itself k) (same_itself v)) (entries_alike es)
 
   fields_alike : (fs : FieldValues) → same_fields fs fs ≡ true
   fields_alike no_field_values = refl
@@ -111,6 +126,12 @@ mutual
 -- `same` is true exactly where the values are equal
 pub same_decides : (v w : Value) → Decides (same v w) (v ≡ w)
 same_decides v w = (same_is v w, λ e. subst (λ x. same v x ≡ true) e (same_itself v))
+
+pub same_entry_decides : (d e : Value × Value) → Decides (same_entry d e) (d ≡ e)
+same_entry_decides d e = (
+  λ h. let b = and_parts (same d.0 e.0) (same d.1 e.1) h in λ i. (same_is d.0 e.0 b.0 i, same_is d.1 e.1 b.1 i),
+  λ h. subst (λ x. same_entry d x ≡ true) h (and_from _ _ (same_itself d.0) (same_itself d.1)),
+)
 
 pub same_field_decides : (f g : Utf8 × Value) → Decides (same_field f g) (f ≡ g)
 same_field_decides f g = (
@@ -145,6 +166,9 @@ segment_laws = partial_equiv_from_equiv (on_equiv segment_view (decided same_seg
 
 pub path_laws : IsPartialEquivalence (λ (a : Path) (b : Path). same_path (path_view a) (path_view b))
 path_laws = partial_equiv_from_equiv (on_equiv path_view (decided same_path same_path_decides))
+
+pub entry_laws : IsPartialEquivalence (λ (a : Entry) (b : Entry). same_entry (entry_view a) (entry_view b))
+entry_laws = partial_equiv_from_equiv (on_equiv entry_view (decided same_entry same_entry_decides))
 
 pub field_laws : IsPartialEquivalence (λ (a : Field) (b : Field). same_field (field_view a) (field_view b))
 field_laws = partial_equiv_from_equiv (on_equiv field_view (decided same_field same_field_decides))

@@ -1,7 +1,8 @@
 -- What contracts see of an error.
 use Rattle.std.specs.Prelude.{pos, string_bytes}
+use Rattle.bson_base.specs.BsonView.{tree_of}
 use Rattle.bson_datum.specs.Cause as cause
-use Rattle.bson_datum.specs.Refusal.{ReadFault, unreadable, WriteFault, unwritable, invalid_cstring, unsigned_exceeds, Failure, no_memory, bare, placed}
+use Rattle.bson_datum.specs.Refusal.{ReadFault, unreadable, WriteFault, unwritable, invalid_document_key, invalid_cstring, unsigned_exceeds, Failure, no_memory, bare, placed}
 use Rattle.bson_datum.specs.PathView.{path_view}
 use Rattle.bson_datum.specs.declared.cause.Cause.{Cause}
 use Rattle.bson_datum.specs.declared.cause.Cause.TheVariants.{Raw, TooDeep, InvalidType, OutOfRange, NotOneChar, NotUtf8, NotBorrowed, InvalidLength, MissingField, DuplicateField, TopLevel, BinaryTooLong, TooLong, NotBuilt}
@@ -34,6 +35,7 @@ read_fault (de_faults.Cause c) = unreadable (cause_view c)
 
 -- the fault that a value is refused for in writing
 abbrev pub write_fault : ser_fault.Fault → WriteFault
+write_fault (ser_faults.InvalidDocumentKey b) = invalid_document_key (tree_of b)
 write_fault (ser_faults.InvalidCString t) = invalid_cstring (string_bytes t)
 write_fault (ser_faults.UnsignedIntegerExceededRange n) = unsigned_exceeds (pos n)
 write_fault (ser_faults.Cause c) = unwritable (cause_view c)
@@ -46,6 +48,7 @@ read_failure de.NoMemory = no_memory
 
 -- the failure that a writer's error is
 abbrev pub write_failure : ser.Error → Failure WriteFault
+write_failure (ser.InvalidDocumentKey b) = bare (invalid_document_key (tree_of b))
 write_failure (ser.InvalidCString t) = bare (invalid_cstring (string_bytes t))
 write_failure (ser.UnsignedIntegerExceededRange n) = bare (unsigned_exceeds (pos n))
 write_failure (ser.SerializationError c) = bare (unwritable (cause_view c))

@@ -5,9 +5,10 @@ use Rattle.bson_datum.specs.declared.text.Text as text
 use Rattle.bson_datum.specs.declared.text.Text.TheVariants as texts
 use Rattle.bson_datum.specs.declared.byte_str.ByteStr as byte_str
 use Rattle.bson_datum.specs.declared.byte_str.ByteStr.TheVariants as byte_strs
+use Rattle.bson_datum.specs.declared.datum.Entry.{Entry}
 use Rattle.bson_datum.specs.declared.datum.Field.{Field}
 use Rattle.bson_datum.specs.declared.datum.Datum as datum
-use Rattle.bson_datum.specs.declared.datum.Datum.{Datum, Str, Bytes, UnitStruct, NewtypeStruct', Seq', Struct', Row_of-Datum, end_of-Datum, more_of-Datum, Row_of-Field, end_of-Field, more_of-Field}
+use Rattle.bson_datum.specs.declared.datum.Datum.{Datum, Str, Bytes, UnitStruct, NewtypeStruct', Seq', Map', Struct', Row_of-Datum, end_of-Datum, more_of-Datum, Row_of-Entry, end_of-Entry, more_of-Entry, Row_of-Field, end_of-Field, more_of-Field}
 
 abbrev pub text_lent : text.Text → Bool
 text_lent (texts.Borrowed s) = true
@@ -26,6 +27,7 @@ abbrev mutual
   loans (UnitStruct name) = text_lent name ∷ []
   loans (NewtypeStruct' name p d) = text_lent name ∷ loans d
   loans (Seq' shape rows) = item_rows_loans rows
+  loans (Map' shape rows) = entry_rows_loans rows
   loans (Struct' name shape rows) = text_lent name ∷ rows_loans rows
   loans d = []
 
@@ -33,9 +35,17 @@ abbrev mutual
   item_rows_loans end_of-Datum = []
   item_rows_loans (more_of-Datum d rest) = loans d ++ item_rows_loans rest
 
+  pub entry_rows_loans : {m : _} → Row_of-Entry m → List Bool
+  entry_rows_loans end_of-Entry = []
+  entry_rows_loans (more_of-Entry k d rest) = (loans k ++ loans d) ++ entry_rows_loans rest
+
   pub rows_loans : {m : _} → Row_of-Field m → List Bool
   rows_loans end_of-Field = []
   rows_loans (more_of-Field name d rest) = (text_lent name ∷ loans d) ++ rows_loans rest
+
+-- an entry: the parts of its key, and those of its value
+abbrev pub entry_loans : Entry → List Bool
+entry_loans e = loans e.key ++ loans e.value
 
 -- a field: its name, and the parts of its value
 abbrev pub field_loans : Field → List Bool
@@ -44,6 +54,10 @@ field_loans f = text_lent f.name ∷ loans f.value
 -- the same for the data of a `Vec` or a slice
 abbrev pub items_loans : List Datum → List Bool
 items_loans = flat_map loans
+
+-- the same for the entries of a `Vec` or a slice
+abbrev pub entries_loans : List Entry → List Bool
+entries_loans = flat_map entry_loans
 
 -- the same for the fields of a `Vec` or a slice
 abbrev pub fields_loans : List Field → List Bool

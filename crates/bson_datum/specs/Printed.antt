@@ -3,9 +3,10 @@ use Rattle.std.specs.Prelude.{ℕ, zero, suc, ◌+◌, [], ◌∷◌, ◌++◌, 
 use Rattle.std.specs.Fmt.{decimal, signed_decimal}
 use Rattle.bson_base.specs.Text.{Utf8}
 use Rattle.bson_base.specs.Kind.{name}
+use Rattle.bson_base.specs.Tree.{kind}
 use Rattle.bson_rawdoc.specs.Printed.{printed_fault}
 use Rattle.bson_datum.specs.Cause.{Cause, raw, too_deep, invalid_type, out_of_range, not_one_char, not_utf8, not_borrowed, invalid_length, missing_field, duplicate_field, top_level, binary_too_long, too_long, not_built}
-use Rattle.bson_datum.specs.Refusal.{Segment, Path, at_key, at_index, ReadFault, unreadable, WriteFault, unwritable, invalid_cstring, unsigned_exceeds, Failure, no_memory, bare, placed}
+use Rattle.bson_datum.specs.Refusal.{Segment, Path, at_key, at_index, ReadFault, unreadable, WriteFault, unwritable, invalid_document_key, invalid_cstring, unsigned_exceeds, Failure, no_memory, bare, placed}
 
 -- the segment at a place of a path: a key has a point before it unless it comes first, an index stands in brackets
 abbrev pub point_before : ℕ → Utf8
@@ -50,6 +51,7 @@ printed_read_fault (unreadable c) = printed_cause c
 
 abbrev pub printed_write_fault : WriteFault → Utf8
 printed_write_fault (unwritable c) = printed_cause c
+printed_write_fault (invalid_document_key t) = codes "invalid map key type: " ++ name (kind t)
 printed_write_fault (invalid_cstring t) = codes "cstrings cannot contain null bytes"
 printed_write_fault (unsigned_exceeds n) = codes "unsigned integer " ++ signed_decimal n ++ codes " does not fit a signed 64-bit integer"
 

@@ -1,6 +1,7 @@
 -- What is wrong with a value, and where it stands.
 use Rattle.std.specs.Prelude.{ℕ, ℤ, List, [], ◌∷◌, Result, Ok, Err}
 use Rattle.bson_base.specs.Text.{Utf8}
+use Rattle.bson_base.specs.Tree.{Tree}
 use Rattle.bson_datum.specs.Cause.{Cause}
 
 -- a segment of a path: from a value to one inside it
@@ -19,6 +20,8 @@ pub data ReadFault : Type 0 where
 -- what writing refuses for
 pub data WriteFault : Type 0 where
   unwritable : Cause → WriteFault
+  -- the key of a map is written as this tree, which is no text
+  invalid_document_key : Tree → WriteFault
   -- a zero character in a name that is written as a key
   invalid_cstring : Utf8 → WriteFault
   -- a number of the type `u64` that no signed number of 64 bits is

@@ -5,7 +5,7 @@ use Rattle.std.specs.Ordering.{int_eq}
 use Rattle.std.specs.Str.{bytes_eq}
 use Rattle.std.specs.Cmp.Lexicographic.{pointwise}
 use Rattle.bson_base.specs.Text.{Utf8}
-use Rattle.bson_datum.specs.Value.{IntegerType, i8, i16, i32, i64, u8, u16, u32, u64, Value, boolean, integer, double, character, str, bytes, none, some, unit, unit_structure, newtype, sequence, structure, Items, no_items, item, FieldValues, no_field_values, field_value}
+use Rattle.bson_datum.specs.Value.{IntegerType, i8, i16, i32, i64, u8, u16, u32, u64, Value, boolean, integer, double, character, str, bytes, none, some, unit, unit_structure, newtype, sequence, map, structure, Items, no_items, item, Entries, no_entries, entry, FieldValues, no_field_values, field_value}
 use Rattle.bson_datum.specs.Refusal.{Segment, Path, at_key, at_index}
 
 -- the number of an integer type
@@ -38,6 +38,7 @@ abbrev mutual
   same (unit_structure name) (unit_structure n) = bytes_eq name n
   same (newtype name v) (newtype n w) = bytes_eq name n && same v w
   same (sequence is) (sequence js) = same_items is js
+  same (map es) (map ds) = same_entries es ds
   same (structure name fs) (structure n gs) = bytes_eq name n && same_fields fs gs
   same v w = false
 
@@ -47,11 +48,21 @@ abbrev mutual
   same_items (item v is) (item w js) = same v w && same_items is js
   same_items is js = false
 
+  -- there are as many entries, and each has the key and the value of the other
+  pub same_entries : Entries → Entries → Bool
+  same_entries no_entries no_entries = true
+  same_entries (entry k v es) (entry l w ds) = (same k l && same v w) && same_entries es ds
+  same_entries es ds = false
+
   -- there are as many fields, and each has the name and the value of the other
   pub same_fields : FieldValues → FieldValues → Bool
   same_fields no_field_values no_field_values = true
   same_fields (field_value name v fs) (field_value n w gs) = (bytes_eq name n && same v w) && same_fields fs gs
   same_fields fs gs = false
+
+-- an entry has the key and the value of the other
+abbrev pub same_entry : Value × Value → Value × Value → Bool
+same_entry d e = same d.0 e.0 && same d.1 e.1
 
 -- a field has the name and the value of the other
 abbrev pub same_field : Utf8 × Value → Utf8 × Value → Bool

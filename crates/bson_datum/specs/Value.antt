@@ -72,12 +72,18 @@ mutual
     unit_structure : (name : Utf8) → Value
     newtype : (name : Utf8) → (value : Value) → Value
     sequence : (items : Items) → Value
+    map : (entries : Entries) → Value
     structure : (name : Utf8) → (fields : FieldValues) → Value
 
   -- the values of a sequence, in order
   pub data Items : Type 0 where
     no_items : Items
     item : (value : Value) → (rest : Items) → Items
+
+  -- the entries of a map, in order
+  pub data Entries : Type 0 where
+    no_entries : Entries
+    entry : (key : Value) → (value : Value) → (rest : Entries) → Entries
 
   -- the fields of a struct with their values, in order
   pub data FieldValues : Type 0 where
@@ -114,4 +120,5 @@ kind_of unit = Null
 kind_of (unit_structure name) = Null
 kind_of (newtype name v) = newtype_kind name (kind_of v)
 kind_of (sequence is) = Array
+kind_of (map es) = EmbeddedDocument
 kind_of (structure name fs) = struct_kind name

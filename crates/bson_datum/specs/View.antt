@@ -3,10 +3,11 @@ use Rattle.std.specs.Prelude.{pos, List, [], ◌∷◌}
 use Rattle.bson_base.specs.Text.{Utf8}
 use Rattle.bson_datum.specs.TextView.{text_view}
 use Rattle.bson_datum.specs.ByteStrView.{bytes_view}
-use Rattle.bson_datum.specs.Value.{Value, boolean, integer, i8, i16, i32, i64, u8, u16, u32, u64, double, character, str, bytes, none, some, unit, unit_structure, newtype, sequence, structure, Items, no_items, item, FieldValues, no_field_values, field_value}
+use Rattle.bson_datum.specs.Value.{Value, boolean, integer, i8, i16, i32, i64, u8, u16, u32, u64, double, character, str, bytes, none, some, unit, unit_structure, newtype, sequence, map, structure, Items, no_items, item, Entries, no_entries, entry, FieldValues, no_field_values, field_value}
+use Rattle.bson_datum.specs.declared.datum.Entry.{Entry}
 use Rattle.bson_datum.specs.declared.datum.Field.{Field}
 use Rattle.bson_datum.specs.declared.datum.Datum as datum
-use Rattle.bson_datum.specs.declared.datum.Datum.{Datum, Bool, I8, I16, I32, I64, U8, U16, U32, U64, Double, Char, Str, Bytes, UnitStruct, NewtypeStruct', Seq', Struct', Row_of-Datum, end_of-Datum, more_of-Datum, Row_of-Field, end_of-Field, more_of-Field}
+use Rattle.bson_datum.specs.declared.datum.Datum.{Datum, Bool, I8, I16, I32, I64, U8, U16, U32, U64, Double, Char, Str, Bytes, UnitStruct, NewtypeStruct', Seq', Map', Struct', Row_of-Datum, end_of-Datum, more_of-Datum, Row_of-Entry, end_of-Entry, more_of-Entry, Row_of-Field, end_of-Field, more_of-Field}
 
 abbrev mutual
   pub view : Datum → Value
@@ -29,11 +30,16 @@ abbrev mutual
   view (UnitStruct name) = unit_structure (text_view name)
   view (NewtypeStruct' name p d) = newtype (text_view name) (view d)
   view (Seq' shape rows) = sequence (item_rows_view rows)
+  view (Map' shape rows) = map (entry_rows_view rows)
   view (Struct' name shape rows) = structure (text_view name) (rows_view rows)
 
   pub item_rows_view : {m : _} → Row_of-Datum m → Items
   item_rows_view end_of-Datum = no_items
   item_rows_view (more_of-Datum d rest) = item (view d) (item_rows_view rest)
+
+  pub entry_rows_view : {m : _} → Row_of-Entry m → Entries
+  entry_rows_view end_of-Entry = no_entries
+  entry_rows_view (more_of-Entry k v rest) = entry (view k) (view v) (entry_rows_view rest)
 
   pub rows_view : {m : _} → Row_of-Field m → FieldValues
   rows_view end_of-Field = no_field_values
@@ -44,10 +50,19 @@ abbrev pub items_view : List Datum → Items
 items_view [] = no_items
 items_view (d ∷ ds) = item (view d) (items_view ds)
 
+-- the same for the entries of a `Vec` or a slice
+abbrev pub entries_view : List Entry → Entries
+entries_view [] = no_entries
+entries_view (e ∷ es) = entry (view e.key) (view e.value) (entries_view es)
+
 -- the same for the fields of a `Vec` or a slice
 abbrev pub fields_view : List Field → FieldValues
 fields_view [] = no_field_values
 fields_view (f ∷ fs) = field_value (text_view f.name) (view f.value) (fields_view fs)
+
+-- an entry: its key and its value
+abbrev pub entry_view : Entry → Value × Value
+entry_view e = (view e.key, view e.value)
 
 -- a field: its name and its value
 abbrev pub field_view : Field → Utf8 × Value

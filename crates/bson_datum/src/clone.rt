@@ -1,10 +1,10 @@
 ghost use Rattle.std.specs.Prelude.{◌≡◌, IfOk, false};
 ghost use Rattle.bson_datum.specs.TextView.{text_view};
 ghost use Rattle.bson_datum.specs.ByteStrView.{bytes_view};
-ghost use Rattle.bson_datum.specs.View.{view, items_view, fields_view};
-ghost use Rattle.bson_datum.specs.Loans.{text_lent, bytes_lent, loans, items_loans, fields_loans, NoneLent, IsOwned};
+ghost use Rattle.bson_datum.specs.View.{view, items_view, entries_view, fields_view};
+ghost use Rattle.bson_datum.specs.Loans.{text_lent, bytes_lent, loans, items_loans, entries_loans, fields_loans, NoneLent, IsOwned};
 
-use crate::{ByteStr, Datum, Field, Text};
+use crate::{ByteStr, Datum, Entry, Field, Text};
 use std::alloc::{AllocError, Global};
 
 impl<'a> Text<'a> {
@@ -75,7 +75,7 @@ impl<'a> Datum<'a> {
 
 // The same datum again.
 #[cycle(copy)]
-#[tactic(auto, using(crate::proofs::Views::item_rows_items, crate::proofs::Views::rows_items, crate::proofs::Lent::item_rows_lent, crate::proofs::Lent::rows_lent))]
+#[tactic(auto, using(crate::proofs::Views::item_rows_items, crate::proofs::Views::entry_rows_items, crate::proofs::Views::rows_items, crate::proofs::Lent::item_rows_lent, crate::proofs::Lent::entry_rows_lent, crate::proofs::Lent::rows_lent))]
 fn copy<'a>(alloc: Global, datum: &Datum<'a>) -> Result<Datum<'a>, AllocError>
     ensures equal { IfOk result (λ d. view d ≡ view datum.now) }
     ensures lent { IfOk result (λ d. loans d ≡ loans datum.now) }
@@ -105,6 +105,7 @@ fn copy<'a>(alloc: Global, datum: &Datum<'a>) -> Result<Datum<'a>, AllocError>
             value: Box::new(alloc, copy(alloc, value)?)?,
         }),
         Datum::Seq(items) => Ok(Datum::Seq(copy_items(alloc, items)?)),
+        Datum::Map(entries) => Ok(Datum::Map(copy_entries(alloc, entries)?)),
         Datum::Struct { name, fields } => Ok(Datum::Struct {
             name: name.try_clone(alloc)?,
             fields: copy_fields(alloc, fields)?,
@@ -121,6 +122,22 @@ fn copy_items<'a>(alloc: Global, items: &[Datum<'a>]) -> Result<Vec<Datum<'a>>, 
     let mut copies = Vec::with_capacity(alloc, items.len())?;
     for item in items {
         copies.push(copy(alloc, item)?)?;
+    }
+    Ok(copies)
+}
+
+// The same entries again.
+#[cycle(copy)]
+fn copy_entries<'a>(alloc: Global, entries: &[Entry<'a>]) -> Result<Vec<Entry<'a>>, AllocError>
+    ensures equal { IfOk result (λ v. entries_view v.items ≡ entries_view entries.now) }
+    ensures lent { IfOk result (λ v. entries_loans v.items ≡ entries_loans entries.now) }
+{
+    let mut copies = Vec::with_capacity(alloc, entries.len())?;
+    for entry in entries {
+        copies.push(Entry {
+            key: copy(alloc, &entry.key)?,
+            value: copy(alloc, &entry.value)?,
+        })?;
     }
     Ok(copies)
 }
@@ -143,7 +160,7 @@ fn copy_fields<'a>(alloc: Global, fields: &[Field<'a>]) -> Result<Vec<Field<'a>>
 
 // The same datum, with nothing lent in it.
 #[cycle(owned)]
-#[tactic(auto, using(crate::proofs::Views::item_rows_items, crate::proofs::Views::rows_items, crate::proofs::Lent::item_rows_lent, crate::proofs::Lent::rows_lent))]
+#[tactic(auto, using(crate::proofs::Views::item_rows_items, crate::proofs::Views::entry_rows_items, crate::proofs::Views::rows_items, crate::proofs::Lent::item_rows_lent, crate::proofs::Lent::entry_rows_lent, crate::proofs::Lent::rows_lent))]
 fn owned<'x>(alloc: Global, datum: Datum<'_>) -> Result<Datum<'x>, AllocError>
     ensures equal { IfOk result (λ d. view d ≡ view datum.entry) }
     ensures owned { IfOk result IsOwned }
@@ -173,6 +190,7 @@ fn owned<'x>(alloc: Global, datum: Datum<'_>) -> Result<Datum<'x>, AllocError>
             value: owned_box(alloc, value)?,
         }),
         Datum::Seq(items) => Ok(Datum::Seq(owned_items(alloc, items)?)),
+        Datum::Map(entries) => Ok(Datum::Map(owned_entries(alloc, entries)?)),
         Datum::Struct { name, fields } => Ok(Datum::Struct {
             name: name.into_owned(alloc)?,
             fields: owned_fields(alloc, fields)?,
@@ -199,6 +217,22 @@ fn owned_items<'x>(alloc: Global, items: Vec<Datum<'_>>) -> Result<Vec<Datum<'x>
     let mut copies = Vec::with_capacity(alloc, items.len())?;
     for item in items {
         copies.push(owned(alloc, item)?)?;
+    }
+    Ok(copies)
+}
+
+// The same entries, with nothing lent in them.
+#[cycle(owned)]
+fn owned_entries<'x>(alloc: Global, entries: Vec<Entry<'_>>) -> Result<Vec<Entry<'x>>, AllocError>
+    ensures equal { IfOk result (λ v. entries_view v.items ≡ entries_view entries.entry.items) }
+    ensures owned { IfOk result (λ v. NoneLent (entries_loans v.items)) }
+{
+    let mut copies = Vec::with_capacity(alloc, entries.len())?;
+    for entry in entries {
+        copies.push(Entry {
+            key: owned(alloc, entry.key)?,
+            value: owned(alloc, entry.value)?,
+        })?;
     }
     Ok(copies)
 }

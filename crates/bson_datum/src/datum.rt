@@ -17,6 +17,16 @@ pub struct Field<'a> {
     pub value: Datum<'a>,
 }
 
+/// An entry of a map: a key and its value.
+#[cycle(datum)]
+#[derive(Debug, Drop)]
+pub struct Entry<'a> {
+    /// The key.
+    pub key: Datum<'a>,
+    /// Its value.
+    pub value: Datum<'a>,
+}
+
 /// A value of serde's data model.
 #[cycle(datum)]
 #[derive(Debug, Drop)]
@@ -67,6 +77,8 @@ pub enum Datum<'a> {
     },
     /// A sequence of values, in order.
     Seq(Vec<Datum<'a>>),
+    /// A map: keys with their values, in order.
+    Map(Vec<Entry<'a>>),
     /// A struct with a name and fields in order.
     Struct {
         /// The name of the struct.
@@ -94,6 +106,7 @@ impl Datum<'_> {
             Datum::Some(content) => content.element_type(),
             Datum::NewtypeStruct { name, value } => newtype_kind(name, value.element_type()),
             Datum::Seq(_) => ElementType::Array,
+            Datum::Map(_) => ElementType::EmbeddedDocument,
             Datum::Struct { name, .. } => struct_kind(name),
         }
     }

@@ -3,11 +3,11 @@ ghost use Rattle.std.specs.Str.{bytes_eq};
 ghost use Rattle.bson_datum.specs.TextView.{text_view};
 ghost use Rattle.bson_datum.specs.ByteStrView.{bytes_view};
 ghost use Rattle.bson_datum.specs.PathView.{path_view, segment_view};
-ghost use Rattle.bson_datum.specs.Value.{sequence, structure};
-ghost use Rattle.bson_datum.specs.View.{view, items_view, field_view, fields_view};
-ghost use Rattle.bson_datum.specs.Same.{same, same_items, same_fields, same_field, same_segment, same_path};
+ghost use Rattle.bson_datum.specs.Value.{sequence, map, structure};
+ghost use Rattle.bson_datum.specs.View.{view, items_view, entry_view, entries_view, field_view, fields_view};
+ghost use Rattle.bson_datum.specs.Same.{same, same_items, same_entries, same_entry, same_fields, same_field, same_segment, same_path};
 
-use crate::{ByteStr, Datum, Field, Path, Segment, Text};
+use crate::{ByteStr, Datum, Entry, Field, Path, Segment, Text};
 
 /// Two texts are equal exactly where their contents are, whoever owns them.
 impl PartialEq for Text<'_> {
@@ -85,6 +85,24 @@ impl PartialEq for Path {
     }
 }
 
+/// Two entries are equal exactly where their keys are and their values are.
+impl PartialEq for Entry<'_> {
+    ghost use Rattle.bson_datum.specs.View.{entry_view};
+    ghost use Rattle.bson_datum.specs.Same.{same_entry};
+    ghost use Rattle.bson_datum.specs.Decided.{entry_laws};
+
+    ghost eq = { λ a b. same_entry (entry_view a) (entry_view b) };
+
+    ghost laws = { entry_laws };
+
+    fn eq(&self, other: &Self) -> bool
+        ensures value { result ≡ same_entry (entry_view self.now) (entry_view other.now) }
+        ensures equal { IsTrue result ↔ (entry_view self.now ≡ entry_view other.now) }
+    {
+        is_same_entry(self, other)
+    }
+}
+
 /// Two fields are equal exactly where their names are and their values are.
 impl PartialEq for Field<'_> {
     ghost use Rattle.bson_datum.specs.View.{field_view};
@@ -123,7 +141,7 @@ impl PartialEq for Datum<'_> {
 
 // Whether two data stand for one value.
 #[cycle(same)]
-#[tactic(auto, using(crate::proofs::Views::item_rows_items, crate::proofs::Views::rows_items))]
+#[tactic(auto, using(crate::proofs::Views::item_rows_items, crate::proofs::Views::entry_rows_items, crate::proofs::Views::rows_items))]
 fn is_same(a: &Datum<'_>, b: &Datum<'_>) -> bool
     ensures { result ≡ same (view a.now) (view b.now) }
 {
@@ -152,6 +170,7 @@ fn is_same(a: &Datum<'_>, b: &Datum<'_>) -> bool
             },
         ) => name == other && is_same(value, content),
         (Datum::Seq(items), _) => is_sequence_of(items, b),
+        (Datum::Map(entries), _) => is_map_of(entries, b),
         (Datum::Struct { name, fields }, _) => is_structure_of(name, fields, b),
         _ => false,
     }
@@ -165,6 +184,18 @@ fn is_sequence_of(items: &[Datum<'_>], datum: &Datum<'_>) -> bool
 {
     match datum {
         Datum::Seq(others) => are_same_items(items, others),
+        _ => false,
+    }
+}
+
+// Whether a datum is a map of these entries.
+#[cycle(same)]
+#[tactic(auto, using(crate::proofs::Views::entry_rows_items, crate::proofs::Sames::unlike_map))]
+fn is_map_of(entries: &[Entry<'_>], datum: &Datum<'_>) -> bool
+    ensures { result ≡ same (map (entries_view entries.now)) (view datum.now) }
+{
+    match datum {
+        Datum::Map(others) => are_same_entries(entries, others),
         _ => false,
     }
 }
@@ -198,6 +229,30 @@ fn are_same_items(a: &[Datum<'_>], b: &[Datum<'_>]) -> bool
         }
     }
     true
+}
+
+// Whether as many entries stand in both, equal one by one.
+#[cycle(same)]
+fn are_same_entries(a: &[Entry<'_>], b: &[Entry<'_>]) -> bool
+    ensures { result ≡ same_entries (entries_view a.now) (entries_view b.now) }
+{
+    if a.len() != b.len() {
+        return false;
+    }
+    for (i, entry) in a.iter().enumerate() {
+        if !is_same_entry(entry, &b[i]) {
+            return false;
+        }
+    }
+    true
+}
+
+// Whether two entries have equal keys and equal values.
+#[cycle(same)]
+fn is_same_entry(a: &Entry<'_>, b: &Entry<'_>) -> bool
+    ensures { result ≡ same_entry (entry_view a.now) (entry_view b.now) }
+{
+    is_same(&a.key, &b.key) && is_same(&a.value, &b.value)
 }
 
 // Whether as many fields stand in both, equal one by one.

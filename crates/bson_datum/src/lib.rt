@@ -15,7 +15,7 @@ mod text;
 pub use bson_shape::{FieldShape, Form, Leaf, ParseError, Shape, ShapeError};
 pub use byte_str::ByteStr;
 pub use cause::Cause;
-pub use datum::{Datum, Field};
+pub use datum::{Datum, Entry, Field};
 pub use path::{Path, Segment};
 pub use stop::{Refused, Stop};
 pub use text::Text;

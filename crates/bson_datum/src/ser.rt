@@ -8,12 +8,15 @@ ghost use Rattle.bson_datum.specs.ErrorView.{write_fault, write_failure};
 use crate::cause::Cause;
 use crate::path::Path;
 use crate::stop::Stop;
+use bson_base::Bson;
 use std::alloc::Global;
 use std::fmt;
 
 /// What a datum is refused for, without its path.
 #[derive(Debug, Drop)]
 pub enum Fault {
+    /// The key of a map is written as this value, which is no text.
+    InvalidDocumentKey(Bson),
     /// A zero character stands in this name, which is written as a key.
     InvalidCString(String),
     /// This number is greater than 9223372036854775807, the greatest that an Int64 holds.
@@ -25,6 +28,8 @@ pub enum Fault {
 /// Why a datum is not written.
 #[derive(Debug, Drop)]
 pub enum Error {
+    /// The key of a map is written as this value, which is no text.
+    InvalidDocumentKey(Bson),
     /// A zero character stands in this name, which is written as a key.
     InvalidCString(String),
     /// This number is greater than 9223372036854775807, the greatest that an Int64 holds.
@@ -67,6 +72,7 @@ impl Error {
         ensures { write_failure result ≡ bare (write_fault fault) }
     {
         match fault {
+            Fault::InvalidDocumentKey(key) => Error::InvalidDocumentKey(key),
             Fault::InvalidCString(name) => Error::InvalidCString(name),
             Fault::UnsignedIntegerExceededRange(number) => {
                 Error::UnsignedIntegerExceededRange(number)
@@ -88,6 +94,10 @@ impl fmt::Display for Error {
 
     fn fmt<W: fmt::Write>(&self, f: &mut fmt::Formatter<W>) -> fmt::Result {
         match self {
+            Error::InvalidDocumentKey(key) => {
+                let kind = key.element_type();
+                write!(f, "invalid map key type: {kind}")
+            }
             Error::InvalidCString(_) => f.write_str("cstrings cannot contain null bytes"),
             Error::UnsignedIntegerExceededRange(number) => write!(
                 f,

@@ -1,12 +1,18 @@
 use Rattle.std.proofs.Common.{◌≡◌, map, take}
-use Rattle.bson_datum.specs.View.{view, field_view}
-use Rattle.bson_datum.specs.Loans.{loans, field_loans}
+use Rattle.bson_datum.specs.View.{view, entry_view, field_view}
+use Rattle.bson_datum.specs.Loans.{loans, entry_loans, field_loans}
 use Rattle.bson_datum.proofs.clone.+copy.Given as goal
 
 abbrev pub invariant-copy_items-loop-item : goal.invariant-copy_items-loop-item
 invariant-copy_items-loop-item l = record {
   equal : map view l.copies.items ≡ map view (take l.item-index l.items);
   lent : map loans l.copies.items ≡ map loans (take l.item-index l.items);
+}
+
+abbrev pub invariant-copy_entries-loop-entry : goal.invariant-copy_entries-loop-entry
+invariant-copy_entries-loop-entry l = record {
+  equal : map entry_view l.copies.items ≡ map entry_view (take l.entry-index l.entries);
+  lent : map entry_loans l.copies.items ≡ map entry_loans (take l.entry-index l.entries);
 }
 
 abbrev pub invariant-copy_fields-loop-field : goal.invariant-copy_fields-loop-field

@@ -1,12 +1,18 @@
 use Rattle.std.proofs.Common.{◌≡◌, map}
-use Rattle.bson_datum.specs.View.{view, field_view}
-use Rattle.bson_datum.specs.Loans.{items_loans, fields_loans, NoneLent}
+use Rattle.bson_datum.specs.View.{view, entry_view, field_view}
+use Rattle.bson_datum.specs.Loans.{items_loans, entries_loans, fields_loans, NoneLent}
 use Rattle.bson_datum.proofs.clone.+owned.Given as goal
 
 abbrev pub invariant-owned_items-loop-item : goal.invariant-owned_items-loop-item
 invariant-owned_items-loop-item l = record {
   equal : map view l.copies.items ≡ map view l.yielded;
   owned : NoneLent (items_loans l.copies.items);
+}
+
+abbrev pub invariant-owned_entries-loop-entry : goal.invariant-owned_entries-loop-entry
+invariant-owned_entries-loop-entry l = record {
+  equal : map entry_view l.copies.items ≡ map entry_view l.yielded;
+  owned : NoneLent (entries_loans l.copies.items);
 }
 
 abbrev pub invariant-owned_fields-loop-field : goal.invariant-owned_fields-loop-field

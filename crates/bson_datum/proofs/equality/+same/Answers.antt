@@ -2,11 +2,14 @@ use Rattle.std.proofs.Common.{sym, ap, ◌∙◌}
 use Rattle.bson_datum.specs.TextView.{text_view}
 use Rattle.bson_datum.specs.View.{view, fields_view}
 use Rattle.bson_datum.specs.Same.{same}
-use Rattle.bson_datum.proofs.Sames.{same_items-lengths, same_fields-lengths, struct_lent, same_structs}
+use Rattle.bson_datum.proofs.Sames.{same_items-lengths, same_entries-lengths, same_fields-lengths, struct_lent, same_structs}
 use Rattle.bson_datum.proofs.equality.+same.Goals as goal
 
 pub are_same_items-returns-then-a-b : goal.are_same_items-returns-then-a-b
 are_same_items-returns-then-a-b t c = sym (same_items-lengths c.args.a.now c.args.b.now c.if-a-b.true)
+
+pub are_same_entries-returns-then-a-b : goal.are_same_entries-returns-then-a-b
+are_same_entries-returns-then-a-b t c = sym (same_entries-lengths c.args.a.now c.args.b.now c.if-a-b.true)
 
 pub are_same_fields-returns-then-a-b : goal.are_same_fields-returns-then-a-b
 are_same_fields-returns-then-a-b t c = sym (same_fields-lengths c.args.a.now c.args.b.now c.if-a-b.true)
