@@ -1,36 +1,76 @@
 -- The values that are values of a shape.
-use Rattle.std.specs.Prelude.{◌≡◌, ◌⊎◌, true}
+use Rattle.std.specs.Prelude.{◌≡◌, true}
 use Rattle.std.specs.Char.{IsScalar}
 use Rattle.std.specs.Str.{is_utf8}
 use Rattle.bson_base.specs.Sound.{HasBytes}
 use Rattle.bson_base.specs.Text.{AreBytes}
-use Rattle.bson_shape.specs.Form.{Form, leaf, optional, sequence, newtype, unit_structure, structure, Fields, no_fields, field}
-use Rattle.bson_laws.specs.Leaves.{booleans, numbers, doubles, characters, texts, byte_strings, byte_buffers, units, leaf_kind}
+use Rattle.bson_shape.specs.Form.{Form, leaf, optional, sequence, newtype, unit_structure, map, structure, Fields, no_fields, field}
+use Rattle.bson_laws.specs.Leaves.{LeafKind, anything, booleans, numbers, doubles, characters, texts, byte_strings, byte_buffers, units, leaf_kind}
 use Rattle.bson_datum.specs.Value as value
-use Rattle.bson_datum.specs.Value.{in_range, Value, boolean, integer, double, character, str, bytes, none, some, unit, Items, no_items, item, FieldValues, no_field_values, field_value}
+use Rattle.bson_datum.specs.Value.{i32, i64, in_range, Value, boolean, integer, double, character, str, bytes, none, some, unit, Items, no_items, item, Entries, no_entries, entry, FieldValues, no_field_values, field_value}
+
+-- a text
+abbrev pub IsText : Value → Type 0
+IsText (str t) = is_utf8 t ≡ true
+IsText v = ⊥
 
 abbrev mutual
-  -- a leaf's value of the leaf's kind, in its range; none, or what fits the inner shape; a newtype or a unit struct of the shape's name;
-  -- a sequence whose values fit its shape; a struct of the shape's name, with its fields in its order, whose values fit theirs
+  -- a value that is read without a shape, in its range: its numbers are of `i32` and `i64`, and its maps have texts as their keys
+  pub IsAny : Value → Type 0
+  IsAny (boolean b) = Unit {0}
+  IsAny (integer i32 n) = in_range i32 n ≡ true
+  IsAny (integer i64 n) = in_range i64 n ≡ true
+  IsAny (double bits) = HasBytes 8 bits
+  IsAny (str t) = is_utf8 t ≡ true
+  IsAny (bytes bs) = AreBytes bs
+  IsAny unit = Unit {0}
+  IsAny (value.sequence vs) = AreAnyItems vs
+  IsAny (value.map es) = AreAnyEntries es
+  IsAny v = ⊥
+
+  pub AreAnyItems : Items → Type 0
+  AreAnyItems no_items = Unit {0}
+  AreAnyItems (item v vs) = IsAny v × AreAnyItems vs
+
+  pub AreAnyEntries : Entries → Type 0
+  AreAnyEntries no_entries = Unit {0}
+  AreAnyEntries (entry k v es) = IsText k × IsAny v × AreAnyEntries es
+
+-- a value of what a leaf takes, in its range
+abbrev pub FitsLeaf : LeafKind → Value → Type 0
+FitsLeaf anything v = IsAny v
+FitsLeaf booleans (boolean b) = Unit {0}
+FitsLeaf (numbers type) (integer t n) = (t ≡ type) × (in_range type n ≡ true)
+FitsLeaf doubles (double bits) = HasBytes 8 bits
+FitsLeaf characters (character c) = IsScalar c
+FitsLeaf texts v = IsText v
+FitsLeaf byte_strings (bytes bs) = AreBytes bs
+FitsLeaf byte_buffers (bytes bs) = AreBytes bs
+FitsLeaf units unit = Unit {0}
+FitsLeaf k v = ⊥
+
+abbrev mutual
+  -- a leaf's value of what the leaf takes; none, or what fits the inner shape; a newtype or a unit struct of the shape's name; a sequence
+  -- whose values fit its shape; a map whose keys and values fit theirs; a struct of the shape's name, with its fields in its order, whose
+  -- values fit theirs
   pub Fits : Value → Form → Type 0
-  Fits (boolean b) (leaf l) = leaf_kind l ≡ booleans
-  Fits (integer type n) (leaf l) = (leaf_kind l ≡ numbers type) × (in_range type n ≡ true)
-  Fits (double bits) (leaf l) = (leaf_kind l ≡ doubles) × HasBytes 8 bits
-  Fits (character c) (leaf l) = (leaf_kind l ≡ characters) × IsScalar c
-  Fits (str t) (leaf l) = (leaf_kind l ≡ texts) × (is_utf8 t ≡ true)
-  Fits (bytes bs) (leaf l) = ((leaf_kind l ≡ byte_strings) ⊎ (leaf_kind l ≡ byte_buffers)) × AreBytes bs
-  Fits unit (leaf l) = leaf_kind l ≡ units
+  Fits v (leaf l) = FitsLeaf (leaf_kind l) v
   Fits none (optional s) = Unit {0}
   Fits (some v) (optional s) = Fits v s
   Fits (value.newtype name v) (newtype n s) = (name ≡ n) × Fits v s
   Fits (value.unit_structure name) (unit_structure n) = name ≡ n
   Fits (value.sequence vs) (sequence s) = ItemsFit vs s
+  Fits (value.map es) (map key s) = EntriesFit es key s
   Fits (value.structure name vs) (structure n fs) = (name ≡ n) × FieldsFit vs fs
   Fits v s = ⊥
 
   pub ItemsFit : Items → Form → Type 0
   ItemsFit no_items s = Unit {0}
   ItemsFit (item v vs) s = Fits v s × ItemsFit vs s
+
+  pub EntriesFit : Entries → Form → Form → Type 0
+  EntriesFit no_entries key s = Unit {0}
+  EntriesFit (entry k v es) key s = Fits k key × Fits v s × EntriesFit es key s
 
   pub FieldsFit : FieldValues → Fields → Type 0
   FieldsFit no_field_values no_fields = Unit {0}

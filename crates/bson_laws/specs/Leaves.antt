@@ -1,9 +1,13 @@
 -- What the leaves of shapes take. Source: serde's data model.
 use Rattle.bson_shape.specs.declared.leaf.Leaf.{Leaf}
-use Rattle.bson_shape.specs.declared.leaf.Leaf.TheVariants.{Bool, I8, I16, I32, I64, U8, U16, U32, U64, Double, Char, Str, String, Bytes, ByteBuf, Unit}
+use Rattle.bson_shape.specs.declared.leaf.Leaf.TheVariants.{Any, Ignored, Bool, I8, I16, I32, I64, U8, U16, U32, U64, Double, Char, Str, String, Bytes, ByteBuf, Unit}
 use Rattle.bson_datum.specs.Value.{IntegerType, i8, i16, i32, i64, u8, u16, u32, u64}
 
 pub data LeafKind : Type 0 where
+  -- every value that has a kind of serde's data model
+  anything : LeafKind
+  -- every value, of which nothing is kept
+  ignored : LeafKind
   booleans : LeafKind
   -- the numbers of an integer type
   numbers : IntegerType → LeafKind
@@ -16,6 +20,8 @@ pub data LeafKind : Type 0 where
   units : LeafKind
 
 abbrev pub leaf_kind : Leaf → LeafKind
+leaf_kind Any = anything
+leaf_kind Ignored = ignored
 leaf_kind Bool = booleans
 leaf_kind I8 = numbers i8
 leaf_kind I16 = numbers i16

@@ -3,6 +3,6 @@ pub mod Views
 pub mod Means
 pub mod Fits
 pub mod Plain
-pub mod Names
+pub mod Writable
 pub mod Reads
 pub mod Spell

@@ -1,12 +1,13 @@
 -- The document that a value means. Source: serde's data model, and the kinds of bsonspec.org.
 use Rattle.std.specs.Prelude.{encode_utf8, ℤ, int_lt, Option, Some, None, is_some, if◌then◌else◌, option_map, option_and_then}
+use Rattle.bson_base.specs.Text.{Utf8}
 use Rattle.bson_base.specs.Reserved.{reserved_kind}
 use Rattle.bson_base.specs.declared.element_type.ElementType.{ElementType}
 use Rattle.bson_base.specs.declared.element_type.ElementType.TheVariants.{Int32}
 use Rattle.bson_base.specs.Tree as tree
 use Rattle.bson_base.specs.Tree.{Tree, string, document, array, binary, null, int32, int64, Pairs, no_pairs, pair, Trees, no_trees}
 use Rattle.bson_shape.specs.Makers.{is_reserved_newtype}
-use Rattle.bson_datum.specs.Value.{i64, greatest, written_as, Value, boolean, integer, double, character, str, bytes, none, some, unit, unit_structure, newtype, sequence, structure, Items, no_items, item, FieldValues, no_field_values, field_value}
+use Rattle.bson_datum.specs.Value.{i64, greatest, written_as, Value, boolean, integer, double, character, str, bytes, none, some, unit, unit_structure, newtype, sequence, map, structure, Items, no_items, item, Entries, no_entries, entry, FieldValues, no_field_values, field_value}
 
 -- a number as a value of a kind; an Int64 is none that is greater than the greatest of `i64`
 abbrev pub number_of : ElementType → ℤ → Option Tree
@@ -17,6 +18,13 @@ number_of k n = if int_lt (greatest i64) n then None else Some (int64 n)
 abbrev pub some_or_none : Option Tree → Value → Value
 some_or_none (Some null) v = none
 some_or_none t v = some v
+
+-- The key that a value is written as in a map: a text as it is, some value and a newtype as what they hold. Others are no keys.
+abbrev pub key_text : Value → Option Utf8
+key_text (str t) = Some t
+key_text (some v) = key_text v
+key_text (newtype name v) = key_text v
+key_text v = None
 
 abbrev mutual
   -- the tree that a value is written as, where it is written; a struct or a newtype of a reserved name is not written yet
@@ -33,11 +41,16 @@ abbrev mutual
   means (integer type n) = number_of (written_as type) n
   means (str t) = Some (string t)
   means (sequence vs) = option_map array (means_items vs)
+  means (map es) = option_map document (means_entries es)
   means (structure name fs) = if is_some (reserved_kind name) then None else option_map document (means_fields fs)
 
   pub means_items : Items → Option Trees
   means_items no_items = Some no_trees
   means_items (item v vs) = option_and_then (λ t. option_map (tree.tree t) (means_items vs)) (means v)
+
+  pub means_entries : Entries → Option Pairs
+  means_entries no_entries = Some no_pairs
+  means_entries (entry k v es) = option_and_then (λ key. option_and_then (λ t. option_map (pair key t) (means_entries es)) (means v)) (key_text k)
 
   pub means_fields : FieldValues → Option Pairs
   means_fields no_field_values = Some no_pairs
@@ -58,11 +71,16 @@ abbrev mutual
   norm (integer type n) = integer type n
   norm (str t) = str t
   norm (sequence vs) = sequence (norm_items vs)
+  norm (map es) = map (norm_entries es)
   norm (structure name fs) = structure name (norm_fields fs)
 
   pub norm_items : Items → Items
   norm_items no_items = no_items
   norm_items (item v vs) = item (norm v) (norm_items vs)
+
+  pub norm_entries : Entries → Entries
+  norm_entries no_entries = no_entries
+  norm_entries (entry k v es) = entry (norm k) (norm v) (norm_entries es)
 
   pub norm_fields : FieldValues → FieldValues
   norm_fields no_field_values = no_field_values

@@ -5,17 +5,18 @@ use Rattle.bson_base.specs.Text.{Bytes, Utf8}
 use Rattle.bson_base.specs.Outcome.{◌>>=◌, result_map}
 use Rattle.bson_base.specs.Sound.{max_levels}
 use Rattle.bson_base.specs.declared.element_type.ElementType.{ElementType}
-use Rattle.bson_base.specs.declared.element_type.ElementType.TheVariants.{EmbeddedDocument, Array, Binary, Null}
+use Rattle.bson_base.specs.declared.element_type.ElementType.TheVariants.{EmbeddedDocument, Binary, Null, String}
 use Rattle.bson_rawdoc.specs.Envelope.{envelope}
 use Rattle.bson_rawdoc.specs.Walk.{Element, Walk, ended, faulty, then_walk, walk}
 use Rattle.bson_rawdoc.specs.RawValue.{RawValue, double, string, document, array, binary, object_id, boolean, null, javascript_code_with_scope, int32, int64, kind_of, value_in}
 use Rattle.bson_rawdoc.specs.declared.raw.Error as raw_error
-use Rattle.bson_shape.specs.Form.{Form, leaf, optional, sequence, newtype, unit_structure, structure, Fields, no_fields, field}
-use Rattle.bson_laws.specs.Leaves.{LeafKind, booleans, numbers, doubles, characters, texts, byte_strings, byte_buffers, units, leaf_kind}
+use Rattle.bson_shape.specs.Form.{Form, leaf, optional, sequence, newtype, unit_structure, map, structure, Fields, no_fields, field}
+use Rattle.bson_laws.specs.Leaves.{LeafKind, anything, ignored, booleans, numbers, doubles, characters, texts, byte_strings, byte_buffers, units, leaf_kind}
 use Rattle.bson_laws.specs.Views.{one_character, absent}
 use Rattle.bson_datum.specs.Value as value
-use Rattle.bson_datum.specs.Value.{IntegerType, u8, in_range, Value, Items, no_items, item, FieldValues, no_field_values, field_value}
-use Rattle.bson_datum.specs.Cause.{Cause, raw, too_deep, invalid_type, out_of_range, not_one_char, not_utf8, missing_field, duplicate_field, not_built}
+use Rattle.bson_datum.specs.Value.{IntegerType, i32, i64, u8, in_range, Value, Items, no_items, item, Entries, no_entries, entry, FieldValues, no_field_values, field_value}
+use Rattle.bson_datum.specs.Same.{same}
+use Rattle.bson_datum.specs.Cause.{Cause, raw, too_deep, invalid_type, out_of_range, not_one_char, not_utf8, invalid_length, missing_field, duplicate_field, not_built}
 use Rattle.bson_datum.specs.Refusal.{Segment, at_key, at_index, ReadFault, unreadable, Refusal, here, inside, under, under_index, Failure, bare, with_path}
 
 -- an answer of reading: something, or a refusal with its path
@@ -73,6 +74,11 @@ abbrev pub ignores : ℕ → ElementType → Bytes → Reading (Unit {0})
 ignores zero k bytes = faultless (value_in k bytes) >>= pass_inside (λ place inner. refused too_deep)
 ignores (suc levels) k bytes = faultless (value_in k bytes) >>= pass_inside (λ place inner. pass_elements place (ignores levels) 0 (walk inner))
 
+-- the elements of a container, walked to their ends and dropped, where so many levels are left for it
+abbrev pub passes : ℕ → (ℕ → Element → Segment) → Bytes → Reading (Unit {0})
+passes zero place bytes = refused too_deep
+passes (suc levels) place bytes = pass_elements place (ignores levels) 0 (walk bytes)
+
 -- ---- a value of a kind that a shape takes
 
 abbrev pub boolean_of : RawValue → Reading Bool
@@ -117,7 +123,7 @@ abbrev pub null_of : RawValue → Reading (Unit {0})
 null_of null = Ok tt
 null_of v = refused (invalid_type (kind_of v))
 
--- ---- leaves
+-- ---- numbers, characters and bytes
 
 -- the number as a value of an integer type, where it is one of the type
 abbrev pub read_integer : IntegerType → ℤ → Reading Value
@@ -145,18 +151,7 @@ buffer_of levels (string t) = Ok t
 buffer_of levels (array bytes) = reads_bytes (levels - 1) 0 (walk bytes)
 buffer_of levels v = refused (invalid_type (kind_of v))
 
--- a value of the leaf's kind, with so many levels left
-abbrev pub read_leaf : ℕ → LeafKind → RawValue → Reading Value
-read_leaf levels booleans v = result_map value.boolean (boolean_of v)
-read_leaf levels (numbers type) v = integer_of v >>= read_integer type
-read_leaf levels doubles v = result_map value.double (double_of v)
-read_leaf levels characters v = string_of v >>= λ t. read_character (one_character (chars t))
-read_leaf levels texts v = result_map value.str (text_of v)
-read_leaf levels byte_strings v = result_map value.bytes (bytes_of v)
-read_leaf levels byte_buffers v = result_map value.bytes (buffer_of levels v)
-read_leaf levels units v = result_map (λ _. value.unit) (null_of v)
-
--- ---- containers
+-- ---- documents and arrays
 
 -- a value that no kind of serde's data model is: none of Double, String, EmbeddedDocument, Array, Boolean, Null, Int32 and Int64, and no
 -- binary of subtype 0
@@ -176,10 +171,9 @@ is_extended v = true
 abbrev pub no_document : RawValue → Cause
 no_document v = if is_extended v then not_built (kind_of v) else invalid_type (kind_of v)
 
--- the bytes of a value that is a document; an array, which a struct takes too, is not read as one yet
+-- the bytes of a value that is a document
 abbrev pub document_of : RawValue → Reading Bytes
 document_of (document bytes) = Ok bytes
-document_of (array bytes) = refused (not_built Array)
 document_of v = refused (no_document v)
 
 -- the bytes of a value that is an array
@@ -192,6 +186,68 @@ abbrev pub reads_items : (ElementType → Bytes → Reading Value) → ℕ → W
 reads_items read i ended = Ok no_items
 reads_items read i (faulty e) = refused (raw e)
 reads_items read i (then_walk e w) = under_index i (read e.kind e.value) >>= λ v. result_map (item v) (reads_items read (suc i) w)
+
+-- an entry whose key is there takes the value in its place; another goes last
+abbrev pub put_entry : Value → Value → Entries → Entries
+put_entry k v no_entries = entry k v no_entries
+put_entry k v (entry key old es) = if same k key then entry key v es else entry key old (put_entry k v es)
+
+-- the entries of a map with those of a document put to them, each key and each value read so, up to the fault that ends their list
+abbrev pub reads_entries : (Utf8 → Reading Value) → (ElementType → Bytes → Reading Value) → Walk → Entries → Reading Entries
+reads_entries read_key read ended es = Ok es
+reads_entries read_key read (faulty e) es = refused (raw e)
+reads_entries read_key read (then_walk e w) es = read_key e.key >>= λ k. under e.key (read e.kind e.value) >>= λ v. reads_entries read_key read w (put_entry k v es)
+
+-- ---- values without a shape
+
+-- a value of one of serde's kinds, whose items and entries are read so; an extended value is not read yet
+abbrev pub read_plain : (Bytes → Reading Items) → (Bytes → Reading Entries) → RawValue → Reading Value
+read_plain items entries (boolean b) = Ok (value.boolean b)
+read_plain items entries (int32 n) = Ok (value.integer i32 n)
+read_plain items entries (int64 n) = Ok (value.integer i64 n)
+read_plain items entries (double bits) = Ok (value.double bits)
+read_plain items entries (string t) = Ok (value.str t)
+read_plain items entries (binary zero bytes) = Ok (value.bytes bytes)
+read_plain items entries null = Ok value.unit
+read_plain items entries (array bytes) = result_map value.sequence (items bytes)
+read_plain items entries (document bytes) = result_map value.map (entries bytes)
+read_plain items entries v = refused (not_built (kind_of v))
+
+-- a key of a document as a text
+abbrev pub key_as_text : Utf8 → Reading Value
+key_as_text key = Ok (value.str key)
+
+-- an element's value, judged with so many levels left and then read so
+abbrev pub reads_judged : ℕ → (RawValue → Reading Value) → ElementType → Bytes → Reading Value
+reads_judged levels read k bytes = judged levels (value_in k bytes) >>= read
+
+-- a value without a shape, with so many levels left: an array as a sequence, a document as a map whose keys are texts
+abbrev pub read_any : ℕ → RawValue → Reading Value
+read_any zero v = read_plain (λ b. refused too_deep) (λ b. refused too_deep) v
+read_any (suc levels) v =
+    read_plain (λ b. reads_items (reads_judged levels (read_any levels)) 0 (walk b)) (λ b. reads_entries key_as_text (reads_judged levels (read_any levels)) (walk b) no_entries) v
+
+-- ---- at a leaf
+
+-- a value of the leaf's kind, with so many levels left
+abbrev pub read_leaf : ℕ → LeafKind → RawValue → Reading Value
+read_leaf levels anything v = read_any levels v
+read_leaf levels ignored v = result_map (λ _. value.unit) (pass_inside (passes levels) v)
+read_leaf levels booleans v = result_map value.boolean (boolean_of v)
+read_leaf levels (numbers type) v = integer_of v >>= read_integer type
+read_leaf levels doubles v = result_map value.double (double_of v)
+read_leaf levels characters v = string_of v >>= λ t. read_character (one_character (chars t))
+read_leaf levels texts v = result_map value.str (text_of v)
+read_leaf levels byte_strings v = result_map value.bytes (bytes_of v)
+read_leaf levels byte_buffers v = result_map value.bytes (buffer_of levels v)
+read_leaf levels units v = result_map (λ _. value.unit) (null_of v)
+
+-- a key of a document at the shape of a map's keys: read as the text is
+abbrev pub reads_key : Form → Utf8 → Reading Value
+reads_key (leaf l) key = read_leaf 0 (leaf_kind l) (string key)
+reads_key s key = refused (invalid_type String)
+
+-- ---- structs
 
 -- the place of the field that has a name, from 0
 abbrev pub one_further : Option ℕ → Option ℕ
@@ -250,6 +306,18 @@ finish (field name s fs) (o ∷ slots) = value_or name (absent s) o >>= λ v. re
 abbrev pub reads_fields : Fields → ℕ → ReadField → Walk → Reading FieldValues
 reads_fields fs levels read w = fill (fill_one fs levels read) w (no_slots fs) >>= finish fs
 
+-- a struct takes the elements of a document by their keys, and those of an array by their places
+abbrev pub read_structure : (Bytes → Reading FieldValues) → (Bytes → Reading FieldValues) → RawValue → Reading FieldValues
+read_structure by_key by_place (document bytes) = by_key bytes
+read_structure by_key by_place (array bytes) = by_place bytes
+read_structure by_key by_place v = refused (no_document v)
+
+-- the element that is due at an index, and then what is read from the others; where none is left, the array has too few
+abbrev pub reads_next : {A : Type 0} → ℕ → (ElementType → Bytes → Reading Value) → (Value → Walk → Reading A) → Walk → Reading A
+reads_next i read others ended = refused (invalid_length i)
+reads_next i read others (faulty e) = refused (raw e)
+reads_next i read others (then_walk e w) = under_index i (read e.kind e.value) >>= λ v. others v w
+
 -- null at an option, and a value of its form elsewhere; an option looks at the kind alone
 abbrev pub reads_option : ElementType → Reading Value → Reading Value
 reads_option Null r = Ok value.none
@@ -263,8 +331,16 @@ abbrev mutual
   reads (newtype name s) levels k bytes = result_map (value.newtype name) (reads s levels k bytes)
   reads (unit_structure name) levels k bytes = judged levels (value_in k bytes) >>= null_of >>= λ _. Ok (value.unit_structure name)
   reads (sequence s) levels k bytes = judged levels (value_in k bytes) >>= array_of >>= λ b. result_map value.sequence (reads_items (reads s (levels - 1)) 0 (walk b))
+  reads (map key s) levels k bytes =
+      judged levels (value_in k bytes) >>= document_of >>= λ b. result_map value.map (reads_entries (reads_key key) (reads s (levels - 1)) (walk b) no_entries)
   reads (structure name fs) levels k bytes =
-      judged levels (value_in k bytes) >>= document_of >>= λ b. result_map (value.structure name) (reads_fields fs (levels - 1) (λ i. reads_field fs i (levels - 1)) (walk b))
+      judged levels (value_in k bytes) >>= λ v. result_map (value.structure name)
+      (read_structure (λ b. reads_fields fs (levels - 1) (λ i. reads_field fs i (levels - 1)) (walk b)) (λ b. reads_places fs 0 (levels - 1) (walk b)) v)
+
+  -- the fields in their order from the elements of an array from this index on; further elements stay unread
+  pub reads_places : Fields → ℕ → ℕ → Walk → Reading FieldValues
+  reads_places no_fields i levels w = Ok no_field_values
+  reads_places (field name s fs) i levels w = reads_next i (reads s levels) (λ v rest. result_map (field_value name v) (reads_places fs (suc i) levels rest)) w
 
   -- at the shape of the field at a place (every place that is asked for is that of a field)
   pub reads_field : Fields → ℕ → ℕ → ElementType → Bytes → Reading Value

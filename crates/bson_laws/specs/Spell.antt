@@ -10,9 +10,10 @@ use Rattle.bson_base.specs.Tree as tree
 use Rattle.bson_base.specs.Tree.{Tree, string, document, array, binary, null, int32, int64, Pairs, no_pairs, pair, Trees, no_trees}
 use Rattle.bson_base.specs.declared.element_type.ElementType.{ElementType}
 use Rattle.bson_base.specs.declared.element_type.ElementType.TheVariants.{EmbeddedDocument, Binary, Int32}
-use Rattle.bson_datum.specs.Value.{i64, greatest, written_as, Value, boolean, integer, double, character, str, bytes, none, some, unit, unit_structure, newtype, sequence, structure, Items, no_items, item, FieldValues, no_field_values, field_value, kind_of}
+use Rattle.bson_datum.specs.Value.{i64, greatest, written_as, Value, boolean, integer, double, character, str, bytes, none, some, unit, unit_structure, newtype, sequence, map, structure, Items, no_items, item, Entries, no_entries, entry, FieldValues, no_field_values, field_value, kind_of}
 use Rattle.bson_datum.specs.Cause.{too_deep, binary_too_long, top_level, not_built}
-use Rattle.bson_datum.specs.Refusal.{WriteFault, unwritable, invalid_cstring, unsigned_exceeds, Refusal, here, under, under_index}
+use Rattle.bson_datum.specs.Refusal.{WriteFault, unwritable, invalid_document_key, invalid_cstring, unsigned_exceeds, Refusal, here, under, under_index}
+use Rattle.bson_laws.specs.Means.{number_of, key_text}
 
 -- an answer of writing: something, or a refusal with its path
 abbrev pub Writing : Type 0 → Type 0
@@ -41,6 +42,11 @@ spell_number k n = if int_lt (greatest i64) n then Err (here (unsigned_exceeds n
 abbrev pub spell_bytes : Bytes → Writing Tree
 spell_bytes bs = if nat_lt (max_binary 0) (length bs) then Err (here (unwritable (binary_too_long (length bs)))) else Ok (binary 0 bs)
 
+-- a tree, null where there is none
+abbrev pub or_null : Option Tree → Tree
+or_null (Some t) = t
+or_null None = null
+
 -- the kind of the newtypes that are not written yet: those of a UUID and of the readable form
 abbrev pub unbuilt_newtype : Utf8 → Option ElementType
 unbuilt_newtype name =
@@ -52,6 +58,33 @@ unbuilt_newtype name =
 abbrev pub newtype_at : Option ElementType → Writing Tree → Writing Tree
 newtype_at None content = content
 newtype_at (Some k) content = Err (here (unwritable (not_built k)))
+
+-- What the refusal of a key carries: a scalar as it would be written, null for none, a unit and a number that is not written, an empty
+-- array for a sequence, what it holds for some value and for a newtype, an empty document for every other value.
+abbrev pub carried : Value → Tree
+carried (boolean b) = tree.boolean b
+carried (integer type n) = or_null (number_of (written_as type) n)
+carried (double bits) = tree.double bits
+carried (character c) = string (encode_utf8 c)
+carried (str t) = string t
+carried (bytes bs) = binary 0 bs
+carried none = null
+carried unit = null
+carried (unit_structure name) = null
+carried (some v) = carried v
+carried (newtype name v) = carried v
+carried (sequence vs) = array no_trees
+carried (map es) = document no_pairs
+carried (structure name fs) = document no_pairs
+
+-- the text of a key, which holds no zero character; a value that is no key is refused, and carried
+abbrev pub written_key : Value → Option Utf8 → Writing Utf8
+written_key k None = Err (here (invalid_document_key (carried k)))
+written_key k (Some key) = if has_zero key then Err (here (invalid_cstring key)) else Ok key
+
+-- a key of a map; its refusal is that of the map
+abbrev pub spell_key : Value → Writing Utf8
+spell_key k = written_key k (key_text k)
 
 abbrev mutual
   -- the tree of a value with so many levels left, or the first refusal in document order
@@ -68,12 +101,17 @@ abbrev mutual
   spell (integer type n) levels = spell_number (written_as type) n
   spell (str t) levels = Ok (string t)
   spell (sequence vs) levels = enclosed_at array levels (spell_items 0 vs)
+  spell (map es) levels = enclosed_at document levels (spell_entries es)
   spell (structure name fs) levels = struct_at (reserved_kind name) levels (spell_fields fs)
 
   -- the values of a sequence from this index on
   pub spell_items : ℕ → Items → ℕ → Writing Trees
   spell_items i no_items levels = Ok no_trees
   spell_items i (item v vs) levels = under_index i (spell v levels) >>= λ t. spell_items (suc i) vs levels >>= λ ts. Ok (tree.tree t ts)
+
+  pub spell_entries : Entries → ℕ → Writing Pairs
+  spell_entries no_entries levels = Ok no_pairs
+  spell_entries (entry k v es) levels = spell_key k >>= λ key. under key (spell v levels) >>= λ t. spell_entries es levels >>= λ ps. Ok (pair key t ps)
 
   pub spell_fields : FieldValues → ℕ → Writing Pairs
   spell_fields no_field_values levels = Ok no_pairs
@@ -93,6 +131,11 @@ abbrev pub number_size : ElementType → ℕ
 number_size Int32 = 4
 number_size k = 8
 
+-- how many bytes the key of a map takes; a value that is no key counts as none
+abbrev pub key_size : Option Utf8 → ℕ
+key_size (Some key) = length key
+key_size None = 0
+
 abbrev mutual
   -- how many bytes a value takes; a struct of a reserved name, which is not written yet, counts as any other
   pub size : Value → ℕ
@@ -108,12 +151,17 @@ abbrev mutual
   size (integer type n) = number_size (written_as type)
   size (str t) = length t + 5
   size (sequence vs) = size_items 0 vs + 5
+  size (map es) = size_entries es + 5
   size (structure name fs) = size_fields fs + 5
 
   -- an element takes one byte for its kind, its key and a zero, and its value; the keys of an array are the decimal indexes from this one on
   pub size_items : ℕ → Items → ℕ
   size_items i no_items = 0
   size_items i (item v vs) = length (decimal i) + 2 + size v + size_items (suc i) vs
+
+  pub size_entries : Entries → ℕ
+  size_entries no_entries = 0
+  size_entries (entry k v es) = key_size (key_text k) + 2 + size v + size_entries es
 
   pub size_fields : FieldValues → ℕ
   size_fields no_field_values = 0

@@ -3,10 +3,10 @@ use Rattle.std.specs.Prelude.{ℕ, Bool, [], ◌∷◌, List, zero, if◌then◌
 use Rattle.std.specs.Str.{bytes_eq, chars}
 use Rattle.bson_base.specs.Text.{Bytes, Utf8}
 use Rattle.bson_base.specs.Tree.{Tree, double, string, document, array, binary, boolean, null, int32, int64, Pairs, no_pairs, pair, Trees, no_trees, tree}
-use Rattle.bson_shape.specs.Form.{Form, leaf, optional, sequence, newtype, unit_structure, structure, Fields, no_fields, field}
-use Rattle.bson_laws.specs.Leaves.{LeafKind, booleans, numbers, doubles, characters, texts, byte_strings, byte_buffers, units, leaf_kind}
+use Rattle.bson_shape.specs.Form.{Form, leaf, optional, sequence, newtype, unit_structure, map, structure, Fields, no_fields, field}
+use Rattle.bson_laws.specs.Leaves.{LeafKind, anything, ignored, booleans, numbers, doubles, characters, texts, byte_strings, byte_buffers, units, leaf_kind}
 use Rattle.bson_datum.specs.Value as value
-use Rattle.bson_datum.specs.Value.{IntegerType, in_range, Value, integer, Items, no_items, item, FieldValues, no_field_values, field_value}
+use Rattle.bson_datum.specs.Value.{IntegerType, i32, i64, in_range, Value, integer, Items, no_items, item, Entries, no_entries, entry, FieldValues, no_field_values, field_value}
 
 -- the value at a key: that of the first pair that has it
 abbrev pub lookup : Utf8 → Pairs → Option Tree
@@ -63,7 +63,32 @@ one_character cs = None
 abbrev pub as_character : Utf8 → Option Value
 as_character t = option_map value.character (one_character (chars t))
 
+abbrev mutual
+  -- The value that a tree is without a shape: numbers as `i32` and `i64`, null as the unit, an array as a sequence, a document as a map. A tree
+  -- that is of none of serde's kinds, or holds one that is not, is none.
+  pub views_any : Tree → Option Value
+  views_any (boolean b) = Some (value.boolean b)
+  views_any (int32 n) = Some (integer i32 n)
+  views_any (int64 n) = Some (integer i64 n)
+  views_any (double bits) = Some (value.double bits)
+  views_any (string t) = Some (value.str t)
+  views_any (binary zero bytes) = Some (value.bytes bytes)
+  views_any null = Some value.unit
+  views_any (array ts) = option_map value.sequence (views_any_items ts)
+  views_any (document ps) = option_map value.map (views_any_entries ps)
+  views_any t = None
+
+  pub views_any_items : Trees → Option Items
+  views_any_items no_trees = Some no_items
+  views_any_items (tree t ts) = option_and_then (λ v. option_map (item v) (views_any_items ts)) (views_any t)
+
+  pub views_any_entries : Pairs → Option Entries
+  views_any_entries no_pairs = Some no_entries
+  views_any_entries (pair key t ps) = option_and_then (λ v. option_map (entry (value.str key) v) (views_any_entries ps)) (views_any t)
+
 abbrev pub views_leaf : LeafKind → Tree → Option Value
+views_leaf anything t = views_any t
+views_leaf ignored t = None
 views_leaf booleans t = option_map value.boolean (boolean_of_tree t)
 views_leaf (numbers type) t = option_and_then (as_integer type) (integer_of_tree t)
 views_leaf doubles t = option_map value.double (double_of_tree t)
@@ -72,6 +97,10 @@ views_leaf texts t = option_map value.str (text_of_tree t)
 views_leaf byte_strings t = option_map value.bytes (bytes_of_tree t)
 views_leaf byte_buffers t = option_map value.bytes (bytes_of_tree t)
 views_leaf units t = option_map (λ _. value.unit) (null_of_tree t)
+
+abbrev pub views_leaf_key : LeafKind → Utf8 → Option Value
+views_leaf_key texts key = Some (value.str key)
+views_leaf_key k key = None
 
 -- ---- shapes
 
@@ -85,6 +114,16 @@ abbrev pub views_items : (Tree → Option Value) → Trees → Option Items
 views_items views no_trees = Some no_items
 views_items views (tree t ts) = option_and_then (λ v. option_map (item v) (views_items views ts)) (views t)
 
+-- the key of a map that a key of a document is: a text
+abbrev pub views_key : Form → Utf8 → Option Value
+views_key (leaf l) key = views_leaf_key (leaf_kind l) key
+views_key s key = None
+
+-- the entries of a map that these pairs are, each key and each value where it is one
+abbrev pub views_entries : (Utf8 → Option Value) → (Tree → Option Value) → Pairs → Option Entries
+views_entries view_key views no_pairs = Some no_entries
+views_entries view_key views (pair key t ps) = option_and_then (λ k. option_and_then (λ v. option_map (entry k v) (views_entries view_key views ps)) (views t)) (view_key key)
+
 -- the value of a field that no pair has: none, where its shape is an option
 abbrev pub absent : Form → Option Value
 absent (optional s) = Some value.none
@@ -96,7 +135,8 @@ views_at views missing None = missing
 views_at views missing (Some t) = views t
 
 abbrev mutual
-  -- The value that a tree is at a shape, where it is one. A sequence takes the values of an array, each at its shape. A struct takes
+  -- The value that a tree is at a shape, where it is one. A sequence takes the values of an array, each at its shape, a map the pairs of a
+  -- document in their order. A struct takes
   -- each of its fields from the document by its key, in the shape's order; other keys are dropped.
   pub views : Form → Tree → Option Value
   views (leaf l) t = views_leaf (leaf_kind l) t
@@ -104,6 +144,7 @@ abbrev mutual
   views (newtype name s) t = option_map (value.newtype name) (views s t)
   views (unit_structure name) t = option_map (λ _. value.unit_structure name) (null_of_tree t)
   views (sequence s) t = option_and_then (λ ts. option_map value.sequence (views_items (views s) ts)) (trees_of t)
+  views (map key s) t = option_and_then (λ ps. option_map value.map (views_entries (views_key key) (views s) ps)) (pairs_of t)
   views (structure name fs) t = option_and_then (λ ps. option_map (value.structure name) (views_fields fs ps)) (pairs_of t)
 
   pub views_fields : Fields → Pairs → Option FieldValues
