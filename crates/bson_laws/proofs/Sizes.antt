@@ -12,9 +12,10 @@ use Rattle.bson_base.specs.declared.element_type.ElementType.{ElementType}
 use Rattle.bson_base.specs.declared.element_type.ElementType.TheVariants.{EmbeddedDocument, Binary, Int32}
 use Rattle.bson_base.proofs.Outcomes.{map_ok, bind_ok}
 use Rattle.bson_base.proofs.Lengths.{length-le32, length-le64, length-text, length-boolean, length-binary, length-document, length-array}
-use Rattle.bson_datum.specs.Value.{IntegerType, i8, i16, i32, i64, u8, u16, u32, u64, written_as, Value, boolean, integer, double, character, str, bytes, none, some, unit, unit_structure, newtype, sequence, structure, Items, no_items, item, FieldValues, no_field_values, field_value, newtype_kind, kind_of, reserved_or_document}
+use Rattle.bson_datum.specs.Value.{IntegerType, i8, i16, i32, i64, u8, u16, u32, u64, written_as, Value, boolean, integer, double, character, str, bytes, none, some, unit, unit_structure, newtype, sequence, map, structure, Items, no_items, item, Entries, no_entries, entry, FieldValues, no_field_values, field_value, newtype_kind, kind_of, reserved_or_document}
 use Rattle.bson_datum.specs.Refusal.{Segment, at_key, at_index, Refusal, WriteFault, inside, under, under_index}
-use Rattle.bson_laws.specs.Spell.{Writing, enclosed_at, struct_at, named, number_size, spell_number, unbuilt_newtype, newtype_at, spell, spell_items, spell_fields, size, size_items, size_fields}
+use Rattle.bson_laws.specs.Means.{key_text}
+use Rattle.bson_laws.specs.Spell.{Writing, written_key, spell_key, key_size, spell_entries, size_entries, enclosed_at, struct_at, named, number_size, spell_number, unbuilt_newtype, newtype_at, spell, spell_items, spell_fields, size, size_items, size_fields}
 
 abbrev done : {A : Type 0} → A → Writing A
 done x = Ok x
@@ -48,6 +49,18 @@ pub struct_ok : (o : Option ElementType) (levels : ℕ) (pairs : ℕ → Writing
     → (o ≡ None) × ((n : ℕ) × (levels ≡ suc n) × ((ps : Pairs) × (pairs n ≡ Ok ps) × (document ps ≡ t)))
 struct_ok (Some k) levels pairs t e = absurd cc
 struct_ok None levels pairs t e = (refl, enclosed_ok document levels pairs t e)
+
+kept_key : (b : Bool) (f : Refusal WriteFault) (x key : Utf8) → cond b (Err f) (done x) ≡ Ok key → (b ≡ false) × (x ≡ key)
+kept_key true f x key e = absurd cc
+kept_key false f x key e = (refl, ok_is x key e)
+
+written_key_ok : (k : Value) (o : Option Utf8) (key : Utf8) → written_key k o ≡ Ok key → (o ≡ Some key) × (has_zero key ≡ false)
+written_key_ok k None key e = absurd cc
+written_key_ok k (Some x) key e = let c = kept_key (has_zero x) _ x key e in (ap Some c.1, sym (ap has_zero c.1) ∙ c.0)
+
+-- a key that is written is the text of the value, and holds no zero character
+pub spell_key_ok : (k : Value) (key : Utf8) → spell_key k ≡ Ok key → (key_text k ≡ Some key) × (has_zero key ≡ false)
+spell_key_ok k key e = written_key_ok k (key_text k) key e
 
 wide_is : (b : Bool) (f : Refusal WriteFault) (n : ℤ) (t : Tree) → cond b (Err f) (done (int64 n)) ≡ Ok t → int64 n ≡ t
 wide_is true f n t e = absurd cc
@@ -96,6 +109,7 @@ spell_kind (unit_structure name) levels t e = ap kind (sym (ok_is null t e))
 spell_kind (newtype name v) levels t e = let m = newtype_ok (unbuilt_newtype name) (spell v levels) t e in spell_kind v levels t m.1 ∙ sym (built_kind name (kind_of v) m.0)
 spell_kind (str x) levels t e = ap kind (sym (ok_is (string x) t e))
 spell_kind (sequence vs) levels t e = let m = enclosed_ok array levels (spell_items 0 vs) t e in ap kind (sym m.2.2)
+spell_kind (map es) levels t e = let m = enclosed_ok document levels (spell_entries es) t e in ap kind (sym m.2.2)
 spell_kind (structure name fs) levels t e = let m = struct_ok (reserved_kind name) levels (spell_fields fs) t e in ap kind (sym m.1.2.2) ∙ ap reserved_or_document (sym m.0)
 
 mutual
@@ -114,6 +128,9 @@ mutual
   length-spell (sequence vs) levels t e =
       let m = enclosed_ok array levels (spell_items 0 vs) t e in
       ap (λ u. length (enc u)) (sym m.2.2) ∙ length-array m.2.0 ∙ ap (λ k. k + 5) (length-spell_items 0 vs m.0 m.2.0 m.2.1)
+  length-spell (map es) levels t e =
+      let m = enclosed_ok document levels (spell_entries es) t e in
+      ap (λ u. length (enc u)) (sym m.2.2) ∙ length-document m.2.0 ∙ ap (λ k. k + 5) (length-spell_entries es m.0 m.2.0 m.2.1)
   length-spell (structure name fs) levels t e =
       let m = struct_ok (reserved_kind name) levels (spell_fields fs) t e in
       ap (λ u. length (enc u)) (sym m.1.2.2) ∙ length-document m.1.2.0 ∙ ap (λ k. k + 5) (length-spell_fields fs m.1.0 m.1.2.0 m.1.2.1)
@@ -126,6 +143,16 @@ mutual
       let k = inside_ok (at_index i) (spell v levels) a.0 a.1 in
       ap (λ u. length (array_elements i u)) (sym (ok_is (tree.tree a.0 b.0) ts b.2))
       ∙ omega (arith, length-append (decimal i) (0 ∷ enc a.0), length-append (decimal i ++ (0 ∷ enc a.0)) (array_elements (suc i) b.0), length-spell v levels a.0 k, length-spell_items (suc i) vs levels b.0 b.1)
+
+  pub length-spell_entries : (es : Entries) (levels : ℕ) (ps : Pairs) → spell_entries es levels ≡ Ok ps → length (elements ps) ≡ size_entries es
+  length-spell_entries no_entries levels ps e = ap (λ u. length (elements u)) (sym (ok_is no_pairs ps e))
+  length-spell_entries (entry k v es) levels ps e =
+      let a = bind_ok (spell_key k) (λ key. under key (spell v levels) >>= λ t. spell_entries es levels >>= λ qs. Ok (pair key t qs)) ps e in
+      let b = bind_ok (under a.0 (spell v levels)) (λ t. spell_entries es levels >>= λ qs. Ok (pair a.0 t qs)) ps a.2 in
+      let c = bind_ok (spell_entries es levels) (λ qs. Ok (pair a.0 b.0 qs)) ps b.2 in
+      let is : key_size (key_text k) ≡ length a.0 = ap key_size (spell_key_ok k a.0 a.1).0 in
+      ap (λ u. length (elements u)) (sym (ok_is (pair a.0 b.0 c.0) ps c.2))
+      ∙ omega (arith, is, length-append a.0 (0 ∷ enc b.0), length-append (a.0 ++ (0 ∷ enc b.0)) (elements c.0), length-spell v levels b.0 (under_ok a.0 (spell v levels) b.0 b.1), length-spell_entries es levels c.0 c.1)
 
   pub length-spell_fields : (fs : FieldValues) (levels : ℕ) (ps : Pairs) → spell_fields fs levels ≡ Ok ps → length (elements ps) ≡ size_fields fs
   length-spell_fields no_field_values levels ps e = ap (λ u. length (elements u)) (sym (ok_is no_pairs ps e))

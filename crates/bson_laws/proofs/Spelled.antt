@@ -1,6 +1,6 @@
 -- What means a clean tree is spelled as it.
 use Rattle.std.proofs.Common.{◌≡◌, ℕ, ℤ, Bool, true, false, zero, suc, ◌≤◌, length, cond, Option, Some, None, Ok, Err, refl, ap, sym, subst, ◌∙◌, arith}
-use Rattle.std.specs.Prelude.{encode_utf8, option_map, is_some, ◌||◌}
+use Rattle.std.specs.Prelude.{encode_utf8, option_map, option_and_then, is_some, ◌||◌}
 use Rattle.std.proofs.lemmas.Bool.{le-ltb}
 use Rattle.bson_base.specs.Text.{Bytes, Utf8}
 use Rattle.bson_base.specs.Outcome.{◌>>=◌, result_map}
@@ -12,10 +12,10 @@ use Rattle.bson_base.specs.declared.element_type.ElementType.{ElementType}
 use Rattle.bson_base.specs.declared.element_type.ElementType.TheVariants.{EmbeddedDocument, Binary, Int32}
 use Rattle.bson_base.proofs.Outcomes.{some_map, some_then}
 use Rattle.bson_shape.specs.Makers.{is_reserved_newtype}
-use Rattle.bson_datum.specs.Value.{written_as, Value, boolean, integer, double, character, str, bytes, none, some, unit, unit_structure, newtype, sequence, structure, Items, no_items, item, FieldValues, no_field_values, field_value, kind_of, reserved_or_document}
+use Rattle.bson_datum.specs.Value.{written_as, Value, boolean, integer, double, character, str, bytes, none, some, unit, unit_structure, newtype, sequence, map, structure, Items, no_items, item, Entries, no_entries, entry, FieldValues, no_field_values, field_value, kind_of, reserved_or_document}
 use Rattle.bson_datum.specs.Refusal.{WriteFault, Refusal, here, invalid_cstring, under, under_index}
-use Rattle.bson_laws.specs.Means.{number_of, means, means_items, means_fields}
-use Rattle.bson_laws.specs.Spell.{Writing, spell_number, spell_bytes, unbuilt_newtype, newtype_at, enclosed_at, struct_at, spell, spell_items, spell_fields, at_top, spell_document, size}
+use Rattle.bson_laws.specs.Means.{key_text, means_entries, number_of, means, means_items, means_fields}
+use Rattle.bson_laws.specs.Spell.{written_key, spell_entries, Writing, spell_number, spell_bytes, unbuilt_newtype, newtype_at, enclosed_at, struct_at, spell, spell_items, spell_fields, at_top, spell_document, size}
 use Rattle.bson_laws.proofs.Sizes.{built_kind, length-spell}
 
 abbrev pub pairs_found : Pairs → Option Pairs
@@ -104,6 +104,10 @@ mutual
       let m = some_map array (means_items vs) t e in
       subst (λ x. IsClean x → depth x ≤ levels → spell (sequence vs) levels ≡ Ok x) m.2
       (λ c' d'. enclosed array (spell_items 0 vs) m.0 (trees_depth m.0) levels d' (λ n le. spell_items_are 0 vs m.0 n m.1 c' le)) c d
+  spell_is (map es) t levels e c d =
+      let m = some_map document (means_entries es) t e in
+      subst (λ x. IsClean x → depth x ≤ levels → spell (map es) levels ≡ Ok x) m.2
+      (λ c' d'. enclosed document (spell_entries es) m.0 (pairs_depth m.0) levels d' (λ n le. spell_entries_are es m.0 n m.1 c' le)) c d
   spell_is (structure name fs) t levels e c d =
       let u = unreserved (reserved_kind name) (option_map document (means_fields fs)) t e in
       let m = some_map document (means_fields fs) t u.1 in
@@ -119,6 +123,20 @@ mutual
       (λ c' d'.
       ap (λ r. under_index i r >>= λ t. spell_items (suc i) vs levels >>= λ us. Ok (tree.tree t us)) (spell_is v a.0 levels a.1 c'.0 (omega arith))
       ∙ ap (λ r. r >>= λ us. Ok (tree.tree a.0 us)) (spell_items_are (suc i) vs b.0 levels b.1 c'.1 (omega arith)))
+      c d
+
+  pub spell_entries_are : (es : Entries) (ps : Pairs) (levels : ℕ) → means_entries es ≡ Some ps → ArePairsClean ps → pairs_depth ps ≤ levels → spell_entries es levels ≡ Ok ps
+  spell_entries_are no_entries ps levels e c d = ap Ok (pairs_are no_pairs ps e)
+  spell_entries_are (entry k v es) ps levels e c d =
+      let a = some_then (λ key. option_and_then (λ t. option_map (pair key t) (means_entries es)) (means v)) (key_text k) ps e in
+      let b = some_then (λ t. option_map (pair a.0 t) (means_entries es)) (means v) ps a.2 in
+      let q = some_map (pair a.0 b.0) (means_entries es) ps b.2 in
+      subst (λ u. ArePairsClean u → pairs_depth u ≤ levels → spell_entries (entry k v es) levels ≡ Ok u) q.2
+      (λ c' d'.
+      ap (λ o. written_key k o >>= λ key. under key (spell v levels) >>= λ t. spell_entries es levels >>= λ qs. Ok (pair key t qs)) a.1
+      ∙ ap (λ z. cond z (Err (here (invalid_cstring a.0))) (Ok a.0) >>= λ key. under key (spell v levels) >>= λ t. spell_entries es levels >>= λ qs. Ok (pair key t qs)) c'.0.no_zero
+      ∙ ap (λ r. under a.0 r >>= λ t. spell_entries es levels >>= λ qs. Ok (pair a.0 t qs)) (spell_is v b.0 levels b.1 c'.2 (omega arith))
+      ∙ ap (λ r. r >>= λ qs. Ok (pair a.0 b.0 qs)) (spell_entries_are es q.0 levels q.1 c'.3 (omega arith)))
       c d
 
   pub spell_fields_are : (fs : FieldValues) (ps : Pairs) (levels : ℕ) → means_fields fs ≡ Some ps → ArePairsClean ps → pairs_depth ps ≤ levels → spell_fields fs levels ≡ Ok ps
@@ -150,6 +168,7 @@ document_only (newtype name v) t e doc h =
     (λ i. at_top (built_kind name (kind_of v) none i) (newtype_at (none i) (spell v max_levels))) ∙ document_only v t m.1 doc inner
 document_only (str x) t e doc h = absurd (subst IsDocument (sym (tree_is (string x) t e)) doc)
 document_only (sequence vs) t e doc h = let m = some_map array (means_items vs) t e in absurd (subst IsDocument (sym m.2) doc)
+document_only (map es) t e doc h = h
 document_only (structure name fs) t e doc h =
     let u = unreserved (reserved_kind name) (option_map document (means_fields fs)) t e in
     ap (λ o. at_top (reserved_or_document o) (spell (structure name fs) max_levels)) u.0 ∙ h
