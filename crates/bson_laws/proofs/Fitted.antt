@@ -1,5 +1,5 @@
 -- The meaning of a value that fits a shape is viewed at the shape as the normal form of that value.
-use Rattle.std.proofs.Common.{◌≡◌, ◌⊎◌, inl, inr, ℕ, [], ◌∷◌, Bool, true, false, cond, Option, Some, None, refl, ap, sym, subst, ◌∙◌, ℤ, append-nil}
+use Rattle.std.proofs.Common.{◌≡◌, ℕ, [], ◌∷◌, Bool, true, false, cond, Option, Some, None, refl, ap, sym, subst, ◌∙◌, ℤ, append-nil}
 use Rattle.std.specs.Prelude.{encode_utf8, ◌&&◌, option_map, option_and_then}
 use Rattle.std.specs.Char.{IsScalar}
 use Rattle.std.specs.Str.{bytes_eq, chars}
@@ -11,18 +11,19 @@ use Rattle.bson_base.specs.Sound.{IsClean, ArePairsClean, AreTreesClean, Lacks}
 use Rattle.bson_base.specs.declared.element_type.ElementType.{ElementType}
 use Rattle.bson_base.specs.declared.element_type.ElementType.TheVariants.{Int32}
 use Rattle.bson_base.specs.Tree as tree
-use Rattle.bson_base.specs.Tree.{Tree, string, binary, null, int32, int64, document, array, Pairs, pair, Trees, no_trees}
-use Rattle.bson_base.proofs.Outcomes.{some_map, some_then}
-use Rattle.bson_shape.specs.Form.{Form, leaf, optional, sequence, newtype, unit_structure, structure, Fields, no_fields, field}
+use Rattle.bson_base.specs.Tree.{Tree, string, binary, null, int32, int64, document, array, Pairs, no_pairs, pair, Trees, no_trees}
+use Rattle.bson_base.proofs.Outcomes.{some_is, some_map, some_then}
+use Rattle.bson_shape.specs.Form.{Form, leaf, optional, sequence, newtype, unit_structure, map, structure, Fields, no_fields, field}
 use Rattle.bson_shape.specs.Makers.{is_reserved_newtype}
 use Rattle.bson_shape.specs.declared.leaf.Leaf.{Leaf}
 use Rattle.bson_datum.specs.Value as value
-use Rattle.bson_datum.specs.Value.{IntegerType, in_range, written_as, Value, integer, str, Items, no_items, item, FieldValues, no_field_values, field_value}
-use Rattle.bson_laws.specs.Leaves.{LeafKind, booleans, doubles, characters, texts, byte_strings, byte_buffers, units, leaf_kind}
-use Rattle.bson_laws.specs.Views.{lookup, as_integer, integer_of_tree, null_of_tree, one_character, as_character, views_leaf, views_option, absent, views_at, views, views_items, views_fields}
-use Rattle.bson_laws.specs.Means.{number_of, some_or_none, means, means_items, means_fields, norm, norm_items, norm_fields}
-use Rattle.bson_laws.specs.Fits.{Fits, ItemsFit, FieldsFit}
-use Rattle.bson_laws.proofs.Spelled.{found, tree_is, trees_are, unreserved, free_newtype}
+use Rattle.bson_datum.specs.Value.{IntegerType, i32, i64, in_range, written_as, Value, integer, str, Items, no_items, item, Entries, no_entries, entry, FieldValues, no_field_values, field_value}
+use Rattle.bson_laws.specs.Leaves.{LeafKind, anything, booleans, numbers, doubles, characters, texts, byte_strings, byte_buffers, units, leaf_kind}
+use Rattle.bson_laws.specs.Plain.{IsTextKey, IsPlain, AreFieldsPlain}
+use Rattle.bson_laws.specs.Views.{lookup, as_integer, integer_of_tree, null_of_tree, one_character, as_character, views_any, views_any_items, views_any_entries, views_leaf, views_leaf_key, views_key, views_entries, views_option, absent, views_at, views, views_items, views_fields}
+use Rattle.bson_laws.specs.Means.{key_text, number_of, some_or_none, means, means_items, means_entries, means_fields, norm, norm_items, norm_entries, norm_fields}
+use Rattle.bson_laws.specs.Fits.{IsAny, AreAnyItems, AreAnyEntries, FitsLeaf, Fits, ItemsFit, EntriesFit, FieldsFit}
+use Rattle.bson_laws.proofs.Spelled.{found, tree_is, trees_are, pairs_are, unreserved, free_newtype}
 
 pub bytes_eq-refl : (xs : Utf8) → bytes_eq xs xs ≡ true
 bytes_eq-refl xs = (bytes_eq-Decides xs xs).1 refl
@@ -92,13 +93,66 @@ one_again c h = ap chars (sym (append-nil (encode_utf8 c))) ∙ chars-encodes (c
 character_again : (c : ℕ) → IsScalar c → as_character (encode_utf8 c) ≡ Some (value.character c)
 character_again c h = ap (λ cs. option_map value.character (one_character cs)) (one_again c h)
 
--- what a leaf of a kind takes from a tree is what it takes from the tree that a value means
-as_leaf : (l : Leaf) (k : LeafKind) (u t : Tree) (v : Value) → leaf_kind l ≡ k → found u ≡ Some t → views_leaf k u ≡ Some v → views (leaf l) t ≡ Some v
-as_leaf l k u t v is e h = ap (λ j. views_leaf j t) is ∙ ap (views_leaf k) (sym (tree_is u t e)) ∙ h
+wide_is : (b : Bool) (n : ℤ) (t : Tree) → cond b None (found (int64 n)) ≡ Some t → int64 n ≡ t
+wide_is true n t e = absurd cc
+wide_is false n t e = tree_is (int64 n) t e
 
-bytes_viewed : (l : Leaf) (bytes : Bytes) (t : Tree) → (leaf_kind l ≡ byte_strings) ⊎ (leaf_kind l ≡ byte_buffers) → found (binary 0 bytes) ≡ Some t → views (leaf l) t ≡ Some (value.bytes bytes)
-bytes_viewed l bytes t (inl is) e = as_leaf l byte_strings (binary 0 bytes) t (value.bytes bytes) is e refl
-bytes_viewed l bytes t (inr is) e = as_leaf l byte_buffers (binary 0 bytes) t (value.bytes bytes) is e refl
+mutual
+  -- what a value means that is read without a shape is that value without a shape
+  any_means : (v : Value) (t : Tree) → IsAny v → means v ≡ Some t → views_any t ≡ Some (norm v)
+  any_means (value.boolean b) t f e = ap views_any (sym (tree_is (tree.boolean b) t e))
+  any_means (integer i32 n) t f e = ap views_any (sym (tree_is (int32 n) t e))
+  any_means (integer i64 n) t f e = ap views_any (sym (wide_is _ n t e))
+  any_means (value.double bits) t f e = ap views_any (sym (tree_is (tree.double bits) t e))
+  any_means (str x) t f e = ap views_any (sym (tree_is (string x) t e))
+  any_means (value.bytes bs) t f e = ap views_any (sym (tree_is (binary 0 bs) t e))
+  any_means value.unit t f e = ap views_any (sym (tree_is null t e))
+  any_means (value.sequence vs) t f e =
+      let a = some_map array (means_items vs) t e in
+      ap views_any (sym a.2) ∙ ap (option_map value.sequence) (any_items_mean vs a.0 f a.1)
+  any_means (value.map es) t f e =
+      let a = some_map document (means_entries es) t e in
+      ap views_any (sym a.2) ∙ ap (option_map value.map) (any_entries_mean es a.0 f a.1)
+  any_means v t f e = absurd f
+
+  any_items_mean : (vs : Items) (ts : Trees) → AreAnyItems vs → means_items vs ≡ Some ts → views_any_items ts ≡ Some (norm_items vs)
+  any_items_mean no_items ts f e = ap views_any_items (sym (trees_are no_trees ts e))
+  any_items_mean (item v vs) ts f e =
+      let a = some_then (λ t. option_map (tree.tree t) (means_items vs)) (means v) ts e in
+      let b = some_map (tree.tree a.0) (means_items vs) ts a.2 in
+      ap views_any_items (sym b.2)
+      ∙ ap (option_and_then (λ w. option_map (item w) (views_any_items b.0))) (any_means v a.0 f.0 a.1)
+      ∙ ap (option_map (item (norm v))) (any_items_mean vs b.0 f.1 b.1)
+
+  any_entries_mean : (es : Entries) (ps : Pairs) → AreAnyEntries es → means_entries es ≡ Some ps → views_any_entries ps ≡ Some (norm_entries es)
+  any_entries_mean no_entries ps f e = ap views_any_entries (sym (pairs_are no_pairs ps e))
+  any_entries_mean (entry (str key) v es) ps f e =
+      let a = some_then (λ t. option_map (pair key t) (means_entries es)) (means v) ps e in
+      let b = some_map (pair key a.0) (means_entries es) ps a.2 in
+      ap views_any_entries (sym b.2)
+      ∙ ap (option_and_then (λ w. option_map (entry (str key) w) (views_any_entries b.0))) (any_means v a.0 f.1 a.1)
+      ∙ ap (option_map (entry (str key) (norm v))) (any_entries_mean es b.0 f.2 b.1)
+  any_entries_mean (entry k v es) ps f e = absurd f.0
+
+-- what a leaf takes from the tree that a value of the leaf means
+leaf_means : (k : LeafKind) (v : Value) (t : Tree) → FitsLeaf k v → means v ≡ Some t → views_leaf k t ≡ Some (norm v)
+leaf_means anything v t f e = any_means v t f e
+leaf_means booleans (value.boolean b) t f e = ap (views_leaf booleans) (sym (tree_is (tree.boolean b) t e))
+leaf_means (numbers type) (integer other n) t f e =
+    ap (option_and_then (as_integer type)) (number_tree (written_as other) n t e) ∙ in_range_is type n (in_range type n) refl f.1 ∙ ap (λ k. Some (integer k n)) (sym f.0)
+leaf_means doubles (value.double bits) t f e = ap (views_leaf doubles) (sym (tree_is (tree.double bits) t e))
+leaf_means characters (value.character x) t f e = ap (views_leaf characters) (sym (tree_is (string (encode_utf8 x)) t e)) ∙ character_again x f
+leaf_means texts (str x) t f e = ap (views_leaf texts) (sym (tree_is (string x) t e))
+leaf_means byte_strings (value.bytes bs) t f e = ap (views_leaf byte_strings) (sym (tree_is (binary 0 bs) t e))
+leaf_means byte_buffers (value.bytes bs) t f e = ap (views_leaf byte_buffers) (sym (tree_is (binary 0 bs) t e))
+leaf_means units value.unit t f e = ap (views_leaf units) (sym (tree_is null t e))
+leaf_means k v t f e = absurd f
+
+-- the key that a text is written as is that text
+key_means : (key : Form) (k : Value) (x : Utf8) → IsTextKey key → Fits k key → key_text k ≡ Some x → views_key key x ≡ Some (norm k)
+key_means (leaf l) (str y) x p f e = ap (λ j. views_leaf_key j x) p ∙ ap (λ z. Some (str z)) (sym (some_is y x e))
+key_means (leaf l) k x p f e = absurd (subst (λ j. FitsLeaf j k) p f)
+key_means s k x p f e = absurd p
 
 -- ---- options
 
@@ -109,55 +163,82 @@ present view t v e = ap (option_map value.some) e
 
 -- ---- all values
 
+-- what fits a leaf is what the leaf takes
+pub fits_leaf : (v : Value) (l : Leaf) → Fits v (leaf l) → FitsLeaf (leaf_kind l) v
+fits_leaf (value.boolean b) l f = f
+fits_leaf (integer type n) l f = f
+fits_leaf (value.double bits) l f = f
+fits_leaf (value.character x) l f = f
+fits_leaf (str x) l f = f
+fits_leaf (value.bytes bs) l f = f
+fits_leaf value.none l f = f
+fits_leaf (value.some v) l f = f
+fits_leaf value.unit l f = f
+fits_leaf (value.unit_structure name) l f = f
+fits_leaf (value.newtype name v) l f = f
+fits_leaf (value.sequence vs) l f = f
+fits_leaf (value.map es) l f = f
+fits_leaf (value.structure name fs) l f = f
+
 mutual
-  pub views_means : (v : Value) (s : Form) (t : Tree) → Fits v s → means v ≡ Some t → IsClean t → views s t ≡ Some (norm v)
-  views_means (value.boolean b) (leaf l) t f e c = as_leaf l booleans (tree.boolean b) t (value.boolean b) f e refl
-  views_means (integer type n) (leaf l) t f e c =
-      ap (λ k. views_leaf k t) f.0 ∙ ap (option_and_then (as_integer type)) (number_tree (written_as type) n t e) ∙ in_range_is type n (in_range type n) refl f.1
-  views_means (value.double bits) (leaf l) t f e c = as_leaf l doubles (tree.double bits) t (value.double bits) f.0 e refl
-  views_means (value.character x) (leaf l) t f e c = as_leaf l characters (string (encode_utf8 x)) t (value.character x) f.0 e (character_again x f.1)
-  views_means (str x) (leaf l) t f e c = as_leaf l texts (string x) t (str x) f.0 e refl
-  views_means (value.bytes bs) (leaf l) t f e c = bytes_viewed l bs t f.0 e
-  views_means value.unit (leaf l) t f e c = as_leaf l units null t value.unit f e refl
-  views_means value.none (optional s) t f e c = ap (views_option (views s)) (sym (tree_is null t e))
-  views_means (value.some v) (optional s) t f e c = present (views s) t (norm v) (views_means v s t f e c) ∙ ap (λ o. Some (some_or_none o (norm v))) (sym e)
-  views_means (value.newtype m v) (newtype n s) t f e c =
+  pub views_means : (v : Value) (s : Form) (t : Tree) → IsPlain s → Fits v s → means v ≡ Some t → IsClean t → views s t ≡ Some (norm v)
+  views_means v (leaf l) t p f e c = leaf_means (leaf_kind l) v t (fits_leaf v l f) e
+  views_means value.none (optional s) t p f e c = ap (views_option (views s)) (sym (tree_is null t e))
+  views_means (value.some v) (optional s) t p f e c = present (views s) t (norm v) (views_means v s t p f e c) ∙ ap (λ o. Some (some_or_none o (norm v))) (sym e)
+  views_means (value.newtype m v) (newtype n s) t p f e c =
       let u = free_newtype (is_reserved_newtype m) (means v) t e in
-      ap (option_map (value.newtype n)) (views_means v s t f.1 u.1 c) ∙ ap (λ x. Some (value.newtype x (norm v))) (sym f.0)
-  views_means (value.unit_structure m) (unit_structure n) t f e c =
+      ap (option_map (value.newtype n)) (views_means v s t p.1 f.1 u.1 c) ∙ ap (λ x. Some (value.newtype x (norm v))) (sym f.0)
+  views_means (value.unit_structure m) (unit_structure n) t p f e c =
       ap (λ u. option_map (λ _. value.unit_structure n) (null_of_tree u)) (sym (tree_is null t e)) ∙ ap (λ x. Some (value.unit_structure x)) (sym f)
-  views_means (value.sequence vs) (sequence s) t f e c =
+  views_means (value.sequence vs) (sequence s) t p f e c =
       let a = some_map array (means_items vs) t e in
-      subst (λ x. IsClean x → views (sequence s) x ≡ Some (value.sequence (norm_items vs))) a.2 (λ c'. ap (option_map value.sequence) (views_means_items vs s a.0 f a.1 c')) c
-  views_means (value.structure m vs) (structure n fs) t f e c =
+      subst (λ x. IsClean x → views (sequence s) x ≡ Some (value.sequence (norm_items vs))) a.2 (λ c'. ap (option_map value.sequence) (views_means_items vs s a.0 p f a.1 c')) c
+  views_means (value.map es) (map key s) t p f e c =
+      let a = some_map document (means_entries es) t e in
+      subst (λ x. IsClean x → views (map key s) x ≡ Some (value.map (norm_entries es))) a.2 (λ c'. ap (option_map value.map) (views_means_entries es key s a.0 p f a.1 c')) c
+  views_means (value.structure m vs) (structure n fs) t p f e c =
       let u = unreserved (reserved_kind m) (option_map document (means_fields vs)) t e in
       let a = some_map document (means_fields vs) t u.1 in
       subst (λ x. IsClean x → views (structure n fs) x ≡ Some (value.structure m (norm_fields vs))) a.2
-      (λ c'. ap (option_map (value.structure n)) (views_means_fields vs fs a.0 f.1 a.1 c') ∙ ap (λ x. Some (value.structure x (norm_fields vs))) (sym f.0)) c
-  views_means v s t f e c = absurd f
+      (λ c'. ap (option_map (value.structure n)) (views_means_fields vs fs a.0 p.1 f.1 a.1 c') ∙ ap (λ x. Some (value.structure x (norm_fields vs))) (sym f.0)) c
+  views_means v s t p f e c = absurd f
 
-  views_means_items : (vs : Items) (s : Form) (ts : Trees) → ItemsFit vs s → means_items vs ≡ Some ts → AreTreesClean ts → views_items (views s) ts ≡ Some (norm_items vs)
-  views_means_items no_items s ts f e c = ap (views_items (views s)) (sym (trees_are no_trees ts e))
-  views_means_items (item v vs) s ts f e c =
+  views_means_items : (vs : Items) (s : Form) (ts : Trees) → IsPlain s → ItemsFit vs s → means_items vs ≡ Some ts → AreTreesClean ts → views_items (views s) ts ≡ Some (norm_items vs)
+  views_means_items no_items s ts p f e c = ap (views_items (views s)) (sym (trees_are no_trees ts e))
+  views_means_items (item v vs) s ts p f e c =
       let a = some_then (λ t. option_map (tree.tree t) (means_items vs)) (means v) ts e in
       let b = some_map (tree.tree a.0) (means_items vs) ts a.2 in
       subst (λ x. AreTreesClean x → views_items (views s) x ≡ Some (item (norm v) (norm_items vs))) b.2
       (λ c'.
-      ap (option_and_then (λ w. option_map (item w) (views_items (views s) b.0))) (views_means v s a.0 f.0 a.1 c'.0)
-      ∙ ap (option_map (item (norm v))) (views_means_items vs s b.0 f.1 b.1 c'.1))
+      ap (option_and_then (λ w. option_map (item w) (views_items (views s) b.0))) (views_means v s a.0 p f.0 a.1 c'.0)
+      ∙ ap (option_map (item (norm v))) (views_means_items vs s b.0 p f.1 b.1 c'.1))
       c
 
-  views_means_fields : (vs : FieldValues) (fs : Fields) (ps : Pairs) → FieldsFit vs fs → means_fields vs ≡ Some ps → ArePairsClean ps → views_fields fs ps ≡ Some (norm_fields vs)
-  views_means_fields no_field_values no_fields ps f e c = refl
-  views_means_fields no_field_values (field n s fs) ps f e c = absurd f
-  views_means_fields (field_value m v vs) no_fields ps f e c = absurd f
-  views_means_fields (field_value m v vs) (field n s fs) ps f e c =
+  views_means_entries : (es : Entries) (key s : Form) (ps : Pairs) → IsTextKey key × IsPlain s → EntriesFit es key s → means_entries es ≡ Some ps → ArePairsClean ps
+      → views_entries (views_key key) (views s) ps ≡ Some (norm_entries es)
+  views_means_entries no_entries key s ps p f e c = ap (views_entries (views_key key) (views s)) (sym (pairs_are no_pairs ps e))
+  views_means_entries (entry k v es) key s ps p f e c =
+      let a = some_then (λ x. option_and_then (λ t. option_map (pair x t) (means_entries es)) (means v)) (key_text k) ps e in
+      let b = some_then (λ t. option_map (pair a.0 t) (means_entries es)) (means v) ps a.2 in
+      let q = some_map (pair a.0 b.0) (means_entries es) ps b.2 in
+      subst (λ x. ArePairsClean x → views_entries (views_key key) (views s) x ≡ Some (entry (norm k) (norm v) (norm_entries es))) q.2
+      (λ c'.
+      ap (option_and_then (λ j. option_and_then (λ w. option_map (entry j w) (views_entries (views_key key) (views s) q.0)) (views s b.0))) (key_means key k a.0 p.0 f.0 a.1)
+      ∙ ap (option_and_then (λ w. option_map (entry (norm k) w) (views_entries (views_key key) (views s) q.0))) (views_means v s b.0 p.1 f.1 b.1 c'.2)
+      ∙ ap (option_map (entry (norm k) (norm v))) (views_means_entries es key s q.0 p f.2 q.1 c'.3))
+      c
+
+  views_means_fields : (vs : FieldValues) (fs : Fields) (ps : Pairs) → AreFieldsPlain fs → FieldsFit vs fs → means_fields vs ≡ Some ps → ArePairsClean ps → views_fields fs ps ≡ Some (norm_fields vs)
+  views_means_fields no_field_values no_fields ps p f e c = refl
+  views_means_fields no_field_values (field n s fs) ps p f e c = absurd f
+  views_means_fields (field_value m v vs) no_fields ps p f e c = absurd f
+  views_means_fields (field_value m v vs) (field n s fs) ps p f e c =
       let a = some_then (λ t. option_map (pair m t) (means_fields vs)) (means v) ps e in
       let b = some_map (pair m a.0) (means_fields vs) ps a.2 in
       subst (λ x. ArePairsClean x → views_fields (field n s fs) x ≡ Some (field_value m (norm v) (norm_fields vs))) b.2
       (λ c'.
       ap (λ o. option_and_then (λ w. option_map (field_value n w) (views_fields fs (pair m a.0 b.0))) (views_at (views s) (absent s) o)) (chosen_t (bytes_eq n m) a.0 (lookup n b.0) (subst (λ x. bytes_eq x m ≡ true) f.0 (bytes_eq-refl m)))
-      ∙ ap (option_and_then (λ w. option_map (field_value n w) (views_fields fs (pair m a.0 b.0)))) (views_means v s a.0 f.1 a.1 c'.2)
-      ∙ ap (option_map (field_value n (norm v))) (views-more fs m a.0 b.0 (unnamed m vs fs b.0 f.2 b.1 c'.1) ∙ views_means_fields vs fs b.0 f.2 b.1 c'.3)
+      ∙ ap (option_and_then (λ w. option_map (field_value n w) (views_fields fs (pair m a.0 b.0)))) (views_means v s a.0 p.1 f.1 a.1 c'.2)
+      ∙ ap (option_map (field_value n (norm v))) (views-more fs m a.0 b.0 (unnamed m vs fs b.0 f.2 b.1 c'.1) ∙ views_means_fields vs fs b.0 p.2 f.2 b.1 c'.3)
       ∙ ap (λ x. Some (field_value x (norm v) (norm_fields vs))) (sym f.0))
       c
