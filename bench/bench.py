@@ -9,7 +9,7 @@ valgrind's cachegrind, less those of the same program on the smallest document, 
 
 It needs valgrind; the ratios to libbson need gcc and libbson's header (Debian: libbson-dev), and are left out without them.
 """
-import argparse, itertools, os, pathlib, re, shutil, string, struct, subprocess, sys, tempfile, time
+import argparse, itertools, os, pathlib, re, shutil, string as letters, struct, subprocess, sys, tempfile, time
 
 HERE = pathlib.Path(__file__).resolve().parent
 PROGRAM = HERE.parent / "crates/bson_recast/out/bson_recast"
@@ -29,9 +29,13 @@ def int32(key, number):
     return element(0x10, key, struct.pack("<i", number))
 
 
-def text(key, value):
+def string(value):
     data = value.encode()
-    return element(0x02, key, struct.pack("<i", len(data) + 1) + data + b"\0")
+    return struct.pack("<i", len(data) + 1) + data + b"\0"
+
+
+def text(key, value):
+    return element(0x02, key, string(value))
 
 
 def rows(count):
@@ -44,7 +48,7 @@ def rows(count):
 
 def names(count):
     """The first so many bare names of three characters: one word of a command line takes about 18,000 of them."""
-    first, other = string.ascii_letters, string.ascii_letters + string.digits
+    first, other = letters.ascii_letters, letters.ascii_letters + letters.digits
     return ["".join(name) for name in itertools.islice(itertools.product(first, other, other), count)]
 
 
@@ -56,9 +60,109 @@ def fields(count, turned):
     return shape, document(int32(name, 1) for name in order)
 
 
+class Draws:
+    """A sequence of numbers that is the same on every machine."""
+
+    def __init__(self, seed):
+        self.state = seed
+
+    def below(self, limit):
+        s = self.state
+        s ^= (s << 13) & (2**64 - 1)
+        s ^= s >> 7
+        s ^= (s << 17) & (2**64 - 1)
+        self.state = s
+        return ((s * 0x2545F4914F6CDD1D & (2**64 - 1)) >> 11) % limit
+
+    def pick(self, choices):
+        return choices[self.below(len(choices))]
+
+
+def array(values):
+    return document(element(kind, str(i), value) for i, (kind, value) in enumerate(values))
+
+
+KEYS = ["id", "name", "value", "kind", "items", "children", "meta", "created_at", "flags", "x", "y", "description"]
+TEXTS = ["", "x", "hello world", "caf\u00e9 cr\u00e8me", "2024-05-01T00:00:00Z",
+         "a somewhat longer piece of text, as documents hold", "\u6771\u4eac\u90fd"]
+
+
+def mixed_document(draws, depth):
+    """One to seven elements with different keys."""
+    first, count = draws.below(len(KEYS)), 1 + draws.below(7)
+    elements = []
+    for i in range(count):
+        kind, value = mixed_value(draws, depth)
+        elements.append(element(kind, KEYS[(first + i * 5) % len(KEYS)], value))
+    return document(elements)
+
+
+def mixed_value(draws, depth):
+    """A value as JSON has them: documents and arrays to a depth of seven, texts, numbers, booleans and null."""
+    choice = draws.below(12)
+    if depth >= 7 and choice < 4:
+        choice = 4 + draws.below(8)
+    if choice < 2:
+        return 3, mixed_document(draws, depth + 1)
+    if choice < 4:
+        return 4, array([mixed_value(draws, depth + 1) for _ in range(draws.below(6))])
+    if choice < 7:
+        return 2, string(draws.pick(TEXTS))
+    if choice < 9:
+        return 0x10, struct.pack("<i", draws.below(2**32) - 2**31)
+    if choice == 9:
+        return 0x12, struct.pack("<q", (draws.below(2**53) << 3) - 2**55)
+    if choice == 10:
+        return 1, struct.pack("<d", draws.below(10**9) / 64.0)
+    return (8, bytes([draws.below(2)])) if draws.below(2) else (10, b"")
+
+
+def mixed(size):
+    """Documents as JSON has them, of so many bytes together."""
+    draws, items, total = Draws(5), [], 0
+    while total < size:
+        value = mixed_document(draws, 2)
+        items.append((3, value))
+        total += len(value)
+    return "any", document([element(4, "items", array(items))])
+
+
+def deep(chains, depth):
+    """So many chains of documents and some arrays inside one another."""
+    def chain(i):
+        value = document([int32("leaf", i)])
+        for level in range(depth):
+            if level % 4:
+                value = document([element(3, "a", value)])
+            elif level % 8 == 0:
+                value = document([element(4, "b", array([(3, value)]))])
+            else:
+                value = document([int32("n", level), element(3, "a", value)])
+        return value
+    return "any", document([element(4, "c", array([(3, chain(i)) for i in range(chains)]))])
+
+
+def wide(shape, count):
+    """One document of so many different keys of twelve characters. At `any` the values are texts and numbers, else numbers alone."""
+    draws = Draws(9)
+    alphabet = letters.ascii_lowercase + letters.ascii_uppercase + letters.digits
+    word = lambda: "".join(draws.pick(alphabet) for _ in range(12))
+    keys = {}
+    while len(keys) < count:
+        keys[word()] = None
+    mixed_values = shape == "any"
+    return shape, document(text(key, word()) if mixed_values and i % 2 else int32(key, i) for i, key in enumerate(keys))
+
+
 WORKLOADS = {
     "rows": lambda: rows(100_000),
     "rows, a tenth": lambda: rows(10_000),
+    "any": lambda: mixed(3_000_000),
+    "deep": lambda: deep(400, 165),
+    "wide": lambda: wide("any", 100_000),
+    "wide, a tenth": lambda: wide("any", 10_000),
+    "wide at a map": lambda: wide("[str:i32]", 100_000),
+    "wide at a map, a tenth": lambda: wide("[str:i32]", 10_000),
     "18,000 fields in order": lambda: fields(18_000, False),
     "9,000 fields in order": lambda: fields(9_000, False),
     "18,000 fields in reverse": lambda: fields(18_000, True),
