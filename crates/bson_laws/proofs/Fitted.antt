@@ -22,7 +22,7 @@ use Rattle.bson_laws.specs.Leaves.{LeafKind, anything, booleans, numbers, double
 use Rattle.bson_laws.specs.Plain.{IsTextKey, IsPlain, AreFieldsPlain}
 use Rattle.bson_laws.specs.Views.{lookup, as_integer, integer_of_tree, null_of_tree, one_character, as_character, views_any, views_any_items, views_any_entries, views_leaf, views_leaf_key, views_key, views_entries, views_option, absent, views_at, views, views_items, views_fields}
 use Rattle.bson_laws.specs.Means.{key_text, number_of, some_or_none, means, means_items, means_entries, means_fields, norm, norm_items, norm_entries, norm_fields}
-use Rattle.bson_laws.specs.Fits.{IsAny, AreAnyItems, AreAnyEntries, FitsLeaf, Fits, ItemsFit, EntriesFit, FieldsFit}
+use Rattle.bson_laws.specs.Fits.{IsAny, AreAnyItems, AreAnyEntries, FitsLeaf, FitsLeafKey, FitsKey, Fits, ItemsFit, EntriesFit, FieldsFit}
 use Rattle.bson_laws.proofs.Spelled.{found, tree_is, trees_are, pairs_are, unreserved, free_newtype}
 
 pub bytes_eq-refl : (xs : Utf8) → bytes_eq xs xs ≡ true
@@ -149,9 +149,9 @@ leaf_means units value.unit t f e = ap (views_leaf units) (sym (tree_is null t e
 leaf_means k v t f e = absurd f
 
 -- the key that a text is written as is that text
-key_means : (key : Form) (k : Value) (x : Utf8) → IsTextKey key → Fits k key → key_text k ≡ Some x → views_key key x ≡ Some (norm k)
+key_means : (key : Form) (k : Value) (x : Utf8) → IsTextKey key → FitsKey key k → key_text k ≡ Some x → views_key key x ≡ Some (norm k)
 key_means (leaf l) (str y) x p f e = ap (λ j. views_leaf_key j x) p ∙ ap (λ z. Some (str z)) (sym (some_is y x e))
-key_means (leaf l) k x p f e = absurd (subst (λ j. FitsLeaf j k) p f)
+key_means (leaf l) k x p f e = absurd (subst (λ j. FitsLeafKey j k) p f)
 key_means s k x p f e = absurd p
 
 -- ---- options

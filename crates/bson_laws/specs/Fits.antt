@@ -49,6 +49,15 @@ FitsLeaf byte_buffers (bytes bs) = AreBytes bs
 FitsLeaf units unit = Unit {0}
 FitsLeaf k v = ⊥
 
+-- a key of a map: a text, where the keys are texts
+abbrev pub FitsLeafKey : LeafKind → Value → Type 0
+FitsLeafKey texts k = IsText k
+FitsLeafKey kind k = ⊥
+
+abbrev pub FitsKey : Form → Value → Type 0
+FitsKey (leaf l) k = FitsLeafKey (leaf_kind l) k
+FitsKey s k = ⊥
+
 abbrev mutual
   -- a leaf's value of what the leaf takes; none, or what fits the inner shape; a newtype or a unit struct of the shape's name; a sequence
   -- whose values fit its shape; a map whose keys and values fit theirs; a struct of the shape's name, with its fields in its order, whose
@@ -70,7 +79,7 @@ abbrev mutual
 
   pub EntriesFit : Entries → Form → Form → Type 0
   EntriesFit no_entries key s = Unit {0}
-  EntriesFit (entry k v es) key s = Fits k key × Fits v s × EntriesFit es key s
+  EntriesFit (entry k v es) key s = FitsKey key k × Fits v s × EntriesFit es key s
 
   pub FieldsFit : FieldValues → Fields → Type 0
   FieldsFit no_field_values no_fields = Unit {0}

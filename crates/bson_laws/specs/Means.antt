@@ -19,7 +19,7 @@ abbrev pub some_or_none : Option Tree → Value → Value
 some_or_none (Some null) v = none
 some_or_none t v = some v
 
--- The key that a value is written as in a map: a text as it is, some value and a newtype as what they hold. Others are no keys.
+-- The key that a value is written as in a map: a text as it is, some value and a newtype, whatever its name, as what they hold. Others are no keys.
 abbrev pub key_text : Value → Option Utf8
 key_text (str t) = Some t
 key_text (some v) = key_text v

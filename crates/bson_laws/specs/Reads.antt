@@ -153,8 +153,8 @@ buffer_of levels v = refused (invalid_type (kind_of v))
 
 -- ---- documents and arrays
 
--- a value that no kind of serde's data model is: none of Double, String, EmbeddedDocument, Array, Boolean, Null, Int32 and Int64, and no
--- binary of subtype 0
+-- a value of a kind that serde's data model lacks: each but Double, String, EmbeddedDocument, Array, Boolean, Null, Int32, Int64 and a binary of
+-- subtype 0
 abbrev pub is_extended : RawValue → Bool
 is_extended (double bytes) = false
 is_extended (string t) = false
@@ -167,7 +167,7 @@ is_extended (int64 n) = false
 is_extended (binary subtype bytes) = not (eqb subtype 0)
 is_extended v = true
 
--- why a value that is neither a document nor an array is none: of an extended kind it is not read as a document yet
+-- why a value is not read as a document: one of an extended kind is not yet
 abbrev pub no_document : RawValue → Cause
 no_document v = if is_extended v then not_built (kind_of v) else invalid_type (kind_of v)
 
@@ -187,12 +187,13 @@ reads_items read i ended = Ok no_items
 reads_items read i (faulty e) = refused (raw e)
 reads_items read i (then_walk e w) = under_index i (read e.kind e.value) >>= λ v. result_map (item v) (reads_items read (suc i) w)
 
--- an entry whose key is there takes the value in its place; another goes last
+-- a key that is there keeps its place and takes the value; another goes last
 abbrev pub put_entry : Value → Value → Entries → Entries
 put_entry k v no_entries = entry k v no_entries
 put_entry k v (entry key old es) = if same k key then entry key v es else entry key old (put_entry k v es)
 
--- the entries of a map with those of a document put to them, each key and each value read so, up to the fault that ends their list
+-- The entries of a map from the elements of a document, put to those before them, up to the fault that ends the list. A key is read before its
+-- value, and its refusal is that of the document.
 abbrev pub reads_entries : (Utf8 → Reading Value) → (ElementType → Bytes → Reading Value) → Walk → Entries → Reading Entries
 reads_entries read_key read ended es = Ok es
 reads_entries read_key read (faulty e) es = refused (raw e)
@@ -221,7 +222,8 @@ key_as_text key = Ok (value.str key)
 abbrev pub reads_judged : ℕ → (RawValue → Reading Value) → ElementType → Bytes → Reading Value
 reads_judged levels read k bytes = judged levels (value_in k bytes) >>= read
 
--- a value without a shape, with so many levels left: an array as a sequence, a document as a map whose keys are texts
+-- A judged value without a shape, with so many levels left: an array as a sequence, a document as a map whose keys are texts. Where none is left
+-- a document or an array was refused before.
 abbrev pub read_any : ℕ → RawValue → Reading Value
 read_any zero v = read_plain (λ b. refused too_deep) (λ b. refused too_deep) v
 read_any (suc levels) v =
@@ -229,7 +231,7 @@ read_any (suc levels) v =
 
 -- ---- at a leaf
 
--- a value of the leaf's kind, with so many levels left
+-- a judged value at a leaf, with so many levels left
 abbrev pub read_leaf : ℕ → LeafKind → RawValue → Reading Value
 read_leaf levels anything v = read_any levels v
 read_leaf levels ignored v = result_map (λ _. value.unit) (pass_inside (passes levels) v)
@@ -242,18 +244,18 @@ read_leaf levels byte_strings v = result_map value.bytes (bytes_of v)
 read_leaf levels byte_buffers v = result_map value.bytes (buffer_of levels v)
 read_leaf levels units v = result_map (λ _. value.unit) (null_of v)
 
--- a key of a document at the shape of a map's keys: read as the text is
+-- the key of a map, read at the shape of keys as that text would be; a text takes no level
 abbrev pub reads_key : Form → Utf8 → Reading Value
 reads_key (leaf l) key = read_leaf 0 (leaf_kind l) (string key)
 reads_key s key = refused (invalid_type String)
 
 -- ---- structs
 
--- the place of the field that has a name, from 0
 abbrev pub one_further : Option ℕ → Option ℕ
 one_further None = None
 one_further (Some i) = Some (suc i)
 
+-- the place of the field that has a name, from 0
 abbrev pub place_of : Fields → Utf8 → Option ℕ
 place_of no_fields key = None
 place_of (field name s fs) key = if bytes_eq name key then Some 0 else one_further (place_of fs key)
@@ -312,7 +314,8 @@ read_structure by_key by_place (document bytes) = by_key bytes
 read_structure by_key by_place (array bytes) = by_place bytes
 read_structure by_key by_place v = refused (no_document v)
 
--- the element that is due at an index, and then what is read from the others; where none is left, the array has too few
+-- the element that is due at an index, and then what is read from the others; where none is left, a fault of the list is told before that there
+-- are too few
 abbrev pub reads_next : {A : Type 0} → ℕ → (ElementType → Bytes → Reading Value) → (Value → Walk → Reading A) → Walk → Reading A
 reads_next i read others ended = refused (invalid_length i)
 reads_next i read others (faulty e) = refused (raw e)
@@ -337,7 +340,7 @@ abbrev mutual
       judged levels (value_in k bytes) >>= λ v. result_map (value.structure name)
       (read_structure (λ b. reads_fields fs (levels - 1) (λ i. reads_field fs i (levels - 1)) (walk b)) (λ b. reads_places fs 0 (levels - 1) (walk b)) v)
 
-  -- the fields in their order from the elements of an array from this index on; further elements stay unread
+  -- the fields in their order from the elements of an array from this index on; further elements and a fault behind them stay unread
   pub reads_places : Fields → ℕ → ℕ → Walk → Reading FieldValues
   reads_places no_fields i levels w = Ok no_field_values
   reads_places (field name s fs) i levels w = reads_next i (reads s levels) (λ v rest. result_map (field_value name v) (reads_places fs (suc i) levels rest)) w

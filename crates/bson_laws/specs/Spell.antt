@@ -60,7 +60,7 @@ newtype_at None content = content
 newtype_at (Some k) content = Err (here (unwritable (not_built k)))
 
 -- What the refusal of a key carries: a scalar as it would be written, null for none, a unit and a number that is not written, an empty
--- array for a sequence, what it holds for some value and for a newtype, an empty document for every other value.
+-- array for a sequence, for some value and for a newtype what their content would carry, an empty document for every other value.
 abbrev pub carried : Value → Tree
 carried (boolean b) = tree.boolean b
 carried (integer type n) = or_null (number_of (written_as type) n)
@@ -131,7 +131,7 @@ abbrev pub number_size : ElementType → ℕ
 number_size Int32 = 4
 number_size k = 8
 
--- how many bytes the key of a map takes; a value that is no key counts as none
+-- how many bytes the key of a map takes; a value that is no key counts 0
 abbrev pub key_size : Option Utf8 → ℕ
 key_size (Some key) = length key
 key_size None = 0

@@ -65,7 +65,7 @@ as_character t = option_map value.character (one_character (chars t))
 
 abbrev mutual
   -- The value that a tree is without a shape: numbers as `i32` and `i64`, null as the unit, an array as a sequence, a document as a map. A tree
-  -- that is of none of serde's kinds, or holds one that is not, is none.
+  -- that is, or holds, a value of another kind has no value.
   pub views_any : Tree → Option Value
   views_any (boolean b) = Some (value.boolean b)
   views_any (int32 n) = Some (integer i32 n)
@@ -98,6 +98,7 @@ views_leaf byte_strings t = option_map value.bytes (bytes_of_tree t)
 views_leaf byte_buffers t = option_map value.bytes (bytes_of_tree t)
 views_leaf units t = option_map (λ _. value.unit) (null_of_tree t)
 
+-- a key where the keys are what a leaf takes
 abbrev pub views_leaf_key : LeafKind → Utf8 → Option Value
 views_leaf_key texts key = Some (value.str key)
 views_leaf_key k key = None
@@ -114,7 +115,7 @@ abbrev pub views_items : (Tree → Option Value) → Trees → Option Items
 views_items views no_trees = Some no_items
 views_items views (tree t ts) = option_and_then (λ v. option_map (item v) (views_items views ts)) (views t)
 
--- the key of a map that a key of a document is: a text
+-- the key of a map that a key of a document is: a text; keys that are characters are read, but not written
 abbrev pub views_key : Form → Utf8 → Option Value
 views_key (leaf l) key = views_leaf_key (leaf_kind l) key
 views_key s key = None
@@ -136,8 +137,7 @@ views_at views missing (Some t) = views t
 
 abbrev mutual
   -- The value that a tree is at a shape, where it is one. A sequence takes the values of an array, each at its shape, a map the pairs of a
-  -- document in their order. A struct takes
-  -- each of its fields from the document by its key, in the shape's order; other keys are dropped.
+  -- document in their order. A struct takes each of its fields from the document by its key, in the shape's order; other keys are dropped.
   pub views : Form → Tree → Option Value
   views (leaf l) t = views_leaf (leaf_kind l) t
   views (optional s) t = views_option (views s) t

@@ -27,7 +27,7 @@ KeepsDocument (optional s) = KeepsDocument s
 KeepsDocument (newtype name s) = KeepsDocument s
 KeepsDocument s = Unit {0}
 
--- Whatever is read at the shape is written, unless it is too long.
+-- Each key and each field's name can be written, and what is read from a document is one.
 pub record IsWritable (s : Form) : Type 0 where
   pub keys : HasKeys s
   pub document : KeepsDocument s
