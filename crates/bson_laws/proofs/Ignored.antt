@@ -1,5 +1,5 @@
 -- A value that no field takes is walked to its end and dropped.
-use Rattle.std.proofs.Common.{◌≡◌, ℕ, zero, suc, ◌^◌, ◌<◌, ◌≤◌, length, Bool, true, false, cond, Result, Ok, refl, ap, ◌∙◌, arith, eqb}
+use Rattle.std.proofs.Common.{◌≡◌, ℕ, zero, suc, ◌^◌, ◌<◌, ◌≤◌, length, Bool, true, false, cond, Ok, refl, ap, ◌∙◌, arith, eqb}
 use Rattle.std.specs.Prelude.{◌&&◌}
 use Rattle.std.proofs.lemmas.Bool.Decides.{nat_tests}
 use Rattle.bson_base.specs.Text.{Bytes}
@@ -7,9 +7,8 @@ use Rattle.bson_base.specs.Outcome.{◌>>=◌}
 use Rattle.bson_base.specs.Sound.{IsClean, ArePairsClean, AreTreesClean}
 use Rattle.bson_base.specs.Tree.{Tree, document, array, javascript_code_with_scope, Pairs, no_pairs, pair, Trees, no_trees, tree, kind, enc, elements, array_elements, depth, pairs_depth, trees_depth}
 use Rattle.bson_base.proofs.Lengths.{length-javascript_code_with_scope, head_size, tail_size, elements_size, first_size, later_size, array_elements_size}
-use Rattle.bson_rawdoc.specs.RawValue.{RawValue}
+use Rattle.bson_rawdoc.specs.RawValue.{RawValue, value_in}
 use Rattle.bson_rawdoc.specs.Walk.{Element, walk, walk_elements}
-use Rattle.bson_rawdoc.specs.declared.raw.Error as raw_error
 use Rattle.bson_rawdoc.proofs.Walks.{walk-nil}
 use Rattle.bson_datum.specs.Cause.{too_deep}
 use Rattle.bson_datum.specs.Refusal.{Segment, under, under_index}
@@ -31,9 +30,15 @@ level_left : (levels : ℕ) (v : RawValue) → 0 < levels → with_level levels 
 level_left zero v h = absurd (omega arith)
 level_left (suc n) v h = go_on (is_container v) (eqb (suc n) 0) (refused too_deep) (Ok v) (suc_not_zero n)
 
--- a value without a fault is judged as that value, where a level is left
-pub judged_again : (levels : ℕ) (r : Result RawValue raw_error.Error) (v : RawValue) → 0 < levels → r ≡ Ok v → judged levels r ≡ Ok v
-judged_again levels r v h e = ap (λ x. faultless x >>= with_level levels) e ∙ level_left levels v h
+-- there is a level for a document or an array that is no deeper than the levels
+level_again : (t : Tree) (levels : ℕ) → depth t ≤ levels → with_level levels (raw_of t) ≡ Ok (raw_of t)
+level_again (document ps) levels d = level_left levels (raw_of (document ps)) (omega arith)
+level_again (array ts) levels d = level_left levels (raw_of (array ts)) (omega arith)
+level_again t levels d = refl
+
+-- an encoded value is judged as that value, where there are levels for it
+pub judged_again : (t : Tree) (levels : ℕ) → IsClean t → depth t ≤ levels → length (enc t) < 2 ^ 31 → judged levels (value_in (kind t) (enc t)) ≡ Ok (raw_of t)
+judged_again t levels c d l = ap (judged levels) (value_again t c l) ∙ level_again t levels d
 
 -- ---- values
 

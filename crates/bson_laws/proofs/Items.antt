@@ -1,5 +1,5 @@
 -- The values of an array, one after another: read back, and written again.
-use Rattle.std.proofs.Common.{◌≡◌, ℕ, suc, ◌^◌, ◌<◌, ◌≤◌, length, Some, Ok, ap, subst, ◌∙◌, arith}
+use Rattle.std.proofs.Common.{◌≡◌, ℕ, suc, ◌^◌, ◌<◌, ◌≤◌, length, Option, Some, Ok, ap, subst, ◌∙◌, arith}
 use Rattle.std.specs.Prelude.{option_map}
 use Rattle.bson_base.specs.Text.{Bytes}
 use Rattle.bson_base.specs.Outcome.{◌>>=◌, result_map}
@@ -10,26 +10,29 @@ use Rattle.bson_base.proofs.Lengths.{first_size, later_size}
 use Rattle.bson_base.proofs.Outcomes.{some_is, ok_is, some_map, some_then, map_ok, bind_ok}
 use Rattle.bson_rawdoc.specs.Walk.{Walk, ended, faulty, then_walk, walk_elements}
 use Rattle.bson_rawdoc.proofs.Walks.{walk-nil}
-use Rattle.bson_shape.specs.Form.{Form}
 use Rattle.bson_datum.specs.Value.{Value, Items, no_items, item}
 use Rattle.bson_datum.specs.Refusal.{at_index, under_index}
-use Rattle.bson_laws.specs.Reads.{Reading, reads_items, reads}
+use Rattle.bson_laws.specs.Reads.{Reading, reads_items}
 use Rattle.bson_laws.specs.Spell.{spell, spell_items, IsWrittenUnlessLong}
-use Rattle.bson_laws.specs.Views.{views, views_items}
+use Rattle.bson_laws.specs.Views.{views_items}
 use Rattle.bson_laws.proofs.Encoded.{array_walk_again}
 use Rattle.bson_laws.proofs.Sizes.{inside_ok}
 use Rattle.bson_laws.proofs.Writable.{unless_bind, unless_inside, Written}
 
--- what the values of an array are at a shape is read from its bytes, where what each is at the shape is
-module _ (s : Form) (levels : ℕ) (each : (t : Tree) (v : Value) → IsClean t → depth t ≤ levels → length (enc t) < 2 ^ 31 → views s t ≡ Some v → reads s levels (kind t) (enc t) ≡ Ok v) where
-  pub items_again : (i : ℕ) (ts : Trees) (vs : Items) → AreTreesClean ts → trees_depth ts ≤ levels → length (array_elements i ts) < 2 ^ 31 → views_items (views s) ts ≡ Some vs
-      → reads_items (reads s levels) i (walk_elements (array_elements i ts)) ≡ Ok vs
-  items_again i no_trees vs c d l e = ap (reads_items (reads s levels) i) walk-nil ∙ ap Ok (some_is no_items vs e)
+-- what a tree is in a view is read from its bytes, where so many levels are left for it
+abbrev pub ReadsBack : (Tree → Option Value) → (ElementType → Bytes → Reading Value) → ℕ → Type 0
+ReadsBack view read levels = (t : Tree) (v : Value) → IsClean t → depth t ≤ levels → length (enc t) < 2 ^ 31 → view t ≡ Some v → read (kind t) (enc t) ≡ Ok v
+
+-- what the values of an array are in a view is read from its bytes, where what each is in the view is
+module _ (view : Tree → Option Value) (read : ElementType → Bytes → Reading Value) (levels : ℕ) (each : ReadsBack view read levels) where
+  pub items_again : (i : ℕ) (ts : Trees) (vs : Items) → AreTreesClean ts → trees_depth ts ≤ levels → length (array_elements i ts) < 2 ^ 31 → views_items view ts ≡ Some vs
+      → reads_items read i (walk_elements (array_elements i ts)) ≡ Ok vs
+  items_again i no_trees vs c d l e = ap (reads_items read i) walk-nil ∙ ap Ok (some_is no_items vs e)
   items_again i (tree t ts) vs c d l e =
-      let a = some_then (λ v. option_map (item v) (views_items (views s) ts)) (views s t) vs e in
-      let b = some_map (item a.0) (views_items (views s) ts) vs a.2 in
-      ap (reads_items (reads s levels) i) (array_walk_again i t ts c.0 l)
-      ∙ ap (λ r. under_index i r >>= λ v. result_map (item v) (reads_items (reads s levels) (suc i) (walk_elements (array_elements (suc i) ts)))) (each t a.0 c.0 (omega arith) (omega (arith, first_size i t ts)) a.1)
+      let a = some_then (λ v. option_map (item v) (views_items view ts)) (view t) vs e in
+      let b = some_map (item a.0) (views_items view ts) vs a.2 in
+      ap (reads_items read i) (array_walk_again i t ts c.0 l)
+      ∙ ap (λ r. under_index i r >>= λ v. result_map (item v) (reads_items read (suc i) (walk_elements (array_elements (suc i) ts)))) (each t a.0 c.0 (omega arith) (omega (arith, first_size i t ts)) a.1)
       ∙ ap (result_map (item a.0)) (items_again (suc i) ts b.0 c.1 (omega arith) (omega (arith, later_size i t ts)) b.1)
       ∙ ap Ok b.2
 

@@ -1,6 +1,7 @@
 pub mod Sizes
 pub mod Spelled
 pub mod Fitted
+pub mod Fitting
 pub mod Numbers
 pub mod Closed
 pub mod Values
@@ -11,5 +12,7 @@ pub mod Filled
 pub mod Viewed
 pub mod Writable
 pub mod Items
+pub mod Entries
+pub mod Unshaped
 pub mod ReadBack
 pub mod Rewritten

@@ -1,10 +1,12 @@
 -- What a clean tree is at a shape fits the shape, and is its own normal form.
-use Rattle.std.proofs.Common.{◌≡◌, inl, inr, ℕ, zero, [], ◌∷◌, List, Bool, true, false, cond, Option, Some, None, Ok, refl, ap, sym, subst, ◌∙◌, ℤ}
-use Rattle.std.specs.Prelude.{option_map}
+use Rattle.std.proofs.Common.{◌≡◌, ℕ, zero, [], ◌∷◌, List, Bool, true, false, cond, Option, Some, None, Ok, refl, ap, sym, subst, ◌∙◌, arith, ℤ, pos, negsuc}
+use Rattle.std.specs.Prelude.{FitsSigned, option_map, option_and_then}
+use Rattle.std.specs.Int.{w32, w64}
 use Rattle.std.specs.Char.{IsScalar}
-use Rattle.std.specs.Str.{bytes_eq, chars}
+use Rattle.std.specs.Str.{bytes_eq, is_utf8, chars}
 use Rattle.std.proofs.Math.Bool.{and-true}
 use Rattle.std.proofs.Math.Utf8.{scalar, scalars}
+use Rattle.std.proofs.lemmas.Int.{ints}
 use Rattle.std.proofs.lemmas.Str.{scalars-chars, IsUtf8-from_is_utf8}
 use Rattle.bson_base.specs.Reserved.{reserved_kind}
 use Rattle.bson_base.specs.Text.{Utf8}
@@ -14,20 +16,20 @@ use Rattle.bson_base.specs.Tree.{Tree, double, string, boolean, binary, null, in
 use Rattle.bson_base.specs.declared.element_type.ElementType.{ElementType}
 use Rattle.bson_base.specs.declared.element_type.ElementType.TheVariants.{Int32}
 use Rattle.bson_base.proofs.Outcomes.{some_is, some_map, some_then}
-use Rattle.bson_shape.specs.Form.{Form, leaf, optional, sequence, newtype, unit_structure, structure, Fields, no_fields, field}
+use Rattle.bson_shape.specs.Form.{Form, leaf, optional, sequence, newtype, unit_structure, map, structure, Fields, no_fields, field}
 use Rattle.bson_shape.specs.Makers.{is_reserved_newtype}
-use Rattle.bson_shape.specs.declared.leaf.Leaf.{Leaf}
 use Rattle.bson_datum.specs.Value as value
-use Rattle.bson_datum.specs.Value.{IntegerType, in_range, written_as, Value, Items, no_items, item, FieldValues, no_field_values, field_value}
+use Rattle.bson_datum.specs.Value.{IntegerType, i32, i64, in_range, written_as, Value, Items, no_items, item, Entries, no_entries, entry, FieldValues, no_field_values, field_value}
 use Rattle.bson_datum.specs.Cause.{out_of_range}
-use Rattle.bson_laws.specs.Leaves.{LeafKind, booleans, numbers, doubles, characters, texts, byte_strings, byte_buffers, units, leaf_kind}
+use Rattle.bson_laws.specs.Leaves.{LeafKind, anything, ignored, booleans, numbers, doubles, characters, texts, byte_strings, byte_buffers, units, leaf_kind}
 use Rattle.bson_laws.specs.Reads.{refused}
-use Rattle.bson_laws.specs.Views.{lookup, one_character, views_leaf, views_option, absent, views_at, views, views_items, views_fields}
-use Rattle.bson_laws.specs.Means.{number_of, some_or_none, means, means_items, means_fields, norm, norm_items, norm_fields}
-use Rattle.bson_laws.specs.Fits.{Fits, ItemsFit, FieldsFit}
+use Rattle.bson_laws.specs.Views.{lookup, one_character, views_any, views_any_items, views_any_entries, views_leaf, views_leaf_key, views_option, views_items, views_key, views_entries, absent, views_at, views, views_fields}
+use Rattle.bson_laws.specs.Means.{number_of, some_or_none, means, means_items, means_entries, means_fields, norm, norm_items, norm_entries, norm_fields}
+use Rattle.bson_laws.specs.Fits.{IsText, IsAny, AreAnyItems, AreAnyEntries, FitsLeaf, FitsLeafKey, FitsKey, Fits, ItemsFit, EntriesFit, FieldsFit}
 use Rattle.bson_laws.proofs.Spelled.{unreserved, free_newtype}
+use Rattle.bson_laws.proofs.Fitting.{leaf_fits}
 
--- ---- leaves
+-- ---- numbers and characters
 
 pub in_range_or : (type : IntegerType) (n : ℤ) (b : Bool) (v : Value) → cond b (Some (value.integer type n)) None ≡ Some v → (cond b (Ok (value.integer type n)) (refused (out_of_range n)) ≡ Ok v) × (b ≡ true) × (v ≡ value.integer type n)
 in_range_or type n true v e = (ap Ok cc, refl, cc)
@@ -39,26 +41,68 @@ one_scalar [] c s e = absurd cc
 one_scalar (d ∷ []) c s e = subst IsScalar (some_is d c e) (sym (and-true (scalar d)) ∙ s)
 one_scalar (d ∷ x ∷ cs) c s e = absurd cc
 
-leaf_fits : (l : Leaf) (k : LeafKind) (t : Tree) (v : Value) → leaf_kind l ≡ k → IsClean t → views_leaf k t ≡ Some v → Fits v (leaf l)
-leaf_fits l booleans (boolean b) v is c e = subst (λ x. Fits x (leaf l)) (some_is (value.boolean b) v e) is
-leaf_fits l booleans t v is c e = absurd cc
-leaf_fits l (numbers type) (int32 n) v is c e = let r = in_range_or type n (in_range type n) v e in subst (λ x. Fits x (leaf l)) (sym r.2) (is, r.1)
-leaf_fits l (numbers type) (int64 n) v is c e = let r = in_range_or type n (in_range type n) v e in subst (λ x. Fits x (leaf l)) (sym r.2) (is, r.1)
-leaf_fits l (numbers type) t v is c e = absurd cc
-leaf_fits l doubles (double bits) v is c e = subst (λ x. Fits x (leaf l)) (some_is (value.double bits) v e) (is, c)
-leaf_fits l doubles t v is c e = absurd cc
-leaf_fits l characters (string t) v is c e =
+-- ---- without a shape
+
+-- the numbers of a clean tree are those of `i32` and `i64`
+in_i32 : (n : ℤ) → FitsSigned w32 n → in_range i32 n ≡ true
+in_i32 (pos n) h = grind (arith, ints, h)
+in_i32 (negsuc n) h = grind (arith, ints, h)
+
+in_i64 : (n : ℤ) → FitsSigned w64 n → in_range i64 n ≡ true
+in_i64 (pos n) h = grind (arith, ints, h)
+in_i64 (negsuc n) h = grind (arith, ints, h)
+
+mutual
+  any_fits : (t : Tree) (v : Value) → IsClean t → views_any t ≡ Some v → IsAny v
+  any_fits (boolean b) v c e = subst IsAny (some_is (value.boolean b) v e) tt
+  any_fits (int32 n) v c e = subst IsAny (some_is (value.integer i32 n) v e) (in_i32 n c)
+  any_fits (int64 n) v c e = subst IsAny (some_is (value.integer i64 n) v e) (in_i64 n c)
+  any_fits (double bits) v c e = subst IsAny (some_is (value.double bits) v e) c
+  any_fits (string t) v c e = subst IsAny (some_is (value.str t) v e) c
+  any_fits (binary zero bs) v c e = subst IsAny (some_is (value.bytes bs) v e) c.are_bytes
+  any_fits null v c e = subst IsAny (some_is value.unit v e) tt
+  any_fits (array ts) v c e = let m = some_map value.sequence (views_any_items ts) v e in subst IsAny m.2 (any_items_fit ts m.0 c m.1)
+  any_fits (document ps) v c e = let m = some_map value.map (views_any_entries ps) v e in subst IsAny m.2 (any_entries_fit ps m.0 c m.1)
+  any_fits t v c e = absurd cc
+
+  any_items_fit : (ts : Trees) (vs : Items) → AreTreesClean ts → views_any_items ts ≡ Some vs → AreAnyItems vs
+  any_items_fit no_trees vs c e = subst AreAnyItems (some_is no_items vs e) tt
+  any_items_fit (tree.tree t ts) vs c e =
+      let a = some_then (λ v. option_map (item v) (views_any_items ts)) (views_any t) vs e in
+      let b = some_map (item a.0) (views_any_items ts) vs a.2 in
+      subst AreAnyItems b.2 (any_fits t a.0 c.0 a.1, any_items_fit ts b.0 c.1 b.1)
+
+  any_entries_fit : (ps : Pairs) (es : Entries) → ArePairsClean ps → views_any_entries ps ≡ Some es → AreAnyEntries es
+  any_entries_fit no_pairs es c e = subst AreAnyEntries (some_is no_entries es e) tt
+  any_entries_fit (pair key t ps) es c e =
+      let a = some_then (λ v. option_map (entry (value.str key) v) (views_any_entries ps)) (views_any t) es e in
+      let b = some_map (entry (value.str key) a.0) (views_any_entries ps) es a.2 in
+      subst AreAnyEntries b.2 (c.0.text, any_fits t a.0 c.2 a.1, any_entries_fit ps b.0 c.3 b.1)
+
+-- ---- leaves
+
+leaf_taken : (k : LeafKind) (t : Tree) (v : Value) → IsClean t → views_leaf k t ≡ Some v → FitsLeaf k v
+leaf_taken anything t v c e = any_fits t v c e
+leaf_taken ignored t v c e = absurd cc
+leaf_taken booleans (boolean b) v c e = subst (FitsLeaf booleans) (some_is (value.boolean b) v e) tt
+leaf_taken booleans t v c e = absurd cc
+leaf_taken (numbers type) (int32 n) v c e = let r = in_range_or type n (in_range type n) v e in subst (FitsLeaf (numbers type)) (sym r.2) (refl, r.1)
+leaf_taken (numbers type) (int64 n) v c e = let r = in_range_or type n (in_range type n) v e in subst (FitsLeaf (numbers type)) (sym r.2) (refl, r.1)
+leaf_taken (numbers type) t v c e = absurd cc
+leaf_taken doubles (double bits) v c e = subst (FitsLeaf doubles) (some_is (value.double bits) v e) c
+leaf_taken doubles t v c e = absurd cc
+leaf_taken characters (string t) v c e =
     let m = some_map value.character (one_character (chars t)) v e in
-    subst (λ x. Fits x (leaf l)) m.2 (is, one_scalar (chars t) m.0 (scalars-chars t (IsUtf8-from_is_utf8 t c)) m.1)
-leaf_fits l characters t v is c e = absurd cc
-leaf_fits l texts (string t) v is c e = subst (λ x. Fits x (leaf l)) (some_is (value.str t) v e) (is, c)
-leaf_fits l texts t v is c e = absurd cc
-leaf_fits l byte_strings (binary zero bs) v is c e = subst (λ x. Fits x (leaf l)) (some_is (value.bytes bs) v e) (inl is, c.are_bytes)
-leaf_fits l byte_strings t v is c e = absurd cc
-leaf_fits l byte_buffers (binary zero bs) v is c e = subst (λ x. Fits x (leaf l)) (some_is (value.bytes bs) v e) (inr is, c.are_bytes)
-leaf_fits l byte_buffers t v is c e = absurd cc
-leaf_fits l units null v is c e = subst (λ x. Fits x (leaf l)) (some_is value.unit v e) is
-leaf_fits l units t v is c e = absurd cc
+    subst (FitsLeaf characters) m.2 (one_scalar (chars t) m.0 (scalars-chars t (IsUtf8-from_is_utf8 t c)) m.1)
+leaf_taken characters t v c e = absurd cc
+leaf_taken texts (string t) v c e = subst (FitsLeaf texts) (some_is (value.str t) v e) c
+leaf_taken texts t v c e = absurd cc
+leaf_taken byte_strings (binary zero bs) v c e = subst (FitsLeaf byte_strings) (some_is (value.bytes bs) v e) c.are_bytes
+leaf_taken byte_strings t v c e = absurd cc
+leaf_taken byte_buffers (binary zero bs) v c e = subst (FitsLeaf byte_buffers) (some_is (value.bytes bs) v e) c.are_bytes
+leaf_taken byte_buffers t v c e = absurd cc
+leaf_taken units null v c e = subst (FitsLeaf units) (some_is value.unit v e) tt
+leaf_taken units t v c e = absurd cc
 
 -- ---- options and missing fields
 
@@ -95,9 +139,27 @@ items_fit s each (tree.tree t ts) vs c e =
     let b = some_map (item a.0) (views_items (views s) ts) vs a.2 in
     subst (λ x. ItemsFit x s) b.2 (each t a.0 c.0 a.1, items_fit s each ts b.0 c.1 b.1)
 
+-- a key that is a text fits the shape of the keys
+leaf_key_fits : (k : LeafKind) (key : Utf8) (v : Value) → is_utf8 key ≡ true → views_leaf_key k key ≡ Some v → FitsLeafKey k v
+leaf_key_fits texts key v u e = subst IsText (some_is (value.str key) v e) u
+leaf_key_fits k key v u e = absurd cc
+
+key_fits : (s : Form) (key : Utf8) (v : Value) → is_utf8 key ≡ true → views_key s key ≡ Some v → FitsKey s v
+key_fits (leaf l) key v u e = leaf_key_fits (leaf_kind l) key v u e
+key_fits s key v u e = absurd cc
+
+-- the pairs of a document fit the shapes of the keys and of the values
+entries_fit : (key s : Form) → ((t : Tree) (v : Value) → IsClean t → views s t ≡ Some v → Fits v s) → (ps : Pairs) (es : Entries) → ArePairsClean ps → views_entries (views_key key) (views s) ps ≡ Some es → EntriesFit es key s
+entries_fit key s each no_pairs es c e = subst (λ x. EntriesFit x key s) (some_is no_entries es e) tt
+entries_fit key s each (pair name t ps) es c e =
+    let a = some_then (λ k. option_and_then (λ v. option_map (entry k v) (views_entries (views_key key) (views s) ps)) (views s t)) (views_key key name) es e in
+    let b = some_then (λ v. option_map (entry a.0 v) (views_entries (views_key key) (views s) ps)) (views s t) es a.2 in
+    let m = some_map (entry a.0 b.0) (views_entries (views_key key) (views s) ps) es b.2 in
+    subst (λ x. EntriesFit x key s) m.2 (key_fits key name a.0 c.0.text a.1, each t b.0 c.2 b.1, entries_fit key s each ps m.0 c.3 m.1)
+
 mutual
   pub views_fit : (s : Form) (t : Tree) (v : Value) → IsClean t → views s t ≡ Some v → Fits v s
-  views_fit (leaf l) t v c e = leaf_fits l (leaf_kind l) t v refl c e
+  views_fit (leaf l) t v c e = leaf_fits v l (leaf_taken (leaf_kind l) t v c e)
   views_fit (optional s) t v c e = option_fits s t v (λ w h. views_fit s t w c h) e
   views_fit (newtype name s) t v c e =
       let m = some_map (value.newtype name) (views s t) v e in
@@ -108,6 +170,10 @@ mutual
       let b = some_map value.sequence (views_items (views s) ts) v e in
       subst (λ x. Fits x (sequence s)) b.2 (items_fit s (λ t w. views_fit s t w) ts b.0 c b.1)
   views_fit (sequence s) t v c e = absurd cc
+  views_fit (map key s) (document ps) v c e =
+      let b = some_map value.map (views_entries (views_key key) (views s) ps) v e in
+      subst (λ x. Fits x (map key s)) b.2 (entries_fit key s (λ t w. views_fit s t w) ps b.0 c b.1)
+  views_fit (map key s) t v c e = absurd cc
   views_fit (structure name fs) (document ps) v c e =
       let b = some_map (value.structure name) (views_fields fs ps) v e in
       subst (λ x. Fits x (structure name fs)) b.2 (refl, views_fields_fit fs ps b.0 c b.1)
@@ -140,7 +206,47 @@ number_normal type n t v e =
     let r = in_range_or type n (in_range type n) v e in
     subst (IsNormal t) (sym r.2) (refl, λ h. absurd (number_not_null (written_as type) n h))
 
+-- a sequence and a map do not mean null
+no_sequence : (vs : Items) → option_map array (means_items vs) ≡ Some null → ⊥
+no_sequence vs e = let m = some_map array (means_items vs) null e in absurd cc
+
+no_map : (es : Entries) → option_map document (means_entries es) ≡ Some null → ⊥
+no_map es e = let m = some_map document (means_entries es) null e in absurd cc
+
+mutual
+  any_normal : (t : Tree) (v : Value) → views_any t ≡ Some v → IsNormal t v
+  any_normal (boolean b) v e = subst (IsNormal (boolean b)) (some_is (value.boolean b) v e) (refl, λ h. absurd cc)
+  any_normal (int32 n) v e = subst (IsNormal (int32 n)) (some_is (value.integer i32 n) v e) (refl, λ h. absurd (number_not_null (written_as i32) n h))
+  any_normal (int64 n) v e = subst (IsNormal (int64 n)) (some_is (value.integer i64 n) v e) (refl, λ h. absurd (number_not_null (written_as i64) n h))
+  any_normal (double bits) v e = subst (IsNormal (double bits)) (some_is (value.double bits) v e) (refl, λ h. absurd cc)
+  any_normal (string t) v e = subst (IsNormal (string t)) (some_is (value.str t) v e) (refl, λ h. absurd cc)
+  any_normal (binary zero bs) v e = subst (IsNormal (binary zero bs)) (some_is (value.bytes bs) v e) (refl, λ h. absurd cc)
+  any_normal null v e = subst (IsNormal null) (some_is value.unit v e) (refl, λ h. refl)
+  any_normal (array ts) v e =
+      let m = some_map value.sequence (views_any_items ts) v e in
+      subst (IsNormal (array ts)) m.2 (ap value.sequence (any_items_normal ts m.0 m.1), λ h. absurd (no_sequence m.0 h))
+  any_normal (document ps) v e =
+      let m = some_map value.map (views_any_entries ps) v e in
+      subst (IsNormal (document ps)) m.2 (ap value.map (any_entries_normal ps m.0 m.1), λ h. absurd (no_map m.0 h))
+  any_normal t v e = absurd cc
+
+  any_items_normal : (ts : Trees) (vs : Items) → views_any_items ts ≡ Some vs → norm_items vs ≡ vs
+  any_items_normal no_trees vs e = subst (λ x. norm_items x ≡ x) (some_is no_items vs e) refl
+  any_items_normal (tree.tree t ts) vs e =
+      let a = some_then (λ v. option_map (item v) (views_any_items ts)) (views_any t) vs e in
+      let b = some_map (item a.0) (views_any_items ts) vs a.2 in
+      subst (λ x. norm_items x ≡ x) b.2 (λ i. item ((any_normal t a.0 a.1).0 i) (any_items_normal ts b.0 b.1 i))
+
+  any_entries_normal : (ps : Pairs) (es : Entries) → views_any_entries ps ≡ Some es → norm_entries es ≡ es
+  any_entries_normal no_pairs es e = subst (λ x. norm_entries x ≡ x) (some_is no_entries es e) refl
+  any_entries_normal (pair key t ps) es e =
+      let a = some_then (λ v. option_map (entry (value.str key) v) (views_any_entries ps)) (views_any t) es e in
+      let b = some_map (entry (value.str key) a.0) (views_any_entries ps) es a.2 in
+      subst (λ x. norm_entries x ≡ x) b.2 (λ i. entry (value.str key) ((any_normal t a.0 a.1).0 i) (any_entries_normal ps b.0 b.1 i))
+
 leaf_normal : (k : LeafKind) (t : Tree) (v : Value) → views_leaf k t ≡ Some v → IsNormal t v
+leaf_normal anything t v e = any_normal t v e
+leaf_normal ignored t v e = absurd cc
 leaf_normal booleans (boolean b) v e = subst (IsNormal (boolean b)) (some_is (value.boolean b) v e) (refl, λ h. absurd cc)
 leaf_normal booleans t v e = absurd cc
 leaf_normal (numbers type) (int32 n) v e = number_normal type n (int32 n) v e
@@ -179,9 +285,6 @@ field_normal : (s : Form) (o : Option Tree) (v : Value) → ((t : Tree) → view
 field_normal s None v found e = absent_normal s v e
 field_normal s (Some t) v found e = (found t e).0
 
-no_sequence : (vs : Items) → option_map array (means_items vs) ≡ Some null → ⊥
-no_sequence vs e = let m = some_map array (means_items vs) null e in absurd cc
-
 no_structure : (name : Utf8) (vs : FieldValues) → means (value.structure name vs) ≡ Some null → ⊥
 no_structure name vs e =
     let u = unreserved (reserved_kind name) (option_map document (means_fields vs)) null e in
@@ -194,6 +297,22 @@ items_normal s each (tree.tree t ts) vs e =
     let a = some_then (λ v. option_map (item v) (views_items (views s) ts)) (views s t) vs e in
     let b = some_map (item a.0) (views_items (views s) ts) vs a.2 in
     subst (λ x. norm_items x ≡ x) b.2 (λ i. item ((each t a.0 a.1).0 i) (items_normal s each ts b.0 b.1 i))
+
+leaf_key_normal : (k : LeafKind) (key : Utf8) (v : Value) → views_leaf_key k key ≡ Some v → norm v ≡ v
+leaf_key_normal texts key v e = subst (λ x. norm x ≡ x) (some_is (value.str key) v e) refl
+leaf_key_normal k key v e = absurd cc
+
+key_normal : (s : Form) (key : Utf8) (v : Value) → views_key s key ≡ Some v → norm v ≡ v
+key_normal (leaf l) key v e = leaf_key_normal (leaf_kind l) key v e
+key_normal s key v e = absurd cc
+
+entries_normal : (key s : Form) → ((t : Tree) (v : Value) → views s t ≡ Some v → IsNormal t v) → (ps : Pairs) (es : Entries) → views_entries (views_key key) (views s) ps ≡ Some es → norm_entries es ≡ es
+entries_normal key s each no_pairs es e = subst (λ x. norm_entries x ≡ x) (some_is no_entries es e) refl
+entries_normal key s each (pair name t ps) es e =
+    let a = some_then (λ k. option_and_then (λ v. option_map (entry k v) (views_entries (views_key key) (views s) ps)) (views s t)) (views_key key name) es e in
+    let b = some_then (λ v. option_map (entry a.0 v) (views_entries (views_key key) (views s) ps)) (views s t) es a.2 in
+    let m = some_map (entry a.0 b.0) (views_entries (views_key key) (views s) ps) es b.2 in
+    subst (λ x. norm_entries x ≡ x) m.2 (λ i. entry (key_normal key name a.0 a.1 i) ((each t b.0 b.1).0 i) (entries_normal key s each ps m.0 m.1 i))
 
 mutual
   views_normal : (s : Form) (t : Tree) (v : Value) → views s t ≡ Some v → IsNormal t v
@@ -209,6 +328,10 @@ mutual
       let b = some_map value.sequence (views_items (views s) ts) v e in
       subst (IsNormal (array ts)) b.2 (ap value.sequence (items_normal s (λ t w. views_normal s t w) ts b.0 b.1), λ h. absurd (no_sequence b.0 h))
   views_normal (sequence s) t v e = absurd cc
+  views_normal (map key s) (document ps) v e =
+      let b = some_map value.map (views_entries (views_key key) (views s) ps) v e in
+      subst (IsNormal (document ps)) b.2 (ap value.map (entries_normal key s (λ t w. views_normal s t w) ps b.0 b.1), λ h. absurd (no_map b.0 h))
+  views_normal (map key s) t v e = absurd cc
   views_normal (structure name fs) (document ps) v e =
       let b = some_map (value.structure name) (views_fields fs ps) v e in
       subst (IsNormal (document ps)) b.2 (ap (value.structure name) (fields_normal fs ps b.0 b.1), λ h. absurd (no_structure name b.0 h))

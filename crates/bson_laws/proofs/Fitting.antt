@@ -1,0 +1,40 @@
+-- What fits a leaf, of whatever form the value is.
+use Rattle.bson_shape.specs.Form.{leaf}
+use Rattle.bson_shape.specs.declared.leaf.Leaf.{Leaf}
+use Rattle.bson_datum.specs.Value.{Value, boolean, integer, double, character, str, bytes, none, some, unit, unit_structure, newtype, sequence, map, structure}
+use Rattle.bson_laws.specs.Leaves.{leaf_kind}
+use Rattle.bson_laws.specs.Fits.{FitsLeaf, Fits}
+
+-- what fits a leaf is a value of what the leaf takes
+pub fits_leaf : (v : Value) (l : Leaf) → Fits v (leaf l) → FitsLeaf (leaf_kind l) v
+fits_leaf (boolean b) l f = f
+fits_leaf (integer type n) l f = f
+fits_leaf (double bits) l f = f
+fits_leaf (character c) l f = f
+fits_leaf (str t) l f = f
+fits_leaf (bytes bs) l f = f
+fits_leaf none l f = f
+fits_leaf (some v) l f = f
+fits_leaf unit l f = f
+fits_leaf (unit_structure name) l f = f
+fits_leaf (newtype name v) l f = f
+fits_leaf (sequence vs) l f = f
+fits_leaf (map es) l f = f
+fits_leaf (structure name fs) l f = f
+
+-- and a value of what a leaf takes fits it
+pub leaf_fits : (v : Value) (l : Leaf) → FitsLeaf (leaf_kind l) v → Fits v (leaf l)
+leaf_fits (boolean b) l f = f
+leaf_fits (integer type n) l f = f
+leaf_fits (double bits) l f = f
+leaf_fits (character c) l f = f
+leaf_fits (str t) l f = f
+leaf_fits (bytes bs) l f = f
+leaf_fits none l f = f
+leaf_fits (some v) l f = f
+leaf_fits unit l f = f
+leaf_fits (unit_structure name) l f = f
+leaf_fits (newtype name v) l f = f
+leaf_fits (sequence vs) l f = f
+leaf_fits (map es) l f = f
+leaf_fits (structure name fs) l f = f
