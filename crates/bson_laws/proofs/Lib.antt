@@ -11,6 +11,11 @@ pub mod Ignored
 pub mod Filled
 pub mod Viewed
 pub mod Writable
+pub mod Keys
+pub mod ItemsWritten
+pub mod EntriesWritten
+pub mod LeavesWritten
+pub mod FieldsWritten
 pub mod Items
 pub mod Entries
 pub mod Unshaped

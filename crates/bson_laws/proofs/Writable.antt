@@ -1,10 +1,9 @@
--- What is read for a leaf is written, unless it is a byte string that is too long.
-use Rattle.std.proofs.Common.{◌≡◌, ℕ, ℤ, pos, negsuc, suc, ◌-◌, ◌^◌, length, Bool, true, false, cond, Option, Some, None, Result, Ok, Err, refl, ap, subst, ◌∙◌, arith, eqb, ltb}
+-- What is written, unless a byte string in it is too long: chains of steps, numbers, byte strings, and the numbers that elements hold.
+use Rattle.std.proofs.Common.{◌≡◌, ℕ, ℤ, pos, negsuc, suc, ◌-◌, ◌^◌, length, Bool, true, false, cond, Result, Ok, Err, refl, ap, subst, ◌∙◌, arith, eqb, ltb}
 use Rattle.std.proofs.lemmas.Bool.{ltb-true}
 use Rattle.std.proofs.lemmas.Int.{ints}
 use Rattle.std.specs.Prelude.{int_lt, nat_lt, ◌&&◌}
 use Rattle.std.specs.Int.{w32, w64, from_le_bytes}
-use Rattle.std.specs.Str.{chars}
 use Rattle.bson_base.specs.Text.{Bytes, Utf8, has_zero}
 use Rattle.bson_base.specs.Outcome.{◌>>=◌, result_map}
 use Rattle.bson_base.specs.Sound.{max_binary}
@@ -16,14 +15,11 @@ use Rattle.bson_rawdoc.specs.Numbers.{int32_in, int64_in}
 use Rattle.bson_rawdoc.specs.RawValue as raw_value
 use Rattle.bson_rawdoc.specs.RawValue.{RawValue, value_in}
 use Rattle.bson_rawdoc.specs.declared.raw.Error as raw_error
-use Rattle.bson_datum.specs.Value as value
-use Rattle.bson_datum.specs.Value.{IntegerType, i64, greatest, in_range, written_as, Value}
-use Rattle.bson_datum.specs.Cause.{out_of_range, too_deep, binary_too_long}
+use Rattle.bson_datum.specs.Value.{i64, greatest, Value}
+use Rattle.bson_datum.specs.Cause.{too_deep, binary_too_long}
 use Rattle.bson_datum.specs.Refusal.{Segment, WriteFault, unwritable, unsigned_exceeds, Refusal, here, inside, under}
-use Rattle.bson_laws.specs.Leaves.{LeafKind, booleans, numbers, doubles, characters, texts, byte_strings, byte_buffers, units}
-use Rattle.bson_laws.specs.Reads.{refused, faultless, is_container, with_level, judged, boolean_of, double_of, string_of, text_of, bytes_of, buffer_of, null_of, read_character, read_leaf}
+use Rattle.bson_laws.specs.Reads.{Reading, refused, faultless, is_container, with_level, judged, reads_judged}
 use Rattle.bson_laws.specs.Spell.{Writing, named, spell_number, spell_bytes, spell, IsWrittenUnlessLong}
-use Rattle.bson_laws.specs.Views.{one_character}
 
 -- ---- chains of steps
 
@@ -83,7 +79,7 @@ wide_written : (b : Bool) (n : ℤ) → b ≡ false → IsWrittenUnlessLong (con
 wide_written true n e = absurd cc
 wide_written false n e = tt
 
-number_written : (k : ElementType) (n : ℤ) → IsSmall n → IsWrittenUnlessLong (spell_number k n)
+pub number_written : (k : ElementType) (n : ℤ) → IsSmall n → IsWrittenUnlessLong (spell_number k n)
 number_written Int32 n e = tt
 number_written k n e = wide_written _ n e
 
@@ -94,7 +90,7 @@ bytes_either : (bs : Bytes) (b : Bool) → nat_lt (max_binary 0) (length bs) ≡
 bytes_either bs true e = (length bs, refl, ltb-true _ _ e)
 bytes_either bs false e = tt
 
-bytes_written : (bs : Bytes) → IsWrittenUnlessLong (spell_bytes bs)
+pub bytes_written : (bs : Bytes) → IsWrittenUnlessLong (spell_bytes bs)
 bytes_written bs = bytes_either bs (nat_lt (max_binary 0) (length bs)) refl
 
 -- ---- the value of an element
@@ -111,7 +107,7 @@ mapped_small f r v h e = let m = map_ok f r v e in subst HoldsSmall m.2 (h m.0)
 other_small : (w v : RawValue) → HoldsSmall w → done {E = raw_error.Error} w ≡ Ok v → HoldsSmall v
 other_small w v h e = subst HoldsSmall (ok_is w v e) h
 
-pub value_small : (k : ElementType) (bytes : Bytes) (v : RawValue) → value_in k bytes ≡ Ok v → HoldsSmall v
+value_small : (k : ElementType) (bytes : Bytes) (v : RawValue) → value_in k bytes ≡ Ok v → HoldsSmall v
 value_small Double bytes v e = other_small _ v tt e
 value_small String bytes v e = mapped_small _ _ v (λ x. tt) e
 value_small EmbeddedDocument bytes v e = mapped_small _ _ v (λ x. tt) e
@@ -148,26 +144,8 @@ faultless_is (Err f) v e = absurd cc
 pub judged_is : (levels : ℕ) (r : Result RawValue raw_error.Error) (v : RawValue) → judged levels r ≡ Ok v → r ≡ Ok v
 judged_is levels r v e = let b = bind_ok (faultless r) (with_level levels) v e in faultless_is r v (b.1 ∙ ap Ok (level_is levels b.0 v b.2))
 
--- ---- leaves
-
-range_written : (type : IntegerType) (n : ℤ) (b : Bool) (v : Value) (levels : ℕ) → IsSmall n → cond b (Ok (value.integer type n)) (refused (out_of_range n)) ≡ Ok v → Written levels v
-range_written type n true v levels s e = subst (Written levels) (ok_is (value.integer type n) v e) (number_written (written_as type) n s)
-range_written type n false v levels s e = absurd cc
-
-character_written : (o : Option ℕ) (v : Value) (levels : ℕ) → read_character o ≡ Ok v → Written levels v
-character_written (Some c) v levels e = subst (Written levels) (ok_is (value.character c) v e) tt
-character_written None v levels e = absurd cc
-
-pub leaf_written : (k : LeafKind) (r : RawValue) (v : Value) (left levels : ℕ) → HoldsSmall r → read_leaf left k r ≡ Ok v → Written levels v
-leaf_written booleans r v left levels s e = let m = map_ok value.boolean (boolean_of r) v e in subst (Written levels) m.2 tt
-leaf_written (numbers type) (raw_value.int32 n) v left levels s e = range_written type n (in_range type n) v levels s e
-leaf_written (numbers type) (raw_value.int64 n) v left levels s e = range_written type n (in_range type n) v levels s e
-leaf_written (numbers type) r v left levels s e = absurd cc
-leaf_written doubles r v left levels s e = let m = map_ok value.double (double_of r) v e in subst (Written levels) m.2 tt
-leaf_written characters r v left levels s e =
-    let b = bind_ok (string_of r) (λ t. read_character (one_character (chars t))) v e in
-    character_written (one_character (chars b.0)) v levels b.2
-leaf_written texts r v left levels s e = let m = map_ok value.str (text_of r) v e in subst (Written levels) m.2 tt
-leaf_written byte_strings r v left levels s e = let m = map_ok value.bytes (bytes_of r) v e in subst (Written levels) m.2 (bytes_written m.0)
-leaf_written byte_buffers r v left levels s e = let m = map_ok value.bytes (buffer_of left r) v e in subst (Written levels) m.2 (bytes_written m.0)
-leaf_written units r v left levels s e = let m = map_ok (λ _. value.unit) (null_of r) v e in subst (Written levels) m.2 tt
+-- what is read from a value that is judged is written, where what is read from each value is whose number is one of 64 bits
+pub judged_written : (levels : ℕ) (read : RawValue → Reading Value) (k : ElementType) (b : Bytes) (v : Value)
+    → ((r : RawValue) (w : Value) → HoldsSmall r → read r ≡ Ok w → Written levels w) → reads_judged levels read k b ≡ Ok v → Written levels v
+judged_written levels read k b v each e =
+    let r = bind_ok (judged levels (value_in k b)) read v e in each r.0 v (value_small k b r.0 (judged_is levels (value_in k b) r.0 r.1)) r.2

@@ -6,7 +6,7 @@ use Rattle.std.proofs.lemmas.Bool.{eqb-true}
 use Rattle.bson_base.specs.Sound.{IsSound}
 use Rattle.bson_base.specs.Text.{Bytes, Utf8}
 use Rattle.bson_base.specs.Tree.{Tree, enc}
-use Rattle.bson_shape.specs.Form.{Form, leaf, optional, newtype, unit_structure, sequence, structure}
+use Rattle.bson_shape.specs.Form.{Form, leaf, optional, newtype, unit_structure, sequence, map, structure}
 use Rattle.bson_shape.specs.Machine.{parsed}
 use Rattle.bson_shape.specs.Makers.{IsShape}
 use Rattle.bson_shape.proofs.Texts.{parsed-shape}
@@ -47,6 +47,8 @@ begins_no_option true (c ∷ name) rest e = not_both (nat_eq 45 c) _ (bare_no_da
 
 -- no notation begins as an option does
 pub no_option : (s : Form) → is_option (text s) ≡ false
+no_option (leaf leaves.Any) = refl
+no_option (leaf leaves.Ignored) = refl
 no_option (leaf leaves.I8) = refl
 no_option (leaf leaves.I16) = refl
 no_option (leaf leaves.I32) = refl
@@ -67,6 +69,7 @@ no_option (optional s) = refl
 no_option (newtype name s) = begins_no_option (bare name) name _ refl
 no_option (unit_structure name) = begins_no_option (bare name) name _ refl
 no_option (sequence s) = refl
+no_option (map key s) = refl
 no_option (structure [] fs) = refl
 no_option (structure (c ∷ name) fs) = begins_no_option (bare (c ∷ name)) (c ∷ name) _ refl
 

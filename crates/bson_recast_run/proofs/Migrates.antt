@@ -11,11 +11,11 @@ use Rattle.bson_shape.specs.Makers.{IsShape}
 use Rattle.bson_datum.specs.Value.{Value}
 use Rattle.bson_datum.specs.Refusal.{ReadFault, WriteFault, Failure, bare, placed}
 use Rattle.bson_datum.specs.ErrorView.{read_failure, write_failure}
-use Rattle.bson_laws.specs.Names.{HasCStringNames}
 use Rattle.bson_laws.specs.Means.{means}
 use Rattle.bson_laws.specs.Reads.{reads_document}
 use Rattle.bson_laws.specs.Spell.{Writing, IsWrittenUnlessLong, spell_document, size}
 use Rattle.bson_laws.specs.Views.{views}
+use Rattle.bson_laws.specs.Writable.{IsWritable}
 use Rattle.bson_laws.proofs.ReadBack.{views_reads}
 use Rattle.bson_laws.proofs.Rewritten.{document_written}
 use Rattle.bson_laws.proofs.Spelled.{spell_means}
@@ -78,14 +78,14 @@ module _ (s : Form) (bytes : Bytes) (shape : IsShape s) where
   due_for_size (Ok t) f u due = absurd due
   due_for_size (Err r) f u due = inr (r.path, u.0, due ∙ ap (λ (x : WriteFault). placed r.path (bare x)) u.1, u.2)
 
-  too_large : HasCStringNames s → (f : Failure WriteFault) (h : WriteRefuses s bytes f) → IsTooLarge s bytes f
-  too_large names f h = by_cause h.refused where
+  too_large : IsWritable s → (f : Failure WriteFault) (h : WriteRefuses s bytes f) → IsTooLarge s bytes f
+  too_large writable f h = by_cause h.refused where
     by_cause : IsDue (spell_document h.value) f ⊎ ((f ≡ too_long_failure) × (max_bytes < size h.value)) → IsTooLarge s bytes f
-    by_cause (inl due) = due_for_size (spell_document h.value) f (document_written s bytes h.value shape names h.read) due
+    by_cause (inl due) = due_for_size (spell_document h.value) f (document_written s bytes h.value shape writable h.read) due
     by_cause (inr long) = inl (long.0, λ d is. subst (λ x. max_bytes < size x) (value_is h.value d h.read is) long.1)
 
-  pub for_size : HasCStringNames s → (r : Result (Vec ℕ) RecastError) → IsRecast s bytes r → IsForSize s bytes r
-  for_size names (Ok v) h = tt
-  for_size names (Err (Read e)) h = tt
-  for_size names (Err (Write e)) h = too_large names (write_failure e) h
-  for_size names (Err NoMemory) h = tt
+  pub for_size : IsWritable s → (r : Result (Vec ℕ) RecastError) → IsRecast s bytes r → IsForSize s bytes r
+  for_size writable (Ok v) h = tt
+  for_size writable (Err (Read e)) h = tt
+  for_size writable (Err (Write e)) h = too_large writable (write_failure e) h
+  for_size writable (Err NoMemory) h = tt

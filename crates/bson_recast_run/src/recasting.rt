@@ -3,9 +3,9 @@ ghost use Rattle.bson_base.specs.Sound.{IsSound};
 ghost use Rattle.bson_base.specs.Tree.{Tree, enc};
 ghost use Rattle.bson_datum.specs.Value.{Value};
 ghost use Rattle.bson_laws.specs.Views.{views};
-ghost use Rattle.bson_laws.specs.Names.{HasCStringNames};
 ghost use Rattle.bson_laws.specs.Means.{means};
 ghost use Rattle.bson_laws.specs.Plain.{IsPlain};
+ghost use Rattle.bson_laws.specs.Writable.{IsWritable};
 ghost use Rattle.bson_recast_run.specs.Recasting.{IsRecast, GivesBytes, IsForSize, IsReadError, IsWriteError};
 
 use bson_datum::{Shape, de, ser};
@@ -29,17 +29,20 @@ pub enum RecastError {
 /// # Errors
 ///
 /// `Read` exactly where `from_slice_at` refuses the bytes at the shape, `Write` exactly where it reads a value that
-/// `to_vec_at` refuses, each with that call's error; `NoMemory` where memory ran out. What was read is refused by the writer
-/// for its size alone, unless a field of the shape has a zero character in its name and is missing at an option: a number may take more bytes when it is written than it took before, and a text that is read as a byte
-/// string is written as a binary, which may have no more than 16777216 bytes.
+/// `to_vec_at` refuses, each with that call's error; `NoMemory` where memory ran out.
+///
+/// What was read is refused by the writer for its size alone, where no field of the shape has a zero character in its name, the
+/// keys of its maps are `str` or `string`, and the document itself is not read at `ignored`: a number may take more bytes when it
+/// is written than it took before, and a text that is read as a byte string is written as a binary, which may have no more than
+/// 16777216 bytes.
 pub fn recast(alloc: Global, shape: &Shape, bytes: &[u8]) -> Result<Vec<u8>, RecastError>
     // What is read at the shape is written.
     ensures exact { IsRecast shape.now bytes.now result }
     // A sound document, whose value at a plain shape means a sound document, becomes that document.
     ensures migrates { (t u : Tree) (d : Value) → IsPlain shape.now → IsSound t → views shape.now t ≡ Some d → means d ≡ Some u → IsSound u
         → bytes.now ≡ enc t → GivesBytes (enc u) result }
-    // What was read at a shape whose names may be keys is refused by the writer for its size alone.
-    ensures too_long { HasCStringNames shape.now → IsForSize shape.now bytes.now result }
+    // What was read at a shape whose keys can be written, and which keeps the document, is refused by the writer for its size alone.
+    ensures too_long { IsWritable shape.now → IsForSize shape.now bytes.now result }
 {
     shape.known();
     through(alloc, shape, bytes)
@@ -77,7 +80,8 @@ fn unwritten(e: ser::Error) -> RecastError
 {
     match e {
         ser::Error::NoMemory => RecastError::NoMemory,
-        e @ (ser::Error::InvalidCString(_)
+        e @ (ser::Error::InvalidDocumentKey(_)
+        | ser::Error::InvalidCString(_)
         | ser::Error::UnsignedIntegerExceededRange(_)
         | ser::Error::SerializationError { .. }
         | ser::Error::WithPath { .. }) => RecastError::Write(e),

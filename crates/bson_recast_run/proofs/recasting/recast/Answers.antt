@@ -5,4 +5,4 @@ pub returns-clause-migrates : goal.returns-clause-migrates
 returns-clause-migrates c = λ t u d plain sound view mean clean is. migrates c.args.shape.now c.args.bytes.now t u d c.known.ensures.shape sound view mean clean is c.through.result c.through.ensures
 
 pub returns-clause-too_long : goal.returns-clause-too_long
-returns-clause-too_long c = λ names. for_size c.args.shape.now c.args.bytes.now c.known.ensures.shape names c.through.result c.through.ensures
+returns-clause-too_long c = λ writable. for_size c.args.shape.now c.args.bytes.now c.known.ensures.shape writable c.through.result c.through.ensures
