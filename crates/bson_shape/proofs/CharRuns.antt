@@ -5,7 +5,7 @@ use lib.Dec.{ltb}
 use Rattle.std.proofs.lemmas.Str.{encode_ascii, length-encode, len_utf8_bounds}
 use Rattle.bson_base.specs.Text.{Utf8}
 use Rattle.bson_shape.specs.Notation.{begins_bare, in_bare, names_form, is_escaped}
-use Rattle.bson_shape.specs.Machine.{Refusal, Not_notation, Open, Level, In_field, In_option, In_sequence, In_newtype, Owner, Form_at, Field_of, Mode, Form_due, First_field, Field_due, Bare, Quoted, Escape, Named, Done, State, ◌>>=◌, wrapped, enclosed, form_ended, begins_name, begins_form, form_due, field_due, first_field, named, word_ended, leaf_ended, bare_name, quoted_name, escape, step, no_more, no_more_behind, other_character, run}
+use Rattle.bson_shape.specs.Machine.{Refusal, Not_notation, Open, Level, In_field, In_option, In_brackets, In_map, In_newtype, Owner, Form_at, Field_of, Mode, Form_due, First_field, Field_due, Bare, Quoted, Escape, Named, Done, State, ◌>>=◌, wrapped, enclosed, form_ended, begins_name, begins_form, form_due, field_due, first_field, named, word_ended, leaf_ended, bare_name, quoted_name, escape, step, no_more, no_more_behind, other_character, run}
 use Rattle.bson_shape.proofs.NameRuns.{run_step, run_refused}
 use Rattle.std.proofs.lemmas.Bool.Decides.{nat_tests}
 use Rattle.bson_shape.specs.Answers.{Gives}
@@ -56,7 +56,8 @@ not_naming b h = grind (arith, nat_tests)
 enclosed_refused : (at : ℕ) (f : Form) (st : List Level) (b : ℕ) → 128 ≤ b → enclosed at f st b ≡ Err (Not_notation at)
 enclosed_refused at f [] b h = refl
 enclosed_refused at f (In_option place ∷ st) b h = refl
-enclosed_refused at f (In_sequence place ∷ st) b h = rw (not_byte b 93 h (omega arith)) refl
+enclosed_refused at f (In_brackets place ∷ st) b h = rw (not_byte b 93 h (omega arith), not_byte b 58 h (omega arith)) refl
+enclosed_refused at f (In_map place k ∷ st) b h = rw (not_byte b 93 h (omega arith)) refl
 enclosed_refused at f (In_newtype place n ∷ st) b h = refl
 enclosed_refused at f (In_field o n ∷ st) b h = rw (not_byte b 44 h (omega arith), not_byte b 125 h (omega arith)) refl
 

@@ -3,12 +3,12 @@ use Rattle.std.proofs.Common.{◌≡◌, ℕ, Bool, true, false, ◌&&◌, List,
 use Rattle.std.specs.List.{list_all}
 use Rattle.std.specs.Str.{is_utf8}
 use Rattle.bson_base.specs.Text.{Utf8}
-use Rattle.bson_shape.specs.Form.{Form, optional, sequence, newtype, unit_structure, structure, no_fields}
+use Rattle.bson_shape.specs.Form.{Form, optional, sequence, map, newtype, unit_structure, structure, no_fields}
 use Rattle.bson_shape.specs.Notation.{begins_bare, in_bare, bare, escaped, quoted, name_text, text}
-use Rattle.bson_shape.specs.Machine.{Open, Level, In_field, In_option, In_sequence, In_newtype, Owner, Form_at, Field_of, Mode, Form_due, First_field, Field_due, Bare, Quoted, Escape, Named, Done, State, grown}
+use Rattle.bson_shape.specs.Machine.{Open, Level, In_field, In_option, In_brackets, In_map, In_newtype, Owner, Form_at, Field_of, Mode, Form_due, First_field, Field_due, Bare, Quoted, Escape, Named, Done, State, grown}
 use Rattle.bson_shape.specs.Fronts.{HasTextNames, goes_on, BeginsNotation}
 use Rattle.bson_shape.proofs.TextStates.{TextOpen, TextOwner, TextLevels, TextMode, TextState, text-nil, text-one, text-push, texts-snoc}
-use Rattle.bson_shape.proofs.States.{sep, open_text, owner_text, levels_text, mode_text, written, ValidMode, closed_text, grown_text, levels_grown, levels_inner, levels_named, levels_item, name-bare, name-quoted}
+use Rattle.bson_shape.proofs.States.{sep, open_text, owner_text, levels_text, mode_text, written, ValidMode, closed_text, grown_text, levels_grown, levels_inner, levels_named, levels_item, levels_value, name-bare, name-quoted}
 use Rattle.bson_shape.proofs.Steps.{escaped-plain, escaped-marked}
 
 TextOpen-grown : (o : Open) (name : Utf8) (f : Form) → TextOpen o → is_utf8 name ≡ true → HasTextNames f → TextOpen (grown o name f)
@@ -41,9 +41,12 @@ close_levels (In_field around name ∷ st) f v h =
     let same : levels_text st ++ text (structure o.name o.fields) ≡ (levels_text (l ∷ st) ++ text f) ++ 125 ∷ [] =
     ap (λ xs. levels_text st ++ xs) (closed_text o) ∙ sym (append_assoc (levels_text st) (open_text o) (125 ∷ [])) ∙ ap (λ xs. xs ++ 125 ∷ []) (sym (levels_grown around name st f)) in
     before_byte (levels_text (l ∷ st) ++ text f) 125 refl (subst Completion same (close_levels st (structure o.name o.fields) v.2 (TextOpen-grown around name f v.0 v.1 h)).whole)
-close_levels (In_sequence place ∷ st) f v h =
-    let l : Level = In_sequence place in
+close_levels (In_brackets place ∷ st) f v h =
+    let l : Level = In_brackets place in
     before_byte (levels_text (l ∷ st) ++ text f) 93 refl (subst Completion (levels_item place st f) (close_levels st (sequence f) v h).whole)
+close_levels (In_map place k ∷ st) f v h =
+    let l : Level = In_map place k in
+    before_byte (levels_text (l ∷ st) ++ text f) 93 refl (subst Completion (levels_value place k f st) (close_levels st (map k f) v.1 (v.0, h)).whole)
 
 -- ---- names
 

@@ -5,14 +5,14 @@ use Rattle.std.proofs.lemmas.Bool.Decides.{nat_tests}
 use Rattle.std.proofs.lemmas.List.Elements.{Contains-append_left, Contains-append_right}
 use Rattle.bson_base.specs.Text.{Utf8}
 use Rattle.bson_base.specs.Reserved.{reserved_kind}
-use Rattle.bson_shape.specs.Form.{Form, leaf, optional, sequence, newtype, unit_structure, structure, Fields, no_fields, field}
+use Rattle.bson_shape.specs.Form.{Form, leaf, optional, sequence, map, newtype, unit_structure, structure, Fields, no_fields, field}
 use Rattle.bson_shape.specs.Levels.{levels, deepest}
-use Rattle.bson_shape.specs.Makers.{is_reserved_newtype, repeats, within_levels, made_optional, made_sequence, made_newtype, made_structure}
+use Rattle.bson_shape.specs.Makers.{is_text_key, is_reserved_newtype, repeats, within_levels, made_optional, made_sequence, made_map, made_newtype, made_structure}
 use Rattle.bson_shape.specs.Notation.{text, name_text, struct_name_text, listed, field_texts}
 use Rattle.bson_shape.specs.FirstRefusal.{MakerRefusal, or_else, too_deep, refusal_of, first_refusal, fields_refusal}
 use Rattle.bson_shape.specs.InnerForms.{Inner, inner_forms, field_forms, HasCause, HasFault}
 use Rattle.bson_shape.specs.declared.error.ShapeError.{ShapeError}
-use Rattle.bson_shape.specs.declared.error.ShapeError.TheVariants.{ReservedName, RepeatedName, TooDeep}
+use Rattle.bson_shape.specs.declared.error.ShapeError.TheVariants.{ReservedName, RepeatedName, KeyNotText, TooDeep}
 use Rattle.bson_shape.proofs.Made.{within_levels-few}
 
 -- the first, or the later one
@@ -47,6 +47,13 @@ mutual
   fits (sequence f) at around e =
       let inner = at + 1 in
       omega (arith, fits f inner (around + 1) (item_none at around (first_refusal inner (around + 1) f) (refusal_of (inner + length (text f) + 1) at (made_sequence f)) e))
+  fits (map k v) at around e =
+      let key = at + 1 in
+      let value = key + length (text k) + 1 in
+      let a = first_refusal key (around + 1) k in
+      let b = first_refusal value (around + 1) v in
+      let both = neither a b (item_none at around (or_else a b) (refusal_of (value + length (text v) + 1) at (made_map k v)) e) in
+      omega (arith, fits k key (around + 1) both.0, fits v value (around + 1) both.1)
   fits (newtype n f) at around e =
       let inner = at + length (name_text n) + 1 in
       omega (arith, fits f inner (around + 1) (item_none at around (first_refusal inner (around + 1) f) (refusal_of (inner + length (text f)) at (made_newtype n f)) e))
@@ -101,6 +108,11 @@ here_fault i rest met cause r holds e =
 none_made : (f : Form) (met at : ℕ) (r : MakerRefusal) → levels f ≤ 512 → refusal_of met at (within_levels f) ≡ Some r → ⊥
 none_made f met at r few e = let none : refusal_of met at (within_levels f) ≡ None = ap (refusal_of met at) (within_levels-few f few) in let g : (let x : Option MakerRefusal = None in x) ≡ Some r = sym none ∙ e in cc
 
+map_fault : (a : Bool) (k v : Form) (met at around : ℕ) (rest : List Inner) (r : MakerRefusal) → is_text_key k ≡ a → levels (map k v) ≤ 512
+    → refusal_of met at (cond a (within_levels (map k v)) (Err KeyNotText)) ≡ Some r → FaultIn (record { place = at; around = around; form = map k v } ∷ rest) r
+map_fault true k v met at around rest r p few e = absurd (none_made (map k v) met at r few e)
+map_fault false k v met at around rest r p few e = here_fault (record { place = at; around = around; form = map k v }) rest met KeyNotText r p e
+
 newtype_fault : (a : Bool) (n : Utf8) (f : Form) (met at around : ℕ) (rest : List Inner) (r : MakerRefusal) → is_reserved_newtype n ≡ a → levels (newtype n f) ≤ 512
     → refusal_of met at (cond a (Err ReservedName) (within_levels (newtype n f))) ≡ Some r → FaultIn (record { place = at; around = around; form = newtype n f } ∷ rest) r
 newtype_fault true n f met at around rest r p few e = here_fault (record { place = at; around = around; form = newtype n f }) rest met ReservedName r p e
@@ -146,6 +158,21 @@ mutual
       around_fault (sequence f) (inner_forms inner (around + 1) f) (first_refusal inner (around + 1) f) (refusal_of met at (made_sequence f)) at around r few
       (λ less g. form_fault f inner (around + 1) r less g)
       (λ less none g. absurd (none_made (sequence f) met at r (omega (arith, fits f inner (around + 1) none)) g))
+      e
+  form_fault (map k v) at around r few e =
+      let key = at + 1 in
+      let value = key + length (text k) + 1 in
+      let met = value + length (text v) + 1 in
+      let a = first_refusal key (around + 1) k in
+      let b = first_refusal value (around + 1) v in
+      let in_key = inner_forms key (around + 1) k in
+      let in_value = inner_forms value (around + 1) v in
+      around_fault (map k v) (in_key ++ in_value) (or_else a b) (refusal_of met at (made_map k v)) at around r few
+      (λ less g. elim (one_of a b r g) [
+        | inl h ↦ in_first in_key in_value r (form_fault k key (around + 1) r less h)
+        | inr h ↦ in_later in_key in_value r (form_fault v value (around + 1) r less h.1)
+      ])
+      (λ less none g. let both = neither a b none in map_fault (is_text_key k) k v met at around (in_key ++ in_value) r refl (omega (arith, fits k key (around + 1) both.0, fits v value (around + 1) both.1)) g)
       e
   form_fault (newtype n f) at around r few e =
       let inner = at + length (name_text n) + 1 in

@@ -2,18 +2,18 @@
 use Rattle.std.proofs.Common.{◌≡◌, ℕ, ◌+◌, Bool, true, false, cond, ◌||◌, List, [], ◌∷◌, ◌++◌, length, Option, Some, None, Result, Ok, Err, refl, sym, ap, ◌∙◌, subst, arith, append_assoc, append-nil, length-append}
 use Rattle.std.specs.Prelude.{nat_le, IfOk}
 use Rattle.bson_base.specs.Text.{Utf8}
-use Rattle.bson_shape.specs.Form.{Form, leaf, optional, sequence, newtype, unit_structure, structure, Fields, no_fields, field, joined}
+use Rattle.bson_shape.specs.Form.{Form, leaf, optional, sequence, map, newtype, unit_structure, structure, Fields, no_fields, field, joined}
 use Rattle.bson_shape.specs.Leaf.{word}
 use Rattle.bson_shape.specs.declared.leaf.Leaf.{Leaf}
-use Rattle.bson_shape.specs.Makers.{made_optional, made_sequence, made_newtype, made_structure}
+use Rattle.bson_shape.specs.Makers.{made_optional, made_sequence, made_map, made_newtype, made_structure}
 use Rattle.bson_shape.specs.declared.error.ShapeError.{ShapeError}
 use Rattle.bson_shape.specs.declared.error.ShapeError.TheVariants.{TooDeep}
 use Rattle.std.specs.List.{list_all}
 use Rattle.bson_shape.specs.Notation.{begins_bare, in_bare, bare, names_form, escaped, quoted, name_text, struct_name_text, after_commas, listed, text, field_texts}
 use Rattle.bson_shape.specs.FirstRefusal.{MakerRefusal, or_else, too_deep, refusal_of, first_refusal, fields_refusal}
 use Rattle.bson_shape.specs.Fronts.{goes_on}
-use Rattle.bson_shape.specs.Machine.{Refusal, Refused, Open, Level, In_field, In_option, In_sequence, In_newtype, Owner, Form_at, Field_of, Mode, Form_due, First_field, Field_due, Bare, Named, Done, State, ◌>>=◌, opened, grown, made, Ended, wrapped, closed, enclosed, form_ended, begins_name, name_begun, opens_form, begins_form, form_begun, form_due, field_due, first_field, word_ended, bare_name, alone, step, run, finish}
-use Rattle.bson_shape.proofs.Made.{within_levels-made, made_newtype-made, made_structure-made}
+use Rattle.bson_shape.specs.Machine.{Refusal, Refused, Open, Level, In_field, In_option, In_brackets, In_map, In_newtype, Owner, Form_at, Field_of, Mode, Form_due, First_field, Field_due, Bare, Named, Done, State, ◌>>=◌, opened, grown, made, Ended, wrapped, closed, enclosed, form_ended, begins_name, name_begun, opens_form, begins_form, form_begun, form_due, field_due, first_field, word_ended, bare_name, alone, step, run, finish}
+use Rattle.bson_shape.proofs.Made.{within_levels-made, made_map-made, made_newtype-made, made_structure-made}
 use Rattle.bson_shape.proofs.Shapes.{joined-assoc, joined-none}
 use Rattle.bson_shape.proofs.Words.{and_true, or_false, differs, of_word-word, bare-word}
 use Rattle.bson_shape.proofs.Loop.{bound_assoc}
@@ -118,9 +118,18 @@ unfolding step form_ended wrapped
 close_step f o n st at = refl
 
 -- the closing bracket of a sequence that begins at the place
-item_step : (f : Form) (place : ℕ) (st : List Level) (at : ℕ) → step at (Done f) (In_sequence place ∷ st) 93 ≡ closed at place st (made_sequence f)
+item_step : (f : Form) (place : ℕ) (st : List Level) (at : ℕ) → step at (Done f) (In_brackets place ∷ st) 93 ≡ closed at place st (made_sequence f)
 unfolding step form_ended wrapped
 item_step f place st at = refl
+
+-- the colon of a map that begins at the place, and its closing bracket
+key_step : (k : Form) (place : ℕ) (st : List Level) (at : ℕ) → step at (Done k) (In_brackets place ∷ st) 58 ≡ Ok (Form_due, In_map place k ∷ st)
+unfolding step form_ended wrapped
+key_step k place st at = refl
+
+value_step : (k v : Form) (place : ℕ) (st : List Level) (at : ℕ) → step at (Done v) (In_map place k ∷ st) 93 ≡ closed at place st (made_map k v)
+unfolding step form_ended wrapped
+value_step k v place st at = refl
 
 -- ---- where a field is due
 
@@ -181,7 +190,7 @@ deep_step b at st h d = rw (h, d) refl
 form_begins : (at : ℕ) (st : List Level) → nat_le 512 (length st) ≡ false → BeginsName at Form_due (Form_at at) st
 form_begins at st d b h =
     form_step b at st (ap (λ t. t || opens_form b) h) d
-    ∙ ap (λ (t : Bool × Bool × Bool). Ok (cond t.0 (First_field (opened at []), st) (cond t.1 (Form_due, In_sequence at ∷ st) (cond t.2 (Form_due, In_option at ∷ st) (name_begun (Form_at at) b, st)))))
+    ∙ ap (λ (t : Bool × Bool × Bool). Ok (cond t.0 (First_field (opened at []), st) (cond t.1 (Form_due, In_brackets at ∷ st) (cond t.2 (Form_due, In_option at ∷ st) (name_begun (Form_at at) b, st)))))
     (λ i. (differs begins_name b 123 h refl i, differs begins_name b 91 h refl i, differs begins_name b 63 h refl i))
 
 -- a struct's name and its brace
@@ -224,6 +233,7 @@ text_begins : (f : Form) → Begun (text f)
 text_begins (leaf l) = subst Begun (append-nil (word l)) (bare_begun (word l) [] (bare-word l))
 text_begins (optional f) = record { byte = 63; rest = text f; whole = refl; begins = refl }
 text_begins (sequence f) = record { byte = 91; rest = text f ++ 93 ∷ []; whole = refl; begins = refl }
+text_begins (map k v) = record { byte = 91; rest = text k ++ 58 ∷ (text v ++ 93 ∷ []); whole = refl; begins = refl }
 text_begins (newtype n f) = name_begun_with n (61 ∷ text f)
 text_begins (unit_structure n) = name_begun_with n (33 ∷ [])
 text_begins (structure [] fs) = record { byte = 123; rest = listed (field_texts fs) ++ 125 ∷ []; whole = refl; begins = refl }
@@ -288,6 +298,12 @@ around_read f inner l st rest r last first more =
     ∙ ap (settle (first_refusal inner (length st + 1) f)) more
     ∙ settle_both (first_refusal inner (length st + 1) f) r last
 
+map_length : (k v : Form) → length (text (map k v)) ≡ 1 + length (text k) + 1 + length (text v) + 1
+map_length k v = omega (arith, length-append (text k) (58 ∷ (text v ++ 93 ∷ [])), length-append (text v) (93 ∷ []))
+
+map_group : (key value rest : Utf8) → (key ++ 58 ∷ (value ++ 93 ∷ [])) ++ rest ≡ key ++ 58 ∷ (value ++ 93 ∷ rest)
+map_group key value rest = append_assoc key (58 ∷ (value ++ 93 ∷ [])) rest ∙ ap (λ xs. key ++ 58 ∷ xs) (append_assoc value (93 ∷ []) rest)
+
 mutual
   pub reads_form : (f : Form) (rest : Utf8) (at : ℕ) (st : List Level) → goes_on rest ≡ false → read at (Form_due, st) (text f ++ rest) ≡ settle (first_refusal at (length st) f) (read (at + length (text f)) (Done f, st) rest)
   reads_form (leaf l) rest at st ends =
@@ -306,10 +322,28 @@ mutual
       let x = or_else (first_refusal inner (length st + 1) f) (refusal_of (end + 1) at (made_sequence f)) in
       by_depth (nat_le 512 (length st)) (sequence f) rest at st x refl refl
       (λ d. read_step at Form_due st 91 ((text f ++ 93 ∷ []) ++ rest) _ (form_step 91 at st refl d)
-      ∙ ap (read inner (Form_due, In_sequence at ∷ st)) (append_assoc (text f) (93 ∷ []) rest)
-      ∙ around_read f inner (In_sequence at) st (93 ∷ rest) (refusal_of (end + 1) at (made_sequence f)) (read (end + 1) (Done (sequence f), st) rest) (reads_form f (93 ∷ rest) inner (In_sequence at ∷ st) refl)
-      (closed_read (made_sequence f) (sequence f) (Done f) (In_sequence at ∷ st) st end at 93 rest (within_levels-made (sequence f)) (item_step f at st end))
+      ∙ ap (read inner (Form_due, In_brackets at ∷ st)) (append_assoc (text f) (93 ∷ []) rest)
+      ∙ around_read f inner (In_brackets at) st (93 ∷ rest) (refusal_of (end + 1) at (made_sequence f)) (read (end + 1) (Done (sequence f), st) rest) (reads_form f (93 ∷ rest) inner (In_brackets at ∷ st) refl)
+      (closed_read (made_sequence f) (sequence f) (Done f) (In_brackets at ∷ st) st end at 93 rest (within_levels-made (sequence f)) (item_step f at st end))
       ∙ ap (λ i. settle x (read i (Done (sequence f), st) rest)) (let e : end + 1 ≡ at + length (text (sequence f)) = omega (arith, length-append (text f) (93 ∷ [])) in e))
+  reads_form (map k v) rest at st ends =
+      let key = at + 1 in
+      let colon = key + length (text k) in
+      let value = colon + 1 in
+      let end = value + length (text v) in
+      let a = first_refusal key (length st + 1) k in
+      let b = first_refusal value (length st + 1) v in
+      let made = refusal_of (end + 1) at (made_map k v) in
+      let last = read (end + 1) (Done (map k v), st) rest in
+      by_depth (nat_le 512 (length st)) (map k v) rest at st (or_else (or_else a b) made) refl refl
+      (λ d. read_step at Form_due st 91 ((text k ++ 58 ∷ (text v ++ 93 ∷ [])) ++ rest) _ (form_step 91 at st refl d)
+      ∙ ap (read key (Form_due, In_brackets at ∷ st)) (map_group (text k) (text v) rest)
+      ∙ around_read k key (In_brackets at) st (58 ∷ (text v ++ 93 ∷ rest)) (or_else b made) last (reads_form k (58 ∷ (text v ++ 93 ∷ rest)) key (In_brackets at ∷ st) refl)
+      (read_step colon (Done k) (In_brackets at ∷ st) 58 (text v ++ 93 ∷ rest) _ (key_step k at st colon)
+      ∙ around_read v value (In_map at k) st (93 ∷ rest) made last (reads_form v (93 ∷ rest) value (In_map at k ∷ st) refl)
+      (closed_read (made_map k v) (map k v) (Done v) (In_map at k ∷ st) st end at 93 rest (made_map-made k v) (value_step k v at st end)))
+      ∙ sym (settle_both a (or_else b made) last) ∙ settle_all a b made last
+      ∙ ap (λ i. settle (or_else (or_else a b) made) (read i (Done (map k v), st) rest)) (let e : end + 1 ≡ at + length (text (map k v)) = omega (arith, map_length k v) in e))
   reads_form (newtype n f) rest at st ends =
       let inner = at + length (name_text n) + 1 in
       let end = inner + length (text f) in

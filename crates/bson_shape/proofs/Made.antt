@@ -2,14 +2,14 @@
 use Rattle.std.proofs.Common.{◌≡◌, ◌<◌, ◌≤◌, Bool, true, false, cond, nat_lt, Option, Some, None, Result, Ok, Err, is_some, refl, ap, ◌∙◌, arith}
 use Rattle.std.specs.Prelude.{IfOk}
 use Rattle.std.specs.Str.{is_utf8}
-use Rattle.std.proofs.lemmas.Bool.{true≢false, cond-false, le-ltb}
+use Rattle.std.proofs.lemmas.Bool.{true≢false, cond-true, cond-false, le-ltb}
 use Rattle.bson_base.specs.Text.{Utf8}
 use Rattle.bson_base.specs.Reserved.{reserved_kind}
-use Rattle.bson_shape.specs.Form.{Form, newtype, structure, Fields}
+use Rattle.bson_shape.specs.Form.{Form, map, newtype, structure, Fields}
 use Rattle.bson_shape.specs.Levels.{levels, deepest, max_shape_levels}
-use Rattle.bson_shape.specs.Makers.{is_reserved_newtype, AreDistinct, repeats, IsNewtype, IsStruct, IsShape, AreShapes, Makes, within_levels, made_newtype, made_structure}
+use Rattle.bson_shape.specs.Makers.{is_text_key, is_reserved_newtype, AreDistinct, repeats, IsNewtype, IsStruct, IsShape, AreShapes, Makes, within_levels, made_map, made_newtype, made_structure}
 use Rattle.bson_shape.specs.declared.error.ShapeError.{ShapeError}
-use Rattle.bson_shape.specs.declared.error.ShapeError.TheVariants.{ReservedName, RepeatedName, TooDeep}
+use Rattle.bson_shape.specs.declared.error.ShapeError.TheVariants.{ReservedName, RepeatedName, KeyNotText, TooDeep}
 
 none_from : {A : Type 0} (o : Option A) → is_some o ≡ false → o ≡ None
 none_from None e = refl
@@ -22,6 +22,10 @@ structure_passed name fs text free distinct few shapes = (record { text = text; 
 -- a form of few levels is made
 pub within_levels-few : (f : Form) → levels f ≤ max_shape_levels → within_levels f ≡ Ok f
 within_levels-few f few = cond-false (nat_lt max_shape_levels (levels f)) _ _ (le-ltb _ _ few)
+
+-- the maker makes each map of few levels whose key is a text
+pub made_map-few : (k v : Form) → is_text_key k ≡ true → levels (map k v) ≤ max_shape_levels → made_map k v ≡ Ok (map k v)
+made_map-few k v texts few = cond-true (is_text_key k) _ _ texts ∙ within_levels-few (map k v) few
 
 -- the maker makes each newtype that is as it asks
 pub made_newtype-IsNewtype : (name : Utf8) (f : Form) → IsNewtype name f → made_newtype name f ≡ Ok (newtype name f)
@@ -40,6 +44,13 @@ within_answers P f deep made = by_test (nat_lt max_shape_levels (levels f))
     by_test : (d : Bool) → P (cond d (Err TooDeep) (Ok f))
     by_test true = deep
     by_test false = made
+
+map_answers : (P : Result Form ShapeError → Type 0) (k v : Form) → P (Err KeyNotText) → P (Err TooDeep) → P (Ok (map k v)) → P (made_map k v)
+map_answers P k v other deep made = by_test (is_text_key k)
+  where
+    by_test : (t : Bool) → P (cond t (within_levels (map k v)) (Err KeyNotText))
+    by_test true = within_answers P (map k v) deep made
+    by_test false = other
 
 newtype_answers : (P : Result Form ShapeError → Type 0) (name : Utf8) (f : Form) → P (Err ReservedName) → P (Err TooDeep) → P (Ok (newtype name f)) → P (made_newtype name f)
 newtype_answers P name f reserved deep made = by_test (is_reserved_newtype name)
@@ -60,6 +71,9 @@ structure_answers P name fs reserved repeated deep made = by_tests (is_some (res
 -- a maker makes the form that it is asked for, or refuses
 pub within_levels-made : (f : Form) → IfOk (within_levels f) (λ g. g ≡ f)
 within_levels-made f = within_answers (λ r. IfOk r (λ g. g ≡ f)) f tt refl
+
+pub made_map-made : (k v : Form) → IfOk (made_map k v) (λ g. g ≡ map k v)
+made_map-made k v = map_answers (λ r. IfOk r (λ g. g ≡ map k v)) k v tt tt refl
 
 pub made_newtype-made : (name : Utf8) (f : Form) → IfOk (made_newtype name f) (λ g. g ≡ newtype name f)
 made_newtype-made name f = newtype_answers (λ r. IfOk r (λ g. g ≡ newtype name f)) name f tt tt refl

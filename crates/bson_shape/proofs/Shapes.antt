@@ -4,7 +4,7 @@ use Rattle.std.specs.Str.{is_utf8}
 use Rattle.std.proofs.lemmas.List.{take_more}
 use Rattle.std.proofs.lemmas.Str.{is_utf8-from_IsUtf8, IsUtf8-had}
 use Rattle.bson_base.specs.Text.{Utf8}
-use Rattle.bson_shape.specs.Form.{Form, leaf, optional, sequence, newtype, unit_structure, structure, Fields, no_fields, field, joined, push_field}
+use Rattle.bson_shape.specs.Form.{Form, leaf, optional, sequence, map, newtype, unit_structure, structure, Fields, no_fields, field, joined, push_field}
 use Rattle.bson_shape.specs.Levels.{levels, deepest, max_shape_levels}
 use Rattle.bson_shape.specs.Makers.{IsShape, AreShapes}
 use Rattle.bson_shape.specs.ShapeView.{fields_of, nodes, fields_nodes}
@@ -56,6 +56,7 @@ pub levels_few : (f : Form) → IsShape f → levels f ≤ max_shape_levels
 levels_few (leaf l) shape = omega arith
 levels_few (optional f) shape = shape.0
 levels_few (sequence f) shape = shape.0
+levels_few (map k v) shape = shape.1
 levels_few (newtype name f) shape = shape.0.few
 levels_few (unit_structure name) shape = omega arith
 levels_few (structure name fs) shape = shape.0.few

@@ -1,9 +1,9 @@
 -- What a state of the machine has read.
 use Rattle.std.proofs.Common.{◌≡◌, ℕ, true, false, List, [], ◌∷◌, ◌++◌, refl, sym, ap, ◌∙◌, append_assoc, append-nil}
 use Rattle.bson_base.specs.Text.{Utf8}
-use Rattle.bson_shape.specs.Form.{Form, optional, sequence, newtype, structure, Fields, no_fields, field, push_field}
+use Rattle.bson_shape.specs.Form.{Form, optional, sequence, map, newtype, structure, Fields, no_fields, field, push_field}
 use Rattle.bson_shape.specs.Notation.{in_bare, bare, escaped, quoted, name_text, struct_name_text, after_commas, listed, text, field_texts}
-use Rattle.bson_shape.specs.Machine.{Open, Level, In_field, In_option, In_sequence, In_newtype, Owner, Form_at, Field_of, Mode, Form_due, First_field, Field_due, Bare, Quoted, Escape, Named, Done, State, grown, is_written}
+use Rattle.bson_shape.specs.Machine.{Open, Level, In_field, In_option, In_brackets, In_map, In_newtype, Owner, Form_at, Field_of, Mode, Form_due, First_field, Field_due, Bare, Quoted, Escape, Named, Done, State, grown, is_written}
 
 -- the comma before a further field
 abbrev pub sep : Fields → Utf8
@@ -22,7 +22,8 @@ owner_text (Field_of o) = open_text o ++ sep o.fields
 abbrev pub level_text : Level → Utf8
 level_text (In_field o n) = open_text o ++ (sep o.fields ++ (name_text n ++ 58 ∷ []))
 level_text (In_option place) = 63 ∷ []
-level_text (In_sequence place) = 91 ∷ []
+level_text (In_brackets place) = 91 ∷ []
+level_text (In_map place k) = 91 ∷ (text k ++ 58 ∷ [])
 level_text (In_newtype place n) = name_text n ++ 61 ∷ []
 
 abbrev pub levels_text : List Level → Utf8
@@ -103,11 +104,24 @@ pub levels_named : (place : ℕ) (n : Utf8) (st : List Level) (f : Form) → lev
 levels_named place n st f = ap (λ xs. levels_text st ++ xs) (sym (append_assoc (name_text n) (61 ∷ []) (text f))) ∙ sym (append_assoc (levels_text st) (name_text n ++ 61 ∷ []) (text f))
 
 -- a sequence's text is that of its items' form between brackets
-pub levels_item : (place : ℕ) (st : List Level) (f : Form) → levels_text st ++ text (sequence f) ≡ (levels_text (In_sequence place ∷ st) ++ text f) ++ 93 ∷ []
+pub levels_item : (place : ℕ) (st : List Level) (f : Form) → levels_text st ++ text (sequence f) ≡ (levels_text (In_brackets place ∷ st) ++ text f) ++ 93 ∷ []
 levels_item place st f = regrouped (levels_text st) (text f)
   where
     regrouped : (a b : Utf8) → a ++ 91 ∷ (b ++ 93 ∷ []) ≡ ((a ++ 91 ∷ []) ++ b) ++ 93 ∷ []
     regrouped a b = simp append_assoc
+
+-- a map's text is that of its key behind `[`, and that of its value between `:` and `]`
+pub levels_key : (place : ℕ) (k : Form) (st : List Level) → levels_text (In_map place k ∷ st) ++ [] ≡ (levels_text (In_brackets place ∷ st) ++ text k) ++ 58 ∷ []
+levels_key place k st = regrouped (levels_text st) (text k)
+  where
+    regrouped : (a b : Utf8) → (a ++ 91 ∷ (b ++ 58 ∷ [])) ++ [] ≡ ((a ++ 91 ∷ []) ++ b) ++ 58 ∷ []
+    regrouped a b = simp (append_assoc, append-nil)
+
+pub levels_value : (place : ℕ) (k v : Form) (st : List Level) → levels_text st ++ text (map k v) ≡ (levels_text (In_map place k ∷ st) ++ text v) ++ 93 ∷ []
+levels_value place k v st = regrouped (levels_text st) (text k) (text v)
+  where
+    regrouped : (a b c : Utf8) → a ++ 91 ∷ (b ++ 58 ∷ (c ++ 93 ∷ [])) ≡ ((a ++ 91 ∷ (b ++ 58 ∷ [])) ++ c) ++ 93 ∷ []
+    regrouped a b c = simp append_assoc
 
 pub struct_name-bare : (n : Utf8) → bare n ≡ true → struct_name_text n ≡ n
 struct_name-bare [] h = refl

@@ -4,16 +4,16 @@ use Rattle.std.specs.List.{list_all}
 use Rattle.std.specs.Prelude.{nat_le, IfOk}
 use Rattle.std.proofs.lemmas.Bool.{eqb-true}
 use Rattle.bson_base.specs.Text.{Utf8}
-use Rattle.bson_shape.specs.Form.{Form, leaf, sequence, unit_structure, structure}
+use Rattle.bson_shape.specs.Form.{Form, leaf, sequence, map, unit_structure, structure}
 use Rattle.bson_shape.specs.Leaf.{of_word}
 use Rattle.bson_shape.specs.declared.leaf.Leaf.{Leaf}
-use Rattle.bson_shape.specs.Makers.{made_sequence, made_structure}
+use Rattle.bson_shape.specs.Makers.{made_sequence, made_map, made_structure}
 use Rattle.bson_shape.specs.declared.error.ShapeError.{ShapeError}
 use Rattle.bson_shape.specs.declared.error.ShapeError.TheVariants.{TooDeep}
 use Rattle.bson_shape.specs.Notation.{begins_bare, in_bare, bare, names_form, is_escaped, escaped, quoted, name_text, struct_name_text, text}
 use Rattle.bson_shape.specs.FirstRefusal.{MakerRefusal}
-use Rattle.bson_shape.specs.Machine.{Refusal, Not_notation, Refused, Open, Level, In_field, In_option, In_sequence, In_newtype, Owner, Form_at, Field_of, Mode, Form_due, First_field, Field_due, Bare, Quoted, Escape, Named, Done, State, opened, grown, ◌>>=◌, Ended, wrapped, closed, struct_closed, enclosed, form_ended, begins_name, name_begun, opens_form, begins_form, form_begun, form_due, field_due, first_field, is_written, form_named, named, leaf_ended, word_ended, bare_name, name_closed, quoted_name, escape, step}
-use Rattle.bson_shape.proofs.Made.{within_levels-made, made_structure-made}
+use Rattle.bson_shape.specs.Machine.{Refusal, Not_notation, Refused, Open, Level, In_field, In_option, In_brackets, In_map, In_newtype, Owner, Form_at, Field_of, Mode, Form_due, First_field, Field_due, Bare, Quoted, Escape, Named, Done, State, opened, grown, ◌>>=◌, Ended, wrapped, closed, struct_closed, enclosed, form_ended, begins_name, name_begun, opens_form, begins_form, form_begun, form_due, field_due, first_field, is_written, form_named, named, leaf_ended, word_ended, bare_name, name_closed, quoted_name, escape, step}
+use Rattle.bson_shape.proofs.Made.{within_levels-made, made_map-made, made_structure-made}
 use Rattle.bson_shape.proofs.Words.{and_true, or_rest, differs}
 use Rattle.std.specs.Prelude.{◌⊎◌}
 use Rattle.std.specs.Str.{is_utf8}
@@ -21,7 +21,7 @@ use Rattle.std.proofs.Common.{◌+◌, ◌<◌, inl, inr, arith}
 use Rattle.std.proofs.lemmas.Bool.Decides.{nat_tests}
 use Rattle.bson_shape.specs.Fronts.{HasTextNames, goes_on}
 use Rattle.bson_shape.proofs.TextStates.{TextOpen, TextOwner, TextLevels, TextState, text-nil, text-one, text-push, texts-snoc}
-use Rattle.bson_shape.proofs.States.{sep, open_text, owner_text, levels_text, written, ValidMode, sep-snoc, closed_text, levels_grown, levels_item, struct_name-bare, name-bare, name-quoted, struct_name-quoted}
+use Rattle.bson_shape.proofs.States.{sep, open_text, owner_text, levels_text, written, ValidMode, sep-snoc, closed_text, levels_grown, levels_item, levels_key, levels_value, struct_name-bare, name-bare, name-quoted, struct_name-quoted}
 use Rattle.bson_shape.proofs.Wraps.{Keeps, wrapped_keeps, IsWord, Behind, behind_text, behind_names, EndsForm}
 
 -- the state after a byte
@@ -75,7 +75,7 @@ enclosed_leaves : (at : ℕ) (f : Form) (st : List Level) (b : ℕ) (s : State) 
 enclosed_leaves at f [] b s so_far has = refl
 enclosed_leaves at f (In_option place ∷ st) b s so_far has = refl
 enclosed_leaves at f (In_newtype place n ∷ st) b s so_far has = refl
-enclosed_leaves at f (In_sequence place ∷ st) b s so_far has =
+enclosed_leaves at f (In_brackets place ∷ st) b s so_far has =
     chosen at s b (eqb b 93) (closed at place st (made_sequence f)) _
     (λ h. rw (eqb-true b 93 h)
     (closed_leaves (made_sequence f) (sequence f) at place st s 93 (within_levels-made (sequence f)) (omega arith) refl
@@ -83,6 +83,22 @@ enclosed_leaves at f (In_sequence place ∷ st) b s so_far has =
       valid = record { before = 91 ∷ text f; byte = 93; whole = refl; closes = refl };
       grew = levels_item place st f ∙ ap (λ xs. xs ++ 93 ∷ []) (sym so_far);
       texts = λ k _. record { mode = (has k).0; levels = (has k).1 };
+    })))
+    (λ h. chosen at s b (eqb b 58) (Ok (Form_due, In_map place f ∷ st)) _
+    (λ h. record {
+      valid = tt;
+      grew = levels_key place f st ∙ ap (λ xs. xs ++ 58 ∷ []) (sym so_far) ∙ ap (λ x. written s ++ x ∷ []) (sym (eqb-true b 58 h));
+      texts = λ k _. record { mode = tt; levels = has k };
+    })
+    (λ h. refl))
+enclosed_leaves at f (In_map place k ∷ st) b s so_far has =
+    chosen at s b (eqb b 93) (closed at place st (made_map k f)) _
+    (λ h. rw (eqb-true b 93 h)
+    (closed_leaves (made_map k f) (map k f) at place st s 93 (made_map-made k f) (omega arith) refl
+    (record {
+      valid = record { before = 91 ∷ (text k ++ 58 ∷ text f); byte = 93; whole = ap (λ xs. 91 ∷ xs) (sym (append_assoc (text k) (58 ∷ text f) (93 ∷ []))); closes = refl };
+      grew = levels_value place k f st ∙ ap (λ xs. xs ++ 93 ∷ []) (sym so_far);
+      texts = λ t _. let n = has t in record { mode = (n.1.0, n.0); levels = n.1.1 };
     })))
     (λ h. refl)
 enclosed_leaves at f (In_field around name ∷ st) b s so_far has =
@@ -127,7 +143,7 @@ unfolding field_due
 field_leaves at o st b s so_far has = chosen at s b (begins_name b) (Ok (name_begun (Field_of o) b, st)) _ (λ h. begun_takes (eqb b 34) (Field_of o) st b s refl h so_far has) (λ h. refl)
 
 form_begun_takes : (brace bracket question : Bool) (at : ℕ) (st : List Level) (b : ℕ) (s : State) → eqb b 123 ≡ brace → eqb b 91 ≡ bracket → eqb b 63 ≡ question → begins_form b ≡ true → written s ≡ levels_text st ++ [] → (TextState s → TextLevels st)
-    → Takes s b (cond brace (First_field (opened at []), st) (cond bracket (Form_due, In_sequence at ∷ st) (cond question (Form_due, In_option at ∷ st) (name_begun (Form_at at) b, st))))
+    → Takes s b (cond brace (First_field (opened at []), st) (cond bracket (Form_due, In_brackets at ∷ st) (cond question (Form_due, In_option at ∷ st) (name_begun (Form_at at) b, st))))
 form_begun_takes true bracket question at st b s is other third h so_far has = record { valid = refl; texts = λ k _. record { mode = (text-nil, tt); levels = has k }; grew = sym (append_assoc (levels_text st) [] (123 ∷ [])) ∙ ap (λ xs. xs ++ 123 ∷ []) (sym so_far) ∙ ap (λ x. written s ++ x ∷ []) (sym (eqb-true b 123 is)) }
 form_begun_takes false true question at st b s other is third h so_far has = record {
   valid = tt;

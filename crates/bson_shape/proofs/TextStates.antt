@@ -6,7 +6,7 @@ use lib.Utf8.{encode, low_scalar}
 use Rattle.std.proofs.lemmas.Str.{IsUtf8-append, IsUtf8-encode, IsUtf8-nil, IsUtf8-from_is_utf8, is_utf8-from_IsUtf8, encode_ascii}
 use Rattle.bson_base.specs.Text.{Utf8}
 use Rattle.bson_shape.specs.Form.{Form, Fields, no_fields, field, push_field}
-use Rattle.bson_shape.specs.Machine.{Open, Level, In_field, In_option, In_sequence, In_newtype, Owner, Form_at, Field_of, Mode, Form_due, First_field, Field_due, Bare, Quoted, Escape, Named, Done, State}
+use Rattle.bson_shape.specs.Machine.{Open, Level, In_field, In_option, In_brackets, In_map, In_newtype, Owner, Form_at, Field_of, Mode, Form_due, First_field, Field_due, Bare, Quoted, Escape, Named, Done, State}
 use Rattle.bson_shape.specs.Fronts.{HasTextNames, HaveTextNames}
 use Rattle.std.proofs.Common.{arith}
 
@@ -36,7 +36,8 @@ abbrev pub TextLevels : List Level → Type 0
 TextLevels [] = Unit {0}
 TextLevels (In_field o n ∷ st) = TextOpen o × (is_utf8 n ≡ true) × TextLevels st
 TextLevels (In_option place ∷ st) = TextLevels st
-TextLevels (In_sequence place ∷ st) = TextLevels st
+TextLevels (In_brackets place ∷ st) = TextLevels st
+TextLevels (In_map place k ∷ st) = HasTextNames k × TextLevels st
 TextLevels (In_newtype place n ∷ st) = (is_utf8 n ≡ true) × TextLevels st
 
 abbrev pub TextMode : Mode → Type 0

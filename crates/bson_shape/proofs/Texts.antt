@@ -5,13 +5,13 @@ use Rattle.std.proofs.lemmas.List.{append-nil}
 use Rattle.std.proofs.lemmas.Bool.Decides.{nat_tests}
 use Rattle.bson_base.specs.Text.{Utf8}
 use Rattle.bson_shape.specs.declared.error.ShapeError.{ShapeError}
-use Rattle.bson_shape.specs.Form.{Form, leaf, optional, sequence, newtype, unit_structure, structure, Fields, no_fields, field}
+use Rattle.bson_shape.specs.Form.{Form, leaf, optional, sequence, map, newtype, unit_structure, structure, Fields, no_fields, field}
 use Rattle.bson_shape.specs.Levels.{levels, deepest}
-use Rattle.bson_shape.specs.Makers.{IsShape, AreShapes, made_optional, made_sequence, made_newtype, made_structure}
+use Rattle.bson_shape.specs.Makers.{IsShape, AreShapes, made_optional, made_sequence, made_map, made_newtype, made_structure}
 use Rattle.bson_shape.specs.Notation.{text, name_text, struct_name_text, listed, field_texts}
 use Rattle.bson_shape.specs.FirstRefusal.{MakerRefusal, or_else, too_deep, refusal_of, first_refusal, fields_refusal}
 use Rattle.bson_shape.specs.Machine.{Refusal, Refused, Form_due, Done, ◌>>=◌, wrapped, run, finish, parsed}
-use Rattle.bson_shape.proofs.Made.{within_levels-few, made_newtype-IsNewtype, made_structure-IsStruct}
+use Rattle.bson_shape.proofs.Made.{within_levels-few, made_map-few, made_newtype-IsNewtype, made_structure-IsStruct}
 use Rattle.bson_shape.proofs.Shapes.{levels_few}
 use Rattle.bson_shape.proofs.FormRuns.{read, settle, reads_form}
 
@@ -53,6 +53,14 @@ mutual
   first_refusal-IsShape (sequence f) at around h few =
       let inner = at + 1 in
       none_refused at around (first_refusal inner (around + 1) f) (inner + length (text f) + 1) at (made_sequence f) (sequence f) (few_around around (omega arith)) (first_refusal-IsShape f inner (around + 1) h.1 (omega arith)) (within_levels-few (sequence f) h.0)
+  first_refusal-IsShape (map k v) at around h few =
+      let key = at + 1 in
+      let value = key + length (text k) + 1 in
+      let a = first_refusal key (around + 1) k in
+      let b = first_refusal value (around + 1) v in
+      none_refused at around (or_else a b) (value + length (text v) + 1) at (made_map k v) (map k v) (few_around around (omega arith))
+      (ap (λ o. or_else o b) (first_refusal-IsShape k key (around + 1) h.2 (omega arith)) ∙ first_refusal-IsShape v value (around + 1) h.3 (omega arith))
+      (made_map-few k v h.0 h.1)
   first_refusal-IsShape (newtype n f) at around h few =
       let inner = at + length (name_text n) + 1 in
       none_refused at around (first_refusal inner (around + 1) f) (inner + length (text f)) at (made_newtype n f) (newtype n f) (few_around around (omega arith)) (first_refusal-IsShape f inner (around + 1) h.1 (omega arith)) (made_newtype-IsNewtype n f h.0)

@@ -48,6 +48,8 @@ of_word-is w l e = with_word-is w leaves l e
 
 pub of_word-word : (l : Leaf) → of_word (word l) ≡ Some l
 unfolding of_word
+of_word-word leaf.Any = refl
+of_word-word leaf.Ignored = refl
 of_word-word leaf.Bool = refl
 of_word-word leaf.I8 = refl
 of_word-word leaf.I16 = refl
@@ -66,6 +68,8 @@ of_word-word leaf.ByteBuf = refl
 of_word-word leaf.Unit = refl
 
 pub bare-word : (l : Leaf) → bare (word l) ≡ true
+bare-word leaf.Any = refl
+bare-word leaf.Ignored = refl
 bare-word leaf.Bool = refl
 bare-word leaf.I8 = refl
 bare-word leaf.I16 = refl

@@ -9,7 +9,7 @@ use Rattle.bson_shape.specs.Notation.{text}
 use Rattle.bson_shape.specs.Fronts.{HasTextNames}
 use Rattle.bson_shape.specs.FirstRefusal.{MakerRefusal}
 use Rattle.bson_shape.specs.declared.error.ShapeError.{ShapeError}
-use Rattle.bson_shape.specs.Machine.{Refusal, Not_notation, Refused, Level, In_field, In_option, In_sequence, In_newtype, Form_at, Field_of, Mode, Form_due, First_field, Field_due, Bare, Quoted, Escape, Named, Done, State, ◌>>=◌, made, Ended, wrapped}
+use Rattle.bson_shape.specs.Machine.{Refusal, Not_notation, Refused, Level, In_field, In_option, In_brackets, In_map, In_newtype, Form_at, Field_of, Mode, Form_due, First_field, Field_due, Bare, Quoted, Escape, Named, Done, State, ◌>>=◌, made, Ended, wrapped}
 use Rattle.bson_shape.proofs.Made.{within_levels-made, made_newtype-made}
 use Rattle.bson_shape.proofs.Words.{of_word-is}
 use Rattle.bson_shape.proofs.TextStates.{TextLevels, TextMode}
@@ -40,7 +40,8 @@ wrapped_keeps (In_option place ∷ st) read f =
 wrapped_keeps (In_newtype place n ∷ st) read f =
     made_keeps (made_newtype n f) read place f (newtype n f) (In_newtype place n ∷ st) st (made_newtype-made n f) (levels_named place n st f) (λ h l. ((l.0, h), l.1)) (wrapped_keeps st read (newtype n f))
 wrapped_keeps (In_field o n ∷ st) read f = (refl, λ h l. (h, l))
-wrapped_keeps (In_sequence place ∷ st) read f = (refl, λ h l. (h, l))
+wrapped_keeps (In_brackets place ∷ st) read f = (refl, λ h l. (h, l))
+wrapped_keeps (In_map place k ∷ st) read f = (refl, λ h l. (h, l))
 
 -- ---- behind a form
 

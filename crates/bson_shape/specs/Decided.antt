@@ -8,7 +8,7 @@ use Rattle.std.proofs.lemmas.Bool.{and_parts, and_from, false≢true}
 use Rattle.std.proofs.lemmas.Slice.Eq.{bytes_eq-Decides}
 use denote.Enum.Bare.{same_true, true_same}
 use Rattle.bson_base.specs.Text.{Utf8}
-use Rattle.bson_shape.specs.Form.{Form, leaf, optional, sequence, newtype, unit_structure, structure, Fields, no_fields, field}
+use Rattle.bson_shape.specs.Form.{Form, leaf, optional, sequence, map, newtype, unit_structure, structure, Fields, no_fields, field}
 use Rattle.bson_shape.specs.Same.{same, same_fields}
 use Rattle.bson_shape.specs.contracts.leaf.Leaf as leaf_type
 
@@ -20,6 +20,9 @@ mutual
   same_is (leaf l) (leaf m) e = ap leaf (same_true leaf_type.the_type tt l m e)
   same_is (optional f) (optional g) e = ap optional (same_is f g e)
   same_is (sequence f) (sequence g) e = ap sequence (same_is f g e)
+  same_is (map k v) (map l w) e =
+      let b = and_parts (same k l) (same v w) e in
+      λ i. map (same_is k l b.0 i) (same_is v w b.1 i)
   same_is (newtype name f) (newtype n g) e =
       let b = and_parts (bytes_eq name n) (same f g) e in
       λ i. newtype ((bytes_eq-Decides name n).0 b.0 i) (same_is f g b.1 i)
@@ -42,6 +45,7 @@ mutual
   same_itself (leaf l) = true_same leaf_type.the_type l l refl
   same_itself (optional f) = same_itself f
   same_itself (sequence f) = same_itself f
+  same_itself (map k v) = and_from _ _ (same_itself k) (same_itself v)
   same_itself (newtype name f) = and_from _ _ (bytes_alike name) (same_itself f)
   same_itself (unit_structure name) = bytes_alike name
   same_itself (structure name fs) = and_from _ _ (bytes_alike name) (fields_alike fs)

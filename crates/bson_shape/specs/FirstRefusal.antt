@@ -1,8 +1,8 @@
 -- The first refusal of a maker that is met in reading a notation from left to right.
 use Rattle.std.specs.Prelude.{ℕ, ◌+◌, nat_le, if◌then◌else◌, length, Option, Some, None, Result, Ok, Err}
-use Rattle.bson_shape.specs.Form.{Form, leaf, optional, sequence, newtype, unit_structure, structure, Fields, no_fields, field}
+use Rattle.bson_shape.specs.Form.{Form, leaf, optional, sequence, map, newtype, unit_structure, structure, Fields, no_fields, field}
 use Rattle.bson_shape.specs.Levels.{max_shape_levels}
-use Rattle.bson_shape.specs.Makers.{made_optional, made_sequence, made_newtype, made_structure}
+use Rattle.bson_shape.specs.Makers.{made_optional, made_sequence, made_map, made_newtype, made_structure}
 use Rattle.bson_shape.specs.Notation.{text, name_text, struct_name_text, listed, field_texts}
 use Rattle.bson_shape.specs.declared.error.ShapeError.{ShapeError}
 use Rattle.bson_shape.specs.declared.error.ShapeError.TheVariants.{TooDeep}
@@ -42,6 +42,12 @@ abbrev mutual
       or_else (too_deep at around)
       (or_else (first_refusal inner (around + 1) f)
       (refusal_of (inner + length (text f) + 1) at (made_sequence f)))
+  first_refusal at around (map k v) =
+      let key = at + 1 in
+      let value = key + length (text k) + 1 in
+      or_else (too_deep at around)
+      (or_else (or_else (first_refusal key (around + 1) k) (first_refusal value (around + 1) v))
+      (refusal_of (value + length (text v) + 1) at (made_map k v)))
   first_refusal at around (newtype name f) =
       let inner = at + length (name_text name) + 1 in
       or_else (too_deep at around)

@@ -16,6 +16,8 @@ mutual
     optional : (inner : Form) → Form
     -- an array whose elements have this form
     sequence : (item : Form) → Form
+    -- a document: the form of its keys, and that of its values
+    map : (key : Form) → (value : Form) → Form
     -- a value of the inner form, under a name
     newtype : (name : Utf8) → (inner : Form) → Form
     -- null, under a name
@@ -45,6 +47,7 @@ abbrev mutual
   form_code (leaf l) = gcons (gnum 0) (leaf_type.the_row.coded.code l)
   form_code (optional f) = gcons (gnum 3) (form_code f)
   form_code (sequence f) = gcons (gnum 2) (form_code f)
+  form_code (map k v) = gcons (gnum 6) (gcons (form_code k) (form_code v))
   form_code (newtype n f) = gcons (gnum 4) (gcons (text_coded.code n) (form_code f))
   form_code (unit_structure n) = gcons (gnum 5) (text_coded.code n)
   form_code (structure n fs) = gcons (gnum 1) (gcons (text_coded.code n) (fields_code fs))
@@ -58,6 +61,7 @@ mutual
   form_inj (leaf l) (leaf m) p = ap leaf (leaf_type.the_row.coded.inj l m (ap (λ g. tail g) p))
   form_inj (optional f) (optional g) p = ap optional (form_inj f g (ap (λ g. tail g) p))
   form_inj (sequence f) (sequence g) p = ap sequence (form_inj f g (ap (λ g. tail g) p))
+  form_inj (map k v) (map l w) p = λ i. map (form_inj k l (ap (λ g. head (tail g)) p) i) (form_inj v w (ap (λ g. tail (tail g)) p) i)
   form_inj (newtype n f) (newtype m g) p = λ i. newtype (text_coded.inj n m (ap (λ g. head (tail g)) p) i) (form_inj f g (ap (λ g. tail (tail g)) p) i)
   form_inj (unit_structure n) (unit_structure m) p = ap unit_structure (text_coded.inj n m (ap (λ g. tail g) p))
   form_inj (structure n fs) (structure m gs) p = λ i. structure (text_coded.inj n m (ap (λ g. head (tail g)) p) i) (fields_inj fs gs (ap (λ g. tail (tail g)) p) i)

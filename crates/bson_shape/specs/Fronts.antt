@@ -2,7 +2,7 @@
 use Rattle.std.specs.Prelude.{◌≡◌, ℕ, ◌+◌, ◌<◌, ◌≤◌, [], ◌∷◌, ◌++◌, Bool, true, false, ◌||◌, length, take, drop, Some}
 use Rattle.std.specs.Str.{is_utf8}
 use Rattle.bson_base.specs.Text.{Utf8}
-use Rattle.bson_shape.specs.Form.{Form, leaf, optional, sequence, newtype, unit_structure, structure, Fields, no_fields, field}
+use Rattle.bson_shape.specs.Form.{Form, leaf, optional, sequence, map, newtype, unit_structure, structure, Fields, no_fields, field}
 use Rattle.bson_shape.specs.Notation.{in_bare, names_form, text}
 use Rattle.bson_shape.specs.FirstRefusal.{MakerRefusal, first_refusal}
 use Rattle.bson_shape.specs.InnerForms.{HasFault}
@@ -14,6 +14,7 @@ abbrev mutual
   HasTextNames (leaf l) = Unit {0}
   HasTextNames (optional f) = HasTextNames f
   HasTextNames (sequence f) = HasTextNames f
+  HasTextNames (map k v) = HasTextNames k × HasTextNames v
   HasTextNames (newtype name f) = (is_utf8 name ≡ true) × HasTextNames f
   HasTextNames (unit_structure name) = is_utf8 name ≡ true
   HasTextNames (structure name fs) = (is_utf8 name ≡ true) × HaveTextNames fs

@@ -1,12 +1,12 @@
 -- The forms in a form, each with its place.
-use Rattle.std.specs.Prelude.{◌≡◌, ℕ, ◌+◌, true, List, [], ◌∷◌, ◌++◌, length, is_some, Contains}
+use Rattle.std.specs.Prelude.{◌≡◌, ℕ, ◌+◌, true, false, List, [], ◌∷◌, ◌++◌, length, is_some, Contains}
 use Rattle.bson_base.specs.Reserved.{reserved_kind}
-use Rattle.bson_shape.specs.Form.{Form, leaf, optional, sequence, newtype, unit_structure, structure, Fields, no_fields, field}
+use Rattle.bson_shape.specs.Form.{Form, leaf, optional, sequence, map, newtype, unit_structure, structure, Fields, no_fields, field}
 use Rattle.bson_shape.specs.Levels.{max_shape_levels}
-use Rattle.bson_shape.specs.Makers.{is_reserved_newtype, repeats}
+use Rattle.bson_shape.specs.Makers.{is_text_key, is_reserved_newtype, repeats}
 use Rattle.bson_shape.specs.Notation.{text, name_text, struct_name_text}
 use Rattle.bson_shape.specs.declared.error.ShapeError.{ShapeError}
-use Rattle.bson_shape.specs.declared.error.ShapeError.TheVariants.{ReservedName, RepeatedName, TooDeep, NoMemory}
+use Rattle.bson_shape.specs.declared.error.ShapeError.TheVariants.{ReservedName, RepeatedName, KeyNotText, TooDeep, NoMemory}
 
 -- A form in a notation: the place of its first byte, and how many forms are around it.
 pub record Inner : Type 0 where
@@ -20,6 +20,9 @@ abbrev mutual
   inner_forms at around (leaf l) = record { place = at; around = around; form = leaf l } ∷ []
   inner_forms at around (optional f) = record { place = at; around = around; form = optional f } ∷ inner_forms (at + 1) (around + 1) f
   inner_forms at around (sequence f) = record { place = at; around = around; form = sequence f } ∷ inner_forms (at + 1) (around + 1) f
+  inner_forms at around (map k v) =
+      let key = at + 1 in
+      record { place = at; around = around; form = map k v } ∷ (inner_forms key (around + 1) k ++ inner_forms (key + length (text k) + 1) (around + 1) v)
   inner_forms at around (newtype name f) =
       record { place = at; around = around; form = newtype name f } ∷ inner_forms (at + length (name_text name) + 1) (around + 1) f
   inner_forms at around (unit_structure name) = record { place = at; around = around; form = unit_structure name } ∷ []
@@ -34,25 +37,23 @@ abbrev mutual
       inner_forms inner around f ++ field_forms (inner + length (text f) + 1) around fs
 
 abbrev pub HasReservedName : Form → Type 0
-HasReservedName (leaf l) = ⊥
-HasReservedName (optional f) = ⊥
-HasReservedName (sequence f) = ⊥
 HasReservedName (newtype name f) = is_reserved_newtype name ≡ true
-HasReservedName (unit_structure name) = ⊥
 HasReservedName (structure name fs) = is_some (reserved_kind name) ≡ true
+HasReservedName f = ⊥
 
 abbrev pub HasRepeatedName : Form → Type 0
-HasRepeatedName (leaf l) = ⊥
-HasRepeatedName (optional f) = ⊥
-HasRepeatedName (sequence f) = ⊥
-HasRepeatedName (newtype name f) = ⊥
-HasRepeatedName (unit_structure name) = ⊥
 HasRepeatedName (structure name fs) = repeats fs ≡ true
+HasRepeatedName f = ⊥
+
+abbrev pub HasOtherKey : Form → Type 0
+HasOtherKey (map k v) = is_text_key k ≡ false
+HasOtherKey f = ⊥
 
 -- the cause holds of the form; want of memory holds of none
 abbrev pub HasCause : ShapeError → Inner → Type 0
 HasCause ReservedName i = HasReservedName i.form
 HasCause RepeatedName i = HasRepeatedName i.form
+HasCause KeyNotText i = HasOtherKey i.form
 HasCause TooDeep i = i.around ≡ max_shape_levels
 HasCause NoMemory i = ⊥
 

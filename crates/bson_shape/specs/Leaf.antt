@@ -1,11 +1,13 @@
 -- The leaf words of the notation.
-use Rattle.std.specs.Prelude.{List, [], ◌∷◌, if◌then◌else◌, Option, Some, None, codes}
+use Rattle.std.specs.Prelude.{Bool as Test, true, false, List, [], ◌∷◌, if◌then◌else◌, Option, Some, None, codes}
 use Rattle.std.specs.Str.{bytes_eq}
 use Rattle.bson_base.specs.Text.{Utf8}
 use Rattle.bson_shape.specs.declared.leaf.Leaf.{Leaf}
-use Rattle.bson_shape.specs.declared.leaf.Leaf.TheVariants.{Bool, I8, I16, I32, I64, U8, U16, U32, U64, Double, Char, Str, String, Bytes, ByteBuf, Unit}
+use Rattle.bson_shape.specs.declared.leaf.Leaf.TheVariants.{Any, Ignored, Bool, I8, I16, I32, I64, U8, U16, U32, U64, Double, Char, Str, String, Bytes, ByteBuf, Unit}
 
 abbrev pub word : Leaf → Utf8
+word Any = codes "any"
+word Ignored = codes "ignored"
 word Bool = codes "bool"
 word I8 = codes "i8"
 word I16 = codes "i16"
@@ -23,9 +25,16 @@ word Bytes = codes "bytes"
 word ByteBuf = codes "bytebuf"
 word Unit = codes "unit"
 
+-- a text
+abbrev pub is_text : Leaf → Test
+is_text Char = true
+is_text Str = true
+is_text String = true
+is_text l = false
+
 -- all leaves
 abbrev pub leaves : List Leaf
-leaves = Bool ∷ I8 ∷ I16 ∷ I32 ∷ I64 ∷ U8 ∷ U16 ∷ U32 ∷ U64 ∷ Double ∷ Char ∷ Str ∷ String ∷ Bytes ∷ ByteBuf ∷ Unit ∷ []
+leaves = Any ∷ Ignored ∷ Bool ∷ I8 ∷ I16 ∷ I32 ∷ I64 ∷ U8 ∷ U16 ∷ U32 ∷ U64 ∷ Double ∷ Char ∷ Str ∷ String ∷ Bytes ∷ ByteBuf ∷ Unit ∷ []
 
 -- the one of these leaves that has the word
 abbrev pub with_word : Utf8 → List Leaf → Option Leaf

@@ -1,6 +1,6 @@
 -- How many forms stand inside one another in a shape.
 use Rattle.std.specs.Prelude.{ℕ, suc, max}
-use Rattle.bson_shape.specs.Form.{Form, leaf, optional, sequence, newtype, unit_structure, structure, Fields, no_fields, field}
+use Rattle.bson_shape.specs.Form.{Form, leaf, optional, sequence, map, newtype, unit_structure, structure, Fields, no_fields, field}
 
 -- the most levels of a shape
 abbrev pub max_shape_levels : ℕ
@@ -12,6 +12,7 @@ abbrev mutual
   levels (leaf l) = 1
   levels (optional f) = suc (levels f)
   levels (sequence f) = suc (levels f)
+  levels (map k v) = suc (max (levels k) (levels v))
   levels (newtype name f) = suc (levels f)
   levels (unit_structure name) = 1
   levels (structure name fs) = suc (deepest fs)

@@ -5,7 +5,7 @@ use Rattle.bson_shape.specs.Form.{Form, leaf, unit_structure, Fields, no_fields,
 use Rattle.bson_shape.specs.Leaf.{of_word}
 use Rattle.bson_shape.specs.declared.leaf.Leaf.{Leaf}
 use Rattle.bson_shape.specs.Levels.{max_shape_levels}
-use Rattle.bson_shape.specs.Makers.{made_optional, made_sequence, made_newtype, made_structure}
+use Rattle.bson_shape.specs.Makers.{made_optional, made_sequence, made_map, made_newtype, made_structure}
 use Rattle.bson_shape.specs.Notation.{exclamation, quote, comma, colon, equals, question, open_bracket, backslash, close_bracket, open_brace, close_brace, begins_bare, in_bare, bare, names_form, is_escaped}
 use Rattle.bson_shape.specs.FirstRefusal.{MakerRefusal}
 use Rattle.bson_shape.specs.declared.error.ShapeError.{ShapeError}
@@ -30,8 +30,10 @@ pub data Level : Type 0 where
   In_field : Open → Utf8 → Level
   -- an option that begins at this place
   In_option : ℕ → Level
-  -- a sequence that begins at this place
-  In_sequence : ℕ → Level
+  -- a sequence that begins at this place, or a map, before its colon
+  In_brackets : ℕ → Level
+  -- a map that begins at this place, behind its colon, and its key
+  In_map : ℕ → Form → Level
   -- a newtype that begins at this place, and its name
   In_newtype : ℕ → Utf8 → Level
 
@@ -92,7 +94,8 @@ wrapped read f [] = Ok (f, [])
 wrapped read f (In_option place ∷ st) = made read place (made_optional f) >>= λ g. wrapped read g st
 wrapped read f (In_newtype place name ∷ st) = made read place (made_newtype name f) >>= λ g. wrapped read g st
 wrapped read f (In_field o name ∷ st) = Ok (f, In_field o name ∷ st)
-wrapped read f (In_sequence place ∷ st) = Ok (f, In_sequence place ∷ st)
+wrapped read f (In_brackets place ∷ st) = Ok (f, In_brackets place ∷ st)
+wrapped read f (In_map place k ∷ st) = Ok (f, In_map place k ∷ st)
 
 -- the last byte of a form that begins at the second place
 abbrev pub closed : ℕ → ℕ → List Level → Result Form ShapeError → Result State Refusal
@@ -109,14 +112,22 @@ field_ended at o st b =
     else (if b == close_brace then struct_closed at o st
     else Err (Not_notation at))
 
--- behind the form of the items of a sequence that begins at the second place
+-- behind the first form between brackets that begin at the second place: the item of a sequence, or the key of a map
 abbrev pub item_ended : ℕ → ℕ → Form → List Level → ℕ → Result State Refusal
-item_ended at place f st b = if b == close_bracket then closed at place st (made_sequence f) else Err (Not_notation at)
+item_ended at place f st b =
+    if b == close_bracket then closed at place st (made_sequence f)
+    else (if b == colon then Ok (Form_due, In_map place f ∷ st)
+    else Err (Not_notation at))
+
+-- behind the value of a map that begins at the second place
+abbrev pub value_ended : ℕ → ℕ → Form → Form → List Level → ℕ → Result State Refusal
+value_ended at place k v st b = if b == close_bracket then closed at place st (made_map k v) else Err (Not_notation at)
 
 -- behind a form, inside one with bytes of its own to come
 abbrev pub enclosed : ℕ → Form → List Level → ℕ → Result State Refusal
 enclosed at f (In_field o name ∷ st) b = field_ended at (grown o name f) st b
-enclosed at f (In_sequence place ∷ st) b = item_ended at place f st b
+enclosed at f (In_brackets place ∷ st) b = item_ended at place f st b
+enclosed at f (In_map place k ∷ st) b = value_ended at place k f st b
 enclosed at f (In_option place ∷ st) b = Err (Not_notation at)
 enclosed at f (In_newtype place name ∷ st) b = Err (Not_notation at)
 enclosed at f [] b = Err (Not_notation at)
@@ -143,7 +154,7 @@ begins_form b = begins_name b || opens_form b
 abbrev pub form_begun : ℕ → List Level → ℕ → State
 form_begun at st b =
     if b == open_brace then (First_field (opened at []), st)
-    else (if b == open_bracket then (Form_due, In_sequence at ∷ st)
+    else (if b == open_bracket then (Form_due, In_brackets at ∷ st)
     else (if b == question then (Form_due, In_option at ∷ st)
     else (name_begun (Form_at at) b, st)))
 

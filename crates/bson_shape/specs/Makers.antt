@@ -4,10 +4,11 @@ use Rattle.std.specs.List.{list_any}
 use Rattle.std.specs.Str.{bytes_eq, is_utf8}
 use Rattle.bson_base.specs.Text.{Utf8}
 use Rattle.bson_base.specs.Reserved.{reserved_kind}
-use Rattle.bson_shape.specs.Form.{Form, leaf, optional, sequence, newtype, unit_structure, structure, Fields, no_fields, field}
+use Rattle.bson_shape.specs.Form.{Form, leaf, optional, sequence, map, newtype, unit_structure, structure, Fields, no_fields, field}
+use Rattle.bson_shape.specs.Leaf.{is_text}
 use Rattle.bson_shape.specs.Levels.{levels, max_shape_levels}
 use Rattle.bson_shape.specs.declared.error.ShapeError.{ShapeError}
-use Rattle.bson_shape.specs.declared.error.ShapeError.TheVariants.{ReservedName, RepeatedName, TooDeep, NoMemory}
+use Rattle.bson_shape.specs.declared.error.ShapeError.TheVariants.{ReservedName, RepeatedName, KeyNotText, TooDeep, NoMemory}
 
 -- a field has the name
 abbrev pub has_field : Utf8 → Fields → Bool
@@ -31,6 +32,11 @@ reserved_newtypes = codes "$__bson_private_uuid" ∷ codes "$__bson_private_huma
 abbrev pub is_reserved_newtype : Utf8 → Bool
 is_reserved_newtype name = list_any (bytes_eq name) reserved_newtypes
 
+-- a key of this form is a text
+abbrev pub is_text_key : Form → Bool
+is_text_key (leaf l) = is_text l
+is_text_key f = false
+
 -- What the maker of a newtype asks: a text as its name, which is not reserved, and few levels.
 pub record IsNewtype (name : Utf8) (inner : Form) : Type 0 where
   pub text : is_utf8 name ≡ true
@@ -50,6 +56,7 @@ abbrev mutual
   IsShape (leaf l) = Unit {0}
   IsShape (optional f) = (levels (optional f) ≤ max_shape_levels) × IsShape f
   IsShape (sequence f) = (levels (sequence f) ≤ max_shape_levels) × IsShape f
+  IsShape (map k v) = (is_text_key k ≡ true) × (levels (map k v) ≤ max_shape_levels) × IsShape k × IsShape v
   IsShape (newtype name f) = IsNewtype name f × IsShape f
   IsShape (unit_structure name) = is_utf8 name ≡ true
   IsShape (structure name fs) = IsStruct name fs × AreShapes fs
@@ -69,6 +76,10 @@ made_optional f = within_levels (optional f)
 -- what the maker of a sequence answers
 abbrev pub made_sequence : Form → Result Form ShapeError
 made_sequence f = within_levels (sequence f)
+
+-- what the maker of a map answers
+abbrev pub made_map : Form → Form → Result Form ShapeError
+made_map k v = if is_text_key k then within_levels (map k v) else Err KeyNotText
 
 -- what the maker of a newtype answers
 abbrev pub made_newtype : Utf8 → Form → Result Form ShapeError

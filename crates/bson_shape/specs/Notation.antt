@@ -2,7 +2,7 @@
 use Rattle.std.specs.Prelude.{ℕ, Bool, false, ◌&&◌, ◌||◌, nat_le, ◌==◌, if◌then◌else◌, List, [], ◌∷◌, ◌++◌}
 use Rattle.std.specs.List.{list_all}
 use Rattle.bson_base.specs.Text.{Utf8}
-use Rattle.bson_shape.specs.Form.{Form, leaf, optional, sequence, newtype, unit_structure, structure, Fields, no_fields, field}
+use Rattle.bson_shape.specs.Form.{Form, leaf, optional, sequence, map, newtype, unit_structure, structure, Fields, no_fields, field}
 use Rattle.bson_shape.specs.Leaf.{word}
 
 -- `!`
@@ -101,11 +101,12 @@ listed [] = []
 listed (x ∷ xs) = x ++ after_commas xs
 
 abbrev mutual
-  -- a leaf is its word, an option is `?s`, a sequence is `[s]`, a newtype is `NAME=s`, a unit struct is `NAME!`, a struct is `NAME{f:s,g:s}`
+  -- a leaf is its word, an option is `?s`, a sequence is `[s]`, a map is `[key:value]`, a newtype is `NAME=s`, a unit struct is `NAME!`, a struct is `NAME{f:s,g:s}`
   pub text : Form → Utf8
   text (leaf l) = word l
   text (optional f) = question ∷ text f
   text (sequence f) = open_bracket ∷ (text f ++ close_bracket ∷ [])
+  text (map k v) = open_bracket ∷ (text k ++ colon ∷ (text v ++ close_bracket ∷ []))
   text (newtype name f) = name_text name ++ equals ∷ text f
   text (unit_structure name) = name_text name ++ exclamation ∷ []
   text (structure name fs) = struct_name_text name ++ open_brace ∷ (listed (field_texts fs) ++ close_brace ∷ [])

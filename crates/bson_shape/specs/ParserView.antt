@@ -17,7 +17,8 @@ open_view o = record { place = o.place; name = string_bytes o.name; fields = fie
 abbrev pub level_view : Level → machine.Level
 level_view (levels.InField o name) = machine.In_field (open_view o) (string_bytes name)
 level_view (levels.InOption place) = machine.In_option place
-level_view (levels.InSequence place) = machine.In_sequence place
+level_view (levels.InBrackets place) = machine.In_brackets place
+level_view (levels.InMap place key) = machine.In_map place key
 level_view (levels.InNewtype place name) = machine.In_newtype place (string_bytes name)
 
 abbrev pub owner_view : Owner → machine.Owner

@@ -10,6 +10,7 @@ use Rattle.bson_shape.specs.declared.error.ParseError.TheVariants as errors
 abbrev pub shape_error_text : ShapeError → Utf8
 shape_error_text causes.ReservedName = codes "reserved name"
 shape_error_text causes.RepeatedName = codes "repeated name"
+shape_error_text causes.KeyNotText = codes "map key is not a text"
 shape_error_text causes.TooDeep = codes "shape deeper than 512 levels"
 shape_error_text causes.NoMemory = codes "out of memory"
 

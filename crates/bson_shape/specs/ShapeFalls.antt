@@ -16,6 +16,7 @@ pub falls : (n : Node) → max (deep-Node n) 0 ≤ nodes (node_view n)
 falls (node.Leaf l) = omega arith
 falls (node.Option inner) = omega arith
 falls (node.Seq item) = omega arith
+falls (node.Map key value) = omega arith
 falls (node.Newtype name inner) = omega arith
 falls (node.UnitStruct name) = omega arith
 falls (node.Struct name fs) = omega (arith, most_falls fs.items)

@@ -35,6 +35,10 @@ fn is_same(a: &Shape, b: &Shape) -> bool
             Form::Seq(other) => is_same(item, other),
             _ => false,
         },
+        Form::Map(key, value) => match b.form() {
+            Form::Map(other, others) => is_same(key, other) && is_same(value, others),
+            _ => false,
+        },
         Form::Newtype(name, inner) => match b.form() {
             Form::Newtype(other, others) => name == other && is_same(inner, others),
             _ => false,

@@ -8,6 +8,8 @@ pub enum ShapeError {
     ReservedName,
     /// Two fields of a struct have one name.
     RepeatedName,
+    /// The key of a map is no text: neither `str`, `string` nor `char`.
+    KeyNotText,
     /// The shape would have more than 512 levels.
     TooDeep,
     /// The memory that the call asked for was refused.
@@ -24,6 +26,7 @@ impl fmt::Display for ShapeError {
         f.write_str(match self {
             ShapeError::ReservedName => "reserved name",
             ShapeError::RepeatedName => "repeated name",
+            ShapeError::KeyNotText => "map key is not a text",
             ShapeError::TooDeep => "shape deeper than 512 levels",
             ShapeError::NoMemory => "out of memory",
         })

@@ -9,6 +9,8 @@ pub enum Form<'a> {
     Option(&'a Shape),
     /// A sequence: the shape of its items.
     Seq(&'a Shape),
+    /// A map: the shape of its keys, and that of its values.
+    Map(&'a Shape, &'a Shape),
     /// A newtype: its name and the shape of its value.
     Newtype(&'a str, &'a Shape),
     /// A unit struct: its name.

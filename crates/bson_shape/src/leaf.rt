@@ -4,6 +4,10 @@ ghost use Rattle.bson_shape.specs.Leaf as leaf;
 /// A shape without inner shapes, one for each leaf word of the notation.
 #[derive(Clone, Copy, Debug, PartialEq, Eq)]
 pub enum Leaf {
+    /// Any value.
+    Any,
+    /// Any value, which is passed over.
+    Ignored,
     /// A boolean.
     Bool,
     /// A signed number of 8 bits.
@@ -44,6 +48,8 @@ impl Leaf {
         ensures word { result.now ≡ leaf.word self }
     {
         match self {
+            Leaf::Any => "any",
+            Leaf::Ignored => "ignored",
             Leaf::Bool => "bool",
             Leaf::I8 => "i8",
             Leaf::I16 => "i16",
@@ -63,12 +69,21 @@ impl Leaf {
         }
     }
 
+    /// Whether it is a text.
+    pub(crate) fn is_text(self) -> bool
+        ensures { result ≡ leaf.is_text self }
+    {
+        matches!(self, Leaf::Char | Leaf::Str | Leaf::String)
+    }
+
     /// The leaf that a word of the notation stands for; `None` where it stands for none.
     #[tactic(auto, unfolding(crate::specs::Leaf::of_word))]
     pub fn from_word(word: &str) -> Option<Leaf>
         ensures leaf { result ≡ leaf.of_word word.now }
     {
         let leaf = match word {
+            "any" => Leaf::Any,
+            "ignored" => Leaf::Ignored,
             "bool" => Leaf::Bool,
             "i8" => Leaf::I8,
             "i16" => Leaf::I16,

@@ -25,8 +25,10 @@ pub(crate) enum Level {
     InField(Open, String),
     /// An option that begins at this place.
     InOption(usize),
-    /// A sequence that begins at this place.
-    InSequence(usize),
+    /// A sequence that begins at this place, or a map, before its colon.
+    InBrackets(usize),
+    /// A map that begins at this place, behind its colon, and its key.
+    InMap(usize, Shape),
     /// A newtype that begins at this place, and its name.
     InNewtype(usize, String),
 }
@@ -84,7 +86,7 @@ pub(crate) fn wrapped(
         shape = match level {
             Level::InOption(place) => made(place, Shape::option(alloc, shape))?,
             Level::InNewtype(place, name) => made(place, Shape::newtype(alloc, name, shape))?,
-            Level::InField(_, _) | Level::InSequence(_) => {
+            Level::InField(_, _) | Level::InBrackets(_) | Level::InMap(_, _) => {
                 return Ok(Ended {
                     shape,
                     around: Some(level),

@@ -81,21 +81,43 @@ fn field_ended(opened: Open, levels: &Vec<Level>, at: usize, b: u8) -> Result<Mo
     }
 }
 
-/// Behind the form of the items of a sequence that begins at the place.
+/// Behind the first form between brackets that begin at the place: the item of a sequence, or the key of a map.
 fn item_ended(
     alloc: Global,
     place: usize,
     item: Shape,
+    levels: &mut Vec<Level>,
+    at: usize,
+    b: u8,
+) -> Result<Mode, ParseError>
+    ensures { Gives (λ m. (mode_view m, levels_view levels.new.items)) result (machine.item_ended at place item (levels_view levels.old.items) b) }
+{
+    match b {
+        b']' => closed(place, Shape::seq(alloc, item)),
+        b':' => {
+            levels.push(Level::InMap(place, item))?;
+            Ok(Mode::FormDue)
+        }
+        _ => Err(ParseError::NotNotation(at)),
+    }
+}
+
+/// Behind the value of a map that begins at the place.
+fn value_ended(
+    alloc: Global,
+    place: usize,
+    key: Shape,
+    value: Shape,
     levels: &Vec<Level>,
     at: usize,
     b: u8,
 ) -> Result<Mode, ParseError>
-    ensures { Gives (λ m. (mode_view m, levels_view levels.now.items)) result (machine.item_ended at place item (levels_view levels.now.items) b) }
+    ensures { Gives (λ m. (mode_view m, levels_view levels.now.items)) result (machine.value_ended at place key value (levels_view levels.now.items) b) }
 {
     if b != b']' {
         return Err(ParseError::NotNotation(at));
     }
-    closed(place, Shape::seq(alloc, item))
+    closed(place, Shape::map(alloc, key, value))
 }
 
 /// Behind a form.
@@ -114,7 +136,8 @@ fn form_ended(
         Some(Level::InField(opened, name)) => {
             field_ended(grown(opened, name, shape)?, levels, at, b)
         }
-        Some(Level::InSequence(place)) => item_ended(alloc, place, shape, levels, at, b),
+        Some(Level::InBrackets(place)) => item_ended(alloc, place, shape, levels, at, b),
+        Some(Level::InMap(place, key)) => value_ended(alloc, place, key, shape, levels, at, b),
         Some(Level::InOption(_)) | Some(Level::InNewtype(_, _)) | None => {
             Err(ParseError::NotNotation(at))
         }
@@ -150,7 +173,7 @@ fn form_begun(alloc: Global, levels: &mut Vec<Level>, at: usize, b: u8) -> Resul
         return Ok(Mode::FirstField(opened_at(alloc, at, String::new(alloc))));
     }
     if b == b'[' {
-        levels.push(Level::InSequence(at))?;
+        levels.push(Level::InBrackets(at))?;
         return Ok(Mode::FormDue);
     }
     if b == b'?' {

@@ -81,6 +81,14 @@ fn put(out: &mut String, shape: &Shape) -> Result<(), AllocError>
             out.push(']')?;
             Ok(())
         }
+        Form::Map(key, value) => {
+            out.push('[')?;
+            put(out, key)?;
+            out.push(':')?;
+            put(out, value)?;
+            out.push(']')?;
+            Ok(())
+        }
         Form::Newtype(name, inner) => {
             put_name(out, name)?;
             out.push('=')?;

@@ -1,7 +1,7 @@
 ghost use Rattle.std.specs.Prelude.{◌≡◌, ◌≤◌, string_bytes};
 ghost use Rattle.bson_shape.specs.Form as form;
 ghost use Rattle.bson_shape.specs.Levels.{levels, deepest, max_shape_levels};
-ghost use Rattle.bson_shape.specs.Makers.{IsShape, AreShapes, Makes, made_optional, made_sequence, made_newtype, made_structure};
+ghost use Rattle.bson_shape.specs.Makers.{IsShape, AreShapes, Makes, is_text_key, made_optional, made_sequence, made_map, made_newtype, made_structure};
 ghost use Rattle.bson_shape.specs.ShapeView.{fields_of, form_view};
 
 use crate::distinct::has_repeated_name;
@@ -17,7 +17,7 @@ const MAX_LEVELS: u16 = 512;
 /// What a value has to look like to be read.
 ///
 /// A shape is made by the makers below alone, so that no struct and no newtype in it has a reserved name, no struct has
-/// two fields of one name, and it has at most 512 levels. Contracts see a shape as its form.
+/// two fields of one name, each key of a map is a text, and it has at most 512 levels. Contracts see a shape as its form.
 #[cycle(shape)]
 #[derive(Debug, Drop)]
 pub struct Shape {
@@ -31,6 +31,7 @@ enum Node {
     Leaf(Leaf),
     Option(Box<Shape>),
     Seq(Box<Shape>),
+    Map(Box<Shape>, Box<Shape>),
     Newtype(String, Box<Shape>),
     UnitStruct(String),
     Struct(String, Vec<FieldShape>),
@@ -70,6 +71,20 @@ impl Model for Shape {
 }
 
 impl Shape {
+    /// Any value.
+    pub fn any() -> Shape
+        ensures form { result ≡ form.leaf Leaf.Any }
+    {
+        Shape::leaf(Leaf::Any)
+    }
+
+    /// Any value, which is passed over.
+    pub fn ignored() -> Shape
+        ensures form { result ≡ form.leaf Leaf.Ignored }
+    {
+        Shape::leaf(Leaf::Ignored)
+    }
+
     /// A boolean.
     pub fn bool() -> Shape
         ensures form { result ≡ form.leaf Leaf.Bool }
@@ -226,6 +241,26 @@ impl Shape {
         })
     }
 
+    /// A map whose keys and values have these shapes.
+    ///
+    /// The refusals, of which the first that applies is answered: `KeyNotText` where the key is neither `str`, `string`
+    /// nor `char`, `TooDeep` where the map would have more than 512 levels, `NoMemory` where memory runs out.
+    pub fn map(alloc: Global, key: Shape, value: Shape) -> Result<Shape, ShapeError>
+        ensures made { Makes result (made_map key value) }
+    {
+        if !is_text_key(&key) {
+            return Err(ShapeError::KeyNotText);
+        }
+        let deeper = key.levels().max(value.levels());
+        if deeper >= MAX_LEVELS {
+            return Err(ShapeError::TooDeep);
+        }
+        Ok(Shape {
+            level_count: deeper + 1,
+            node: Node::Map(Box::new(alloc, key)?, Box::new(alloc, value)?),
+        })
+    }
+
     /// A newtype of this name, whose value has this shape.
     ///
     /// The refusals, of which the first that applies is answered: `ReservedName` where the name is
@@ -289,6 +324,7 @@ impl Shape {
             Node::Leaf(leaf) => Form::Leaf(*leaf),
             Node::Option(inner) => Form::Option(inner),
             Node::Seq(item) => Form::Seq(item),
+            Node::Map(key, value) => Form::Map(key, value),
             Node::Newtype(name, inner) => Form::Newtype(name.as_str(), inner),
             Node::UnitStruct(name) => Form::UnitStruct(name.as_str()),
             Node::Struct(name, fields) => Form::Struct(name.as_str(), fields.as_slice()),
@@ -309,6 +345,16 @@ impl Shape {
         ensures shape { IsShape self.now }
     {
         self.level_count
+    }
+}
+
+/// Whether keys of this shape are texts.
+fn is_text_key(key: &Shape) -> bool
+    ensures { result ≡ is_text_key key.now }
+{
+    match key.form() {
+        Form::Leaf(leaf) => leaf.is_text(),
+        _ => false,
     }
 }
 

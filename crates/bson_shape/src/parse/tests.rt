@@ -47,6 +47,8 @@ fn reads_what_it_prints(rt: HostRuntime) -> Result<(), Fail> {
         "{i:i32}",
         "[i32]",
         "[{a:[[string]],b:u8}]",
+        "[string:i32]",
+        "{a:[char:[str:?any]],b:[[string:ignored]]}",
         "??i32",
         "N!",
         "\"\"!",
@@ -82,6 +84,11 @@ fn refuses_what_is_no_notation(rt: HostRuntime) -> Result<(), Fail> {
         ("[i32}", 4),
         ("[i32,", 4),
         ("{i:[i32}", 7),
+        ("[string:]", 8),
+        ("[string:i32:", 11),
+        ("[i32:i32", 8),
+        ("[a:i32]", 2),
+        ("{i:i32:", 6),
         ("{i:i32]", 6),
         ("[i32]]", 5),
         ("{\"i\":i32}", 3),
@@ -117,12 +124,25 @@ fn refuses_what_a_maker_refuses(rt: HostRuntime) -> Result<(), Fail> {
         ("{a:i32,a:i32}", 0),
         ("{a:N{b:i32,b:i32}?", 3),
         ("[{b:i32,b:i32}?", 1),
+        ("[i32:{b:i32,b:i32}]", 5),
         ("\"$__bson_private_uuid\"={a:i32,a:i32}", 23),
     ] {
         let refusal = Shape::parse(alloc, text).err();
         assert_eq!(rt;
             refusal,
             Some(ParseError::Refused(place, ShapeError::RepeatedName))
+        );
+    }
+    for (text, place) in [
+        ("[i32:i32]", 0),
+        ("{a:[[string]:i32]", 3),
+        ("[[bool:i32]:{a:i32,a:i32}]", 1),
+        ("[string:?[?str:i32]é", 9),
+    ] {
+        let refusal = Shape::parse(alloc, text).err();
+        assert_eq!(rt;
+            refusal,
+            Some(ParseError::Refused(place, ShapeError::KeyNotText))
         );
     }
     for (text, place) in [

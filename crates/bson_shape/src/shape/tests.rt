@@ -50,6 +50,14 @@ fn makes_shapes(rt: HostRuntime) -> Result<(), Fail> {
     };
     assert!(rt; *item == Shape::string());
     assert!(rt; sequence != Shape::seq(alloc, Shape::i32())?);
+    let map = Shape::map(alloc, Shape::string(), Shape::i32())?;
+    let Form::Map(key, value) = map.form() else {
+        return Err(Fail::from("no map"));
+    };
+    assert!(rt; *key == Shape::string());
+    assert!(rt; *value == Shape::i32());
+    assert_eq!(rt; map.print(alloc)?.as_str(), "[string:i32]");
+    assert!(rt; map != Shape::map(alloc, Shape::str(), Shape::i32())?);
     let option = Shape::option(alloc, Shape::bool())?;
     let Form::Option(inner) = option.form() else {
         return Err(Fail::from("no option"));
@@ -102,6 +110,14 @@ fn refuses_shapes(rt: HostRuntime) -> Result<(), Fail> {
         numbers(alloc, "", &twice)?.err(),
         Some(ShapeError::RepeatedName)
     );
+    assert_eq!(rt;
+        Shape::map(alloc, Shape::i32(), nested(alloc, 512)??).err(),
+        Some(ShapeError::KeyNotText)
+    );
+    assert_eq!(rt;
+        Shape::map(alloc, Shape::char(), nested(alloc, 512)??).err(),
+        Some(ShapeError::TooDeep)
+    );
     assert!(rt; Shape::seq(alloc, nested(alloc, 511)??).is_ok());
     assert_eq!(rt;
         Shape::seq(alloc, nested(alloc, 512)??).err(),
@@ -131,6 +147,10 @@ fn prints_refusals(rt: HostRuntime) -> Result<(), Fail> {
         (
             ParseError::Refused(0, ShapeError::RepeatedName),
             "repeated name",
+        ),
+        (
+            ParseError::Refused(0, ShapeError::KeyNotText),
+            "map key is not a text",
         ),
         (
             ParseError::Refused(0, ShapeError::TooDeep),
