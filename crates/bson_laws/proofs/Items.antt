@@ -1,5 +1,5 @@
--- The values of an array, one after another: read back, and written again.
-use Rattle.std.proofs.Common.{◌≡◌, ℕ, suc, ◌^◌, ◌<◌, ◌≤◌, length, Option, Some, Ok, ap, subst, ◌∙◌, arith}
+-- The values of an array, one after another: read back.
+use Rattle.std.proofs.Common.{◌≡◌, ℕ, suc, ◌^◌, ◌<◌, ◌≤◌, length, Option, Some, Ok, ap, ◌∙◌, arith}
 use Rattle.std.specs.Prelude.{option_map}
 use Rattle.bson_base.specs.Text.{Bytes}
 use Rattle.bson_base.specs.Outcome.{◌>>=◌, result_map}
@@ -7,17 +7,14 @@ use Rattle.bson_base.specs.Sound.{IsClean, AreTreesClean}
 use Rattle.bson_base.specs.Tree.{Tree, Trees, no_trees, tree, kind, enc, array_elements, depth, trees_depth}
 use Rattle.bson_base.specs.declared.element_type.ElementType.{ElementType}
 use Rattle.bson_base.proofs.Lengths.{first_size, later_size}
-use Rattle.bson_base.proofs.Outcomes.{some_is, ok_is, some_map, some_then, map_ok, bind_ok}
-use Rattle.bson_rawdoc.specs.Walk.{Walk, ended, faulty, then_walk, walk_elements}
+use Rattle.bson_base.proofs.Outcomes.{some_is, some_map, some_then}
+use Rattle.bson_rawdoc.specs.Walk.{walk_elements}
 use Rattle.bson_rawdoc.proofs.Walks.{walk-nil}
 use Rattle.bson_datum.specs.Value.{Value, Items, no_items, item}
-use Rattle.bson_datum.specs.Refusal.{at_index, under_index}
+use Rattle.bson_datum.specs.Refusal.{under_index}
 use Rattle.bson_laws.specs.Reads.{Reading, reads_items}
-use Rattle.bson_laws.specs.Spell.{spell, spell_items, IsWrittenUnlessLong}
 use Rattle.bson_laws.specs.Views.{views_items}
 use Rattle.bson_laws.proofs.Encoded.{array_walk_again}
-use Rattle.bson_laws.proofs.Sizes.{inside_ok}
-use Rattle.bson_laws.proofs.Writable.{unless_bind, unless_inside, Written}
 
 -- what a tree is in a view is read from its bytes, where so many levels are left for it
 abbrev pub ReadsBack : (Tree → Option Value) → (ElementType → Bytes → Reading Value) → ℕ → Type 0
@@ -35,16 +32,3 @@ module _ (view : Tree → Option Value) (read : ElementType → Bytes → Readin
       ∙ ap (λ r. under_index i r >>= λ v. result_map (item v) (reads_items read (suc i) (walk_elements (array_elements (suc i) ts)))) (each t a.0 c.0 (omega arith) (omega (arith, first_size i t ts)) a.1)
       ∙ ap (result_map (item a.0)) (items_again (suc i) ts b.0 c.1 (omega arith) (omega (arith, later_size i t ts)) b.1)
       ∙ ap Ok b.2
-
--- the values that are read in an array are written, where each value that is read is, unless a binary in them is too long
-module _ (read : ElementType → Bytes → Reading Value) (levels : ℕ) (each : (k : ElementType) (b : Bytes) (v : Value) → read k b ≡ Ok v → Written levels v) where
-  pub items_written : (i : ℕ) (w : Walk) (vs : Items) → reads_items read i w ≡ Ok vs → IsWrittenUnlessLong (spell_items i vs levels)
-  items_written i ended vs e = subst (λ x. IsWrittenUnlessLong (spell_items i x levels)) (ok_is no_items vs e) tt
-  items_written i (faulty f) vs e = absurd cc
-  items_written i (then_walk x w) vs e =
-      let a = bind_ok (under_index i (read x.kind x.value)) (λ v. result_map (item v) (reads_items read (suc i) w)) vs e in
-      let b = map_ok (item a.0) (reads_items read (suc i) w) vs a.2 in
-      let first = each x.kind x.value a.0 (inside_ok (at_index i) (read x.kind x.value) a.0 a.1) in
-      let later = items_written (suc i) w b.0 b.1 in
-      subst (λ y. IsWrittenUnlessLong (spell_items i y levels)) b.2
-      (unless_bind (under_index i (spell a.0 levels)) _ (unless_inside (at_index i) (spell a.0 levels) first) (λ t. unless_bind (spell_items (suc i) b.0 levels) _ later (λ ts. tt)))
