@@ -1,5 +1,5 @@
--- The values of an array, one after another: read back, and written again.
-use Rattle.std.proofs.Common.{◌≡◌, ℕ, suc, ◌^◌, ◌<◌, ◌≤◌, length, Option, Some, Ok, ap, subst, ◌∙◌, arith}
+-- The values of an array, one after another: read back.
+use Rattle.std.proofs.Common.{◌≡◌, ℕ, suc, ◌^◌, ◌<◌, ◌≤◌, length, Option, Some, Ok, ap, ◌∙◌, arith}
 use Rattle.std.specs.Prelude.{option_map}
 use Rattle.bson_base.specs.Text.{Bytes}
 use Rattle.bson_base.specs.Outcome.{◌>>=◌, result_map}
@@ -7,17 +7,14 @@ use Rattle.bson_base.specs.Sound.{IsClean, AreTreesClean}
 use Rattle.bson_base.specs.Tree.{Tree, Trees, no_trees, tree, kind, enc, array_elements, depth, trees_depth}
 use Rattle.bson_base.specs.declared.element_type.ElementType.{ElementType}
 use Rattle.bson_base.proofs.Lengths.{first_size, later_size}
-use Rattle.bson_base.proofs.Outcomes.{some_is, ok_is, some_map, some_then, map_ok, bind_ok}
-use Rattle.bson_rawdoc.specs.Walk.{Walk, ended, faulty, then_walk, walk_elements}
+use Rattle.bson_base.proofs.Outcomes.{some_is, some_map, some_then}
+use Rattle.bson_rawdoc.specs.Walk.{walk_elements}
 use Rattle.bson_rawdoc.proofs.Walks.{walk-nil}
 use Rattle.bson_datum.specs.Value.{Value, Items, no_items, item}
-use Rattle.bson_datum.specs.Refusal.{at_index, under_index}
+use Rattle.bson_datum.specs.Refusal.{under_index}
 use Rattle.bson_laws.specs.Reads.{Reading, reads_items}
-use Rattle.bson_laws.specs.Spell.{spell, spell_items, IsWrittenUnlessLong}
 use Rattle.bson_laws.specs.Views.{views_items}
 use Rattle.bson_laws.proofs.Encoded.{array_walk_again}
-use Rattle.bson_laws.proofs.Sizes.{inside_ok}
-use Rattle.bson_laws.proofs.Writable.{unless_bind, unless_inside, Written}
 
 -- what a tree is in a view is read from its bytes, where so many levels are left for it
 abbrev pub ReadsBack : (Tree → Option Value) → (ElementType → Bytes → Reading Value) → ℕ → Type 0
