@@ -5,7 +5,7 @@ use Rattle.std.specs.Char.{IsScalar}
 use Rattle.std.specs.Str.{bytes_eq, chars}
 use Rattle.std.proofs.lemmas.Slice.Eq.{bytes_eq-Decides}
 use Rattle.std.proofs.lemmas.Str.{chars-encodes}
-use Rattle.bson_base.specs.Text.{Bytes, Utf8}
+use Rattle.bson_base.specs.Text.{Utf8}
 use Rattle.bson_base.specs.Reserved.{reserved_kind}
 use Rattle.bson_base.specs.Sound.{IsClean, ArePairsClean, AreTreesClean, Lacks}
 use Rattle.bson_base.specs.declared.element_type.ElementType.{ElementType}
@@ -15,14 +15,14 @@ use Rattle.bson_base.specs.Tree.{Tree, string, binary, null, int32, int64, docum
 use Rattle.bson_base.proofs.Outcomes.{some_is, some_map, some_then}
 use Rattle.bson_shape.specs.Form.{Form, leaf, optional, sequence, newtype, unit_structure, map, structure, Fields, no_fields, field}
 use Rattle.bson_shape.specs.Makers.{is_reserved_newtype}
-use Rattle.bson_shape.specs.declared.leaf.Leaf.{Leaf}
 use Rattle.bson_datum.specs.Value as value
 use Rattle.bson_datum.specs.Value.{IntegerType, i32, i64, in_range, written_as, Value, integer, str, Items, no_items, item, Entries, no_entries, entry, FieldValues, no_field_values, field_value}
 use Rattle.bson_laws.specs.Leaves.{LeafKind, anything, booleans, numbers, doubles, characters, texts, byte_strings, byte_buffers, units, leaf_kind}
-use Rattle.bson_laws.specs.Plain.{IsTextKey, IsPlain, AreFieldsPlain}
+use Rattle.bson_laws.specs.Plain.{IsPlainKey, IsPlain, AreFieldsPlain}
 use Rattle.bson_laws.specs.Views.{lookup, as_integer, integer_of_tree, null_of_tree, one_character, as_character, views_any, views_any_items, views_any_entries, views_leaf, views_leaf_key, views_key, views_entries, views_option, absent, views_at, views, views_items, views_fields}
 use Rattle.bson_laws.specs.Means.{key_text, number_of, some_or_none, means, means_items, means_entries, means_fields, norm, norm_items, norm_entries, norm_fields}
 use Rattle.bson_laws.specs.Fits.{IsAny, AreAnyItems, AreAnyEntries, FitsLeaf, FitsLeafKey, FitsKey, Fits, ItemsFit, EntriesFit, FieldsFit}
+use Rattle.bson_laws.proofs.Fitting.{fits_leaf}
 use Rattle.bson_laws.proofs.Spelled.{found, tree_is, trees_are, pairs_are, unreserved, free_newtype}
 
 pub bytes_eq-refl : (xs : Utf8) → bytes_eq xs xs ≡ true
@@ -149,7 +149,7 @@ leaf_means units value.unit t f e = ap (views_leaf units) (sym (tree_is null t e
 leaf_means k v t f e = absurd f
 
 -- the key that a text is written as is that text
-key_means : (key : Form) (k : Value) (x : Utf8) → IsTextKey key → FitsKey key k → key_text k ≡ Some x → views_key key x ≡ Some (norm k)
+key_means : (key : Form) (k : Value) (x : Utf8) → IsPlainKey key → FitsKey key k → key_text k ≡ Some x → views_key key x ≡ Some (norm k)
 key_means (leaf l) (str y) x p f e = ap (λ j. views_leaf_key j x) p ∙ ap (λ z. Some (str z)) (sym (some_is y x e))
 key_means (leaf l) k x p f e = absurd (subst (λ j. FitsLeafKey j k) p f)
 key_means s k x p f e = absurd p
@@ -162,23 +162,6 @@ present view null v e = refl
 present view t v e = ap (option_map value.some) e
 
 -- ---- all values
-
--- what fits a leaf is what the leaf takes
-pub fits_leaf : (v : Value) (l : Leaf) → Fits v (leaf l) → FitsLeaf (leaf_kind l) v
-fits_leaf (value.boolean b) l f = f
-fits_leaf (integer type n) l f = f
-fits_leaf (value.double bits) l f = f
-fits_leaf (value.character x) l f = f
-fits_leaf (str x) l f = f
-fits_leaf (value.bytes bs) l f = f
-fits_leaf value.none l f = f
-fits_leaf (value.some v) l f = f
-fits_leaf value.unit l f = f
-fits_leaf (value.unit_structure name) l f = f
-fits_leaf (value.newtype name v) l f = f
-fits_leaf (value.sequence vs) l f = f
-fits_leaf (value.map es) l f = f
-fits_leaf (value.structure name fs) l f = f
 
 mutual
   pub views_means : (v : Value) (s : Form) (t : Tree) → IsPlain s → Fits v s → means v ≡ Some t → IsClean t → views s t ≡ Some (norm v)
@@ -214,7 +197,7 @@ mutual
       ∙ ap (option_map (item (norm v))) (views_means_items vs s b.0 p f.1 b.1 c'.1))
       c
 
-  views_means_entries : (es : Entries) (key s : Form) (ps : Pairs) → IsTextKey key × IsPlain s → EntriesFit es key s → means_entries es ≡ Some ps → ArePairsClean ps
+  views_means_entries : (es : Entries) (key s : Form) (ps : Pairs) → IsPlainKey key × IsPlain s → EntriesFit es key s → means_entries es ≡ Some ps → ArePairsClean ps
       → views_entries (views_key key) (views s) ps ≡ Some (norm_entries es)
   views_means_entries no_entries key s ps p f e c = ap (views_entries (views_key key) (views s)) (sym (pairs_are no_pairs ps e))
   views_means_entries (entry k v es) key s ps p f e c =

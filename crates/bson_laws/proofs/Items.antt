@@ -1,4 +1,4 @@
--- The values of an array, one after another: read back.
+-- The values of an array, one after another, are read back.
 use Rattle.std.proofs.Common.{◌≡◌, ℕ, suc, ◌^◌, ◌<◌, ◌≤◌, length, Option, Some, Ok, ap, ◌∙◌, arith}
 use Rattle.std.specs.Prelude.{option_map}
 use Rattle.bson_base.specs.Text.{Bytes}

@@ -19,10 +19,10 @@ use Rattle.bson_datum.specs.Value.{Value, Items, Entries, no_entries, FieldValue
 use Rattle.bson_datum.specs.Cause.{raw}
 use Rattle.bson_datum.specs.Refusal.{Failure, ReadFault, at_index, under_index, bare, unreadable}
 use Rattle.bson_laws.specs.Leaves.{LeafKind, anything, ignored, texts, leaf_kind}
-use Rattle.bson_laws.specs.Plain.{IsKept, IsTextKey}
+use Rattle.bson_laws.specs.Plain.{IsKept, IsPlainKey}
 use Rattle.bson_laws.specs.Reads.{Reading, judged, read_any, read_leaf, null_of, document_of, array_of, reads_items, reads_entries, reads_key, reads_fields, read_structure, reads_next, reads_option, reads, reads_places, reads_field, answered, reads_document}
 use Rattle.bson_laws.specs.Spell.{newtype_at, struct_at, named, spell, spell_items, spell_entries, spell_fields, at_top, spell_document, IsWrittenUnlessLong}
-use Rattle.bson_laws.specs.Writable.{HasKeys, HaveKeys, KeepsDocument, IsWritable}
+use Rattle.bson_laws.specs.Writable.{HasWritableKeys, AreWritableKeys, KeepsDocument, IsWritable}
 use Rattle.bson_laws.proofs.EntriesWritten.{IsKeyWritten, text_written, entries_written}
 use Rattle.bson_laws.proofs.FieldsWritten.{fields_written}
 use Rattle.bson_laws.proofs.ItemsWritten.{items_written}
@@ -110,7 +110,7 @@ text_key k key v is free e =
     let r = subst (λ (x : LeafKind). read_leaf 0 x (raw_value.string key) ≡ Ok v) is e in
     subst IsKeyWritten (ok_is (value.str key) v r) (text_written key free)
 
-key_written : (s : Form) → IsTextKey s → (key : Utf8) (v : Value) → has_zero key ≡ false → reads_key s key ≡ Ok v → IsKeyWritten v
+key_written : (s : Form) → IsPlainKey s → (key : Utf8) (v : Value) → has_zero key ≡ false → reads_key s key ≡ Ok v → IsKeyWritten v
 key_written (leaf l) text key v free e = text_key (leaf_kind l) key v text free e
 key_written s text key v free e = absurd text
 
@@ -119,7 +119,7 @@ option_written Null r v levels inner e = subst (Written levels) (ok_is value.non
 option_written k r v levels inner e = let m = map_ok value.some r v e in subst (Written levels) m.2 (inner m.0 m.1)
 
 mutual
-  pub reads_written : (s : Form) (levels : ℕ) (k : ElementType) (b : Bytes) (v : Value) → IsShape s → HasKeys s → reads s levels k b ≡ Ok v → Written levels v
+  pub reads_written : (s : Form) (levels : ℕ) (k : ElementType) (b : Bytes) (v : Value) → IsShape s → HasWritableKeys s → reads s levels k b ≡ Ok v → Written levels v
   reads_written (leaf l) levels k b v p c e = judged_written levels (read_leaf levels (leaf_kind l)) k b v (λ r w s q. leaf_written (leaf_kind l) r w levels s q) e
   reads_written (optional s) levels k b v p c e = option_written k (reads s levels k b) v levels (λ w h. reads_written s levels k b w p.1 c h) e
   reads_written (newtype name s) levels k b v p c e =
@@ -152,7 +152,7 @@ mutual
       let written = unless_map document (spell_fields r.1 levels) (subst (λ n. IsWrittenUnlessLong (spell_fields r.1 n)) below w) in
       subst (Written (suc levels)) r.4 (subst (λ o. IsWrittenUnlessLong (struct_at o (suc levels) (spell_fields r.1))) (sym p.0.free) written)
 
-  reads_places_written : (fs : Fields) (i levels : ℕ) (w : Walk) (vs : FieldValues) → AreShapes fs → HaveKeys fs → reads_places fs i levels w ≡ Ok vs → IsWrittenUnlessLong (spell_fields vs levels)
+  reads_places_written : (fs : Fields) (i levels : ℕ) (w : Walk) (vs : FieldValues) → AreShapes fs → AreWritableKeys fs → reads_places fs i levels w ≡ Ok vs → IsWrittenUnlessLong (spell_fields vs levels)
   reads_places_written no_fields i levels w vs p c e = subst (λ x. IsWrittenUnlessLong (spell_fields x levels)) (ok_is no_field_values vs e) tt
   reads_places_written (field name s fs) i levels w vs p c e =
       let n = next_read i (reads s levels) (λ v rest. result_map (field_value name v) (reads_places fs (suc i) levels rest)) w vs e in
@@ -161,7 +161,7 @@ mutual
       let later = reads_places_written fs (suc i) levels n.3 m.0 p.2 c.2 m.1 in
       subst (λ x. IsWrittenUnlessLong (spell_fields x levels)) m.2 (unless_bind (named name (spell n.2 levels)) _ first (λ t. unless_bind (spell_fields m.0 levels) _ later (λ ps. tt)))
 
-  reads_field_written : (fs : Fields) (i levels : ℕ) (k : ElementType) (b : Bytes) (v : Value) → AreShapes fs → HaveKeys fs → reads_field fs i levels k b ≡ Ok v → Written levels v
+  reads_field_written : (fs : Fields) (i levels : ℕ) (k : ElementType) (b : Bytes) (v : Value) → AreShapes fs → AreWritableKeys fs → reads_field fs i levels k b ≡ Ok v → Written levels v
   reads_field_written no_fields i levels k b v p c e = absurd cc
   reads_field_written (field name s fs) zero levels k b v p c e = reads_written s levels k b v p.1 c.1 e
   reads_field_written (field name s fs) (suc i) levels k b v p c e = reads_field_written fs i levels k b v p.2 c.2 e

@@ -15,9 +15,9 @@ IsKept ignored = ⊥
 IsKept k = Unit {0}
 
 -- the keys of a map are texts
-abbrev pub IsTextKey : Form → Type 0
-IsTextKey (leaf l) = leaf_kind l ≡ texts
-IsTextKey s = ⊥
+abbrev pub IsPlainKey : Form → Type 0
+IsPlainKey (leaf l) = leaf_kind l ≡ texts
+IsPlainKey s = ⊥
 
 abbrev mutual
   -- each name of a newtype, a struct and a field is free, each map has texts as its keys, and nothing is ignored
@@ -27,7 +27,7 @@ abbrev mutual
   IsPlain (newtype name s) = IsFreeName name × IsPlain s
   IsPlain (unit_structure name) = Unit {0}
   IsPlain (sequence s) = IsPlain s
-  IsPlain (map key s) = IsTextKey key × IsPlain s
+  IsPlain (map key s) = IsPlainKey key × IsPlain s
   IsPlain (structure name fs) = IsFreeName name × AreFieldsPlain fs
 
   pub AreFieldsPlain : Fields → Type 0

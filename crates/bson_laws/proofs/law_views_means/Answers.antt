@@ -1,4 +1,3 @@
-use Rattle.bson_laws.specs.Means.{norm}
 use Rattle.bson_laws.proofs.Fitted.{views_means}
 use Rattle.bson_laws.proofs.law_views_means.Goals as goal
 
