@@ -1,119 +1,127 @@
--- Fields that got their values, or may be missing.
-use Rattle.std.proofs.Common.{◌≡◌, ℕ, zero, suc, ◌+◌, ◌<◌, ◌≤◌, Bool, true, false, cond, List, [], ◌∷◌, length, get_or, set, map, Option, Some, None, Ok, refl, ap, sym, ◌∙◌, add-one, string_bytes, arith}
-use Rattle.std.specs.Prelude.{is_some}
-use Rattle.bson_base.specs.Text.{Utf8}
+-- The values that are kept for the fields of a struct: which there are, how one more is kept, and what all give.
+use Rattle.std.proofs.Common.{◌≡◌, ℕ, zero, suc, ◌+◌, ◌<◌, ◌≤◌, List, [], ◌∷◌, ◌++◌, length, get_or, set, true, false, Option, Some, None, Result, Ok, Err, IfOk, refl, ap, sym, ◌∙◌, subst, string_bytes, arith}
+use Rattle.std.specs.Prelude.{option_map, is_some}
 use Rattle.bson_base.specs.Outcome.{◌>>=◌, result_map}
 use Rattle.bson_shape.specs.ShapeView.{fields_of}
 use Rattle.bson_shape.specs.declared.shape.FieldShape.{FieldShape}
-use Rattle.bson_datum.specs.Cause.{missing_field}
 use Rattle.bson_datum.specs.TextView.{text_view}
-use Rattle.bson_datum.specs.Value.{Value, FieldValues, field_value}
+use Rattle.bson_datum.specs.Value.{field_value}
 use Rattle.bson_datum.specs.View.{view, fields_view}
+use Rattle.bson_datum.specs.declared.datum.Datum.{Datum}
 use Rattle.bson_datum.specs.declared.datum.Field.{Field}
-use Rattle.bson_laws.specs.Reads.{Reading, refused, value_or, finish, no_slots}
+use Rattle.bson_datum.specs.declared.de.Fault.{Fault}
+use Rattle.bson_datum.specs.declared.stop.Stop.{Stop}
+use Rattle.bson_laws.specs.Reads.{no_slots, value_or, finish}
 use Rattle.bson_laws.specs.Views.{absent}
-use Rattle.bson_de_raw.specs.SlotsView.{filled_values, names_of}
+use Rattle.bson_de_raw.specs.ValuesRead.{AreFirst, values_read}
+use Rattle.bson_de_raw.proofs.Refusals.{StopsAs, stops_bind, stops_map}
 
-abbrev pub field_names : List Field → List Utf8
-field_names xs = map (λ (x : Field). text_view x.name) xs
+pub none_yet : (fs : List FieldShape) → values_read fs [] [] ≡ no_slots (fields_of fs)
+none_yet [] = refl
+none_yet (f ∷ fs) = ap (λ r. None ∷ r) (none_yet fs)
 
-slot_of : Field → Bool → Option Value
-slot_of x b = cond b (Some (view x.value)) None
+-- each of the first has its value
+pub first_filled : (fs : List FieldShape) (first : List Field) (later : List (Option Datum)) (i : ℕ) → AreFirst fs first → i < length first → is_some (get_or (values_read fs first later) i None) ≡ true
+first_filled fs [] later i named lt = absurd (omega arith)
+first_filled [] (x ∷ first) later i named lt = absurd named
+first_filled (f ∷ fs) (x ∷ first) later zero named lt = refl
+first_filled (f ∷ fs) (x ∷ first) later (suc i) named lt = first_filled fs first later i named.1 (omega arith)
 
-pub slots_length : (xs : List Field) (bs : List Bool) → length bs ≡ length xs → length (filled_values xs bs) ≡ length xs
-slots_length [] bs even = refl
-slots_length (x ∷ xs) [] even = absurd (omega (arith, even))
-slots_length (x ∷ xs) (b ∷ bs) even = let more = slots_length xs bs (omega (arith, even)) in omega (arith, more)
+-- a field without a value is none of the first
+pub behind_first : (fs : List FieldShape) (first : List Field) (later : List (Option Datum)) (i : ℕ) → AreFirst fs first → is_some (get_or (values_read fs first later) i None) ≡ false → length first ≤ i
+behind_first fs [] later i named new = omega arith
+behind_first [] (x ∷ first) later i named new = absurd named
+behind_first (f ∷ fs) (x ∷ first) later zero named new = absurd cc
+behind_first (f ∷ fs) (x ∷ first) later (suc i) named new = let below : length first ≤ i = behind_first fs first later i named.1 new in omega (arith, below)
 
--- whether a slot is filled
-pub slot_filled : (xs : List Field) (bs : List Bool) (i : ℕ) (d : Bool) → length bs ≡ length xs → i < length bs → get_or bs i d ≡ is_some (get_or (filled_values xs bs) i None)
-slot_filled xs [] i d even lt = absurd (omega arith)
-slot_filled [] (b ∷ bs) i d even lt = absurd (omega (arith, even))
-slot_filled (x ∷ xs) (true ∷ bs) zero d even lt = refl
-slot_filled (x ∷ xs) (false ∷ bs) zero d even lt = refl
-slot_filled (x ∷ xs) (b ∷ bs) (suc i) d even lt = slot_filled xs bs i d (omega (arith, even)) (omega arith)
+is_some_viewed : (v : Option Datum) → is_some (option_map view v) ≡ is_some v
+is_some_viewed None = refl
+is_some_viewed (Some d) = refl
 
--- a slot that is filled now
-pub slot_put : (xs : List Field) (bs : List Bool) (i : ℕ) (x : Field) → length bs ≡ length xs → filled_values (set xs i x) (set bs i true) ≡ set (filled_values xs bs) i (Some (view x.value))
-slot_put [] [] i x even = refl
-slot_put [] (b ∷ bs) i x even = absurd (omega (arith, even))
-slot_put (y ∷ xs) [] i x even = absurd (omega (arith, even))
-slot_put (y ∷ xs) (b ∷ bs) zero x even = refl
-slot_put (y ∷ xs) (b ∷ bs) (suc i) x even = ap (λ ss. cond b (Some (view y.value)) None ∷ ss) (slot_put xs bs i x (omega (arith, even)))
+-- a field behind the first has a value where one was kept for it
+pub later_filled : (fs : List FieldShape) (first : List Field) (later : List (Option Datum)) (i k : ℕ) (v : Option Datum) → i ≡ length first + k → i < length fs → k < length later → v ≡ get_or later k v → is_some (get_or (values_read fs first later) i None) ≡ is_some v
+later_filled [] first later i k v at lt there got = absurd (omega arith)
+later_filled (f ∷ fs) (x ∷ first) later zero k v at lt there got = absurd (omega (arith, at))
+later_filled (f ∷ fs) (x ∷ first) later (suc i) k v at lt there got = later_filled fs first later i k v (omega (arith, at)) (omega arith) there got
+later_filled (f ∷ fs) [] [] i k v at lt there got = absurd (omega arith)
+later_filled (f ∷ fs) [] (w ∷ later) zero zero v at lt there got = is_some_viewed w ∙ ap is_some (sym got)
+later_filled (f ∷ fs) [] (w ∷ later) zero (suc k) v at lt there got = absurd (omega (arith, at))
+later_filled (f ∷ fs) [] (w ∷ later) (suc i) zero v at lt there got = absurd (omega (arith, at))
+later_filled (f ∷ fs) [] (w ∷ later) (suc i) (suc k) v at lt there got = later_filled fs [] later i k v (omega (arith, at)) (omega arith) (omega arith) got
 
--- a field under the name that stood there
-pub names_kept : (xs : List Field) (i : ℕ) (d x : Field) → text_view x.name ≡ text_view (get_or xs i d).name → field_names (set xs i x) ≡ field_names xs
-names_kept [] i d x e = refl
-names_kept (y ∷ xs) zero d x e = ap (λ n. n ∷ field_names xs) e
-names_kept (y ∷ xs) (suc i) d x e = ap (λ ns. text_view y.name ∷ ns) (names_kept xs i d x e)
+pub later_empty : (fs : List FieldShape) (first : List Field) (later : List (Option Datum)) (i k : ℕ) → i ≡ length first + k → length later ≤ k → is_some (get_or (values_read fs first later) i None) ≡ false
+later_empty [] first later i k at beyond = refl
+later_empty (f ∷ fs) (x ∷ first) later zero k at beyond = absurd (omega (arith, at))
+later_empty (f ∷ fs) (x ∷ first) later (suc i) k at beyond = later_empty fs first later i k (omega (arith, at)) beyond
+later_empty (f ∷ fs) [] [] zero k at beyond = refl
+later_empty (f ∷ fs) [] [] (suc i) k at beyond = later_empty fs [] [] i i (omega arith) (omega arith)
+later_empty (f ∷ fs) [] (w ∷ later) zero k at beyond = absurd (omega (arith, at))
+later_empty (f ∷ fs) [] (w ∷ later) (suc i) zero at beyond = absurd (omega arith)
+later_empty (f ∷ fs) [] (w ∷ later) (suc i) (suc k) at beyond = later_empty fs [] later i k (omega (arith, at)) (omega arith)
 
--- slots of which none is filled
-pub none_filled : (xs : List Field) (bs : List Bool) (fs : List FieldShape) → length xs ≡ length fs → length bs ≡ length fs → ((i : ℕ) (d : Bool) → i < length bs → get_or bs i d ≡ false) → filled_values xs bs ≡ no_slots (fields_of fs)
-none_filled [] bs [] e even none = refl
-none_filled [] bs (f ∷ fs) e even none = absurd (omega (arith, e))
-none_filled (x ∷ xs) bs [] e even none = absurd (omega (arith, e))
-none_filled (x ∷ xs) [] (f ∷ fs) e even none = absurd (omega (arith, even))
-none_filled (x ∷ xs) (b ∷ bs) (f ∷ fs) e even none =
-    (λ j. cond (none 0 b (omega arith) j) (Some (view x.value)) None ∷ none_filled xs bs fs (omega (arith, e)) (omega (arith, even)) (λ i d lt. none (suc i) d (omega arith)) j)
+-- one more of the first
+pub first_more : (fs : List FieldShape) (first : List Field) (x : Field) (later : List (Option Datum)) → values_read fs (first ++ x ∷ []) later ≡ values_read fs first (Some x.value ∷ later)
+first_more [] first x later = refl
+first_more (f ∷ fs) [] x later = refl
+first_more (f ∷ fs) (y ∷ first) x later = ap (λ r. Some (view y.value) ∷ r) (first_more fs first x later)
 
--- the first so many taken for filled
-abbrev pub filled_before : ℕ → List Bool → List Bool
-filled_before zero bs = bs
-filled_before (suc n) [] = []
-filled_before (suc n) (b ∷ bs) = true ∷ filled_before n bs
+pub named_more : (fs : List FieldShape) (first : List Field) (x : Field) (f : FieldShape) → AreFirst fs first → length first < length fs → f ≡ get_or fs (length first) f → text_view x.name ≡ string_bytes f.name → AreFirst fs (first ++ x ∷ [])
+named_more [] first x f named lt stands name = absurd (omega arith)
+named_more (g ∷ fs) [] x f named lt stands name = (name ∙ ap (λ (h : FieldShape). string_bytes h.name) stands, tt)
+named_more (g ∷ fs) (y ∷ first) x f named lt stands name = (named.0, named_more fs first x f named.1 (omega arith) stands name)
 
--- one more that is filled
-one_filled : (bs : List Bool) (i : ℕ) (d : Bool) → i < length bs → get_or bs i d ≡ true → filled_before (suc i) bs ≡ filled_before i bs
-one_filled [] i d lt e = absurd (omega arith)
-one_filled (b ∷ bs) zero d lt e = ap (λ c. c ∷ bs) (sym e)
-one_filled (b ∷ bs) (suc i) d lt e = ap (λ cs. true ∷ cs) (one_filled bs i d (omega arith) e)
+-- room for a value that has not come is no value
+pub none_more : (fs : List FieldShape) (first : List Field) (later : List (Option Datum)) → values_read fs first (later ++ None ∷ []) ≡ values_read fs first later
+none_more [] first later = refl
+none_more (f ∷ fs) (x ∷ first) later = ap (λ r. Some (view x.value) ∷ r) (none_more fs first later)
+none_more (f ∷ fs) [] [] = refl
+none_more (f ∷ fs) [] (v ∷ later) = ap (λ r. option_map view v ∷ r) (none_more fs [] later)
 
-pub before_filled : (bs : List Bool) (i : ℕ) (d : Bool) → i < length bs → get_or bs i d ≡ true → filled_before (i + 1) bs ≡ filled_before i bs
-before_filled bs i d lt e = ap (λ n. filled_before n bs) (add-one i) ∙ one_filled bs i d lt e
+-- a value that is kept behind the first
+pub later_kept : (fs : List FieldShape) (first : List Field) (later : List (Option Datum)) (i k : ℕ) (v : Datum) → i ≡ length first + k → k < length later → values_read fs first (set later k (Some v)) ≡ set (values_read fs first later) i (Some (view v))
+later_kept [] first later i k v at lt = refl
+later_kept (f ∷ fs) (x ∷ first) later zero k v at lt = absurd (omega (arith, at))
+later_kept (f ∷ fs) (x ∷ first) later (suc i) k v at lt = ap (λ r. Some (view x.value) ∷ r) (later_kept fs first later i k v (omega (arith, at)) lt)
+later_kept (f ∷ fs) [] [] i k v at lt = absurd (omega arith)
+later_kept (f ∷ fs) [] (w ∷ later) zero zero v at lt = refl
+later_kept (f ∷ fs) [] (w ∷ later) zero (suc k) v at lt = absurd (omega (arith, at))
+later_kept (f ∷ fs) [] (w ∷ later) (suc i) zero v at lt = absurd (omega (arith, at))
+later_kept (f ∷ fs) [] (w ∷ later) (suc i) (suc k) v at lt = ap (λ r. option_map view w ∷ r) (later_kept fs [] later i k v (omega (arith, at)) (omega arith))
 
--- a field that may be missing has the value that stands for a missing one
-one_absent : (fs : List FieldShape) (xs : List Field) (bs : List Bool) (i : ℕ) (f : FieldShape) (d : Bool) (x : Field) → length xs ≡ length fs → length bs ≡ length fs → i < length fs
-    → get_or bs i d ≡ false → absent (get_or fs i f).shape ≡ Some (view x.value)
-    → finish (fields_of fs) (filled_values (set xs i x) (filled_before (suc i) bs)) ≡ finish (fields_of fs) (filled_values xs (filled_before i bs))
-one_absent [] xs bs i f d x even flags lt empty may = absurd (omega arith)
-one_absent (g ∷ fs) [] bs i f d x even flags lt empty may = absurd (omega (arith, even))
-one_absent (g ∷ fs) (y ∷ xs) [] i f d x even flags lt empty may = absurd (omega (arith, flags))
-one_absent (g ∷ fs) (y ∷ xs) (b ∷ bs) zero f d x even flags lt empty may =
-    let rest : Value → Reading FieldValues = λ v. result_map (field_value (string_bytes g.name) v) (finish (fields_of fs) (filled_values xs bs)) in
-    sym (ap (λ c. value_or (string_bytes g.name) (absent g.shape) (cond c (Some (view y.value)) None) >>= rest) empty
-    ∙ ap (λ m. value_or (string_bytes g.name) m None >>= rest) may)
-one_absent (g ∷ fs) (y ∷ xs) (b ∷ bs) (suc i) f d x even flags lt empty may =
-    ap (result_map (field_value (string_bytes g.name) (view y.value))) (one_absent fs xs bs i f d x (omega (arith, even)) (omega (arith, flags)) (omega arith) empty may)
+-- a value that is kept as one more of the first
+pub next_kept : (fs : List FieldShape) (first : List Field) (v : Datum) → values_read fs first (Some v ∷ []) ≡ set (values_read fs first []) (length first) (Some (view v))
+next_kept [] first v = refl
+next_kept (f ∷ fs) (x ∷ first) v = ap (λ r. Some (view x.value) ∷ r) (next_kept fs first v)
+next_kept (f ∷ fs) [] v = refl
 
-pub finish_absent : (fs : List FieldShape) (xs : List Field) (bs : List Bool) (i : ℕ) (f : FieldShape) (d : Bool) (x : Field) → length xs ≡ length fs → length bs ≡ length fs → i < length fs
-    → get_or bs i d ≡ false → absent (get_or fs i f).shape ≡ Some (view x.value)
-    → finish (fields_of fs) (filled_values (set xs i x) (filled_before (i + 1) bs)) ≡ finish (fields_of fs) (filled_values xs (filled_before i bs))
-finish_absent fs xs bs i f d x even flags lt empty may =
-    ap (λ n. finish (fields_of fs) (filled_values (set xs i x) (filled_before n bs))) (add-one i) ∙ one_absent fs xs bs i f d x even flags lt empty may
+-- all fields are among the first
+pub all_finished : (fs : List FieldShape) (first : List Field) (later : List (Option Datum)) → AreFirst fs first → length fs ≤ length first → finish (fields_of fs) (values_read fs first later) ≡ Ok (fields_view first)
+all_finished [] [] later named le = refl
+all_finished [] (x ∷ first) later named le = absurd named
+all_finished (f ∷ fs) [] later named le = absurd (omega arith)
+all_finished (f ∷ fs) (x ∷ first) later named le =
+    ap (result_map (field_value (string_bytes f.name) (view x.value))) (all_finished fs first later named.1 (omega arith)) ∙ ap (λ n. Ok (field_value n (view x.value) (fields_view first))) (sym named.0)
 
--- one that may not is the first that is missing
-pub finish_missing : (fs : List FieldShape) (xs : List Field) (bs : List Bool) (i : ℕ) (f : FieldShape) (d : Bool) → length xs ≡ length fs → length bs ≡ length fs → i < length fs
-    → get_or bs i d ≡ false → absent (get_or fs i f).shape ≡ None
-    → finish (fields_of fs) (filled_values xs (filled_before i bs)) ≡ refused (missing_field (string_bytes (get_or fs i f).name))
-finish_missing [] xs bs i f d even flags lt empty may = absurd (omega arith)
-finish_missing (g ∷ fs) [] bs i f d even flags lt empty may = absurd (omega (arith, even))
-finish_missing (g ∷ fs) (y ∷ xs) [] i f d even flags lt empty may = absurd (omega (arith, flags))
-finish_missing (g ∷ fs) (y ∷ xs) (b ∷ bs) zero f d even flags lt empty may =
-    let rest : Value → Reading FieldValues = λ v. result_map (field_value (string_bytes g.name) v) (finish (fields_of fs) (filled_values xs bs)) in
-    ap (λ c. value_or (string_bytes g.name) (absent g.shape) (cond c (Some (view y.value)) None) >>= rest) empty
-    ∙ ap (λ m. value_or (string_bytes g.name) m None >>= rest) may
-finish_missing (g ∷ fs) (y ∷ xs) (b ∷ bs) (suc i) f d even flags lt empty may =
-    ap (result_map (field_value (string_bytes g.name) (view y.value))) (finish_missing fs xs bs i f d (omega (arith, even)) (omega (arith, flags)) (omega arith) empty may)
+-- the field behind the first, with the value that was read for it or that stands for a missing one
+pub first_given : (fs : List FieldShape) (first : List Field) (o : Option Datum) (later : List (Option Datum)) (f : FieldShape) (v : Datum) → length first < length fs → f ≡ get_or fs (length first) f
+    → value_or (string_bytes f.name) (absent f.shape) (option_map view o) ≡ Ok (view v) → finish (fields_of fs) (values_read fs first (Some v ∷ later)) ≡ finish (fields_of fs) (values_read fs first (o ∷ later))
+first_given [] first o later f v lt stands given = absurd (omega arith)
+first_given (g ∷ fs) [] o later f v lt stands given =
+    sym (ap (λ r. r >>= λ x. result_map (field_value (string_bytes g.name) x) (finish (fields_of fs) (values_read fs [] later)))
+    (ap (λ (h : FieldShape). value_or (string_bytes h.name) (absent h.shape) (option_map view o)) (sym stands) ∙ given))
+first_given (g ∷ fs) (x ∷ first) o later f v lt stands given = ap (result_map (field_value (string_bytes g.name) (view x.value))) (first_given fs first o later f v (omega arith) stands given)
 
--- all have one
-pub finish_all : (fs : List FieldShape) (xs : List Field) (bs : List Bool) (i : ℕ) → length bs ≡ length fs → length fs ≤ i → field_names xs ≡ names_of fs
-    → finish (fields_of fs) (filled_values xs (filled_before i bs)) ≡ Ok (fields_view xs)
-finish_all [] [] bs i flags le names = refl
-finish_all [] (x ∷ xs) bs i flags le names = absurd cc
-finish_all (f ∷ fs) [] bs i flags le names = absurd cc
-finish_all (f ∷ fs) (x ∷ xs) [] i flags le names = absurd (omega (arith, flags))
-finish_all (f ∷ fs) (x ∷ xs) (b ∷ bs) zero flags le names = absurd (omega arith)
-finish_all (f ∷ fs) (x ∷ xs) (b ∷ bs) (suc i) flags le names =
-    let first : string_bytes f.name ≡ text_view x.name = cc in
-    let others : field_names xs ≡ names_of fs = cc in
-    (λ j. result_map (field_value (first j) (view x.value)) (finish_all fs xs bs i (omega (arith, flags)) (omega arith) others j))
+-- where it has none and none stands for it, the struct is refused
+pub first_missing : (fs : List FieldShape) (first : List Field) (o : Option Datum) (later : List (Option Datum)) (f : FieldShape) (s : Stop Fault) → length first < length fs → f ≡ get_or fs (length first) f
+    → StopsAs s (value_or (string_bytes f.name) (absent f.shape) (option_map view o)) → StopsAs s (finish (fields_of fs) (values_read fs first (o ∷ later)))
+first_missing [] first o later f s lt stands h = absurd (omega arith)
+first_missing (g ∷ fs) [] o later f s lt stands h =
+    stops_bind s (value_or (string_bytes g.name) (absent g.shape) (option_map view o)) (λ x. result_map (field_value (string_bytes g.name) x) (finish (fields_of fs) (values_read fs [] later)))
+    (subst (λ (e : FieldShape). StopsAs s (value_or (string_bytes e.name) (absent e.shape) (option_map view o))) stands h)
+first_missing (g ∷ fs) (x ∷ first) o later f s lt stands h =
+    stops_map s (field_value (string_bytes g.name) (view x.value)) (finish (fields_of fs) (values_read fs first (o ∷ later))) (first_missing fs first o later f s (omega arith) stands h)
+
+-- what follows from a promise for where there was memory holds there too
+pub ok_then : {T E : Type 0} {P Q : Type 0} (r : Result T E) → (P → Q) → IfOk r (λ _. P) → IfOk r (λ _. Q)
+ok_then (Ok x) f p = f p
+ok_then (Err e) f p = tt

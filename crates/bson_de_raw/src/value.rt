@@ -1,4 +1,4 @@
-ghost use Rattle.std.specs.Prelude.{◌≡◌, IfOk, length};
+ghost use Rattle.std.specs.Prelude.{◌≡◌, IfOk};
 ghost use Rattle.bson_rawdoc.specs.DocumentView.{array_bytes, document_bytes};
 ghost use Rattle.bson_rawdoc.specs.Walk.{walk};
 ghost use Rattle.bson_shape.specs.Form as form;
@@ -8,7 +8,7 @@ ghost use Rattle.bson_datum.specs.View.{view, items_view};
 ghost use Rattle.bson_laws.specs.Reads as reads;
 ghost use Rattle.bson_de_raw.specs.Encoded.{reads_encoded};
 ghost use Rattle.bson_de_raw.specs.Gives.{Reaches};
-ghost use Rattle.bson_de_raw.specs.SlotsView.{slots_view, slot_names, names_of, filled_by};
+ghost use Rattle.bson_de_raw.specs.SlotsView.{slots_view, filled_by};
 
 use crate::encoded::Encoded;
 use crate::ignored::ignore;
@@ -94,6 +94,7 @@ fn read_unit_struct<'de>(
 }
 
 /// The value at a sequence whose items have this shape.
+#[inline(never)]
 #[cycle(read)]
 fn read_sequence<'de>(
     alloc: Global,
@@ -151,22 +152,21 @@ fn read_struct<'de>(
 {
     let document = value.enter(alloc, levels)?;
     let slots = fill(alloc, fields, levels - 1, document)?;
-    let fields = slots.finish(alloc, fields)?;
+    let fields = slots.finish(alloc)?;
     let name = Text::Owned(String::from_str(alloc, name)?);
     Ok(Datum::Struct { name, fields })
 }
 
 /// The values of the fields from the elements of a document, with so many levels left inside it.
 #[cycle(read)]
-fn fill<'de>(
+fn fill<'s, 'de>(
     alloc: Global,
-    fields: &[FieldShape],
+    fields: &'s [FieldShape],
     levels: u32,
     document: RawDocument<'de>,
-) -> Reading<Slots<'de>>
+) -> Reading<Slots<'s, 'de>>
     requires { AreDistinct (fields_of fields.now) }
-    ensures len { IfOk result (λ s. length (slots_view s) ≡ length fields.now) }
-    ensures names { IfOk result (λ s. slot_names s ≡ names_of fields.now) }
+    ensures fields { IfOk result (λ s. s.fields.now ≡ fields.now) }
     ensures exact { Reaches slots_view result
         (reads.fill (filled_by (fields_of fields.now) levels)
         (walk (document_bytes document.entry)) (reads.no_slots (fields_of fields.now))) }
@@ -191,12 +191,11 @@ fn fill_one<'de>(
     levels: u32,
     element: &RawElement<'de>,
     index: &mut FieldIndex<'_>,
-    slots: &mut Slots<'de>,
+    slots: &mut Slots<'_, 'de>,
 ) -> Reading<()>
-    requires { length (slots_view slots.old) ≡ length index.old.fields.now }
+    requires { slots.old.fields.now ≡ index.old.fields.now }
     ensures fields { index.new.fields ≡ index.old.fields }
-    ensures kept { length (slots_view slots.new) ≡ length (slots_view slots.old) }
-    ensures names { slot_names slots.new ≡ slot_names slots.old }
+    ensures kept { slots.new.fields ≡ slots.old.fields }
     ensures exact { Reaches (λ _. slots_view slots.new) result
         (filled_by (fields_of index.old.fields.now) levels element.now (slots_view slots.old)) }
 {
@@ -215,7 +214,7 @@ fn fill_one<'de>(
     let shape = &fields[place].shape;
     match read_value(alloc, shape, levels, Encoded::Element(element)) {
         Ok(value) => {
-            slots.put(place, value);
+            slots.put(alloc, place, value)?;
             Ok(())
         }
         Err(stop) => Err(stop.under_key(key)),

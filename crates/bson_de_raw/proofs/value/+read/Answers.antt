@@ -5,7 +5,7 @@ use Rattle.bson_rawdoc.specs.DocumentView.{array_bytes, document_bytes}
 use Rattle.bson_rawdoc.specs.Next.{count}
 use Rattle.bson_datum.specs.Stop.{IsUnderKey}
 use Rattle.bson_datum.specs.View.{view}
-use Rattle.bson_laws.specs.Reads.{place_of, reads, reads_field}
+use Rattle.bson_laws.specs.Reads.{place_of, finish, reads, reads_field}
 use Rattle.bson_de_raw.specs.SlotsView.{slots_view}
 use Rattle.bson_de_raw.proofs.Filled.{field_read, one_filled, one_stops, struct_read}
 use Rattle.bson_de_raw.proofs.Items.{items_step, items_end, sequence_read}
@@ -29,14 +29,14 @@ read_newtype-read_value-requires t c =
     let less : 4 * nodes c.args.inner.now < 4 * nodes c.args.inner.now + 1 = omega arith in
     (search rules, tt)
 
-pub fill_one-returns-in-Ok-clause-exact : goal.fill_one-returns-in-Ok-clause-exact
-fill_one-returns-in-Ok-clause-exact t c =
+pub fill_one-returns-in_ok-put-in-Ok-clause-exact : goal.fill_one-returns-in_ok-put-in-Ok-clause-exact
+fill_one-returns-in_ok-put-in-Ok-clause-exact t c =
     let fs = c.args.index.now.fields.now in
     let e = c.args.element.now in
     let i = c.in-Some.place in
     one_filled (fields_of fs) c.args.levels (λ j. reads_field (fields_of fs) j c.args.levels) e (slots_view c.args.slots.now) i (sym (c.in-Some.ensures.place ∙ ap (place_of (fields_of fs)) c.key-key.ensures.key)) (sym c.if-is_filled.ensures) (view c.in-Ok.value)
     (field_read fs i c.index-fields-place.result c.args.levels e.kind e.value c.in-Some.ensures.within ∙ c.in-Ok.ensures)
-    ∙ ap Ok (sym c.put.ensures.filled)
+    ∙ ap Ok (sym c.in_ok-put-in-Ok.ensures.put)
 
 pub fill_one-returns-in-Err-read_value-clause-exact : goal.fill_one-returns-in-Err-read_value-clause-exact
 fill_one-returns-in-Err-read_value-clause-exact t c =
@@ -49,7 +49,8 @@ fill_one-returns-in-Err-read_value-clause-exact t c =
 
 pub read_struct-returns : goal.read_struct-returns
 read_struct-returns t c =
-    struct_read c.args.name.now (fields_of c.args.fields.now) c.args.levels c.args.value (document_bytes c.in_ok-document.document) _ c.in_ok-from_str.field-0 c.in_ok-fields.fields c.in_ok-document.ensures c.in_ok-slots.ensures.exact c.in_ok-fields.ensures c.in_ok-from_str.ensures.ok
+    struct_read c.args.name.now (fields_of c.args.fields.now) c.args.levels c.args.value (document_bytes c.in_ok-document.document) _ c.in_ok-from_str.field-0 c.in_ok-fields.fields c.in_ok-document.ensures c.in_ok-slots.ensures.exact
+    (ap (λ fs. finish (fields_of fs) (slots_view c.in_ok-slots.slots)) (sym c.in_ok-slots.ensures.fields) ∙ c.in_ok-fields.ensures) c.in_ok-from_str.ensures.ok
 
 pub read_items-loop-step-preserved : goal.read_items-loop-step-preserved
 read_items-loop-step-preserved t c =

@@ -1,11 +1,11 @@
-use Rattle.std.proofs.Common.{◌≡◌, ◌+◌, ◌*◌, ◌<◌, ◌^◌, length}
+use Rattle.std.proofs.Common.{◌≡◌, ◌+◌, ◌*◌, ◌<◌, ◌^◌}
 use Rattle.bson_base.specs.Outcome.{result_map}
 use Rattle.bson_rawdoc.specs.DocumentView.{array_bytes, document_bytes}
 use Rattle.bson_rawdoc.specs.Next.{count}
 use Rattle.bson_rawdoc.specs.Walk.{walk}
 use Rattle.bson_shape.specs.ShapeView.{fields_of, nodes, fields_nodes}
 use Rattle.bson_laws.specs.Reads.{reads_items, fill, no_slots, reads}
-use Rattle.bson_de_raw.specs.SlotsView.{slots_view, slot_names, names_of, filled_by}
+use Rattle.bson_de_raw.specs.SlotsView.{slots_view, filled_by}
 use Rattle.bson_de_raw.proofs.Items.{items_before}
 use Rattle.bson_de_raw.proofs.value.+read.Given as goal
 
@@ -46,7 +46,7 @@ decreases-fill_one l = 4 * fields_nodes (fields_of l.index.now.fields.now) + 1
 abbrev pub invariant-fill-loop-step : goal.invariant-fill-loop-step
 invariant-fill-loop-step l =
     let one = filled_by (fields_of l.fields) l.levels in
-    (l.index.fields.now ≡ l.fields) × (length (slots_view l.slots) ≡ length l.fields) × (slot_names l.slots ≡ names_of l.fields) × (fill one l.elements (slots_view l.slots) ≡ fill one (walk (document_bytes l.document)) (no_slots (fields_of l.fields)))
+    (l.index.fields.now ≡ l.fields) × (l.slots.fields.now ≡ l.fields) × (fill one l.elements (slots_view l.slots) ≡ fill one (walk (document_bytes l.document)) (no_slots (fields_of l.fields)))
 
 abbrev pub decreases-fill-loop-step : goal.decreases-fill-loop-step
 decreases-fill-loop-step l = count l.elements
