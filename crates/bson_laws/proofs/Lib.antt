@@ -13,3 +13,5 @@ pub mod Writable
 pub mod Items
 pub mod ReadBack
 pub mod Rewritten
+pub mod Standing
+pub mod Lent

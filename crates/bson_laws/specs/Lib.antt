@@ -6,3 +6,4 @@ pub mod Plain
 pub mod Names
 pub mod Reads
 pub mod Spell
+pub mod Lent
