@@ -1,8 +1,10 @@
-ghost use Rattle.std.specs.Prelude.{◌≡◌, ◌<◌, ◌≤◌, ◌+◌, [], ◌∷◌, length, get_or, set, false, None, Some, is_some, option_map, string_bytes, IfOk, List, Option};
+ghost use Rattle.std.specs.Prelude.{◌≡◌, ◌<◌, ◌≤◌, ◌+◌, [], ◌∷◌, length, get_or, set, false, None, Some, is_some, option_map, string_bytes, IfOk, IfSome, List, Option};
 ghost use Rattle.std.specs.Bool.{OnTrue};
+ghost use Rattle.bson_base.specs.Text.{Bytes};
 ghost use Rattle.bson_shape.specs.ShapeView.{fields_of};
 ghost use Rattle.bson_datum.specs.View.{view, fields_view};
 ghost use Rattle.bson_datum.specs.declared.datum.Datum.{Datum};
+ghost use Rattle.bson_laws.specs.Lent.{IsLentAs, AreFieldsLentAs};
 ghost use Rattle.bson_laws.specs.Reads as reads;
 ghost use Rattle.bson_laws.specs.Views as views;
 ghost use Rattle.bson_de_raw.specs.Gives.{Reaches};
@@ -29,12 +31,13 @@ pub(crate) struct Slots<'s, 'de> {
 }
 
 impl<'s, 'de> Slots<'s, 'de> {
-    ghost use Rattle.bson_de_raw.specs.SlotsView.{slots_view};
+    ghost use Rattle.bson_de_raw.specs.SlotsView.{slot_values, slots_view, AreSlotsLent};
 
     /// No value for any of the fields.
-    #[tactic(auto, using(crate::proofs::Finished::none_yet))]
+    #[tactic(auto, using(crate::proofs::Finished::none_yet, crate::proofs::Finished::none_lent))]
     pub(crate) fn new(alloc: Global, fields: &'s [FieldShape]) -> Result<Slots<'s, 'de>, AllocError>
         ensures none { IfOk result (λ s. slots_view s ≡ reads.no_slots (fields_of fields.now)) }
+        ensures lent { IfOk result (λ s. (input : Bytes) → AreSlotsLent input s) }
         ensures fields { IfOk result (λ s. s.fields ≡ fields.entry) }
     {
         let first = Vec::with_capacity(alloc, fields.len())?;
@@ -49,7 +52,7 @@ impl<'s, 'de> Slots<'s, 'de> {
     /// Whether a value was read for the field at the place.
     pub(crate) fn is_filled(&self, place: usize) -> bool
         requires { place < length self.now.fields.now }
-        ensures { result ≡ is_some (get_or (slots_view self.now) place None) }
+        ensures { result ≡ is_some (get_or (slot_values self.now) place None) }
     {
         if place < self.first.len() {
             return true;
@@ -68,9 +71,9 @@ impl<'s, 'de> Slots<'s, 'de> {
         value: Datum<'de>,
     ) -> Result<(), AllocError>
         requires within { place < length self.old.fields.now }
-        requires new { is_some (get_or (slots_view self.old) place None) ≡ false }
-        ensures put { IfOk result (λ _. slots_view self.new
-            ≡ set (slots_view self.old) place (Some (view value.entry))) }
+        requires new { is_some (get_or (slot_values self.old) place None) ≡ false }
+        ensures put { IfOk result (λ _. slot_values self.new
+            ≡ set (slot_values self.old) place (Some value.entry)) }
         ensures fields { self.new.fields ≡ self.old.fields }
     {
         if self.is_next(place) {
@@ -91,8 +94,8 @@ impl<'s, 'de> Slots<'s, 'de> {
     /// Keeps the value of the field that is at this place behind the first.
     fn put_later(&mut self, place: usize, value: Datum<'de>) -> Result<(), AllocError>
         requires { length self.old.first.items + place < length self.old.fields.now }
-        ensures put { IfOk result (λ _. slots_view self.new
-            ≡ set (slots_view self.old) (length self.old.first.items + place) (Some (view value.entry))) }
+        ensures put { IfOk result (λ _. slot_values self.new
+            ≡ set (slot_values self.old) (length self.old.first.items + place) (Some value.entry)) }
         ensures fields { self.new.fields ≡ self.old.fields }
     {
         while self.later.len() <= place {
@@ -105,8 +108,10 @@ impl<'s, 'de> Slots<'s, 'de> {
     /// All fields with their values, or a refusal of the struct for the first field that has none and cannot be
     /// missing.
     pub(crate) fn finish(self, alloc: Global) -> Reading<Vec<Field<'de>>>
-        ensures { Reaches (λ v. fields_view v.items) result
+        ensures exact { Reaches (λ v. fields_view v.items) result
             (reads.finish (fields_of self.entry.fields.now) (slots_view self.entry)) }
+        ensures lent { IfOk result (λ v. (input : Bytes) → AreSlotsLent input self.entry
+            → AreFieldsLentAs (fields_of self.entry.fields.now) input v.items) }
     {
         if self.first.len() == self.fields.len() {
             return Ok(self.first);
@@ -116,8 +121,10 @@ impl<'s, 'de> Slots<'s, 'de> {
 
     /// The same, where a value came out of order or a field has none.
     fn finish_later(self, alloc: Global) -> Reading<Vec<Field<'de>>>
-        ensures { Reaches (λ v. fields_view v.items) result
+        ensures exact { Reaches (λ v. fields_view v.items) result
             (reads.finish (fields_of self.entry.fields.now) (slots_view self.entry)) }
+        ensures lent { IfOk result (λ v. (input : Bytes) → AreSlotsLent input self.entry
+            → AreFieldsLentAs (fields_of self.entry.fields.now) input v.items) }
     {
         let fields = self.fields;
         let mut first = self.first;
@@ -163,8 +170,10 @@ fn value_or_missing<'de>(
     field: &FieldShape,
     value: Option<Datum<'de>>,
 ) -> Reading<Datum<'de>>
-    ensures { Reaches view result
+    ensures exact { Reaches view result
         (reads.value_or (string_bytes field.now.name) (views.absent field.now.shape) (option_map view value.entry)) }
+    ensures lent { IfOk result (λ d. (input : Bytes) → IfSome value.entry (IsLentAs field.now.shape input)
+        → IsLentAs field.now.shape input d) }
 {
     if let Some(value) = value {
         return Ok(value);

@@ -59,7 +59,7 @@ lends leaf_words.Str = true
 lends leaf_words.Bytes = true
 lends l = false
 
--- where it is lent all of it is, and else nothing
+-- each text and byte string in the datum is lent, or each is owned
 abbrev pub IsLentIf : Bool → Bytes → Datum → Type 0
 IsLentIf true input d = AllLent input d
 IsLentIf false input d = IsOwned d
