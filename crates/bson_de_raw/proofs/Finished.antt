@@ -1,119 +1,164 @@
--- Fields that got their values, or may be missing.
-use Rattle.std.proofs.Common.{◌≡◌, ℕ, zero, suc, ◌+◌, ◌<◌, ◌≤◌, Bool, true, false, cond, List, [], ◌∷◌, length, get_or, set, map, Option, Some, None, Ok, refl, ap, sym, ◌∙◌, add-one, string_bytes, arith}
-use Rattle.std.specs.Prelude.{is_some}
-use Rattle.bson_base.specs.Text.{Utf8}
+-- The values that are kept for the fields of a struct: which there are, how one more is kept, and what all give.
+use Rattle.std.proofs.Common.{◌≡◌, ℕ, zero, suc, ◌+◌, ◌<◌, ◌≤◌, List, [], ◌∷◌, ◌++◌, length, get_or, set, true, false, Option, Some, None, Result, Ok, Err, IfOk, IfSome, refl, ap, sym, ◌∙◌, subst, string_bytes, arith}
+use Rattle.std.specs.Prelude.{option_map, is_some}
 use Rattle.bson_base.specs.Outcome.{◌>>=◌, result_map}
+use Rattle.bson_base.specs.Text.{Bytes}
 use Rattle.bson_shape.specs.ShapeView.{fields_of}
 use Rattle.bson_shape.specs.declared.shape.FieldShape.{FieldShape}
-use Rattle.bson_datum.specs.Cause.{missing_field}
 use Rattle.bson_datum.specs.TextView.{text_view}
-use Rattle.bson_datum.specs.Value.{Value, FieldValues, field_value}
+use Rattle.bson_datum.specs.Value.{field_value}
 use Rattle.bson_datum.specs.View.{view, fields_view}
+use Rattle.bson_datum.specs.declared.datum.Datum.{Datum}
 use Rattle.bson_datum.specs.declared.datum.Field.{Field}
-use Rattle.bson_laws.specs.Reads.{Reading, refused, value_or, finish, no_slots}
+use Rattle.bson_datum.specs.declared.de.Fault.{Fault}
+use Rattle.bson_datum.specs.declared.stop.Stop.{Stop}
+use Rattle.bson_laws.specs.Lent.{IsTextOwned, IsLentAs, AreFieldsLentAs}
+use Rattle.bson_laws.specs.Reads.{no_slots, value_or, finish}
 use Rattle.bson_laws.specs.Views.{absent}
-use Rattle.bson_de_raw.specs.SlotsView.{filled_values, names_of}
+use Rattle.bson_de_raw.specs.ValuesRead.{AreFirst, values_read, values_view, AreValuesLent}
+use Rattle.bson_de_raw.proofs.Refusals.{StopsAs, stops_bind, stops_map}
 
-abbrev pub field_names : List Field → List Utf8
-field_names xs = map (λ (x : Field). text_view x.name) xs
+-- no value yet, so none that is not lent
+pub none_yet : (fs : List FieldShape) → values_view (values_read fs [] []) ≡ no_slots (fields_of fs)
+none_yet [] = refl
+none_yet (f ∷ fs) = ap (λ r. None ∷ r) (none_yet fs)
 
-slot_of : Field → Bool → Option Value
-slot_of x b = cond b (Some (view x.value)) None
+pub none_lent : (input : Bytes) (fs : List FieldShape) → AreValuesLent input fs (values_read fs [] [])
+none_lent input [] = tt
+none_lent input (f ∷ fs) = (tt, none_lent input fs)
 
-pub slots_length : (xs : List Field) (bs : List Bool) → length bs ≡ length xs → length (filled_values xs bs) ≡ length xs
-slots_length [] bs even = refl
-slots_length (x ∷ xs) [] even = absurd (omega (arith, even))
-slots_length (x ∷ xs) (b ∷ bs) even = let more = slots_length xs bs (omega (arith, even)) in omega (arith, more)
+-- each of the first has its value
+pub first_filled : (fs : List FieldShape) (first : List Field) (later : List (Option Datum)) (i : ℕ) → AreFirst fs first → i < length first → is_some (get_or (values_read fs first later) i None) ≡ true
+first_filled fs [] later i named lt = absurd (omega arith)
+first_filled [] (x ∷ first) later i named lt = absurd named
+first_filled (f ∷ fs) (x ∷ first) later zero named lt = refl
+first_filled (f ∷ fs) (x ∷ first) later (suc i) named lt = first_filled fs first later i named.1 (omega arith)
 
--- whether a slot is filled
-pub slot_filled : (xs : List Field) (bs : List Bool) (i : ℕ) (d : Bool) → length bs ≡ length xs → i < length bs → get_or bs i d ≡ is_some (get_or (filled_values xs bs) i None)
-slot_filled xs [] i d even lt = absurd (omega arith)
-slot_filled [] (b ∷ bs) i d even lt = absurd (omega (arith, even))
-slot_filled (x ∷ xs) (true ∷ bs) zero d even lt = refl
-slot_filled (x ∷ xs) (false ∷ bs) zero d even lt = refl
-slot_filled (x ∷ xs) (b ∷ bs) (suc i) d even lt = slot_filled xs bs i d (omega (arith, even)) (omega arith)
+-- a field without a value is none of the first
+pub behind_first : (fs : List FieldShape) (first : List Field) (later : List (Option Datum)) (i : ℕ) → AreFirst fs first → is_some (get_or (values_read fs first later) i None) ≡ false → length first ≤ i
+behind_first fs [] later i named new = omega arith
+behind_first [] (x ∷ first) later i named new = absurd named
+behind_first (f ∷ fs) (x ∷ first) later zero named new = absurd cc
+behind_first (f ∷ fs) (x ∷ first) later (suc i) named new = let below : length first ≤ i = behind_first fs first later i named.1 new in omega (arith, below)
 
--- a slot that is filled now
-pub slot_put : (xs : List Field) (bs : List Bool) (i : ℕ) (x : Field) → length bs ≡ length xs → filled_values (set xs i x) (set bs i true) ≡ set (filled_values xs bs) i (Some (view x.value))
-slot_put [] [] i x even = refl
-slot_put [] (b ∷ bs) i x even = absurd (omega (arith, even))
-slot_put (y ∷ xs) [] i x even = absurd (omega (arith, even))
-slot_put (y ∷ xs) (b ∷ bs) zero x even = refl
-slot_put (y ∷ xs) (b ∷ bs) (suc i) x even = ap (λ ss. cond b (Some (view y.value)) None ∷ ss) (slot_put xs bs i x (omega (arith, even)))
+-- a field behind the first has a value where one was kept for it
+pub later_filled : (fs : List FieldShape) (first : List Field) (later : List (Option Datum)) (i k : ℕ) (v : Option Datum) → i ≡ length first + k → i < length fs → k < length later → v ≡ get_or later k v → is_some (get_or (values_read fs first later) i None) ≡ is_some v
+later_filled [] first later i k v at lt there got = absurd (omega arith)
+later_filled (f ∷ fs) (x ∷ first) later zero k v at lt there got = absurd (omega (arith, at))
+later_filled (f ∷ fs) (x ∷ first) later (suc i) k v at lt there got = later_filled fs first later i k v (omega (arith, at)) (omega arith) there got
+later_filled (f ∷ fs) [] [] i k v at lt there got = absurd (omega arith)
+later_filled (f ∷ fs) [] (w ∷ later) zero zero v at lt there got = ap is_some (sym got)
+later_filled (f ∷ fs) [] (w ∷ later) zero (suc k) v at lt there got = absurd (omega (arith, at))
+later_filled (f ∷ fs) [] (w ∷ later) (suc i) zero v at lt there got = absurd (omega (arith, at))
+later_filled (f ∷ fs) [] (w ∷ later) (suc i) (suc k) v at lt there got = later_filled fs [] later i k v (omega (arith, at)) (omega arith) (omega arith) got
 
--- a field under the name that stood there
-pub names_kept : (xs : List Field) (i : ℕ) (d x : Field) → text_view x.name ≡ text_view (get_or xs i d).name → field_names (set xs i x) ≡ field_names xs
-names_kept [] i d x e = refl
-names_kept (y ∷ xs) zero d x e = ap (λ n. n ∷ field_names xs) e
-names_kept (y ∷ xs) (suc i) d x e = ap (λ ns. text_view y.name ∷ ns) (names_kept xs i d x e)
+pub later_empty : (fs : List FieldShape) (first : List Field) (later : List (Option Datum)) (i k : ℕ) → i ≡ length first + k → length later ≤ k → is_some (get_or (values_read fs first later) i None) ≡ false
+later_empty [] first later i k at beyond = refl
+later_empty (f ∷ fs) (x ∷ first) later zero k at beyond = absurd (omega (arith, at))
+later_empty (f ∷ fs) (x ∷ first) later (suc i) k at beyond = later_empty fs first later i k (omega (arith, at)) beyond
+later_empty (f ∷ fs) [] [] zero k at beyond = refl
+later_empty (f ∷ fs) [] [] (suc i) k at beyond = later_empty fs [] [] i i (omega arith) (omega arith)
+later_empty (f ∷ fs) [] (w ∷ later) zero k at beyond = absurd (omega (arith, at))
+later_empty (f ∷ fs) [] (w ∷ later) (suc i) zero at beyond = absurd (omega arith)
+later_empty (f ∷ fs) [] (w ∷ later) (suc i) (suc k) at beyond = later_empty fs [] later i k (omega (arith, at)) (omega arith)
 
--- slots of which none is filled
-pub none_filled : (xs : List Field) (bs : List Bool) (fs : List FieldShape) → length xs ≡ length fs → length bs ≡ length fs → ((i : ℕ) (d : Bool) → i < length bs → get_or bs i d ≡ false) → filled_values xs bs ≡ no_slots (fields_of fs)
-none_filled [] bs [] e even none = refl
-none_filled [] bs (f ∷ fs) e even none = absurd (omega (arith, e))
-none_filled (x ∷ xs) bs [] e even none = absurd (omega (arith, e))
-none_filled (x ∷ xs) [] (f ∷ fs) e even none = absurd (omega (arith, even))
-none_filled (x ∷ xs) (b ∷ bs) (f ∷ fs) e even none =
-    (λ j. cond (none 0 b (omega arith) j) (Some (view x.value)) None ∷ none_filled xs bs fs (omega (arith, e)) (omega (arith, even)) (λ i d lt. none (suc i) d (omega arith)) j)
+-- whether there is a value is seen of what it stands for
+is_some_viewed : (v : Option Datum) → is_some (option_map view v) ≡ is_some v
+is_some_viewed None = refl
+is_some_viewed (Some d) = refl
 
--- the first so many taken for filled
-abbrev pub filled_before : ℕ → List Bool → List Bool
-filled_before zero bs = bs
-filled_before (suc n) [] = []
-filled_before (suc n) (b ∷ bs) = true ∷ filled_before n bs
+pub filled_viewed : (vs : List (Option Datum)) (i : ℕ) → is_some (get_or (values_view vs) i None) ≡ is_some (get_or vs i None)
+filled_viewed [] i = refl
+filled_viewed (v ∷ vs) zero = is_some_viewed v
+filled_viewed (v ∷ vs) (suc i) = filled_viewed vs i
 
--- one more that is filled
-one_filled : (bs : List Bool) (i : ℕ) (d : Bool) → i < length bs → get_or bs i d ≡ true → filled_before (suc i) bs ≡ filled_before i bs
-one_filled [] i d lt e = absurd (omega arith)
-one_filled (b ∷ bs) zero d lt e = ap (λ c. c ∷ bs) (sym e)
-one_filled (b ∷ bs) (suc i) d lt e = ap (λ cs. true ∷ cs) (one_filled bs i d (omega arith) e)
+-- one more of the first
+pub first_more : (fs : List FieldShape) (first : List Field) (x : Field) (later : List (Option Datum)) → values_read fs (first ++ x ∷ []) later ≡ values_read fs first (Some x.value ∷ later)
+first_more [] first x later = refl
+first_more (f ∷ fs) [] x later = refl
+first_more (f ∷ fs) (y ∷ first) x later = ap (λ r. Some y.value ∷ r) (first_more fs first x later)
 
-pub before_filled : (bs : List Bool) (i : ℕ) (d : Bool) → i < length bs → get_or bs i d ≡ true → filled_before (i + 1) bs ≡ filled_before i bs
-before_filled bs i d lt e = ap (λ n. filled_before n bs) (add-one i) ∙ one_filled bs i d lt e
+pub named_more : (fs : List FieldShape) (first : List Field) (x : Field) (f : FieldShape) → AreFirst fs first → length first < length fs → f ≡ get_or fs (length first) f → text_view x.name ≡ string_bytes f.name → IsTextOwned x.name → AreFirst fs (first ++ x ∷ [])
+named_more [] first x f named lt stands name owned = absurd (omega arith)
+named_more (g ∷ fs) [] x f named lt stands name owned = ((name ∙ ap (λ (h : FieldShape). string_bytes h.name) stands, owned), tt)
+named_more (g ∷ fs) (y ∷ first) x f named lt stands name owned = (named.0, named_more fs first x f named.1 (omega arith) stands name owned)
 
--- a field that may be missing has the value that stands for a missing one
-one_absent : (fs : List FieldShape) (xs : List Field) (bs : List Bool) (i : ℕ) (f : FieldShape) (d : Bool) (x : Field) → length xs ≡ length fs → length bs ≡ length fs → i < length fs
-    → get_or bs i d ≡ false → absent (get_or fs i f).shape ≡ Some (view x.value)
-    → finish (fields_of fs) (filled_values (set xs i x) (filled_before (suc i) bs)) ≡ finish (fields_of fs) (filled_values xs (filled_before i bs))
-one_absent [] xs bs i f d x even flags lt empty may = absurd (omega arith)
-one_absent (g ∷ fs) [] bs i f d x even flags lt empty may = absurd (omega (arith, even))
-one_absent (g ∷ fs) (y ∷ xs) [] i f d x even flags lt empty may = absurd (omega (arith, flags))
-one_absent (g ∷ fs) (y ∷ xs) (b ∷ bs) zero f d x even flags lt empty may =
-    let rest : Value → Reading FieldValues = λ v. result_map (field_value (string_bytes g.name) v) (finish (fields_of fs) (filled_values xs bs)) in
-    sym (ap (λ c. value_or (string_bytes g.name) (absent g.shape) (cond c (Some (view y.value)) None) >>= rest) empty
-    ∙ ap (λ m. value_or (string_bytes g.name) m None >>= rest) may)
-one_absent (g ∷ fs) (y ∷ xs) (b ∷ bs) (suc i) f d x even flags lt empty may =
-    ap (result_map (field_value (string_bytes g.name) (view y.value))) (one_absent fs xs bs i f d x (omega (arith, even)) (omega (arith, flags)) (omega arith) empty may)
+-- room for a value that has not come is no value
+pub none_more : (fs : List FieldShape) (first : List Field) (later : List (Option Datum)) → values_read fs first (later ++ None ∷ []) ≡ values_read fs first later
+none_more [] first later = refl
+none_more (f ∷ fs) (x ∷ first) later = ap (λ r. Some x.value ∷ r) (none_more fs first later)
+none_more (f ∷ fs) [] [] = refl
+none_more (f ∷ fs) [] (v ∷ later) = ap (λ r. v ∷ r) (none_more fs [] later)
 
-pub finish_absent : (fs : List FieldShape) (xs : List Field) (bs : List Bool) (i : ℕ) (f : FieldShape) (d : Bool) (x : Field) → length xs ≡ length fs → length bs ≡ length fs → i < length fs
-    → get_or bs i d ≡ false → absent (get_or fs i f).shape ≡ Some (view x.value)
-    → finish (fields_of fs) (filled_values (set xs i x) (filled_before (i + 1) bs)) ≡ finish (fields_of fs) (filled_values xs (filled_before i bs))
-finish_absent fs xs bs i f d x even flags lt empty may =
-    ap (λ n. finish (fields_of fs) (filled_values (set xs i x) (filled_before n bs))) (add-one i) ∙ one_absent fs xs bs i f d x even flags lt empty may
+-- a value that is kept behind the first
+pub later_kept : (fs : List FieldShape) (first : List Field) (later : List (Option Datum)) (i k : ℕ) (v : Datum) → i ≡ length first + k → k < length later → values_read fs first (set later k (Some v)) ≡ set (values_read fs first later) i (Some v)
+later_kept [] first later i k v at lt = refl
+later_kept (f ∷ fs) (x ∷ first) later zero k v at lt = absurd (omega (arith, at))
+later_kept (f ∷ fs) (x ∷ first) later (suc i) k v at lt = ap (λ r. Some x.value ∷ r) (later_kept fs first later i k v (omega (arith, at)) lt)
+later_kept (f ∷ fs) [] [] i k v at lt = absurd (omega arith)
+later_kept (f ∷ fs) [] (w ∷ later) zero zero v at lt = refl
+later_kept (f ∷ fs) [] (w ∷ later) zero (suc k) v at lt = absurd (omega (arith, at))
+later_kept (f ∷ fs) [] (w ∷ later) (suc i) zero v at lt = absurd (omega (arith, at))
+later_kept (f ∷ fs) [] (w ∷ later) (suc i) (suc k) v at lt = ap (λ r. w ∷ r) (later_kept fs [] later i k v (omega (arith, at)) (omega arith))
 
--- one that may not is the first that is missing
-pub finish_missing : (fs : List FieldShape) (xs : List Field) (bs : List Bool) (i : ℕ) (f : FieldShape) (d : Bool) → length xs ≡ length fs → length bs ≡ length fs → i < length fs
-    → get_or bs i d ≡ false → absent (get_or fs i f).shape ≡ None
-    → finish (fields_of fs) (filled_values xs (filled_before i bs)) ≡ refused (missing_field (string_bytes (get_or fs i f).name))
-finish_missing [] xs bs i f d even flags lt empty may = absurd (omega arith)
-finish_missing (g ∷ fs) [] bs i f d even flags lt empty may = absurd (omega (arith, even))
-finish_missing (g ∷ fs) (y ∷ xs) [] i f d even flags lt empty may = absurd (omega (arith, flags))
-finish_missing (g ∷ fs) (y ∷ xs) (b ∷ bs) zero f d even flags lt empty may =
-    let rest : Value → Reading FieldValues = λ v. result_map (field_value (string_bytes g.name) v) (finish (fields_of fs) (filled_values xs bs)) in
-    ap (λ c. value_or (string_bytes g.name) (absent g.shape) (cond c (Some (view y.value)) None) >>= rest) empty
-    ∙ ap (λ m. value_or (string_bytes g.name) m None >>= rest) may
-finish_missing (g ∷ fs) (y ∷ xs) (b ∷ bs) (suc i) f d even flags lt empty may =
-    ap (result_map (field_value (string_bytes g.name) (view y.value))) (finish_missing fs xs bs i f d (omega (arith, even)) (omega (arith, flags)) (omega arith) empty may)
+-- a value that is kept as one more of the first
+pub next_kept : (fs : List FieldShape) (first : List Field) (v : Datum) → values_read fs first (Some v ∷ []) ≡ set (values_read fs first []) (length first) (Some v)
+next_kept [] first v = refl
+next_kept (f ∷ fs) (x ∷ first) v = ap (λ r. Some x.value ∷ r) (next_kept fs first v)
+next_kept (f ∷ fs) [] v = refl
 
--- all have one
-pub finish_all : (fs : List FieldShape) (xs : List Field) (bs : List Bool) (i : ℕ) → length bs ≡ length fs → length fs ≤ i → field_names xs ≡ names_of fs
-    → finish (fields_of fs) (filled_values xs (filled_before i bs)) ≡ Ok (fields_view xs)
-finish_all [] [] bs i flags le names = refl
-finish_all [] (x ∷ xs) bs i flags le names = absurd cc
-finish_all (f ∷ fs) [] bs i flags le names = absurd cc
-finish_all (f ∷ fs) (x ∷ xs) [] i flags le names = absurd (omega (arith, flags))
-finish_all (f ∷ fs) (x ∷ xs) (b ∷ bs) zero flags le names = absurd (omega arith)
-finish_all (f ∷ fs) (x ∷ xs) (b ∷ bs) (suc i) flags le names =
-    let first : string_bytes f.name ≡ text_view x.name = cc in
-    let others : field_names xs ≡ names_of fs = cc in
-    (λ j. result_map (field_value (first j) (view x.value)) (finish_all fs xs bs i (omega (arith, flags)) (omega arith) others j))
+-- all fields are among the first
+pub all_finished : (fs : List FieldShape) (first : List Field) (later : List (Option Datum)) → AreFirst fs first → length fs ≤ length first → finish (fields_of fs) (values_view (values_read fs first later)) ≡ Ok (fields_view first)
+all_finished [] [] later named le = refl
+all_finished [] (x ∷ first) later named le = absurd named
+all_finished (f ∷ fs) [] later named le = absurd (omega arith)
+all_finished (f ∷ fs) (x ∷ first) later named le =
+    ap (result_map (field_value (string_bytes f.name) (view x.value))) (all_finished fs first later named.1 (omega arith)) ∙ ap (λ n. Ok (field_value n (view x.value) (fields_view first))) (sym named.0.0)
+
+-- the field behind the first, with the value that was read for it or that stands for a missing one
+pub first_given : (fs : List FieldShape) (first : List Field) (o : Option Datum) (later : List (Option Datum)) (f : FieldShape) (v : Datum) → length first < length fs → f ≡ get_or fs (length first) f
+    → value_or (string_bytes f.name) (absent f.shape) (option_map view o) ≡ Ok (view v) → finish (fields_of fs) (values_view (values_read fs first (Some v ∷ later))) ≡ finish (fields_of fs) (values_view (values_read fs first (o ∷ later)))
+first_given [] first o later f v lt stands given = absurd (omega arith)
+first_given (g ∷ fs) [] o later f v lt stands given =
+    sym (ap (λ r. r >>= λ x. result_map (field_value (string_bytes g.name) x) (finish (fields_of fs) (values_view (values_read fs [] later))))
+    (ap (λ (h : FieldShape). value_or (string_bytes h.name) (absent h.shape) (option_map view o)) (sym stands) ∙ given))
+first_given (g ∷ fs) (x ∷ first) o later f v lt stands given = ap (result_map (field_value (string_bytes g.name) (view x.value))) (first_given fs first o later f v (omega arith) stands given)
+
+-- where it has none and none stands for it, the struct is refused
+pub first_missing : (fs : List FieldShape) (first : List Field) (o : Option Datum) (later : List (Option Datum)) (f : FieldShape) (s : Stop Fault) → length first < length fs → f ≡ get_or fs (length first) f
+    → StopsAs s (value_or (string_bytes f.name) (absent f.shape) (option_map view o)) → StopsAs s (finish (fields_of fs) (values_view (values_read fs first (o ∷ later))))
+first_missing [] first o later f s lt stands h = absurd (omega arith)
+first_missing (g ∷ fs) [] o later f s lt stands h =
+    stops_bind s (value_or (string_bytes g.name) (absent g.shape) (option_map view o)) (λ x. result_map (field_value (string_bytes g.name) x) (finish (fields_of fs) (values_view (values_read fs [] later))))
+    (subst (λ (e : FieldShape). StopsAs s (value_or (string_bytes e.name) (absent e.shape) (option_map view o))) stands h)
+first_missing (g ∷ fs) (x ∷ first) o later f s lt stands h =
+    stops_map s (field_value (string_bytes g.name) (view x.value)) (finish (fields_of fs) (values_view (values_read fs first (o ∷ later)))) (first_missing fs first o later f s (omega arith) stands h)
+
+-- ---- what is lent
+
+-- one more value, at its field's place
+pub lent_set : (input : Bytes) (fs : List FieldShape) (vs : List (Option Datum)) (i : ℕ) (f : FieldShape) (v : Datum) → f ≡ get_or fs i f → IsLentAs f.shape input v → AreValuesLent input fs vs → AreValuesLent input fs (set vs i (Some v))
+lent_set input [] vs i f v stands lent h = tt
+lent_set input (g ∷ fs) [] i f v stands lent h = tt
+lent_set input (g ∷ fs) (w ∷ vs) zero f v stands lent h = (subst (λ (e : FieldShape). IsLentAs e.shape input v) stands lent, h.1)
+lent_set input (g ∷ fs) (w ∷ vs) (suc i) f v stands lent h = (h.0, lent_set input fs vs i f v stands lent h.1)
+
+-- the field behind the first, with the value that was read for it or that stands for a missing one
+pub lent_given : (input : Bytes) (fs : List FieldShape) (first : List Field) (o : Option Datum) (later : List (Option Datum)) (f : FieldShape) (v : Datum) → length first < length fs → f ≡ get_or fs (length first) f
+    → (IfSome o (IsLentAs f.shape input) → IsLentAs f.shape input v) → AreValuesLent input fs (values_read fs first (o ∷ later)) → AreValuesLent input fs (values_read fs first (Some v ∷ later))
+lent_given input [] first o later f v lt stands given h = tt
+lent_given input (g ∷ fs) [] o later f v lt stands given h =
+    (subst (λ (e : FieldShape). IfSome o (IsLentAs e.shape input) → IsLentAs e.shape input v) stands given h.0, h.1)
+lent_given input (g ∷ fs) (x ∷ first) o later f v lt stands given h = (h.0, lent_given input fs first o later f v (omega arith) stands given h.1)
+
+-- all fields are among the first
+pub all_lent : (input : Bytes) (fs : List FieldShape) (first : List Field) (later : List (Option Datum)) → AreFirst fs first → length fs ≤ length first → AreValuesLent input fs (values_read fs first later) → AreFieldsLentAs (fields_of fs) input first
+all_lent input [] [] later named le h = tt
+all_lent input [] (x ∷ first) later named le h = absurd named
+all_lent input (f ∷ fs) [] later named le h = absurd (omega arith)
+all_lent input (f ∷ fs) (x ∷ first) later named le h = (named.0.1, h.0, all_lent input fs first later named.1 (omega arith) h.1)
+
+-- what follows from a promise for where there was memory holds there too
+pub ok_then : {T E : Type 0} {P Q : Type 0} (r : Result T E) → (P → Q) → IfOk r (λ _. P) → IfOk r (λ _. Q)
+ok_then (Ok x) f p = f p
+ok_then (Err e) f p = tt

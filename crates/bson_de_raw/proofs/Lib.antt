@@ -9,3 +9,4 @@ pub mod Finished
 pub mod Passed
 pub mod OtherKinds
 pub mod ReadBack
+pub mod Lent

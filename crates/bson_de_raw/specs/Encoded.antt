@@ -9,6 +9,8 @@ use Rattle.bson_rawdoc.specs.RawValue.{RawValue, value_in}
 use Rattle.bson_rawdoc.specs.declared.raw.Error as raw_error
 use Rattle.bson_shape.specs.Form.{Form}
 use Rattle.bson_datum.specs.Value.{Value}
+use Rattle.bson_datum.specs.declared.datum.Datum.{Datum}
+use Rattle.bson_laws.specs.Lent.{IsLentAs}
 use Rattle.bson_laws.specs.Reads.{Reading, judged, array_of, document_of, reads}
 use Rattle.bson_de_raw.specs.declared.encoded.Encoded.{Encoded}
 use Rattle.bson_de_raw.specs.declared.encoded.Encoded.TheVariants.{Document, Element}
@@ -38,3 +40,7 @@ entered_array levels v = judged levels (raw_in v) >>= array_of
 -- the value at a shape, with so many levels left
 abbrev pub reads_encoded : Form → ℕ → Encoded → Reading Value
 reads_encoded s levels v = reads s levels (encoded_kind v) (encoded_bytes v)
+
+-- a datum is lent from the value's bytes as its shape
+abbrev pub IsLentFrom : Encoded → Form → Datum → Type 0
+IsLentFrom v s d = IsLentAs s (encoded_bytes v) d

@@ -1,31 +1,24 @@
 -- What contracts see of the slots of a struct, and how they are filled.
-use Rattle.std.specs.Prelude.{ℕ, Bool, List, [], ◌∷◌, map, if◌then◌else◌, Some, None, string_bytes}
-use Rattle.bson_base.specs.Text.{Utf8}
+use Rattle.std.specs.Prelude.{ℕ, List, Option}
+use Rattle.bson_base.specs.Text.{Bytes}
 use Rattle.bson_rawdoc.specs.Walk.{Element}
 use Rattle.bson_shape.specs.Form.{Fields}
-use Rattle.bson_shape.specs.declared.shape.FieldShape.{FieldShape}
-use Rattle.bson_datum.specs.TextView.{text_view}
-use Rattle.bson_datum.specs.View.{view}
-use Rattle.bson_datum.specs.declared.datum.Field.{Field}
+use Rattle.bson_datum.specs.declared.datum.Datum.{Datum}
 use Rattle.bson_laws.specs.Reads.{Reading, Slots, fill_one, reads_field}
+use Rattle.bson_de_raw.specs.ValuesRead.{values_read, values_view, AreValuesLent}
 use Rattle.bson_de_raw.specs.declared.slots.Slots as code
 
--- for each field its value, where it is filled
-abbrev pub filled_values : List Field → List Bool → Slots
-filled_values (f ∷ fs) (b ∷ bs) = (if b then Some (view f.value) else None) ∷ filled_values fs bs
-filled_values fs bs = []
+-- for each field the value that was read for it, or none yet
+abbrev pub slot_values : code.Slots → List (Option Datum)
+slot_values s = values_read s.fields.now s.first.items s.later.items
 
--- the values that were read so far
+-- what these stand for
 abbrev pub slots_view : code.Slots → Slots
-slots_view s = filled_values s.fields.items s.filled.items
+slots_view s = values_view (slot_values s)
 
--- the names that the slots stand under
-abbrev pub slot_names : code.Slots → List Utf8
-slot_names s = map (λ f. text_view f.name) s.fields.items
-
--- the names of the fields of a shape
-abbrev pub names_of : List FieldShape → List Utf8
-names_of fs = map (λ f. string_bytes f.name) fs
+-- what was read so far is lent from the input
+abbrev pub AreSlotsLent : Bytes → code.Slots → Type 0
+AreSlotsLent input s = AreValuesLent input s.fields.now (slot_values s)
 
 -- an element, read at its field among these with so many levels left, or dropped where no field has its key
 abbrev pub filled_by : Fields → ℕ → Element → Slots → Reading Slots

@@ -1,9 +1,10 @@
-ghost use Rattle.std.specs.Prelude.{◌≡◌, Some};
+ghost use Rattle.std.specs.Prelude.{◌≡◌, Some, IfOk};
 ghost use Rattle.bson_base.specs.Sound.{IsSound};
 ghost use Rattle.bson_base.specs.Tree.{Tree, enc};
 ghost use Rattle.bson_datum.specs.Value.{Value};
 ghost use Rattle.bson_datum.specs.View.{view};
 ghost use Rattle.bson_laws.specs.Fits.{Fits};
+ghost use Rattle.bson_laws.specs.Lent.{IsLentAs};
 ghost use Rattle.bson_laws.specs.Means.{means, norm};
 ghost use Rattle.bson_laws.specs.Plain.{IsPlain};
 ghost use Rattle.bson_laws.specs.Reads.{reads_document};
@@ -69,14 +70,17 @@ pub fn from_slice_at<'de>(alloc: Global, shape: &Shape, bytes: &'de [u8]) -> de:
     // The document that a value of a plain shape means is read back as the normal form of the value.
     ensures read_back { (v : Value) (t : Tree) → IsPlain shape.now → Fits v shape.now → means v ≡ Some t → IsSound t
         → bytes.now ≡ enc t → GivesValue (norm v) result }
+    // What stands at `str` and `bytes` is lent from the input; all else is owned.
+    ensures lent { IfOk result (λ d. IsLentAs shape.now bytes.now d) }
 {
     shape.known();
     read_document(alloc, shape, bytes)
 }
 
-/// `from_slice_at`, but for its second promise.
+/// `from_slice_at`, but for its promise on what is read back.
 fn read_document<'de>(alloc: Global, shape: &Shape, bytes: &'de [u8]) -> de::Result<Datum<'de>>
-    ensures { Gives view result (reads_document shape.now bytes.now) }
+    ensures exact { Gives view result (reads_document shape.now bytes.now) }
+    ensures lent { IfOk result (λ d. IsLentAs shape.now bytes.now d) }
 {
     let document = RawDocument::from_bytes(bytes)?;
     match read_value(alloc, shape, MAX_LEVELS, Encoded::Document(document)) {

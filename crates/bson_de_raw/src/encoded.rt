@@ -56,6 +56,7 @@ impl<'de> Encoded<'_, 'de> {
 
     /// The value, judged before any shape looks at it: it is refused for its fault, and then, where
     /// no level is left, for being a document or an array.
+    #[inline(always)]
     pub(crate) fn judge(self, alloc: Global, levels: u32) -> Reading<RawBsonRef<'de>>
         ensures exact { Reaches raw_value result (judged levels (raw_in self.entry)) }
         ensures faultless { IfOk result (λ v. raw_in self.entry ≡ Ok (raw_value v)) }

@@ -71,6 +71,7 @@ impl<'s> FieldIndex<'s> {
     }
 
     /// The place of the field that has the name, wherever it stands.
+    #[inline(never)]
     fn find(&mut self, alloc: Global, name: &str) -> Option<usize>
         ensures place { result ≡ reads.place_of (fields_of self.old.fields.now) name.now }
         ensures within { IfSome result (λ i. i < length self.old.fields.now) }

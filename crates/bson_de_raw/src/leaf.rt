@@ -1,11 +1,12 @@
 // Values at shapes without inner shapes.
-ghost use Rattle.std.specs.Prelude.{◌≡◌, option_map};
+ghost use Rattle.std.specs.Prelude.{◌≡◌, option_map, IfOk, IfSome};
 ghost use Rattle.bson_rawdoc.specs.ValueView.{raw_value};
 ghost use Rattle.bson_shape.specs.Form as form;
+ghost use Rattle.bson_datum.specs.Loans.{IsOwned};
 ghost use Rattle.bson_datum.specs.View.{view};
 ghost use Rattle.bson_laws.specs.Leaves.{leaf_kind};
 ghost use Rattle.bson_laws.specs.Reads as reads;
-ghost use Rattle.bson_de_raw.specs.Encoded.{reads_encoded};
+ghost use Rattle.bson_de_raw.specs.Encoded.{reads_encoded, IsLentFrom};
 ghost use Rattle.bson_de_raw.specs.Gives.{Reaches};
 ghost use Rattle.bson_de_raw.specs.Leaves.{number_as, reads_number};
 
@@ -26,7 +27,8 @@ pub(crate) fn read_leaf<'de>(
     levels: u32,
     value: Encoded<'_, 'de>,
 ) -> Reading<Datum<'de>>
-    ensures { Reaches view result (reads_encoded (form.leaf leaf) levels value.entry) }
+    ensures exact { Reaches view result (reads_encoded (form.leaf leaf) levels value.entry) }
+    ensures lent { IfOk result (IsLentFrom value.entry (form.leaf leaf)) }
 {
     let raw = value.judge(alloc, levels)?;
     match leaf {
@@ -90,7 +92,8 @@ pub(crate) fn null(alloc: Global, value: RawBsonRef<'_>) -> Reading<()>
 
 /// The number that a value is, at a leaf that takes numbers of an integer type.
 fn number<'de>(alloc: Global, leaf: Leaf, value: RawBsonRef<'_>) -> Reading<Datum<'de>>
-    ensures { Reaches view result (reads_number (leaf_kind leaf) (raw_value value.entry)) }
+    ensures exact { Reaches view result (reads_number (leaf_kind leaf) (raw_value value.entry)) }
+    ensures owned { IfOk result IsOwned }
 {
     let number = integer(alloc, value)?;
     match narrowed(leaf, number) {
@@ -112,7 +115,8 @@ pub(crate) fn integer(alloc: Global, value: RawBsonRef<'_>) -> Reading<i64>
 
 /// The number as a value of the leaf's type, where it lies in its range.
 fn narrowed<'de>(leaf: Leaf, number: i64) -> Option<Datum<'de>>
-    ensures { option_map view result ≡ number_as (leaf_kind leaf) number }
+    ensures exact { option_map view result ≡ number_as (leaf_kind leaf) number }
+    ensures owned { IfSome result IsOwned }
 {
     match leaf {
         Leaf::I8 => Some(Datum::I8(i8::try_from(number).ok()?)),

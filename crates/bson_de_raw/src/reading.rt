@@ -11,6 +11,8 @@ use std::alloc::Global;
 pub(crate) type Reading<T> = Result<T, Stop<de::Fault>>;
 
 /// The value itself is refused for this cause.
+#[cold]
+#[inline(never)]
 pub(crate) fn refused(alloc: Global, cause: Cause) -> Stop<de::Fault>
     ensures { stop_view read_fault result ≡ Some (here (unreadable (cause_view cause))) }
 {

@@ -1,7 +1,7 @@
 // What no clause says: that documents are read where there is memory, values that others give for them, and
 // what is printed of refusals.
 use crate::from_slice_at;
-use bson_datum::{ByteStr, Datum, Text, de};
+use bson_datum::{Datum, de};
 use bson_shape::{FieldShape, Shape};
 use std::alloc::Global;
 use std::test::Fail;
@@ -133,32 +133,6 @@ fn reads_options(rt: HostRuntime) -> Result<(), Fail> {
     assert_eq!(rt;
         refusal(alloc, unit)?.as_str(),
         "error at .: missing field i"
-    );
-    Ok(())
-}
-
-#[test]
-fn lends_texts_and_byte_strings(rt: HostRuntime) -> Result<(), Fail> {
-    let alloc = rt.alloc();
-    // A String, and an ObjectId.
-    let text = [15, 0, 0, 0, 2, 116, 0, 3, 0, 0, 0, 104, 105, 0, 0];
-    let id = [
-        20, 0, 0, 0, 7, 105, 0, 1, 2, 3, 4, 5, 6, 7, 8, 9, 10, 11, 12, 0,
-    ];
-    let shape = around(alloc, "t", Shape::str())?;
-    let Ok(Datum::Struct { fields, .. }) = from_slice_at(alloc, &shape, &text) else {
-        return Err(Fail::from("no text"));
-    };
-    assert_eq!(rt; fields.len(), 1);
-    assert!(rt; matches!(&fields[0].value, Datum::Str(Text::Borrowed(text)) if *text == "hi"));
-
-    let shape = around(alloc, "i", Shape::bytes())?;
-    let Ok(Datum::Struct { fields, .. }) = from_slice_at(alloc, &shape, &id) else {
-        return Err(Fail::from("no bytes"));
-    };
-    assert_eq!(rt; fields.len(), 1);
-    assert!(rt;
-        matches!(&fields[0].value, Datum::Bytes(ByteStr::Borrowed(bytes)) if *bytes == &id[7..19])
     );
     Ok(())
 }

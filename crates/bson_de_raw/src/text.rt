@@ -1,7 +1,8 @@
 // Texts, and characters.
-ghost use Rattle.std.specs.Prelude.{◌≡◌};
+ghost use Rattle.std.specs.Prelude.{◌≡◌, IfOk};
 ghost use Rattle.std.specs.Str.{chars};
 ghost use Rattle.bson_rawdoc.specs.ValueView.{raw_value};
+ghost use Rattle.bson_datum.specs.Loans.{IsOwned};
 ghost use Rattle.bson_datum.specs.View.{view};
 ghost use Rattle.bson_laws.specs.Leaves.{characters};
 ghost use Rattle.bson_laws.specs.Reads as reads;
@@ -40,7 +41,8 @@ fn text_of_binary<'a>(alloc: Global, binary: RawBinaryRef<'a>) -> Reading<&'a st
 
 /// The character of a value that is a text of one.
 pub(crate) fn character<'de>(alloc: Global, value: RawBsonRef<'_>) -> Reading<Datum<'de>>
-    ensures { Reaches view result (reads.read_leaf 0 characters (raw_value value.entry)) }
+    ensures exact { Reaches view result (reads.read_leaf 0 characters (raw_value value.entry)) }
+    ensures owned { IfOk result IsOwned }
 {
     let RawBsonRef::String(text) = value else {
         return Err(refused(alloc, Cause::InvalidType(value.element_type())));

@@ -1,14 +1,16 @@
-ghost use Rattle.std.specs.Prelude.{◌≡◌, IfOk, length};
+ghost use Rattle.std.specs.Prelude.{◌≡◌, IfOk};
+ghost use Rattle.bson_base.specs.Text.{Bytes};
 ghost use Rattle.bson_rawdoc.specs.DocumentView.{array_bytes, document_bytes};
 ghost use Rattle.bson_rawdoc.specs.Walk.{walk};
 ghost use Rattle.bson_shape.specs.Form as form;
 ghost use Rattle.bson_shape.specs.Makers.{AreDistinct};
 ghost use Rattle.bson_shape.specs.ShapeView.{fields_of};
 ghost use Rattle.bson_datum.specs.View.{view, items_view};
+ghost use Rattle.bson_laws.specs.Lent.{StandsIn, AreItemsLentAs};
 ghost use Rattle.bson_laws.specs.Reads as reads;
-ghost use Rattle.bson_de_raw.specs.Encoded.{reads_encoded};
+ghost use Rattle.bson_de_raw.specs.Encoded.{reads_encoded, IsLentFrom};
 ghost use Rattle.bson_de_raw.specs.Gives.{Reaches};
-ghost use Rattle.bson_de_raw.specs.SlotsView.{slots_view, slot_names, names_of, filled_by};
+ghost use Rattle.bson_de_raw.specs.SlotsView.{slots_view, filled_by, AreSlotsLent};
 
 use crate::encoded::Encoded;
 use crate::ignored::ignore;
@@ -30,7 +32,8 @@ pub(crate) fn read_value<'de>(
     levels: u32,
     value: Encoded<'_, 'de>,
 ) -> Reading<Datum<'de>>
-    ensures { Reaches view result (reads_encoded shape.now levels value.entry) }
+    ensures exact { Reaches view result (reads_encoded shape.now levels value.entry) }
+    ensures lent { IfOk result (IsLentFrom value.entry shape.now) }
 {
     shape.known();
     match shape.form() {
@@ -51,7 +54,8 @@ fn read_option<'de>(
     levels: u32,
     value: Encoded<'_, 'de>,
 ) -> Reading<Datum<'de>>
-    ensures { Reaches view result (reads_encoded (form.optional inner.now) levels value.entry) }
+    ensures exact { Reaches view result (reads_encoded (form.optional inner.now) levels value.entry) }
+    ensures lent { IfOk result (IsLentFrom value.entry (form.optional inner.now)) }
 {
     if value.kind() == ElementType::Null {
         return Ok(Datum::None);
@@ -69,8 +73,9 @@ fn read_newtype<'de>(
     levels: u32,
     value: Encoded<'_, 'de>,
 ) -> Reading<Datum<'de>>
-    ensures { Reaches view result
+    ensures exact { Reaches view result
         (reads_encoded (form.newtype name.now inner.now) levels value.entry) }
+    ensures lent { IfOk result (IsLentFrom value.entry (form.newtype name.now inner.now)) }
 {
     let value = read_value(alloc, inner, levels, value)?;
     let value = Box::new(alloc, value)?;
@@ -85,8 +90,9 @@ fn read_unit_struct<'de>(
     levels: u32,
     value: Encoded<'_, 'de>,
 ) -> Reading<Datum<'de>>
-    ensures { Reaches view result
+    ensures exact { Reaches view result
         (reads_encoded (form.unit_structure name.now) levels value.entry) }
+    ensures lent { IfOk result (IsLentFrom value.entry (form.unit_structure name.now)) }
 {
     null(alloc, value.judge(alloc, levels)?)?;
     let name = Text::Owned(String::from_str(alloc, name)?);
@@ -94,6 +100,7 @@ fn read_unit_struct<'de>(
 }
 
 /// The value at a sequence whose items have this shape.
+#[inline(never)]
 #[cycle(read)]
 fn read_sequence<'de>(
     alloc: Global,
@@ -101,7 +108,8 @@ fn read_sequence<'de>(
     levels: u32,
     value: Encoded<'_, 'de>,
 ) -> Reading<Datum<'de>>
-    ensures { Reaches view result (reads_encoded (form.sequence item.now) levels value.entry) }
+    ensures exact { Reaches view result (reads_encoded (form.sequence item.now) levels value.entry) }
+    ensures lent { IfOk result (IsLentFrom value.entry (form.sequence item.now)) }
 {
     let array = value.enter_array(alloc, levels)?;
     let items = read_items(alloc, item, levels - 1, array)?;
@@ -116,8 +124,9 @@ fn read_items<'de>(
     levels: u32,
     array: RawArray<'de>,
 ) -> Reading<Vec<Datum<'de>>>
-    ensures { Reaches (λ v. items_view v.items) result
+    ensures exact { Reaches (λ v. items_view v.items) result
         (reads.reads_items (reads.reads item.now levels) 0 (walk (array_bytes array.entry))) }
+    ensures lent { IfOk result (λ v. AreItemsLentAs item.now (array_bytes array.entry) v.items) }
 {
     let mut items = Vec::new(alloc);
     let mut elements = array.as_doc().iter_elements();
@@ -146,30 +155,32 @@ fn read_struct<'de>(
     value: Encoded<'_, 'de>,
 ) -> Reading<Datum<'de>>
     requires { AreDistinct (fields_of fields.now) }
-    ensures { Reaches view result
+    ensures exact { Reaches view result
         (reads_encoded (form.structure name.now (fields_of fields.now)) levels value.entry) }
+    ensures lent { IfOk result
+        (IsLentFrom value.entry (form.structure name.now (fields_of fields.now))) }
 {
     let document = value.enter(alloc, levels)?;
     let slots = fill(alloc, fields, levels - 1, document)?;
-    let fields = slots.finish(alloc, fields)?;
+    let fields = slots.finish(alloc)?;
     let name = Text::Owned(String::from_str(alloc, name)?);
     Ok(Datum::Struct { name, fields })
 }
 
 /// The values of the fields from the elements of a document, with so many levels left inside it.
 #[cycle(read)]
-fn fill<'de>(
+fn fill<'s, 'de>(
     alloc: Global,
-    fields: &[FieldShape],
+    fields: &'s [FieldShape],
     levels: u32,
     document: RawDocument<'de>,
-) -> Reading<Slots<'de>>
+) -> Reading<Slots<'s, 'de>>
     requires { AreDistinct (fields_of fields.now) }
-    ensures len { IfOk result (λ s. length (slots_view s) ≡ length fields.now) }
-    ensures names { IfOk result (λ s. slot_names s ≡ names_of fields.now) }
+    ensures fields { IfOk result (λ s. s.fields.now ≡ fields.now) }
     ensures exact { Reaches slots_view result
         (reads.fill (filled_by (fields_of fields.now) levels)
         (walk (document_bytes document.entry)) (reads.no_slots (fields_of fields.now))) }
+    ensures lent { IfOk result (AreSlotsLent (document_bytes document.entry)) }
 {
     let mut index = FieldIndex::new(fields);
     let mut slots = Slots::new(alloc, fields)?;
@@ -191,14 +202,15 @@ fn fill_one<'de>(
     levels: u32,
     element: &RawElement<'de>,
     index: &mut FieldIndex<'_>,
-    slots: &mut Slots<'de>,
+    slots: &mut Slots<'_, 'de>,
 ) -> Reading<()>
-    requires { length (slots_view slots.old) ≡ length index.old.fields.now }
+    requires { slots.old.fields.now ≡ index.old.fields.now }
     ensures fields { index.new.fields ≡ index.old.fields }
-    ensures kept { length (slots_view slots.new) ≡ length (slots_view slots.old) }
-    ensures names { slot_names slots.new ≡ slot_names slots.old }
+    ensures kept { slots.new.fields ≡ slots.old.fields }
     ensures exact { Reaches (λ _. slots_view slots.new) result
         (filled_by (fields_of index.old.fields.now) levels element.now (slots_view slots.old)) }
+    ensures lent { IfOk result (λ _. (input : Bytes) → StandsIn element.now.value input
+        → AreSlotsLent input slots.old → AreSlotsLent input slots.new) }
 {
     let key = element.key();
     let fields = index.fields;
@@ -215,7 +227,7 @@ fn fill_one<'de>(
     let shape = &fields[place].shape;
     match read_value(alloc, shape, levels, Encoded::Element(element)) {
         Ok(value) => {
-            slots.put(place, value);
+            slots.put(alloc, place, value)?;
             Ok(())
         }
         Err(stop) => Err(stop.under_key(key)),

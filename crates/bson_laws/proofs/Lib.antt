@@ -21,3 +21,5 @@ pub mod Entries
 pub mod Unshaped
 pub mod ReadBack
 pub mod Rewritten
+pub mod Standing
+pub mod Lent

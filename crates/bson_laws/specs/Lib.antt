@@ -6,3 +6,4 @@ pub mod Plain
 pub mod Writable
 pub mod Reads
 pub mod Spell
+pub mod Lent

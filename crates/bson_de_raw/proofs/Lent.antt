@@ -1,0 +1,140 @@
+-- What is lent from the bytes of a value.
+use Rattle.std.proofs.Common.{◌≡◌, ℕ, zero, suc, List, get_or, set, Bool, true, false, cond, Some, Result, Ok, Err, IfOk, ap, sym, subst}
+use Rattle.std.specs.Prelude.{◌&&◌, eqb}
+use Rattle.std.specs.Borrow.{Bor}
+use Rattle.std.specs.Global.{Vec}
+use Rattle.std.specs.Str.{is_utf8}
+use Rattle.bson_base.specs.Text.{Bytes, Utf8}
+use Rattle.bson_base.proofs.Outcomes.{done, ok_is, bind_ok}
+use Rattle.bson_rawdoc.specs.DocumentView.{document_bytes}
+use Rattle.bson_rawdoc.specs.Envelope.{envelope}
+use Rattle.bson_rawdoc.specs.RawValue.{RawValue, string, document, array, binary, object_id}
+use Rattle.bson_rawdoc.specs.declared.document.RawDocument.{RawDocument}
+use Rattle.bson_rawdoc.specs.declared.raw.Error as raw_error
+use Rattle.bson_shape.specs.Form.{Form, leaf, sequence, structure}
+use Rattle.bson_shape.specs.ShapeView.{fields_of}
+use Rattle.bson_shape.specs.declared.shape.FieldShape.{FieldShape}
+use Rattle.bson_shape.specs.declared.leaf.Leaf.{Leaf}
+use Rattle.bson_datum.specs.Cause.{not_utf8, too_deep}
+use Rattle.bson_datum.specs.Refusal.{ReadFault, Refusal}
+use Rattle.bson_datum.specs.Loans.{IsOwned}
+use Rattle.bson_datum.specs.declared.datum.Datum.{Datum, Seq, Struct}
+use Rattle.bson_datum.specs.declared.datum.Field.{Field}
+use Rattle.bson_datum.specs.declared.de.Fault.{Fault}
+use Rattle.bson_datum.specs.declared.stop.Stop.{Stop}
+use Rattle.bson_datum.specs.declared.text.Text as text
+use Rattle.bson_laws.specs.Lent.{StandsIn, IsTextOwned, AllLent, lends, IsLentIf, IsLentAs, AreItemsLentAs, AreFieldsLentAs}
+use Rattle.bson_laws.specs.Reads.{refused, faultless, is_container, with_level, judged, text_of, text_of_binary, bytes_of, bytes_of_binary, array_of, document_of}
+use Rattle.bson_laws.proofs.Lent.{lent_wider, sequence_lent, structure_lent}
+use Rattle.bson_laws.proofs.Standing.{PartsStandIn, value_stands, envelope_is}
+use Rattle.bson_de_raw.specs.Encoded.{encoded_kind, encoded_bytes, raw_in, entered, entered_array, IsLentFrom}
+use Rattle.bson_de_raw.specs.SlotsView.{slot_values, AreSlotsLent}
+use Rattle.bson_de_raw.specs.ValuesRead.{AreValuesLent}
+use Rattle.bson_de_raw.specs.declared.encoded.Encoded.{Encoded}
+use Rattle.bson_de_raw.specs.declared.encoded.Encoded.TheVariants.{Document}
+use Rattle.bson_de_raw.specs.declared.slots.Slots.{Slots}
+use Rattle.bson_de_raw.proofs.Finished.{lent_set}
+
+got : {A : Type 0} (x y : A) → done {E = Refusal ReadFault} x ≡ Ok y → x ≡ y
+got x y e = ok_is x y e
+
+-- ---- texts and byte strings
+
+utf8_stands : (b : Bool) (bytes t input : Bytes) → StandsIn bytes input → cond b (Ok bytes) (refused not_utf8) ≡ Ok t → StandsIn t input
+utf8_stands true bytes t input there e = subst (λ x. StandsIn x input) (got bytes t e) there
+utf8_stands false bytes t input there e = absurd cc
+
+binary_text_stands : (subtype : ℕ) (bytes t input : Bytes) → StandsIn bytes input → text_of_binary subtype bytes ≡ Ok t → StandsIn t input
+binary_text_stands zero bytes t input there e = utf8_stands (is_utf8 bytes) bytes t input there e
+binary_text_stands (suc n) bytes t input there e = absurd cc
+
+-- the text of a value stands in its bytes
+text_of_stands : (v : RawValue) (t : Utf8) (input : Bytes) → PartsStandIn input v → text_of v ≡ Ok t → StandsIn t input
+text_of_stands (string s) t input there e = subst (λ x. StandsIn x input) (got s t e) there
+text_of_stands (binary subtype bytes) t input there e = binary_text_stands subtype bytes t input there e
+text_of_stands v t input there e = absurd cc
+
+binary_bytes_stand : (subtype : ℕ) (bytes b input : Bytes) → StandsIn bytes input → bytes_of_binary subtype bytes ≡ Ok b → StandsIn b input
+binary_bytes_stand zero bytes b input there e = subst (λ x. StandsIn x input) (got bytes b e) there
+binary_bytes_stand (suc n) bytes b input there e = absurd cc
+
+-- so do its bytes
+bytes_of_stand : (v : RawValue) (b input : Bytes) → PartsStandIn input v → bytes_of v ≡ Ok b → StandsIn b input
+bytes_of_stand (binary subtype bytes) b input there e = binary_bytes_stand subtype bytes b input there e
+bytes_of_stand (string s) b input there e = subst (λ x. StandsIn x input) (got s b e) there
+bytes_of_stand (object_id id) b input there e = subst (λ x. StandsIn x input) (got id b e) there
+bytes_of_stand v b input there e = absurd cc
+
+pub text_lent : (v : Encoded) (x : RawValue) (t : Utf8) → raw_in v ≡ Ok x → text_of x ≡ Ok t → StandsIn t (encoded_bytes v)
+text_lent v x t is e = text_of_stands x t (encoded_bytes v) (value_stands (encoded_kind v) (encoded_bytes v) x is) e
+
+pub bytes_lent : (v : Encoded) (x : RawValue) (b : Bytes) → raw_in v ≡ Ok x → bytes_of x ≡ Ok b → StandsIn b (encoded_bytes v)
+bytes_lent v x b is e = bytes_of_stand x b (encoded_bytes v) (value_stands (encoded_kind v) (encoded_bytes v) x is) e
+
+-- at a leaf that lends, and at one that does not
+pub leaf_lent : (l : Leaf) (v : Encoded) (d : Datum) → lends l ≡ true → AllLent (encoded_bytes v) d → IsLentFrom v (leaf l) d
+leaf_lent l v d e h = subst (λ lent. IsLentIf lent (encoded_bytes v) d) (sym e) h
+
+pub leaf_owned : (l : Leaf) (v : Encoded) (r : Result Datum (Stop Fault)) → lends l ≡ false → IfOk r IsOwned → IfOk r (IsLentFrom v (leaf l))
+leaf_owned l v (Ok d) e h = subst (λ lent. IsLentIf lent (encoded_bytes v) d) (sym e) h
+leaf_owned l v (Err s) e h = tt
+
+-- ---- documents and arrays
+
+level_kept : (b : Bool) (x y : RawValue) → cond b (refused too_deep) (Ok x) ≡ Ok y → x ≡ y
+level_kept true x y e = absurd cc
+level_kept false x y e = got x y e
+
+faultless_is : (r : Result RawValue raw_error.Error) (x : RawValue) → faultless r ≡ Ok x → r ≡ Ok x
+faultless_is (Ok y) x e = cc
+faultless_is (Err f) x e = absurd cc
+
+-- what was judged good is the value
+judged_is : (levels : ℕ) (r : Result RawValue raw_error.Error) (x : RawValue) → judged levels r ≡ Ok x → r ≡ Ok x
+judged_is levels r x e =
+    let step = bind_ok (faultless r) (with_level levels) x e in
+    subst (λ y. r ≡ Ok y) (level_kept (is_container step.0 && eqb levels 0) step.0 x step.2) (faultless_is r step.0 step.1)
+
+document_stands : (v : RawValue) (body input : Bytes) → PartsStandIn input v → document_of v ≡ Ok body → StandsIn body input
+document_stands (document b) body input there e = subst (λ x. StandsIn x input) (got b body e) there
+document_stands v body input there e = absurd cc
+
+array_stands : (v : RawValue) (body input : Bytes) → PartsStandIn input v → array_of v ≡ Ok body → StandsIn body input
+array_stands (array b) body input there e = subst (λ x. StandsIn x input) (got b body e) there
+array_stands v body input there e = absurd cc
+
+-- a document or an array that was entered stands in the value's bytes
+pub entered_stands : (levels : ℕ) (v : Encoded) (body : Bytes) → entered levels v ≡ Ok body → StandsIn body (encoded_bytes v)
+entered_stands levels v body e =
+    let step = bind_ok (judged levels (raw_in v)) document_of body e in
+    document_stands step.0 body (encoded_bytes v) (value_stands (encoded_kind v) (encoded_bytes v) step.0 (judged_is levels (raw_in v) step.0 step.1)) step.2
+
+pub entered_array_stands : (levels : ℕ) (v : Encoded) (body : Bytes) → entered_array levels v ≡ Ok body → StandsIn body (encoded_bytes v)
+entered_array_stands levels v body e =
+    let step = bind_ok (judged levels (raw_in v)) array_of body e in
+    array_stands step.0 body (encoded_bytes v) (value_stands (encoded_kind v) (encoded_bytes v) step.0 (judged_is levels (raw_in v) step.0 step.1)) step.2
+
+-- ---- the fields of a struct
+
+-- one more value that was read, of bytes that stand in the input
+pub one_lent : (input bytes : Bytes) (old new : Slots) (i : ℕ) (f : FieldShape) (d : Datum) → new.fields ≡ old.fields → slot_values new ≡ set (slot_values old) i (Some d) → f ≡ get_or old.fields.now i f → IsLentAs f.shape bytes d → StandsIn bytes input
+    → AreSlotsLent input old → AreSlotsLent input new
+one_lent input bytes old new i f d same put stands lent there so_far =
+    let more = lent_set input old.fields.now (slot_values old) i f d stands (lent_wider f.shape bytes input d there lent) so_far in
+    subst (AreValuesLent input new.fields.now) (sym put) (subst (λ fs. AreValuesLent input fs (set (slot_values old) i (Some d))) (ap (λ (b : Bor (List FieldShape)). b.now) (sym same)) more)
+
+-- the fields of a struct whose document stands in a value's bytes
+pub struct_lent : (name : Bytes) (s : Slots) (fs : List FieldShape) (v : Encoded) (levels : ℕ) (body : Bytes) (named : text.Text) (xs : Vec Field) → entered levels v ≡ Ok body → AreSlotsLent body s → s.fields.now ≡ fs → IsTextOwned named
+    → ((input : Bytes) → AreSlotsLent input s → AreFieldsLentAs (fields_of s.fields.now) input xs.items) → IsLentFrom v (structure name (fields_of fs)) (Struct named xs)
+struct_lent name s fs v levels body named xs inside read same owned finished =
+    lent_wider (structure name (fields_of fs)) body (encoded_bytes v) (Struct named xs) (entered_stands levels v body inside)
+    (structure_lent name (fields_of fs) body named xs owned (subst (λ gs. AreFieldsLentAs (fields_of gs) body xs.items) same (finished body read)))
+
+-- the items of a sequence whose array stands in a value's bytes
+pub items_of_lent : (item : Form) (v : Encoded) (levels : ℕ) (body : Bytes) (ds : Vec Datum) → entered_array levels v ≡ Ok body → AreItemsLentAs item body ds.items → IsLentFrom v (sequence item) (Seq ds)
+items_of_lent item v levels body ds inside read =
+    lent_wider (sequence item) body (encoded_bytes v) (Seq ds) (entered_array_stands levels v body inside) (sequence_lent item body ds read)
+
+-- a whole document, whose envelope was passed
+pub document_lent : (s : Form) (bytes : Bytes) (whole : RawDocument) (d : Datum) → envelope bytes ≡ Ok (document_bytes whole) → IsLentFrom (Document whole) s d → IsLentAs s bytes d
+document_lent s bytes whole d passed h = subst (λ b. IsLentAs s b d) (envelope_is bytes (document_bytes whole) passed) h

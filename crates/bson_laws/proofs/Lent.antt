@@ -1,0 +1,90 @@
+-- What is lent from a part of the input is lent from the input, and what is lent of a value whose parts stand in a `Vec`.
+use Rattle.std.proofs.Common.{List, [], ◌∷◌, ◌++◌, Bool, true, false, sym, subst}
+use Rattle.std.specs.Global.{Vec}
+use Rattle.bson_base.specs.Text.{Bytes}
+use Rattle.bson_shape.specs.Form.{Form, leaf, optional, sequence, newtype, unit_structure, structure, Fields, no_fields, field}
+use Rattle.bson_datum.specs.declared.text.Text as text
+use Rattle.bson_datum.specs.declared.text.Text.TheVariants as texts
+use Rattle.bson_datum.specs.declared.byte_str.ByteStr as byte_str
+use Rattle.bson_datum.specs.declared.byte_str.ByteStr.TheVariants as byte_strs
+use Rattle.bson_datum.specs.declared.datum.Field.{Field}
+use Rattle.bson_datum.specs.declared.datum.Datum as datum
+use Rattle.bson_datum.specs.declared.datum.Datum.TheBlock.{hidden-the_row-Datum-0, hidden-the_row-Field-1}
+use Rattle.bson_datum.specs.declared.datum.Datum.{Datum, Str, UnitStruct, NewtypeStruct', Seq, Seq', Struct, Struct', Row_of-Datum, end_of-Datum, more_of-Datum, items-the_row-Datum, items_hidden-the_row-Datum-0, Row_of-Field, end_of-Field, more_of-Field, items-the_row-Field, items_hidden-the_row-Field-1}
+use Rattle.bson_laws.specs.Lent.{StandsIn, IsTextLent, IsByteStrLent, IsTextOwned, AllLent, AllItemsLent, AllFieldsLent, lends, IsLentIf, IsLentAs, AreRowsLentAs, AreFieldRowsLentAs, AreItemsLentAs, AreFieldsLentAs}
+use Rattle.bson_laws.proofs.Standing.{stands_within}
+
+-- ---- a part of the input, and the input
+
+text_wider : (a b : Bytes) (t : text.Text) → StandsIn a b → IsTextLent a t → IsTextLent b t
+text_wider a b (texts.Borrowed t) wide h = stands_within t.now a b h wide
+text_wider a b (texts.Owned t) wide h = absurd h
+
+byte_str_wider : (a b : Bytes) (t : byte_str.ByteStr) → StandsIn a b → IsByteStrLent a t → IsByteStrLent b t
+byte_str_wider a b (byte_strs.Borrowed t) wide h = stands_within t.now a b h wide
+byte_str_wider a b (byte_strs.Owned t) wide h = absurd h
+
+mutual
+  all_wider : (a b : Bytes) (d : Datum) → StandsIn a b → AllLent a d → AllLent b d
+  all_wider a b (Str t) wide h = text_wider a b t wide h
+  all_wider a b (datum.Bytes t) wide h = byte_str_wider a b t wide h
+  all_wider a b (datum.Some' p d) wide h = all_wider a b d wide h
+  all_wider a b (UnitStruct name) wide h = text_wider a b name wide h
+  all_wider a b (NewtypeStruct' name p d) wide h = (text_wider a b name wide h.0, all_wider a b d wide h.1)
+  all_wider a b (Seq' shape rows) wide h = all_items_wider a b rows wide h
+  all_wider a b (Struct' name shape rows) wide h = (text_wider a b name wide h.0, all_fields_wider a b rows wide h.1)
+  all_wider a b d wide h = tt
+
+  all_items_wider : {m : _} → (a b : Bytes) (rows : Row_of-Datum m) → StandsIn a b → AllItemsLent a rows → AllItemsLent b rows
+  all_items_wider a b end_of-Datum wide h = tt
+  all_items_wider a b (more_of-Datum d rest) wide h = (all_wider a b d wide h.0, all_items_wider a b rest wide h.1)
+
+  all_fields_wider : {m : _} → (a b : Bytes) (rows : Row_of-Field m) → StandsIn a b → AllFieldsLent a rows → AllFieldsLent b rows
+  all_fields_wider a b end_of-Field wide h = tt
+  all_fields_wider a b (more_of-Field name d rest) wide h = (text_wider a b name wide h.0, all_wider a b d wide h.1, all_fields_wider a b rest wide h.2)
+
+if_wider : (lent : Bool) (a b : Bytes) (d : Datum) → StandsIn a b → IsLentIf lent a d → IsLentIf lent b d
+if_wider true a b d wide h = all_wider a b d wide h
+if_wider false a b d wide h = h
+
+mutual
+  pub lent_wider : (s : Form) (a b : Bytes) (d : Datum) → StandsIn a b → IsLentAs s a d → IsLentAs s b d
+  lent_wider (leaf l) a b d wide h = if_wider (lends l) a b d wide h
+  lent_wider (optional s) a b datum.None wide h = tt
+  lent_wider (optional s) a b (datum.Some' p d) wide h = lent_wider s a b d wide h
+  lent_wider (newtype n s) a b (NewtypeStruct' name p d) wide h = (h.0, lent_wider s a b d wide h.1)
+  lent_wider (unit_structure n) a b (UnitStruct name) wide h = h
+  lent_wider (sequence s) a b (Seq' shape rows) wide h = rows_wider s a b rows wide h
+  lent_wider (structure n fs) a b (Struct' name shape rows) wide h = (h.0, field_rows_wider fs a b rows wide h.1)
+  lent_wider s a b d wide h = absurd h
+
+  rows_wider : {m : _} → (s : Form) (a b : Bytes) (rows : Row_of-Datum m) → StandsIn a b → AreRowsLentAs s a rows → AreRowsLentAs s b rows
+  rows_wider s a b end_of-Datum wide h = tt
+  rows_wider s a b (more_of-Datum d rest) wide h = (lent_wider s a b d wide h.0, rows_wider s a b rest wide h.1)
+
+  field_rows_wider : {m : _} → (fs : Fields) (a b : Bytes) (rows : Row_of-Field m) → StandsIn a b → AreFieldRowsLentAs fs a rows → AreFieldRowsLentAs fs b rows
+  field_rows_wider no_fields a b end_of-Field wide h = tt
+  field_rows_wider (field n s fs) a b (more_of-Field name d rest) wide h = (h.0, lent_wider s a b d wide h.1, field_rows_wider fs a b rest wide h.2)
+  field_rows_wider fs a b rows wide h = absurd h
+
+-- ---- values whose parts stand in a `Vec`
+
+items_lent : (s : Form) (input : Bytes) (m : _) (rows : Row_of-Datum m) → AreItemsLentAs s input (items-the_row-Datum m rows) → AreRowsLentAs s input rows
+items_lent s input m end_of-Datum h = tt
+items_lent s input m (more_of-Datum d rest) h = (h.0, items_lent s input _ rest h.1)
+
+pub sequence_lent : (s : Form) (input : Bytes) (ds : Vec Datum) → AreItemsLentAs s input ds.items → IsLentAs (sequence s) input (Seq ds)
+sequence_lent s input ds h = items_lent s input _ (hidden-the_row-Datum-0 ds) (subst (AreItemsLentAs s input) (sym (items_hidden-the_row-Datum-0 ds)) h)
+
+fields_lent : (fs : Fields) (input : Bytes) (m : _) (rows : Row_of-Field m) → AreFieldsLentAs fs input (items-the_row-Field m rows) → AreFieldRowsLentAs fs input rows
+fields_lent no_fields input m end_of-Field h = tt
+fields_lent (field n s fs) input m (more_of-Field name d rest) h = (h.0, h.1, fields_lent fs input _ rest h.2)
+fields_lent fs input m rows h = absurd h
+
+pub structure_lent : (n : Bytes) (fs : Fields) (input : Bytes) (name : text.Text) (xs : Vec Field) → IsTextOwned name → AreFieldsLentAs fs input xs.items → IsLentAs (structure n fs) input (Struct name xs)
+structure_lent n fs input name xs owned h = (owned, fields_lent fs input _ (hidden-the_row-Field-1 xs) (subst (AreFieldsLentAs fs input) (sym (items_hidden-the_row-Field-1 xs)) h))
+
+-- the next item
+pub items_lent_push : (s : Form) (input : Bytes) (ds : List Datum) (d : Datum) → AreItemsLentAs s input ds → IsLentAs s input d → AreItemsLentAs s input (ds ++ d ∷ [])
+items_lent_push s input [] d h next = (next, tt)
+items_lent_push s input (x ∷ ds) d h next = (h.0, items_lent_push s input ds d h.1 next)
