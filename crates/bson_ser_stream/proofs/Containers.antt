@@ -6,10 +6,10 @@ use Rattle.bson_base.specs.Outcome.{result_map}
 use Rattle.bson_base.specs.Sound.{max_bytes}
 use Rattle.bson_base.specs.Tree.{Tree, document, array, le32, enc, elements, array_elements, enclosed}
 use Rattle.bson_base.proofs.Lengths.{length-le32}
-use Rattle.bson_datum.specs.Value.{Items, FieldValues}
+use Rattle.bson_datum.specs.Value.{Items, Entries, FieldValues}
 use Rattle.bson_io.specs.Output.{Output, Appended, patched}
-use Rattle.bson_laws.specs.Spell.{Writing, spell_items, spell_fields, enclosed_at, size_items, size_fields}
-use Rattle.bson_laws.proofs.Sizes.{ok_is, length-spell_items, length-spell_fields}
+use Rattle.bson_laws.specs.Spell.{Writing, spell_items, spell_entries, spell_fields, enclosed_at, size_items, size_entries, size_fields}
+use Rattle.bson_laws.proofs.Sizes.{ok_is, length-spell_items, length-spell_entries, length-spell_fields}
 use Rattle.bson_ser_stream.specs.Writing.{with_bytes, with_tree, length_place, level_inside}
 use Rattle.bson_ser_stream.specs.Halting.{Halts, Grows, Ends, EndHalts}
 use Rattle.bson_ser_stream.proofs.Growth.{Grows-trans, Grows-appended, Grows-longer}
@@ -24,6 +24,9 @@ pub record Parts {A : Type 0} (container : A → Tree) (bytes : A → Bytes) (pa
 
 pub Parts-fields : (fs : FieldValues) → Parts document elements (spell_fields fs) (size_fields fs)
 Parts-fields fs = record { encloses = λ ps. refl; long = length-spell_fields fs }
+
+pub Parts-entries : (es : Entries) → Parts document elements (spell_entries es) (size_entries es)
+Parts-entries es = record { encloses = λ ps. refl; long = length-spell_entries es }
 
 pub Parts-items : (vs : Items) → Parts array (array_elements 0) (spell_items 0 vs) (size_items 0 vs)
 Parts-items vs = record { encloses = λ ts. refl; long = length-spell_items 0 vs }

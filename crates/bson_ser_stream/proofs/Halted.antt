@@ -5,17 +5,17 @@ use Rattle.std.specs.Fmt.{decimal}
 use Rattle.bson_base.specs.Text.{Bytes, Utf8}
 use Rattle.bson_base.specs.Outcome.{◌>>=◌}
 use Rattle.bson_base.specs.Sound.{IsSound}
-use Rattle.bson_base.specs.Tree.{Tree, pair, tree, elements, array_elements}
-use Rattle.bson_datum.specs.Value.{Value, Items, item, FieldValues, field_value}
-use Rattle.bson_datum.specs.Refusal.{Refusal, WriteFault, under_index}
+use Rattle.bson_base.specs.Tree.{Tree, Pairs, pair, tree, elements, array_elements}
+use Rattle.bson_datum.specs.Value.{Value, Items, item, Entries, entry, FieldValues, field_value}
+use Rattle.bson_datum.specs.Refusal.{Refusal, WriteFault, under, under_index}
 use Rattle.bson_datum.specs.declared.stop.Stop.TheVariants.{Refused, NoMemory}
 use Rattle.bson_io.specs.Output.{Output}
-use Rattle.bson_laws.specs.Means.{means}
-use Rattle.bson_laws.specs.Spell.{Writing, named, spell, spell_items, spell_fields, spell_document, size, size_items, size_fields}
+use Rattle.bson_laws.specs.Means.{means, key_text}
+use Rattle.bson_laws.specs.Spell.{Writing, named, spell, spell_items, spell_key, spell_entries, spell_fields, spell_document, key_size, size, size_items, size_entries, size_fields}
 use Rattle.bson_laws.proofs.Spelled.{spell_means}
-use Rattle.bson_ser_stream.specs.Writing.{with_bytes, with_tree, with_element, with_elements, with_array_elements}
+use Rattle.bson_ser_stream.specs.Writing.{with_bytes, with_tree, with_element, with_entry, with_elements, with_array_elements}
 use Rattle.bson_ser_stream.specs.Halting.{Halts, Gives, Grows, EndHalts}
-use Rattle.bson_ser_stream.proofs.Written.{length-with_elements, length-with_array_elements}
+use Rattle.bson_ser_stream.proofs.Written.{length-with_elements, length-with_entries, length-with_array_elements}
 use Rattle.bson_ser_stream.specs.declared.halt.Halt.{Halt}
 use Rattle.bson_ser_stream.specs.declared.halt.Halt.TheVariants.{Stopped, TooLong}
 
@@ -48,31 +48,59 @@ err_first : {A : Type 0} (bytes : A → Bytes) (join : Tree → A → A) (r : Wr
 err_first bytes join (Ok t) s old key f e = absurd cc
 err_first bytes join (Err g) s old key f e = let same : g ≡ f = cc in ap Err same
 
+ok_entry : (k : Writing Utf8) (r : Writing Tree) (s : Writing Pairs) (old new : Bytes) → with_elements old (k >>= λ key. first_and (pair key) (under key r) s) ≡ Ok new → IsOk (with_entry old k r)
+ok_entry (Ok key) r s old new e = ok_first elements (pair key) (under key r) s old key new e
+ok_entry (Err f) r s old new e = absurd cc
+
+err_entry : (k : Writing Utf8) (r : Writing Tree) (s : Writing Pairs) (old : Bytes) (f : Refusal WriteFault) → with_entry old k r ≡ Err f → with_elements old (k >>= λ key. first_and (pair key) (under key r) s) ≡ Err f
+err_entry (Ok key) r s old f e = err_first elements (pair key) (under key r) s old key f e
+err_entry (Err g) r s old f e = let same : g ≡ f = cc in ap Err same
+
 -- elements of which one is not written, behind others that were
-rest_halts : {A : Type 0} (bytes : A → Bytes) (join : Tree → A → A) (r : Writing Tree) (s : Writing A) (due : Writing Bytes) (key : Utf8) (h : Halt) (first left all before now : ℕ) (old mid : Output) → with_bytes bytes mid.bytes (first_and join r s) ≡ due
+rest_halts : (one due : Writing Bytes) (h : Halt) (first left all before now : ℕ) (old mid : Output) → ((new : Bytes) → due ≡ Ok new → IsOk one) → ((f : Refusal WriteFault) → one ≡ Err f → due ≡ Err f)
     → ((new : Bytes) → due ≡ Ok new → length new ≡ length old.bytes + all) → ((new : Bytes) → due ≡ Ok new → length new ≡ length mid.bytes + left) → first ≤ left → left ≤ all → Grows old mid before now
-    → Halts first mid.spare (with_element mid.bytes key r) h → Halts all old.spare due h
-rest_halts bytes join r s due key TooLong first left all before now old mid same long longer within less grows halts = omega (arith, halts)
-rest_halts bytes join r s due key (Stopped (Refused x)) first left all before now old mid same long longer within less grows halts = sym same ∙ err_first bytes join r s mid.bytes key _ halts
-rest_halts bytes join r s due key (Stopped NoMemory) first left all before now old mid same long longer within less grows halts = λ ok.
-    let whole = ok_value due ok in
-    omega (arith, halts (ok_first bytes join r s mid.bytes key whole.0 (same ∙ whole.1)), grows.room, long whole.0 whole.1, longer whole.0 whole.1)
+    → Halts first mid.spare one h → Halts all old.spare due h
+rest_halts one due TooLong first left all before now old mid ok err long longer within less grows halts = omega (arith, halts)
+rest_halts one due (Stopped (Refused x)) first left all before now old mid ok err long longer within less grows halts = err _ halts
+rest_halts one due (Stopped NoMemory) first left all before now old mid ok err long longer within less grows halts = λ done.
+    let whole = ok_value due done in
+    omega (arith, halts (ok whole.0 whole.1), grows.room, long whole.0 whole.1, longer whole.0 whole.1)
 
 -- the fields behind a field that is not written
 pub field_halts : (h : Halt) (key : Utf8) (v : Value) (rest left all : FieldValues) (levels before now : ℕ) (old mid : Output) → left ≡ field_value key v rest
     → with_elements mid.bytes (spell_fields left levels) ≡ with_elements old.bytes (spell_fields all levels) → size_fields left ≤ size_fields all → Grows old mid before now → Halts (length key + 2 + size v) mid.spare (with_element mid.bytes key (named key (spell v levels))) h
     → Halts (size_fields all) old.spare (with_elements old.bytes (spell_fields all levels)) h
 field_halts h key v rest left all levels before now old mid is same less grows halts =
-    rest_halts elements (pair key) (named key (spell v levels)) (spell_fields rest levels) _ key h (length key + 2 + size v) (size_fields left) (size_fields all) before now old mid
-    (ap (λ l. with_elements mid.bytes (spell_fields l levels)) (sym is) ∙ same) (λ new e. length-with_elements old.bytes new all levels e) (λ new e. length-with_elements mid.bytes new left levels (same ∙ e)) (omega (arith, ap size_fields is)) less grows halts
+    let one = named key (spell v levels) in
+    let behind = spell_fields rest levels in
+    let joined = ap (λ l. with_elements mid.bytes (spell_fields l levels)) (sym is) ∙ same in
+    rest_halts (with_element mid.bytes key one) (with_elements old.bytes (spell_fields all levels)) h (length key + 2 + size v) (size_fields left) (size_fields all) before now old mid
+    (λ new e. ok_first elements (pair key) one behind mid.bytes key new (joined ∙ e)) (λ f e. sym joined ∙ err_first elements (pair key) one behind mid.bytes key f e)
+    (λ new e. length-with_elements old.bytes new all levels e) (λ new e. length-with_elements mid.bytes new left levels (same ∙ e)) (omega (arith, ap size_fields is)) less grows halts
+
+-- the entries behind an entry that is not written
+pub entry_halts : (h : Halt) (k v : Value) (rest left all : Entries) (levels before now : ℕ) (old mid : Output) → left ≡ entry k v rest
+    → with_elements mid.bytes (spell_entries left levels) ≡ with_elements old.bytes (spell_entries all levels) → size_entries left ≤ size_entries all → Grows old mid before now → Halts (key_size (key_text k) + 2 + size v) mid.spare (with_entry mid.bytes (spell_key k) (spell v levels)) h
+    → Halts (size_entries all) old.spare (with_elements old.bytes (spell_entries all levels)) h
+entry_halts h k v rest left all levels before now old mid is same less grows halts =
+    let one = spell v levels in
+    let behind = spell_entries rest levels in
+    let joined = ap (λ l. with_elements mid.bytes (spell_entries l levels)) (sym is) ∙ same in
+    rest_halts (with_entry mid.bytes (spell_key k) one) (with_elements old.bytes (spell_entries all levels)) h (key_size (key_text k) + 2 + size v) (size_entries left) (size_entries all) before now old mid
+    (λ new e. ok_entry (spell_key k) one behind mid.bytes new (joined ∙ e)) (λ f e. sym joined ∙ err_entry (spell_key k) one behind mid.bytes f e)
+    (λ new e. length-with_entries old.bytes new all levels e) (λ new e. length-with_entries mid.bytes new left levels (same ∙ e)) (omega (arith, ap size_entries is)) less grows halts
 
 -- the values behind a value of a sequence that is not written
 pub item_halts : (h : Halt) (i : ℕ) (v : Value) (rest left all : Items) (levels before now : ℕ) (old mid : Output) → left ≡ item v rest
     → with_array_elements mid.bytes i (spell_items i left levels) ≡ with_array_elements old.bytes 0 (spell_items 0 all levels) → size_items i left ≤ size_items 0 all → Grows old mid before now → Halts (length (decimal i) + 2 + size v) mid.spare (with_element mid.bytes (decimal i) (under_index i (spell v levels))) h
     → Halts (size_items 0 all) old.spare (with_array_elements old.bytes 0 (spell_items 0 all levels)) h
 item_halts h i v rest left all levels before now old mid is same less grows halts =
-    rest_halts (array_elements i) tree (under_index i (spell v levels)) (spell_items (suc i) rest levels) _ (decimal i) h (length (decimal i) + 2 + size v) (size_items i left) (size_items 0 all) before now old mid
-    (ap (λ l. with_array_elements mid.bytes i (spell_items i l levels)) (sym is) ∙ same) (λ new e. length-with_array_elements old.bytes new 0 all levels e) (λ new e. length-with_array_elements mid.bytes new i left levels (same ∙ e)) (omega (arith, ap (size_items i) is)) less grows halts
+    let one = under_index i (spell v levels) in
+    let behind = spell_items (suc i) rest levels in
+    let joined = ap (λ l. with_array_elements mid.bytes i (spell_items i l levels)) (sym is) ∙ same in
+    rest_halts (with_element mid.bytes (decimal i) one) (with_array_elements old.bytes 0 (spell_items 0 all levels)) h (length (decimal i) + 2 + size v) (size_items i left) (size_items 0 all) before now old mid
+    (λ new e. ok_first (array_elements i) tree one behind mid.bytes (decimal i) new (joined ∙ e)) (λ f e. sym joined ∙ err_first (array_elements i) tree one behind mid.bytes (decimal i) f e)
+    (λ new e. length-with_array_elements old.bytes new 0 all levels e) (λ new e. length-with_array_elements mid.bytes new i left levels (same ∙ e)) (omega (arith, ap (size_items i) is)) less grows halts
 
 -- what means a sound document is written where its room is spare
 pub sound_written : (h : Halt) (v : Value) (t : Tree) (old : Bytes) (spare : ℕ) → means v ≡ Some t → IsSound t → size v ≤ spare → Halts (size v) spare (with_tree old (spell_document v)) h → ⊥

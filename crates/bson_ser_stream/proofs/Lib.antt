@@ -8,5 +8,6 @@ pub mod Halted
 pub mod Containers
 pub mod Structs
 pub mod Sequences
+pub mod Maps
 pub mod Limits
 pub mod Meant

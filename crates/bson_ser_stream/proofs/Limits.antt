@@ -9,9 +9,10 @@ use Rattle.bson_base.specs.Tree.{Tree, int64, document, array, binary, Pairs, pa
 use Rattle.bson_base.specs.declared.element_type.ElementType.{ElementType}
 use Rattle.bson_base.specs.declared.element_type.ElementType.TheVariants.{EmbeddedDocument, Int32}
 use Rattle.bson_datum.specs.Cause.{Cause, binary_too_long, too_long}
-use Rattle.bson_datum.specs.Refusal.{WriteFault, unwritable, invalid_cstring, unsigned_exceeds, Refusal, Segment, at_key, at_index, here, inside, under_index, under, Failure, no_memory, bare, placed, with_path}
-use Rattle.bson_datum.specs.Value.{i64, greatest, written_as, Value, boolean, integer, double, character, str, bytes, none, some, unit, unit_structure, newtype, sequence, structure, Items, no_items, item, FieldValues, no_field_values, field_value, kind_of}
-use Rattle.bson_laws.specs.Spell.{Writing, spell_number, unbuilt_newtype, newtype_at, enclosed_at, struct_at, named, spell, spell_items, spell_fields, at_top, spell_document, size}
+use Rattle.bson_datum.specs.Refusal.{WriteFault, unwritable, invalid_document_key, invalid_cstring, unsigned_exceeds, Refusal, Segment, at_key, at_index, here, inside, under_index, under, Failure, no_memory, bare, placed, with_path}
+use Rattle.bson_datum.specs.Value.{i64, greatest, written_as, Value, boolean, integer, double, character, str, bytes, none, some, unit, unit_structure, newtype, sequence, map, structure, Items, no_items, item, Entries, no_entries, entry, FieldValues, no_field_values, field_value, kind_of}
+use Rattle.bson_laws.specs.Means.{key_text}
+use Rattle.bson_laws.specs.Spell.{Writing, spell_number, unbuilt_newtype, newtype_at, enclosed_at, struct_at, named, written_key, spell_key, spell, spell_items, spell_entries, spell_fields, at_top, spell_document, size}
 use Rattle.bson_datum.specs.Stop.{IsPlaced}
 use Rattle.bson_datum.specs.declared.stop.Stop.TheVariants.{Refused, NoMemory}
 use Rattle.bson_ser_stream.specs.Writing.{with_tree, IsDue, Fails, too_long_failure}
@@ -25,6 +26,7 @@ IsLength c = ⊥
 
 abbrev IsLengthFault : WriteFault → Type 0
 IsLengthFault (unwritable c) = IsLength c
+IsLengthFault (invalid_document_key t) = ⊥
 IsLengthFault (invalid_cstring t) = ⊥
 IsLengthFault (unsigned_exceeds n) = ⊥
 
@@ -58,6 +60,18 @@ both_else join (Err f) s h k = h
 both_else join (Ok t) (Err f) h k = k
 both_else join (Ok t) (Ok xs) h k = tt
 
+cstring_else : (b : Bool) (key : Utf8) → Else (cond b (Err (here (invalid_cstring key))) (Ok key))
+cstring_else true key = λ e. e
+cstring_else false key = tt
+
+key_else : (k : Value) (o : Option Utf8) → Else (written_key k o)
+key_else k None = λ e. e
+key_else k (Some key) = cstring_else (has_zero key) key
+
+entry_else : (k : Writing Utf8) (r : Writing Tree) (s : Writing Pairs) → Else k → Else r → Else s → Else (k >>= λ key. under key r >>= λ t. s >>= λ ps. Ok (pair key t ps))
+entry_else (Err f) r s h i j = h
+entry_else (Ok key) r s h i j = both_else (pair key) (under key r) s (inside_else (at_key key) r i) j
+
 wide_else : (b : Bool) (n : ℤ) → Else (cond b (Err (here (unsigned_exceeds n))) (Ok (int64 n)))
 wide_else true n = λ e. e
 wide_else false n = tt
@@ -88,11 +102,16 @@ mutual
   spell_else (newtype name v) levels = newtype_else (unbuilt_newtype name) (spell v levels) (spell_else v levels)
   spell_else (str t) levels = tt
   spell_else (sequence vs) levels = enclosed_else array levels (spell_items 0 vs) (λ n. items_else 0 vs n)
+  spell_else (map es) levels = enclosed_else document levels (spell_entries es) (λ n. entries_else es n)
   spell_else (structure name fs) levels = struct_else (reserved_kind name) levels (spell_fields fs) (λ n. fields_else fs n)
 
   items_else : (i : ℕ) (vs : Items) (levels : ℕ) → Else (spell_items i vs levels)
   items_else i no_items levels = tt
   items_else i (item v vs) levels = both_else tree (under_index i (spell v levels)) (spell_items (suc i) vs levels) (inside_else (at_index i) (spell v levels) (spell_else v levels)) (items_else (suc i) vs levels)
+
+  entries_else : (es : Entries) (levels : ℕ) → Else (spell_entries es levels)
+  entries_else no_entries levels = tt
+  entries_else (entry k v es) levels = entry_else (spell_key k) (spell v levels) (spell_entries es levels) (key_else k (key_text k)) (spell_else v levels) (entries_else es levels)
 
   fields_else : (fs : FieldValues) (levels : ℕ) → Else (spell_fields fs levels)
   fields_else no_field_values levels = tt

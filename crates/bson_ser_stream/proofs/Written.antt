@@ -4,9 +4,9 @@ use Rattle.std.proofs.lemmas.List.{length-append}
 use Rattle.bson_base.specs.Text.{Bytes}
 use Rattle.bson_base.specs.Tree.{elements, array_elements}
 use Rattle.bson_base.proofs.Outcomes.{map_ok}
-use Rattle.bson_datum.specs.Value.{Items, FieldValues}
-use Rattle.bson_laws.specs.Spell.{Writing, spell_items, spell_fields, size_items, size_fields}
-use Rattle.bson_laws.proofs.Sizes.{length-spell_items, length-spell_fields}
+use Rattle.bson_datum.specs.Value.{Items, Entries, FieldValues}
+use Rattle.bson_laws.specs.Spell.{Writing, spell_items, spell_entries, spell_fields, size_items, size_entries, size_fields}
+use Rattle.bson_laws.proofs.Sizes.{length-spell_items, length-spell_entries, length-spell_fields}
 use Rattle.bson_ser_stream.specs.Writing.{with_bytes, with_elements, with_array_elements}
 
 pub length-with_bytes : {A : Type 0} (bytes : A → Bytes) (r : Writing A) (n : ℕ) (old new : Bytes) → ((x : A) → r ≡ Ok x → length (bytes x) ≡ n) → with_bytes bytes old r ≡ Ok new → length new ≡ length old + n
@@ -19,3 +19,6 @@ length-with_elements old new fs levels e = length-with_bytes elements (spell_fie
 
 pub length-with_array_elements : (old new : Bytes) (i : ℕ) (vs : Items) (levels : ℕ) → with_array_elements old i (spell_items i vs levels) ≡ Ok new → length new ≡ length old + size_items i vs
 length-with_array_elements old new i vs levels e = length-with_bytes (array_elements i) (spell_items i vs levels) (size_items i vs) old new (length-spell_items i vs levels) e
+
+pub length-with_entries : (old new : Bytes) (es : Entries) (levels : ℕ) → with_elements old (spell_entries es levels) ≡ Ok new → length new ≡ length old + size_entries es
+length-with_entries old new es levels e = length-with_bytes elements (spell_entries es levels) (size_entries es) old new (length-spell_entries es levels) e

@@ -2,11 +2,11 @@
 use Rattle.std.specs.Prelude.{◌≡◌, ℕ, zero, suc, ◌<◌, [], ◌∷◌, ◌++◌, ◌⊎◌, Result, Ok, Err}
 use Rattle.std.specs.Global.{Vec}
 use Rattle.bson_base.specs.Text.{Bytes, Utf8}
-use Rattle.bson_base.specs.Outcome.{result_map}
+use Rattle.bson_base.specs.Outcome.{◌>>=◌, result_map}
 use Rattle.bson_base.specs.Sound.{max_bytes}
 use Rattle.bson_base.specs.Tree.{Tree, Pairs, Trees, enc, elements, array_elements, element, kind}
 use Rattle.bson_datum.specs.Cause.{too_deep, too_long}
-use Rattle.bson_datum.specs.Refusal.{WriteFault, unwritable, here, Failure, no_memory, with_path}
+use Rattle.bson_datum.specs.Refusal.{WriteFault, unwritable, here, under, Failure, no_memory, with_path}
 use Rattle.bson_datum.specs.ErrorView.{write_failure}
 use Rattle.bson_datum.specs.declared.ser.Error.{Error}
 use Rattle.bson_laws.specs.Spell.{Writing}
@@ -26,6 +26,10 @@ front key = 0 ∷ (key ++ 0 ∷ [])
 -- the bytes so far, with an element behind them
 abbrev pub with_element : Bytes → Utf8 → Writing Tree → Writing Bytes
 with_element old key = with_bytes (λ t. element (kind t) key (enc t)) old
+
+-- the bytes so far, with the element of an entry behind them: its key is judged before its value, which stands under it
+abbrev pub with_entry : Bytes → Writing Utf8 → Writing Tree → Writing Bytes
+with_entry old key r = key >>= λ k. with_element old k (under k r)
 
 -- the bytes so far, with the elements of a document behind them
 abbrev pub with_elements : Bytes → Writing Pairs → Writing Bytes

@@ -5,6 +5,7 @@ mod container;
 mod document;
 mod element;
 mod halt;
+mod key;
 mod scalar;
 #[cfg(test)]
 mod tests;

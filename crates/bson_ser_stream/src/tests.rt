@@ -1,7 +1,7 @@
 // What no clause says: that each call succeeds where there is memory, over documents written out by hand after bsonspec.org.
 use crate::{to_buf, to_vec_at, to_vec_counted};
 use bson_base::Double;
-use bson_datum::{ByteStr, Datum, Field, Text};
+use bson_datum::{ByteStr, Datum, Entry, Field, Text};
 use bson_io::{Out, Steps, Tally};
 use std::alloc::{AllocFailed, Global};
 use std::test::Fail;
@@ -28,22 +28,54 @@ fn one_field<'a>(
     })
 }
 
+// A map with one entry.
+fn one_entry<'a>(
+    alloc: Global,
+    key: Datum<'a>,
+    value: Datum<'a>,
+) -> Result<Datum<'a>, AllocFailed<Entry<'a>>> {
+    let mut entries = Vec::new(alloc);
+    entries.push(Entry { key, value })?;
+    Ok(Datum::Map(entries))
+}
+
+// The bytes of a document by each call.
+fn by_each_call(
+    alloc: Global,
+    value: &Datum<'_>,
+) -> bson_datum::ser::Result<(Vec<u8>, Vec<u8>, Vec<u8>)> {
+    let at_once = to_vec_at(alloc, value)?;
+    let mut steps = Steps::<Tally>::new();
+    let counted = to_vec_counted(alloc, value, &mut steps)?;
+    let mut out = Out::new(alloc);
+    to_buf(value, &mut out, &mut steps)?;
+    Ok((at_once, counted, out.into_vec()))
+}
+
 #[test]
 fn a_struct_is_a_document_by_each_call(rt: HostRuntime) -> Result<(), Fail> {
     let alloc = rt.alloc();
     let value = one_field(alloc, "i", Datum::I32(1))?;
     let document = [0x0c, 0, 0, 0, 0x10, 0x69, 0, 1, 0, 0, 0, 0];
-    assert_eq!(rt; to_vec_at(alloc, &value)?.as_slice(), document.as_slice());
+    let (at_once, counted, buffered) = by_each_call(alloc, &value)?;
+    assert_eq!(rt; at_once.as_slice(), document.as_slice());
+    assert_eq!(rt; counted.as_slice(), document.as_slice());
+    assert_eq!(rt; buffered.as_slice(), document.as_slice());
+    Ok(())
+}
 
-    let mut steps = Steps::<Tally>::new();
-    assert_eq!(rt;
-        to_vec_counted(alloc, &value, &mut steps)?.as_slice(),
-        document.as_slice()
-    );
-
-    let mut out = Out::new(alloc);
-    to_buf(&value, &mut out, &mut steps)?;
-    assert_eq!(rt; out.as_bytes(), document.as_slice());
+#[test]
+fn a_map_is_a_document_by_each_call(rt: HostRuntime) -> Result<(), Fail> {
+    let alloc = rt.alloc();
+    let name = Text::Borrowed("N");
+    let value = Box::new(alloc, Datum::Str(Text::Borrowed("i")))?;
+    let key = Datum::NewtypeStruct { name, value };
+    let value = one_entry(alloc, key, Datum::I32(1))?;
+    let document = [0x0c, 0, 0, 0, 0x10, 0x69, 0, 1, 0, 0, 0, 0];
+    let (at_once, counted, buffered) = by_each_call(alloc, &value)?;
+    assert_eq!(rt; at_once.as_slice(), document.as_slice());
+    assert_eq!(rt; counted.as_slice(), document.as_slice());
+    assert_eq!(rt; buffered.as_slice(), document.as_slice());
     Ok(())
 }
 
@@ -153,6 +185,14 @@ fn a_refusal_names_its_place_and_leaves_the_output(rt: HostRuntime) -> Result<()
     Ok(())
 }
 
+// What the refusal of a datum prints; no text where it is not refused.
+fn printed_refusal(alloc: Global, value: &Datum<'_>) -> Result<String, Fail> {
+    match to_vec_at(alloc, value) {
+        Ok(_) => Ok(String::new(alloc)),
+        Err(e) => Ok(format!(in alloc; "{e}")?),
+    }
+}
+
 #[test]
 fn a_refusal_in_an_array_names_its_index(rt: HostRuntime) -> Result<(), Fail> {
     let alloc = rt.alloc();
@@ -160,14 +200,45 @@ fn a_refusal_in_an_array_names_its_index(rt: HostRuntime) -> Result<(), Fail> {
     items.push(Datum::I32(1))?;
     items.push(one_field(alloc, "a\0b", Datum::I32(5))?)?;
     let value = one_field(alloc, "list", Datum::Seq(items))?;
-    match to_vec_at(alloc, &value) {
-        Ok(_) => assert!(rt; false),
-        Err(e) => {
-            assert_eq!(rt;
-                format!(in alloc; "{e}")?.as_str(),
-                "error at list[1]: cstrings cannot contain null bytes"
-            );
-        }
-    }
+    assert_eq!(rt;
+        printed_refusal(alloc, &value)?.as_str(),
+        "error at list[1]: cstrings cannot contain null bytes"
+    );
+    Ok(())
+}
+
+#[test]
+fn a_refused_key_names_its_map(rt: HostRuntime) -> Result<(), Fail> {
+    let alloc = rt.alloc();
+    let key = Datum::Bytes(ByteStr::Borrowed(&[7, 8]));
+    let map = one_entry(alloc, key, Datum::U64(9223372036854775808))?;
+    let value = one_field(alloc, "m", map)?;
+    assert_eq!(rt;
+        printed_refusal(alloc, &value)?.as_str(),
+        "error at m: invalid map key type: Binary"
+    );
+    Ok(())
+}
+
+#[test]
+fn a_zero_in_a_key_names_the_map(rt: HostRuntime) -> Result<(), Fail> {
+    let alloc = rt.alloc();
+    let map = one_entry(alloc, Datum::Str(Text::Borrowed("a\0b")), Datum::Unit)?;
+    let value = one_field(alloc, "m", map)?;
+    assert_eq!(rt;
+        printed_refusal(alloc, &value)?.as_str(),
+        "error at m: cstrings cannot contain null bytes"
+    );
+    Ok(())
+}
+
+#[test]
+fn a_number_over_the_limit_names_its_field(rt: HostRuntime) -> Result<(), Fail> {
+    let alloc = rt.alloc();
+    let value = one_field(alloc, "n", Datum::U64(9223372036854775808))?;
+    assert_eq!(rt;
+        printed_refusal(alloc, &value)?.as_str(),
+        "error at n: unsigned integer 9223372036854775808 does not fit a signed 64-bit integer"
+    );
     Ok(())
 }

@@ -4,22 +4,24 @@ ghost use Rattle.std.specs.Prelude.{◌≡◌, ◌≤◌, ◌+◌, length, OnOk,
 ghost use Rattle.std.specs.Fmt.{decimal};
 ghost use Rattle.bson_base.specs.Sound.{max_bytes};
 ghost use Rattle.bson_base.specs.Tree.{document, array};
-ghost use Rattle.bson_datum.specs.Refusal.{under_index};
+ghost use Rattle.bson_datum.specs.Refusal.{under, under_index};
 ghost use Rattle.bson_datum.specs.TextView.{text_view};
 ghost use Rattle.bson_datum.specs.Value.{newtype_kind, kind_of};
-ghost use Rattle.bson_datum.specs.View.{view, items_view, fields_view};
-ghost use Rattle.bson_laws.specs.Spell.{unbuilt_newtype, newtype_at, spell, spell_items, spell_fields, named, enclosed_at, size, size_items, size_fields};
-ghost use Rattle.bson_ser_stream.specs.Writing.{with_tree, with_element, with_elements, with_array_elements};
+ghost use Rattle.bson_datum.specs.View.{view, items_view, entries_view, fields_view};
+ghost use Rattle.bson_laws.specs.Means.{key_text};
+ghost use Rattle.bson_laws.specs.Spell.{unbuilt_newtype, newtype_at, spell, spell_items, spell_key, spell_entries, spell_fields, named, enclosed_at, key_size, size, size_items, size_entries, size_fields};
+ghost use Rattle.bson_ser_stream.specs.Writing.{with_tree, with_element, with_entry, with_elements, with_array_elements};
 ghost use Rattle.bson_ser_stream.specs.Halting.{Gives, Grows};
 
 use crate::container::Container;
 use crate::element::{begin_element, has_zero, zero_in};
 use crate::halt::Halt;
+use crate::key::written_key;
 use crate::scalar::{
     put_bool, put_bytes, put_char, put_double, put_i32, put_i64, put_text, put_u64,
 };
 use bson_base::{ElementType, reserved_kind};
-use bson_datum::{Cause, Datum, Field, Text};
+use bson_datum::{Cause, Datum, Entry, Field, Text};
 use bson_io::{Ledger, Out, Steps};
 
 // The kind of a newtype that is not written yet: one of a reserved name.
@@ -65,6 +67,7 @@ pub(crate) fn put_value<L: Ledger>(
         Datum::Some(content) => put_value(out, steps, content, levels),
         Datum::NewtypeStruct { name, value } => put_newtype(out, steps, name, value, levels),
         Datum::Seq(items) => put_array(out, steps, items, levels),
+        Datum::Map(entries) => put_map(out, steps, entries, levels),
         Datum::Struct { name, fields } => match reserved_kind(name.as_str()) {
             Some(kind) => Err(Halt::caused(out.allocator(), Cause::NotBuilt(kind))),
             None => put_document(out, steps, fields, levels),
@@ -116,6 +119,27 @@ fn put_document<L: Ledger>(
     Ok(ElementType::EmbeddedDocument)
 }
 
+// A document of the entries of a map.
+#[cycle(put)]
+fn put_map<L: Ledger>(
+    out: &mut Out,
+    steps: &mut Steps<L>,
+    entries: &[Entry<'_>],
+    levels: u32,
+) -> Result<ElementType, Halt>
+    ensures kind { IfOk result (λ k. k ≡ ElementType.EmbeddedDocument) }
+    ensures bytes { let values = entries_view entries.now in
+        Gives (size_entries values + 5) out.old.spare (λ _. out.new.bytes) result
+        (with_tree out.old.bytes (enclosed_at document levels (spell_entries values))) }
+    ensures fits { OnOk result (size_entries (entries_view entries.now) + 5 ≤ max_bytes) }
+    ensures grows { Grows out.old out.new steps.old steps.new }
+{
+    let document = Container::begin(out, steps, levels)?;
+    put_entries(out, steps, entries, document.levels)?;
+    document.end(out, steps)?;
+    Ok(ElementType::EmbeddedDocument)
+}
+
 // An array of these values.
 #[cycle(put)]
 fn put_array<L: Ledger>(
@@ -156,6 +180,25 @@ fn put_fields<L: Ledger>(
     Ok(())
 }
 
+// The elements of these entries.
+#[cycle(put)]
+fn put_entries<L: Ledger>(
+    out: &mut Out,
+    steps: &mut Steps<L>,
+    entries: &[Entry<'_>],
+    levels: u32,
+) -> Result<(), Halt>
+    ensures bytes { let values = entries_view entries.now in
+        Gives (size_entries values) out.old.spare (λ _. out.new.bytes) result
+        (with_elements out.old.bytes (spell_entries values levels)) }
+    ensures grows { Grows out.old out.new steps.old steps.new }
+{
+    for entry in entries {
+        put_entry(out, steps, entry, levels)?;
+    }
+    Ok(())
+}
+
 // The elements of these values, whose keys are their indexes.
 #[cycle(put)]
 fn put_items<L: Ledger>(
@@ -192,7 +235,41 @@ fn put_field<L: Ledger>(
     if has_zero(key) {
         return Err(zero_in(out.allocator(), key));
     }
-    match put_element(out, steps, key, &field.value, levels) {
+    put_under_key(out, steps, key, &field.value, levels)
+}
+
+// The element of an entry, whose key is judged before its value.
+#[cycle(put)]
+fn put_entry<L: Ledger>(
+    out: &mut Out,
+    steps: &mut Steps<L>,
+    entry: &Entry<'_>,
+    levels: u32,
+) -> Result<(), Halt>
+    ensures bytes { let key = view entry.now.key in let value = view entry.now.value in
+        Gives (key_size (key_text key) + 2 + size value) out.old.spare (λ _. out.new.bytes) result
+        (with_entry out.old.bytes (spell_key key) (spell value levels)) }
+    ensures grows { Grows out.old out.new steps.old steps.new }
+{
+    let key = written_key(out.allocator(), &entry.key)?;
+    put_under_key(out, steps, key, &entry.value, levels)
+}
+
+// The element of a value under a key. A refusal is seen from the document.
+#[cycle(put)]
+fn put_under_key<L: Ledger>(
+    out: &mut Out,
+    steps: &mut Steps<L>,
+    key: &str,
+    value: &Datum<'_>,
+    levels: u32,
+) -> Result<(), Halt>
+    ensures bytes { let value = view value.now in
+        Gives (length key.now + 2 + size value) out.old.spare (λ _. out.new.bytes) result
+        (with_element out.old.bytes key.now (under key.now (spell value levels))) }
+    ensures grows { Grows out.old out.new steps.old steps.new }
+{
+    match put_element(out, steps, key, value, levels) {
         Ok(()) => Ok(()),
         Err(halt) => Err(halt.under_key(key)),
     }

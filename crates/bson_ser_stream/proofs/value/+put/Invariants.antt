@@ -1,7 +1,7 @@
--- What was appended so far leaves to come what was to come from the fields or the values that are left.
+-- What was appended so far leaves to come what was to come from the fields, the entries or the values that are left.
 use Rattle.std.proofs.Common.{◌≡◌, ◌≤◌, drop}
-use Rattle.bson_datum.specs.View.{items_view, fields_view}
-use Rattle.bson_laws.specs.Spell.{spell_items, spell_fields, size_items, size_fields}
+use Rattle.bson_datum.specs.View.{items_view, entries_view, fields_view}
+use Rattle.bson_laws.specs.Spell.{spell_items, spell_entries, spell_fields, size_items, size_entries, size_fields}
 use Rattle.bson_ser_stream.specs.Writing.{with_elements, with_array_elements}
 use Rattle.bson_ser_stream.specs.Halting.{Grows}
 use Rattle.bson_ser_stream.proofs.value.+put.Given as goal
@@ -12,6 +12,15 @@ invariant-put_fields-loop-field g l =
     record {
       bytes : with_elements l.out.bytes (spell_fields left l.levels) ≡ with_elements l.initial.out.bytes (spell_fields (fields_view l.fields) l.levels);
       size : size_fields left ≤ size_fields (fields_view l.fields);
+      grows : Grows l.initial.out l.out l.initial.steps l.steps;
+    }
+
+abbrev pub invariant-put_entries-loop-entry : goal.invariant-put_entries-loop-entry
+invariant-put_entries-loop-entry g l =
+    let left = entries_view (drop l.entry-index l.entries) in
+    record {
+      bytes : with_elements l.out.bytes (spell_entries left l.levels) ≡ with_elements l.initial.out.bytes (spell_entries (entries_view l.entries) l.levels);
+      size : size_entries left ≤ size_entries (entries_view l.entries);
       grows : Grows l.initial.out l.out l.initial.steps l.steps;
     }
 
