@@ -14,11 +14,10 @@ use Rattle.bson_datum.specs.Value.{i64, greatest, written_as, Value, boolean, in
 use Rattle.bson_laws.specs.Means.{key_text}
 use Rattle.bson_laws.specs.Spell.{Writing, spell_number, unbuilt_newtype, newtype_at, enclosed_at, struct_at, named, written_key, spell_key, spell, spell_items, spell_entries, spell_fields, at_top, spell_document, size}
 use Rattle.bson_datum.specs.Stop.{IsPlaced}
-use Rattle.bson_datum.specs.declared.stop.Stop.TheVariants.{Refused, NoMemory}
 use Rattle.bson_ser_stream.specs.Writing.{with_tree, IsDue, Fails, too_long_failure}
 use Rattle.bson_ser_stream.specs.Halting.{halt_view, Halts}
 use Rattle.bson_ser_stream.specs.declared.halt.Halt.{Halt}
-use Rattle.bson_ser_stream.specs.declared.halt.Halt.TheVariants.{Stopped, TooLong}
+use Rattle.bson_ser_stream.specs.declared.halt.Halt.TheVariants.{Refused, NoMemory, TooLong}
 
 abbrev IsLength : Cause → Type 0
 IsLength too_long = Unit {0}
@@ -145,6 +144,6 @@ placed_is g (placed path x) h = inr h
 
 -- what a caller sees of a halt
 pub fails : (h : Halt) (f : Failure WriteFault) (total spare : ℕ) (old : Bytes) (r : Writing Tree) → Halts total spare (with_tree old r) h → IsPlaced (halt_view h) f → Fails total r f
-fails (Stopped NoMemory) f total spare old r halts is = inl is
-fails (Stopped (Refused x)) f total spare old r halts is = elim (placed_is _ f is) [ inl want ↦ inl want | inr due ↦ inr (inl (due_is r old _ f halts due)) ]
+fails NoMemory f total spare old r halts is = inl is
+fails (Refused x) f total spare old r halts is = elim (placed_is _ f is) [ inl want ↦ inl want | inr due ↦ inr (inl (due_is r old _ f halts due)) ]
 fails TooLong f total spare old r halts is = elim (placed_is _ f is) [ inl want ↦ inl want | inr long ↦ inr (inr (long, halts)) ]

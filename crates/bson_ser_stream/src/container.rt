@@ -43,6 +43,7 @@ impl Container {
     }
 
     /// Ends it: appends a zero, and writes the length of it all into its first four bytes.
+    #[inline(always)]
     pub(crate) fn end<L: Ledger>(self, out: &mut Out, steps: &mut Steps<L>) -> Result<(), Halt>
         requires { self.start + 4 ≤ length out.old.bytes }
         ensures ok { OnOk result (Ends out.old out.new self.start steps.old steps.new) }

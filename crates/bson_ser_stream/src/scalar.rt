@@ -116,6 +116,7 @@ fn push_text<L: Ledger>(out: &mut Out, steps: &mut Steps<L>, text: &str) -> Resu
 }
 
 /// Appends a text. One that has more bytes than a document may is refused before anything is written.
+#[inline(always)]
 pub(crate) fn put_text<L: Ledger>(
     out: &mut Out,
     steps: &mut Steps<L>,

@@ -100,6 +100,7 @@ fn put_newtype<L: Ledger>(
 
 // A document of these fields.
 #[cycle(put)]
+#[inline(always)]
 fn put_document<L: Ledger>(
     out: &mut Out,
     steps: &mut Steps<L>,
@@ -163,6 +164,7 @@ fn put_array<L: Ledger>(
 
 // The elements of these fields.
 #[cycle(put)]
+#[inline(always)]
 fn put_fields<L: Ledger>(
     out: &mut Out,
     steps: &mut Steps<L>,
@@ -257,6 +259,7 @@ fn put_entry<L: Ledger>(
 
 // The element of a value under a key. A refusal is seen from the document.
 #[cycle(put)]
+#[inline(always)]
 fn put_under_key<L: Ledger>(
     out: &mut Out,
     steps: &mut Steps<L>,
@@ -298,6 +301,7 @@ fn put_item<L: Ledger>(
 
 // An element: its key and its value, whose kind is known behind it. A refusal is seen from the value.
 #[cycle(put)]
+#[inline(always)]
 fn put_element<L: Ledger>(
     out: &mut Out,
     steps: &mut Steps<L>,
