@@ -6,7 +6,8 @@ use Rattle.std.specs.declared.alloc.Global.{Global}
 use Rattle.bson_base.specs.Text.{Bytes, Utf8}
 use Rattle.bson_base.specs.Outcome.{◌>>=◌, result_map}
 use Rattle.bson_base.specs.declared.element_type.ElementType.{ElementType}
-use Rattle.bson_rawdoc.specs.Walk.{Element, walk}
+use Rattle.bson_rawdoc.specs.RawValue.{RawValue}
+use Rattle.bson_rawdoc.specs.Walk.{Element}
 use Rattle.bson_shape.specs.Form.{Fields, structure}
 use Rattle.bson_shape.specs.ShapeView.{fields_of}
 use Rattle.bson_shape.specs.declared.shape.FieldShape.{FieldShape}
@@ -14,7 +15,7 @@ use Rattle.bson_datum.specs.Cause.{duplicate_field}
 use Rattle.bson_datum.specs.Refusal.{at_key, under}
 use Rattle.bson_datum.specs.Stop.{IsUnderKey}
 use Rattle.bson_datum.specs.Value as value
-use Rattle.bson_datum.specs.Value.{Value}
+use Rattle.bson_datum.specs.Value.{Value, FieldValues}
 use Rattle.bson_datum.specs.View.{view, fields_view}
 use Rattle.bson_datum.specs.declared.datum.Datum.{Struct}
 use Rattle.bson_datum.specs.declared.datum.Field.{Field}
@@ -22,9 +23,9 @@ use Rattle.bson_datum.specs.declared.de.Fault.{Fault}
 use Rattle.bson_datum.specs.declared.stop.Stop.{Stop}
 use Rattle.bson_datum.specs.declared.text.Text.TheVariants.{Owned}
 use Rattle.bson_datum.proofs.Views.{view-Struct}
-use Rattle.bson_laws.specs.Reads.{Reading, refused, place_of, Slots, no_slots, ReadField, fill_found, fill_one, fill, finish, reads, reads_field}
-use Rattle.bson_de_raw.specs.Encoded.{entered, reads_encoded}
-use Rattle.bson_de_raw.specs.SlotsView.{filled_by}
+use Rattle.bson_laws.specs.Reads.{Reading, refused, judged, place_of, Slots, ReadField, fill_found, fill_one, reads, reads_field}
+use Rattle.bson_de_raw.specs.Encoded.{raw_in, reads_encoded}
+use Rattle.bson_de_raw.specs.SlotsView.{structure_fields}
 use Rattle.bson_de_raw.specs.declared.encoded.Encoded.{Encoded}
 use Rattle.bson_de_raw.proofs.Refusals.{StopsAs, stops_bind, stops_inside}
 
@@ -47,13 +48,11 @@ module _ (fs : Fields) (levels : ℕ) (read : ReadField) (e : Element) (slots : 
   one_stops s t u h =
       subst (λ (r : Reading Slots). StopsAs t r) (sym one_new) (stops_bind t (under e.key (read i e.kind e.value)) (λ v. Ok (set slots i (Some v))) (stops_inside (at_key e.key) s t (read i e.kind e.value) u h))
 
--- a struct whose document was entered, whose fields were filled and finished
-pub struct_read : (name : Utf8) (fs : Fields) (levels : ℕ) (v : Encoded) (body : Bytes) (slots : Slots) (s : String Global) (values : Vec Field) → entered levels v ≡ Ok body
-    → fill (filled_by fs (levels - 1)) (walk body) (no_slots fs) ≡ Ok slots → finish fs slots ≡ Ok (fields_view values.items) → string_bytes s ≡ name
-    → reads_encoded (structure name fs) levels v ≡ Ok (view (Struct (Owned s) values))
-struct_read name fs levels v body slots s values inside filled finished named =
-    ap (λ r. r >>= λ b. result_map (value.structure name) (fill (filled_by fs (levels - 1)) (walk b) (no_slots fs) >>= finish fs)) inside
-    ∙ ap (λ r. result_map (value.structure name) (r >>= finish fs)) filled
-    ∙ ap (result_map (value.structure name)) finished
+-- a struct whose value was judged, and whose fields were read
+pub struct_read : (name : Utf8) (fs : Fields) (levels : ℕ) (v : Encoded) (inner : RawValue) (s : String Global) (values : Vec Field) → judged levels (raw_in v) ≡ Ok inner
+    → structure_fields fs (levels - 1) inner ≡ Ok (fields_view values.items) → string_bytes s ≡ name → reads_encoded (structure name fs) levels v ≡ Ok (view (Struct (Owned s) values))
+struct_read name fs levels v inner s values good all named =
+    ap (λ r. r >>= λ x. result_map (value.structure name) (structure_fields fs (levels - 1) x)) good
+    ∙ ap (result_map (value.structure name)) all
     ∙ ap (λ n. Ok (value.structure n (fields_view values.items))) (sym named)
     ∙ ap Ok (sym (view-Struct (Owned s) values))

@@ -6,27 +6,29 @@ use Rattle.std.specs.Global.{Vec}
 use Rattle.std.specs.Str.{is_utf8}
 use Rattle.bson_base.specs.Text.{Bytes, Utf8}
 use Rattle.bson_base.proofs.Outcomes.{done, ok_is, bind_ok}
+use Rattle.bson_base.specs.declared.element_type.ElementType.{ElementType}
 use Rattle.bson_rawdoc.specs.DocumentView.{document_bytes}
 use Rattle.bson_rawdoc.specs.Envelope.{envelope}
-use Rattle.bson_rawdoc.specs.RawValue.{RawValue, string, document, array, binary, object_id}
+use Rattle.bson_rawdoc.specs.RawValue.{RawValue, string, document, array, binary, object_id, value_in}
 use Rattle.bson_rawdoc.specs.declared.document.RawDocument.{RawDocument}
 use Rattle.bson_rawdoc.specs.declared.raw.Error as raw_error
-use Rattle.bson_shape.specs.Form.{Form, leaf, sequence, structure}
+use Rattle.bson_shape.specs.Form.{Form, Fields, leaf, sequence, map, structure}
 use Rattle.bson_shape.specs.ShapeView.{fields_of}
 use Rattle.bson_shape.specs.declared.shape.FieldShape.{FieldShape}
 use Rattle.bson_shape.specs.declared.leaf.Leaf.{Leaf}
 use Rattle.bson_datum.specs.Cause.{not_utf8, too_deep}
 use Rattle.bson_datum.specs.Refusal.{ReadFault, Refusal}
 use Rattle.bson_datum.specs.Loans.{IsOwned}
-use Rattle.bson_datum.specs.declared.datum.Datum.{Datum, Seq, Struct}
+use Rattle.bson_datum.specs.declared.datum.Datum.{Datum, Seq, Map, Struct}
+use Rattle.bson_datum.specs.declared.datum.Entry.{Entry}
 use Rattle.bson_datum.specs.declared.datum.Field.{Field}
 use Rattle.bson_datum.specs.declared.de.Fault.{Fault}
 use Rattle.bson_datum.specs.declared.stop.Stop.{Stop}
 use Rattle.bson_datum.specs.declared.text.Text as text
-use Rattle.bson_laws.specs.Lent.{StandsIn, IsTextOwned, AllLent, lends, IsLentIf, IsLentAs, AreItemsLentAs, AreFieldsLentAs}
+use Rattle.bson_laws.specs.Lent.{StandsIn, PartsStandIn, IsTextOwned, AllLent, lends, IsLentIf, IsLentAs, AreItemsLentAs, AreEntriesLentAs, AreFieldsLentAs}
 use Rattle.bson_laws.specs.Reads.{refused, faultless, is_container, with_level, judged, text_of, text_of_binary, bytes_of, bytes_of_binary, array_of, document_of}
-use Rattle.bson_laws.proofs.Lent.{lent_wider, sequence_lent, structure_lent}
-use Rattle.bson_laws.proofs.Standing.{PartsStandIn, value_stands, envelope_is}
+use Rattle.bson_laws.proofs.Lent.{lent_wider, fields_lent_wider, sequence_lent, map_lent, structure_lent}
+use Rattle.bson_laws.proofs.Standing.{value_stands, envelope_is}
 use Rattle.bson_de_raw.specs.Encoded.{encoded_kind, encoded_bytes, raw_in, entered, entered_array, IsLentFrom}
 use Rattle.bson_de_raw.specs.SlotsView.{slot_values, AreSlotsLent}
 use Rattle.bson_de_raw.specs.ValuesRead.{AreValuesLent}
@@ -123,12 +125,38 @@ one_lent input bytes old new i f d same put stands lent there so_far =
     let more = lent_set input old.fields.now (slot_values old) i f d stands (lent_wider f.shape bytes input d there lent) so_far in
     subst (AreValuesLent input new.fields.now) (sym put) (subst (λ fs. AreValuesLent input fs (set (slot_values old) i (Some d))) (ap (λ (b : Bor (List FieldShape)). b.now) (sym same)) more)
 
--- the fields of a struct whose document stands in a value's bytes
-pub struct_lent : (name : Bytes) (s : Slots) (fs : List FieldShape) (v : Encoded) (levels : ℕ) (body : Bytes) (named : text.Text) (xs : Vec Field) → entered levels v ≡ Ok body → AreSlotsLent body s → s.fields.now ≡ fs → IsTextOwned named
-    → ((input : Bytes) → AreSlotsLent input s → AreFieldsLentAs (fields_of s.fields.now) input xs.items) → IsLentFrom v (structure name (fields_of fs)) (Struct named xs)
-struct_lent name s fs v levels body named xs inside read same owned finished =
-    lent_wider (structure name (fields_of fs)) body (encoded_bytes v) (Struct named xs) (entered_stands levels v body inside)
-    (structure_lent name (fields_of fs) body named xs owned (subst (λ gs. AreFieldsLentAs (fields_of gs) body xs.items) same (finished body read)))
+-- what was finished from slots
+pub finished_lent : (s : Slots) (fs : List FieldShape) (body : Bytes) (r : Result (Vec Field) (Stop Fault)) → AreSlotsLent body s → s.fields.now ≡ fs
+    → IfOk r (λ xs. (input : Bytes) → AreSlotsLent input s → AreFieldsLentAs (fields_of s.fields.now) input xs.items) → IfOk r (λ xs. AreFieldsLentAs (fields_of fs) body xs.items)
+finished_lent s fs body (Ok xs) read same h = subst (λ gs. AreFieldsLentAs (fields_of gs) body xs.items) same (h body read)
+finished_lent s fs body (Err e) read same h = tt
+
+-- the fields that were read from a document or an array, which stands where the value's parts stand
+pub fields_of_part : (fs : Fields) (x : RawValue) (inner : Bytes) (r : Result (Vec Field) (Stop Fault)) → ((input : Bytes) → PartsStandIn input x → StandsIn inner input)
+    → IfOk r (λ xs. AreFieldsLentAs fs inner xs.items) → IfOk r (λ xs. (input : Bytes) → PartsStandIn input x → AreFieldsLentAs fs input xs.items)
+fields_of_part fs x inner (Ok xs) stands h = λ input there. fields_lent_wider fs inner input xs.items (stands input there) h
+fields_of_part fs x inner (Err e) stands h = tt
+
+-- a struct whose value is this one
+pub struct_lent : (name : Bytes) (fs : Fields) (v : Encoded) (x : RawValue) (named : text.Text) (xs : Vec Field) → raw_in v ≡ Ok x → IsTextOwned named
+    → ((input : Bytes) → PartsStandIn input x → AreFieldsLentAs fs input xs.items) → IsLentFrom v (structure name fs) (Struct named xs)
+struct_lent name fs v x named xs is owned h = structure_lent name fs (encoded_bytes v) named xs owned (h (encoded_bytes v) (value_stands (encoded_kind v) (encoded_bytes v) x is))
+
+-- the entries of a map whose document stands in a value's bytes
+pub entries_of_lent : (key s : Form) (v : Encoded) (levels : ℕ) (body : Bytes) (es : Vec Entry) → entered levels v ≡ Ok body → AreEntriesLentAs key s body es.items → IsLentFrom v (map key s) (Map es)
+entries_of_lent key s v levels body es inside read = lent_wider (map key s) body (encoded_bytes v) (Map es) (entered_stands levels v body inside) (map_lent key s body es read)
+
+-- a value without a shape is lent from the bytes that it is in
+pub any_part_lent : (k : ElementType) (bytes : Bytes) (x : RawValue) (r : Result Datum (Stop Fault)) → value_in k bytes ≡ Ok x → IfOk r (λ d. (input : Bytes) → PartsStandIn input x → AllLent input d) → IfOk r (AllLent bytes)
+any_part_lent k bytes x (Ok d) is h = h bytes (value_stands k bytes x is)
+any_part_lent k bytes x (Err s) is h = tt
+
+all_at_leaf : (l : Leaf) (v : Encoded) (r : Result Datum (Stop Fault)) → lends l ≡ true → IfOk r (AllLent (encoded_bytes v)) → IfOk r (IsLentFrom v (leaf l))
+all_at_leaf l v (Ok d) e h = leaf_lent l v d e h
+all_at_leaf l v (Err s) e h = tt
+
+pub any_leaf_lent : (l : Leaf) (v : Encoded) (x : RawValue) (r : Result Datum (Stop Fault)) → lends l ≡ true → raw_in v ≡ Ok x → IfOk r (λ d. (input : Bytes) → PartsStandIn input x → AllLent input d) → IfOk r (IsLentFrom v (leaf l))
+any_leaf_lent l v x r e is h = all_at_leaf l v r e (any_part_lent (encoded_kind v) (encoded_bytes v) x r is h)
 
 -- the items of a sequence whose array stands in a value's bytes
 pub items_of_lent : (item : Form) (v : Encoded) (levels : ℕ) (body : Bytes) (ds : Vec Datum) → entered_array levels v ≡ Ok body → AreItemsLentAs item body ds.items → IsLentFrom v (sequence item) (Seq ds)

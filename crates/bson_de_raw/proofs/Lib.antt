@@ -9,4 +9,10 @@ pub mod Finished
 pub mod Passed
 pub mod OtherKinds
 pub mod ReadBack
+pub mod AnyRead
+pub mod KeyPlaces
+pub mod MapEntries
+pub mod FieldPlaces
+pub mod KeyTexts
+pub mod KeyedEntries
 pub mod Lent

@@ -10,13 +10,20 @@ use Rattle.bson_rawdoc.specs.declared.value.RawBsonRef.{RawBsonRef}
 use Rattle.bson_rawdoc.specs.declared.value.RawBsonRef.TheVariants.{Document, Array}
 use Rattle.bson_rawdoc.proofs.Keys.{not_text}
 use Rattle.bson_datum.specs.Cause.{not_utf8}
-use Rattle.bson_laws.specs.Reads.{refused, no_document, document_of, text_of_binary}
+use Rattle.bson_datum.specs.Value.{FieldValues}
+use Rattle.bson_laws.specs.Reads.{Reading, refused, no_document, document_of, read_structure, text_of_binary}
+
+-- a value that is no document
+pub other_document : (v : RawBsonRef) → ((d : RawDocument) → v ≡ Document d → ⊥) → document_of (raw_value v) ≡ refused (no_document (raw_value v))
+other_document (Document d) n = absurd (n d refl)
+other_document v n = refl
 
 -- a value that is neither a document nor an array
-pub other_document : (v : RawBsonRef) → ((d : RawDocument) → v ≡ Document d → ⊥) → ((a : RawArray) → v ≡ Array a → ⊥) → document_of (raw_value v) ≡ refused (no_document (raw_value v))
-other_document (Document d) n m = absurd (n d refl)
-other_document (Array a) n m = absurd (m a refl)
-other_document v n m = refl
+pub other_structure : (by_key by_place : Bytes → Reading FieldValues) (v : RawBsonRef) → ((d : RawDocument) → v ≡ Document d → ⊥) → ((a : RawArray) → v ≡ Array a → ⊥)
+    → read_structure by_key by_place (raw_value v) ≡ refused (no_document (raw_value v))
+other_structure by_key by_place (Document d) n m = absurd (n d refl)
+other_structure by_key by_place (Array a) n m = absurd (m a refl)
+other_structure by_key by_place v n m = refl
 
 text_or : (b : Bool) (bytes : Bytes) → is_utf8 bytes ≡ b → text_of_binary 0 bytes ≡ cond b (Ok bytes) (refused not_utf8)
 text_or b bytes e = ap (λ c. cond c (Ok bytes) (refused not_utf8)) e

@@ -11,8 +11,7 @@ use Rattle.bson_datum.specs.Refusal.{Segment, inside}
 use Rattle.bson_datum.specs.Stop.{IsUnder}
 use Rattle.bson_datum.specs.declared.de.Fault.{Fault}
 use Rattle.bson_datum.specs.declared.stop.Stop.{Stop}
-use Rattle.bson_laws.specs.Reads.{Reading, refused, faultless, pass_elements, pass_inside, ignores}
-use Rattle.bson_de_raw.specs.Passes.{passes}
+use Rattle.bson_laws.specs.Reads.{Reading, refused, faultless, pass_elements, pass_inside, ignores, passes}
 use Rattle.bson_de_raw.proofs.Refusals.{StopsAs, stops_bind, stops_inside}
 
 -- a value with a fault is refused for it

@@ -13,6 +13,7 @@ use Rattle.bson_datum.specs.declared.datum.Datum.{Datum}
 use Rattle.bson_datum.specs.declared.de.Error.{Error}
 use Rattle.bson_laws.specs.Fits.{Fits}
 use Rattle.bson_laws.specs.Means.{means, norm}
+use Rattle.bson_laws.specs.Plain.{IsPlain}
 use Rattle.bson_laws.specs.Reads.{reads_document}
 use Rattle.bson_laws.proofs.Fitted.{views_means}
 use Rattle.bson_laws.proofs.ReadBack.{views_reads}
@@ -28,6 +29,6 @@ gives_value : (v : Value) (r : Result Datum Error) (answer : Result Value (Failu
 gives_value v (Ok d) answer is h = cc
 gives_value v (Err e) answer is h = fails_for_memory (read_failure e) v answer is h
 
-pub read_back : (s : Form) (bytes : Bytes) (v : Value) (t : Tree) (r : Result Datum Error) → IsShape s → Fits v s → means v ≡ Some t → IsSound t → bytes ≡ enc t → Gives view r (reads_document s bytes) → GivesValue (norm v) r
-read_back s bytes v t r shape fits mean sound is exact =
-    gives_value (norm v) r (reads_document s bytes) (ap (reads_document s) is ∙ views_reads s t (norm v) shape sound (views_means v s t fits mean sound.clean)) exact
+pub read_back : (s : Form) (bytes : Bytes) (v : Value) (t : Tree) (r : Result Datum Error) → IsShape s → IsPlain s → Fits v s → means v ≡ Some t → IsSound t → bytes ≡ enc t → Gives view r (reads_document s bytes) → GivesValue (norm v) r
+read_back s bytes v t r shape plain fits mean sound is exact =
+    gives_value (norm v) r (reads_document s bytes) (ap (reads_document s) is ∙ views_reads s t (norm v) shape sound (views_means v s t plain fits mean sound.clean)) exact

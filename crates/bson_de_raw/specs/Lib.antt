@@ -5,3 +5,7 @@ pub mod Leaves
 pub mod ValuesRead
 pub mod SlotsView
 pub mod Passes
+pub mod KeyPlaces
+pub mod KeysView
+pub mod EntriesView
+pub mod Any

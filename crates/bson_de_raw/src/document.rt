@@ -28,20 +28,31 @@ const MAX_LEVELS: u32 = 200;
 ///   whose bytes are UTF-8.
 /// - `bytes` and `bytebuf` take the bytes of a Binary of subtype 0 and those of a String; `bytes` also the
 ///   twelve of an ObjectId, and `bytebuf` an array of Int32 and Int64 whose numbers are bytes.
+/// - `any` takes a Boolean, an Int32 as `i32`, an Int64 as `i64`, a Double, a String, a Binary of subtype 0, a
+///   Null as the unit, an array as a sequence and a document as a map whose keys are texts, with the values
+///   in them taken in the same way.
+/// - `ignored` takes every value, and is the unit. The value is walked to its end, and so are every
+///   document, array and scope in it.
 /// - An option is none at a Null, and some value of its shape at every other kind. A newtype takes what its
 ///   shape takes.
 /// - A sequence takes the elements of an array in order. The keys in an array are not looked at.
-/// - A struct takes each of its fields from the element that has the field's name as its key, in any
-///   order. A field that no element has is none where its shape is an option. Elements of other keys are
-///   walked to their ends, those of every document, array and scope in them too, and dropped.
+/// - A map takes the elements of a document. A key is taken as a String of its text would be. The entries
+///   stand in the order in which their keys came first; of a repeated key the last value stays.
+/// - A struct takes each of its fields from the element of a document that has the field's name as its key,
+///   in any order. A field that no element has is none where its shape is an option. Elements of other
+///   keys are walked to their ends, those of every document, array and scope in them too, and dropped.
+///   From an array a struct takes its fields in the shape's order, one element each; further elements
+///   stay unread.
 ///
-/// The texts at `str` and the byte strings at `bytes` are lent from the input. All others are copies, and so
-/// are the names in the value, which are those in the shape.
+/// The texts at `str` and the byte strings at `bytes` are lent from the input, and so are all texts and byte
+/// strings at `any`, the keys of its maps included, and the keys of a map whose key is `str`. All others
+/// are copies, and so are the names in the value, which are those in the shape.
 ///
 /// Keys in the shape's order are found at once. The first other key of a struct with sixteen or more
 /// fields has the names put into a map, where it and each key after it that is not found at once is
 /// looked up. In a smaller struct, and where the memory for the map is refused, such keys are found by a
-/// scan over the names.
+/// scan over the names. The first sixteen keys of a map are looked up by a scan, and with more of them all
+/// are put into a map.
 ///
 /// # Errors
 ///
@@ -49,18 +60,18 @@ const MAX_LEVELS: u32 = 200;
 ///   they are fewer than five, they announce another length than theirs, or the last is not zero.
 /// - `WithPath` round a `DeserializationError`, with the path of the value that is refused: the keys and
 ///   the indexes that lead to it. The path of the document itself is empty. A value in the scope of a
-///   code has `$scope` behind the code's own path. The first refusal in the order of the bytes is answered,
-///   and its cause is one of these.
+///   code has `$scope` behind the code's own path. The key of a map has the map's own path. The first
+///   refusal in the order of the bytes is answered, and its cause is one of these.
 ///   - `Raw`: a fault of the bytes, before any shape looks at the value.
 ///   - `TooDeep`: a document, an array or a scope at level 201.
 ///   - `InvalidType`: a value of another kind than the shape takes.
-///   - `NotBuilt`: at a struct an array, or a value of a kind that serde's data model lacks (ObjectId,
-///     DateTime, Binary of a subtype other than 0, and the like). A struct is to take both; neither is
-///     built yet.
+///   - `NotBuilt`: at a struct, a map and `any` a value of a kind that serde's data model lacks (ObjectId,
+///     DateTime, Binary of a subtype other than 0, and the like), which is not read there yet.
 ///   - `OutOfRange`: a number that does not lie in the range of the shape's integer type, or one in an array
 ///     at `bytebuf` that is no byte.
-///   - `NotOneChar`: at `char` a String of no character or of more than one.
+///   - `NotOneChar`: at `char` a String or a key of no character or of more than one.
 ///   - `NotUtf8`: at `str` and `string` a Binary of subtype 0 whose bytes are not UTF-8.
+///   - `InvalidLength`: at a struct an array of so many elements, which are fewer than its fields.
 ///   - `DuplicateField`: a second element of a field; its value is not looked at.
 ///   - `MissingField`: at the end of a document, the first field in the shape's order that is no option
 ///     and has no element.
@@ -70,7 +81,7 @@ pub fn from_slice_at<'de>(alloc: Global, shape: &Shape, bytes: &'de [u8]) -> de:
     // The document that a value of a plain shape means is read back as the normal form of the value.
     ensures read_back { (v : Value) (t : Tree) → IsPlain shape.now → Fits v shape.now → means v ≡ Some t → IsSound t
         → bytes.now ≡ enc t → GivesValue (norm v) result }
-    // What stands at `str` and `bytes` is lent from the input; all else is owned.
+    // What stands at `str`, `bytes` and `any`, keys included, is lent from the input; all else is owned.
     ensures lent { IfOk result (λ d. IsLentAs shape.now bytes.now d) }
 {
     shape.known();

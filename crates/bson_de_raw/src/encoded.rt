@@ -87,20 +87,18 @@ impl<'de> Encoded<'_, 'de> {
     }
 }
 
-/// The document that a value is. An array, which a struct takes too, is not read as one yet.
+/// The document that a value is.
 fn document<'de>(alloc: Global, value: RawBsonRef<'de>) -> Reading<RawDocument<'de>>
     ensures { Reaches document_bytes result (reads.document_of (raw_value value.entry)) }
 {
     match value {
         RawBsonRef::Document(document) => Ok(document),
-        RawBsonRef::Array(_) => Err(refused(alloc, Cause::NotBuilt(ElementType::Array))),
         other => Err(refused(alloc, no_document(other))),
     }
 }
 
-/// Why a value that is neither a document nor an array is none: of an extended kind it is not read as
-/// a document yet.
-fn no_document(value: RawBsonRef<'_>) -> Cause
+/// Why a value that is no document is none: of an extended kind it is not read as a document yet.
+pub(crate) fn no_document(value: RawBsonRef<'_>) -> Cause
     ensures { cause_view result ≡ reads.no_document (raw_value value.entry) }
 {
     if is_extended(value) {

@@ -1,12 +1,12 @@
-// Values that no field takes.
+// Values that are passed over.
 ghost use Rattle.std.specs.Prelude.{◌≡◌};
 ghost use Rattle.bson_rawdoc.specs.DocumentView.{document_bytes};
 ghost use Rattle.bson_rawdoc.specs.ValueView.{raw_value};
 ghost use Rattle.bson_laws.specs.Reads as reads;
-ghost use Rattle.bson_laws.specs.Reads.{ignores};
+ghost use Rattle.bson_laws.specs.Reads.{ignores, passes};
 ghost use Rattle.bson_de_raw.specs.Gives.{Reaches};
 ghost use Rattle.bson_datum.specs.Stop.{IsUnder};
-ghost use Rattle.bson_de_raw.specs.Passes.{passes, place_in};
+ghost use Rattle.bson_de_raw.specs.Passes.{place_in};
 
 use crate::reading::{Reading, refused};
 use bson_datum::{Cause, Stop, de};
@@ -38,7 +38,7 @@ pub(crate) fn ignore(alloc: Global, levels: u32, element: &RawElement<'_>) -> Re
 
 /// Walks what stands inside a value to its end.
 #[cycle(ignore)]
-fn pass_inside(alloc: Global, levels: u32, value: RawBsonRef<'_>) -> Reading<()>
+pub(crate) fn pass_inside(alloc: Global, levels: u32, value: RawBsonRef<'_>) -> Reading<()>
     ensures { Reaches (λ u. u) result (reads.pass_inside (passes levels) (raw_value value.entry)) }
 {
     match value {

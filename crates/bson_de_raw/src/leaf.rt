@@ -10,8 +10,10 @@ ghost use Rattle.bson_de_raw.specs.Encoded.{reads_encoded, IsLentFrom};
 ghost use Rattle.bson_de_raw.specs.Gives.{Reaches};
 ghost use Rattle.bson_de_raw.specs.Leaves.{number_as, reads_number};
 
+use crate::any::read_any;
 use crate::byte_string::{buffer, byte_string};
 use crate::encoded::Encoded;
+use crate::ignored::pass_inside;
 use crate::reading::{Reading, refused};
 use crate::text::{character, text};
 use bson_base::Double;
@@ -20,7 +22,7 @@ use bson_rawdoc::RawBsonRef;
 use bson_shape::Leaf;
 use std::alloc::Global;
 
-/// The value at a leaf. Those at `str` and `bytes` are lent from the document, all others are copies.
+/// The value at a leaf. Those at `str`, `bytes` and `any` are lent from the document, all others are copies.
 pub(crate) fn read_leaf<'de>(
     alloc: Global,
     leaf: Leaf,
@@ -32,6 +34,11 @@ pub(crate) fn read_leaf<'de>(
 {
     let raw = value.judge(alloc, levels)?;
     match leaf {
+        Leaf::Any => read_any(alloc, levels, raw),
+        Leaf::Ignored => {
+            pass_inside(alloc, levels, raw)?;
+            Ok(Datum::Unit)
+        }
         Leaf::Bool => Ok(Datum::Bool(boolean(alloc, raw)?)),
         Leaf::Double => Ok(Datum::Double(double(alloc, raw)?)),
         Leaf::Char => character(alloc, raw),

@@ -1,14 +1,19 @@
 //! Reading the bytes of a document at a shape.
 #![tactic(auto)]
 
+mod any;
 mod byte_string;
 mod document;
 mod encoded;
+mod entries;
 mod ignored;
 mod index;
+mod keys;
 mod leaf;
+mod map;
 mod reading;
 mod slots;
+mod structure;
 #[cfg(test)]
 mod tests;
 mod text;

@@ -1,7 +1,7 @@
 // What no clause says: that documents are read where there is memory, values that others give for them, and
 // what is printed of refusals.
 use crate::from_slice_at;
-use bson_datum::{Datum, de};
+use bson_datum::{Datum, Text, de};
 use bson_shape::{FieldShape, Shape};
 use std::alloc::Global;
 use std::test::Fail;
@@ -175,6 +175,103 @@ fn refuses_a_text_of_two_characters(rt: HostRuntime) -> Result<(), Fail> {
     assert_eq!(rt;
         refusal(alloc, answer)?.as_str(),
         "error at t: not one character"
+    );
+    Ok(())
+}
+
+#[test]
+fn reads_maps(rt: HostRuntime) -> Result<(), Fail> {
+    let alloc = rt.alloc();
+    // The Int32 `a` 1, `b` 2 and `a` 3.
+    let bytes = [
+        26, 0, 0, 0, 16, 97, 0, 1, 0, 0, 0, 16, 98, 0, 2, 0, 0, 0, 16, 97, 0, 3, 0, 0, 0, 0,
+    ];
+    let shape = Shape::map(alloc, Shape::string(), Shape::i32())?;
+    let Ok(Datum::Map(entries)) = from_slice_at(alloc, &shape, &bytes) else {
+        return Err(Fail::from("no map"));
+    };
+    assert_eq!(rt; entries.len(), 2);
+    assert!(rt; matches!(&entries[0].key, Datum::Str(Text::Owned(key)) if key.as_str() == "a"));
+    assert!(rt; matches!(entries[0].value, Datum::I32(3)));
+    assert!(rt; matches!(&entries[1].key, Datum::Str(Text::Owned(key)) if key.as_str() == "b"));
+    assert!(rt; matches!(entries[1].value, Datum::I32(2)));
+
+    let shape = Shape::map(alloc, Shape::char(), Shape::i32())?;
+    let Ok(Datum::Map(entries)) = from_slice_at(alloc, &shape, &bytes) else {
+        return Err(Fail::from("no map of characters"));
+    };
+    assert_eq!(rt; entries.len(), 2);
+    assert!(rt; matches!(entries[0].key, Datum::Char('a')));
+    Ok(())
+}
+
+#[test]
+fn reads_many_keys(rt: HostRuntime) -> Result<(), Fail> {
+    let alloc = rt.alloc();
+    // The Int32 `a` 0, `b` 1 and so on to `t` 19, and a second `r` 20.
+    let mut bytes = vec![in alloc; 152, 0, 0, 0]?;
+    for number in 0..20u8 {
+        bytes.extend_from_slice(&[16, 97 + number, 0, number, 0, 0, 0])?;
+    }
+    bytes.extend_from_slice(&[16, 114, 0, 20, 0, 0, 0, 0])?;
+    let Ok(Datum::Map(entries)) = from_slice_at(alloc, &Shape::any(), &bytes) else {
+        return Err(Fail::from("no map"));
+    };
+    assert_eq!(rt; entries.len(), 20);
+    assert!(rt; matches!(entries[16].value, Datum::I32(16)));
+    assert!(rt; matches!(&entries[17].key, Datum::Str(Text::Borrowed(key)) if *key == "r"));
+    assert!(rt; matches!(entries[17].value, Datum::I32(20)));
+    Ok(())
+}
+
+#[test]
+fn reads_values_without_a_shape(rt: HostRuntime) -> Result<(), Fail> {
+    let alloc = rt.alloc();
+    // The String `s` "hi", the Null `n`, and the array `l` of the Boolean true.
+    let bytes = [
+        30, 0, 0, 0, 2, 115, 0, 3, 0, 0, 0, 104, 105, 0, 10, 110, 0, 4, 108, 0, 9, 0, 0, 0, 8, 48,
+        0, 1, 0, 0,
+    ];
+    let Ok(Datum::Map(entries)) = from_slice_at(alloc, &Shape::any(), &bytes) else {
+        return Err(Fail::from("no map"));
+    };
+    assert_eq!(rt; entries.len(), 3);
+    assert!(rt; matches!(&entries[0].value, Datum::Str(Text::Borrowed(text)) if *text == "hi"));
+    assert!(rt; matches!(entries[1].value, Datum::Unit));
+    let Datum::Seq(items) = &entries[2].value else {
+        return Err(Fail::from("no sequence"));
+    };
+    assert_eq!(rt; items.len(), 1);
+    assert!(rt; matches!(items[0], Datum::Bool(true)));
+
+    let ignored = from_slice_at(alloc, &Shape::ignored(), &bytes);
+    assert!(rt; matches!(ignored, Ok(Datum::Unit)));
+    Ok(())
+}
+
+#[test]
+fn reads_a_struct_of_an_array(rt: HostRuntime) -> Result<(), Fail> {
+    let alloc = rt.alloc();
+    // The array `p` of the Int32 7, and an empty array `p`.
+    let bytes = [
+        20, 0, 0, 0, 4, 112, 0, 12, 0, 0, 0, 16, 48, 0, 7, 0, 0, 0, 0, 0,
+    ];
+    let empty = [13, 0, 0, 0, 4, 112, 0, 5, 0, 0, 0, 0, 0];
+    let shape = around(alloc, "p", around(alloc, "i", Shape::i32())?)?;
+    let Ok(Datum::Struct { fields, .. }) = from_slice_at(alloc, &shape, &bytes) else {
+        return Err(Fail::from("no struct"));
+    };
+    assert_eq!(rt; fields.len(), 1);
+    let Datum::Struct { fields, .. } = &fields[0].value else {
+        return Err(Fail::from("no inner struct"));
+    };
+    assert_eq!(rt; fields.len(), 1);
+    assert!(rt; matches!(fields[0].value, Datum::I32(7)));
+
+    let empty = from_slice_at(alloc, &shape, &empty);
+    assert_eq!(rt;
+        refusal(alloc, empty)?.as_str(),
+        "error at p: invalid length 0"
     );
     Ok(())
 }

@@ -1,27 +1,22 @@
-ghost use Rattle.std.specs.Prelude.{◌≡◌, IfOk};
-ghost use Rattle.bson_base.specs.Text.{Bytes};
-ghost use Rattle.bson_rawdoc.specs.DocumentView.{array_bytes, document_bytes};
+ghost use Rattle.std.specs.Prelude.{IfOk};
+ghost use Rattle.bson_rawdoc.specs.DocumentView.{array_bytes};
 ghost use Rattle.bson_rawdoc.specs.Walk.{walk};
 ghost use Rattle.bson_shape.specs.Form as form;
-ghost use Rattle.bson_shape.specs.Makers.{AreDistinct};
-ghost use Rattle.bson_shape.specs.ShapeView.{fields_of};
 ghost use Rattle.bson_datum.specs.View.{view, items_view};
-ghost use Rattle.bson_laws.specs.Lent.{StandsIn, AreItemsLentAs};
+ghost use Rattle.bson_laws.specs.Lent.{AreItemsLentAs};
 ghost use Rattle.bson_laws.specs.Reads as reads;
 ghost use Rattle.bson_de_raw.specs.Encoded.{reads_encoded, IsLentFrom};
 ghost use Rattle.bson_de_raw.specs.Gives.{Reaches};
-ghost use Rattle.bson_de_raw.specs.SlotsView.{slots_view, filled_by, AreSlotsLent};
 
 use crate::encoded::Encoded;
-use crate::ignored::ignore;
-use crate::index::FieldIndex;
 use crate::leaf::{null, read_leaf};
+use crate::map::read_map;
 use crate::reading::{Reading, refused};
-use crate::slots::Slots;
+use crate::structure::read_struct;
 use bson_base::ElementType;
 use bson_datum::{Cause, Datum, Text};
-use bson_rawdoc::{RawArray, RawDocument, RawElement};
-use bson_shape::{FieldShape, Form, Shape};
+use bson_rawdoc::RawArray;
+use bson_shape::{Form, Shape};
 use std::alloc::Global;
 
 /// The value at a shape. So many levels are left for documents, for the value itself too.
@@ -40,6 +35,7 @@ pub(crate) fn read_value<'de>(
         Form::Leaf(leaf) => read_leaf(alloc, leaf, levels, value),
         Form::Option(inner) => read_option(alloc, inner, levels, value),
         Form::Seq(item) => read_sequence(alloc, item, levels, value),
+        Form::Map(key, item) => read_map(alloc, key, item, levels, value),
         Form::Newtype(name, inner) => read_newtype(alloc, name, inner, levels, value),
         Form::UnitStruct(name) => read_unit_struct(alloc, name, levels, value),
         Form::Struct(name, fields) => read_struct(alloc, name, fields, levels, value),
@@ -143,93 +139,4 @@ fn read_items<'de>(
         index += 1;
     }
     Ok(items)
-}
-
-/// The value at a struct of this name with these fields.
-#[cycle(read)]
-fn read_struct<'de>(
-    alloc: Global,
-    name: &str,
-    fields: &[FieldShape],
-    levels: u32,
-    value: Encoded<'_, 'de>,
-) -> Reading<Datum<'de>>
-    requires { AreDistinct (fields_of fields.now) }
-    ensures exact { Reaches view result
-        (reads_encoded (form.structure name.now (fields_of fields.now)) levels value.entry) }
-    ensures lent { IfOk result
-        (IsLentFrom value.entry (form.structure name.now (fields_of fields.now))) }
-{
-    let document = value.enter(alloc, levels)?;
-    let slots = fill(alloc, fields, levels - 1, document)?;
-    let fields = slots.finish(alloc)?;
-    let name = Text::Owned(String::from_str(alloc, name)?);
-    Ok(Datum::Struct { name, fields })
-}
-
-/// The values of the fields from the elements of a document, with so many levels left inside it.
-#[cycle(read)]
-fn fill<'s, 'de>(
-    alloc: Global,
-    fields: &'s [FieldShape],
-    levels: u32,
-    document: RawDocument<'de>,
-) -> Reading<Slots<'s, 'de>>
-    requires { AreDistinct (fields_of fields.now) }
-    ensures fields { IfOk result (λ s. s.fields.now ≡ fields.now) }
-    ensures exact { Reaches slots_view result
-        (reads.fill (filled_by (fields_of fields.now) levels)
-        (walk (document_bytes document.entry)) (reads.no_slots (fields_of fields.now))) }
-    ensures lent { IfOk result (AreSlotsLent (document_bytes document.entry)) }
-{
-    let mut index = FieldIndex::new(fields);
-    let mut slots = Slots::new(alloc, fields)?;
-    let mut elements = document.iter_elements();
-    while let Some(step) = elements.next() {
-        let element = match step {
-            Ok(element) => element,
-            Err(fault) => return Err(refused(alloc, Cause::Raw(fault))),
-        };
-        fill_one(alloc, levels, &element, &mut index, &mut slots)?;
-    }
-    Ok(slots)
-}
-
-/// One element: its value is read for the field that has its key, or dropped where none has.
-#[cycle(read)]
-fn fill_one<'de>(
-    alloc: Global,
-    levels: u32,
-    element: &RawElement<'de>,
-    index: &mut FieldIndex<'_>,
-    slots: &mut Slots<'_, 'de>,
-) -> Reading<()>
-    requires { slots.old.fields.now ≡ index.old.fields.now }
-    ensures fields { index.new.fields ≡ index.old.fields }
-    ensures kept { slots.new.fields ≡ slots.old.fields }
-    ensures exact { Reaches (λ _. slots_view slots.new) result
-        (filled_by (fields_of index.old.fields.now) levels element.now (slots_view slots.old)) }
-    ensures lent { IfOk result (λ _. (input : Bytes) → StandsIn element.now.value input
-        → AreSlotsLent input slots.old → AreSlotsLent input slots.new) }
-{
-    let key = element.key();
-    let fields = index.fields;
-    let Some(place) = index.place_of(alloc, key) else {
-        if let Err(stop) = ignore(alloc, levels, element) {
-            return Err(stop.under_key(key));
-        }
-        return Ok(());
-    };
-    if slots.is_filled(place) {
-        let cause = Cause::DuplicateField(String::from_str(alloc, key)?);
-        return Err(refused(alloc, cause));
-    }
-    let shape = &fields[place].shape;
-    match read_value(alloc, shape, levels, Encoded::Element(element)) {
-        Ok(value) => {
-            slots.put(alloc, place, value)?;
-            Ok(())
-        }
-        Err(stop) => Err(stop.under_key(key)),
-    }
 }

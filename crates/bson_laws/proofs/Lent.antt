@@ -1,17 +1,19 @@
 -- What is lent from a part of the input is lent from the input, and what is lent of a value whose parts stand in a `Vec`.
-use Rattle.std.proofs.Common.{List, [], ◌∷◌, ◌++◌, Bool, true, false, sym, subst}
+use Rattle.std.proofs.Common.{◌≡◌, ℕ, zero, suc, List, [], ◌∷◌, ◌++◌, get_or, set, Bool, true, false, sym, subst}
 use Rattle.std.specs.Global.{Vec}
 use Rattle.bson_base.specs.Text.{Bytes}
-use Rattle.bson_shape.specs.Form.{Form, leaf, optional, sequence, newtype, unit_structure, structure, Fields, no_fields, field}
+use Rattle.bson_shape.specs.Form.{Form, leaf, optional, sequence, newtype, unit_structure, map, structure, Fields, no_fields, field}
+use Rattle.bson_shape.specs.declared.leaf.Leaf.TheVariants.{Any, Str as str_leaf}
 use Rattle.bson_datum.specs.declared.text.Text as text
 use Rattle.bson_datum.specs.declared.text.Text.TheVariants as texts
 use Rattle.bson_datum.specs.declared.byte_str.ByteStr as byte_str
 use Rattle.bson_datum.specs.declared.byte_str.ByteStr.TheVariants as byte_strs
+use Rattle.bson_datum.specs.declared.datum.Entry.{Entry}
 use Rattle.bson_datum.specs.declared.datum.Field.{Field}
 use Rattle.bson_datum.specs.declared.datum.Datum as datum
-use Rattle.bson_datum.specs.declared.datum.Datum.TheBlock.{hidden-the_row-Datum-0, hidden-the_row-Field-1}
-use Rattle.bson_datum.specs.declared.datum.Datum.{Datum, Str, UnitStruct, NewtypeStruct', Seq, Seq', Struct, Struct', Row_of-Datum, end_of-Datum, more_of-Datum, items-the_row-Datum, items_hidden-the_row-Datum-0, Row_of-Field, end_of-Field, more_of-Field, items-the_row-Field, items_hidden-the_row-Field-1}
-use Rattle.bson_laws.specs.Lent.{StandsIn, IsTextLent, IsByteStrLent, IsTextOwned, AllLent, AllItemsLent, AllFieldsLent, lends, IsLentIf, IsLentAs, AreRowsLentAs, AreFieldRowsLentAs, AreItemsLentAs, AreFieldsLentAs}
+use Rattle.bson_datum.specs.declared.datum.Datum.TheBlock.{hidden-the_row-Datum-0, hidden-the_row-Entry-1, hidden-the_row-Field-2}
+use Rattle.bson_datum.specs.declared.datum.Datum.{Datum, Str, UnitStruct, NewtypeStruct', Seq, Seq', Map, Map', Struct, Struct', Row_of-Datum, end_of-Datum, more_of-Datum, items-the_row-Datum, items_hidden-the_row-Datum-0, Row_of-Entry, end_of-Entry, more_of-Entry, items-the_row-Entry, items_hidden-the_row-Entry-1, Row_of-Field, end_of-Field, more_of-Field, items-the_row-Field, items_hidden-the_row-Field-2}
+use Rattle.bson_laws.specs.Lent.{StandsIn, IsTextLent, IsByteStrLent, IsTextOwned, AllLent, AllItemsLent, AllEntriesLent, AllFieldsLent, lends, IsLentIf, IsLentAs, AreRowsLentAs, AreEntryRowsLentAs, AreFieldRowsLentAs, AreItemsLentAs, AreEntriesLentAs, AreFieldsLentAs}
 use Rattle.bson_laws.proofs.Standing.{stands_within}
 
 -- ---- a part of the input, and the input
@@ -32,12 +34,17 @@ mutual
   all_wider a b (UnitStruct name) wide h = text_wider a b name wide h
   all_wider a b (NewtypeStruct' name p d) wide h = (text_wider a b name wide h.0, all_wider a b d wide h.1)
   all_wider a b (Seq' shape rows) wide h = all_items_wider a b rows wide h
+  all_wider a b (Map' shape rows) wide h = all_entries_wider a b rows wide h
   all_wider a b (Struct' name shape rows) wide h = (text_wider a b name wide h.0, all_fields_wider a b rows wide h.1)
   all_wider a b d wide h = tt
 
   all_items_wider : {m : _} → (a b : Bytes) (rows : Row_of-Datum m) → StandsIn a b → AllItemsLent a rows → AllItemsLent b rows
   all_items_wider a b end_of-Datum wide h = tt
   all_items_wider a b (more_of-Datum d rest) wide h = (all_wider a b d wide h.0, all_items_wider a b rest wide h.1)
+
+  all_entries_wider : {m : _} → (a b : Bytes) (rows : Row_of-Entry m) → StandsIn a b → AllEntriesLent a rows → AllEntriesLent b rows
+  all_entries_wider a b end_of-Entry wide h = tt
+  all_entries_wider a b (more_of-Entry k d rest) wide h = (all_wider a b k wide h.0, all_wider a b d wide h.1, all_entries_wider a b rest wide h.2)
 
   all_fields_wider : {m : _} → (a b : Bytes) (rows : Row_of-Field m) → StandsIn a b → AllFieldsLent a rows → AllFieldsLent b rows
   all_fields_wider a b end_of-Field wide h = tt
@@ -55,12 +62,17 @@ mutual
   lent_wider (newtype n s) a b (NewtypeStruct' name p d) wide h = (h.0, lent_wider s a b d wide h.1)
   lent_wider (unit_structure n) a b (UnitStruct name) wide h = h
   lent_wider (sequence s) a b (Seq' shape rows) wide h = rows_wider s a b rows wide h
+  lent_wider (map key s) a b (Map' shape rows) wide h = entry_rows_wider key s a b rows wide h
   lent_wider (structure n fs) a b (Struct' name shape rows) wide h = (h.0, field_rows_wider fs a b rows wide h.1)
   lent_wider s a b d wide h = absurd h
 
   rows_wider : {m : _} → (s : Form) (a b : Bytes) (rows : Row_of-Datum m) → StandsIn a b → AreRowsLentAs s a rows → AreRowsLentAs s b rows
   rows_wider s a b end_of-Datum wide h = tt
   rows_wider s a b (more_of-Datum d rest) wide h = (lent_wider s a b d wide h.0, rows_wider s a b rest wide h.1)
+
+  entry_rows_wider : {m : _} → (key s : Form) (a b : Bytes) (rows : Row_of-Entry m) → StandsIn a b → AreEntryRowsLentAs key s a rows → AreEntryRowsLentAs key s b rows
+  entry_rows_wider key s a b end_of-Entry wide h = tt
+  entry_rows_wider key s a b (more_of-Entry k d rest) wide h = (lent_wider key a b k wide h.0, lent_wider s a b d wide h.1, entry_rows_wider key s a b rest wide h.2)
 
   field_rows_wider : {m : _} → (fs : Fields) (a b : Bytes) (rows : Row_of-Field m) → StandsIn a b → AreFieldRowsLentAs fs a rows → AreFieldRowsLentAs fs b rows
   field_rows_wider no_fields a b end_of-Field wide h = tt
@@ -76,15 +88,57 @@ items_lent s input m (more_of-Datum d rest) h = (h.0, items_lent s input _ rest 
 pub sequence_lent : (s : Form) (input : Bytes) (ds : Vec Datum) → AreItemsLentAs s input ds.items → IsLentAs (sequence s) input (Seq ds)
 sequence_lent s input ds h = items_lent s input _ (hidden-the_row-Datum-0 ds) (subst (AreItemsLentAs s input) (sym (items_hidden-the_row-Datum-0 ds)) h)
 
+entries_lent : (key s : Form) (input : Bytes) (m : _) (rows : Row_of-Entry m) → AreEntriesLentAs key s input (items-the_row-Entry m rows) → AreEntryRowsLentAs key s input rows
+entries_lent key s input m end_of-Entry h = tt
+entries_lent key s input m (more_of-Entry k d rest) h = (h.0, h.1, entries_lent key s input _ rest h.2)
+
+pub map_lent : (key s : Form) (input : Bytes) (es : Vec Entry) → AreEntriesLentAs key s input es.items → IsLentAs (map key s) input (Map es)
+map_lent key s input es h = entries_lent key s input _ (hidden-the_row-Entry-1 es) (subst (AreEntriesLentAs key s input) (sym (items_hidden-the_row-Entry-1 es)) h)
+
 fields_lent : (fs : Fields) (input : Bytes) (m : _) (rows : Row_of-Field m) → AreFieldsLentAs fs input (items-the_row-Field m rows) → AreFieldRowsLentAs fs input rows
 fields_lent no_fields input m end_of-Field h = tt
 fields_lent (field n s fs) input m (more_of-Field name d rest) h = (h.0, h.1, fields_lent fs input _ rest h.2)
 fields_lent fs input m rows h = absurd h
 
 pub structure_lent : (n : Bytes) (fs : Fields) (input : Bytes) (name : text.Text) (xs : Vec Field) → IsTextOwned name → AreFieldsLentAs fs input xs.items → IsLentAs (structure n fs) input (Struct name xs)
-structure_lent n fs input name xs owned h = (owned, fields_lent fs input _ (hidden-the_row-Field-1 xs) (subst (AreFieldsLentAs fs input) (sym (items_hidden-the_row-Field-1 xs)) h))
+structure_lent n fs input name xs owned h = (owned, fields_lent fs input _ (hidden-the_row-Field-2 xs) (subst (AreFieldsLentAs fs input) (sym (items_hidden-the_row-Field-2 xs)) h))
 
 -- the next item
 pub items_lent_push : (s : Form) (input : Bytes) (ds : List Datum) (d : Datum) → AreItemsLentAs s input ds → IsLentAs s input d → AreItemsLentAs s input (ds ++ d ∷ [])
 items_lent_push s input [] d h next = (next, tt)
 items_lent_push s input (x ∷ ds) d h next = (h.0, items_lent_push s input ds d h.1 next)
+
+-- ---- values without a shape
+
+all_items_lent : (input : Bytes) (m : _) (rows : Row_of-Datum m) → AreRowsLentAs (leaf Any) input rows → AllItemsLent input rows
+all_items_lent input m end_of-Datum h = tt
+all_items_lent input m (more_of-Datum d rest) h = (h.0, all_items_lent input _ rest h.1)
+
+pub any_sequence_lent : (input : Bytes) (ds : Vec Datum) → AreItemsLentAs (leaf Any) input ds.items → AllLent input (Seq ds)
+any_sequence_lent input ds h = all_items_lent input _ (hidden-the_row-Datum-0 ds) (sequence_lent (leaf Any) input ds h)
+
+all_entries_lent : (input : Bytes) (m : _) (rows : Row_of-Entry m) → AreEntryRowsLentAs (leaf str_leaf) (leaf Any) input rows → AllEntriesLent input rows
+all_entries_lent input m end_of-Entry h = tt
+all_entries_lent input m (more_of-Entry k d rest) h = (h.0, h.1, all_entries_lent input _ rest h.2)
+
+pub any_map_lent : (input : Bytes) (es : Vec Entry) → AreEntriesLentAs (leaf str_leaf) (leaf Any) input es.items → AllLent input (Map es)
+any_map_lent input es h = all_entries_lent input _ (hidden-the_row-Entry-1 es) (map_lent (leaf str_leaf) (leaf Any) input es h)
+
+-- ---- one more part
+
+-- the next entry
+pub entries_lent_push : (key s : Form) (input : Bytes) (es : List Entry) (e : Entry) → AreEntriesLentAs key s input es → IsLentAs key input e.key → IsLentAs s input e.value → AreEntriesLentAs key s input (es ++ e ∷ [])
+entries_lent_push key s input [] e h named next = (named, next, tt)
+entries_lent_push key s input (x ∷ es) e h named next = (h.0, h.1, entries_lent_push key s input es e h.2 named next)
+
+-- another value under the key that stands there
+pub entries_lent_set : (key s : Form) (input : Bytes) (es : List Entry) (i : ℕ) (d e : Entry) → AreEntriesLentAs key s input es → e.key ≡ (get_or es i d).key → IsLentAs s input e.value → AreEntriesLentAs key s input (set es i e)
+entries_lent_set key s input [] i d e h same next = tt
+entries_lent_set key s input (x ∷ es) zero d e h same next = (subst (IsLentAs key input) (sym same) h.0, next, h.2)
+entries_lent_set key s input (x ∷ es) (suc i) d e h same next = (h.0, h.1, entries_lent_set key s input es i d e h.2 same next)
+
+-- the fields of a part of the input
+pub fields_lent_wider : (fs : Fields) (a b : Bytes) (xs : List Field) → StandsIn a b → AreFieldsLentAs fs a xs → AreFieldsLentAs fs b xs
+fields_lent_wider no_fields a b [] wide h = tt
+fields_lent_wider (field n s fs) a b (x ∷ xs) wide h = (h.0, lent_wider s a b x.value wide h.1, fields_lent_wider fs a b xs wide h.2)
+fields_lent_wider fs a b xs wide h = absurd h

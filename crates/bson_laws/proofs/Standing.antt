@@ -17,7 +17,7 @@ use Rattle.bson_rawdoc.specs.RawValue.{RawValue, string, document, array, binary
 use Rattle.bson_rawdoc.specs.Walk.{Element, Walk, ended, faulty, then_walk, of_kind, with_key, element_at, walk_step, walk_within, walk_elements, walk}
 use Rattle.bson_rawdoc.specs.declared.raw.Error.{Error}
 use Rattle.bson_rawdoc.specs.declared.raw.Error.TheVariants.{TooShort, LengthDiffers, NoTerminator, KeyNotUtf8, BadExtent, NotUtf8, TextUnclosed, InnerLength, ValueUnclosed}
-use Rattle.bson_laws.specs.Lent.{StandsIn}
+use Rattle.bson_laws.specs.Lent.{StandsIn, PartsStandIn}
 
 -- the whole stands in itself
 stands_whole : (bytes : Bytes) → StandsIn bytes bytes
@@ -130,15 +130,6 @@ pub walk_stands : (bytes : Bytes) → ElementsStandIn bytes (walk bytes)
 walk_stands bytes = elements_stand (inside bytes) bytes (stands_inside bytes)
 
 -- ---- values
-
--- what a value holds of the bytes that it stands in
-abbrev pub PartsStandIn : Bytes → RawValue → Type 0
-PartsStandIn bytes (string t) = StandsIn t bytes
-PartsStandIn bytes (document inner) = StandsIn inner bytes
-PartsStandIn bytes (array inner) = StandsIn inner bytes
-PartsStandIn bytes (binary subtype part) = StandsIn part bytes
-PartsStandIn bytes (object_id id) = StandsIn id bytes
-PartsStandIn bytes v = Unit {0}
 
 utf8_stands : (b : Bool) (bytes t : Bytes) → cond b (Ok bytes) (Err NotUtf8) ≡ Ok t → StandsIn t bytes
 utf8_stands true bytes t e = stands_same t bytes (sym (ok_is bytes t e))

@@ -2,9 +2,8 @@ use Rattle.std.proofs.Common.{rules, ◌+◌, ◌*◌, ◌-◌, ◌<◌, sym, su
 use Rattle.bson_rawdoc.specs.DocumentView.{document_bytes}
 use Rattle.bson_rawdoc.specs.ValueView.{raw_value}
 use Rattle.bson_datum.specs.Refusal.{at_key}
-use Rattle.bson_laws.specs.Reads.{Reading, at_its_key, scope_key, pass_inside}
+use Rattle.bson_laws.specs.Reads.{Reading, at_its_key, scope_key, pass_inside, passes}
 use Rattle.bson_de_raw.specs.Gives.{Reaches}
-use Rattle.bson_de_raw.specs.Passes.{passes}
 use Rattle.bson_de_raw.proofs.Passed.{ignores_fault, ignores_value}
 use Rattle.bson_de_raw.proofs.Refusals.{StopsAs, stops_inside}
 use Rattle.bson_de_raw.proofs.ignored.+ignore.Goals as goal

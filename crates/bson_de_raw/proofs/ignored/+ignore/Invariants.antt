@@ -1,8 +1,8 @@
 use Rattle.std.proofs.Common.{◌≡◌, ◌+◌, ◌*◌, ◌-◌, ◌<◌, ◌^◌}
 use Rattle.bson_rawdoc.specs.DocumentView.{document_bytes}
 use Rattle.bson_rawdoc.specs.Next.{count}
-use Rattle.bson_laws.specs.Reads.{ignores, pass_elements}
-use Rattle.bson_de_raw.specs.Passes.{passes, place_in}
+use Rattle.bson_laws.specs.Reads.{ignores, passes, pass_elements}
+use Rattle.bson_de_raw.specs.Passes.{place_in}
 use Rattle.bson_de_raw.proofs.ignored.+ignore.Given as goal
 
 abbrev pub decreases-ignore : goal.decreases-ignore

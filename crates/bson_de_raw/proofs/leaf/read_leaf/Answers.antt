@@ -10,7 +10,8 @@ use Rattle.bson_rawdoc.specs.ValueView.{raw_value}
 use Rattle.bson_laws.specs.Leaves.{leaf_kind}
 use Rattle.bson_laws.specs.Reads.{Reading, read_leaf}
 use Rattle.bson_de_raw.specs.Gives.{Reaches}
-use Rattle.bson_de_raw.proofs.Lent.{text_lent, bytes_lent, leaf_lent, leaf_owned}
+use Rattle.bson_de_raw.proofs.AnyRead.{any_is}
+use Rattle.bson_de_raw.proofs.Lent.{text_lent, bytes_lent, leaf_lent, leaf_owned, any_leaf_lent}
 use Rattle.bson_de_raw.proofs.NumberLeaves.{number_read, none_lends}
 use Rattle.bson_de_raw.proofs.leaf.read_leaf.Goals as goal
 
@@ -29,3 +30,12 @@ pub returns-in-I8-clause-exact : goal.returns-in-I8-clause-exact
 returns-in-I8-clause-exact c =
     let number = number_read c.args.leaf c.args.levels (raw_value c.in_ok-raw.raw) c.in-I8.is in
     subst (λ (r : Reading Value). Reaches view c.number.result r) (sym (ap (λ r. r >>= read_leaf c.args.levels (leaf_kind c.args.leaf)) c.in_ok-raw.ensures.exact ∙ number)) c.number.ensures.exact
+
+pub returns-in-Any-clause-exact : goal.returns-in-Any-clause-exact
+returns-in-Any-clause-exact c =
+    let v = raw_value c.in_ok-raw.raw in
+    subst (λ (r : Reading Value). Reaches view c.read_any.result r)
+    (sym (ap (λ r. r >>= read_leaf c.args.levels (leaf_kind c.args.leaf)) c.in_ok-raw.ensures.exact ∙ ap (λ l. read_leaf c.args.levels (leaf_kind l) v) c.in-Any.is ∙ any_is c.args.levels v)) c.read_any.ensures.exact
+
+pub returns-in-Any-clause-lent : goal.returns-in-Any-clause-lent
+returns-in-Any-clause-lent c = any_leaf_lent c.args.leaf c.args.value (raw_value c.in_ok-raw.raw) c.read_any.result (ap lends c.in-Any.is) c.in_ok-raw.ensures.faultless c.read_any.ensures.lent

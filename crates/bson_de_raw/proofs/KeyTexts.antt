@@ -1,0 +1,33 @@
+-- Keys of maps: two texts that are one key are one text.
+use Rattle.std.proofs.Common.{◌≡◌, ℕ, List, [], ◌∷◌, true, Ok, IsUtf8, refl, ap, sym, ◌∙◌}
+use Rattle.std.specs.Str.{chars}
+use lib.Utf8.{encodes}
+use Rattle.std.proofs.lemmas.Bool.{false≢true}
+use Rattle.std.proofs.lemmas.Str.{encodes-chars}
+use Rattle.bson_base.specs.Text.{Utf8}
+use Rattle.bson_shape.specs.Form.{leaf}
+use Rattle.bson_shape.specs.Leaf.{is_text}
+use Rattle.bson_shape.specs.declared.leaf.Leaf.{Leaf}
+use Rattle.bson_shape.specs.declared.leaf.Leaf.TheVariants.{Char, Str, String}
+use Rattle.bson_datum.specs.Value.{Value, character}
+use Rattle.bson_laws.specs.Views.{one_character}
+use Rattle.bson_laws.specs.Reads.{read_character, reads_key}
+
+-- what is read as a character is one
+one_read : (cs : List ℕ) (k : Value) → read_character (one_character cs) ≡ Ok k → (c : ℕ) × (cs ≡ c ∷ []) × (k ≡ character c)
+one_read [] k e = absurd cc
+one_read (c ∷ []) k e = (c, refl, cc)
+one_read (c ∷ d ∷ cs) k e = absurd cc
+
+same_characters : (cs ds : List ℕ) (k : Value) → read_character (one_character cs) ≡ Ok k → read_character (one_character ds) ≡ Ok k → cs ≡ ds
+same_characters cs ds k e f =
+    let c = one_read cs k e in
+    let d = one_read ds k f in
+    cc
+
+-- two texts that are read as one key
+pub key_same : (l : Leaf) (t u : Utf8) (k : Value) → is_text l ≡ true → IsUtf8 t → IsUtf8 u → reads_key (leaf l) t ≡ Ok k → reads_key (leaf l) u ≡ Ok k → t ≡ u
+key_same Str t u k text a b e f = cc
+key_same String t u k text a b e f = cc
+key_same Char t u k text a b e f = sym (encodes-chars t a) ∙ ap encodes (same_characters (chars t) (chars u) k e f) ∙ encodes-chars u b
+key_same l t u k text a b e f = absurd (false≢true text)

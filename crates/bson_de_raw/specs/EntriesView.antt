@@ -1,0 +1,23 @@
+-- What contracts see of the entries of a map that is read.
+use Rattle.std.specs.Prelude.{◌≡◌, ℕ, true, if◌then◌else◌, length, Option, Some, None, Ok}
+use Rattle.std.specs.Str.{IsUtf8}
+use Rattle.bson_base.specs.Text.{Utf8}
+use Rattle.bson_shape.specs.Form.{leaf}
+use Rattle.bson_shape.specs.Leaf.{is_text}
+use Rattle.bson_datum.specs.Same.{same}
+use Rattle.bson_datum.specs.Value.{Value, Entries, no_entries, entry}
+use Rattle.bson_datum.specs.View.{entries_view}
+use Rattle.bson_laws.specs.Reads.{one_further, reads_key}
+use Rattle.bson_de_raw.specs.KeysView.{key_place, HasPlacesBelow}
+use Rattle.bson_de_raw.specs.declared.entries.Entries as code
+
+-- the place of the first entry that has the key
+abbrev pub entry_place : Value → Entries → Option ℕ
+entry_place k no_entries = None
+entry_place k (entry key v es) = if same k key then Some 0 else one_further (entry_place k es)
+
+-- Each text has, among the texts of the keys, the place of the entry whose key it is.
+pub record IsIndexed (e : code.Entries) : Type 0 where
+  pub text : is_text e.leaf ≡ true
+  pub next : HasPlacesBelow (length e.entries.items) e.keys
+  pub places : (t : Utf8) (k : Value) → IsUtf8 t → reads_key (leaf e.leaf) t ≡ Ok k → key_place e.keys t ≡ entry_place k (entries_view e.entries.items)
