@@ -5,7 +5,7 @@ use lib.Dec.{ltb}
 use Rattle.std.proofs.lemmas.Str.{encode_ascii, length-encode, len_utf8_bounds}
 use Rattle.bson_base.specs.Text.{Utf8}
 use Rattle.bson_shape.specs.Notation.{begins_bare, in_bare, names_form, is_escaped}
-use Rattle.bson_shape.specs.Machine.{Refusal, Not_notation, Open, Level, In_field, In_option, In_brackets, In_map, In_newtype, Owner, Form_at, Field_of, Mode, Form_due, First_field, Field_due, Bare, Quoted, Escape, Named, Done, State, ◌>>=◌, wrapped, enclosed, form_ended, begins_name, begins_form, form_due, field_due, first_field, named, word_ended, leaf_ended, bare_name, quoted_name, escape, step, no_more, no_more_behind, other_character, run}
+use Rattle.bson_shape.specs.Machine.{Refusal, Not_notation, OpenEnum, Level, In_field, In_option, In_brackets, In_map, In_newtype, In_part, In_variant, Owner, Form_at, Field_of, Variant_of, Mode, Form_due, First_field, Field_due, First_part, First_variant, Variant_due, Bare, Quoted, Escape, Named, Variant_done, Done, State, Open, ◌>>=◌, wrapped, variant_ended, enclosed, form_ended, begins_name, begins_form, form_due, field_due, first_field, first_part, variant_due, first_variant, named, word_ended, leaf_ended, bare_name, quoted_name, escape, step, no_more, no_more_behind, other_character, run}
 use Rattle.bson_shape.proofs.NameRuns.{run_step, run_refused}
 use Rattle.std.proofs.lemmas.Bool.Decides.{nat_tests}
 use Rattle.bson_shape.specs.Answers.{Gives}
@@ -59,6 +59,8 @@ enclosed_refused at f (In_option place ∷ st) b h = refl
 enclosed_refused at f (In_brackets place ∷ st) b h = rw (not_byte b 93 h (omega arith), not_byte b 58 h (omega arith)) refl
 enclosed_refused at f (In_map place k ∷ st) b h = rw (not_byte b 93 h (omega arith)) refl
 enclosed_refused at f (In_newtype place n ∷ st) b h = refl
+enclosed_refused at f (In_part o ∷ st) b h = rw (not_byte b 44 h (omega arith), not_byte b 41 h (omega arith)) refl
+enclosed_refused at f (In_variant e n ∷ st) b h = rw (not_byte b 44 h (omega arith), not_byte b 62 h (omega arith)) refl
 enclosed_refused at f (In_field o n ∷ st) b h = rw (not_byte b 44 h (omega arith), not_byte b 125 h (omega arith)) refl
 
 ended_refused : (at : ℕ) (f : Form) (st : List Level) (b : ℕ) → 128 ≤ b → form_ended at f st b ≡ no_more at f st
@@ -67,7 +69,8 @@ ended_refused at f st b h = ap (λ k. wrapped at f st >>= k) (λ i e. enclosed_r
 
 named_refused : (at : ℕ) (owner : Owner) (n : Utf8) (st : List Level) (b : ℕ) → 128 ≤ b → named at owner n st b ≡ Err (Not_notation at)
 unfolding named
-named_refused at (Form_at p) n st b h = rw (not_byte b 61 h (omega arith), not_byte b 33 h (omega arith), not_byte b 123 h (omega arith)) refl
+named_refused at (Form_at p) n st b h = rw (not_byte b 61 h (omega arith), not_byte b 33 h (omega arith), not_byte b 40 h (omega arith), not_byte b 123 h (omega arith)) refl
+named_refused at (Variant_of e) n st b h = rw (not_byte b 61 h (omega arith), not_byte b 40 h (omega arith), not_byte b 123 h (omega arith), not_byte b 44 h (omega arith), not_byte b 62 h (omega arith)) refl
 named_refused at (Field_of o) n st b h = rw (not_byte b 58 h (omega arith)) refl
 
 leaf_refused : (o : Option Leaf) (at : ℕ) (st : List Level) (b : ℕ) → 128 ≤ b → leaf_ended at o st b ≡ no_more_behind at o st
@@ -82,14 +85,23 @@ field_refused : (at : ℕ) (o : Open) (n : Utf8) (st : List Level) (b : ℕ) →
 unfolding word_ended
 field_refused at o n st b h = named_refused at (Field_of o) n st b h
 
+variant_refused : (at : ℕ) (e : OpenEnum) (n : Utf8) (st : List Level) (b : ℕ) → 128 ≤ b → word_ended at (Variant_of e) n st b ≡ Err (Not_notation at)
+unfolding word_ended
+variant_refused at e n st b h = named_refused at (Variant_of e) n st b h
+
 -- such a byte is read between quotes alone
 pub high_step : (at : ℕ) (m : Mode) (st : List Level) (b : ℕ) → 128 ≤ b → step at m st b ≡ other_character at m st (b ∷ [])
-unfolding step form_due first_field field_due bare_name quoted_name escape other_character
+unfolding step form_due first_field field_due first_part first_variant variant_due bare_name quoted_name escape other_character
 high_step at Form_due st b h = rw (not_form b h) refl
 high_step at (First_field o) st b h = rw (not_byte b 125 h (omega arith), not_quote b h) refl
 high_step at (Field_due o) st b h = rw (not_quote b h) refl
+high_step at (First_part o) st b h = rw (not_byte b 41 h (omega arith), not_form b h) refl
+high_step at (First_variant e) st b h = rw (not_byte b 62 h (omega arith), not_quote b h) refl
+high_step at (Variant_due e) st b h = rw (not_quote b h) refl
+high_step at (Variant_done e) st b h = rw (not_byte b 44 h (omega arith), not_byte b 62 h (omega arith)) refl
 high_step at (Bare (Form_at p) n) st b h = rw (not_in_bare b h) (word_refused at p n st b h)
 high_step at (Bare (Field_of o) n) st b h = rw (not_in_bare b h) (field_refused at o n st b h)
+high_step at (Bare (Variant_of e) n) st b h = rw (not_in_bare b h) (variant_refused at e n st b h)
 high_step at (Quoted owner n) st b h = rw (not_byte b 34 h (omega arith), not_byte b 92 h (omega arith)) refl
 high_step at (Escape owner n) st b h = rw (not_escaped b h) refl
 high_step at (Named owner n) st b h = named_refused at owner n st b h
@@ -126,14 +138,9 @@ word_high (Some l) bs b at m st h e = ended_high (leaf l) bs b at m st h e
 high_run : (bs : Utf8) (b at : ℕ) (m : Mode) (st : List Level) → AreHigh (b ∷ bs) → run at (m, st) (b ∷ bs) ≡ other_character at m st (b ∷ bs)
 unfolding other_character
 high_run bs b at (Quoted owner n) st h = quoted_high (b ∷ bs) at owner n st h
-high_run bs b at Form_due st h = refused_high bs b at Form_due st h.0 refl
-high_run bs b at (First_field o) st h = refused_high bs b at (First_field o) st h.0 refl
-high_run bs b at (Field_due o) st h = refused_high bs b at (Field_due o) st h.0 refl
 high_run bs b at (Bare (Form_at p) n) st h = word_high (of_word n) bs b at (Bare (Form_at p) n) st h.0 refl
-high_run bs b at (Bare (Field_of o) n) st h = refused_high bs b at (Bare (Field_of o) n) st h.0 refl
-high_run bs b at (Escape owner n) st h = refused_high bs b at (Escape owner n) st h.0 refl
-high_run bs b at (Named owner n) st h = refused_high bs b at (Named owner n) st h.0 refl
 high_run bs b at (Done f) st h = ended_high f bs b at (Done f) st h.0 refl
+high_run bs b at m st h = refused_high bs b at m st h.0 refl
 
 all_high : (bs : Utf8) (at : ℕ) (m : Mode) (st : List Level) → 0 < length bs → AreHigh bs → run at (m, st) bs ≡ other_character at m st bs
 all_high [] at m st l h = absurd (omega arith)

@@ -5,12 +5,12 @@ use Rattle.std.proofs.lemmas.Bool.Decides.{nat_tests}
 use Rattle.std.proofs.lemmas.List.Elements.{Contains-append_left, Contains-append_right}
 use Rattle.bson_base.specs.Text.{Utf8}
 use Rattle.bson_base.specs.Reserved.{reserved_kind}
-use Rattle.bson_shape.specs.Form.{Form, leaf, optional, sequence, map, newtype, unit_structure, structure, Fields, no_fields, field}
-use Rattle.bson_shape.specs.Levels.{levels, deepest}
-use Rattle.bson_shape.specs.Makers.{is_text_key, is_reserved_newtype, repeats, within_levels, made_optional, made_sequence, made_map, made_newtype, made_structure}
-use Rattle.bson_shape.specs.Notation.{text, name_text, struct_name_text, listed, field_texts}
-use Rattle.bson_shape.specs.FirstRefusal.{MakerRefusal, or_else, too_deep, refusal_of, first_refusal, fields_refusal}
-use Rattle.bson_shape.specs.InnerForms.{Inner, inner_forms, field_forms, HasCause, HasFault}
+use Rattle.bson_shape.specs.Form.{Form, leaf, optional, sequence, map, tuple, tuple_structure, newtype, unit_structure, structure, enumeration, Fields, no_fields, field, Parts, no_parts, part, Variants, no_variants, variant, Content, unit_content, newtype_content, tuple_content, struct_content}
+use Rattle.bson_shape.specs.Levels.{levels, deepest, deepest_part, deepest_variant, deepest_inside}
+use Rattle.bson_shape.specs.Makers.{is_text_key, is_reserved_newtype, repeats, variants_repeat, within_levels, made_optional, made_sequence, made_map, made_tuple, made_tuple_structure, made_newtype, made_structure, made_enumeration}
+use Rattle.bson_shape.specs.Notation.{text, name_text, struct_name_text, listed, field_texts, part_texts, variant_texts, content_text}
+use Rattle.bson_shape.specs.FirstRefusal.{MakerRefusal, or_else, too_deep, refusal_of, first_refusal, fields_refusal, parts_refusal, variants_refusal, content_refusal}
+use Rattle.bson_shape.specs.InnerForms.{Inner, inner_forms, field_forms, part_forms, variant_forms, content_forms, HasCause, HasFault}
 use Rattle.bson_shape.specs.declared.error.ShapeError.{ShapeError}
 use Rattle.bson_shape.specs.declared.error.ShapeError.TheVariants.{ReservedName, RepeatedName, KeyNotText, TooDeep}
 use Rattle.bson_shape.proofs.Made.{within_levels-few}
@@ -54,6 +54,24 @@ mutual
       let b = first_refusal value (around + 1) v in
       let both = neither a b (item_none at around (or_else a b) (refusal_of (value + length (text v) + 1) at (made_map k v)) e) in
       omega (arith, fits k key (around + 1) both.0, fits v value (around + 1) both.1)
+  fits (tuple ps) at around e =
+      let inner = at + 1 in
+      let made = refusal_of (inner + length (listed (part_texts ps)) + 1) at (made_tuple ps) in
+      let first = neither (too_deep at around) (or_else (parts_refusal inner (around + 1) ps) made) e in
+      let less = none_deep (nat_le 512 around) at around refl first.0 in
+      omega (arith, less, parts_fit ps inner (around + 1) less (neither (parts_refusal inner (around + 1) ps) made first.1).0)
+  fits (tuple_structure n ps) at around e =
+      let inner = at + length (name_text n) + 1 in
+      let made = refusal_of (inner + length (listed (part_texts ps)) + 1) at (made_tuple_structure n ps) in
+      let first = neither (too_deep at around) (or_else (parts_refusal inner (around + 1) ps) made) e in
+      let less = none_deep (nat_le 512 around) at around refl first.0 in
+      omega (arith, less, parts_fit ps inner (around + 1) less (neither (parts_refusal inner (around + 1) ps) made first.1).0)
+  fits (enumeration vs) at around e =
+      let inner = at + 1 in
+      let made = refusal_of (inner + length (listed (variant_texts vs)) + 1) at (made_enumeration vs) in
+      let first = neither (too_deep at around) (or_else (variants_refusal inner (around + 1) vs) made) e in
+      let less = none_deep (nat_le 512 around) at around refl first.0 in
+      omega (arith, less, variants_fit vs inner (around + 1) less (neither (variants_refusal inner (around + 1) vs) made first.1).0)
   fits (newtype n f) at around e =
       let inner = at + length (name_text n) + 1 in
       omega (arith, fits f inner (around + 1) (item_none at around (first_refusal inner (around + 1) f) (refusal_of (inner + length (text f)) at (made_newtype n f)) e))
@@ -71,6 +89,26 @@ mutual
       let inner = at + length (name_text n) + 1 in
       let both = neither (first_refusal inner around f) (fields_refusal (inner + length (text f) + 1) around fs) e in
       omega (arith, fits f inner around both.0, fields_fit fs (inner + length (text f) + 1) around few both.1)
+
+  parts_fit : (ps : Parts) (at around : ℕ) → around ≤ 512 → parts_refusal at around ps ≡ None → around + deepest_part ps ≤ 512
+  parts_fit no_parts at around few e = omega arith
+  parts_fit (part f ps) at around few e =
+      let both = neither (first_refusal at around f) (parts_refusal (at + length (text f) + 1) around ps) e in
+      omega (arith, fits f at around both.0, parts_fit ps (at + length (text f) + 1) around few both.1)
+
+  variants_fit : (vs : Variants) (at around : ℕ) → around ≤ 512 → variants_refusal at around vs ≡ None → around + deepest_variant vs ≤ 512
+  variants_fit no_variants at around few e = omega arith
+  variants_fit (variant n c vs) at around few e =
+      let inner = at + length (name_text n) in
+      let end = inner + length (content_text c) + 1 in
+      let both = neither (content_refusal inner around c) (variants_refusal end around vs) e in
+      omega (arith, content_fits c inner around few both.0, variants_fit vs end around few both.1)
+
+  content_fits : (c : Content) (at around : ℕ) → around ≤ 512 → content_refusal at around c ≡ None → around + deepest_inside c ≤ 512
+  content_fits unit_content at around few e = omega arith
+  content_fits (newtype_content f) at around few e = fits f (at + 1) around e
+  content_fits (tuple_content ps) at around few e = parts_fit ps (at + 1) around few e
+  content_fits (struct_content fs) at around few e = fields_fit fs (at + 1) around few e
 
 -- ---- faults
 
@@ -124,6 +162,11 @@ struct_fault true b n fs met at around rest r p q few e = here_fault (record { p
 struct_fault false true n fs met at around rest r p q few e = here_fault (record { place = at; around = around; form = structure n fs }) rest met RepeatedName r q e
 struct_fault false false n fs met at around rest r p q few e = absurd (none_made (structure n fs) met at r few e)
 
+enum_fault : (a : Bool) (vs : Variants) (met at around : ℕ) (rest : List Inner) (r : MakerRefusal) → variants_repeat vs ≡ a → levels (enumeration vs) ≤ 512
+    → refusal_of met at (cond a (Err RepeatedName) (within_levels (enumeration vs))) ≡ Some r → FaultIn (record { place = at; around = around; form = enumeration vs } ∷ rest) r
+enum_fault true vs met at around rest r p few e = here_fault (record { place = at; around = around; form = enumeration vs }) rest met RepeatedName r p e
+enum_fault false vs met at around rest r p few e = absurd (none_made (enumeration vs) met at r few e)
+
 under : (i : Inner) (is : List Inner) (r : MakerRefusal) → FaultIn is r → FaultIn (i ∷ is) r
 under i is r h = in_later (i ∷ []) is r h
 
@@ -174,6 +217,28 @@ mutual
       ])
       (λ less none g. let both = neither a b none in map_fault (is_text_key k) k v met at around (in_key ++ in_value) r refl (omega (arith, fits k key (around + 1) both.0, fits v value (around + 1) both.1)) g)
       e
+  form_fault (tuple ps) at around r few e =
+      let inner = at + 1 in
+      let met = inner + length (listed (part_texts ps)) + 1 in
+      around_fault (tuple ps) (part_forms inner (around + 1) ps) (parts_refusal inner (around + 1) ps) (refusal_of met at (made_tuple ps)) at around r few
+      (λ less g. parts_fault ps inner (around + 1) r less g)
+      (λ less none g. absurd (none_made (tuple ps) met at r (omega (arith, parts_fit ps inner (around + 1) less none)) g))
+      e
+  form_fault (tuple_structure n ps) at around r few e =
+      let inner = at + length (name_text n) + 1 in
+      let met = inner + length (listed (part_texts ps)) + 1 in
+      around_fault (tuple_structure n ps) (part_forms inner (around + 1) ps) (parts_refusal inner (around + 1) ps) (refusal_of met at (made_tuple_structure n ps)) at around r few
+      (λ less g. parts_fault ps inner (around + 1) r less g)
+      (λ less none g. absurd (none_made (tuple_structure n ps) met at r (omega (arith, parts_fit ps inner (around + 1) less none)) g))
+      e
+  form_fault (enumeration vs) at around r few e =
+      let inner = at + 1 in
+      let met = inner + length (listed (variant_texts vs)) + 1 in
+      let rest = variant_forms inner (around + 1) vs in
+      around_fault (enumeration vs) rest (variants_refusal inner (around + 1) vs) (refusal_of met at (made_enumeration vs)) at around r few
+      (λ less g. variants_fault vs inner (around + 1) r less g)
+      (λ less none g. enum_fault (variants_repeat vs) vs met at around rest r refl (omega (arith, variants_fit vs inner (around + 1) less none)) g)
+      e
   form_fault (newtype n f) at around r few e =
       let inner = at + length (name_text n) + 1 in
       let met = inner + length (text f) in
@@ -200,6 +265,31 @@ mutual
         | inl h ↦ in_first (inner_forms inner around f) (field_forms (inner + length (text f) + 1) around fs) r (form_fault f inner around r few h)
         | inr h ↦ in_later (inner_forms inner around f) (field_forms (inner + length (text f) + 1) around fs) r (fields_fault fs (inner + length (text f) + 1) around r few h.1)
       ]
+
+  parts_fault : (ps : Parts) (at around : ℕ) (r : MakerRefusal) → around ≤ 512 → parts_refusal at around ps ≡ Some r → FaultIn (part_forms at around ps) r
+  parts_fault no_parts at around r few e = absurd cc
+  parts_fault (part f ps) at around r few e =
+      let end = at + length (text f) + 1 in
+      elim (one_of (first_refusal at around f) (parts_refusal end around ps) r e) [
+        | inl h ↦ in_first (inner_forms at around f) (part_forms end around ps) r (form_fault f at around r few h)
+        | inr h ↦ in_later (inner_forms at around f) (part_forms end around ps) r (parts_fault ps end around r few h.1)
+      ]
+
+  variants_fault : (vs : Variants) (at around : ℕ) (r : MakerRefusal) → around ≤ 512 → variants_refusal at around vs ≡ Some r → FaultIn (variant_forms at around vs) r
+  variants_fault no_variants at around r few e = absurd cc
+  variants_fault (variant n c vs) at around r few e =
+      let inner = at + length (name_text n) in
+      let end = inner + length (content_text c) + 1 in
+      elim (one_of (content_refusal inner around c) (variants_refusal end around vs) r e) [
+        | inl h ↦ in_first (content_forms inner around c) (variant_forms end around vs) r (content_fault c inner around r few h)
+        | inr h ↦ in_later (content_forms inner around c) (variant_forms end around vs) r (variants_fault vs end around r few h.1)
+      ]
+
+  content_fault : (c : Content) (at around : ℕ) (r : MakerRefusal) → around ≤ 512 → content_refusal at around c ≡ Some r → FaultIn (content_forms at around c) r
+  content_fault unit_content at around r few e = absurd cc
+  content_fault (newtype_content f) at around r few e = form_fault f (at + 1) around r few e
+  content_fault (tuple_content ps) at around r few e = parts_fault ps (at + 1) around r few e
+  content_fault (struct_content fs) at around r few e = fields_fault fs (at + 1) around r few e
 
 pub refusal_fault : (f : Form) (r : MakerRefusal) → first_refusal 0 0 f ≡ Some r → HasFault f r.place r.cause
 refusal_fault f r e = let x = form_fault f 0 0 r (omega arith) e in record { inner = x.inner; stands = x.stands; here = x.here; is = x.is }

@@ -2,12 +2,12 @@
 use Rattle.std.proofs.Common.{◌≡◌, ◌<◌, ◌≤◌, Bool, true, false, cond, nat_lt, Option, Some, None, Result, Ok, Err, is_some, refl, ap, ◌∙◌, arith}
 use Rattle.std.specs.Prelude.{IfOk}
 use Rattle.std.specs.Str.{is_utf8}
-use Rattle.std.proofs.lemmas.Bool.{true≢false, cond-true, cond-false, le-ltb}
+use Rattle.std.proofs.lemmas.Bool.{or_parts, or_from, true≢false, cond-true, cond-false, le-ltb}
 use Rattle.bson_base.specs.Text.{Utf8}
 use Rattle.bson_base.specs.Reserved.{reserved_kind}
-use Rattle.bson_shape.specs.Form.{Form, map, newtype, structure, Fields}
-use Rattle.bson_shape.specs.Levels.{levels, deepest, max_shape_levels}
-use Rattle.bson_shape.specs.Makers.{is_text_key, is_reserved_newtype, AreDistinct, repeats, IsNewtype, IsStruct, IsShape, AreShapes, Makes, within_levels, made_map, made_newtype, made_structure}
+use Rattle.bson_shape.specs.Form.{Form, map, newtype, structure, enumeration, Fields, Variants, no_variants, variant, Content, unit_content, newtype_content, tuple_content, struct_content}
+use Rattle.bson_shape.specs.Levels.{levels, deepest, deepest_variant, max_shape_levels}
+use Rattle.bson_shape.specs.Makers.{is_text_key, is_reserved_newtype, AreDistinct, repeats, has_repeat, variant_names, content_repeats, contents_repeat, variants_repeat, IsNewtype, IsStruct, IsEnum, IsShape, AreShapes, AreVariants, IsContent, Makes, within_levels, made_map, made_newtype, made_structure, made_enumeration}
 use Rattle.bson_shape.specs.declared.error.ShapeError.{ShapeError}
 use Rattle.bson_shape.specs.declared.error.ShapeError.TheVariants.{ReservedName, RepeatedName, KeyNotText, TooDeep}
 
@@ -18,6 +18,10 @@ none_from (Some x) e = absurd (true≢false e)
 -- what passes the maker's three tests is a shape
 pub structure_passed : (name : Utf8) (fs : Fields) → is_utf8 name ≡ true → is_some (reserved_kind name) ≡ false → AreDistinct fs → deepest fs < max_shape_levels → AreShapes fs → IsShape (structure name fs)
 structure_passed name fs text free distinct few shapes = (record { text = text; free = none_from _ free; distinct = distinct; few = omega arith }, shapes)
+
+-- so is what passes those of the maker of an enum
+pub enumeration_passed : (vs : Variants) → variants_repeat vs ≡ false → deepest_variant vs < max_shape_levels → AreVariants vs → IsShape (enumeration vs)
+enumeration_passed vs distinct few shapes = (record { distinct = (or_parts (has_repeat (variant_names vs)) (contents_repeat vs) distinct).0; few = omega arith }, shapes)
 
 -- a form of few levels is made
 pub within_levels-few : (f : Form) → levels f ≤ max_shape_levels → within_levels f ≡ Ok f
@@ -35,6 +39,21 @@ made_newtype-IsNewtype name f is = cond-false (is_reserved_newtype name) _ _ is.
 pub made_structure-IsStruct : (name : Utf8) (fs : Fields) → IsStruct name fs → made_structure name fs ≡ Ok (structure name fs)
 made_structure-IsStruct name fs is =
     cond-false (is_some (reserved_kind name)) _ _ (ap is_some is.free) ∙ cond-false (repeats fs) _ _ is.distinct ∙ within_levels-few (structure name fs) is.few
+
+-- no struct variant of an enum's has two fields of one name
+contents_distinct : (vs : Variants) → AreVariants vs → contents_repeat vs ≡ false
+contents_distinct no_variants h = refl
+contents_distinct (variant n c vs) h = or_from _ _ (content_distinct c h.1) (contents_distinct vs h.2)
+  where
+    content_distinct : (c : Content) → IsContent c → content_repeats c ≡ false
+    content_distinct unit_content k = refl
+    content_distinct (newtype_content f) k = refl
+    content_distinct (tuple_content ps) k = refl
+    content_distinct (struct_content fs) k = k.0
+
+-- the maker makes each enum that is as it asks
+pub made_enumeration-IsEnum : (vs : Variants) → IsEnum vs → AreVariants vs → made_enumeration vs ≡ Ok (enumeration vs)
+made_enumeration-IsEnum vs is shapes = cond-false (variants_repeat vs) _ _ (or_from _ _ is.distinct (contents_distinct vs shapes)) ∙ within_levels-few (enumeration vs) is.few
 
 -- ---- the answers of the makers
 
@@ -68,6 +87,13 @@ structure_answers P name fs reserved repeated deep made = by_tests (is_some (res
     by_tests false false true = deep
     by_tests false false false = made
 
+enumeration_answers : (P : Result Form ShapeError → Type 0) (vs : Variants) → P (Err RepeatedName) → P (Err TooDeep) → P (Ok (enumeration vs)) → P (made_enumeration vs)
+enumeration_answers P vs repeated deep made = by_test (variants_repeat vs)
+  where
+    by_test : (r : Bool) → P (cond r (Err RepeatedName) (within_levels (enumeration vs)))
+    by_test true = repeated
+    by_test false = within_answers P (enumeration vs) deep made
+
 -- a maker makes the form that it is asked for, or refuses
 pub within_levels-made : (f : Form) → IfOk (within_levels f) (λ g. g ≡ f)
 within_levels-made f = within_answers (λ r. IfOk r (λ g. g ≡ f)) f tt refl
@@ -81,6 +107,15 @@ made_newtype-made name f = newtype_answers (λ r. IfOk r (λ g. g ≡ newtype na
 pub made_structure-made : (name : Utf8) (fs : Fields) → IfOk (made_structure name fs) (λ g. g ≡ structure name fs)
 made_structure-made name fs = structure_answers (λ r. IfOk r (λ g. g ≡ structure name fs)) name fs tt tt tt refl
 
--- the maker of a struct takes no memory
+pub made_enumeration-made : (vs : Variants) → IfOk (made_enumeration vs) (λ g. g ≡ enumeration vs)
+made_enumeration-made vs = enumeration_answers (λ r. IfOk r (λ g. g ≡ enumeration vs)) vs tt tt refl
+
+-- the makers of tuples, structs and enums take no memory
+pub within_levels-makes : (f : Form) → Makes (within_levels f) (within_levels f)
+within_levels-makes f = within_answers (λ r. Makes r r) f refl refl
+
+pub made_enumeration-makes : (vs : Variants) → Makes (made_enumeration vs) (made_enumeration vs)
+made_enumeration-makes vs = enumeration_answers (λ r. Makes r r) vs refl refl refl
+
 pub made_structure-makes : (name : Utf8) (fs : Fields) → Makes (made_structure name fs) (made_structure name fs)
 made_structure-makes name fs = structure_answers (λ r. Makes r r) name fs refl refl refl refl

@@ -3,8 +3,8 @@ use Rattle.std.proofs.Common.{◌≡◌, ℕ, ◌+◌, Bool, true, false, cond, 
 use Rattle.std.specs.List.{list_all}
 use Rattle.bson_base.specs.Text.{Utf8}
 use Rattle.bson_shape.specs.Notation.{begins_bare, in_bare, bare, is_escaped, escaped, quoted, name_text}
-use Rattle.bson_shape.specs.Form.{unit_structure}
-use Rattle.bson_shape.specs.Machine.{Refusal, Open, Level, In_field, In_newtype, Owner, Form_at, Field_of, Mode, Form_due, First_field, Bare, Quoted, Escape, Named, Done, State, ◌>>=◌, opened, begins_name, name_begun, named, word_ended, bare_name, name_closed, quoted_name, escape, step, run}
+use Rattle.bson_shape.specs.Form.{unit_structure, unit_content}
+use Rattle.bson_shape.specs.Machine.{Refusal, OpenEnum, Struct_at, Struct_variant, Open, Tuple_struct_at, Tuple_variant, Level, In_field, In_newtype, In_variant, Owner, Form_at, Field_of, Variant_of, Mode, Form_due, First_field, First_part, Bare, Quoted, Escape, Named, Done, State, ◌>>=◌, opened, opened_tuple, grown_enum, variant_ended, begins_name, name_begun, named, word_ended, bare_name, name_closed, quoted_name, escape, step, run}
 use Rattle.bson_shape.proofs.Words.{and_true, or_false, differs}
 
 -- a byte that is taken
@@ -113,9 +113,36 @@ pub exclamation_step : (at place : ℕ) (n : Utf8) (st : List Level) → step at
 unfolding step bare_name word_ended named
 exclamation_step at place n st = elim (bare n) as (λ t. step at (cond t (Bare (Form_at place) n) (Named (Form_at place) n)) st 33 ≡ Ok (Done (unit_structure n), st)) [ true ↦ refl | false ↦ refl ]
 
+-- a tuple struct's name and its parenthesis
+pub paren_step : (at place : ℕ) (n : Utf8) (st : List Level) → step at (name_mode (Form_at place) n) st 40 ≡ Ok (First_part (opened_tuple (Tuple_struct_at place n)), st)
+unfolding step bare_name word_ended named
+paren_step at place n st = elim (bare n) as (λ t. step at (cond t (Bare (Form_at place) n) (Named (Form_at place) n)) st 40 ≡ Ok (First_part (opened_tuple (Tuple_struct_at place n)), st)) [ true ↦ refl | false ↦ refl ]
+
 -- a struct's name, which is not empty, and its brace
-pub brace_step : (at place b : ℕ) (bs : Utf8) (st : List Level) → step at (name_mode (Form_at place) (b ∷ bs)) st 123 ≡ Ok (First_field (opened place (b ∷ bs)), st)
+pub brace_step : (at place b : ℕ) (bs : Utf8) (st : List Level) → step at (name_mode (Form_at place) (b ∷ bs)) st 123 ≡ Ok (First_field (opened (Struct_at place (b ∷ bs))), st)
 unfolding step bare_name word_ended named
 brace_step at place b bs st =
     let n = b ∷ bs in
-    elim (bare n) as (λ t. step at (cond t (Bare (Form_at place) n) (Named (Form_at place) n)) st 123 ≡ Ok (First_field (opened place n), st)) [ true ↦ refl | false ↦ refl ]
+    elim (bare n) as (λ t. step at (cond t (Bare (Form_at place) n) (Named (Form_at place) n)) st 123 ≡ Ok (First_field (opened (Struct_at place n)), st)) [ true ↦ refl | false ↦ refl ]
+
+-- a variant's name and the byte that tells what it has
+pub variant_equals : (at : ℕ) (e : OpenEnum) (n : Utf8) (st : List Level) → step at (name_mode (Variant_of e) n) st 61 ≡ Ok (Form_due, In_variant e n ∷ st)
+unfolding step bare_name word_ended named
+variant_equals at e n st = elim (bare n) as (λ t. step at (cond t (Bare (Variant_of e) n) (Named (Variant_of e) n)) st 61 ≡ Ok (Form_due, In_variant e n ∷ st)) [ true ↦ refl | false ↦ refl ]
+
+pub variant_paren : (at : ℕ) (e : OpenEnum) (n : Utf8) (st : List Level) → step at (name_mode (Variant_of e) n) st 40 ≡ Ok (First_part (opened_tuple (Tuple_variant e n)), st)
+unfolding step bare_name word_ended named
+variant_paren at e n st = elim (bare n) as (λ t. step at (cond t (Bare (Variant_of e) n) (Named (Variant_of e) n)) st 40 ≡ Ok (First_part (opened_tuple (Tuple_variant e n)), st)) [ true ↦ refl | false ↦ refl ]
+
+pub variant_brace : (at : ℕ) (e : OpenEnum) (n : Utf8) (st : List Level) → step at (name_mode (Variant_of e) n) st 123 ≡ Ok (First_field (opened (Struct_variant e n)), st)
+unfolding step bare_name word_ended named
+variant_brace at e n st = elim (bare n) as (λ t. step at (cond t (Bare (Variant_of e) n) (Named (Variant_of e) n)) st 123 ≡ Ok (First_field (opened (Struct_variant e n)), st)) [ true ↦ refl | false ↦ refl ]
+
+-- the comma or the closing bracket behind a unit variant
+pub unit_comma : (at : ℕ) (e : OpenEnum) (n : Utf8) (st : List Level) → step at (name_mode (Variant_of e) n) st 44 ≡ variant_ended at (grown_enum e n unit_content) st 44
+unfolding step bare_name word_ended named
+unit_comma at e n st = elim (bare n) as (λ t. step at (cond t (Bare (Variant_of e) n) (Named (Variant_of e) n)) st 44 ≡ variant_ended at (grown_enum e n unit_content) st 44) [ true ↦ refl | false ↦ refl ]
+
+pub unit_angle : (at : ℕ) (e : OpenEnum) (n : Utf8) (st : List Level) → step at (name_mode (Variant_of e) n) st 62 ≡ variant_ended at (grown_enum e n unit_content) st 62
+unfolding step bare_name word_ended named
+unit_angle at e n st = elim (bare n) as (λ t. step at (cond t (Bare (Variant_of e) n) (Named (Variant_of e) n)) st 62 ≡ variant_ended at (grown_enum e n unit_content) st 62) [ true ↦ refl | false ↦ refl ]

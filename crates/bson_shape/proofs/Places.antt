@@ -9,7 +9,7 @@ use Rattle.bson_shape.specs.Leaf.{of_word}
 use Rattle.bson_shape.specs.declared.leaf.Leaf.{Leaf}
 use Rattle.bson_shape.specs.Notation.{begins_bare, in_bare, bare, names_form, text}
 use Rattle.bson_shape.specs.FirstRefusal.{MakerRefusal, first_refusal}
-use Rattle.bson_shape.specs.Machine.{Refusal, Not_notation, Refused, Level, Form_at, Field_of, Mode, Form_due, First_field, Field_due, Bare, Quoted, Escape, Named, Done, State, ◌>>=◌, wrapped, enclosed, form_ended, word_ended, bare_name, alone, last, last_leaf, step, run, finish, parsed}
+use Rattle.bson_shape.specs.Machine.{Refusal, Not_notation, Refused, Level, Form_at, Mode, Form_due, Bare, Done, State, ◌>>=◌, wrapped, enclosed, form_ended, word_ended, bare_name, alone, last, last_leaf, step, run, finish, parsed}
 use Rattle.bson_shape.specs.Fronts.{ends_in_word, goes_on, BeginsNotation, IsLongestFront, IsMet, IsNotNotationAt}
 use Rattle.bson_shape.proofs.Words.{and_true, or_false}
 use Rattle.bson_shape.proofs.Texts.{judged, parsed-text}
@@ -59,13 +59,7 @@ finish_stops : (at : ℕ) (m : Mode) (st : List Level) (e : Refusal) → finish 
 unfolding finish
 finish_stops at (Done f) st e h = last_stops at f (Done f) st e refl h
 finish_stops at (Bare (Form_at place) n) st e h = leaf_stops (of_word n) at place n st e refl h
-finish_stops at (Bare (Field_of o) n) st e h = this_place at (Bare (Field_of o) n, st) e h
-finish_stops at Form_due st e h = this_place at (Form_due, st) e h
-finish_stops at (First_field o) st e h = this_place at (First_field o, st) e h
-finish_stops at (Field_due o) st e h = this_place at (Field_due o, st) e h
-finish_stops at (Quoted owner n) st e h = this_place at (Quoted owner n, st) e h
-finish_stops at (Escape owner n) st e h = this_place at (Escape owner n, st) e h
-finish_stops at (Named owner n) st e h = this_place at (Named owner n, st) e h
+finish_stops at m st e h = this_place at (m, st) e h
 
 not_read : (at : ℕ) (f : Form) {A : Type 0} → (let r : Result Form Refusal = Err (Not_notation at) in r) ≡ Ok f → A
 not_read at f h = absurd cc
@@ -88,13 +82,7 @@ finish_takes : (at : ℕ) (m : Mode) (st : List Level) (f : Form) → finish at 
 unfolding finish
 finish_takes at (Done g) st f h = last_takes at g f (Done g) st refl h
 finish_takes at (Bare (Form_at place) n) st f h = leaf_takes (of_word n) at place n st f refl h
-finish_takes at (Bare (Field_of o) n) st f h = not_read at f h
-finish_takes at Form_due st f h = not_read at f h
-finish_takes at (First_field o) st f h = not_read at f h
-finish_takes at (Field_due o) st f h = not_read at f h
-finish_takes at (Quoted owner n) st f h = not_read at f h
-finish_takes at (Escape owner n) st f h = not_read at f h
-finish_takes at (Named owner n) st f h = not_read at f h
+finish_takes at m st f h = not_read at f h
 
 -- what is read is the text of the form
 pub parsed_text : (bytes : Utf8) (f : Form) → parsed bytes ≡ Ok f → text f ≡ bytes
@@ -175,14 +163,7 @@ ends-bare (b ∷ bs) xs h = let both = and_true (begins_bare b) (list_all in_bar
 
 word_written : (m : Mode) (st : List Level) → IsWord m → ValidMode m → ends_in_word (written (m, st)) ≡ true
 word_written (Bare (Form_at place) n) st w v = ends-bare n (levels_text st) v
-word_written (Bare (Field_of o) n) st w v = absurd w
-word_written Form_due st w v = absurd w
-word_written (First_field o) st w v = absurd w
-word_written (Field_due o) st w v = absurd w
-word_written (Quoted owner n) st w v = absurd w
-word_written (Escape owner n) st w v = absurd w
-word_written (Named owner n) st w v = absurd w
-word_written (Done f) st w v = absurd w
+word_written m st w v = absurd w
 
 clash : {A : Type 0} (t : Bool) → t ≡ true → t ≡ false → A
 clash t h k = absurd (let e : true ≡ false = sym h ∙ k in cc)
@@ -192,13 +173,7 @@ form_written : (f : Form) (m : Mode) (st : List Level) → Behind f m → ValidM
 form_written f (Done g) st b v h =
     clash (ends_in_word (levels_text st ++ text g)) h (ap (λ xs. ends_in_word (levels_text st ++ xs)) v.whole ∙ sym (ap ends_in_word (append_assoc (levels_text st) v.before (v.byte ∷ []))) ∙ ends-snoc (levels_text st ++ v.before) v.byte ∙ v.closes)
 form_written f (Bare (Form_at place) n) st b v h = tt
-form_written f (Bare (Field_of o) n) st b v h = absurd b
-form_written f Form_due st b v h = absurd b
-form_written f (First_field o) st b v h = absurd b
-form_written f (Field_due o) st b v h = absurd b
-form_written f (Quoted owner n) st b v h = absurd b
-form_written f (Escape owner n) st b v h = absurd b
-form_written f (Named owner n) st b v h = absurd b
+form_written f m st b v h = absurd b
 
 -- ---- a form that has ended, which a maker refuses
 
@@ -209,13 +184,7 @@ finish_refused : (at : ℕ) (f : Form) (m : Mode) (st : List Level) (r : MakerRe
 unfolding finish
 finish_refused at f (Done g) st r b h = ap (λ x. last at x st) b ∙ last_refused at f st r h
 finish_refused at f (Bare (Form_at place) n) st r b h = ap (λ o. last_leaf at o st) b.1 ∙ ap (λ x. last at x st) b.2 ∙ last_refused at f st r h
-finish_refused at f (Bare (Field_of o) n) st r b h = absurd b
-finish_refused at f Form_due st r b h = absurd b
-finish_refused at f (First_field o) st r b h = absurd b
-finish_refused at f (Field_due o) st r b h = absurd b
-finish_refused at f (Quoted owner n) st r b h = absurd b
-finish_refused at f (Escape owner n) st r b h = absurd b
-finish_refused at f (Named owner n) st r b h = absurd b
+finish_refused at f m st r b h = absurd b
 
 ended_refused : (at : ℕ) (f : Form) (st : List Level) (c : ℕ) (r : MakerRefusal) → wrapped at f st ≡ Err (Refused r) → form_ended at f st c ≡ Err (Refused r)
 unfolding form_ended
@@ -229,13 +198,7 @@ step_refused : (at : ℕ) (f : Form) (m : Mode) (st : List Level) (c : ℕ) (r :
 unfolding step
 step_refused at f (Done g) st c r b ends h = ap (λ x. form_ended at x st c) b ∙ ended_refused at f st c r h
 step_refused at f (Bare (Form_at place) n) st c r b ends h = leaf_step at place n b.0 st c b.1 (ends tt) ∙ ap (λ x. form_ended at x st c) b.2 ∙ ended_refused at f st c r h
-step_refused at f (Bare (Field_of o) n) st c r b ends h = absurd b
-step_refused at f Form_due st c r b ends h = absurd b
-step_refused at f (First_field o) st c r b ends h = absurd b
-step_refused at f (Field_due o) st c r b ends h = absurd b
-step_refused at f (Quoted owner n) st c r b ends h = absurd b
-step_refused at f (Escape owner n) st c r b ends h = absurd b
-step_refused at f (Named owner n) st c r b ends h = absurd b
+step_refused at f m st c r b ends h = absurd b
 
 -- the refusal is answered, whatever comes next, where no word goes on
 ended_parsed : (more front : Utf8) (s : State) (r : MakerRefusal) → run 0 start front ≡ Ok s → EndsForm (0 + length front) s r → (IsWord s.0 → goes_on more ≡ false) → parsed (front ++ more) ≡ Err (Refused r)
@@ -321,14 +284,7 @@ record Onward (bytes : Utf8) : Type 0 where
 
 onward_word : (m : Mode) (st : List Level) → IsWord m → ValidMode m → TextState (m, st) → Onward (written (m, st))
 onward_word (Bare (Form_at place) n) st w v t = let b = begins_word place n st v t in record { begins = b.0; word = λ _. b.1 }
-onward_word (Bare (Field_of o) n) st w v t = absurd w
-onward_word Form_due st w v t = absurd w
-onward_word (First_field o) st w v t = absurd w
-onward_word (Field_due o) st w v t = absurd w
-onward_word (Quoted owner n) st w v t = absurd w
-onward_word (Escape owner n) st w v t = absurd w
-onward_word (Named owner n) st w v t = absurd w
-onward_word (Done f) st w v t = absurd w
+onward_word m st w v t = absurd w
 
 -- the state behind a byte
 onward : (t : Bool) (xs : Utf8) (b : ℕ) (s : State) → in_bare b ≡ t → (in_bare b ≡ true → IsWord s.0) → ValidMode s.0 → TextState s → written s ≡ xs ++ b ∷ [] → Onward (written s)

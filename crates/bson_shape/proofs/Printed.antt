@@ -1,20 +1,20 @@
 -- What the printer writes.
-use Rattle.std.proofs.Common.{◌≡◌, ℕ, zero, suc, ◌+◌, ◌<◌, ◌≤◌, Bool, true, false, cond, List, [], ◌∷◌, ◌++◌, length, get_or, take, drop, refl, sym, ap, ◌∙◌, arith, append_assoc, take_all, length-take, string_bytes}
+use Rattle.std.proofs.Common.{◌≡◌, ℕ, zero, suc, ◌+◌, ◌<◌, ◌≤◌, Bool, true, false, cond, List, [], ◌∷◌, ◌++◌, length, get_or, map, take, drop, refl, sym, ap, ◌∙◌, arith, append_assoc, take_all, length-take, string_bytes}
 use Rattle.std.specs.Prelude.{nat_lt}
 use Rattle.std.proofs.lemmas.Bool.Decides.{nat_tests}
-use Rattle.std.proofs.lemmas.List.{take_more}
+use Rattle.std.proofs.lemmas.List.{map_more}
 use Rattle.std.proofs.lemmas.Str.{encode_ascii}
 use lib.Utf8.{encode, encodes}
 use Rattle.bson_base.specs.Text.{Utf8}
-use Rattle.bson_shape.specs.Form.{structure}
-use Rattle.bson_shape.specs.ShapeView.{fields_of}
+use Rattle.bson_shape.specs.Form.{Form}
+use Rattle.bson_shape.specs.ShapeView.{fields_of, parts_of, variants_of, content_of}
 use Rattle.bson_shape.specs.declared.shape.FieldShape.{FieldShape}
-use Rattle.bson_shape.specs.Notation.{is_escaped, escaped, name_text, struct_name_text, listed, text, field_texts}
+use Rattle.bson_shape.specs.declared.shape.VariantShape.{VariantShape}
+use Rattle.bson_shape.specs.Notation.{is_escaped, escaped, name_text, listed, text, field_texts, part_texts, variant_texts, content_text}
 use Rattle.bson_shape.specs.PrinterView.{comma_at}
 use Rattle.bson_shape.proofs.States.{sep, listed-snoc}
 use Rattle.bson_shape.proofs.Steps.{escaped-append}
 use Rattle.bson_shape.proofs.CharRuns.{AreHigh, high_encode, not_escaped}
-use Rattle.bson_shape.proofs.Shapes.{fields_of-push}
 use Rattle.bson_shape.proofs.Loop.{next_of}
 
 escaped-high : (bs : Utf8) → AreHigh bs → escaped bs ≡ bs
@@ -36,31 +36,62 @@ escaped_more cs k c out next whole l e pushed so_far =
     ap (λ xs. xs ++ escaped (encodes (drop (k + 1) cs))) pushed ∙ append_assoc out (escaped (encode c)) (escaped (encodes (drop (k + 1) cs)))
     ∙ ap (λ xs. out ++ xs) (sym (ap escaped (next_of cs k c l e) ∙ escaped-append (encode c) (encodes (drop (k + 1) cs)))) ∙ so_far
 
-pub sep-comma : (fs : List FieldShape) (i : ℕ) → length fs ≡ i → sep (fields_of fs) ≡ comma_at i
-sep-comma [] zero h = refl
-sep-comma [] (suc i) h = absurd (omega (arith, h))
-sep-comma (f ∷ fs) zero h = absurd (omega (arith, h))
-sep-comma (f ∷ fs) (suc i) h = refl
+-- ---- lists
 
-pub more_printed : (items : List FieldShape) (i : ℕ) (f : FieldShape) (init out next last : Utf8) → i < length items → f ≡ get_or items i f
-    → out ≡ init ++ listed (field_texts (fields_of (take i items))) → next ≡ out ++ (comma_at i ++ (name_text (string_bytes f.name) ++ 58 ∷ [])) → last ≡ next ++ text f.shape
-    → last ≡ init ++ listed (field_texts (fields_of (take (i + 1) items)))
-more_printed items i f init out next last lt here before named ended =
-    let front = take i items in
-    let n = name_text (string_bytes f.name) in
-    let so_far = listed (field_texts (fields_of front)) in
-    let count : length front ≡ i = omega (arith, length-take i items) in
-    let taken : take (i + 1) items ≡ front ++ f ∷ [] = take_more items i f lt ∙ ap (λ g. front ++ g ∷ []) (sym here) in
-    let text_is : listed (field_texts (fields_of (take (i + 1) items))) ≡ so_far ++ (comma_at i ++ (n ++ 58 ∷ text f.shape)) =
-    ap (λ l. listed (field_texts (fields_of l))) taken ∙ ap (λ fs. listed (field_texts fs)) (fields_of-push front f) ∙ listed-snoc (fields_of front) (string_bytes f.name) f.shape
-    ∙ ap (λ c. so_far ++ (c ++ (n ++ 58 ∷ text f.shape))) (sep-comma front i count) in
-    let regrouped : ((init ++ so_far) ++ (comma_at i ++ (n ++ 58 ∷ []))) ++ text f.shape ≡ init ++ (so_far ++ (comma_at i ++ (n ++ 58 ∷ text f.shape))) = simp append_assoc in
-    ended ∙ ap (λ y. y ++ text f.shape) (named ∙ ap (λ y. y ++ (comma_at i ++ (n ++ 58 ∷ []))) before) ∙ regrouped ∙ sym (ap (λ y. init ++ y) text_is)
+module _ {X : Type 0} (shown : X → Utf8) where
+  sep-comma : (xs : List X) (i : ℕ) → length xs ≡ i → sep (map shown xs) ≡ comma_at i
+  sep-comma [] zero h = refl
+  sep-comma [] (suc i) h = absurd (omega (arith, h))
+  sep-comma (x ∷ xs) zero h = absurd (omega (arith, h))
+  sep-comma (x ∷ xs) (suc i) h = refl
 
-pub all_printed : (items : List FieldShape) (i : ℕ) (name old init out last : Utf8) → length items ≤ i → init ≡ (old ++ struct_name_text name) ++ 123 ∷ [] → out ≡ init ++ listed (field_texts (fields_of (take i items))) → last ≡ out ++ 125 ∷ []
-    → last ≡ old ++ text (structure name (fields_of items))
-all_printed items i name old init out last le begun before ended =
-    let fs = listed (field_texts (fields_of items)) in
-    let all : out ≡ init ++ fs = before ∙ ap (λ l. init ++ listed (field_texts (fields_of l))) (take_all i items le) in
-    let regrouped : (((old ++ struct_name_text name) ++ 123 ∷ []) ++ fs) ++ 125 ∷ [] ≡ old ++ (struct_name_text name ++ 123 ∷ (fs ++ 125 ∷ [])) = simp append_assoc in
-    ended ∙ ap (λ y. y ++ 125 ∷ []) (all ∙ ap (λ y. y ++ fs) begun) ∙ regrouped
+  -- one more is written
+  pub more_printed : (items : List X) (i : ℕ) (x : X) (init out last : Utf8) → i < length items → x ≡ get_or items i x
+      → out ≡ init ++ listed (map shown (take i items)) → last ≡ out ++ (comma_at i ++ shown x) → last ≡ init ++ listed (map shown (take (i + 1) items))
+  more_printed items i x init out last lt here before ended =
+      let front = take i items in
+      let so_far = map shown front in
+      let count : length front ≡ i = omega (arith, length-take i items) in
+      let texts : map shown (take (i + 1) items) ≡ so_far ++ shown x ∷ [] = map_more shown items i x lt ∙ ap (λ y. so_far ++ shown y ∷ []) (sym here) in
+      let all : listed (map shown (take (i + 1) items)) ≡ listed so_far ++ (comma_at i ++ shown x) = ap listed texts ∙ listed-snoc so_far (shown x) ∙ ap (λ c. listed so_far ++ (c ++ shown x)) (sep-comma front i count) in
+      ended ∙ ap (λ y. y ++ (comma_at i ++ shown x)) before ∙ append_assoc init (listed so_far) (comma_at i ++ shown x) ∙ ap (λ y. init ++ y) (sym all)
+
+  -- all are, and the closing byte
+  pub all_printed : (items : List X) (i : ℕ) (old init out last : Utf8) (b c : ℕ) → length items ≤ i → init ≡ old ++ b ∷ [] → out ≡ init ++ listed (map shown (take i items)) → last ≡ out ++ c ∷ []
+      → last ≡ old ++ b ∷ (listed (map shown items) ++ c ∷ [])
+  all_printed items i old init out last b c le begun before ended =
+      let texts = listed (map shown items) in
+      let all : out ≡ (old ++ b ∷ []) ++ texts = before ∙ ap (λ y. y ++ listed (map shown (take i items))) begun ∙ ap (λ l. (old ++ b ∷ []) ++ listed (map shown l)) (take_all i items le) in
+      let regrouped : ((old ++ b ∷ []) ++ texts) ++ c ∷ [] ≡ old ++ b ∷ (texts ++ c ∷ []) = simp append_assoc in
+      ended ∙ ap (λ y. y ++ c ∷ []) all ∙ regrouped
+
+abbrev pub field_shown : FieldShape → Utf8
+field_shown f = name_text (string_bytes f.name) ++ 58 ∷ text f.shape
+
+abbrev pub variant_shown : VariantShape → Utf8
+variant_shown v = name_text (string_bytes v.name) ++ content_text (content_of v.content)
+
+pub fields_shown : (fs : List FieldShape) → map field_shown fs ≡ field_texts (fields_of fs)
+fields_shown [] = refl
+fields_shown (f ∷ fs) = ap (λ xs. field_shown f ∷ xs) (fields_shown fs)
+
+pub parts_shown : (fs : List Form) → map text fs ≡ part_texts (parts_of fs)
+parts_shown [] = refl
+parts_shown (f ∷ fs) = ap (λ xs. text f ∷ xs) (parts_shown fs)
+
+pub variants_shown : (vs : List VariantShape) → map variant_shown vs ≡ variant_texts (variants_of vs)
+variants_shown [] = refl
+variants_shown (v ∷ vs) = ap (λ xs. variant_shown v ∷ xs) (variants_shown vs)
+
+-- a comma where one is due, what stands before the form, and the form
+pub field_printed : (out next last comma name t : Utf8) → next ≡ out ++ (comma ++ (name ++ 58 ∷ [])) → last ≡ next ++ t → last ≡ out ++ (comma ++ (name ++ 58 ∷ t))
+field_printed out next last comma name t named ended = ended ∙ ap (λ y. y ++ t) named ∙ regrouped
+  where
+    regrouped : (out ++ (comma ++ (name ++ 58 ∷ []))) ++ t ≡ out ++ (comma ++ (name ++ 58 ∷ t))
+    regrouped = simp append_assoc
+
+pub part_printed : (out next last comma t : Utf8) → next ≡ out ++ comma → last ≡ next ++ t → last ≡ out ++ (comma ++ t)
+part_printed out next last comma t before ended = ended ∙ ap (λ y. y ++ t) before ∙ append_assoc out comma t
+
+pub variant_printed : (out next last comma name t : Utf8) → next ≡ out ++ (comma ++ name) → last ≡ next ++ t → last ≡ out ++ (comma ++ (name ++ t))
+variant_printed out next last comma name t named ended = part_printed out next last (comma ++ name) t named ended ∙ ap (λ y. out ++ y) (append_assoc comma name t)

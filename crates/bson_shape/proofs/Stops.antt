@@ -9,7 +9,7 @@ use Rattle.bson_base.specs.Text.{Utf8}
 use Rattle.bson_shape.specs.Form.{leaf}
 use Rattle.bson_shape.specs.Leaf.{of_word}
 use Rattle.bson_shape.specs.declared.leaf.Leaf.{Leaf}
-use Rattle.bson_shape.specs.Machine.{Refusal, Not_notation, Level, Form_at, Field_of, Mode, Form_due, First_field, Field_due, Bare, Quoted, Escape, Named, Done, State, ◌>>=◌, wrapped, step, no_more_behind, other_character, run}
+use Rattle.bson_shape.specs.Machine.{Refusal, Not_notation, Level, Form_at, Mode, Bare, Quoted, Done, State, ◌>>=◌, wrapped, step, no_more_behind, other_character, run}
 use Rattle.bson_shape.proofs.Words.{and_true}
 use Rattle.bson_shape.proofs.TextStates.{TextState, text-append, text-encode}
 use Rattle.bson_shape.proofs.States.{written, ValidMode}
@@ -91,14 +91,8 @@ pub record TextStops (at : ℕ) (s : State) (bs : Utf8) (e : Refusal) : Type 0 w
 other_refused : (at : ℕ) (m : Mode) (st : List Level) (xs ys : Utf8) (e : Refusal) → other_character at m st xs ≡ Err e → other_character at m st ys ≡ Err e
 unfolding other_character
 other_refused at (Quoted owner n) st xs ys e h = absurd (let g : (let r : Result State Refusal = Ok (Quoted owner (n ++ xs), st) in r) ≡ Err e = h in cc)
-other_refused at Form_due st xs ys e h = h
-other_refused at (First_field o) st xs ys e h = h
-other_refused at (Field_due o) st xs ys e h = h
 other_refused at (Bare (Form_at place) n) st xs ys e h = h
-other_refused at (Bare (Field_of o) n) st xs ys e h = h
-other_refused at (Escape owner n) st xs ys e h = h
-other_refused at (Named owner n) st xs ys e h = h
-other_refused at (Done f) st xs ys e h = h
+other_refused at m st xs ys e h = h
 
 not_taken : {A : Type 0} (r : Result A Refusal) (e : Refusal) (t : State) → (r >>= λ x. Err e) ≡ Ok t → ⊥
 not_taken (Ok x) e t h = let g : (let r : Result State Refusal = Err e in r) ≡ Ok t = h in cc
@@ -113,14 +107,9 @@ unfolding other_character
 other_taken at (Quoted owner n) st c t k h e =
     let same : (let u : State = (Quoted owner (n ++ encode c), st) in u) ≡ t = cc in
     subst TextState same (record { mode = (h.mode.0, text-append n (encode c) h.mode.1 (text-encode c k)); levels = h.levels })
-other_taken at Form_due st c t k h e = absurd (let g : (let r : Result State Refusal = Err (Not_notation at) in r) ≡ Ok t = e in cc)
-other_taken at (First_field o) st c t k h e = absurd (let g : (let r : Result State Refusal = Err (Not_notation at) in r) ≡ Ok t = e in cc)
-other_taken at (Field_due o) st c t k h e = absurd (let g : (let r : Result State Refusal = Err (Not_notation at) in r) ≡ Ok t = e in cc)
 other_taken at (Bare (Form_at place) n) st c t k h e = absurd (word_not_taken (of_word n) at st t e)
-other_taken at (Bare (Field_of o) n) st c t k h e = absurd (let g : (let r : Result State Refusal = Err (Not_notation at) in r) ≡ Ok t = e in cc)
-other_taken at (Escape owner n) st c t k h e = absurd (let g : (let r : Result State Refusal = Err (Not_notation at) in r) ≡ Ok t = e in cc)
-other_taken at (Named owner n) st c t k h e = absurd (let g : (let r : Result State Refusal = Err (Not_notation at) in r) ≡ Ok t = e in cc)
 other_taken at (Done f) st c t k h e = absurd (not_taken (wrapped at f st) (Not_notation at) t e)
+other_taken at m st c t k h e = absurd (let g : (let r : Result State Refusal = Err (Not_notation at) in r) ≡ Ok t = e in cc)
 
 below : (c : ℕ) → nat_lt c 128 ≡ true → c < 128
 below c h = grind (arith, nat_tests)

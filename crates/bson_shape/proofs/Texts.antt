@@ -5,13 +5,13 @@ use Rattle.std.proofs.lemmas.List.{append-nil}
 use Rattle.std.proofs.lemmas.Bool.Decides.{nat_tests}
 use Rattle.bson_base.specs.Text.{Utf8}
 use Rattle.bson_shape.specs.declared.error.ShapeError.{ShapeError}
-use Rattle.bson_shape.specs.Form.{Form, leaf, optional, sequence, map, newtype, unit_structure, structure, Fields, no_fields, field}
-use Rattle.bson_shape.specs.Levels.{levels, deepest}
-use Rattle.bson_shape.specs.Makers.{IsShape, AreShapes, made_optional, made_sequence, made_map, made_newtype, made_structure}
-use Rattle.bson_shape.specs.Notation.{text, name_text, struct_name_text, listed, field_texts}
-use Rattle.bson_shape.specs.FirstRefusal.{MakerRefusal, or_else, too_deep, refusal_of, first_refusal, fields_refusal}
+use Rattle.bson_shape.specs.Form.{Form, leaf, optional, sequence, map, tuple, tuple_structure, newtype, unit_structure, structure, enumeration, Fields, no_fields, field, Parts, no_parts, part, Variants, no_variants, variant, Content, unit_content, newtype_content, tuple_content, struct_content}
+use Rattle.bson_shape.specs.Levels.{levels, deepest, deepest_part, deepest_variant, deepest_inside}
+use Rattle.bson_shape.specs.Makers.{IsShape, AreShapes, AreParts, AreVariants, IsContent, made_optional, made_sequence, made_map, made_tuple, made_tuple_structure, made_newtype, made_structure, made_enumeration}
+use Rattle.bson_shape.specs.Notation.{text, name_text, struct_name_text, listed, field_texts, part_texts, variant_texts, content_text}
+use Rattle.bson_shape.specs.FirstRefusal.{MakerRefusal, or_else, too_deep, refusal_of, first_refusal, fields_refusal, parts_refusal, variants_refusal, content_refusal}
 use Rattle.bson_shape.specs.Machine.{Refusal, Refused, Form_due, Done, ◌>>=◌, wrapped, run, finish, parsed}
-use Rattle.bson_shape.proofs.Made.{within_levels-few, made_map-few, made_newtype-IsNewtype, made_structure-IsStruct}
+use Rattle.bson_shape.proofs.Made.{within_levels-few, made_map-few, made_newtype-IsNewtype, made_structure-IsStruct, made_enumeration-IsEnum}
 use Rattle.bson_shape.proofs.Shapes.{levels_few}
 use Rattle.bson_shape.proofs.FormRuns.{read, settle, reads_form}
 
@@ -61,6 +61,15 @@ mutual
       none_refused at around (or_else a b) (value + length (text v) + 1) at (made_map k v) (map k v) (few_around around (omega arith))
       (ap (λ o. or_else o b) (first_refusal-IsShape k key (around + 1) h.2 (omega arith)) ∙ first_refusal-IsShape v value (around + 1) h.3 (omega arith))
       (made_map-few k v h.0 h.1)
+  first_refusal-IsShape (tuple ps) at around h few =
+      let inner = at + 1 in
+      none_refused at around (parts_refusal inner (around + 1) ps) (inner + length (listed (part_texts ps)) + 1) at (made_tuple ps) (tuple ps) (few_around around (omega arith)) (parts_refusal-AreParts ps inner (around + 1) h.1 (omega arith)) (within_levels-few (tuple ps) h.0)
+  first_refusal-IsShape (tuple_structure n ps) at around h few =
+      let inner = at + length (name_text n) + 1 in
+      none_refused at around (parts_refusal inner (around + 1) ps) (inner + length (listed (part_texts ps)) + 1) at (made_tuple_structure n ps) (tuple_structure n ps) (few_around around (omega arith)) (parts_refusal-AreParts ps inner (around + 1) h.2 (omega arith)) (within_levels-few (tuple_structure n ps) h.1)
+  first_refusal-IsShape (enumeration vs) at around h few =
+      let inner = at + 1 in
+      none_refused at around (variants_refusal inner (around + 1) vs) (inner + length (listed (variant_texts vs)) + 1) at (made_enumeration vs) (enumeration vs) (few_around around (omega arith)) (variants_refusal-AreVariants vs inner (around + 1) h.1 (omega arith)) (made_enumeration-IsEnum vs h.0 h.1)
   first_refusal-IsShape (newtype n f) at around h few =
       let inner = at + length (name_text n) + 1 in
       none_refused at around (first_refusal inner (around + 1) f) (inner + length (text f)) at (made_newtype n f) (newtype n f) (few_around around (omega arith)) (first_refusal-IsShape f inner (around + 1) h.1 (omega arith)) (made_newtype-IsNewtype n f h.0)
@@ -75,6 +84,25 @@ mutual
       let inner = at + length (name_text n) + 1 in
       ap (λ o. or_else o (fields_refusal (inner + length (text f) + 1) around fs)) (first_refusal-IsShape f inner around h.1 (omega arith))
       ∙ fields_refusal-AreShapes fs (inner + length (text f) + 1) around h.2 (omega arith)
+
+  pub parts_refusal-AreParts : (ps : Parts) (at around : ℕ) → AreParts ps → around + deepest_part ps ≤ 512 → parts_refusal at around ps ≡ None
+  parts_refusal-AreParts no_parts at around h few = refl
+  parts_refusal-AreParts (part f ps) at around h few =
+      ap (λ o. or_else o (parts_refusal (at + length (text f) + 1) around ps)) (first_refusal-IsShape f at around h.0 (omega arith))
+      ∙ parts_refusal-AreParts ps (at + length (text f) + 1) around h.1 (omega arith)
+
+  pub variants_refusal-AreVariants : (vs : Variants) (at around : ℕ) → AreVariants vs → around + deepest_variant vs ≤ 512 → variants_refusal at around vs ≡ None
+  variants_refusal-AreVariants no_variants at around h few = refl
+  variants_refusal-AreVariants (variant n c vs) at around h few =
+      let inner = at + length (name_text n) in
+      ap (λ o. or_else o (variants_refusal (inner + length (content_text c) + 1) around vs)) (content_refusal-IsContent c inner around h.1 (omega arith))
+      ∙ variants_refusal-AreVariants vs (inner + length (content_text c) + 1) around h.2 (omega arith)
+
+  pub content_refusal-IsContent : (c : Content) (at around : ℕ) → IsContent c → around + deepest_inside c ≤ 512 → content_refusal at around c ≡ None
+  content_refusal-IsContent unit_content at around h few = refl
+  content_refusal-IsContent (newtype_content f) at around h few = first_refusal-IsShape f (at + 1) around h few
+  content_refusal-IsContent (tuple_content ps) at around h few = parts_refusal-AreParts ps (at + 1) around h few
+  content_refusal-IsContent (struct_content fs) at around h few = fields_refusal-AreShapes fs (at + 1) around h.1 few
 
 -- the text of a shape is read as that shape
 pub parsed-shape : (f : Form) → IsShape f → parsed (text f) ≡ Ok f

@@ -9,7 +9,7 @@ use Rattle.bson_shape.specs.Notation.{text}
 use Rattle.bson_shape.specs.Fronts.{HasTextNames}
 use Rattle.bson_shape.specs.FirstRefusal.{MakerRefusal}
 use Rattle.bson_shape.specs.declared.error.ShapeError.{ShapeError}
-use Rattle.bson_shape.specs.Machine.{Refusal, Not_notation, Refused, Level, In_field, In_option, In_brackets, In_map, In_newtype, Form_at, Field_of, Mode, Form_due, First_field, Field_due, Bare, Quoted, Escape, Named, Done, State, ◌>>=◌, made, Ended, wrapped}
+use Rattle.bson_shape.specs.Machine.{Refusal, Not_notation, Refused, Level, In_field, In_option, In_brackets, In_map, In_newtype, In_part, In_variant, Form_at, Mode, Bare, Done, State, ◌>>=◌, made, Ended, wrapped}
 use Rattle.bson_shape.proofs.Made.{within_levels-made, made_newtype-made}
 use Rattle.bson_shape.proofs.Words.{of_word-is}
 use Rattle.bson_shape.proofs.TextStates.{TextLevels, TextMode}
@@ -42,54 +42,31 @@ wrapped_keeps (In_newtype place n ∷ st) read f =
 wrapped_keeps (In_field o n ∷ st) read f = (refl, λ h l. (h, l))
 wrapped_keeps (In_brackets place ∷ st) read f = (refl, λ h l. (h, l))
 wrapped_keeps (In_map place k ∷ st) read f = (refl, λ h l. (h, l))
+wrapped_keeps (In_part o ∷ st) read f = (refl, λ h l. (h, l))
+wrapped_keeps (In_variant e n ∷ st) read f = (refl, λ h l. (h, l))
 
 -- ---- behind a form
 
 -- inside a word that may be a leaf
 abbrev pub IsWord : Mode → Type 0
 IsWord (Bare (Form_at place) n) = Unit {0}
-IsWord (Bare (Field_of o) n) = ⊥
-IsWord Form_due = ⊥
-IsWord (First_field o) = ⊥
-IsWord (Field_due o) = ⊥
-IsWord (Quoted owner n) = ⊥
-IsWord (Escape owner n) = ⊥
-IsWord (Named owner n) = ⊥
-IsWord (Done f) = ⊥
+IsWord m = ⊥
 
 -- the form ends where no word goes on
 abbrev pub Behind : Form → Mode → Type 0
 Behind f (Done g) = g ≡ f
 Behind f (Bare (Form_at place) n) = (l : Leaf) × (of_word n ≡ Some l) × (leaf l ≡ f)
-Behind f (Bare (Field_of o) n) = ⊥
-Behind f Form_due = ⊥
-Behind f (First_field o) = ⊥
-Behind f (Field_due o) = ⊥
-Behind f (Quoted owner n) = ⊥
-Behind f (Escape owner n) = ⊥
-Behind f (Named owner n) = ⊥
+Behind f m = ⊥
 
 pub behind_text : (f : Form) (m : Mode) → Behind f m → mode_text m ≡ text f
 behind_text f (Done g) b = ap text b
 behind_text f (Bare (Form_at place) n) b = of_word-is n b.0 b.1 ∙ ap text b.2
-behind_text f (Bare (Field_of o) n) b = absurd b
-behind_text f Form_due b = absurd b
-behind_text f (First_field o) b = absurd b
-behind_text f (Field_due o) b = absurd b
-behind_text f (Quoted owner n) b = absurd b
-behind_text f (Escape owner n) b = absurd b
-behind_text f (Named owner n) b = absurd b
+behind_text f m b = absurd b
 
 pub behind_names : (f : Form) (m : Mode) → Behind f m → TextMode m → HasTextNames f
 behind_names f (Done g) b t = subst HasTextNames b t
 behind_names f (Bare (Form_at place) n) b t = subst HasTextNames b.2 tt
-behind_names f (Bare (Field_of o) n) b t = absurd b
-behind_names f Form_due b t = absurd b
-behind_names f (First_field o) b t = absurd b
-behind_names f (Field_due o) b t = absurd b
-behind_names f (Quoted owner n) b t = absurd b
-behind_names f (Escape owner n) b t = absurd b
-behind_names f (Named owner n) b t = absurd b
+behind_names f m b t = absurd b
 
 -- a form has ended, and the maker of one around it refuses
 pub record EndsForm (at : ℕ) (s : State) (r : MakerRefusal) : Type 0 where

@@ -8,8 +8,8 @@ use Rattle.std.proofs.lemmas.Bool.{and_parts, and_from, false≢true}
 use Rattle.std.proofs.lemmas.Slice.Eq.{bytes_eq-Decides}
 use denote.Enum.Bare.{same_true, true_same}
 use Rattle.bson_base.specs.Text.{Utf8}
-use Rattle.bson_shape.specs.Form.{Form, leaf, optional, sequence, map, newtype, unit_structure, structure, Fields, no_fields, field}
-use Rattle.bson_shape.specs.Same.{same, same_fields}
+use Rattle.bson_shape.specs.Form.{Form, leaf, optional, sequence, map, tuple, tuple_structure, newtype, unit_structure, structure, enumeration, Fields, no_fields, field, Parts, no_parts, part, Variants, no_variants, variant, Content, unit_content, newtype_content, tuple_content, struct_content}
+use Rattle.bson_shape.specs.Same.{same, same_fields, same_parts, same_variants, same_content}
 use Rattle.bson_shape.specs.contracts.leaf.Leaf as leaf_type
 
 bytes_alike : (name : Utf8) → bytes_eq name name ≡ true
@@ -23,6 +23,10 @@ mutual
   same_is (map k v) (map l w) e =
       let b = and_parts (same k l) (same v w) e in
       λ i. map (same_is k l b.0 i) (same_is v w b.1 i)
+  same_is (tuple ps) (tuple qs) e = ap tuple (parts_are ps qs e)
+  same_is (tuple_structure name ps) (tuple_structure n qs) e =
+      let b = and_parts (bytes_eq name n) (same_parts ps qs) e in
+      λ i. tuple_structure ((bytes_eq-Decides name n).0 b.0 i) (parts_are ps qs b.1 i)
   same_is (newtype name f) (newtype n g) e =
       let b = and_parts (bytes_eq name n) (same f g) e in
       λ i. newtype ((bytes_eq-Decides name n).0 b.0 i) (same_is f g b.1 i)
@@ -30,6 +34,7 @@ mutual
   same_is (structure name fs) (structure n gs) e =
       let b = and_parts (bytes_eq name n) (same_fields fs gs) e in
       λ i. structure ((bytes_eq-Decides name n).0 b.0 i) (fields_are fs gs b.1 i)
+  same_is (enumeration vs) (enumeration ws) e = ap enumeration (variants_are vs ws e)
   same_is f g e = absurd (false≢true e)
 
   fields_are : (fs gs : Fields) → same_fields fs gs ≡ true → fs ≡ gs
@@ -40,19 +45,58 @@ mutual
       λ i. field ((bytes_eq-Decides name n).0 b.0 i) (same_is f g d.0 i) (fields_are fs gs d.1 i)
   fields_are fs gs e = absurd (false≢true e)
 
+  parts_are : (ps qs : Parts) → same_parts ps qs ≡ true → ps ≡ qs
+  parts_are no_parts no_parts e = refl
+  parts_are (part f ps) (part g qs) e =
+      let b = and_parts (same f g) (same_parts ps qs) e in
+      λ i. part (same_is f g b.0 i) (parts_are ps qs b.1 i)
+  parts_are ps qs e = absurd (false≢true e)
+
+  variants_are : (vs ws : Variants) → same_variants vs ws ≡ true → vs ≡ ws
+  variants_are no_variants no_variants e = refl
+  variants_are (variant name c vs) (variant n d ws) e =
+      let b = and_parts (bytes_eq name n) (same_content c d && same_variants vs ws) e in
+      let k = and_parts (same_content c d) (same_variants vs ws) b.1 in
+      λ i. variant ((bytes_eq-Decides name n).0 b.0 i) (content_is c d k.0 i) (variants_are vs ws k.1 i)
+  variants_are vs ws e = absurd (false≢true e)
+
+  content_is : (c d : Content) → same_content c d ≡ true → c ≡ d
+  content_is unit_content unit_content e = refl
+  content_is (newtype_content f) (newtype_content g) e = ap newtype_content (same_is f g e)
+  content_is (tuple_content ps) (tuple_content qs) e = ap tuple_content (parts_are ps qs e)
+  content_is (struct_content fs) (struct_content gs) e = ap struct_content (fields_are fs gs e)
+  content_is c d e = absurd (false≢true e)
+
 mutual
   same_itself : (f : Form) → same f f ≡ true
   same_itself (leaf l) = true_same leaf_type.the_type l l refl
   same_itself (optional f) = same_itself f
   same_itself (sequence f) = same_itself f
   same_itself (map k v) = and_from _ _ (same_itself k) (same_itself v)
+  same_itself (tuple ps) = parts_alike ps
+  same_itself (tuple_structure name ps) = and_from _ _ (bytes_alike name) (parts_alike ps)
   same_itself (newtype name f) = and_from _ _ (bytes_alike name) (same_itself f)
   same_itself (unit_structure name) = bytes_alike name
   same_itself (structure name fs) = and_from _ _ (bytes_alike name) (fields_alike fs)
+  same_itself (enumeration vs) = variants_alike vs
 
   fields_alike : (fs : Fields) → same_fields fs fs ≡ true
   fields_alike no_fields = refl
   fields_alike (field name f fs) = and_from _ _ (bytes_alike name) (and_from _ _ (same_itself f) (fields_alike fs))
+
+  parts_alike : (ps : Parts) → same_parts ps ps ≡ true
+  parts_alike no_parts = refl
+  parts_alike (part f ps) = and_from _ _ (same_itself f) (parts_alike ps)
+
+  variants_alike : (vs : Variants) → same_variants vs vs ≡ true
+  variants_alike no_variants = refl
+  variants_alike (variant name c vs) = and_from _ _ (bytes_alike name) (and_from _ _ (content_alike c) (variants_alike vs))
+
+  content_alike : (c : Content) → same_content c c ≡ true
+  content_alike unit_content = refl
+  content_alike (newtype_content f) = same_itself f
+  content_alike (tuple_content ps) = parts_alike ps
+  content_alike (struct_content fs) = fields_alike fs
 
 pub same_decides : (f g : Form) → Decides (same f g) (f ≡ g)
 same_decides f g = (same_is f g, λ e. subst (λ h. same f h ≡ true) e (same_itself f))

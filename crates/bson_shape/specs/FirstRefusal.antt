@@ -1,9 +1,9 @@
--- The first refusal of a maker that is met in reading a notation from left to right.
+-- The first refusal of a maker that is met in reading a notation from left to right. Source: this library's own notation.
 use Rattle.std.specs.Prelude.{ℕ, ◌+◌, nat_le, if◌then◌else◌, length, Option, Some, None, Result, Ok, Err}
-use Rattle.bson_shape.specs.Form.{Form, leaf, optional, sequence, map, newtype, unit_structure, structure, Fields, no_fields, field}
+use Rattle.bson_shape.specs.Form.{Form, leaf, optional, sequence, map, tuple, tuple_structure, newtype, unit_structure, structure, enumeration, Fields, no_fields, field, Parts, no_parts, part, Variants, no_variants, variant, Content, unit_content, newtype_content, tuple_content, struct_content}
 use Rattle.bson_shape.specs.Levels.{max_shape_levels}
-use Rattle.bson_shape.specs.Makers.{made_optional, made_sequence, made_map, made_newtype, made_structure}
-use Rattle.bson_shape.specs.Notation.{text, name_text, struct_name_text, listed, field_texts}
+use Rattle.bson_shape.specs.Makers.{made_optional, made_sequence, made_map, made_tuple, made_tuple_structure, made_newtype, made_structure, made_enumeration}
+use Rattle.bson_shape.specs.Notation.{text, name_text, struct_name_text, listed, field_texts, part_texts, variant_texts, content_text}
 use Rattle.bson_shape.specs.declared.error.ShapeError.{ShapeError}
 use Rattle.bson_shape.specs.declared.error.ShapeError.TheVariants.{TooDeep}
 
@@ -48,6 +48,16 @@ abbrev mutual
       or_else (too_deep at around)
       (or_else (or_else (first_refusal key (around + 1) k) (first_refusal value (around + 1) v))
       (refusal_of (value + length (text v) + 1) at (made_map k v)))
+  first_refusal at around (tuple ps) =
+      let inner = at + 1 in
+      or_else (too_deep at around)
+      (or_else (parts_refusal inner (around + 1) ps)
+      (refusal_of (inner + length (listed (part_texts ps)) + 1) at (made_tuple ps)))
+  first_refusal at around (tuple_structure name ps) =
+      let inner = at + length (name_text name) + 1 in
+      or_else (too_deep at around)
+      (or_else (parts_refusal inner (around + 1) ps)
+      (refusal_of (inner + length (listed (part_texts ps)) + 1) at (made_tuple_structure name ps)))
   first_refusal at around (newtype name f) =
       let inner = at + length (name_text name) + 1 in
       or_else (too_deep at around)
@@ -59,6 +69,11 @@ abbrev mutual
       or_else (too_deep at around)
       (or_else (fields_refusal inner (around + 1) fs)
       (refusal_of (inner + length (listed (field_texts fs)) + 1) at (made_structure name fs)))
+  first_refusal at around (enumeration vs) =
+      let inner = at + 1 in
+      or_else (too_deep at around)
+      (or_else (variants_refusal inner (around + 1) vs)
+      (refusal_of (inner + length (listed (variant_texts vs)) + 1) at (made_enumeration vs)))
 
   -- of fields, where the text of the first one begins at this place
   pub fields_refusal : ℕ → ℕ → Fields → Option MakerRefusal
@@ -66,3 +81,22 @@ abbrev mutual
   fields_refusal at around (field name f fs) =
       let inner = at + length (name_text name) + 1 in
       or_else (first_refusal inner around f) (fields_refusal (inner + length (text f) + 1) around fs)
+
+  -- of parts, where the text of the first one begins at this place
+  pub parts_refusal : ℕ → ℕ → Parts → Option MakerRefusal
+  parts_refusal at around no_parts = None
+  parts_refusal at around (part f ps) = or_else (first_refusal at around f) (parts_refusal (at + length (text f) + 1) around ps)
+
+  -- of variants, where the text of the first one begins at this place
+  pub variants_refusal : ℕ → ℕ → Variants → Option MakerRefusal
+  variants_refusal at around no_variants = None
+  variants_refusal at around (variant name c vs) =
+      let inner = at + length (name_text name) in
+      or_else (content_refusal inner around c) (variants_refusal (inner + length (content_text c) + 1) around vs)
+
+  -- of what a variant has, where its text begins at this place; no maker is called behind it
+  pub content_refusal : ℕ → ℕ → Content → Option MakerRefusal
+  content_refusal at around unit_content = None
+  content_refusal at around (newtype_content f) = first_refusal (at + 1) around f
+  content_refusal at around (tuple_content ps) = parts_refusal (at + 1) around ps
+  content_refusal at around (struct_content fs) = fields_refusal (at + 1) around fs

@@ -1,4 +1,4 @@
--- The form of a shape, and how the logic stores one.
+-- The form of a shape, and how the logic stores one. Source: serde's data model.
 use Rattle.std.specs.Prelude.{◌≡◌, refl}
 use Rattle.std.specs.Coded.{Coded, coded_ℕ, coded_list}
 use Rattle.std.proofs.Common.{ap, arith}
@@ -18,17 +18,40 @@ mutual
     sequence : (item : Form) → Form
     -- a document: the form of its keys, and that of its values
     map : (key : Form) → (value : Form) → Form
+    -- an array of elements that have these forms
+    tuple : (parts : Parts) → Form
+    -- the same, under a name
+    tuple_structure : (name : Utf8) → (parts : Parts) → Form
     -- a value of the inner form, under a name
     newtype : (name : Utf8) → (inner : Form) → Form
     -- null, under a name
     unit_structure : (name : Utf8) → Form
     -- a struct with a name and fields in order
     structure : (name : Utf8) → (fields : Fields) → Form
+    -- one of these variants
+    enumeration : (variants : Variants) → Form
 
   -- the fields of a struct, in order
   pub data Fields : Type 0 where
     no_fields : Fields
     field : (name : Utf8) → (form : Form) → (rest : Fields) → Fields
+
+  -- the forms of a tuple, in order
+  pub data Parts : Type 0 where
+    no_parts : Parts
+    part : (form : Form) → (rest : Parts) → Parts
+
+  -- the variants of an enum, in order
+  pub data Variants : Type 0 where
+    no_variants : Variants
+    variant : (name : Utf8) → (content : Content) → (rest : Variants) → Variants
+
+  -- what a variant has beside its name
+  pub data Content : Type 0 where
+    unit_content : Content
+    newtype_content : (form : Form) → Content
+    tuple_content : (parts : Parts) → Content
+    struct_content : (fields : Fields) → Content
 
 -- the fields of one list, and then those of another
 abbrev pub joined : Fields → Fields → Fields
@@ -38,6 +61,22 @@ joined (field name f fs) gs = field name f (joined fs gs)
 -- one more field at the end
 abbrev pub push_field : Fields → Utf8 → Form → Fields
 push_field fs name f = joined fs (field name f no_fields)
+
+-- the same for parts
+abbrev pub joined_parts : Parts → Parts → Parts
+joined_parts no_parts qs = qs
+joined_parts (part f ps) qs = part f (joined_parts ps qs)
+
+abbrev pub push_part : Parts → Form → Parts
+push_part ps f = joined_parts ps (part f no_parts)
+
+-- and for variants
+abbrev pub joined_variants : Variants → Variants → Variants
+joined_variants no_variants ws = ws
+joined_variants (variant name c vs) ws = variant name c (joined_variants vs ws)
+
+abbrev pub push_variant : Variants → Utf8 → Content → Variants
+push_variant vs name c = joined_variants vs (variant name c no_variants)
 
 abbrev text_coded : Coded Utf8
 text_coded = coded_list coded_ℕ
@@ -50,11 +89,28 @@ abbrev mutual
   form_code (map k v) = gcons (gnum 6) (gcons (form_code k) (form_code v))
   form_code (newtype n f) = gcons (gnum 4) (gcons (text_coded.code n) (form_code f))
   form_code (unit_structure n) = gcons (gnum 5) (text_coded.code n)
+  form_code (tuple ps) = gcons (gnum 7) (parts_code ps)
+  form_code (tuple_structure n ps) = gcons (gnum 8) (gcons (text_coded.code n) (parts_code ps))
+  form_code (enumeration vs) = gcons (gnum 9) (variants_code vs)
   form_code (structure n fs) = gcons (gnum 1) (gcons (text_coded.code n) (fields_code fs))
 
   pub fields_code : Fields → Gv
   fields_code no_fields = gcons (gnum 0) gnil
   fields_code (field n s fs) = gcons (gnum 1) (gcons (text_coded.code n) (gcons (form_code s) (fields_code fs)))
+
+  pub parts_code : Parts → Gv
+  parts_code no_parts = gcons (gnum 0) gnil
+  parts_code (part f ps) = gcons (gnum 1) (gcons (form_code f) (parts_code ps))
+
+  pub variants_code : Variants → Gv
+  variants_code no_variants = gcons (gnum 0) gnil
+  variants_code (variant n c vs) = gcons (gnum 1) (gcons (text_coded.code n) (gcons (content_code c) (variants_code vs)))
+
+  pub content_code : Content → Gv
+  content_code unit_content = gcons (gnum 0) gnil
+  content_code (newtype_content f) = gcons (gnum 1) (form_code f)
+  content_code (tuple_content ps) = gcons (gnum 2) (parts_code ps)
+  content_code (struct_content fs) = gcons (gnum 3) (fields_code fs)
 
 mutual
   pub form_inj : (x y : Form) → form_code x ≡ form_code y → x ≡ y
@@ -64,6 +120,9 @@ mutual
   form_inj (map k v) (map l w) p = λ i. map (form_inj k l (ap (λ g. head (tail g)) p) i) (form_inj v w (ap (λ g. tail (tail g)) p) i)
   form_inj (newtype n f) (newtype m g) p = λ i. newtype (text_coded.inj n m (ap (λ g. head (tail g)) p) i) (form_inj f g (ap (λ g. tail (tail g)) p) i)
   form_inj (unit_structure n) (unit_structure m) p = ap unit_structure (text_coded.inj n m (ap (λ g. tail g) p))
+  form_inj (tuple ps) (tuple qs) p = ap tuple (parts_inj ps qs (ap (λ g. tail g) p))
+  form_inj (tuple_structure n ps) (tuple_structure m qs) p = λ i. tuple_structure (text_coded.inj n m (ap (λ g. head (tail g)) p) i) (parts_inj ps qs (ap (λ g. tail (tail g)) p) i)
+  form_inj (enumeration vs) (enumeration ws) p = ap enumeration (variants_inj vs ws (ap (λ g. tail g) p))
   form_inj (structure n fs) (structure m gs) p = λ i. structure (text_coded.inj n m (ap (λ g. head (tail g)) p) i) (fields_inj fs gs (ap (λ g. tail (tail g)) p) i)
   form_inj x y p = absurd (omega (arith, ap (λ g. num (head g)) p))
 
@@ -71,6 +130,23 @@ mutual
   fields_inj no_fields no_fields p = refl
   fields_inj (field n s fs) (field m t gs) p = λ i. field (text_coded.inj n m (ap (λ g. head (tail g)) p) i) (form_inj s t (ap (λ g. head (tail (tail g))) p) i) (fields_inj fs gs (ap (λ g. tail (tail (tail g))) p) i)
   fields_inj x y p = absurd (omega (arith, ap (λ g. num (head g)) p))
+
+  pub parts_inj : (x y : Parts) → parts_code x ≡ parts_code y → x ≡ y
+  parts_inj no_parts no_parts p = refl
+  parts_inj (part f ps) (part g qs) p = λ i. part (form_inj f g (ap (λ g. head (tail g)) p) i) (parts_inj ps qs (ap (λ g. tail (tail g)) p) i)
+  parts_inj x y p = absurd (omega (arith, ap (λ g. num (head g)) p))
+
+  pub variants_inj : (x y : Variants) → variants_code x ≡ variants_code y → x ≡ y
+  variants_inj no_variants no_variants p = refl
+  variants_inj (variant n c vs) (variant m d ws) p = λ i. variant (text_coded.inj n m (ap (λ g. head (tail g)) p) i) (content_inj c d (ap (λ g. head (tail (tail g))) p) i) (variants_inj vs ws (ap (λ g. tail (tail (tail g))) p) i)
+  variants_inj x y p = absurd (omega (arith, ap (λ g. num (head g)) p))
+
+  pub content_inj : (x y : Content) → content_code x ≡ content_code y → x ≡ y
+  content_inj unit_content unit_content p = refl
+  content_inj (newtype_content f) (newtype_content g) p = ap newtype_content (form_inj f g (ap (λ g. tail g) p))
+  content_inj (tuple_content ps) (tuple_content qs) p = ap tuple_content (parts_inj ps qs (ap (λ g. tail g) p))
+  content_inj (struct_content fs) (struct_content gs) p = ap struct_content (fields_inj fs gs (ap (λ g. tail g) p))
+  content_inj x y p = absurd (omega (arith, ap (λ g. num (head g)) p))
 
 abbrev pub coded_form : Coded Form
 coded_form = record { code = form_code; inj = form_inj }

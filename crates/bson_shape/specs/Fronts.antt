@@ -1,8 +1,8 @@
--- Which texts begin a notation, and where a text is refused, in the notation's own words.
+-- Which texts begin a notation, and where a text is refused, in the notation's own words. Source: this library's own notation.
 use Rattle.std.specs.Prelude.{◌≡◌, ℕ, ◌+◌, ◌<◌, ◌≤◌, [], ◌∷◌, ◌++◌, Bool, true, false, ◌||◌, length, take, drop, Some}
 use Rattle.std.specs.Str.{is_utf8}
 use Rattle.bson_base.specs.Text.{Utf8}
-use Rattle.bson_shape.specs.Form.{Form, leaf, optional, sequence, map, newtype, unit_structure, structure, Fields, no_fields, field}
+use Rattle.bson_shape.specs.Form.{Form, leaf, optional, sequence, map, tuple, tuple_structure, newtype, unit_structure, structure, enumeration, Fields, no_fields, field, Parts, no_parts, part, Variants, no_variants, variant, Content, unit_content, newtype_content, tuple_content, struct_content}
 use Rattle.bson_shape.specs.Notation.{in_bare, names_form, text}
 use Rattle.bson_shape.specs.FirstRefusal.{MakerRefusal, first_refusal}
 use Rattle.bson_shape.specs.InnerForms.{HasFault}
@@ -15,13 +15,30 @@ abbrev mutual
   HasTextNames (optional f) = HasTextNames f
   HasTextNames (sequence f) = HasTextNames f
   HasTextNames (map k v) = HasTextNames k × HasTextNames v
+  HasTextNames (tuple ps) = PartsHaveTextNames ps
+  HasTextNames (tuple_structure name ps) = (is_utf8 name ≡ true) × PartsHaveTextNames ps
   HasTextNames (newtype name f) = (is_utf8 name ≡ true) × HasTextNames f
   HasTextNames (unit_structure name) = is_utf8 name ≡ true
   HasTextNames (structure name fs) = (is_utf8 name ≡ true) × HaveTextNames fs
+  HasTextNames (enumeration vs) = VariantsHaveTextNames vs
 
   pub HaveTextNames : Fields → Type 0
   HaveTextNames no_fields = Unit {0}
   HaveTextNames (field name f fs) = (is_utf8 name ≡ true) × HasTextNames f × HaveTextNames fs
+
+  pub PartsHaveTextNames : Parts → Type 0
+  PartsHaveTextNames no_parts = Unit {0}
+  PartsHaveTextNames (part f ps) = HasTextNames f × PartsHaveTextNames ps
+
+  pub VariantsHaveTextNames : Variants → Type 0
+  VariantsHaveTextNames no_variants = Unit {0}
+  VariantsHaveTextNames (variant name c vs) = (is_utf8 name ≡ true) × ContentHasTextNames c × VariantsHaveTextNames vs
+
+  pub ContentHasTextNames : Content → Type 0
+  ContentHasTextNames unit_content = Unit {0}
+  ContentHasTextNames (newtype_content f) = HasTextNames f
+  ContentHasTextNames (tuple_content ps) = PartsHaveTextNames ps
+  ContentHasTextNames (struct_content fs) = HaveTextNames fs
 
 -- Some notation begins with these bytes: the text of some form, whether or not its makers would refuse it.
 pub record BeginsNotation (bytes : Utf8) : Type 0 where

@@ -1,10 +1,10 @@
--- The forms in a form, each with its place.
+-- The forms in a form, each with its place. Source: this library's own notation.
 use Rattle.std.specs.Prelude.{◌≡◌, ℕ, ◌+◌, true, false, List, [], ◌∷◌, ◌++◌, length, is_some, Contains}
 use Rattle.bson_base.specs.Reserved.{reserved_kind}
-use Rattle.bson_shape.specs.Form.{Form, leaf, optional, sequence, map, newtype, unit_structure, structure, Fields, no_fields, field}
+use Rattle.bson_shape.specs.Form.{Form, leaf, optional, sequence, map, tuple, tuple_structure, newtype, unit_structure, structure, enumeration, Fields, no_fields, field, Parts, no_parts, part, Variants, no_variants, variant, Content, unit_content, newtype_content, tuple_content, struct_content}
 use Rattle.bson_shape.specs.Levels.{max_shape_levels}
-use Rattle.bson_shape.specs.Makers.{is_text_key, is_reserved_newtype, repeats}
-use Rattle.bson_shape.specs.Notation.{text, name_text, struct_name_text}
+use Rattle.bson_shape.specs.Makers.{is_text_key, is_reserved_newtype, repeats, variants_repeat}
+use Rattle.bson_shape.specs.Notation.{text, name_text, struct_name_text, content_text}
 use Rattle.bson_shape.specs.declared.error.ShapeError.{ShapeError}
 use Rattle.bson_shape.specs.declared.error.ShapeError.TheVariants.{ReservedName, RepeatedName, KeyNotText, TooDeep, NoMemory}
 
@@ -23,11 +23,15 @@ abbrev mutual
   inner_forms at around (map k v) =
       let key = at + 1 in
       record { place = at; around = around; form = map k v } ∷ (inner_forms key (around + 1) k ++ inner_forms (key + length (text k) + 1) (around + 1) v)
+  inner_forms at around (tuple ps) = record { place = at; around = around; form = tuple ps } ∷ part_forms (at + 1) (around + 1) ps
+  inner_forms at around (tuple_structure name ps) =
+      record { place = at; around = around; form = tuple_structure name ps } ∷ part_forms (at + length (name_text name) + 1) (around + 1) ps
   inner_forms at around (newtype name f) =
       record { place = at; around = around; form = newtype name f } ∷ inner_forms (at + length (name_text name) + 1) (around + 1) f
   inner_forms at around (unit_structure name) = record { place = at; around = around; form = unit_structure name } ∷ []
   inner_forms at around (structure name fs) =
       record { place = at; around = around; form = structure name fs } ∷ field_forms (at + length (struct_name_text name) + 1) (around + 1) fs
+  inner_forms at around (enumeration vs) = record { place = at; around = around; form = enumeration vs } ∷ variant_forms (at + 1) (around + 1) vs
 
   -- the forms in fields, where the text of the first one begins at this place
   pub field_forms : ℕ → ℕ → Fields → List Inner
@@ -36,6 +40,22 @@ abbrev mutual
       let inner = at + length (name_text name) + 1 in
       inner_forms inner around f ++ field_forms (inner + length (text f) + 1) around fs
 
+  pub part_forms : ℕ → ℕ → Parts → List Inner
+  part_forms at around no_parts = []
+  part_forms at around (part f ps) = inner_forms at around f ++ part_forms (at + length (text f) + 1) around ps
+
+  pub variant_forms : ℕ → ℕ → Variants → List Inner
+  variant_forms at around no_variants = []
+  variant_forms at around (variant name c vs) =
+      let inner = at + length (name_text name) in
+      content_forms inner around c ++ variant_forms (inner + length (content_text c) + 1) around vs
+
+  pub content_forms : ℕ → ℕ → Content → List Inner
+  content_forms at around unit_content = []
+  content_forms at around (newtype_content f) = inner_forms (at + 1) around f
+  content_forms at around (tuple_content ps) = part_forms (at + 1) around ps
+  content_forms at around (struct_content fs) = field_forms (at + 1) around fs
+
 abbrev pub HasReservedName : Form → Type 0
 HasReservedName (newtype name f) = is_reserved_newtype name ≡ true
 HasReservedName (structure name fs) = is_some (reserved_kind name) ≡ true
@@ -43,6 +63,7 @@ HasReservedName f = ⊥
 
 abbrev pub HasRepeatedName : Form → Type 0
 HasRepeatedName (structure name fs) = repeats fs ≡ true
+HasRepeatedName (enumeration vs) = variants_repeat vs ≡ true
 HasRepeatedName f = ⊥
 
 abbrev pub HasOtherKey : Form → Type 0

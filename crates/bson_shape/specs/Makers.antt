@@ -1,28 +1,58 @@
--- What the makers of shapes ask for, and what they answer.
-use Rattle.std.specs.Prelude.{◌≡◌, ◌≤◌, Bool, true, false, ◌||◌, if◌then◌else◌, nat_lt, List, [], ◌∷◌, codes, None, is_some, Result, Ok, Err, IsOk}
+-- What the makers of shapes ask for, and what they answer. Source: serde's data model.
+use Rattle.std.specs.Prelude.{◌≡◌, ◌≤◌, Bool, true, false, ◌&&◌, ◌||◌, if◌then◌else◌, nat_lt, List, [], ◌∷◌, codes, None, is_some, Result, Ok, Err, IsOk}
 use Rattle.std.specs.List.{list_any}
 use Rattle.std.specs.Str.{bytes_eq, is_utf8}
 use Rattle.bson_base.specs.Text.{Utf8}
 use Rattle.bson_base.specs.Reserved.{reserved_kind}
-use Rattle.bson_shape.specs.Form.{Form, leaf, optional, sequence, map, newtype, unit_structure, structure, Fields, no_fields, field}
+use Rattle.bson_shape.specs.Form.{Form, leaf, optional, sequence, map, tuple, tuple_structure, newtype, unit_structure, structure, enumeration, Fields, no_fields, field, Parts, no_parts, part, Variants, no_variants, variant, Content, unit_content, newtype_content, tuple_content, struct_content}
 use Rattle.bson_shape.specs.Leaf.{is_text}
 use Rattle.bson_shape.specs.Levels.{levels, max_shape_levels}
 use Rattle.bson_shape.specs.declared.error.ShapeError.{ShapeError}
 use Rattle.bson_shape.specs.declared.error.ShapeError.TheVariants.{ReservedName, RepeatedName, KeyNotText, TooDeep, NoMemory}
 
+-- one of the names is this one
+abbrev pub has_name : Utf8 → List Utf8 → Bool
+has_name name names = list_any (bytes_eq name) names
+
+-- two of the names are the same
+abbrev pub has_repeat : List Utf8 → Bool
+has_repeat [] = false
+has_repeat (n ∷ ns) = has_name n ns || has_repeat ns
+
+-- the names of fields, in order
+abbrev pub field_names : Fields → List Utf8
+field_names no_fields = []
+field_names (field name f fs) = name ∷ field_names fs
+
+-- the names of variants, in order
+abbrev pub variant_names : Variants → List Utf8
+variant_names no_variants = []
+variant_names (variant name c vs) = name ∷ variant_names vs
+
 -- a field has the name
 abbrev pub has_field : Utf8 → Fields → Bool
-has_field name no_fields = false
-has_field name (field n f fs) = bytes_eq name n || has_field name fs
+has_field name fs = has_name name (field_names fs)
 
 -- two fields have one name
 abbrev pub repeats : Fields → Bool
-repeats no_fields = false
-repeats (field n f fs) = has_field n fs || repeats fs
+repeats fs = has_repeat (field_names fs)
 
 -- no two fields have one name
 abbrev pub AreDistinct : Fields → Type 0
 AreDistinct fs = repeats fs ≡ false
+
+-- two fields of a struct variant have one name
+abbrev pub content_repeats : Content → Bool
+content_repeats (struct_content fs) = repeats fs
+content_repeats c = false
+
+abbrev pub contents_repeat : Variants → Bool
+contents_repeat no_variants = false
+contents_repeat (variant name c vs) = content_repeats c || contents_repeat vs
+
+-- two variants have one name, or two fields of one of them
+abbrev pub variants_repeat : Variants → Bool
+variants_repeat vs = has_repeat (variant_names vs) || contents_repeat vs
 
 -- the names of newtypes that carry UUIDs and marks through serde's data model
 abbrev pub reserved_newtypes : List Utf8
@@ -32,9 +62,19 @@ reserved_newtypes = codes "$__bson_private_uuid" ∷ codes "$__bson_private_huma
 abbrev pub is_reserved_newtype : Utf8 → Bool
 is_reserved_newtype name = list_any (bytes_eq name) reserved_newtypes
 
+abbrev pub is_unit : Content → Bool
+is_unit unit_content = true
+is_unit c = false
+
+-- no variant has more than its name
+abbrev pub are_units : Variants → Bool
+are_units no_variants = true
+are_units (variant name c vs) = is_unit c && are_units vs
+
 -- a key of this form is a text
 abbrev pub is_text_key : Form → Bool
 is_text_key (leaf l) = is_text l
+is_text_key (enumeration vs) = are_units vs
 is_text_key f = false
 
 -- What the maker of a newtype asks: a text as its name, which is not reserved, and few levels.
@@ -50,20 +90,43 @@ pub record IsStruct (name : Utf8) (fields : Fields) : Type 0 where
   pub distinct : AreDistinct fields
   pub few : levels (structure name fields) ≤ max_shape_levels
 
+-- What the maker of an enum asks of its names and levels: variants of different names, and few levels.
+pub record IsEnum (variants : Variants) : Type 0 where
+  pub distinct : has_repeat (variant_names variants) ≡ false
+  pub few : levels (enumeration variants) ≤ max_shape_levels
+
 abbrev mutual
-  -- each form in the form is as its maker asks, and each field's name is a text
+  -- each form in the form is as its maker asks, and each name is a text
   pub IsShape : Form → Type 0
   IsShape (leaf l) = Unit {0}
   IsShape (optional f) = (levels (optional f) ≤ max_shape_levels) × IsShape f
   IsShape (sequence f) = (levels (sequence f) ≤ max_shape_levels) × IsShape f
   IsShape (map k v) = (is_text_key k ≡ true) × (levels (map k v) ≤ max_shape_levels) × IsShape k × IsShape v
+  IsShape (tuple ps) = (levels (tuple ps) ≤ max_shape_levels) × AreParts ps
+  IsShape (tuple_structure name ps) = (is_utf8 name ≡ true) × (levels (tuple_structure name ps) ≤ max_shape_levels) × AreParts ps
   IsShape (newtype name f) = IsNewtype name f × IsShape f
   IsShape (unit_structure name) = is_utf8 name ≡ true
   IsShape (structure name fs) = IsStruct name fs × AreShapes fs
+  IsShape (enumeration vs) = IsEnum vs × AreVariants vs
 
   pub AreShapes : Fields → Type 0
   AreShapes no_fields = Unit {0}
   AreShapes (field name f fs) = (is_utf8 name ≡ true) × IsShape f × AreShapes fs
+
+  pub AreParts : Parts → Type 0
+  AreParts no_parts = Unit {0}
+  AreParts (part f ps) = IsShape f × AreParts ps
+
+  pub AreVariants : Variants → Type 0
+  AreVariants no_variants = Unit {0}
+  AreVariants (variant name c vs) = (is_utf8 name ≡ true) × IsContent c × AreVariants vs
+
+  -- the fields of a struct variant have different names
+  pub IsContent : Content → Type 0
+  IsContent unit_content = Unit {0}
+  IsContent (newtype_content f) = IsShape f
+  IsContent (tuple_content ps) = AreParts ps
+  IsContent (struct_content fs) = AreDistinct fs × AreShapes fs
 
 -- the form, where it has few levels
 abbrev pub within_levels : Form → Result Form ShapeError
@@ -81,6 +144,13 @@ made_sequence f = within_levels (sequence f)
 abbrev pub made_map : Form → Form → Result Form ShapeError
 made_map k v = if is_text_key k then within_levels (map k v) else Err KeyNotText
 
+-- what the makers of a tuple and of a tuple struct answer
+abbrev pub made_tuple : Parts → Result Form ShapeError
+made_tuple ps = within_levels (tuple ps)
+
+abbrev pub made_tuple_structure : Utf8 → Parts → Result Form ShapeError
+made_tuple_structure name ps = within_levels (tuple_structure name ps)
+
 -- what the maker of a newtype answers
 abbrev pub made_newtype : Utf8 → Form → Result Form ShapeError
 made_newtype name f = if is_reserved_newtype name then Err ReservedName else within_levels (newtype name f)
@@ -91,6 +161,10 @@ made_structure name fs =
     if is_some (reserved_kind name) then Err ReservedName
     else (if repeats fs then Err RepeatedName
     else within_levels (structure name fs))
+
+-- what the maker of an enum answers
+abbrev pub made_enumeration : Variants → Result Form ShapeError
+made_enumeration vs = if variants_repeat vs then Err RepeatedName else within_levels (enumeration vs)
 
 -- What a maker that takes memory answers, where this is due: what is due, or that memory ran out where no refusal is due.
 abbrev pub Makes : Result Form ShapeError → Result Form ShapeError → Type 0

@@ -1,8 +1,8 @@
--- The notation of shapes: one text for each form. A text is its UTF-8 bytes.
+-- The notation of shapes: one text for each form. A text is its UTF-8 bytes. Source: this library's own notation.
 use Rattle.std.specs.Prelude.{ℕ, Bool, false, ◌&&◌, ◌||◌, nat_le, ◌==◌, if◌then◌else◌, List, [], ◌∷◌, ◌++◌}
 use Rattle.std.specs.List.{list_all}
 use Rattle.bson_base.specs.Text.{Utf8}
-use Rattle.bson_shape.specs.Form.{Form, leaf, optional, sequence, map, newtype, unit_structure, structure, Fields, no_fields, field}
+use Rattle.bson_shape.specs.Form.{Form, leaf, optional, sequence, map, tuple, tuple_structure, newtype, unit_structure, structure, enumeration, Fields, no_fields, field, Parts, no_parts, part, Variants, no_variants, variant, Content, unit_content, newtype_content, tuple_content, struct_content}
 use Rattle.bson_shape.specs.Leaf.{word}
 
 -- `!`
@@ -13,6 +13,14 @@ exclamation = 33
 abbrev pub quote : ℕ
 quote = 34
 
+-- `(`
+abbrev pub open_paren : ℕ
+open_paren = 40
+
+-- `)`
+abbrev pub close_paren : ℕ
+close_paren = 41
+
 -- `,`
 abbrev pub comma : ℕ
 comma = 44
@@ -21,9 +29,17 @@ comma = 44
 abbrev pub colon : ℕ
 colon = 58
 
+-- `<`
+abbrev pub open_angle : ℕ
+open_angle = 60
+
 -- `=`
 abbrev pub equals : ℕ
 equals = 61
+
+-- `>`
+abbrev pub close_angle : ℕ
+close_angle = 62
 
 -- `?`
 abbrev pub question : ℕ
@@ -65,9 +81,9 @@ abbrev pub bare : Utf8 → Bool
 bare [] = false
 bare (b ∷ bs) = begins_bare b && list_all in_bare bs
 
--- the bytes that make a name of the word before them: `=`, `!` and `{`
+-- the bytes that make a name of the word before them: `=`, `!`, `(` and `{`
 abbrev pub names_form : ℕ → Bool
-names_form b = (b == equals) || (b == exclamation) || (b == open_brace)
+names_form b = (b == equals) || (b == exclamation) || (b == open_paren) || (b == open_brace)
 
 -- `"` and `\`
 abbrev pub is_escaped : ℕ → Bool
@@ -100,17 +116,48 @@ abbrev pub listed : List Utf8 → Utf8
 listed [] = []
 listed (x ∷ xs) = x ++ after_commas xs
 
+-- between parentheses
+abbrev pub in_parens : List Utf8 → Utf8
+in_parens texts = open_paren ∷ (listed texts ++ close_paren ∷ [])
+
+-- between braces
+abbrev pub in_braces : List Utf8 → Utf8
+in_braces texts = open_brace ∷ (listed texts ++ close_brace ∷ [])
+
+-- between angle brackets
+abbrev pub in_angles : List Utf8 → Utf8
+in_angles texts = open_angle ∷ (listed texts ++ close_angle ∷ [])
+
 abbrev mutual
-  -- a leaf is its word, an option is `?s`, a sequence is `[s]`, a map is `[key:value]`, a newtype is `NAME=s`, a unit struct is `NAME!`, a struct is `NAME{f:s,g:s}`
+  -- a leaf is its word, an option is `?s`, a sequence is `[s]`, a map is `[key:value]`, a tuple is `(s,s)`, a tuple struct is `NAME(s,s)`,
+  -- a newtype is `NAME=s`, a unit struct is `NAME!`, a struct is `NAME{f:s,g:s}`, an enum is `<A,N=s,T(s,s),S{f:s}>`
   pub text : Form → Utf8
   text (leaf l) = word l
   text (optional f) = question ∷ text f
   text (sequence f) = open_bracket ∷ (text f ++ close_bracket ∷ [])
   text (map k v) = open_bracket ∷ (text k ++ colon ∷ (text v ++ close_bracket ∷ []))
+  text (tuple ps) = in_parens (part_texts ps)
+  text (tuple_structure name ps) = name_text name ++ in_parens (part_texts ps)
   text (newtype name f) = name_text name ++ equals ∷ text f
   text (unit_structure name) = name_text name ++ exclamation ∷ []
-  text (structure name fs) = struct_name_text name ++ open_brace ∷ (listed (field_texts fs) ++ close_brace ∷ [])
+  text (structure name fs) = struct_name_text name ++ in_braces (field_texts fs)
+  text (enumeration vs) = in_angles (variant_texts vs)
 
   pub field_texts : Fields → List Utf8
   field_texts no_fields = []
   field_texts (field name f fs) = (name_text name ++ colon ∷ text f) ∷ field_texts fs
+
+  pub part_texts : Parts → List Utf8
+  part_texts no_parts = []
+  part_texts (part f ps) = text f ∷ part_texts ps
+
+  pub variant_texts : Variants → List Utf8
+  variant_texts no_variants = []
+  variant_texts (variant name c vs) = (name_text name ++ content_text c) ∷ variant_texts vs
+
+  -- of a variant, behind its name
+  pub content_text : Content → Utf8
+  content_text unit_content = []
+  content_text (newtype_content f) = equals ∷ text f
+  content_text (tuple_content ps) = in_parens (part_texts ps)
+  content_text (struct_content fs) = in_braces (field_texts fs)

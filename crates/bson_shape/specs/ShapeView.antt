@@ -1,45 +1,85 @@
--- The form of a shape, one level at a time, and its size.
+-- The form of a shape, one level at a time, and its size. Source: serde's data model.
 use Rattle.std.specs.Prelude.{ℕ, ◌+◌, List, [], ◌∷◌, string_bytes}
-use Rattle.bson_shape.specs.Form.{Form, leaf, optional, sequence, map, newtype, unit_structure, structure, Fields, no_fields, field}
+use Rattle.bson_shape.specs.Form.{Form, leaf, optional, sequence, map, tuple, tuple_structure, newtype, unit_structure, structure, enumeration, Fields, no_fields, field, Parts, no_parts, part, Variants, no_variants, variant, Content, unit_content, newtype_content, tuple_content, struct_content}
 use Rattle.bson_shape.specs.declared.shape.Node.{Node}
 use Rattle.bson_shape.specs.declared.shape.Node.TheVariants as node
 use Rattle.bson_shape.specs.declared.form.Form.{Form as Lent}
 use Rattle.bson_shape.specs.declared.form.Form.TheVariants as lent
 use Rattle.bson_shape.specs.declared.shape.FieldShape.{FieldShape}
+use Rattle.bson_shape.specs.declared.shape.VariantShape.{VariantShape}
+use Rattle.bson_shape.specs.declared.shape.VariantContent.{VariantContent}
+use Rattle.bson_shape.specs.declared.shape.VariantContent.TheVariants as contents
 
 abbrev pub fields_of : List FieldShape → Fields
 fields_of [] = no_fields
 fields_of (f ∷ fs) = field (string_bytes f.name) f.shape (fields_of fs)
+
+abbrev pub parts_of : List Form → Parts
+parts_of [] = no_parts
+parts_of (f ∷ fs) = part f (parts_of fs)
+
+abbrev pub content_of : VariantContent → Content
+content_of contents.Unit = unit_content
+content_of (contents.Newtype f) = newtype_content f
+content_of (contents.Tuple items) = tuple_content (parts_of items.items)
+content_of (contents.Struct fs) = struct_content (fields_of fs.items)
+
+abbrev pub variants_of : List VariantShape → Variants
+variants_of [] = no_variants
+variants_of (v ∷ vs) = variant (string_bytes v.name) (content_of v.content) (variants_of vs)
 
 abbrev pub node_view : Node → Form
 node_view (node.Leaf l) = leaf l
 node_view (node.Option inner) = optional inner.value
 node_view (node.Seq item) = sequence item.value
 node_view (node.Map key value) = map key.value value.value
+node_view (node.Tuple items) = tuple (parts_of items.items)
+node_view (node.TupleStruct name items) = tuple_structure (string_bytes name) (parts_of items.items)
 node_view (node.Newtype name inner) = newtype (string_bytes name) inner.value
 node_view (node.UnitStruct name) = unit_structure (string_bytes name)
 node_view (node.Struct name fs) = structure (string_bytes name) (fields_of fs.items)
+node_view (node.Enum vs) = enumeration (variants_of vs.items)
 
 abbrev pub form_view : Lent → Form
 form_view (lent.Leaf l) = leaf l
 form_view (lent.Option inner) = optional inner.now
 form_view (lent.Seq item) = sequence item.now
 form_view (lent.Map key value) = map key.now value.now
+form_view (lent.Tuple items) = tuple (parts_of items.now)
+form_view (lent.TupleStruct name items) = tuple_structure name.now (parts_of items.now)
 form_view (lent.Newtype name inner) = newtype name.now inner.now
 form_view (lent.UnitStruct name) = unit_structure name.now
 form_view (lent.Struct name fs) = structure name.now (fields_of fs.now)
+form_view (lent.Enum vs) = enumeration (variants_of vs.now)
 
 abbrev mutual
-  -- how many forms and fields a form is made of
+  -- how many forms, fields, parts and variants a form is made of
   pub nodes : Form → ℕ
   nodes (leaf l) = 1
   nodes (optional f) = nodes f + 1
   nodes (sequence f) = nodes f + 1
   nodes (map k v) = nodes k + nodes v + 1
+  nodes (tuple ps) = parts_nodes ps + 1
+  nodes (tuple_structure name ps) = parts_nodes ps + 1
   nodes (newtype name f) = nodes f + 1
   nodes (unit_structure name) = 1
   nodes (structure name fs) = fields_nodes fs + 1
+  nodes (enumeration vs) = variants_nodes vs + 1
 
   pub fields_nodes : Fields → ℕ
   fields_nodes no_fields = 0
   fields_nodes (field name f fs) = nodes f + fields_nodes fs + 1
+
+  pub parts_nodes : Parts → ℕ
+  parts_nodes no_parts = 0
+  parts_nodes (part f ps) = nodes f + parts_nodes ps + 1
+
+  pub variants_nodes : Variants → ℕ
+  variants_nodes no_variants = 0
+  variants_nodes (variant name c vs) = content_nodes c + variants_nodes vs + 1
+
+  pub content_nodes : Content → ℕ
+  content_nodes unit_content = 0
+  content_nodes (newtype_content f) = nodes f
+  content_nodes (tuple_content ps) = parts_nodes ps
+  content_nodes (struct_content fs) = fields_nodes fs

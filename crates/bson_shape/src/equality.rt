@@ -1,8 +1,8 @@
 ghost use Rattle.std.specs.Prelude.{◌≡◌};
-ghost use Rattle.bson_shape.specs.Same.{same, same_fields};
-ghost use Rattle.bson_shape.specs.ShapeView.{fields_of};
+ghost use Rattle.bson_shape.specs.Same.{same, same_fields, same_parts, same_variants, same_content};
+ghost use Rattle.bson_shape.specs.ShapeView.{fields_of, parts_of, variants_of, content_of};
 
-use crate::{FieldShape, Form, Shape};
+use crate::{FieldShape, Form, Shape, VariantContent, VariantShape};
 
 /// Two shapes are equal exactly where their forms are.
 impl PartialEq for Shape {
@@ -22,35 +22,26 @@ impl PartialEq for Shape {
 fn is_same(a: &Shape, b: &Shape) -> bool
     ensures { result ≡ same a.now b.now }
 {
+    let other = b.form();
     match a.form() {
-        Form::Leaf(leaf) => match b.form() {
-            Form::Leaf(other) => leaf == other,
-            _ => false,
-        },
-        Form::Option(inner) => match b.form() {
-            Form::Option(other) => is_same(inner, other),
-            _ => false,
-        },
-        Form::Seq(item) => match b.form() {
-            Form::Seq(other) => is_same(item, other),
-            _ => false,
-        },
-        Form::Map(key, value) => match b.form() {
-            Form::Map(other, others) => is_same(key, other) && is_same(value, others),
-            _ => false,
-        },
-        Form::Newtype(name, inner) => match b.form() {
-            Form::Newtype(other, others) => name == other && is_same(inner, others),
-            _ => false,
-        },
-        Form::UnitStruct(name) => match b.form() {
-            Form::UnitStruct(other) => name == other,
-            _ => false,
-        },
-        Form::Struct(name, fields) => match b.form() {
-            Form::Struct(other, others) => name == other && are_same(fields, others),
-            _ => false,
-        },
+        Form::Leaf(leaf) => matches!(other, Form::Leaf(l) if leaf == l),
+        Form::Option(inner) => matches!(other, Form::Option(i) if is_same(inner, i)),
+        Form::Seq(item) => matches!(other, Form::Seq(i) if is_same(item, i)),
+        Form::Map(key, value) => {
+            matches!(other, Form::Map(k, v) if is_same(key, k) && is_same(value, v))
+        }
+        Form::Tuple(parts) => matches!(other, Form::Tuple(p) if are_same_parts(parts, p)),
+        Form::TupleStruct(name, parts) => {
+            matches!(other, Form::TupleStruct(n, p) if name == n && are_same_parts(parts, p))
+        }
+        Form::Newtype(name, inner) => {
+            matches!(other, Form::Newtype(n, i) if name == n && is_same(inner, i))
+        }
+        Form::UnitStruct(name) => matches!(other, Form::UnitStruct(n) if name == n),
+        Form::Struct(name, fields) => {
+            matches!(other, Form::Struct(n, f) if name == n && are_same(fields, f))
+        }
+        Form::Enum(variants) => matches!(other, Form::Enum(v) if are_same_variants(variants, v)),
     }
 }
 
@@ -68,4 +59,55 @@ fn are_same(a: &[FieldShape], b: &[FieldShape]) -> bool
         }
     }
     true
+}
+
+#[cycle(same)]
+fn are_same_parts(a: &[Shape], b: &[Shape]) -> bool
+    ensures { result ≡ same_parts (parts_of a.now) (parts_of b.now) }
+{
+    if a.len() != b.len() {
+        return false;
+    }
+    for (i, part) in a.iter().enumerate() {
+        if !is_same(part, &b[i]) {
+            return false;
+        }
+    }
+    true
+}
+
+#[cycle(same)]
+fn are_same_variants(a: &[VariantShape], b: &[VariantShape]) -> bool
+    ensures { result ≡ same_variants (variants_of a.now) (variants_of b.now) }
+{
+    if a.len() != b.len() {
+        return false;
+    }
+    for (i, variant) in a.iter().enumerate() {
+        let other = &b[i];
+        if variant.name.as_str() != other.name.as_str()
+            || !is_same_content(&variant.content, &other.content)
+        {
+            return false;
+        }
+    }
+    true
+}
+
+#[cycle(same)]
+fn is_same_content(a: &VariantContent, b: &VariantContent) -> bool
+    ensures { result ≡ same_content (content_of a.now) (content_of b.now) }
+{
+    match a {
+        VariantContent::Unit => matches!(b, VariantContent::Unit),
+        VariantContent::Newtype(shape) => {
+            matches!(b, VariantContent::Newtype(s) if is_same(shape, s))
+        }
+        VariantContent::Tuple(parts) => {
+            matches!(b, VariantContent::Tuple(p) if are_same_parts(parts, p))
+        }
+        VariantContent::Struct(fields) => {
+            matches!(b, VariantContent::Struct(f) if are_same(fields, f))
+        }
+    }
 }

@@ -6,9 +6,9 @@ use std::fmt;
 pub enum ShapeError {
     /// The name of a struct is one of the thirteen reserved names, or that of a newtype is one of the three for newtypes.
     ReservedName,
-    /// Two fields of a struct have one name.
+    /// Two fields of a struct or of a struct variant have one name, or two variants of an enum.
     RepeatedName,
-    /// The key of a map is no text: neither `str`, `string` nor `char`.
+    /// The key of a map is no text: neither `str`, `string`, `char` nor an enum whose variants are all units.
     KeyNotText,
     /// The shape would have more than 512 levels.
     TooDeep,

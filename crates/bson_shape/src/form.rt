@@ -1,4 +1,4 @@
-use crate::{FieldShape, Leaf, Shape};
+use crate::{FieldShape, Leaf, Shape, VariantShape};
 
 /// The form of a shape, lent to match on.
 #[derive(Clone, Copy)]
@@ -11,10 +11,16 @@ pub enum Form<'a> {
     Seq(&'a Shape),
     /// A map: the shape of its keys, and that of its values.
     Map(&'a Shape, &'a Shape),
+    /// A tuple: the shapes of its parts, in order.
+    Tuple(&'a [Shape]),
+    /// A tuple struct: its name and the shapes of its parts, in order.
+    TupleStruct(&'a str, &'a [Shape]),
     /// A newtype: its name and the shape of its value.
     Newtype(&'a str, &'a Shape),
     /// A unit struct: its name.
     UnitStruct(&'a str),
     /// A struct: its name and its fields, in order.
     Struct(&'a str, &'a [FieldShape]),
+    /// An enum: its variants, in order.
+    Enum(&'a [VariantShape]),
 }

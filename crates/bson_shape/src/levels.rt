@@ -4,24 +4,58 @@ ghost use Rattle.bson_shape.specs.Form.{Form};
 ghost use Rattle.bson_shape.specs.Makers.{Makes};
 ghost use Rattle.bson_shape.specs.declared.error.ShapeError.{ShapeError};
 ghost use Rattle.bson_shape.specs.Machine as machine;
-ghost use Rattle.bson_shape.specs.ParserView.{open_view, levels_view, ended_view};
+ghost use Rattle.bson_shape.specs.ParserView.{enum_view, braces_view, open_view, parens_view, tuple_view, levels_view, ended_view};
+ghost use Rattle.bson_shape.specs.ShapeView.{content_of};
 ghost use Rattle.bson_shape.specs.Answers.{Gives};
 
-use crate::{FieldShape, ParseError, Shape, ShapeError};
+use crate::{FieldShape, ParseError, Shape, ShapeError, VariantContent, VariantShape};
 use std::alloc::{AllocError, Global};
 
-/// A struct whose closing brace has not come.
+/// An enum whose closing bracket has not come.
+#[derive(Drop)]
+pub(crate) struct OpenEnum {
+    pub(crate) place: usize,
+    pub(crate) variants: Vec<VariantShape>,
+}
+
+/// What braces belong to.
+#[derive(Drop)]
+pub(crate) enum Braces {
+    /// A struct that begins at this place, and its name.
+    StructAt(usize, String),
+    /// A variant of this name.
+    StructVariant(OpenEnum, String),
+}
+
+/// Braces that have not closed.
 #[derive(Drop)]
 pub(crate) struct Open {
-    pub(crate) place: usize,
-    pub(crate) name: String,
+    pub(crate) holder: Braces,
     pub(crate) fields: Vec<FieldShape>,
+}
+
+/// What parentheses belong to.
+#[derive(Drop)]
+pub(crate) enum Parens {
+    /// A tuple that begins at this place.
+    TupleAt(usize),
+    /// A tuple struct that begins at this place, and its name.
+    TupleStructAt(usize, String),
+    /// A variant of this name.
+    TupleVariant(OpenEnum, String),
+}
+
+/// Parentheses that have not closed.
+#[derive(Drop)]
+pub(crate) struct OpenTuple {
+    pub(crate) holder: Parens,
+    pub(crate) parts: Vec<Shape>,
 }
 
 /// A form around the one that is read.
 #[derive(Drop)]
 pub(crate) enum Level {
-    /// A struct, and the name of the field.
+    /// Braces, and the name of the field.
     InField(Open, String),
     /// An option that begins at this place.
     InOption(usize),
@@ -31,6 +65,10 @@ pub(crate) enum Level {
     InMap(usize, Shape),
     /// A newtype that begins at this place, and its name.
     InNewtype(usize, String),
+    /// Parentheses.
+    InPart(OpenTuple),
+    /// An enum, and the name of the newtype variant.
+    InVariant(OpenEnum, String),
 }
 
 /// A form that has ended, and the level around it, if there is one.
@@ -40,17 +78,59 @@ pub(crate) struct Ended {
     pub(crate) around: Option<Level>,
 }
 
-pub(crate) fn opened_at(alloc: Global, place: usize, name: String) -> Open
-    ensures { open_view result ≡ machine.opened place (string_bytes name) }
+/// Braces without a field yet.
+pub(crate) fn opened(alloc: Global, holder: Braces) -> Open
+    ensures { open_view result ≡ machine.opened (braces_view holder) }
 {
     Open {
-        place,
-        name,
+        holder,
         fields: Vec::new(alloc),
     }
 }
 
-/// The struct with one more field.
+/// Parentheses without a part yet.
+pub(crate) fn opened_tuple(alloc: Global, holder: Parens) -> OpenTuple
+    ensures { tuple_view result ≡ machine.opened_tuple (parens_view holder) }
+{
+    OpenTuple {
+        holder,
+        parts: Vec::new(alloc),
+    }
+}
+
+/// An enum without a variant yet, which begins at the place.
+pub(crate) fn opened_enum(alloc: Global, place: usize) -> OpenEnum
+    ensures { enum_view result ≡ machine.opened_enum place }
+{
+    OpenEnum {
+        place,
+        variants: Vec::new(alloc),
+    }
+}
+
+/// The parentheses with one more part.
+pub(crate) fn grown_tuple(opened: OpenTuple, part: Shape) -> Result<OpenTuple, AllocError>
+    ensures { IfOk result (λ o. tuple_view o ≡ machine.grown_tuple (tuple_view opened) part) }
+{
+    let mut grown = opened;
+    grown.parts.push(part)?;
+    Ok(grown)
+}
+
+/// The enum with one more variant.
+pub(crate) fn grown_enum(
+    opened: OpenEnum,
+    name: String,
+    content: VariantContent,
+) -> Result<OpenEnum, AllocError>
+    ensures { IfOk result (λ o. enum_view o ≡ machine.grown_enum (enum_view opened) (string_bytes name) (content_of content)) }
+{
+    let mut grown = opened;
+    grown.variants.push(VariantShape { name, content })?;
+    Ok(grown)
+}
+
+/// The braces with one more field.
 pub(crate) fn grown(opened: Open, name: String, shape: Shape) -> Result<Open, AllocError>
     ensures { IfOk result (λ o. open_view o ≡ machine.grown (open_view opened) (string_bytes name) shape) }
 {
@@ -86,7 +166,11 @@ pub(crate) fn wrapped(
         shape = match level {
             Level::InOption(place) => made(place, Shape::option(alloc, shape))?,
             Level::InNewtype(place, name) => made(place, Shape::newtype(alloc, name, shape))?,
-            Level::InField(_, _) | Level::InBrackets(_) | Level::InMap(_, _) => {
+            Level::InField(_, _)
+            | Level::InBrackets(_)
+            | Level::InMap(_, _)
+            | Level::InPart(_)
+            | Level::InVariant(_, _) => {
                 return Ok(Ended {
                     shape,
                     around: Some(level),

@@ -2,12 +2,15 @@
 #![tactic(auto)]
 
 mod distinct;
+mod ends;
 mod equality;
 mod error;
 mod form;
 mod leaf;
 mod levels;
+mod mode;
 mod name;
+mod named;
 mod parse;
 mod parser;
 mod printer;
@@ -16,5 +19,6 @@ mod shape;
 pub use error::{ParseError, ShapeError};
 pub use form::Form;
 pub use leaf::Leaf;
+pub use named::Named;
 pub use parse::law_text;
-pub use shape::{FieldShape, Shape};
+pub use shape::{FieldShape, Shape, VariantContent, VariantShape};

@@ -1,50 +1,23 @@
 // Reading a notation from left to right, with the forms around on a stack of its own.
-ghost use Rattle.std.specs.Prelude.{◌≡◌, ℕ, ◌<◌, List, ◌∷◌, ◌++◌, [], Result, IfOk, OnOk, string_bytes, encode_utf8};
-ghost use Rattle.bson_shape.specs.Form.{Form};
-ghost use Rattle.bson_shape.specs.Makers.{Makes};
-ghost use Rattle.bson_shape.specs.declared.error.ShapeError.{ShapeError};
+ghost use Rattle.std.specs.Prelude.{◌≡◌, ◌<◌, ◌∷◌, ◌++◌, [], IfOk, OnOk, string_bytes, encode_utf8};
 ghost use Rattle.bson_shape.specs.Notation.{names_form};
 ghost use Rattle.bson_shape.specs.Machine as machine;
-ghost use Rattle.bson_shape.specs.ParserView.{open_view, owner_view, mode_view, levels_view};
+ghost use Rattle.bson_shape.specs.ParserView.{enum_view, open_view, tuple_view, owner_view, mode_view, levels_view};
 ghost use Rattle.bson_shape.specs.Answers.{Gives};
 
-use crate::levels::{Ended, Level, Open, grown, made, opened_at, wrapped};
+use crate::ends::{
+    braces_closed, enum_closed, form_ended, last, no_more, parens_closed, variant_ended,
+};
+use crate::levels::{
+    Braces, Level, Open, OpenEnum, OpenTuple, Parens, grown_enum, opened, opened_enum, opened_tuple,
+};
+use crate::mode::{Mode, Owner};
 use crate::name::{begins_bare, in_bare, is_bare};
-use crate::{Leaf, ParseError, Shape, ShapeError};
+use crate::{Leaf, ParseError, Shape, ShapeError, VariantContent};
 use std::alloc::{AllocError, Global};
 
 /// The most forms that may stand around a form.
 const MAX_AROUND: usize = 512;
-
-/// Whose name is read.
-#[derive(Drop)]
-enum Owner {
-    /// A form that begins at this place.
-    FormAt(usize),
-    /// A field of this struct.
-    FieldOf(Open),
-}
-
-/// What is read at the moment.
-#[derive(Drop)]
-enum Mode {
-    /// A form is due.
-    FormDue,
-    /// A field or a closing brace is due.
-    FirstField(Open),
-    /// A field is due, behind a comma.
-    FieldDue(Open),
-    /// Inside a bare name.
-    Bare(Owner, String),
-    /// Inside a quoted name.
-    Quoted(Owner, String),
-    /// Inside a quoted name, behind a backslash.
-    Escape(Owner, String),
-    /// Behind a quoted name.
-    Named(Owner, String),
-    /// Behind the last byte of a form that has one of its own.
-    Done(Shape),
-}
 
 /// Appends an ASCII character.
 fn push_byte(name: &mut String, b: u8) -> Result<(), AllocError>
@@ -53,95 +26,6 @@ fn push_byte(name: &mut String, b: u8) -> Result<(), AllocError>
 {
     name.push(b as char)?;
     Ok(())
-}
-
-/// The last byte of a form that begins at the place, and what its maker answered.
-fn closed(place: usize, answer: Result<Shape, ShapeError>) -> Result<Mode, ParseError>
-    ensures { (at : ℕ) → (st : List machine.Level) → (due : Result Form ShapeError) → Makes answer due → Gives (λ m. (mode_view m, st)) result (machine.closed at place st due) }
-{
-    Ok(Mode::Done(made(place, answer)?))
-}
-
-/// A closing brace.
-fn struct_closed(opened: Open, levels: &Vec<Level>, at: usize) -> Result<Mode, ParseError>
-    ensures { Gives (λ m. (mode_view m, levels_view levels.now.items)) result (machine.struct_closed at (open_view opened) (levels_view levels.now.items)) }
-{
-    let place = opened.place;
-    closed(place, Shape::structure(opened.name, opened.fields))
-}
-
-/// Behind a field, with which the struct is this.
-fn field_ended(opened: Open, levels: &Vec<Level>, at: usize, b: u8) -> Result<Mode, ParseError>
-    ensures { Gives (λ m. (mode_view m, levels_view levels.now.items)) result (machine.field_ended at (open_view opened) (levels_view levels.now.items) b) }
-{
-    match b {
-        b',' => Ok(Mode::FieldDue(opened)),
-        b'}' => struct_closed(opened, levels, at),
-        _ => Err(ParseError::NotNotation(at)),
-    }
-}
-
-/// Behind the first form between brackets that begin at the place: the item of a sequence, or the key of a map.
-fn item_ended(
-    alloc: Global,
-    place: usize,
-    item: Shape,
-    levels: &mut Vec<Level>,
-    at: usize,
-    b: u8,
-) -> Result<Mode, ParseError>
-    ensures { Gives (λ m. (mode_view m, levels_view levels.new.items)) result (machine.item_ended at place item (levels_view levels.old.items) b) }
-{
-    match b {
-        b']' => closed(place, Shape::seq(alloc, item)),
-        b':' => {
-            levels.push(Level::InMap(place, item))?;
-            Ok(Mode::FormDue)
-        }
-        _ => Err(ParseError::NotNotation(at)),
-    }
-}
-
-/// Behind the value of a map that begins at the place.
-fn value_ended(
-    alloc: Global,
-    place: usize,
-    key: Shape,
-    value: Shape,
-    levels: &Vec<Level>,
-    at: usize,
-    b: u8,
-) -> Result<Mode, ParseError>
-    ensures { Gives (λ m. (mode_view m, levels_view levels.now.items)) result (machine.value_ended at place key value (levels_view levels.now.items) b) }
-{
-    if b != b']' {
-        return Err(ParseError::NotNotation(at));
-    }
-    closed(place, Shape::map(alloc, key, value))
-}
-
-/// Behind a form.
-#[tactic(auto, unfolding(crate::specs::Machine::form_ended))]
-fn form_ended(
-    alloc: Global,
-    shape: Shape,
-    levels: &mut Vec<Level>,
-    at: usize,
-    b: u8,
-) -> Result<Mode, ParseError>
-    ensures { Gives (λ m. (mode_view m, levels_view levels.new.items)) result (machine.form_ended at shape (levels_view levels.old.items) b) }
-{
-    let Ended { shape, around } = wrapped(alloc, shape, levels)?;
-    match around {
-        Some(Level::InField(opened, name)) => {
-            field_ended(grown(opened, name, shape)?, levels, at, b)
-        }
-        Some(Level::InBrackets(place)) => item_ended(alloc, place, shape, levels, at, b),
-        Some(Level::InMap(place, key)) => value_ended(alloc, place, key, shape, levels, at, b),
-        Some(Level::InOption(_)) | Some(Level::InNewtype(_, _)) | None => {
-            Err(ParseError::NotNotation(at))
-        }
-    }
 }
 
 /// The first byte of a name.
@@ -161,7 +45,7 @@ fn name_begun(alloc: Global, owner: Owner, b: u8) -> Result<Mode, AllocError>
 fn begins_form(b: u8) -> bool
     ensures { result ≡ machine.begins_form b }
 {
-    begins_bare(b) || matches!(b, b'"' | b'?' | b'[' | b'{')
+    begins_bare(b) || matches!(b, b'"' | b'?' | b'[' | b'(' | b'<' | b'{')
 }
 
 /// The first byte of a form.
@@ -170,7 +54,8 @@ fn form_begun(alloc: Global, levels: &mut Vec<Level>, at: usize, b: u8) -> Resul
     ensures { IfOk result (λ m. machine.form_begun at (levels_view levels.old.items) b ≡ (mode_view m, levels_view levels.new.items)) }
 {
     if b == b'{' {
-        return Ok(Mode::FirstField(opened_at(alloc, at, String::new(alloc))));
+        let holder = Braces::StructAt(at, String::new(alloc));
+        return Ok(Mode::FirstField(opened(alloc, holder)));
     }
     if b == b'[' {
         levels.push(Level::InBrackets(at))?;
@@ -179,6 +64,12 @@ fn form_begun(alloc: Global, levels: &mut Vec<Level>, at: usize, b: u8) -> Resul
     if b == b'?' {
         levels.push(Level::InOption(at))?;
         return Ok(Mode::FormDue);
+    }
+    if b == b'(' {
+        return Ok(Mode::FirstPart(opened_tuple(alloc, Parens::TupleAt(at))));
+    }
+    if b == b'<' {
+        return Ok(Mode::FirstVariant(opened_enum(alloc, at)));
     }
     name_begun(alloc, Owner::FormAt(at), b)
 }
@@ -229,9 +120,64 @@ fn first_field(
     ensures { Gives (λ m. (mode_view m, levels_view levels.now.items)) result (machine.first_field at (open_view opened) (levels_view levels.now.items) b) }
 {
     if b == b'}' {
-        return struct_closed(opened, levels, at);
+        return braces_closed(opened, levels, at);
     }
     field_due(alloc, opened, levels, at, b)
+}
+
+/// Behind the opening parenthesis.
+#[tactic(auto, unfolding(crate::specs::Machine::first_part))]
+fn first_part(
+    alloc: Global,
+    opened: OpenTuple,
+    levels: &mut Vec<Level>,
+    at: usize,
+    b: u8,
+) -> Result<Mode, ParseError>
+    requires { b < 128 }
+    ensures { Gives (λ m. (mode_view m, levels_view levels.new.items)) result (machine.first_part at (tuple_view opened) (levels_view levels.old.items) b) }
+{
+    if b == b')' {
+        return parens_closed(opened, levels, at);
+    }
+    levels.push(Level::InPart(opened))?;
+    form_due(alloc, levels, at, b)
+}
+
+/// Where the name of a variant is due.
+#[tactic(auto, unfolding(crate::specs::Machine::variant_due))]
+fn variant_due(
+    alloc: Global,
+    opened: OpenEnum,
+    levels: &Vec<Level>,
+    at: usize,
+    b: u8,
+) -> Result<Mode, ParseError>
+    requires { b < 128 }
+    ensures { Gives (λ m. (mode_view m, levels_view levels.now.items)) result (machine.variant_due at (enum_view opened) (levels_view levels.now.items) b) }
+{
+    if begins_bare(b) || b == b'"' {
+        return Ok(name_begun(alloc, Owner::VariantOf(opened), b)?);
+    }
+    Err(ParseError::NotNotation(at))
+}
+
+/// Behind the opening angle bracket.
+#[tactic(auto, unfolding(crate::specs::Machine::first_variant))]
+fn first_variant(
+    alloc: Global,
+    opened: OpenEnum,
+    levels: &Vec<Level>,
+    at: usize,
+    b: u8,
+) -> Result<Mode, ParseError>
+    requires { b < 128 }
+    ensures { Gives (λ m. (mode_view m, levels_view levels.now.items)) result (machine.first_variant at (enum_view opened) (levels_view levels.now.items) b) }
+{
+    if b == b'>' {
+        return enum_closed(opened, levels, at);
+    }
+    variant_due(alloc, opened, levels, at, b)
 }
 
 /// Behind the name of a form that begins at the place.
@@ -251,8 +197,48 @@ fn form_named(
             Ok(Mode::FormDue)
         }
         b'!' => Ok(Mode::Done(Shape::unit_struct(name))),
-        b'{' if !name.is_empty() => Ok(Mode::FirstField(opened_at(alloc, place, name))),
+        b'(' => {
+            let holder = Parens::TupleStructAt(place, name);
+            Ok(Mode::FirstPart(opened_tuple(alloc, holder)))
+        }
+        b'{' if !name.is_empty() => {
+            let holder = Braces::StructAt(place, name);
+            Ok(Mode::FirstField(opened(alloc, holder)))
+        }
         _ => Err(ParseError::NotNotation(at)),
+    }
+}
+
+/// Behind the name of a variant: what comes next tells what the variant has.
+fn variant_named(
+    alloc: Global,
+    variants: OpenEnum,
+    name: String,
+    levels: &mut Vec<Level>,
+    at: usize,
+    b: u8,
+) -> Result<Mode, ParseError>
+    ensures { Gives (λ m. (mode_view m, levels_view levels.new.items)) result (machine.variant_named at (enum_view variants) (string_bytes name) (levels_view levels.old.items) b) }
+{
+    match b {
+        b'=' => {
+            levels.push(Level::InVariant(variants, name))?;
+            Ok(Mode::FormDue)
+        }
+        b'(' => {
+            let holder = Parens::TupleVariant(variants, name);
+            Ok(Mode::FirstPart(opened_tuple(alloc, holder)))
+        }
+        b'{' => {
+            let holder = Braces::StructVariant(variants, name);
+            Ok(Mode::FirstField(opened(alloc, holder)))
+        }
+        _ => variant_ended(
+            grown_enum(variants, name, VariantContent::Unit)?,
+            levels,
+            at,
+            b,
+        ),
     }
 }
 
@@ -277,6 +263,7 @@ fn named(
             }
             Err(ParseError::NotNotation(at))
         }
+        Owner::VariantOf(opened) => variant_named(alloc, opened, name, levels, at, b),
     }
 }
 
@@ -284,7 +271,7 @@ fn named(
 fn names_form(b: u8) -> bool
     ensures { result ≡ names_form b }
 {
-    matches!(b, b'=' | b'!' | b'{')
+    matches!(b, b'=' | b'!' | b'(' | b'{')
 }
 
 /// Behind a bare name.
@@ -310,6 +297,7 @@ fn word_ended(
             }
         }
         Owner::FieldOf(opened) => named(alloc, Owner::FieldOf(opened), name, levels, at, b),
+        Owner::VariantOf(opened) => named(alloc, Owner::VariantOf(opened), name, levels, at, b),
     }
 }
 
@@ -409,25 +397,16 @@ fn step(
         Mode::FormDue => form_due(alloc, levels, at, b),
         Mode::FirstField(opened) => first_field(alloc, opened, levels, at, b),
         Mode::FieldDue(opened) => field_due(alloc, opened, levels, at, b),
+        Mode::FirstPart(opened) => first_part(alloc, opened, levels, at, b),
+        Mode::FirstVariant(opened) => first_variant(alloc, opened, levels, at, b),
+        Mode::VariantDue(opened) => variant_due(alloc, opened, levels, at, b),
         Mode::Bare(owner, name) => bare_name(alloc, owner, name, levels, at, b),
         Mode::Quoted(owner, name) => quoted_name(owner, name, levels, at, b),
         Mode::Escape(owner, name) => escape(owner, name, levels, at, b),
         Mode::Named(owner, name) => named(alloc, owner, name, levels, at, b),
+        Mode::VariantDone(opened) => variant_ended(opened, levels, at, b),
         Mode::Done(shape) => form_ended(alloc, shape, levels, at, b),
     }
-}
-
-/// Behind a form that no further byte belongs to.
-fn no_more(
-    alloc: Global,
-    shape: Shape,
-    levels: &mut Vec<Level>,
-    at: usize,
-) -> Result<Mode, ParseError>
-    ensures { Gives (λ m. (mode_view m, levels_view levels.new.items)) result (machine.no_more at shape (levels_view levels.old.items)) }
-{
-    wrapped(alloc, shape, levels)?;
-    Err(ParseError::NotNotation(at))
 }
 
 /// A character that is not ASCII, at a place.
@@ -452,12 +431,7 @@ fn other_character(
             Some(leaf) => no_more(alloc, Shape::leaf(leaf), levels, at),
         },
         Mode::Done(shape) => no_more(alloc, shape, levels, at),
-        Mode::FormDue => Err(ParseError::NotNotation(at)),
-        Mode::FirstField(_) => Err(ParseError::NotNotation(at)),
-        Mode::FieldDue(_) => Err(ParseError::NotNotation(at)),
-        Mode::Bare(Owner::FieldOf(_), _) => Err(ParseError::NotNotation(at)),
-        Mode::Escape(_, _) => Err(ParseError::NotNotation(at)),
-        Mode::Named(_, _) => Err(ParseError::NotNotation(at)),
+        _ => Err(ParseError::NotNotation(at)),
     }
 }
 
@@ -489,22 +463,6 @@ fn read_characters(alloc: Global, text: &str, levels: &mut Vec<Level>) -> Result
         at += c.len_utf8();
     }
     Ok(mode)
-}
-
-/// The last form, which no other may be around.
-fn last(
-    alloc: Global,
-    shape: Shape,
-    levels: &mut Vec<Level>,
-    at: usize,
-) -> Result<Shape, ParseError>
-    ensures { Gives (λ s. s) result (machine.last at shape (levels_view levels.old.items)) }
-{
-    let Ended { shape, around } = wrapped(alloc, shape, levels)?;
-    match around {
-        None => Ok(shape),
-        Some(_) => Err(ParseError::NotNotation(at)),
-    }
 }
 
 /// The end of the text.

@@ -1,10 +1,12 @@
 // Writing the notation of a shape.
 ghost use Rattle.std.specs.Prelude.{◌≡◌, ◌++◌, ◌∷◌, [], IfOk, OnOk, string_bytes, encode_utf8};
+ghost use Rattle.bson_shape.specs.Form as form;
 ghost use Rattle.bson_shape.specs.Notation as notation;
+ghost use Rattle.bson_shape.specs.ShapeView.{fields_of, parts_of, variants_of, content_of};
 ghost use Rattle.bson_shape.specs.PrinterView.{comma_at};
 
 use crate::name::is_bare;
-use crate::{Form, Shape};
+use crate::{FieldShape, Form, Shape, VariantContent, VariantShape};
 use std::alloc::{AllocError, Global};
 
 /// Appends the name with a backslash before each quote and each backslash.
@@ -53,19 +55,36 @@ fn put_struct_name(out: &mut String, name: &str) -> Result<(), AllocError>
     put_name(out, name)
 }
 
-/// Appends the comma before a field, where one is due, its name and a colon.
-fn put_field_name(out: &mut String, i: usize, name: &str) -> Result<(), AllocError>
-    ensures { OnOk result (string_bytes out.new ≡ string_bytes out.old ++ (comma_at i ++ (notation.name_text name.now ++ notation.colon ∷ []))) }
+/// Appends the comma before each but the first of a list.
+fn put_comma(out: &mut String, i: usize) -> Result<(), AllocError>
+    ensures { OnOk result (string_bytes out.new ≡ string_bytes out.old ++ comma_at i) }
 {
     if i > 0 {
         out.push(',')?;
     }
+    Ok(())
+}
+
+/// Appends the comma before a field, where one is due, its name and a colon.
+fn put_field_name(out: &mut String, i: usize, name: &str) -> Result<(), AllocError>
+    ensures { OnOk result (string_bytes out.new ≡ string_bytes out.old ++ (comma_at i ++ (notation.name_text name.now ++ notation.colon ∷ []))) }
+{
+    put_comma(out, i)?;
     put_name(out, name)?;
     out.push(':')?;
     Ok(())
 }
 
+/// Appends the comma before a variant, where one is due, and its name.
+fn put_variant_name(out: &mut String, i: usize, name: &str) -> Result<(), AllocError>
+    ensures { OnOk result (string_bytes out.new ≡ string_bytes out.old ++ (comma_at i ++ notation.name_text name.now)) }
+{
+    put_comma(out, i)?;
+    put_name(out, name)
+}
+
 /// Appends the notation of a shape.
+#[cycle(put)]
 fn put(out: &mut String, shape: &Shape) -> Result<(), AllocError>
     ensures { OnOk result (string_bytes out.new ≡ string_bytes out.old ++ notation.text shape.now) }
 {
@@ -81,13 +100,11 @@ fn put(out: &mut String, shape: &Shape) -> Result<(), AllocError>
             out.push(']')?;
             Ok(())
         }
-        Form::Map(key, value) => {
-            out.push('[')?;
-            put(out, key)?;
-            out.push(':')?;
-            put(out, value)?;
-            out.push(']')?;
-            Ok(())
+        Form::Map(key, value) => put_map(out, key, value),
+        Form::Tuple(parts) => put_parts(out, parts),
+        Form::TupleStruct(name, parts) => {
+            put_name(out, name)?;
+            put_parts(out, parts)
         }
         Form::Newtype(name, inner) => {
             put_name(out, name)?;
@@ -101,14 +118,80 @@ fn put(out: &mut String, shape: &Shape) -> Result<(), AllocError>
         }
         Form::Struct(name, fields) => {
             put_struct_name(out, name)?;
-            out.push('{')?;
-            for (i, field) in fields.iter().enumerate() {
-                put_field_name(out, i, field.name.as_str())?;
-                put(out, &field.shape)?;
-            }
-            out.push('}')?;
-            Ok(())
+            put_fields(out, fields)
         }
+        Form::Enum(variants) => put_variants(out, variants),
+    }
+}
+
+/// Appends the key and the value of a map between brackets.
+#[cycle(put)]
+fn put_map(out: &mut String, key: &Shape, value: &Shape) -> Result<(), AllocError>
+    ensures { OnOk result (string_bytes out.new ≡ string_bytes out.old ++ notation.text (form.map key.now value.now)) }
+{
+    out.push('[')?;
+    put(out, key)?;
+    out.push(':')?;
+    put(out, value)?;
+    out.push(']')?;
+    Ok(())
+}
+
+/// Appends fields between braces.
+#[cycle(put)]
+fn put_fields(out: &mut String, fields: &[FieldShape]) -> Result<(), AllocError>
+    ensures { OnOk result (string_bytes out.new ≡ string_bytes out.old ++ notation.in_braces (notation.field_texts (fields_of fields.now))) }
+{
+    out.push('{')?;
+    for (i, field) in fields.iter().enumerate() {
+        put_field_name(out, i, field.name.as_str())?;
+        put(out, &field.shape)?;
+    }
+    out.push('}')?;
+    Ok(())
+}
+
+/// Appends parts between parentheses.
+#[cycle(put)]
+fn put_parts(out: &mut String, parts: &[Shape]) -> Result<(), AllocError>
+    ensures { OnOk result (string_bytes out.new ≡ string_bytes out.old ++ notation.in_parens (notation.part_texts (parts_of parts.now))) }
+{
+    out.push('(')?;
+    for (i, part) in parts.iter().enumerate() {
+        put_comma(out, i)?;
+        put(out, part)?;
+    }
+    out.push(')')?;
+    Ok(())
+}
+
+/// Appends variants between angle brackets.
+#[cycle(put)]
+fn put_variants(out: &mut String, variants: &[VariantShape]) -> Result<(), AllocError>
+    ensures { OnOk result (string_bytes out.new ≡ string_bytes out.old ++ notation.in_angles (notation.variant_texts (variants_of variants.now))) }
+{
+    out.push('<')?;
+    for (i, variant) in variants.iter().enumerate() {
+        put_variant_name(out, i, variant.name.as_str())?;
+        put_content(out, &variant.content)?;
+    }
+    out.push('>')?;
+    Ok(())
+}
+
+/// Appends what a variant has, behind its name.
+#[cycle(put)]
+fn put_content(out: &mut String, content: &VariantContent) -> Result<(), AllocError>
+    ensures { OnOk result (string_bytes out.new ≡ string_bytes out.old ++ notation.content_text (content_of content.now)) }
+{
+    match content {
+        VariantContent::Unit => Ok(()),
+        VariantContent::Newtype(shape) => {
+            out.push('=')?;
+            put(out, shape)
+        }
+        VariantContent::Tuple(parts) => put_parts(out, parts),
+        VariantContent::Struct(fields) => put_fields(out, fields),
     }
 }
 

@@ -1,10 +1,10 @@
-ghost use Rattle.std.specs.Prelude.{◌≡◌, ◌≤◌, string_bytes};
+ghost use Rattle.std.specs.Prelude.{◌≡◌, ◌≤◌, false, string_bytes};
 ghost use Rattle.bson_shape.specs.Form as form;
-ghost use Rattle.bson_shape.specs.Levels.{levels, deepest, max_shape_levels};
-ghost use Rattle.bson_shape.specs.Makers.{IsShape, AreShapes, Makes, is_text_key, made_optional, made_sequence, made_map, made_newtype, made_structure};
-ghost use Rattle.bson_shape.specs.ShapeView.{fields_of, form_view};
+ghost use Rattle.bson_shape.specs.Levels.{levels, deepest, deepest_part, deepest_variant, deepest_inside, max_shape_levels};
+ghost use Rattle.bson_shape.specs.Makers.{IsShape, AreShapes, AreParts, AreVariants, IsContent, Makes, is_text_key, is_unit, are_units, contents_repeat, content_repeats, made_optional, made_sequence, made_map, made_tuple, made_tuple_structure, made_newtype, made_structure, made_enumeration};
+ghost use Rattle.bson_shape.specs.ShapeView.{fields_of, parts_of, variants_of, content_of, form_view};
 
-use crate::distinct::has_repeated_name;
+use crate::distinct::{has_repeated_field, has_repeated_variant};
 use crate::name::is_reserved_newtype;
 use crate::{Form, Leaf, ShapeError};
 use bson_base::reserved_kind;
@@ -16,8 +16,8 @@ const MAX_LEVELS: u16 = 512;
 
 /// What a value has to look like to be read.
 ///
-/// A shape is made by the makers below alone, so that no struct and no newtype in it has a reserved name, no struct has
-/// two fields of one name, each key of a map is a text, and it has at most 512 levels. Contracts see a shape as its form.
+/// A shape is made by the makers below alone, so that no struct and no newtype in it has a reserved name, no struct, no
+/// struct variant and no enum has two fields or variants of one name, each key of a map is a text, and it has at most 512 levels. Contracts see a shape as its form.
 #[cycle(shape)]
 #[derive(Debug, Drop)]
 pub struct Shape {
@@ -32,9 +32,12 @@ enum Node {
     Option(Box<Shape>),
     Seq(Box<Shape>),
     Map(Box<Shape>, Box<Shape>),
+    Tuple(Vec<Shape>),
+    TupleStruct(String, Vec<Shape>),
     Newtype(String, Box<Shape>),
     UnitStruct(String),
     Struct(String, Vec<FieldShape>),
+    Enum(Vec<VariantShape>),
 }
 
 /// A field of a struct.
@@ -45,6 +48,30 @@ pub struct FieldShape {
     pub name: String,
     /// What its value has to look like.
     pub shape: Shape,
+}
+
+/// A variant of an enum.
+#[cycle(shape)]
+#[derive(Debug, Drop, PartialEq)]
+pub struct VariantShape {
+    /// The name that tells the variant.
+    pub name: String,
+    /// What it has beside its name.
+    pub content: VariantContent,
+}
+
+/// What a variant has beside its name.
+#[cycle(shape)]
+#[derive(Debug, Drop, PartialEq)]
+pub enum VariantContent {
+    /// Nothing.
+    Unit,
+    /// A value of this shape.
+    Newtype(Shape),
+    /// A tuple of parts of these shapes.
+    Tuple(Vec<Shape>),
+    /// Fields, in order.
+    Struct(Vec<FieldShape>),
 }
 
 impl Model for Shape {
@@ -243,8 +270,9 @@ impl Shape {
 
     /// A map whose keys and values have these shapes.
     ///
-    /// The refusals, of which the first that applies is answered: `KeyNotText` where the key is neither `str`, `string`
-    /// nor `char`, `TooDeep` where the map would have more than 512 levels, `NoMemory` where memory runs out.
+    /// The refusals, of which the first that applies is answered: `KeyNotText` where the key is neither `str`, `string`,
+    /// `char` nor an enum whose variants are all units, `TooDeep` where the map would have more than 512 levels,
+    /// `NoMemory` where memory runs out.
     pub fn map(alloc: Global, key: Shape, value: Shape) -> Result<Shape, ShapeError>
         ensures made { Makes result (made_map key value) }
     {
@@ -258,6 +286,38 @@ impl Shape {
         Ok(Shape {
             level_count: deeper + 1,
             node: Node::Map(Box::new(alloc, key)?, Box::new(alloc, value)?),
+        })
+    }
+
+    /// A tuple of parts of these shapes, in this order.
+    ///
+    /// It is refused with `TooDeep` where it would have more than 512 levels.
+    pub fn tuple(items: Vec<Shape>) -> Result<Shape, ShapeError>
+        ensures made { result ≡ made_tuple (parts_of items.items) }
+    {
+        let inner_levels = deepest_part(&items);
+        if inner_levels >= MAX_LEVELS {
+            return Err(ShapeError::TooDeep);
+        }
+        Ok(Shape {
+            level_count: inner_levels + 1,
+            node: Node::Tuple(items),
+        })
+    }
+
+    /// A tuple struct of this name, of parts of these shapes, in this order.
+    ///
+    /// It is refused with `TooDeep` where it would have more than 512 levels.
+    pub fn tuple_struct(name: String, items: Vec<Shape>) -> Result<Shape, ShapeError>
+        ensures made { result ≡ made_tuple_structure (string_bytes name) (parts_of items.items) }
+    {
+        let inner_levels = deepest_part(&items);
+        if inner_levels >= MAX_LEVELS {
+            return Err(ShapeError::TooDeep);
+        }
+        Ok(Shape {
+            level_count: inner_levels + 1,
+            node: Node::TupleStruct(name, items),
         })
     }
 
@@ -303,7 +363,7 @@ impl Shape {
         if reserved_kind(name.as_str()).is_some() {
             return Err(ShapeError::ReservedName);
         }
-        if has_repeated_name(&fields) {
+        if has_repeated_field(&fields) {
             return Err(ShapeError::RepeatedName);
         }
         let levels = deepest(&fields);
@@ -316,6 +376,26 @@ impl Shape {
         })
     }
 
+    /// An enum with these variants in this order.
+    ///
+    /// The refusals, of which the first that applies is answered: `RepeatedName` where two variants have one name, or
+    /// two fields of one struct variant, `TooDeep` where the enum would have more than 512 levels.
+    pub fn enumeration(variants: Vec<VariantShape>) -> Result<Shape, ShapeError>
+        ensures made { result ≡ made_enumeration (variants_of variants.items) }
+    {
+        if has_repeated_variant(&variants) {
+            return Err(ShapeError::RepeatedName);
+        }
+        let inner_levels = deepest_variant(&variants);
+        if inner_levels >= MAX_LEVELS {
+            return Err(ShapeError::TooDeep);
+        }
+        Ok(Shape {
+            level_count: inner_levels + 1,
+            node: Node::Enum(variants),
+        })
+    }
+
     /// The form, to match on.
     pub fn form(&self) -> Form<'_>
         ensures form { form_view result ≡ self.now }
@@ -325,9 +405,12 @@ impl Shape {
             Node::Option(inner) => Form::Option(inner),
             Node::Seq(item) => Form::Seq(item),
             Node::Map(key, value) => Form::Map(key, value),
+            Node::Tuple(items) => Form::Tuple(items.as_slice()),
+            Node::TupleStruct(name, items) => Form::TupleStruct(name.as_str(), items.as_slice()),
             Node::Newtype(name, inner) => Form::Newtype(name.as_str(), inner),
             Node::UnitStruct(name) => Form::UnitStruct(name.as_str()),
             Node::Struct(name, fields) => Form::Struct(name.as_str(), fields.as_slice()),
+            Node::Enum(variants) => Form::Enum(variants.as_slice()),
         }
     }
 
@@ -354,7 +437,69 @@ fn is_text_key(key: &Shape) -> bool
 {
     match key.form() {
         Form::Leaf(leaf) => leaf.is_text(),
+        Form::Enum(variants) => are_units(variants),
         _ => false,
+    }
+}
+
+/// Whether no variant has more than its name.
+fn are_units(variants: &[VariantShape]) -> bool
+    ensures { result ≡ are_units (variants_of variants.now) }
+{
+    for variant in variants {
+        if !is_unit(&variant.content) {
+            return false;
+        }
+    }
+    true
+}
+
+/// Whether a variant with this content has its name alone.
+fn is_unit(content: &VariantContent) -> bool
+    ensures { result ≡ is_unit (content_of content.now) }
+{
+    matches!(content, VariantContent::Unit)
+}
+
+/// The levels of the deepest of the parts, 0 where there is none.
+fn deepest_part(parts: &[Shape]) -> u16
+    ensures levels { result ≡ deepest_part (parts_of parts.now) }
+    ensures few { result ≤ max_shape_levels }
+    ensures shapes { AreParts (parts_of parts.now) }
+{
+    let mut levels = 0;
+    for part in parts {
+        levels = part.levels().max(levels);
+    }
+    levels
+}
+
+/// The levels of the deepest form in the variants, 0 where there is none.
+fn deepest_variant(variants: &[VariantShape]) -> u16
+    requires { contents_repeat (variants_of variants.now) ≡ false }
+    ensures levels { result ≡ deepest_variant (variants_of variants.now) }
+    ensures few { result ≤ max_shape_levels }
+    ensures shapes { AreVariants (variants_of variants.now) }
+{
+    let mut levels = 0;
+    for variant in variants {
+        levels = deepest_inside(&variant.content).max(levels);
+    }
+    levels
+}
+
+/// The levels of the deepest form in what a variant has, 0 where there is none.
+fn deepest_inside(content: &VariantContent) -> u16
+    requires { content_repeats (content_of content.now) ≡ false }
+    ensures levels { result ≡ deepest_inside (content_of content.now) }
+    ensures few { result ≤ max_shape_levels }
+    ensures shapes { IsContent (content_of content.now) }
+{
+    match content {
+        VariantContent::Unit => 0,
+        VariantContent::Newtype(shape) => shape.levels(),
+        VariantContent::Tuple(parts) => deepest_part(parts),
+        VariantContent::Struct(fields) => deepest(fields),
     }
 }
 

@@ -49,6 +49,19 @@ fn reads_what_it_prints(rt: HostRuntime) -> Result<(), Fail> {
         "[{a:[[string]],b:u8}]",
         "[string:i32]",
         "{a:[char:[str:?any]],b:[[string:ignored]]}",
+        "()",
+        "(i32)",
+        "T()",
+        "\"\"((),?(str))",
+        "(T(i32,u8),[string:any],\"a b\"(N!))",
+        "<>",
+        "<A>",
+        "<A,B,a_1>",
+        "<N=?i32,A,T(i32,str),U(),S{f:i32,g:<A>},E{}>",
+        "<\"\",\"a b\"=str,\"é\"(i32),\"$oid\"{\"$oid\":i32}>",
+        "<\"\"{a:i32}>",
+        "<A=<B=(i32,<C(<>)>)>>",
+        "[<A,B>:[<>:i32]]",
         "??i32",
         "N!",
         "\"\"!",
@@ -89,6 +102,32 @@ fn refuses_what_is_no_notation(rt: HostRuntime) -> Result<(), Fail> {
         ("[i32:i32", 8),
         ("[a:i32]", 2),
         ("{i:i32:", 6),
+        ("(", 1),
+        ("(,", 1),
+        ("(i32", 4),
+        ("(i32,)", 5),
+        ("(i32}", 4),
+        ("()(", 2),
+        ("i32(", 4),
+        ("i32(i32", 7),
+        ("<", 1),
+        ("<,", 1),
+        ("<{", 1),
+        ("<A", 2),
+        ("<A,>", 3),
+        ("<A!", 2),
+        ("<A:", 2),
+        ("<A}", 2),
+        ("<A>>", 3),
+        ("<A=>", 3),
+        ("<\"A\">", 3),
+        ("<A(i32)=", 7),
+        ("<A{a:i32}(", 9),
+        ("<A(i32", 6),
+        ("<A=i32", 6),
+        ("<S{a:i32,a:i32}", 15),
+        ("<S{a:i32,a:i32}]", 15),
+        ("[<A=i32>:i32", 12),
         ("{i:i32]", 6),
         ("[i32]]", 5),
         ("{\"i\":i32}", 3),
@@ -125,6 +164,13 @@ fn refuses_what_a_maker_refuses(rt: HostRuntime) -> Result<(), Fail> {
         ("{a:N{b:i32,b:i32}?", 3),
         ("[{b:i32,b:i32}?", 1),
         ("[i32:{b:i32,b:i32}]", 5),
+        ("<A,A>", 0),
+        ("<A,B,A=i32>]", 0),
+        ("<S{a:i32,a:i32}>", 0),
+        ("(i32,<A,S{a:i32,a:i32},T(i32)>", 5),
+        ("<A={b:i32,b:i32}", 3),
+        ("<A(i32,{b:i32,b:i32}", 7),
+        ("[<A,A=i32>:i32]", 1),
         ("\"$__bson_private_uuid\"={a:i32,a:i32}", 23),
     ] {
         let refusal = Shape::parse(alloc, text).err();
@@ -138,6 +184,8 @@ fn refuses_what_a_maker_refuses(rt: HostRuntime) -> Result<(), Fail> {
         ("{a:[[string]:i32]", 3),
         ("[[bool:i32]:{a:i32,a:i32}]", 1),
         ("[string:?[?str:i32]é", 9),
+        ("[<A,B=i32>:i32]", 0),
+        ("(<A>,[():i32]", 5),
     ] {
         let refusal = Shape::parse(alloc, text).err();
         assert_eq!(rt;
@@ -154,6 +202,8 @@ fn refuses_what_a_maker_refuses(rt: HostRuntime) -> Result<(), Fail> {
         ("{a:\"$__bson_private_utf8_lossy\"=i32", 3),
         ("[?\"$__bson_private_human_readable\"=[i32]", 2),
         ("M=\"$__bson_private_uuid\"={a:i32}x", 2),
+        ("(i32,\"$oid\"{}", 5),
+        ("<A=\"$__bson_private_uuid\"=i32>", 3),
     ] {
         let refusal = Shape::parse(alloc, text).err();
         assert_eq!(rt;
@@ -174,6 +224,20 @@ fn refuses_what_a_maker_refuses(rt: HostRuntime) -> Result<(), Fail> {
     assert_eq!(rt;
         refusal,
         Some(ParseError::Refused(512, ShapeError::TooDeep))
+    );
+    let tuples = format!(in alloc; "{}{}", "(".repeat(alloc, 512)?, ")".repeat(alloc, 512)?)?;
+    assert!(rt; Shape::parse(alloc, tuples.as_str()).is_ok());
+    let tuples = "T(".repeat(alloc, 513)?;
+    let refusal = Shape::parse(alloc, tuples.as_str()).err();
+    assert_eq!(rt;
+        refusal,
+        Some(ParseError::Refused(1024, ShapeError::TooDeep))
+    );
+    let enums = format!(in alloc; "{}i32", "<A=".repeat(alloc, 512)?)?;
+    let refusal = Shape::parse(alloc, enums.as_str()).err();
+    assert_eq!(rt;
+        refusal,
+        Some(ParseError::Refused(1536, ShapeError::TooDeep))
     );
     let deepest = nested(alloc, 512)?;
     assert!(rt; Shape::parse(alloc, deepest.as_str()).is_ok());

@@ -1,5 +1,5 @@
 // What no clause says: that the makers make a shape of input that a person would give, and what the refusals print.
-use crate::{FieldShape, Form, Leaf, ParseError, Shape, ShapeError};
+use crate::{FieldShape, Form, Leaf, ParseError, Shape, ShapeError, VariantContent, VariantShape};
 use std::alloc::{AllocError, Global};
 use std::test::Fail;
 
@@ -22,6 +22,30 @@ fn numbers(
         shapes.push(number(alloc, field)?)?;
     }
     Ok(Shape::structure(String::from_str(alloc, name)?, shapes))
+}
+
+/// An enum of unit variants with these names.
+fn units(alloc: Global, names: &[&str]) -> Result<Result<Shape, ShapeError>, AllocError> {
+    let mut variants = Vec::new(alloc);
+    for name in names {
+        variants.push(VariantShape {
+            name: String::from_str(alloc, name)?,
+            content: VariantContent::Unit,
+        })?;
+    }
+    Ok(Shape::enumeration(variants))
+}
+
+/// A struct variant `S` with such fields.
+fn struct_variant(alloc: Global, fields: &[&str]) -> Result<VariantShape, AllocError> {
+    let mut shapes = Vec::new(alloc);
+    for field in fields {
+        shapes.push(number(alloc, field)?)?;
+    }
+    Ok(VariantShape {
+        name: String::from_str(alloc, "S")?,
+        content: VariantContent::Struct(shapes),
+    })
 }
 
 /// A shape of this many levels: structs of one field around an `i32`.
@@ -84,6 +108,62 @@ fn makes_shapes(rt: HostRuntime) -> Result<(), Fail> {
 }
 
 #[test]
+fn makes_tuples(rt: HostRuntime) -> Result<(), Fail> {
+    let alloc = rt.alloc();
+    let pair = Shape::tuple(vec![in alloc; Shape::i32(), Shape::str()]?)?;
+    let Form::Tuple(parts) = pair.form() else {
+        return Err(Fail::from("no tuple"));
+    };
+    let Some(second) = parts.get(1) else {
+        return Err(Fail::from("no second part"));
+    };
+    assert!(rt; *second == Shape::str());
+    assert_eq!(rt; pair.print(alloc)?.as_str(), "(i32,str)");
+    let name = String::from_str(alloc, "T")?;
+    let named = Shape::tuple_struct(name, vec![in alloc; Shape::i32(), Shape::str()]?)?;
+    let Form::TupleStruct("T", parts) = named.form() else {
+        return Err(Fail::from("no tuple struct"));
+    };
+    assert_eq!(rt; parts.len(), 2);
+    assert!(rt; named != pair);
+    Ok(())
+}
+
+#[test]
+fn makes_enums(rt: HostRuntime) -> Result<(), Fail> {
+    let alloc = rt.alloc();
+    let newtype = VariantShape {
+        name: String::from_str(alloc, "N")?,
+        content: VariantContent::Newtype(Shape::i32()),
+    };
+    let tuple = VariantShape {
+        name: String::from_str(alloc, "T")?,
+        content: VariantContent::Tuple(vec![in alloc; Shape::u8()]?),
+    };
+    let variants = vec![in alloc; newtype, tuple, struct_variant(alloc, &["a", "b"])?]?;
+    let choice = Shape::enumeration(variants)?;
+    let Form::Enum(variants) = choice.form() else {
+        return Err(Fail::from("no enum"));
+    };
+    let Some(last) = variants.last() else {
+        return Err(Fail::from("no variant"));
+    };
+    assert!(rt; *last == struct_variant(alloc, &["a", "b"])?);
+    assert!(rt; *last != struct_variant(alloc, &["a", "c"])?);
+    assert_eq!(rt;
+        choice.print(alloc)?.as_str(),
+        "<N=i32,T(u8),S{a:i32,b:i32}>"
+    );
+    assert!(rt; Shape::map(alloc, units(alloc, &["A", "B"])??, Shape::i32()).is_ok());
+    assert!(rt; Shape::map(alloc, units(alloc, &[])??, Shape::i32()).is_ok());
+    assert_eq!(rt;
+        Shape::map(alloc, choice, Shape::i32()).err(),
+        Some(ShapeError::KeyNotText)
+    );
+    Ok(())
+}
+
+#[test]
 fn refuses_shapes(rt: HostRuntime) -> Result<(), Fail> {
     let alloc = rt.alloc();
     assert_eq!(rt;
@@ -116,6 +196,28 @@ fn refuses_shapes(rt: HostRuntime) -> Result<(), Fail> {
     );
     assert_eq!(rt;
         Shape::map(alloc, Shape::char(), nested(alloc, 512)??).err(),
+        Some(ShapeError::TooDeep)
+    );
+    assert!(rt; units(alloc, &twenty)?.is_ok());
+    assert_eq!(rt; units(alloc, &twice)?.err(), Some(ShapeError::RepeatedName));
+    let repeated = vec![in alloc; struct_variant(alloc, &["a", "a"])?]?;
+    assert_eq!(rt;
+        Shape::enumeration(repeated).err(),
+        Some(ShapeError::RepeatedName)
+    );
+    let deepest = vec![in alloc; Shape::i32(), nested(alloc, 512)??]?;
+    assert_eq!(rt; Shape::tuple(deepest).err(), Some(ShapeError::TooDeep));
+    let deepest = vec![in alloc; nested(alloc, 512)??]?;
+    assert_eq!(rt;
+        Shape::tuple_struct(String::new(alloc), deepest).err(),
+        Some(ShapeError::TooDeep)
+    );
+    let deepest = VariantShape {
+        name: String::new(alloc),
+        content: VariantContent::Newtype(nested(alloc, 512)??),
+    };
+    assert_eq!(rt;
+        Shape::enumeration(vec![in alloc; deepest]?).err(),
         Some(ShapeError::TooDeep)
     );
     assert!(rt; Shape::seq(alloc, nested(alloc, 511)??).is_ok());

@@ -1,11 +1,34 @@
-use Rattle.std.proofs.Common.{◌≡◌, ◌++◌, take, string_bytes}
-use Rattle.bson_shape.specs.ShapeView.{fields_of}
-use Rattle.bson_shape.specs.Notation.{listed, field_texts}
+use Rattle.std.proofs.Common.{◌≡◌, ◌+◌, ◌*◌, ◌++◌, map, take, string_bytes}
+use Rattle.bson_shape.specs.ShapeView.{fields_of, parts_of, variants_of, content_of, nodes, fields_nodes, parts_nodes, variants_nodes, content_nodes}
+use Rattle.bson_shape.specs.Notation.{listed, text}
+use Rattle.bson_shape.proofs.Printed.{field_shown, variant_shown}
 use Rattle.bson_shape.proofs.printer.+put.Given as goal
 
+-- what a variant has counts once more than the list in it
 abbrev pub decreases-put : goal.decreases-put
-decreases-put l = goal.size-put l
+decreases-put l = 2 * nodes l.shape.now
 
--- the fields so far are written
-abbrev pub invariant-loop-i : goal.invariant-loop-i
-invariant-loop-i l = string_bytes l.out ≡ string_bytes l.initial.out ++ listed (field_texts (fields_of (take l.i l.fields)))
+abbrev pub decreases-put_map : goal.decreases-put_map
+decreases-put_map l = 2 * (nodes l.key.now + nodes l.value.now) + 1
+
+abbrev pub decreases-put_fields : goal.decreases-put_fields
+decreases-put_fields l = 2 * fields_nodes (fields_of l.fields.now)
+
+abbrev pub decreases-put_parts : goal.decreases-put_parts
+decreases-put_parts l = 2 * parts_nodes (parts_of l.parts.now)
+
+abbrev pub decreases-put_variants : goal.decreases-put_variants
+decreases-put_variants l = 2 * variants_nodes (variants_of l.variants.now)
+
+abbrev pub decreases-put_content : goal.decreases-put_content
+decreases-put_content l = 2 * content_nodes (content_of l.content.now) + 1
+
+-- those so far are written
+abbrev pub invariant-put_fields-loop-i : goal.invariant-put_fields-loop-i
+invariant-put_fields-loop-i l = string_bytes l.out ≡ string_bytes l.initial.out ++ listed (map field_shown (take l.i l.fields))
+
+abbrev pub invariant-put_parts-loop-i : goal.invariant-put_parts-loop-i
+invariant-put_parts-loop-i l = string_bytes l.out ≡ string_bytes l.initial.out ++ listed (map text (take l.i l.parts))
+
+abbrev pub invariant-put_variants-loop-i : goal.invariant-put_variants-loop-i
+invariant-put_variants-loop-i l = string_bytes l.out ≡ string_bytes l.initial.out ++ listed (map variant_shown (take l.i l.variants))

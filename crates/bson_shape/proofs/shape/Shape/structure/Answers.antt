@@ -15,4 +15,4 @@ invariant_of-result c =
     let kind : c.reserved_kind.result ≡ reserved_kind name = c.reserved_kind.ensures.kind ∙ ap reserved_kind c.as_str.ensures.value in
     let free : is_some (reserved_kind name) ≡ false = ap is_some (sym kind) ∙ sym c.is_some.ensures ∙ c.if-is_some.false in
     let count : c.deepest-levels.result ≡ deepest fs = c.deepest-levels.ensures.levels ∙ ap deepest same in
-    (omega arith, structure_passed name fs (is_utf8-from_IsUtf8 _ (IsUtf8-had _ c.args.name.ok)) free (sym c.has_repeated_name.ensures ∙ c.if-has_repeated_name.false) (omega arith) (subst AreShapes same c.deepest-levels.ensures.shapes))
+    (omega arith, structure_passed name fs (is_utf8-from_IsUtf8 _ (IsUtf8-had _ c.args.name.ok)) free (sym c.has_repeated_field.ensures ∙ c.if-has_repeated_field.false) (omega arith) (subst AreShapes same c.deepest-levels.ensures.shapes))
