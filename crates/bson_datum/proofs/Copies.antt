@@ -1,24 +1,21 @@
 -- Copies of the parts of a datum, item by item.
-use Rattle.std.proofs.Common.{◌≡◌, ℕ, ◌≤◌, List, [], ◌∷◌, ◌++◌, Option, None, map, length, take, refl, ap, sym, ◌∙◌}
+use Rattle.std.proofs.Common.{◌≡◌, ℕ, ◌≤◌, List, [], ◌∷◌, ◌++◌, Option, None, Result, map, length, take, refl, ap, sym, subst, ◌∙◌}
+use Rattle.std.specs.Prelude.{IfOk}
 use Rattle.std.proofs.lemmas.List.{map-id, take_all}
 use Rattle.std.proofs.lemmas.Iterator.Adapters.{YieldsList-from_vec}
 use Rattle.std.proofs.lemmas.Iterator.Consumers.{YieldsList-end}
-use Rattle.std.specs.Global.{Global, Vec}
+use Rattle.std.specs.Global.{Global}
 use Rattle.std.specs.Iterator.{Yields}
 use Rattle.std.specs.Vec.Iter.{into_iter_items, into_iter_len, into_iter_steps}
 use Rattle.std.specs.declared.vec.IntoIter.{IntoIter}
 use Rattle.std.specs.List.{flat_map}
 use Rattle.bson_base.specs.Text.{Utf8}
 use Rattle.bson_datum.specs.TextView.{text_view}
-use Rattle.bson_datum.specs.Value.{Value, structure, Items, no_items, item, Entries, no_entries, entry, FieldValues, no_field_values, field_value}
+use Rattle.bson_datum.specs.Value.{Value, Items, no_items, item, Entries, no_entries, entry, FieldValues, no_field_values, field_value}
 use Rattle.bson_datum.specs.View.{view, items_view, entry_view, entries_view, field_view, fields_view}
-use Rattle.bson_datum.specs.Loans.{text_lent, loans, fields_loans}
-use Rattle.bson_datum.specs.declared.text.Text.{Text}
 use Rattle.bson_datum.specs.declared.datum.Entry.{Entry}
 use Rattle.bson_datum.specs.declared.datum.Field.{Field}
-use Rattle.bson_datum.specs.declared.datum.Datum.{Datum, Struct}
-use Rattle.bson_datum.proofs.Views.{view-Struct}
-use Rattle.bson_datum.proofs.Lent.{rows_lent}
+use Rattle.bson_datum.specs.declared.datum.Datum.{Datum}
 
 abbrev items_of : List Value → Items
 items_of [] = no_items
@@ -72,20 +69,9 @@ same_parts f cs xs e = flat_map-map f cs ∙ ap joined e ∙ sym (flat_map-map f
 pub seen_all : {X A : Type 0} (f : X → A) (seen : List A) (xs : List X) (i : ℕ) → length xs ≤ i → seen ≡ map f (take i xs) → seen ≡ map f xs
 seen_all f seen xs i le e = e ∙ ap (map f) (take_all i xs le)
 
--- a struct of a name and fields that are those of another
-pub struct_copied : (d : Datum) (n m : Text) (fs gs : Vec Field) (xs : List Field) → d ≡ Struct n fs → xs ≡ fs.items → text_view m ≡ text_view n → fields_view gs.items ≡ fields_view xs
-    → view (Struct m gs) ≡ view d
-struct_copied d n m fs gs xs is lent named same =
-    view-Struct m gs ∙ (λ i. structure (named i) ((same ∙ ap fields_view lent) i)) ∙ sym (ap view is ∙ view-Struct n fs)
-
-loans-Struct : (n : Text) (fs : Vec Field) → loans (Struct n fs) ≡ text_lent n ∷ fields_loans fs.items
-loans-Struct n fs = ap (λ l. text_lent n ∷ l) (rows_lent fs)
-
--- a struct whose name and fields are lent where those of another are
-pub struct_copied_lent : (d : Datum) (n m : Text) (fs gs : Vec Field) (xs : List Field) → d ≡ Struct n fs → xs ≡ fs.items → text_lent m ≡ text_lent n → fields_loans gs.items ≡ fields_loans xs
-    → loans (Struct m gs) ≡ loans d
-struct_copied_lent d n m fs gs xs is lent named same =
-    loans-Struct m gs ∙ (λ i. named i ∷ (same ∙ ap fields_loans lent) i) ∙ sym (ap loans is ∙ loans-Struct n fs)
+-- a result that is told of the parts of a datum, as they are lent, is told of the datum
+pub told_of : {A V E : Type 0} (g : Datum → V) (f : List A → V) (d e : Datum) (xs ys : List A) (r : Result Datum E) → d ≡ e → xs ≡ ys → g e ≡ f ys → IfOk r (λ x. g x ≡ f xs) → IfOk r (λ x. g x ≡ g d)
+told_of g f d e xs ys r is lent told ok = subst (λ v. IfOk r (λ x. g x ≡ v)) (ap f lent ∙ sym (ap g is ∙ told)) ok
 
 -- the items that a `for` over a `Vec` has yielded when none is left
 pub all_yielded : {A : Type 0} (xs ys : List A) (s t u : IntoIter A Global) (r : Option A) → into_iter_items s ≡ xs → into_iter_len s ≡ length xs → Yields into_iter_steps s ys t → r ≡ None → into_iter_steps t r u → ys ≡ xs

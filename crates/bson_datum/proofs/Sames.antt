@@ -2,14 +2,12 @@
 use Rattle.std.proofs.Common.{◌≡◌, ◌↔◌, IsTrue, ℕ, Bool, true, false, List, [], ◌∷◌, map, length, drop, refl, ap, sym, ◌∙◌, arith}
 use Rattle.std.specs.Prelude.{◌&&◌}
 use Rattle.std.specs.Bool.{Decides}
-use Rattle.std.specs.Str.{bytes_eq}
-use Rattle.std.specs.Global.{Vec}
+use Rattle.std.specs.Global.{Box, Vec}
 use Rattle.std.specs.Cmp.Lexicographic.{pointwise}
 use Rattle.std.proofs.lemmas.Bool.{and_right}
 use Rattle.bson_base.specs.Text.{Utf8}
 use Rattle.bson_datum.specs.Value as value
-use Rattle.bson_datum.specs.Value.{Items, Entries, FieldValues, sequence, structure}
-use Rattle.bson_datum.specs.TextView.{text_view}
+use Rattle.bson_datum.specs.Value.{Value, Items, Entries, FieldValues, newtype, newtype_variant, sequence, tuple, tuple_structure, tuple_variant, structure, structure_variant}
 use Rattle.bson_datum.specs.PathView.{segment_view}
 use Rattle.bson_datum.specs.View.{view, items_view, entries_view, fields_view}
 use Rattle.bson_datum.specs.Same.{same, same_items, same_entries, same_fields, same_segment, same_path}
@@ -17,9 +15,8 @@ use Rattle.bson_datum.specs.declared.text.Text.{Text}
 use Rattle.bson_datum.specs.declared.path.Segment.{Segment}
 use Rattle.bson_datum.specs.declared.datum.Entry.{Entry}
 use Rattle.bson_datum.specs.declared.datum.Field.{Field}
-use Rattle.bson_datum.specs.declared.datum.Datum.{Datum, Seq, Seq', Map, Map', Struct, Struct'}
-use Rattle.bson_datum.specs.declared.datum.Datum.TheViews.{roll-Datum, roll-out-Datum, rolls-Seq, outs-Seq', rolls-Map, outs-Map', rolls-Struct, outs-Struct'}
-use Rattle.bson_datum.proofs.Views.{view-Struct}
+use Rattle.bson_datum.specs.declared.datum.Datum.{Datum, NewtypeStruct, NewtypeStruct', NewtypeVariant, NewtypeVariant', Seq, Seq', Tuple, Tuple', TupleStruct, TupleStruct', TupleVariant, TupleVariant', Map, Map', Struct, Struct', StructVariant, StructVariant'}
+use Rattle.bson_datum.specs.declared.datum.Datum.TheViews.{roll-Datum, roll-out-Datum, rolls-NewtypeStruct, outs-NewtypeStruct', rolls-NewtypeVariant, outs-NewtypeVariant', rolls-Seq, outs-Seq', rolls-Tuple, outs-Tuple', rolls-TupleStruct, outs-TupleStruct', rolls-TupleVariant, outs-TupleVariant', rolls-Map, outs-Map', rolls-Struct, outs-Struct', rolls-StructVariant, outs-StructVariant'}
 
 -- what a test that decides a fact answers says of the fact
 pub exactly : {P : Type 0} (r test : Bool) → r ≡ test → Decides test P → IsTrue r ↔ P
@@ -62,26 +59,62 @@ same_fields-lengths [] (g ∷ gs) h = refl
 same_fields-lengths (f ∷ fs) [] h = refl
 same_fields-lengths (f ∷ fs) (g ∷ gs) h = and_right _ _ (same_fields-lengths fs gs (λ e. h (omega arith)))
 
+-- a newtype and a datum that is none
+pub unlike_newtype : (n : Utf8) (v : Value) (d : Datum) → ((m : Text) (b : Box Datum) → d ≡ NewtypeStruct m b → ⊥) → false ≡ same (newtype n v) (view d)
+unlike_newtype n v (NewtypeStruct' m p w) none = absurd (none m _ (sym (roll-out-Datum (NewtypeStruct' m p w)) ∙ ap roll-Datum (outs-NewtypeStruct' m p w) ∙ rolls-NewtypeStruct m _))
+unlike_newtype n v d none = refl
+
+-- a variant around one value and a datum that is none
+pub unlike_newtype_variant : (n : Utf8) (v : Value) (d : Datum) → ((m : Text) (b : Box Datum) → d ≡ NewtypeVariant m b → ⊥) → false ≡ same (newtype_variant n v) (view d)
+unlike_newtype_variant n v (NewtypeVariant' m p w) none = absurd (none m _ (sym (roll-out-Datum (NewtypeVariant' m p w)) ∙ ap roll-Datum (outs-NewtypeVariant' m p w) ∙ rolls-NewtypeVariant m _))
+unlike_newtype_variant n v d none = refl
+
 -- a sequence and a datum that is none
-pub unlike_sequence : (is : Items) (d : Datum) → ((ds : Vec Datum) → d ≡ Seq ds → ⊥) → false ≡ same (sequence is) (view d)
+pub unlike_sequence : (is : Items) (d : Datum) → ((xs : Vec Datum) → d ≡ Seq xs → ⊥) → false ≡ same (sequence is) (view d)
 unlike_sequence is (Seq' shape rows) none = absurd (none _ (sym (roll-out-Datum (Seq' shape rows)) ∙ ap roll-Datum (outs-Seq' shape rows) ∙ rolls-Seq _))
 unlike_sequence is d none = refl
 
+-- a tuple and a datum that is none
+pub unlike_tuple : (is : Items) (d : Datum) → ((xs : Vec Datum) → d ≡ Tuple xs → ⊥) → false ≡ same (tuple is) (view d)
+unlike_tuple is (Tuple' shape rows) none = absurd (none _ (sym (roll-out-Datum (Tuple' shape rows)) ∙ ap roll-Datum (outs-Tuple' shape rows) ∙ rolls-Tuple _))
+unlike_tuple is d none = refl
+
+-- a tuple struct and a datum that is none
+pub unlike_tuple_struct : (n : Utf8) (is : Items) (d : Datum) → ((m : Text) (xs : Vec Datum) → d ≡ TupleStruct m xs → ⊥) → false ≡ same (tuple_structure n is) (view d)
+unlike_tuple_struct n is (TupleStruct' m shape rows) none = absurd (none m _ (sym (roll-out-Datum (TupleStruct' m shape rows)) ∙ ap roll-Datum (outs-TupleStruct' m shape rows) ∙ rolls-TupleStruct m _))
+unlike_tuple_struct n is d none = refl
+
+-- a variant with values and a datum that is none
+pub unlike_tuple_variant : (n : Utf8) (is : Items) (d : Datum) → ((m : Text) (xs : Vec Datum) → d ≡ TupleVariant m xs → ⊥) → false ≡ same (tuple_variant n is) (view d)
+unlike_tuple_variant n is (TupleVariant' m shape rows) none = absurd (none m _ (sym (roll-out-Datum (TupleVariant' m shape rows)) ∙ ap roll-Datum (outs-TupleVariant' m shape rows) ∙ rolls-TupleVariant m _))
+unlike_tuple_variant n is d none = refl
+
 -- a map and a datum that is none
-pub unlike_map : (es : Entries) (d : Datum) → ((ds : Vec Entry) → d ≡ Map ds → ⊥) → false ≡ same (value.map es) (view d)
+pub unlike_map : (es : Entries) (d : Datum) → ((xs : Vec Entry) → d ≡ Map xs → ⊥) → false ≡ same (value.map es) (view d)
 unlike_map es (Map' shape rows) none = absurd (none _ (sym (roll-out-Datum (Map' shape rows)) ∙ ap roll-Datum (outs-Map' shape rows) ∙ rolls-Map _))
 unlike_map es d none = refl
 
 -- a struct and a datum that is none
-pub unlike_struct : (n : Utf8) (fs : FieldValues) (d : Datum) → ((m : Text) (gs : Vec Field) → d ≡ Struct m gs → ⊥) → false ≡ same (structure n fs) (view d)
+pub unlike_struct : (n : Utf8) (fs : FieldValues) (d : Datum) → ((m : Text) (xs : Vec Field) → d ≡ Struct m xs → ⊥) → false ≡ same (structure n fs) (view d)
 unlike_struct n fs (Struct' m shape rows) none = absurd (none m _ (sym (roll-out-Datum (Struct' m shape rows)) ∙ ap roll-Datum (outs-Struct' m shape rows) ∙ rolls-Struct m _))
 unlike_struct n fs d none = refl
 
--- the value of a struct, whose fields are lent
-pub struct_lent : (d : Datum) (n : Text) (fs : Vec Field) (xs : List Field) → d ≡ Struct n fs → xs ≡ fs.items → structure (text_view n) (fields_view xs) ≡ view d
-struct_lent d n fs xs is lent = ap (λ ys. structure (text_view n) (fields_view ys)) lent ∙ sym (ap view is ∙ view-Struct n fs)
+-- a variant with fields and a datum that is none
+pub unlike_struct_variant : (n : Utf8) (fs : FieldValues) (d : Datum) → ((m : Text) (xs : Vec Field) → d ≡ StructVariant m xs → ⊥) → false ≡ same (structure_variant n fs) (view d)
+unlike_struct_variant n fs (StructVariant' m shape rows) none = absurd (none m _ (sym (roll-out-Datum (StructVariant' m shape rows)) ∙ ap roll-Datum (outs-StructVariant' m shape rows) ∙ rolls-StructVariant m _))
+unlike_struct_variant n fs d none = refl
 
--- two structs of one name
-pub same_structs : (n : Utf8) (fs : FieldValues) (d : Datum) (m : Text) (gs : Vec Field) (ys : List Field) → d ≡ Struct m gs → ys ≡ gs.items → bytes_eq n (text_view m) ≡ true
-    → same_fields fs (fields_view ys) ≡ same (structure n fs) (view d)
-same_structs n fs d m gs ys is lent named = ap (λ b. b && same_fields fs (fields_view ys)) (sym named) ∙ ap (same (structure n fs)) (struct_lent d m gs ys is lent)
+-- the value of a datum, whose parts are lent
+seen_lent : {A : Type 0} (f : List A → Value) (d e : Datum) (xs ys : List A) → d ≡ e → xs ≡ ys → view e ≡ f ys → f xs ≡ view d
+seen_lent f d e xs ys is lent seen = ap f lent ∙ sym (ap view is ∙ seen)
+
+-- a test of a value against a datum, whose parts are lent
+pub same_of_lent : {A : Type 0} (f : List A → Value) (d e : Datum) (xs ys : List A) (w : Value) (r : Bool) → d ≡ e → xs ≡ ys → view e ≡ f ys → r ≡ same (f xs) w → r ≡ same (view d) w
+same_of_lent f d e xs ys w r is lent seen test = test ∙ ap (λ v. same v w) (seen_lent f d e xs ys is lent seen)
+
+pub same_with_lent : {A : Type 0} (v : Value) (f : List A → Value) (d e : Datum) (xs ys : List A) (r : Bool) → d ≡ e → xs ≡ ys → view e ≡ f ys → r ≡ same v (f xs) → r ≡ same v (view d)
+same_with_lent v f d e xs ys r is lent seen test = test ∙ ap (same v) (seen_lent f d e xs ys is lent seen)
+
+-- two values of one name are equal where their other parts are
+pub same_of_one_name : (named parts r : Bool) → named ≡ true → r ≡ parts → r ≡ named && parts
+same_of_one_name named parts r is e = e ∙ ap (λ b. b && parts) (sym is)

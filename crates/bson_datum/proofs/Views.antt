@@ -2,13 +2,13 @@
 use Rattle.std.proofs.Common.{◌≡◌, refl, ap, ◌∙◌}
 use Rattle.std.specs.Global.{Vec}
 use Rattle.bson_datum.specs.TextView.{text_view}
-use Rattle.bson_datum.specs.Value.{sequence, item, map, entry, structure, field_value}
+use Rattle.bson_datum.specs.Value.{sequence, tuple, tuple_structure, tuple_variant, item, map, entry, structure, structure_variant, field_value}
 use Rattle.bson_datum.specs.View.{view, item_rows_view, items_view, entry_rows_view, entries_view, rows_view, fields_view}
 use Rattle.bson_datum.specs.declared.text.Text.{Text}
 use Rattle.bson_datum.specs.declared.datum.Entry.{Entry}
 use Rattle.bson_datum.specs.declared.datum.Field.{Field}
 use Rattle.bson_datum.specs.declared.datum.Datum.TheBlock.{hidden-the_row-Datum-0, hidden-the_row-Entry-1, hidden-the_row-Field-2}
-use Rattle.bson_datum.specs.declared.datum.Datum.{Datum, Seq, Map, Struct, Row_of-Datum, end_of-Datum, more_of-Datum, items-the_row-Datum, items_hidden-the_row-Datum-0, Row_of-Entry, end_of-Entry, more_of-Entry, items-the_row-Entry, items_hidden-the_row-Entry-1, Row_of-Field, end_of-Field, more_of-Field, items-the_row-Field, items_hidden-the_row-Field-2}
+use Rattle.bson_datum.specs.declared.datum.Datum.{Datum, Seq, Tuple, TupleStruct, TupleVariant, Map, Struct, StructVariant, Row_of-Datum, end_of-Datum, more_of-Datum, items-the_row-Datum, items_hidden-the_row-Datum-0, Row_of-Entry, end_of-Entry, more_of-Entry, items-the_row-Entry, items_hidden-the_row-Entry-1, Row_of-Field, end_of-Field, more_of-Field, items-the_row-Field, items_hidden-the_row-Field-2}
 
 item_rows_are : (m : _) (rows : Row_of-Datum m) → item_rows_view rows ≡ items_view (items-the_row-Datum m rows)
 item_rows_are m end_of-Datum = refl
@@ -19,6 +19,15 @@ item_rows_items ds = item_rows_are _ (hidden-the_row-Datum-0 ds) ∙ ap items_vi
 
 pub view-Seq : (ds : Vec Datum) → view (Seq ds) ≡ sequence (items_view ds.items)
 view-Seq ds = ap sequence (item_rows_items ds)
+
+pub view-Tuple : (ds : Vec Datum) → view (Tuple ds) ≡ tuple (items_view ds.items)
+view-Tuple ds = ap tuple (item_rows_items ds)
+
+pub view-TupleStruct : (n : Text) (ds : Vec Datum) → view (TupleStruct n ds) ≡ tuple_structure (text_view n) (items_view ds.items)
+view-TupleStruct n ds = ap (tuple_structure (text_view n)) (item_rows_items ds)
+
+pub view-TupleVariant : (n : Text) (ds : Vec Datum) → view (TupleVariant n ds) ≡ tuple_variant (text_view n) (items_view ds.items)
+view-TupleVariant n ds = ap (tuple_variant (text_view n)) (item_rows_items ds)
 
 entry_rows_are : (m : _) (rows : Row_of-Entry m) → entry_rows_view rows ≡ entries_view (items-the_row-Entry m rows)
 entry_rows_are m end_of-Entry = refl
@@ -39,3 +48,6 @@ rows_items fs = rows_are _ (hidden-the_row-Field-2 fs) ∙ ap fields_view (items
 
 pub view-Struct : (n : Text) (fs : Vec Field) → view (Struct n fs) ≡ structure (text_view n) (fields_view fs.items)
 view-Struct n fs = ap (structure (text_view n)) (rows_items fs)
+
+pub view-StructVariant : (n : Text) (fs : Vec Field) → view (StructVariant n fs) ≡ structure_variant (text_view n) (fields_view fs.items)
+view-StructVariant n fs = ap (structure_variant (text_view n)) (rows_items fs)

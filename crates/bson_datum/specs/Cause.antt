@@ -1,4 +1,4 @@
--- Why a value is refused.
+-- Why a value is refused. Source: serde's data model.
 use Rattle.std.specs.Prelude.{ℕ, ℤ}
 use Rattle.bson_base.specs.Text.{Utf8}
 use Rattle.bson_base.specs.declared.element_type.ElementType.{ElementType}
@@ -17,19 +17,23 @@ pub data Cause : Type 0 where
   not_one_char : Cause
   -- the bytes of a binary are not UTF-8
   not_utf8 : Cause
-  -- the shape takes a part of the input lent, and the value cannot be lent
-  not_borrowed : Cause
-  -- the value has this many elements or bytes, and the shape takes another number
+  -- the array has this many elements, which are fewer than the shape takes
   invalid_length : ℕ → Cause
   -- no element has the name of this field
   missing_field : Utf8 → Cause
   -- two elements have the name of this field
   duplicate_field : Utf8 → Cause
+  -- the enum has no variant of this name
+  unknown_variant : Utf8 → Cause
+  -- a text names a variant that has contents
+  contents_wanted : Cause
+  -- a document names a variant that has no contents
+  unit_in_document : Cause
   -- a value of this kind stands where a document is due
   top_level : ElementType → Cause
   -- a binary of so many bytes, which are more than a binary may have
   binary_too_long : ℕ → Cause
   -- the document would have more bytes than a document may
   too_long : Cause
-  -- a value of this kind is not written yet
+  -- a value of this kind is not read or written yet at its place
   not_built : ElementType → Cause

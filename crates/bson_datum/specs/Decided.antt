@@ -9,7 +9,7 @@ use Rattle.std.specs.Cmp.Lexicographic.{pointwise_decides}
 use Rattle.std.proofs.lemmas.Bool.{and_parts, and_from, false≢true}
 use Rattle.std.proofs.lemmas.Slice.Eq.{bytes_eq-Decides}
 use Rattle.bson_base.specs.Text.{Bytes, Utf8}
-use Rattle.bson_datum.specs.Value.{IntegerType, i8, i16, i32, i64, u8, u16, u32, u64, Value, boolean, integer, double, character, str, bytes, none, some, unit, unit_structure, newtype, sequence, map, structure, Items, no_items, item, Entries, no_entries, entry, FieldValues, no_field_values, field_value}
+use Rattle.bson_datum.specs.Value.{IntegerType, i8, i16, i32, i64, u8, u16, u32, u64, Value, boolean, integer, double, character, str, bytes, none, some, unit, unit_structure, unit_variant, newtype, newtype_variant, sequence, tuple, tuple_structure, tuple_variant, map, structure, structure_variant, Items, no_items, item, Entries, no_entries, entry, FieldValues, no_field_values, field_value}
 use Rattle.bson_datum.specs.Refusal as refusal
 use Rattle.bson_datum.specs.Refusal.{at_key, at_index}
 use Rattle.bson_datum.specs.Same.{type_number, same_type, same, same_items, same_entries, same_entry, same_fields, same_field, same_segment, same_path}
@@ -61,14 +61,28 @@ mutual
   same_is (some v) (some w) e = ap some (same_is v w e)
   same_is unit unit e = refl
   same_is (unit_structure name) (unit_structure n) e = ap unit_structure ((bytes_eq-Decides name n).0 e)
+  same_is (unit_variant variant) (unit_variant n) e = ap unit_variant ((bytes_eq-Decides variant n).0 e)
   same_is (newtype name v) (newtype n w) e =
       let b = and_parts (bytes_eq name n) (same v w) e in
       λ i. newtype ((bytes_eq-Decides name n).0 b.0 i) (same_is v w b.1 i)
+  same_is (newtype_variant variant v) (newtype_variant n w) e =
+      let b = and_parts (bytes_eq variant n) (same v w) e in
+      λ i. newtype_variant ((bytes_eq-Decides variant n).0 b.0 i) (same_is v w b.1 i)
   same_is (sequence is) (sequence js) e = ap sequence (items_are is js e)
+  same_is (tuple is) (tuple js) e = ap tuple (items_are is js e)
+  same_is (tuple_structure name is) (tuple_structure n js) e =
+      let b = and_parts (bytes_eq name n) (same_items is js) e in
+      λ i. tuple_structure ((bytes_eq-Decides name n).0 b.0 i) (items_are is js b.1 i)
+  same_is (tuple_variant variant is) (tuple_variant n js) e =
+      let b = and_parts (bytes_eq variant n) (same_items is js) e in
+      λ i. tuple_variant ((bytes_eq-Decides variant n).0 b.0 i) (items_are is js b.1 i)
   same_is (map es) (map ds) e = ap map (entries_are es ds e)
   same_is (structure name fs) (structure n gs) e =
       let b = and_parts (bytes_eq name n) (same_fields fs gs) e in
       λ i. structure ((bytes_eq-Decides name n).0 b.0 i) (fields_are fs gs b.1 i)
+  same_is (structure_variant variant fs) (structure_variant n gs) e =
+      let b = and_parts (bytes_eq variant n) (same_fields fs gs) e in
+      λ i. structure_variant ((bytes_eq-Decides variant n).0 b.0 i) (fields_are fs gs b.1 i)
   same_is v w e = absurd (false≢true e)
 
   items_are : (is js : Items) → same_items is js ≡ true → is ≡ js
@@ -106,10 +120,16 @@ mutual
   same_itself (some v) = same_itself v
   same_itself unit = refl
   same_itself (unit_structure name) = bytes_alike name
+  same_itself (unit_variant variant) = bytes_alike variant
   same_itself (newtype name v) = and_from _ _ (bytes_alike name) (same_itself v)
+  same_itself (newtype_variant variant v) = and_from _ _ (bytes_alike variant) (same_itself v)
   same_itself (sequence is) = items_alike is
+  same_itself (tuple is) = items_alike is
+  same_itself (tuple_structure name is) = and_from _ _ (bytes_alike name) (items_alike is)
+  same_itself (tuple_variant variant is) = and_from _ _ (bytes_alike variant) (items_alike is)
   same_itself (map es) = entries_alike es
   same_itself (structure name fs) = and_from _ _ (bytes_alike name) (fields_alike fs)
+  same_itself (structure_variant variant fs) = and_from _ _ (bytes_alike variant) (fields_alike fs)
 
   items_alike : (is : Items) → same_items is is ≡ true
   items_alike no_items = refl

@@ -2,10 +2,10 @@
 use Rattle.std.specs.Prelude.{pos, string_bytes}
 use Rattle.bson_base.specs.BsonView.{tree_of}
 use Rattle.bson_datum.specs.Cause as cause
-use Rattle.bson_datum.specs.Refusal.{ReadFault, unreadable, WriteFault, unwritable, invalid_document_key, invalid_cstring, unsigned_exceeds, Failure, no_memory, bare, placed}
+use Rattle.bson_datum.specs.Refusal.{ReadFault, end_of_stream, unreadable, WriteFault, unwritable, invalid_document_key, invalid_cstring, unsigned_exceeds, Failure, no_memory, bare, placed}
 use Rattle.bson_datum.specs.PathView.{path_view}
 use Rattle.bson_datum.specs.declared.cause.Cause.{Cause}
-use Rattle.bson_datum.specs.declared.cause.Cause.TheVariants.{Raw, TooDeep, InvalidType, OutOfRange, NotOneChar, NotUtf8, NotBorrowed, InvalidLength, MissingField, DuplicateField, TopLevel, BinaryTooLong, TooLong, NotBuilt}
+use Rattle.bson_datum.specs.declared.cause.Cause.TheVariants.{Raw, TooDeep, InvalidType, OutOfRange, NotOneChar, NotUtf8, InvalidLength, MissingField, DuplicateField, UnknownVariant, ContentsWanted, UnitInDocument, TopLevel, BinaryTooLong, TooLong, NotBuilt}
 use Rattle.bson_datum.specs.declared.de.Fault as de_fault
 use Rattle.bson_datum.specs.declared.de.Fault.TheVariants as de_faults
 use Rattle.bson_datum.specs.declared.ser.Fault as ser_fault
@@ -20,10 +20,12 @@ cause_view (InvalidType k) = cause.invalid_type k
 cause_view (OutOfRange n) = cause.out_of_range n
 cause_view NotOneChar = cause.not_one_char
 cause_view NotUtf8 = cause.not_utf8
-cause_view NotBorrowed = cause.not_borrowed
 cause_view (InvalidLength n) = cause.invalid_length n
 cause_view (MissingField t) = cause.missing_field (string_bytes t)
 cause_view (DuplicateField t) = cause.duplicate_field (string_bytes t)
+cause_view (UnknownVariant t) = cause.unknown_variant (string_bytes t)
+cause_view ContentsWanted = cause.contents_wanted
+cause_view UnitInDocument = cause.unit_in_document
 cause_view (TopLevel k) = cause.top_level k
 cause_view (BinaryTooLong n) = cause.binary_too_long n
 cause_view TooLong = cause.too_long
@@ -31,6 +33,7 @@ cause_view (NotBuilt k) = cause.not_built k
 
 -- the fault that a value is refused for in reading
 abbrev pub read_fault : de_fault.Fault → ReadFault
+read_fault de_faults.EndOfStream = end_of_stream
 read_fault (de_faults.Cause c) = unreadable (cause_view c)
 
 -- the fault that a value is refused for in writing
@@ -42,6 +45,7 @@ write_fault (ser_faults.Cause c) = unwritable (cause_view c)
 
 -- the failure that a reader's error is
 abbrev pub read_failure : de.Error → Failure ReadFault
+read_failure de.EndOfStream = bare end_of_stream
 read_failure (de.DeserializationError c) = bare (unreadable (cause_view c))
 read_failure (de.WithPath' path p source) = placed (path_view path) (read_failure source)
 read_failure de.NoMemory = no_memory

@@ -1,12 +1,12 @@
--- What is printed of paths, causes and errors.
+-- What is printed of paths, causes and errors. Source: this library's own texts.
 use Rattle.std.specs.Prelude.{ℕ, zero, suc, ◌+◌, [], ◌∷◌, ◌++◌, codes}
 use Rattle.std.specs.Fmt.{decimal, signed_decimal}
 use Rattle.bson_base.specs.Text.{Utf8}
 use Rattle.bson_base.specs.Kind.{name}
 use Rattle.bson_base.specs.Tree.{kind}
 use Rattle.bson_rawdoc.specs.Printed.{printed_fault}
-use Rattle.bson_datum.specs.Cause.{Cause, raw, too_deep, invalid_type, out_of_range, not_one_char, not_utf8, not_borrowed, invalid_length, missing_field, duplicate_field, top_level, binary_too_long, too_long, not_built}
-use Rattle.bson_datum.specs.Refusal.{Segment, Path, at_key, at_index, ReadFault, unreadable, WriteFault, unwritable, invalid_document_key, invalid_cstring, unsigned_exceeds, Failure, no_memory, bare, placed}
+use Rattle.bson_datum.specs.Cause.{Cause, raw, too_deep, invalid_type, out_of_range, not_one_char, not_utf8, invalid_length, missing_field, duplicate_field, unknown_variant, contents_wanted, unit_in_document, top_level, binary_too_long, too_long, not_built}
+use Rattle.bson_datum.specs.Refusal.{Segment, Path, at_key, at_index, ReadFault, end_of_stream, unreadable, WriteFault, unwritable, invalid_document_key, invalid_cstring, unsigned_exceeds, Failure, no_memory, bare, placed}
 
 -- the segment at a place of a path: a key has a point before it unless it comes first, an index stands in brackets
 abbrev pub point_before : ℕ → Utf8
@@ -37,16 +37,19 @@ printed_cause (invalid_type k) = codes "invalid type: " ++ name k
 printed_cause (out_of_range n) = codes "integer " ++ signed_decimal n ++ codes " out of range"
 printed_cause not_one_char = codes "not one character"
 printed_cause not_utf8 = codes "bytes are not UTF-8"
-printed_cause not_borrowed = codes "cannot be borrowed"
 printed_cause (invalid_length n) = codes "invalid length " ++ decimal n
 printed_cause (missing_field t) = codes "missing field " ++ t
 printed_cause (duplicate_field t) = codes "duplicate field " ++ t
+printed_cause (unknown_variant t) = codes "unknown variant " ++ t
+printed_cause contents_wanted = codes "expected contents, got a text"
+printed_cause unit_in_document = codes "expected a string enum, got a document instead"
 printed_cause (top_level k) = codes "non-document type at the top level: " ++ name k
 printed_cause (binary_too_long n) = codes "binary length " ++ decimal n ++ codes " exceeded maximum size"
 printed_cause too_long = codes "value exceeds maximum length"
 printed_cause (not_built k) = not_built_text (name k)
 
 abbrev pub printed_read_fault : ReadFault → Utf8
+printed_read_fault end_of_stream = codes "end of stream"
 printed_read_fault (unreadable c) = printed_cause c
 
 abbrev pub printed_write_fault : WriteFault → Utf8

@@ -1,4 +1,4 @@
--- What is wrong with a value, and where it stands.
+-- What is wrong with a value, and where it stands. Source: serde's data model.
 use Rattle.std.specs.Prelude.{ℕ, ℤ, List, [], ◌∷◌, Result, Ok, Err}
 use Rattle.bson_base.specs.Text.{Utf8}
 use Rattle.bson_base.specs.Tree.{Tree}
@@ -15,12 +15,14 @@ Path = List Segment
 
 -- what reading refuses for
 pub data ReadFault : Type 0 where
+  -- an empty document stands where the name of a variant is due
+  end_of_stream : ReadFault
   unreadable : Cause → ReadFault
 
 -- what writing refuses for
 pub data WriteFault : Type 0 where
   unwritable : Cause → WriteFault
-  -- the key of a map is written as this tree, which is no text
+  -- a key of a map that has no text; the refusal carries this tree
   invalid_document_key : Tree → WriteFault
   -- a zero character in a name that is written as a key
   invalid_cstring : Utf8 → WriteFault

@@ -1,11 +1,11 @@
--- Whether two values, or two paths, are equal: part by part, texts and byte strings by their contents.
+-- Whether two values, or two paths, are equal: part by part, texts and byte strings by their contents. Source: serde's data model.
 use Rattle.std.specs.Prelude.{ℕ, Bool, true, false, ◌&&◌, nat_eq}
 use Rattle.std.specs.Bool.{beq}
 use Rattle.std.specs.Ordering.{int_eq}
 use Rattle.std.specs.Str.{bytes_eq}
 use Rattle.std.specs.Cmp.Lexicographic.{pointwise}
 use Rattle.bson_base.specs.Text.{Utf8}
-use Rattle.bson_datum.specs.Value.{IntegerType, i8, i16, i32, i64, u8, u16, u32, u64, Value, boolean, integer, double, character, str, bytes, none, some, unit, unit_structure, newtype, sequence, map, structure, Items, no_items, item, Entries, no_entries, entry, FieldValues, no_field_values, field_value}
+use Rattle.bson_datum.specs.Value.{IntegerType, i8, i16, i32, i64, u8, u16, u32, u64, Value, boolean, integer, double, character, str, bytes, none, some, unit, unit_structure, unit_variant, newtype, newtype_variant, sequence, tuple, tuple_structure, tuple_variant, map, structure, structure_variant, Items, no_items, item, Entries, no_entries, entry, FieldValues, no_field_values, field_value}
 use Rattle.bson_datum.specs.Refusal.{Segment, Path, at_key, at_index}
 
 -- the number of an integer type
@@ -36,10 +36,16 @@ abbrev mutual
   same (some v) (some w) = same v w
   same unit unit = true
   same (unit_structure name) (unit_structure n) = bytes_eq name n
+  same (unit_variant variant) (unit_variant n) = bytes_eq variant n
   same (newtype name v) (newtype n w) = bytes_eq name n && same v w
+  same (newtype_variant variant v) (newtype_variant n w) = bytes_eq variant n && same v w
   same (sequence is) (sequence js) = same_items is js
+  same (tuple is) (tuple js) = same_items is js
+  same (tuple_structure name is) (tuple_structure n js) = bytes_eq name n && same_items is js
+  same (tuple_variant variant is) (tuple_variant n js) = bytes_eq variant n && same_items is js
   same (map es) (map ds) = same_entries es ds
   same (structure name fs) (structure n gs) = bytes_eq name n && same_fields fs gs
+  same (structure_variant variant fs) (structure_variant n gs) = bytes_eq variant n && same_fields fs gs
   same v w = false
 
   -- there are as many values, and each is that of the other

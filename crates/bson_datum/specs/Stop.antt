@@ -13,11 +13,12 @@ segments_out r = map segment_view r.segments.items
 -- The refusal, where there is one: the segments come from the innermost outwards, the path from the outermost inwards.
 abbrev pub stop_view : {E F : Type 0} → (E → F) → Stop E → Option (Refusal F)
 stop_view fault_view NoMemory = None
-stop_view fault_view (Refused r) = Some (record { path = reverse (segments_out r); fault = fault_view r.fault })
+stop_view fault_view (Refused r) = Some (record { path = reverse (segments_out r.value); fault = fault_view r.value.fault })
 
+-- a fault of the value itself, or want of memory
 abbrev pub IsRefusedHere : {E : Type 0} → E → Stop E → Type 0
-IsRefusedHere e NoMemory = ⊥
-IsRefusedHere e (Refused r) = (r.fault ≡ e) × (segments_out r ≡ [])
+IsRefusedHere e NoMemory = Unit {0}
+IsRefusedHere e (Refused r) = (r.value.fault ≡ e) × (segments_out r.value ≡ [])
 
 abbrev pub IsOutOfMemory : {E : Type 0} → Stop E → Type 0
 IsOutOfMemory NoMemory = Unit {0}
@@ -27,7 +28,7 @@ IsOutOfMemory (Refused r) = ⊥
 abbrev pub IsUnder : {E : Type 0} → Segment → Stop E → Stop E → Type 0
 IsUnder segment old NoMemory = Unit {0}
 IsUnder segment NoMemory (Refused r) = ⊥
-IsUnder segment (Refused r) (Refused s) = (s.fault ≡ r.fault) × (segments_out s ≡ segments_out r ++ segment ∷ [])
+IsUnder segment (Refused r) (Refused s) = (s.value.fault ≡ r.value.fault) × (segments_out s.value ≡ segments_out r.value ++ segment ∷ [])
 
 -- the same at a key
 abbrev pub IsUnderKey : {E : Type 0} → Utf8 → Stop E → Stop E → Type 0

@@ -70,12 +70,18 @@ mutual
     some : Value → Value
     unit : Value
     unit_structure : (name : Utf8) → Value
+    unit_variant : (variant : Utf8) → Value
     newtype : (name : Utf8) → (value : Value) → Value
+    newtype_variant : (variant : Utf8) → (value : Value) → Value
     sequence : (items : Items) → Value
+    tuple : (items : Items) → Value
+    tuple_structure : (name : Utf8) → (items : Items) → Value
+    tuple_variant : (variant : Utf8) → (items : Items) → Value
     map : (entries : Entries) → Value
     structure : (name : Utf8) → (fields : FieldValues) → Value
+    structure_variant : (variant : Utf8) → (fields : FieldValues) → Value
 
-  -- the values of a sequence, in order
+  -- the values of a sequence or a tuple, in order
   pub data Items : Type 0 where
     no_items : Items
     item : (value : Value) → (rest : Items) → Items
@@ -85,7 +91,7 @@ mutual
     no_entries : Entries
     entry : (key : Value) → (value : Value) → (rest : Entries) → Entries
 
-  -- the fields of a struct with their values, in order
+  -- the fields of a struct or a variant with their values, in order
   pub data FieldValues : Type 0 where
     no_field_values : FieldValues
     field_value : (name : Utf8) → (value : Value) → (rest : FieldValues) → FieldValues
@@ -118,7 +124,13 @@ kind_of none = Null
 kind_of (some v) = kind_of v
 kind_of unit = Null
 kind_of (unit_structure name) = Null
+kind_of (unit_variant variant) = String
 kind_of (newtype name v) = newtype_kind name (kind_of v)
+kind_of (newtype_variant variant v) = EmbeddedDocument
 kind_of (sequence is) = Array
+kind_of (tuple is) = Array
+kind_of (tuple_structure name is) = Array
+kind_of (tuple_variant variant is) = EmbeddedDocument
 kind_of (map es) = EmbeddedDocument
 kind_of (structure name fs) = struct_kind name
+kind_of (structure_variant variant fs) = EmbeddedDocument

@@ -17,21 +17,25 @@ pub enum Cause {
     NotOneChar,
     /// The bytes of a binary are not UTF-8.
     NotUtf8,
-    /// The shape takes a part of the input lent, and the value cannot be lent.
-    NotBorrowed,
-    /// The value has this many elements or bytes, and the shape takes another number.
+    /// The array has this many elements, which are fewer than the shape takes.
     InvalidLength(u64),
     /// No element has the name of this field.
     MissingField(String),
     /// Two elements have the name of this field.
     DuplicateField(String),
+    /// The enum has no variant of this name.
+    UnknownVariant(String),
+    /// A text names a variant that has contents.
+    ContentsWanted,
+    /// A document names a variant that has no contents.
+    UnitInDocument,
     /// A value of this kind stands where a document is due.
     TopLevel(ElementType),
     /// A binary of so many bytes, which are more than 16777216.
     BinaryTooLong(u64),
     /// The document would have more than 2147483647 bytes.
     TooLong,
-    /// A value of this kind is not written yet.
+    /// A value of this kind is not read or written yet at its place.
     NotBuilt(ElementType),
 }
 
@@ -50,10 +54,14 @@ impl fmt::Display for Cause {
             Cause::OutOfRange(number) => write!(f, "integer {number} out of range"),
             Cause::NotOneChar => f.write_str("not one character"),
             Cause::NotUtf8 => f.write_str("bytes are not UTF-8"),
-            Cause::NotBorrowed => f.write_str("cannot be borrowed"),
             Cause::InvalidLength(length) => write!(f, "invalid length {length}"),
             Cause::MissingField(name) => write!(f, "missing field {name}"),
             Cause::DuplicateField(name) => write!(f, "duplicate field {name}"),
+            Cause::UnknownVariant(name) => write!(f, "unknown variant {name}"),
+            Cause::ContentsWanted => f.write_str("expected contents, got a text"),
+            Cause::UnitInDocument => {
+                f.write_str("expected a string enum, got a document instead")
+            }
             Cause::TopLevel(kind) => write!(f, "non-document type at the top level: {kind}"),
             Cause::BinaryTooLong(length) => {
                 write!(f, "binary length {length} exceeded maximum size")

@@ -1,6 +1,7 @@
-ghost use Rattle.std.specs.Prelude.{◌≡◌, IfOk, false};
+ghost use Rattle.std.specs.Prelude.{◌≡◌, ◌∷◌, IfOk, false};
 ghost use Rattle.bson_datum.specs.TextView.{text_view};
 ghost use Rattle.bson_datum.specs.ByteStrView.{bytes_view};
+ghost use Rattle.bson_datum.specs.Value.{newtype, newtype_variant, tuple_structure, tuple_variant, structure, structure_variant};
 ghost use Rattle.bson_datum.specs.View.{view, items_view, entries_view, fields_view};
 ghost use Rattle.bson_datum.specs.Loans.{text_lent, bytes_lent, loans, items_loans, entries_loans, fields_loans, NoneLent, IsOwned};
 
@@ -100,17 +101,119 @@ fn copy<'a>(alloc: Global, datum: &Datum<'a>) -> Result<Datum<'a>, AllocError>
         Datum::UnitStruct { name } => Ok(Datum::UnitStruct {
             name: name.try_clone(alloc)?,
         }),
-        Datum::NewtypeStruct { name, value } => Ok(Datum::NewtypeStruct {
-            name: name.try_clone(alloc)?,
-            value: Box::new(alloc, copy(alloc, value)?)?,
+        Datum::UnitVariant { variant } => Ok(Datum::UnitVariant {
+            variant: variant.try_clone(alloc)?,
         }),
+        Datum::NewtypeStruct { name, value } => copy_newtype(alloc, name, value),
+        Datum::NewtypeVariant { variant, value } => copy_newtype_variant(alloc, variant, value),
         Datum::Seq(items) => Ok(Datum::Seq(copy_items(alloc, items)?)),
+        Datum::Tuple(items) => Ok(Datum::Tuple(copy_items(alloc, items)?)),
+        Datum::TupleStruct { name, items } => copy_tuple_struct(alloc, name, items),
+        Datum::TupleVariant { variant, items } => copy_tuple_variant(alloc, variant, items),
         Datum::Map(entries) => Ok(Datum::Map(copy_entries(alloc, entries)?)),
-        Datum::Struct { name, fields } => Ok(Datum::Struct {
-            name: name.try_clone(alloc)?,
-            fields: copy_fields(alloc, fields)?,
-        }),
+        Datum::Struct { name, fields } => copy_struct(alloc, name, fields),
+        Datum::StructVariant { variant, fields } => copy_struct_variant(alloc, variant, fields),
     }
+}
+
+// The same newtype again.
+#[cycle(copy)]
+fn copy_newtype<'a>(
+    alloc: Global,
+    name: &Text<'a>,
+    value: &Datum<'a>,
+) -> Result<Datum<'a>, AllocError>
+    ensures equal { IfOk result (λ d. view d ≡ newtype (text_view name.now) (view value.now)) }
+    ensures lent { IfOk result (λ d. loans d ≡ text_lent name.now ∷ loans value.now) }
+{
+    Ok(Datum::NewtypeStruct {
+        name: name.try_clone(alloc)?,
+        value: Box::new(alloc, copy(alloc, value)?)?,
+    })
+}
+
+// The same variant around one value again.
+#[cycle(copy)]
+fn copy_newtype_variant<'a>(
+    alloc: Global,
+    variant: &Text<'a>,
+    value: &Datum<'a>,
+) -> Result<Datum<'a>, AllocError>
+    ensures equal { IfOk result (λ d. view d ≡ newtype_variant (text_view variant.now) (view value.now)) }
+    ensures lent { IfOk result (λ d. loans d ≡ text_lent variant.now ∷ loans value.now) }
+{
+    Ok(Datum::NewtypeVariant {
+        variant: variant.try_clone(alloc)?,
+        value: Box::new(alloc, copy(alloc, value)?)?,
+    })
+}
+
+// The same tuple struct again.
+#[cycle(copy)]
+#[tactic(auto, using(crate::proofs::Views::item_rows_items, crate::proofs::Lent::item_rows_lent))]
+fn copy_tuple_struct<'a>(
+    alloc: Global,
+    name: &Text<'a>,
+    items: &[Datum<'a>],
+) -> Result<Datum<'a>, AllocError>
+    ensures equal { IfOk result (λ d. view d ≡ tuple_structure (text_view name.now) (items_view items.now)) }
+    ensures lent { IfOk result (λ d. loans d ≡ text_lent name.now ∷ items_loans items.now) }
+{
+    Ok(Datum::TupleStruct {
+        name: name.try_clone(alloc)?,
+        items: copy_items(alloc, items)?,
+    })
+}
+
+// The same variant with values again.
+#[cycle(copy)]
+#[tactic(auto, using(crate::proofs::Views::item_rows_items, crate::proofs::Lent::item_rows_lent))]
+fn copy_tuple_variant<'a>(
+    alloc: Global,
+    variant: &Text<'a>,
+    items: &[Datum<'a>],
+) -> Result<Datum<'a>, AllocError>
+    ensures equal { IfOk result (λ d. view d ≡ tuple_variant (text_view variant.now) (items_view items.now)) }
+    ensures lent { IfOk result (λ d. loans d ≡ text_lent variant.now ∷ items_loans items.now) }
+{
+    Ok(Datum::TupleVariant {
+        variant: variant.try_clone(alloc)?,
+        items: copy_items(alloc, items)?,
+    })
+}
+
+// The same struct again.
+#[cycle(copy)]
+#[tactic(auto, using(crate::proofs::Views::rows_items, crate::proofs::Lent::rows_lent))]
+fn copy_struct<'a>(
+    alloc: Global,
+    name: &Text<'a>,
+    fields: &[Field<'a>],
+) -> Result<Datum<'a>, AllocError>
+    ensures equal { IfOk result (λ d. view d ≡ structure (text_view name.now) (fields_view fields.now)) }
+    ensures lent { IfOk result (λ d. loans d ≡ text_lent name.now ∷ fields_loans fields.now) }
+{
+    Ok(Datum::Struct {
+        name: name.try_clone(alloc)?,
+        fields: copy_fields(alloc, fields)?,
+    })
+}
+
+// The same variant with fields again.
+#[cycle(copy)]
+#[tactic(auto, using(crate::proofs::Views::rows_items, crate::proofs::Lent::rows_lent))]
+fn copy_struct_variant<'a>(
+    alloc: Global,
+    variant: &Text<'a>,
+    fields: &[Field<'a>],
+) -> Result<Datum<'a>, AllocError>
+    ensures equal { IfOk result (λ d. view d ≡ structure_variant (text_view variant.now) (fields_view fields.now)) }
+    ensures lent { IfOk result (λ d. loans d ≡ text_lent variant.now ∷ fields_loans fields.now) }
+{
+    Ok(Datum::StructVariant {
+        variant: variant.try_clone(alloc)?,
+        fields: copy_fields(alloc, fields)?,
+    })
 }
 
 // The same data again.
@@ -185,17 +288,119 @@ fn owned<'x>(alloc: Global, datum: Datum<'_>) -> Result<Datum<'x>, AllocError>
         Datum::UnitStruct { name } => Ok(Datum::UnitStruct {
             name: name.into_owned(alloc)?,
         }),
-        Datum::NewtypeStruct { name, value } => Ok(Datum::NewtypeStruct {
-            name: name.into_owned(alloc)?,
-            value: owned_box(alloc, value)?,
+        Datum::UnitVariant { variant } => Ok(Datum::UnitVariant {
+            variant: variant.into_owned(alloc)?,
         }),
+        Datum::NewtypeStruct { name, value } => owned_newtype(alloc, name, value),
+        Datum::NewtypeVariant { variant, value } => owned_newtype_variant(alloc, variant, value),
         Datum::Seq(items) => Ok(Datum::Seq(owned_items(alloc, items)?)),
+        Datum::Tuple(items) => Ok(Datum::Tuple(owned_items(alloc, items)?)),
+        Datum::TupleStruct { name, items } => owned_tuple_struct(alloc, name, items),
+        Datum::TupleVariant { variant, items } => owned_tuple_variant(alloc, variant, items),
         Datum::Map(entries) => Ok(Datum::Map(owned_entries(alloc, entries)?)),
-        Datum::Struct { name, fields } => Ok(Datum::Struct {
-            name: name.into_owned(alloc)?,
-            fields: owned_fields(alloc, fields)?,
-        }),
+        Datum::Struct { name, fields } => owned_struct(alloc, name, fields),
+        Datum::StructVariant { variant, fields } => owned_struct_variant(alloc, variant, fields),
     }
+}
+
+// The same newtype, with nothing lent in it.
+#[cycle(owned)]
+fn owned_newtype<'x>(
+    alloc: Global,
+    name: Text<'_>,
+    value: Box<Datum<'_>>,
+) -> Result<Datum<'x>, AllocError>
+    ensures equal { IfOk result (λ d. view d ≡ newtype (text_view name.entry) (view value.entry.value)) }
+    ensures owned { IfOk result IsOwned }
+{
+    Ok(Datum::NewtypeStruct {
+        name: name.into_owned(alloc)?,
+        value: owned_box(alloc, value)?,
+    })
+}
+
+// The same variant around one value, with nothing lent in it.
+#[cycle(owned)]
+fn owned_newtype_variant<'x>(
+    alloc: Global,
+    variant: Text<'_>,
+    value: Box<Datum<'_>>,
+) -> Result<Datum<'x>, AllocError>
+    ensures equal { IfOk result (λ d. view d ≡ newtype_variant (text_view variant.entry) (view value.entry.value)) }
+    ensures owned { IfOk result IsOwned }
+{
+    Ok(Datum::NewtypeVariant {
+        variant: variant.into_owned(alloc)?,
+        value: owned_box(alloc, value)?,
+    })
+}
+
+// The same tuple struct, with nothing lent in it.
+#[cycle(owned)]
+#[tactic(auto, using(crate::proofs::Views::item_rows_items, crate::proofs::Lent::item_rows_lent))]
+fn owned_tuple_struct<'x>(
+    alloc: Global,
+    name: Text<'_>,
+    items: Vec<Datum<'_>>,
+) -> Result<Datum<'x>, AllocError>
+    ensures equal { IfOk result (λ d. view d ≡ tuple_structure (text_view name.entry) (items_view items.entry.items)) }
+    ensures owned { IfOk result IsOwned }
+{
+    Ok(Datum::TupleStruct {
+        name: name.into_owned(alloc)?,
+        items: owned_items(alloc, items)?,
+    })
+}
+
+// The same variant with values, with nothing lent in it.
+#[cycle(owned)]
+#[tactic(auto, using(crate::proofs::Views::item_rows_items, crate::proofs::Lent::item_rows_lent))]
+fn owned_tuple_variant<'x>(
+    alloc: Global,
+    variant: Text<'_>,
+    items: Vec<Datum<'_>>,
+) -> Result<Datum<'x>, AllocError>
+    ensures equal { IfOk result (λ d. view d ≡ tuple_variant (text_view variant.entry) (items_view items.entry.items)) }
+    ensures owned { IfOk result IsOwned }
+{
+    Ok(Datum::TupleVariant {
+        variant: variant.into_owned(alloc)?,
+        items: owned_items(alloc, items)?,
+    })
+}
+
+// The same struct, with nothing lent in it.
+#[cycle(owned)]
+#[tactic(auto, using(crate::proofs::Views::rows_items, crate::proofs::Lent::rows_lent))]
+fn owned_struct<'x>(
+    alloc: Global,
+    name: Text<'_>,
+    fields: Vec<Field<'_>>,
+) -> Result<Datum<'x>, AllocError>
+    ensures equal { IfOk result (λ d. view d ≡ structure (text_view name.entry) (fields_view fields.entry.items)) }
+    ensures owned { IfOk result IsOwned }
+{
+    Ok(Datum::Struct {
+        name: name.into_owned(alloc)?,
+        fields: owned_fields(alloc, fields)?,
+    })
+}
+
+// The same variant with fields, with nothing lent in it.
+#[cycle(owned)]
+#[tactic(auto, using(crate::proofs::Views::rows_items, crate::proofs::Lent::rows_lent))]
+fn owned_struct_variant<'x>(
+    alloc: Global,
+    variant: Text<'_>,
+    fields: Vec<Field<'_>>,
+) -> Result<Datum<'x>, AllocError>
+    ensures equal { IfOk result (λ d. view d ≡ structure_variant (text_view variant.entry) (fields_view fields.entry.items)) }
+    ensures owned { IfOk result IsOwned }
+{
+    Ok(Datum::StructVariant {
+        variant: variant.into_owned(alloc)?,
+        fields: owned_fields(alloc, fields)?,
+    })
 }
 
 // The same datum in a box, with nothing lent in it.

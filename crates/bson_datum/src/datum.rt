@@ -68,6 +68,11 @@ pub enum Datum<'a> {
         /// The name of the struct.
         name: Text<'a>,
     },
+    /// A variant of an enum without contents.
+    UnitVariant {
+        /// The name of the variant.
+        variant: Text<'a>,
+    },
     /// A struct around one value.
     NewtypeStruct {
         /// The name of the struct.
@@ -75,14 +80,44 @@ pub enum Datum<'a> {
         /// The value in it.
         value: Box<Datum<'a>>,
     },
+    /// A variant of an enum around one value.
+    NewtypeVariant {
+        /// The name of the variant.
+        variant: Text<'a>,
+        /// The value in it.
+        value: Box<Datum<'a>>,
+    },
     /// A sequence of values, in order.
     Seq(Vec<Datum<'a>>),
+    /// A tuple: values by their positions.
+    Tuple(Vec<Datum<'a>>),
+    /// A struct with values by their positions.
+    TupleStruct {
+        /// The name of the struct.
+        name: Text<'a>,
+        /// Its values, in order.
+        items: Vec<Datum<'a>>,
+    },
+    /// A variant of an enum with values by their positions.
+    TupleVariant {
+        /// The name of the variant.
+        variant: Text<'a>,
+        /// Its values, in order.
+        items: Vec<Datum<'a>>,
+    },
     /// A map: keys with their values, in order.
     Map(Vec<Entry<'a>>),
     /// A struct with a name and fields in order.
     Struct {
         /// The name of the struct.
         name: Text<'a>,
+        /// Its fields, in order.
+        fields: Vec<Field<'a>>,
+    },
+    /// A variant of an enum with fields in order.
+    StructVariant {
+        /// The name of the variant.
+        variant: Text<'a>,
         /// Its fields, in order.
         fields: Vec<Field<'a>>,
     },
@@ -100,13 +135,16 @@ impl Datum<'_> {
             }
             Datum::I64(_) | Datum::U32(_) | Datum::U64(_) => ElementType::Int64,
             Datum::Double(_) => ElementType::Double,
-            Datum::Char(_) | Datum::Str(_) => ElementType::String,
+            Datum::Char(_) | Datum::Str(_) | Datum::UnitVariant { .. } => ElementType::String,
             Datum::Bytes(_) => ElementType::Binary,
             Datum::None | Datum::Unit | Datum::UnitStruct { .. } => ElementType::Null,
             Datum::Some(content) => content.element_type(),
             Datum::NewtypeStruct { name, value } => newtype_kind(name, value.element_type()),
-            Datum::Seq(_) => ElementType::Array,
-            Datum::Map(_) => ElementType::EmbeddedDocument,
+            Datum::Seq(_) | Datum::Tuple(_) | Datum::TupleStruct { .. } => ElementType::Array,
+            Datum::Map(_)
+            | Datum::NewtypeVariant { .. }
+            | Datum::TupleVariant { .. }
+            | Datum::StructVariant { .. } => ElementType::EmbeddedDocument,
             Datum::Struct { name, .. } => struct_kind(name),
         }
     }

@@ -15,6 +15,8 @@ use std::fmt;
 /// What a value is refused for, without its path.
 #[derive(Debug, Drop)]
 pub enum Fault {
+    /// An empty document stands where the name of a variant is due.
+    EndOfStream,
     /// A value is refused for this cause.
     Cause(Cause),
 }
@@ -22,6 +24,8 @@ pub enum Fault {
 /// Why a document is not read.
 #[derive(Debug, Drop)]
 pub enum Error {
+    /// An empty document stands where the name of a variant is due.
+    EndOfStream,
     /// A value is refused for this cause.
     DeserializationError {
         /// The cause.
@@ -46,6 +50,7 @@ impl Error {
         let Stop::Refused(refused) = stop else {
             return Error::NoMemory;
         };
+        let refused = Box::into_inner(refused);
         match Box::new(alloc, Error::from_fault(refused.fault)) {
             Ok(source) => Error::WithPath {
                 path: Path::from_innermost(refused.segments),
@@ -60,6 +65,7 @@ impl Error {
         ensures { read_failure result ≡ bare (read_fault fault) }
     {
         match fault {
+            Fault::EndOfStream => Error::EndOfStream,
             Fault::Cause(cause) => Error::DeserializationError { cause },
         }
     }
@@ -92,6 +98,7 @@ impl fmt::Display for Error {
 
     fn fmt<W: fmt::Write>(&self, f: &mut fmt::Formatter<W>) -> fmt::Result {
         match self {
+            Error::EndOfStream => f.write_str("end of stream"),
             Error::DeserializationError { cause } => write!(f, "{cause}"),
             Error::WithPath { path, source } => {
                 write!(f, "error at {path}: ")?;

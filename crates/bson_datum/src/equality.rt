@@ -3,7 +3,7 @@ ghost use Rattle.std.specs.Str.{bytes_eq};
 ghost use Rattle.bson_datum.specs.TextView.{text_view};
 ghost use Rattle.bson_datum.specs.ByteStrView.{bytes_view};
 ghost use Rattle.bson_datum.specs.PathView.{path_view, segment_view};
-ghost use Rattle.bson_datum.specs.Value.{sequence, map, structure};
+ghost use Rattle.bson_datum.specs.Value.{newtype, newtype_variant, sequence, tuple, tuple_structure, tuple_variant, map, structure, structure_variant};
 ghost use Rattle.bson_datum.specs.View.{view, items_view, entry_view, entries_view, field_view, fields_view};
 ghost use Rattle.bson_datum.specs.Same.{same, same_items, same_entries, same_entry, same_fields, same_field, same_segment, same_path};
 
@@ -162,16 +162,46 @@ fn is_same(a: &Datum<'_>, b: &Datum<'_>) -> bool
         (Datum::None, Datum::None) | (Datum::Unit, Datum::Unit) => true,
         (Datum::Some(value), Datum::Some(other)) => is_same(value, other),
         (Datum::UnitStruct { name }, Datum::UnitStruct { name: other }) => name == other,
-        (
-            Datum::NewtypeStruct { name, value },
-            Datum::NewtypeStruct {
-                name: other,
-                value: content,
-            },
-        ) => name == other && is_same(value, content),
+        (Datum::UnitVariant { variant }, Datum::UnitVariant { variant: other }) => variant == other,
+        (Datum::NewtypeStruct { name, value }, _) => is_newtype_of(name, value, b),
+        (Datum::NewtypeVariant { variant, value }, _) => is_newtype_variant_of(variant, value, b),
         (Datum::Seq(items), _) => is_sequence_of(items, b),
+        (Datum::Tuple(items), _) => is_tuple_of(items, b),
+        (Datum::TupleStruct { name, items }, _) => is_tuple_struct_of(name, items, b),
+        (Datum::TupleVariant { variant, items }, _) => is_tuple_variant_of(variant, items, b),
         (Datum::Map(entries), _) => is_map_of(entries, b),
-        (Datum::Struct { name, fields }, _) => is_structure_of(name, fields, b),
+        (Datum::Struct { name, fields }, _) => is_struct_of(name, fields, b),
+        (Datum::StructVariant { variant, fields }, _) => is_struct_variant_of(variant, fields, b),
+        _ => false,
+    }
+}
+
+// Whether a datum is a newtype of this name around this value.
+#[cycle(same)]
+#[tactic(auto, using(crate::proofs::Sames::unlike_newtype))]
+fn is_newtype_of(name: &Text<'_>, value: &Datum<'_>, datum: &Datum<'_>) -> bool
+    ensures { result ≡ same (newtype (text_view name.now) (view value.now)) (view datum.now) }
+{
+    match datum {
+        Datum::NewtypeStruct {
+            name: other,
+            value: content,
+        } => name == other && is_same(value, content),
+        _ => false,
+    }
+}
+
+// Whether a datum is a variant of this name around this value.
+#[cycle(same)]
+#[tactic(auto, using(crate::proofs::Sames::unlike_newtype_variant))]
+fn is_newtype_variant_of(variant: &Text<'_>, value: &Datum<'_>, datum: &Datum<'_>) -> bool
+    ensures { result ≡ same (newtype_variant (text_view variant.now) (view value.now)) (view datum.now) }
+{
+    match datum {
+        Datum::NewtypeVariant {
+            variant: other,
+            value: content,
+        } => variant == other && is_same(value, content),
         _ => false,
     }
 }
@@ -184,6 +214,48 @@ fn is_sequence_of(items: &[Datum<'_>], datum: &Datum<'_>) -> bool
 {
     match datum {
         Datum::Seq(others) => are_same_items(items, others),
+        _ => false,
+    }
+}
+
+// Whether a datum is a tuple of these values.
+#[cycle(same)]
+#[tactic(auto, using(crate::proofs::Views::item_rows_items, crate::proofs::Sames::unlike_tuple))]
+fn is_tuple_of(items: &[Datum<'_>], datum: &Datum<'_>) -> bool
+    ensures { result ≡ same (tuple (items_view items.now)) (view datum.now) }
+{
+    match datum {
+        Datum::Tuple(others) => are_same_items(items, others),
+        _ => false,
+    }
+}
+
+// Whether a datum is a tuple struct of this name with these values.
+#[cycle(same)]
+#[tactic(auto, using(crate::proofs::Views::item_rows_items, crate::proofs::Sames::unlike_tuple_struct))]
+fn is_tuple_struct_of(name: &Text<'_>, items: &[Datum<'_>], datum: &Datum<'_>) -> bool
+    ensures { result ≡ same (tuple_structure (text_view name.now) (items_view items.now)) (view datum.now) }
+{
+    match datum {
+        Datum::TupleStruct {
+            name: other,
+            items: others,
+        } => name == other && are_same_items(items, others),
+        _ => false,
+    }
+}
+
+// Whether a datum is a variant of this name with these values.
+#[cycle(same)]
+#[tactic(auto, using(crate::proofs::Views::item_rows_items, crate::proofs::Sames::unlike_tuple_variant))]
+fn is_tuple_variant_of(variant: &Text<'_>, items: &[Datum<'_>], datum: &Datum<'_>) -> bool
+    ensures { result ≡ same (tuple_variant (text_view variant.now) (items_view items.now)) (view datum.now) }
+{
+    match datum {
+        Datum::TupleVariant {
+            variant: other,
+            items: others,
+        } => variant == other && are_same_items(items, others),
         _ => false,
     }
 }
@@ -203,7 +275,7 @@ fn is_map_of(entries: &[Entry<'_>], datum: &Datum<'_>) -> bool
 // Whether a datum is a struct of this name with these fields.
 #[cycle(same)]
 #[tactic(auto, using(crate::proofs::Views::rows_items, crate::proofs::Sames::unlike_struct))]
-fn is_structure_of(name: &Text<'_>, fields: &[Field<'_>], datum: &Datum<'_>) -> bool
+fn is_struct_of(name: &Text<'_>, fields: &[Field<'_>], datum: &Datum<'_>) -> bool
     ensures { result ≡ same (structure (text_view name.now) (fields_view fields.now)) (view datum.now) }
 {
     match datum {
@@ -211,6 +283,21 @@ fn is_structure_of(name: &Text<'_>, fields: &[Field<'_>], datum: &Datum<'_>) -> 
             name: other,
             fields: others,
         } => name == other && are_same_fields(fields, others),
+        _ => false,
+    }
+}
+
+// Whether a datum is a variant of this name with these fields.
+#[cycle(same)]
+#[tactic(auto, using(crate::proofs::Views::rows_items, crate::proofs::Sames::unlike_struct_variant))]
+fn is_struct_variant_of(variant: &Text<'_>, fields: &[Field<'_>], datum: &Datum<'_>) -> bool
+    ensures { result ≡ same (structure_variant (text_view variant.now) (fields_view fields.now)) (view datum.now) }
+{
+    match datum {
+        Datum::StructVariant {
+            variant: other,
+            fields: others,
+        } => variant == other && are_same_fields(fields, others),
         _ => false,
     }
 }

@@ -12,7 +12,9 @@ pub mod ser;
 mod stop;
 mod text;
 
-pub use bson_shape::{FieldShape, Form, Leaf, ParseError, Shape, ShapeError};
+pub use bson_shape::{
+    FieldShape, Form, Leaf, Named, ParseError, Shape, ShapeError, VariantContent, VariantShape,
+};
 pub use byte_str::ByteStr;
 pub use cause::Cause;
 pub use datum::{Datum, Entry, Field};

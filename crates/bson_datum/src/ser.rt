@@ -15,7 +15,8 @@ use std::fmt;
 /// What a datum is refused for, without its path.
 #[derive(Debug, Drop)]
 pub enum Fault {
-    /// The key of a map is written as this value, which is no text.
+    /// A map has a key that is no text. This is what is told of the key: a scalar itself, an empty array or document for
+    /// what holds values.
     InvalidDocumentKey(Bson),
     /// A zero character stands in this name, which is written as a key.
     InvalidCString(String),
@@ -28,7 +29,8 @@ pub enum Fault {
 /// Why a datum is not written.
 #[derive(Debug, Drop)]
 pub enum Error {
-    /// The key of a map is written as this value, which is no text.
+    /// A map has a key that is no text. This is what is told of the key: a scalar itself, an empty array or document for
+    /// what holds values.
     InvalidDocumentKey(Bson),
     /// A zero character stands in this name, which is written as a key.
     InvalidCString(String),
@@ -58,6 +60,7 @@ impl Error {
         let Stop::Refused(refused) = stop else {
             return Error::NoMemory;
         };
+        let refused = Box::into_inner(refused);
         match Box::new(alloc, Error::from_fault(refused.fault)) {
             Ok(source) => Error::WithPath {
                 path: Path::from_innermost(refused.segments),

@@ -16,36 +16,26 @@ pub struct Refused<F> {
     pub segments: Vec<Segment>,
 }
 
-/// Why a reader or a writer stopped inside a document.
+/// Why a reader or a writer stopped inside a document. A refusal stands in a box, so that an answer takes few bytes wherever
+/// nothing is refused.
 #[derive(Debug, Drop)]
 pub enum Stop<F> {
     /// A value is refused.
-    Refused(Refused<F>),
+    Refused(Box<Refused<F>>),
     /// Memory ran out.
     NoMemory,
 }
 
-impl<F: Drop> Refused<F> {
-    // The same, seen from the value that has the value at this segment; or `NoMemory`.
-    fn under(mut self, segment: Segment) -> Stop<F>
-        ensures { IsUnder (segment_view segment) (stops.Refused self) result }
-    {
-        match self.segments.push(segment) {
-            Ok(()) => Stop::Refused(self),
-            Err(_) => Stop::NoMemory,
-        }
-    }
-}
-
 impl<F: Drop> Stop<F> {
-    /// A fault of the value itself. It takes no memory.
+    /// A fault of the value itself; or `NoMemory`.
     pub fn here(alloc: Global, fault: F) -> Stop<F>
         ensures here { IsRefusedHere fault result }
     {
-        Stop::Refused(Refused {
-            fault,
-            segments: Vec::new(alloc),
-        })
+        let segments = Vec::new(alloc);
+        match Box::new(alloc, Refused { fault, segments }) {
+            Ok(refused) => Stop::Refused(refused),
+            Err(_) => Stop::NoMemory,
+        }
     }
 
     /// The same, seen from the document that has the value at this key; or `NoMemory`.
@@ -55,9 +45,8 @@ impl<F: Drop> Stop<F> {
         let Stop::Refused(refused) = self else {
             return Stop::NoMemory;
         };
-        let alloc = *refused.segments.allocator();
-        match String::from_str(alloc, key) {
-            Ok(key) => refused.under(Segment::Key(key)),
+        match String::from_str(*refused.segments.allocator(), key) {
+            Ok(key) => under(refused, Segment::Key(key)),
             Err(_) => Stop::NoMemory,
         }
     }
@@ -67,9 +56,19 @@ impl<F: Drop> Stop<F> {
         ensures under { IsUnder (at_index index) self result }
     {
         match self {
-            Stop::Refused(refused) => refused.under(Segment::Index(index)),
+            Stop::Refused(refused) => under(refused, Segment::Index(index)),
             Stop::NoMemory => Stop::NoMemory,
         }
+    }
+}
+
+// The same, seen from the value that has the value at this segment; or `NoMemory`.
+fn under<F: Drop>(mut refused: Box<Refused<F>>, segment: Segment) -> Stop<F>
+    ensures { IsUnder (segment_view segment) (stops.Refused refused) result }
+{
+    match refused.segments.push(segment) {
+        Ok(()) => Stop::Refused(refused),
+        Err(_) => Stop::NoMemory,
     }
 }
 

@@ -1,7 +1,35 @@
 // What no clause says: that errors and copies are made where there is memory, and what is printed of errors.
-use crate::{ByteStr, Cause, Datum, Field, Stop, Text, de, ser};
+use crate::{ByteStr, Cause, Datum, Entry, Field, Stop, Text, de, ser};
+use bson_base::Bson;
 use std::alloc::{AllocError, Global};
 use std::test::Fail;
+
+// A tuple struct with a variant of each form, their texts lent.
+fn lent_variants<'a>(alloc: Global) -> Result<Datum<'a>, AllocError> {
+    let mut fields = Vec::new(alloc);
+    fields.push(Field {
+        name: Text::Borrowed("f"),
+        value: Datum::UnitVariant {
+            variant: Text::Borrowed("A"),
+        },
+    })?;
+    let with_fields = Datum::StructVariant {
+        variant: Text::Borrowed("B"),
+        fields,
+    };
+    let around_it = Datum::NewtypeVariant {
+        variant: Text::Borrowed("C"),
+        value: Box::new(alloc, with_fields)?,
+    };
+    let with_values = Datum::TupleVariant {
+        variant: Text::Borrowed("D"),
+        items: vec![in alloc; around_it]?,
+    };
+    Ok(Datum::TupleStruct {
+        name: Text::Borrowed("T"),
+        items: vec![in alloc; with_values]?,
+    })
+}
 
 // A struct with a value of each form that holds others, its texts and its byte string lent.
 fn lent_struct<'a>(alloc: Global) -> Result<Datum<'a>, AllocError> {
@@ -10,17 +38,20 @@ fn lent_struct<'a>(alloc: Global) -> Result<Datum<'a>, AllocError> {
         name: Text::Borrowed("N"),
         value: Box::new(alloc, bytes)?,
     };
-    let mut items = Vec::new(alloc);
-    items.push(Datum::Some(Box::new(alloc, newtype)?))?;
-    items.push(Datum::Str(Text::Borrowed("a")))?;
-    let mut fields = Vec::new(alloc);
-    fields.push(Field {
+    let some = Datum::Some(Box::new(alloc, newtype)?);
+    let tuple = Datum::Tuple(vec![in alloc; some, Datum::Str(Text::Borrowed("a"))]?);
+    let entry = Entry {
+        key: Datum::Str(Text::Borrowed("k")),
+        value: lent_variants(alloc)?,
+    };
+    let map = Datum::Map(vec![in alloc; entry]?);
+    let field = Field {
         name: Text::Borrowed("f"),
-        value: Datum::Seq(items),
-    })?;
+        value: Datum::Seq(vec![in alloc; tuple, map]?),
+    };
     Ok(Datum::Struct {
         name: Text::Borrowed("S"),
-        fields,
+        fields: vec![in alloc; field]?,
     })
 }
 
@@ -74,6 +105,30 @@ fn prints_an_error_inside_an_array(rt: HostRuntime) -> Result<(), Fail> {
     assert_eq!(rt;
         format!(in alloc; "{error}")?.as_str(),
         "error at a[2]: bytes are not UTF-8"
+    );
+    Ok(())
+}
+
+#[test]
+fn prints_the_end_of_the_input(rt: HostRuntime) -> Result<(), Fail> {
+    let alloc = rt.alloc();
+    let error = de::Error::from_stop(alloc, Stop::here(alloc, de::Fault::EndOfStream));
+    assert_eq!(rt;
+        format!(in alloc; "{error}")?.as_str(),
+        "error at .: end of stream"
+    );
+    Ok(())
+}
+
+#[test]
+fn prints_a_refused_key(rt: HostRuntime) -> Result<(), Fail> {
+    let alloc = rt.alloc();
+    let key = Bson::String(String::from_str(alloc, "a")?);
+    let fault = ser::Fault::InvalidDocumentKey(key);
+    let error = ser::Error::from_stop(alloc, Stop::here(alloc, fault));
+    assert_eq!(rt;
+        format!(in alloc; "{error}")?.as_str(),
+        "error at .: invalid map key type: String"
     );
     Ok(())
 }
