@@ -11,7 +11,7 @@ use Rattle.bson_base.proofs.Lengths.{head_size, tail_size}
 use Rattle.bson_base.proofs.Outcomes.{some_is, some_map, some_then}
 use Rattle.bson_rawdoc.specs.Walk.{walk_elements}
 use Rattle.bson_rawdoc.proofs.Walks.{walk-nil}
-use Rattle.bson_datum.specs.Value.{Value, str, Entries, no_entries, entry}
+use Rattle.bson_datum.specs.Value.{Value, Entries, no_entries, entry}
 use Rattle.bson_datum.specs.Same.{same}
 use Rattle.bson_datum.specs.Refusal.{under}
 use Rattle.bson_laws.specs.Reads.{Reading, put_entry, reads_entries}
@@ -36,40 +36,45 @@ joined_one no_entries k v ds = refl
 joined_one (entry j w es) k v ds = ap (entry j w) (joined_one es k v ds)
 
 -- no entry has the key
-abbrev IsNew : Utf8 → Entries → Type 0
+abbrev IsNew : Value → Entries → Type 0
 IsNew key no_entries = Unit {0}
-IsNew key (entry k v es) = (same (str key) k ≡ false) × IsNew key es
+IsNew key (entry k v es) = (same key k ≡ false) × IsNew key es
 
--- no entry has the key of one of these pairs
-abbrev pub AreNew : Pairs → Entries → Type 0
-AreNew no_pairs es = Unit {0}
-AreNew (pair key t ps) es = IsNew key es × AreNew ps es
+put_last : (k v : Value) (es : Entries) → IsNew k es → put_entry k v es ≡ joined es (entry k v no_entries)
+put_last k v no_entries n = refl
+put_last k v (entry j w es) n = ap (λ b. cond b (entry j v es) (entry j w (put_entry k v es))) n.0 ∙ ap (entry j w) (put_last k v es n.1)
 
-pub new_first : (ps : Pairs) → AreNew ps no_entries
-new_first no_pairs = tt
-new_first (pair k t ps) = (tt, new_first ps)
+-- two texts are the same key where they are the same text
+abbrev pub KeepsApart : (Utf8 → Value) → Type 0
+KeepsApart key_of = (a b : Utf8) → same (key_of a) (key_of b) ≡ bytes_eq a b
 
-new_joined : (key k : Utf8) (v : Value) (es : Entries) → bytes_eq key k ≡ false → IsNew key es → IsNew key (joined es (entry (str k) v no_entries))
+-- no entry has the key that a key of these pairs is
+abbrev pub AreNew : (Utf8 → Value) → Pairs → Entries → Type 0
+AreNew key_of no_pairs es = Unit {0}
+AreNew key_of (pair key t ps) es = IsNew (key_of key) es × AreNew key_of ps es
+
+pub new_first : (key_of : Utf8 → Value) (ps : Pairs) → AreNew key_of ps no_entries
+new_first key_of no_pairs = tt
+new_first key_of (pair k t ps) = (tt, new_first key_of ps)
+
+new_joined : (key k v : Value) (es : Entries) → same key k ≡ false → IsNew key es → IsNew key (joined es (entry k v no_entries))
 new_joined key k v no_entries unlike n = (unlike, tt)
 new_joined key k v (entry j w es) unlike n = (n.0, new_joined key k v es unlike n.1)
 
-new_later : (ps : Pairs) (k : Utf8) (v : Value) (es : Entries) → Lacks k ps → AreNew ps es → AreNew ps (joined es (entry (str k) v no_entries))
-new_later no_pairs k v es lacks n = tt
-new_later (pair key t ps) k v es lacks n = (new_joined key k v es (unlike_swap k key lacks.0) n.0, new_later ps k v es lacks.1 n.1)
-
-put_last : (k : Utf8) (v : Value) (es : Entries) → IsNew k es → put_entry (str k) v es ≡ joined es (entry (str k) v no_entries)
-put_last k v no_entries n = refl
-put_last k v (entry j w es) n = ap (λ b. cond b (entry j v es) (entry j w (put_entry (str k) v es))) n.0 ∙ ap (entry j w) (put_last k v es n.1)
+new_later : (key_of : Utf8 → Value) → KeepsApart key_of → (ps : Pairs) (k : Utf8) (v : Value) (es : Entries) → Lacks k ps → AreNew key_of ps es → AreNew key_of ps (joined es (entry (key_of k) v no_entries))
+new_later key_of apart no_pairs k v es lacks n = tt
+new_later key_of apart (pair key t ps) k v es lacks n =
+    (new_joined (key_of key) (key_of k) v es (apart key k ∙ unlike_swap k key lacks.0) n.0, new_later key_of apart ps k v es lacks.1 n.1)
 
 -- ---- all entries
 
--- what a key is in a view is a text, and is read as it
-abbrev pub ReadsTexts : (Utf8 → Option Value) → (Utf8 → Reading Value) → Type 0
-ReadsTexts view read = (key : Utf8) (k : Value) → view key ≡ Some k → (k ≡ str key) × (read key ≡ Ok (str key))
+-- what a key is in a view is what the text is as a key, and is read as it
+abbrev pub ReadsKeys : (Utf8 → Value) → (Utf8 → Option Value) → (Utf8 → Reading Value) → Type 0
+ReadsKeys key_of view read = (key : Utf8) (k : Value) → view key ≡ Some k → (k ≡ key_of key) × (read key ≡ Ok (key_of key))
 
 -- what the pairs of a document are in a view is read from its bytes, where what each key and each value is in the view is
-module _ (view_key : Utf8 → Option Value) (read_key : Utf8 → Reading Value) (view : Tree → Option Value) (read : ElementType → Bytes → Reading Value) (levels : ℕ) (keys : ReadsTexts view_key read_key) (each : ReadsBack view read levels) where
-  pub entries_again : (ps : Pairs) (es ds : Entries) → ArePairsClean ps → pairs_depth ps ≤ levels → length (elements ps) < 2 ^ 31 → AreNew ps es → views_entries view_key view ps ≡ Some ds
+module _ (key_of : Utf8 → Value) (apart : KeepsApart key_of) (view_key : Utf8 → Option Value) (read_key : Utf8 → Reading Value) (view : Tree → Option Value) (read : ElementType → Bytes → Reading Value) (levels : ℕ) (keys : ReadsKeys key_of view_key read_key) (each : ReadsBack view read levels) where
+  pub entries_again : (ps : Pairs) (es ds : Entries) → ArePairsClean ps → pairs_depth ps ≤ levels → length (elements ps) < 2 ^ 31 → AreNew key_of ps es → views_entries view_key view ps ≡ Some ds
       → reads_entries read_key read (walk_elements (elements ps)) es ≡ Ok (joined es ds)
   entries_again no_pairs es ds c d l n e = ap (λ w. reads_entries read_key read w es) walk-nil ∙ ap Ok (sym (joined_none es) ∙ ap (joined es) (some_is no_entries ds e))
   entries_again (pair key t ps) es ds c d l n e =
@@ -80,7 +85,7 @@ module _ (view_key : Utf8 → Option Value) (read_key : Utf8 → Reading Value) 
       let rest = walk_elements (elements ps) in
       ap (λ w. reads_entries read_key read w es) (walk_again key t ps c.0 c.2 l)
       ∙ ap (λ r. r >>= λ x. under key (read (kind t) (enc t)) >>= λ v. reads_entries read_key read rest (put_entry x v es)) k.1
-      ∙ ap (λ r. under key r >>= λ v. reads_entries read_key read rest (put_entry (str key) v es)) (each t b.0 c.2 (omega arith) (omega (arith, head_size key t ps)) b.1)
-      ∙ ap (reads_entries read_key read rest) (put_last key b.0 es n.0)
-      ∙ entries_again ps (joined es (entry (str key) b.0 no_entries)) m.0 c.3 (omega arith) (omega (arith, tail_size key t ps)) (new_later ps key b.0 es c.1 n.1) m.1
-      ∙ ap Ok (joined_one es (str key) b.0 m.0 ∙ ap (λ x. joined es (entry x b.0 m.0)) (sym k.0) ∙ ap (joined es) m.2)
+      ∙ ap (λ r. under key r >>= λ v. reads_entries read_key read rest (put_entry (key_of key) v es)) (each t b.0 c.2 (omega arith) (omega (arith, head_size key t ps)) b.1)
+      ∙ ap (reads_entries read_key read rest) (put_last (key_of key) b.0 es n.0)
+      ∙ entries_again ps (joined es (entry (key_of key) b.0 no_entries)) m.0 c.3 (omega arith) (omega (arith, tail_size key t ps)) (new_later key_of apart ps key b.0 es c.1 n.1) m.1
+      ∙ ap Ok (joined_one es (key_of key) b.0 m.0 ∙ ap (λ x. joined es (entry x b.0 m.0)) (sym k.0) ∙ ap (joined es) m.2)

@@ -7,6 +7,7 @@ use Rattle.bson_base.specs.declared.element_type.ElementType.{ElementType}
 use Rattle.bson_base.proofs.Outcomes.{some_is, ok_is, map_ok, bind_ok}
 use Rattle.bson_rawdoc.specs.Walk.{Element, Walk, ended, faulty, then_walk}
 use Rattle.bson_shape.specs.Form.{Form, optional, Fields, no_fields, field}
+use Rattle.bson_shape.specs.Makers.{field_names}
 use Rattle.bson_datum.specs.Value as value
 use Rattle.bson_datum.specs.Value.{Value, FieldValues, no_field_values, field_value}
 use Rattle.bson_datum.specs.Cause.{duplicate_field}
@@ -14,7 +15,7 @@ use Rattle.bson_datum.specs.Refusal.{under}
 use Rattle.bson_laws.specs.Reads.{Reading, refused, ignores, place_of, Slots, no_slots, fill_found, fill_one, fill, value_or, finish, reads_fields, reads_field}
 use Rattle.bson_laws.specs.Spell.{named, spell, spell_fields, IsWrittenUnlessLong}
 use Rattle.bson_laws.specs.Views.{absent}
-use Rattle.bson_laws.specs.Writable.{AreWritableKeys}
+use Rattle.bson_laws.specs.Writable.{FieldsHaveWritableKeys}
 use Rattle.bson_laws.proofs.Sizes.{under_ok}
 use Rattle.bson_laws.proofs.Writable.{unless_bind, unless_named, Written}
 
@@ -55,7 +56,7 @@ module _ (levels : ℕ) where
   field_written name s None slots v h e = missing_written name (absent s) v (absent_written s) e
   field_written name s (Some w) slots v h e = subst (Written levels) (ok_is w v e) h.0
 
-  finish_written : (fs : Fields) (slots : Slots) (vs : FieldValues) → AreWritableKeys fs → Held slots → finish fs slots ≡ Ok vs → IsWrittenUnlessLong (spell_fields vs levels)
+  finish_written : (fs : Fields) (slots : Slots) (vs : FieldValues) → FieldsHaveWritableKeys fs → Held slots → finish fs slots ≡ Ok vs → IsWrittenUnlessLong (spell_fields vs levels)
   finish_written no_fields slots vs c h e = subst (λ x. IsWrittenUnlessLong (spell_fields x levels)) (ok_is no_field_values vs e) tt
   finish_written (field name s fs) [] vs c h e = absurd cc
   finish_written (field name s fs) (o ∷ slots) vs c h e =
@@ -71,7 +72,7 @@ module _ (levels : ℕ) where
   not_refused true key r out e = absurd cc
   not_refused false key r out e = e
 
-  module _ (fs : Fields) (names : AreWritableKeys fs) (each : (i : ℕ) (k : ElementType) (b : Bytes) (v : Value) → reads_field fs i levels k b ≡ Ok v → Written levels v) where
+  module _ (fs : Fields) (names : FieldsHaveWritableKeys fs) (each : (i : ℕ) (k : ElementType) (b : Bytes) (v : Value) → reads_field fs i levels k b ≡ Ok v → Written levels v) where
     abbrev read : ℕ → ElementType → Bytes → Reading Value
     read i = reads_field fs i levels
 
@@ -89,7 +90,7 @@ module _ (levels : ℕ) where
     fill_held (faulty f) slots out q h = absurd cc
     fill_held (then_walk e w) slots out q h =
         let b = bind_ok (fill_one fs levels read e slots) (fill (fill_one fs levels read) w) out q in
-        fill_held w b.0 out b.2 (found_held e slots b.0 (place_of fs e.key) b.1 h)
+        fill_held w b.0 out b.2 (found_held e slots b.0 (place_of (field_names fs) e.key) b.1 h)
 
     pub fields_written : (w : Walk) (vs : FieldValues) → reads_fields fs levels read w ≡ Ok vs → IsWrittenUnlessLong (spell_fields vs levels)
     fields_written w vs q =

@@ -11,6 +11,7 @@ use Rattle.bson_base.proofs.Outcomes.{some_is, some_map, some_then}
 use Rattle.bson_rawdoc.specs.Walk.{Element, walk_elements}
 use Rattle.bson_rawdoc.proofs.Walks.{walk-nil}
 use Rattle.bson_shape.specs.Form.{Form, Fields, no_fields, field}
+use Rattle.bson_shape.specs.Makers.{field_names}
 use Rattle.bson_datum.specs.Value.{Value, FieldValues, no_field_values, field_value}
 use Rattle.bson_datum.specs.Cause.{duplicate_field}
 use Rattle.bson_datum.specs.Refusal.{under}
@@ -79,9 +80,9 @@ not_found true o e = absurd cc
 not_found false None e = (refl, refl)
 not_found false (Some j) e = absurd cc
 
-pub place_lacks : (fs : Fields) (k : Utf8) → place_of fs k ≡ None → Unnamed k fs
+pub place_lacks : (fs : Fields) (k : Utf8) → place_of (field_names fs) k ≡ None → Unnamed k fs
 place_lacks no_fields k e = tt
-place_lacks (field n s fs) k e = let p = not_found (bytes_eq n k) (place_of fs k) e in (p.0, place_lacks fs k p.1)
+place_lacks (field n s fs) k e = let p = not_found (bytes_eq n k) (place_of (field_names fs) k) e in (p.0, place_lacks fs k p.1)
 
 all_less : (fs : Fields) (k : Utf8) (t : Tree) (ps : Pairs) → Lacks k ps → AllView fs (pair k t ps) → AllView fs ps
 all_less no_fields k t ps l h = tt
@@ -100,7 +101,7 @@ pub record Placed (fs : Fields) (k : Utf8) (t : Tree) (ps : Pairs) (sl : Slots) 
 none_is : (x : Option Value) → x ≡ None → is_some x ≡ false
 none_is x e = ap is_some e
 
-placed : (fs : Fields) (k : Utf8) (t : Tree) (ps : Pairs) (sl : Slots) (i : ℕ) (v : Value) → Distinct fs → Lacks k ps → Free fs (pair k t ps) sl → place_of fs k ≡ Some i → views_nth fs i t ≡ Some v → Placed fs k t ps sl i v
+placed : (fs : Fields) (k : Utf8) (t : Tree) (ps : Pairs) (sl : Slots) (i : ℕ) (v : Value) → Distinct fs → Lacks k ps → Free fs (pair k t ps) sl → place_of (field_names fs) k ≡ Some i → views_nth fs i t ≡ Some v → Placed fs k t ps sl i v
 placed no_fields k t ps sl i v p l h e w = absurd cc
 placed (field n s fs) k t ps [] i v p l h e w = absurd h
 placed (field n s fs) k t ps (x ∷ sl) i v p l h e w = by_case (λ j e' w'. placed fs k t ps sl j v p.1 l h.1 e' w') (bytes_eq n k) refl i e w where
@@ -122,21 +123,21 @@ placed (field n s fs) k t ps (x ∷ sl) i v p l h e w = by_case (λ j e' w'. pla
     merged = λ m. slot_of s (sym (chosen_f (bytes_eq n k) t (lookup n ps) unlike) m) x ∷ q.merged m;
   }
 
-  by_case : ((j : ℕ) → place_of fs k ≡ Some j → views_nth fs j t ≡ Some v → Placed fs k t ps sl j v) → (b : Bool) → bytes_eq n k ≡ b → (m : ℕ) → cond b (Some 0) (one_further (place_of fs k)) ≡ Some m → views_nth (field n s fs) m t ≡ Some v → Placed (field n s fs) k t ps (x ∷ sl) m v
+  by_case : ((j : ℕ) → place_of (field_names fs) k ≡ Some j → views_nth fs j t ≡ Some v → Placed fs k t ps sl j v) → (b : Bool) → bytes_eq n k ≡ b → (m : ℕ) → cond b (Some 0) (one_further (place_of (field_names fs) k)) ≡ Some m → views_nth (field n s fs) m t ≡ Some v → Placed (field n s fs) k t ps (x ∷ sl) m v
   by_case again true same m e' w' = let zero_is : 0 ≡ m = cc in subst (λ q. views_nth (field n s fs) q t ≡ Some v → Placed (field n s fs) k t ps (x ∷ sl) q v) zero_is (first same) w'
   by_case again false unlike m e' w' =
-      let f = found_later (place_of fs k) m e' in
+      let f = found_later (place_of (field_names fs) k) m e' in
       subst (λ q. views_nth (field n s fs) q t ≡ Some v → Placed (field n s fs) k t ps (x ∷ sl) q v) (sym f.2) (λ z. further f.0 unlike (again f.0 f.1 z)) w'
 
-view_there : (fs : Fields) (k : Utf8) (t : Tree) (ps : Pairs) (i : ℕ) → AllView fs (pair k t ps) → place_of fs k ≡ Some i → (v : Value) × (views_nth fs i t ≡ Some v)
+view_there : (fs : Fields) (k : Utf8) (t : Tree) (ps : Pairs) (i : ℕ) → AllView fs (pair k t ps) → place_of (field_names fs) k ≡ Some i → (v : Value) × (views_nth fs i t ≡ Some v)
 view_there no_fields k t ps i a e = absurd cc
 view_there (field n s fs) k t ps i a e = by_case (λ j e'. view_there fs k t ps j a.1 e') (bytes_eq n k) refl i e where
-  by_case : ((j : ℕ) → place_of fs k ≡ Some j → (v : Value) × (views_nth fs j t ≡ Some v)) → (b : Bool) → bytes_eq n k ≡ b → (m : ℕ) → cond b (Some 0) (one_further (place_of fs k)) ≡ Some m → (v : Value) × (views_nth (field n s fs) m t ≡ Some v)
+  by_case : ((j : ℕ) → place_of (field_names fs) k ≡ Some j → (v : Value) × (views_nth fs j t ≡ Some v)) → (b : Bool) → bytes_eq n k ≡ b → (m : ℕ) → cond b (Some 0) (one_further (place_of (field_names fs) k)) ≡ Some m → (v : Value) × (views_nth (field n s fs) m t ≡ Some v)
   by_case again true same m e' =
       let zero_is : 0 ≡ m = cc in
       subst (λ q. (v : Value) × (views_nth (field n s fs) q t ≡ Some v)) zero_is (a.0 t (ap (λ b. cond b (Some t) (lookup n ps)) same))
   by_case again false unlike m e' =
-      let f = found_later (place_of fs k) m e' in
+      let f = found_later (place_of (field_names fs) k) m e' in
       subst (λ q. (v : Value) × (views_nth (field n s fs) q t ≡ Some v)) (sym f.2) (again f.0 f.1)
 
 -- ---- all elements
@@ -158,8 +159,8 @@ module _ (fs : Fields) (levels : ℕ) (distinct : Distinct fs) (r : ReadsViews f
   fill_again no_pairs sl c d l a f = ap (λ w. fill one w sl) walk-nil ∙ ap Ok (merge_none fs sl)
   fill_again (pair k t ps) sl c d l a f =
       ap (λ w. fill one w sl) (walk_again k t ps c.0 c.2 l)
-      ∙ by_place (λ sl' f'. fill_again ps sl' c.3 (omega arith) (omega (arith, tail_size k t ps)) (all_less fs k t ps c.1 a) f') (place_of fs k) refl where
-        by_place : ((sl' : Slots) → Free fs ps sl' → fill one (walk_elements (elements ps)) sl' ≡ Ok (merge fs ps sl')) → (o : Option ℕ) → place_of fs k ≡ o → (one (elem k t) sl >>= fill one (walk_elements (elements ps))) ≡ Ok (merge fs (pair k t ps) sl)
+      ∙ by_place (λ sl' f'. fill_again ps sl' c.3 (omega arith) (omega (arith, tail_size k t ps)) (all_less fs k t ps c.1 a) f') (place_of (field_names fs) k) refl where
+        by_place : ((sl' : Slots) → Free fs ps sl' → fill one (walk_elements (elements ps)) sl' ≡ Ok (merge fs ps sl')) → (o : Option ℕ) → place_of (field_names fs) k ≡ o → (one (elem k t) sl >>= fill one (walk_elements (elements ps))) ≡ Ok (merge fs (pair k t ps) sl)
         by_place again None e =
             ap (λ o. fill_found levels (λ i. reads_field fs i levels) (elem k t) sl o >>= fill one (walk_elements (elements ps))) e
             ∙ ap (λ q. (under k q >>= λ _. Ok sl) >>= fill one (walk_elements (elements ps))) (ignores_again t levels c.2 (omega arith) (omega (arith, head_size k t ps)))

@@ -13,15 +13,16 @@ use Rattle.bson_base.specs.declared.element_type.ElementType.TheVariants.{Int32}
 use Rattle.bson_base.specs.Tree as tree
 use Rattle.bson_base.specs.Tree.{Tree, string, binary, null, int32, int64, document, array, Pairs, no_pairs, pair, Trees, no_trees}
 use Rattle.bson_base.proofs.Outcomes.{some_is, some_map, some_then}
-use Rattle.bson_shape.specs.Form.{Form, leaf, optional, sequence, newtype, unit_structure, map, structure, Fields, no_fields, field}
+use Rattle.bson_shape.specs.Form.{Form, leaf, optional, sequence, newtype, unit_structure, map, tuple, tuple_structure, structure, enumeration, Fields, no_fields, field, Parts, no_parts, part, Content, unit_content, newtype_content, tuple_content, struct_content, Variants, no_variants, variant}
 use Rattle.bson_shape.specs.Makers.{is_reserved_newtype}
 use Rattle.bson_datum.specs.Value as value
 use Rattle.bson_datum.specs.Value.{IntegerType, i32, i64, in_range, written_as, Value, integer, str, Items, no_items, item, Entries, no_entries, entry, FieldValues, no_field_values, field_value}
 use Rattle.bson_laws.specs.Leaves.{LeafKind, anything, booleans, numbers, doubles, characters, texts, byte_strings, byte_buffers, units, leaf_kind}
-use Rattle.bson_laws.specs.Plain.{IsPlainKey, IsPlain, AreFieldsPlain}
-use Rattle.bson_laws.specs.Views.{lookup, as_integer, integer_of_tree, null_of_tree, one_character, as_character, views_any, views_any_items, views_any_entries, views_leaf, views_leaf_key, views_key, views_entries, views_option, absent, views_at, views, views_items, views_fields}
-use Rattle.bson_laws.specs.Means.{key_text, number_of, some_or_none, means, means_items, means_entries, means_fields, norm, norm_items, norm_entries, norm_fields}
-use Rattle.bson_laws.specs.Fits.{IsAny, AreAnyItems, AreAnyEntries, FitsLeaf, FitsLeafKey, FitsKey, Fits, ItemsFit, EntriesFit, FieldsFit}
+use Rattle.bson_laws.specs.Variants.{content_of}
+use Rattle.bson_laws.specs.Plain.{IsPlainKey, IsPlain, AreFieldsPlain, ArePartsPlain, AreVariantsPlain, IsContentPlain}
+use Rattle.bson_laws.specs.Views.{lookup, as_integer, integer_of_tree, null_of_tree, one_character, as_character, views_any, views_any_items, views_any_entries, views_leaf, views_leaf_key, views_key, views_entries, views_option, named_unit, views_unit, views_enum, absent, views_at, views, views_items, views_parts, views_variant, views_content, views_fields}
+use Rattle.bson_laws.specs.Means.{key_text, number_of, some_or_none, under_name, means, means_items, means_entries, means_fields, norm, norm_items, norm_entries, norm_fields}
+use Rattle.bson_laws.specs.Fits.{IsAny, AreAnyItems, AreAnyEntries, FitsLeaf, FitsLeafKey, FitsKey, Fits, ItemsFit, PartsFit, EntriesFit, FieldsFit}
 use Rattle.bson_laws.proofs.Fitting.{fits_leaf}
 use Rattle.bson_laws.proofs.Spelled.{found, tree_is, trees_are, pairs_are, unreserved, free_newtype}
 
@@ -148,10 +149,33 @@ leaf_means byte_buffers (value.bytes bs) t f e = ap (views_leaf byte_buffers) (s
 leaf_means units value.unit t f e = ap (views_leaf units) (sym (tree_is null t e))
 leaf_means k v t f e = absurd f
 
+-- ---- variants
+
+named_content : (b : Bool) (n name : Utf8) (d c : Content) (vs : Variants) (u : Tree) → bytes_eq n name ≡ b → cond b (Some d) (content_of vs name) ≡ Some c
+    → (content_of vs name ≡ Some c → views_variant vs name u ≡ views_content name c u) → cond b (views_content n d u) (views_variant vs name u) ≡ views_content name c u
+named_content true n name d c vs u is e h = (λ i. views_content (bytes_same n name is i) (some_is d c e i) u)
+named_content false n name d c vs u is e h = h e
+
+-- the contents of the variant that has a name
+variant_viewed : (vs : Variants) (name : Utf8) (c : Content) (u : Tree) → content_of vs name ≡ Some c → views_variant vs name u ≡ views_content name c u
+variant_viewed no_variants name c u e = absurd cc
+variant_viewed (variant n d vs) name c u e = named_content (bytes_eq n name) n name d c vs u refl e (variant_viewed vs name c u)
+
+chosen_plain : (b : Bool) (d c : Content) (o : Option Content) → IsContentPlain d → cond b (Some d) o ≡ Some c → (o ≡ Some c → IsContentPlain c) → IsContentPlain c
+chosen_plain true d c o p e h = subst IsContentPlain (some_is d c e) p
+chosen_plain false d c o p e h = h e
+
+content_plain : (vs : Variants) (name : Utf8) (c : Content) → AreVariantsPlain vs → content_of vs name ≡ Some c → IsContentPlain c
+content_plain no_variants name c p e = absurd cc
+content_plain (variant n d vs) name c p e = chosen_plain (bytes_eq n name) d c (content_of vs name) p.1 e (content_plain vs name c p.2)
+
 -- the key that a text is written as is that text
 key_means : (key : Form) (k : Value) (x : Utf8) → IsPlainKey key → FitsKey key k → key_text k ≡ Some x → views_key key x ≡ Some (norm k)
 key_means (leaf l) (str y) x p f e = ap (λ j. views_leaf_key j x) p ∙ ap (λ z. Some (str z)) (sym (some_is y x e))
 key_means (leaf l) k x p f e = absurd (subst (λ j. FitsLeafKey j k) p f)
+key_means (enumeration vs) (value.unit_variant name) x p f e =
+    ap (λ z. named_unit z (content_of vs z)) (sym (some_is name x e)) ∙ ap (named_unit name) f
+key_means (enumeration vs) k x p f e = absurd f
 key_means s k x p f e = absurd p
 
 -- ---- options
@@ -184,6 +208,29 @@ mutual
       let a = some_map document (means_fields vs) t u.1 in
       subst (λ x. IsClean x → views (structure n fs) x ≡ Some (value.structure m (norm_fields vs))) a.2
       (λ c'. ap (option_map (value.structure n)) (views_means_fields vs fs a.0 p.1 f.1 a.1 c') ∙ ap (λ x. Some (value.structure x (norm_fields vs))) (sym f.0)) c
+  views_means (value.tuple vs) (tuple ps) t p f e c =
+      let a = some_map array (means_items vs) t e in
+      subst (λ x. IsClean x → views (tuple ps) x ≡ Some (value.tuple (norm_items vs))) a.2 (λ c'. ap (option_map value.tuple) (views_means_parts vs ps a.0 p f a.1 c')) c
+  views_means (value.tuple_structure m vs) (tuple_structure n ps) t p f e c =
+      let a = some_map array (means_items vs) t e in
+      subst (λ x. IsClean x → views (tuple_structure n ps) x ≡ Some (value.tuple_structure m (norm_items vs))) a.2
+      (λ c'. ap (option_map (value.tuple_structure n)) (views_means_parts vs ps a.0 p f.1 a.1 c') ∙ ap (λ x. Some (value.tuple_structure x (norm_items vs))) (sym f.0)) c
+  views_means (value.unit_variant name) (enumeration vs) t p f e c = ap (views (enumeration vs)) (sym (tree_is (string name) t e)) ∙ ap (named_unit name) f
+  views_means (value.newtype_variant name v) (enumeration vs) t p f e c =
+      let a = some_map (under_name name) (means v) t e in
+      subst (λ x. IsClean x → views (enumeration vs) x ≡ Some (value.newtype_variant name (norm v))) a.2
+      (λ c'. variant_viewed vs name (newtype_content f.0) a.0 f.1
+      ∙ ap (option_map (value.newtype_variant name)) (views_means v f.0 a.0 (content_plain vs name (newtype_content f.0) p f.1) f.2 a.1 c'.2)) c
+  views_means (value.tuple_variant name ws) (enumeration vs) t p f e c =
+      let a = some_map (λ ts. under_name name (array ts)) (means_items ws) t e in
+      subst (λ x. IsClean x → views (enumeration vs) x ≡ Some (value.tuple_variant name (norm_items ws))) a.2
+      (λ c'. variant_viewed vs name (tuple_content f.0) (array a.0) f.1
+      ∙ ap (option_map (value.tuple_variant name)) (views_means_parts ws f.0 a.0 (content_plain vs name (tuple_content f.0) p f.1) f.2 a.1 c'.2)) c
+  views_means (value.structure_variant name ws) (enumeration vs) t p f e c =
+      let a = some_map (λ ps. under_name name (document ps)) (means_fields ws) t e in
+      subst (λ x. IsClean x → views (enumeration vs) x ≡ Some (value.structure_variant name (norm_fields ws))) a.2
+      (λ c'. variant_viewed vs name (struct_content f.0) (document a.0) f.1
+      ∙ ap (option_map (value.structure_variant name)) (views_means_fields ws f.0 a.0 (content_plain vs name (struct_content f.0) p f.1) f.2 a.1 c'.2)) c
   views_means v s t p f e c = absurd f
 
   views_means_items : (vs : Items) (s : Form) (ts : Trees) → IsPlain s → ItemsFit vs s → means_items vs ≡ Some ts → AreTreesClean ts → views_items (views s) ts ≡ Some (norm_items vs)
@@ -197,7 +244,19 @@ mutual
       ∙ ap (option_map (item (norm v))) (views_means_items vs s b.0 p f.1 b.1 c'.1))
       c
 
-  views_means_entries : (es : Entries) (key s : Form) (ps : Pairs) → IsPlainKey key × IsPlain s → EntriesFit es key s → means_entries es ≡ Some ps → ArePairsClean ps
+  views_means_parts : (vs : Items) (ps : Parts) (ts : Trees) → ArePartsPlain ps → PartsFit vs ps → means_items vs ≡ Some ts → AreTreesClean ts → views_parts ps ts ≡ Some (norm_items vs)
+  views_means_parts no_items no_parts ts p f e c = ap (views_parts no_parts) (sym (trees_are no_trees ts e))
+  views_means_parts (item v vs) (part s ps) ts p f e c =
+      let a = some_then (λ t. option_map (tree.tree t) (means_items vs)) (means v) ts e in
+      let b = some_map (tree.tree a.0) (means_items vs) ts a.2 in
+      subst (λ x. AreTreesClean x → views_parts (part s ps) x ≡ Some (item (norm v) (norm_items vs))) b.2
+      (λ c'.
+      ap (option_and_then (λ w. option_map (item w) (views_parts ps b.0))) (views_means v s a.0 p.0 f.0 a.1 c'.0)
+      ∙ ap (option_map (item (norm v))) (views_means_parts vs ps b.0 p.1 f.1 b.1 c'.1))
+      c
+  views_means_parts vs ps ts p f e c = absurd f
+
+  views_means_entries : (es : Entries) (key s : Form) (ps : Pairs) → IsPlainKey key × IsPlain key × IsPlain s → EntriesFit es key s → means_entries es ≡ Some ps → ArePairsClean ps
       → views_entries (views_key key) (views s) ps ≡ Some (norm_entries es)
   views_means_entries no_entries key s ps p f e c = ap (views_entries (views_key key) (views s)) (sym (pairs_are no_pairs ps e))
   views_means_entries (entry k v es) key s ps p f e c =
@@ -207,7 +266,7 @@ mutual
       subst (λ x. ArePairsClean x → views_entries (views_key key) (views s) x ≡ Some (entry (norm k) (norm v) (norm_entries es))) q.2
       (λ c'.
       ap (option_and_then (λ j. option_and_then (λ w. option_map (entry j w) (views_entries (views_key key) (views s) q.0)) (views s b.0))) (key_means key k a.0 p.0 f.0 a.1)
-      ∙ ap (option_and_then (λ w. option_map (entry (norm k) w) (views_entries (views_key key) (views s) q.0))) (views_means v s b.0 p.1 f.1 b.1 c'.2)
+      ∙ ap (option_and_then (λ w. option_map (entry (norm k) w) (views_entries (views_key key) (views s) q.0))) (views_means v s b.0 p.2 f.1 b.1 c'.2)
       ∙ ap (option_map (entry (norm k) (norm v))) (views_means_entries es key s q.0 p f.2 q.1 c'.3))
       c
 

@@ -2,6 +2,7 @@ pub mod Sizes
 pub mod Spelled
 pub mod Fitted
 pub mod Fitting
+pub mod Variants
 pub mod Numbers
 pub mod Closed
 pub mod Values
@@ -20,6 +21,7 @@ pub mod Items
 pub mod Entries
 pub mod Unshaped
 pub mod ReadBack
+pub mod Containers
 pub mod Rewritten
 pub mod Standing
 pub mod Lent

@@ -1,42 +1,44 @@
 -- What a sound tree is at a shape is read from its bytes.
-use Rattle.std.proofs.Common.{◌≡◌, ℕ, zero, suc, ◌+◌, ◌-◌, ◌^◌, ◌<◌, ◌≤◌, [], ◌∷◌, ◌++◌, length, Bool, true, false, cond, Option, Some, Ok, Err, refl, ap, sym, subst, ◌∙◌, arith, pos}
-use Rattle.std.specs.Prelude.{option_map, nat_lt, not, ◌||◌}
+use Rattle.std.proofs.Common.{◌≡◌, ℕ, zero, suc, ◌+◌, ◌-◌, ◌^◌, ◌<◌, ◌≤◌, [], ◌∷◌, ◌++◌, length, Bool, true, false, cond, Option, Some, Ok, Err, refl, ap, sym, ◌∙◌, arith, pos}
+use Rattle.std.specs.Prelude.{option_map, option_and_then, nat_lt, not, ◌||◌}
 use Rattle.std.specs.Str.{bytes_eq, chars}
 use Rattle.std.proofs.lemmas.Bool.{le-ltb}
 use Rattle.bson_base.specs.Text.{Bytes, Utf8}
 use Rattle.bson_base.specs.Outcome.{◌>>=◌, result_map}
-use Rattle.bson_base.specs.Sound.{max_levels, IsClean, IsSound}
-use Rattle.bson_base.specs.Tree.{Tree, double, string, boolean, binary, null, int32, int64, document, array, Pairs, Trees, kind, enc, elements, array_elements, depth}
+use Rattle.bson_base.specs.Sound.{max_levels, IsClean, AreTreesClean, IsSound}
+use Rattle.bson_base.specs.Tree.{Tree, double, string, boolean, binary, null, int32, int64, document, array, Pairs, no_pairs, pair, Trees, no_trees, tree, kind, enc, elements, array_elements, depth, trees_depth}
 use Rattle.bson_base.specs.declared.element_type.ElementType.TheVariants.{EmbeddedDocument}
-use Rattle.bson_base.proofs.Lengths.{length-document, elements_size, array_elements_size}
+use Rattle.bson_base.proofs.Lengths.{length-document, head_size, first_size, later_size, elements_size, array_elements_size}
 use Rattle.bson_base.proofs.Outcomes.{some_is, some_map, some_then}
 use Rattle.bson_rawdoc.specs.declared.raw.Error.TheVariants.{TooShort, LengthDiffers, NoTerminator}
 use Rattle.bson_rawdoc.specs.Envelope.{is_closed, envelope}
 use Rattle.bson_rawdoc.specs.Numbers.{int32_in}
 use Rattle.std.specs.Ordering.{int_eq}
 use Rattle.std.proofs.lemmas.Bool.Decides.{Decides-int_eq}
-use Rattle.bson_rawdoc.specs.Walk.{walk}
-use Rattle.bson_shape.specs.Form.{Form, leaf, optional, sequence, newtype, unit_structure, map, structure, Fields, no_fields, field}
-use Rattle.bson_shape.specs.Makers.{has_field, repeats, IsShape, AreShapes}
+use Rattle.bson_rawdoc.specs.Walk.{Walk, walk, walk_elements}
+use Rattle.bson_shape.specs.Form.{Form, leaf, optional, sequence, newtype, unit_structure, map, tuple, tuple_structure, structure, enumeration, Fields, no_fields, field, Parts, no_parts, part, Content, unit_content, newtype_content, tuple_content, struct_content, Variants, no_variants, variant}
+use Rattle.bson_shape.specs.Makers.{has_field, repeats, IsShape, AreShapes, AreParts, AreVariants, IsContent}
 use Rattle.bson_laws.specs.Leaves.{LeafKind, anything, ignored, booleans, numbers, doubles, characters, texts, byte_strings, byte_buffers, units, leaf_kind}
 use Rattle.bson_rawdoc.specs.RawValue as raw_value
 use Rattle.bson_rawdoc.specs.RawValue.{value_in}
 use Rattle.bson_datum.specs.Value as value
-use Rattle.bson_datum.specs.Value.{IntegerType, in_range, Value, no_entries, FieldValues, no_field_values, field_value}
+use Rattle.bson_datum.specs.Value.{IntegerType, in_range, Value, Items, no_items, item, Entries, no_entries, FieldValues}
 use Rattle.bson_datum.specs.Cause.{raw}
-use Rattle.bson_datum.specs.Refusal.{bare, unreadable}
-use Rattle.bson_laws.specs.Reads.{Reading, judged, read_character, document_of, array_of, reads_items, reads_entries, read_leaf, reads_key, finish, no_slots, reads_fields, read_structure, reads_option, reads, reads_places, reads_field, answered, reads_document}
-use Rattle.bson_laws.specs.Views.{pairs_of, trees_of, one_character, views_leaf, views_leaf_key, views_option, views_key, views_items, views_entries, views, views_fields}
+use Rattle.bson_datum.specs.Refusal.{under, under_index, bare, unreadable}
+use Rattle.bson_laws.specs.Variants.{content_of}
+use Rattle.bson_laws.specs.Reads.{Reading, judged, read_character, document_of, array_of, reads_items, reads_entries, read_leaf, unit_of, reads_key, finish, no_slots, reads_fields, read_structure, read_first_element, read_enum, reads_option, reads, reads_places, reads_parts, reads_variant, reads_content, reads_field, answered, reads_document}
+use Rattle.bson_laws.specs.Views.{pairs_of, trees_of, one_character, views_leaf, views_leaf_key, views_option, views_key, views_items, views_entries, views, views_fields, views_parts, views_variant, views_content}
 use Rattle.bson_laws.proofs.Fitted.{Unnamed, unlike_swap}
 use Rattle.bson_laws.proofs.Numbers.{length_again}
 use Rattle.bson_laws.proofs.Closed.{closed_again}
 use Rattle.bson_laws.proofs.Values.{raw_of}
-use Rattle.bson_laws.proofs.Encoded.{walk_inside}
-use Rattle.bson_laws.proofs.Filled.{Distinct, views_nth, free_first, all_view, fill_again}
+use Rattle.bson_laws.proofs.Encoded.{elem, walk_inside, walk_again, array_walk_again}
+use Rattle.bson_laws.proofs.Filled.{Distinct, views_nth, free_first, all_view, ReadsViews, fill_again}
 use Rattle.bson_laws.proofs.Ignored.{judged_again}
-use Rattle.bson_laws.proofs.Items.{items_again}
-use Rattle.bson_laws.proofs.Entries.{ReadsTexts, new_first, entries_again}
+use Rattle.bson_laws.proofs.Items.{ReadsBack, items_again}
+use Rattle.bson_laws.proofs.Entries.{KeepsApart, ReadsKeys, new_first, entries_again}
 use Rattle.bson_laws.proofs.Unshaped.{any_again}
+use Rattle.bson_laws.proofs.Variants.{unit_is, chosen_read}
 use Rattle.bson_laws.proofs.Viewed.{in_range_or}
 
 -- ---- the names of a shape's fields
@@ -85,8 +87,18 @@ leaf_key_again : (k : LeafKind) (key : Utf8) (v : Value) → views_leaf_key k ke
 leaf_key_again texts key v e = (sym (some_is (value.str key) v e), refl)
 leaf_key_again k key v e = absurd cc
 
-key_again : (s : Form) → ReadsTexts (views_key s) (reads_key s)
+-- what a text is as a key: the unit variant of that name, where the keys are an enum
+abbrev key_of : Form → Utf8 → Value
+key_of (enumeration vs) key = value.unit_variant key
+key_of s key = value.str key
+
+keys_apart : (s : Form) → KeepsApart (key_of s)
+keys_apart (enumeration vs) a b = refl
+keys_apart s a b = refl
+
+key_again : (s : Form) → ReadsKeys (key_of s) (views_key s) (reads_key s)
 key_again (leaf l) key v e = leaf_key_again (leaf_kind l) key v e
+key_again (enumeration vs) key v e = let u = unit_is key (content_of vs key) v e in (u.1, u.2)
 key_again s key v e = absurd cc
 
 -- ---- null, and what is not null
@@ -101,13 +113,73 @@ unit_again name t v levels e = absurd cc
 
 -- ---- documents and arrays
 
-pairs_then : (t : Tree) (ps : Pairs) → pairs_of t ≡ Some ps → t ≡ document ps
-pairs_then (document qs) ps e = ap document cc
-pairs_then t ps e = absurd cc
+-- the values of an array, read where those in it are
+array_again : (f : Items → Value) (view : Trees → Option Items) (read : Walk → Reading Items) (t : Tree) (v : Value) (levels : ℕ)
+    → ((ts : Trees) (vs : Items) → AreTreesClean ts → trees_depth ts ≤ levels - 1 → length (array_elements 0 ts) < 2 ^ 31 → view ts ≡ Some vs → read (walk_elements (array_elements 0 ts)) ≡ Ok vs)
+    → IsClean t → depth t ≤ levels → length (enc t) < 2 ^ 31 → option_and_then (λ ts. option_map f (view ts)) (trees_of t) ≡ Some v
+    → (judged levels (value_in (kind t) (enc t)) >>= array_of >>= λ b. result_map f (read (walk b))) ≡ Ok v
+array_again f view read (array ts) v levels all c d l e =
+    let m = some_map f (view ts) v e in
+    ap (λ r. r >>= array_of >>= λ b. result_map f (read (walk b))) (judged_again (array ts) levels c d l)
+    ∙ ap (λ w. result_map f (read w)) (walk_inside (array_elements 0 ts))
+    ∙ ap (result_map f) (all ts m.0 c (omega arith) (omega (arith, array_elements_size ts)) m.1)
+    ∙ ap Ok m.2
+array_again f view read t v levels all c d l e = absurd cc
 
-trees_then : (t : Tree) (ts : Trees) → trees_of t ≡ Some ts → t ≡ array ts
-trees_then (array us) ts e = ap array cc
-trees_then t ts e = absurd cc
+-- the entries of a document, read where its values are
+map_again : (key s : Form) (t : Tree) (v : Value) (levels : ℕ) → ReadsBack (views s) (reads s (levels - 1)) (levels - 1)
+    → IsClean t → depth t ≤ levels → length (enc t) < 2 ^ 31 → views (map key s) t ≡ Some v → reads (map key s) levels (kind t) (enc t) ≡ Ok v
+map_again key s (document ps) v levels each c d l e =
+    let below = levels - 1 in
+    let m = some_map value.map (views_entries (views_key key) (views s) ps) v e in
+    ap (λ r. r >>= document_of >>= λ x. result_map value.map (reads_entries (reads_key key) (reads s below) (walk x) no_entries)) (judged_again (document ps) levels c d l)
+    ∙ ap (λ w. result_map value.map (reads_entries (reads_key key) (reads s below) w no_entries)) (walk_inside (elements ps))
+    ∙ ap (result_map value.map)
+    (entries_again (key_of key) (keys_apart key) (views_key key) (reads_key key) (views s) (reads s below) below (key_again key) each ps no_entries m.0 c (omega arith) (omega (arith, elements_size ps)) (new_first (key_of key) ps) m.1)
+    ∙ ap Ok m.2
+map_again key s t v levels each c d l e = absurd cc
+
+-- a value at the fields of a struct, with so many levels left
+abbrev read_fields : (FieldValues → Value) → Fields → ℕ → Tree → Reading Value
+read_fields f fs levels t =
+    judged levels (value_in (kind t) (enc t)) >>= λ v. result_map f
+    (read_structure (λ b. reads_fields fs (levels - 1) (λ i. reads_field fs i (levels - 1)) (walk b)) (λ b. reads_places fs 0 (levels - 1) (walk b)) v)
+
+-- the fields of a struct, read by their keys where each is
+fields_again : (f : FieldValues → Value) (fs : Fields) (t : Tree) (v : Value) (levels : ℕ) → repeats fs ≡ false → ReadsViews fs (levels - 1)
+    → IsClean t → depth t ≤ levels → length (enc t) < 2 ^ 31 → option_and_then (λ ps. option_map f (views_fields fs ps)) (pairs_of t) ≡ Some v → read_fields f fs levels t ≡ Ok v
+fields_again f fs (document ps) v levels distinct each c d l e =
+    let below = levels - 1 in
+    let m = some_map f (views_fields fs ps) v e in
+    let all = all_view fs ps m.0 m.1 in
+    ap (λ r. r >>= λ x. result_map f (read_structure (λ y. reads_fields fs below (λ i. reads_field fs i below) (walk y)) (λ y. reads_places fs 0 below (walk y)) x)) (judged_again (document ps) levels c d l)
+    ∙ ap (λ w. result_map f (reads_fields fs below (λ i. reads_field fs i below) w)) (walk_inside (elements ps))
+    ∙ ap (λ r. result_map f (r >>= finish fs)) (fill_again fs below (distinct_from fs distinct) each ps (no_slots fs) c (omega arith) (omega (arith, elements_size ps)) all.0 (free_first fs ps))
+    ∙ ap (result_map f) all.1
+    ∙ ap Ok m.2
+fields_again f fs t v levels distinct each c d l e = absurd cc
+
+-- ---- enums
+
+-- what the variants of an enum are viewed as is read from the element that names one
+abbrev ReadsVariants : Variants → ℕ → Type 0
+ReadsVariants vs levels = (name : Utf8) (t : Tree) (v : Value) → IsClean t → depth t ≤ levels → length (enc t) < 2 ^ 31 → views_variant vs name t ≡ Some v → reads_variant vs levels (elem name t) ≡ Ok v
+
+enum_again : (vs : Variants) (t : Tree) (v : Value) (levels : ℕ) → ReadsVariants vs (levels - 1)
+    → IsClean t → depth t ≤ levels → length (enc t) < 2 ^ 31 → views (enumeration vs) t ≡ Some v → reads (enumeration vs) levels (kind t) (enc t) ≡ Ok v
+enum_again vs (string name) v levels each c d l e =
+    let u = unit_is name (content_of vs name) v e in
+    ap (λ r. r >>= read_enum (λ n. unit_of n (content_of vs n)) (λ x. reads_variant vs (levels - 1) x)) (judged_again (string name) levels c d l) ∙ u.2 ∙ ap Ok (sym u.1)
+enum_again vs (document (pair name t no_pairs)) v levels each c d l e =
+    let below = levels - 1 in
+    let ps = pair name t no_pairs in
+    let small : length (elements ps) < 2 ^ 31 = omega (arith, elements_size ps) in
+    ap (λ r. r >>= read_enum (λ n. unit_of n (content_of vs n)) (λ x. reads_variant vs below x)) (judged_again (document ps) levels c d l)
+    ∙ ap (read_first_element (λ x. reads_variant vs below x)) (walk_inside (elements ps) ∙ walk_again name t no_pairs c.0 c.2 small)
+    ∙ each name t v c.2 (omega arith) (omega (arith, head_size name t no_pairs)) e
+enum_again vs t v levels each c d l e = absurd cc
+
+-- ---- all forms
 
 mutual
   pub reads_again : (s : Form) (t : Tree) (v : Value) (levels : ℕ) → IsShape s → IsClean t → depth t ≤ levels → length (enc t) < 2 ^ 31 → views s t ≡ Some v → reads s levels (kind t) (enc t) ≡ Ok v
@@ -118,45 +190,52 @@ mutual
       ap (result_map (value.newtype name)) (reads_again s t m.0 levels p.1 c d l m.1) ∙ ap Ok m.2
   reads_again (unit_structure name) t v levels p c d l e = unit_again name t v levels e
   reads_again (sequence s) t v levels p c d l e =
-      let a = some_then (λ ts. option_map value.sequence (views_items (views s) ts)) (trees_of t) v e in
-      let b = some_map value.sequence (views_items (views s) a.0) v a.2 in
-      subst (λ u. IsClean u → depth u ≤ levels → length (enc u) < 2 ^ 31 → reads (sequence s) levels (kind u) (enc u) ≡ Ok v) (sym (trees_then t a.0 a.1))
-      (λ c' d' l'.
       let below = levels - 1 in
-      ap (λ r. r >>= array_of >>= λ x. result_map value.sequence (reads_items (reads s below) 0 (walk x))) (judged_again (array a.0) levels c' d' l')
-      ∙ ap (λ w. result_map value.sequence (reads_items (reads s below) 0 w)) (walk_inside (array_elements 0 a.0))
-      ∙ ap (result_map value.sequence) (items_again (views s) (reads s below) below (λ u w. reads_again s u w below p.1) 0 a.0 b.0 c' (omega arith) (omega (arith, array_elements_size a.0)) b.1)
-      ∙ ap Ok b.2)
-      c d l
-  reads_again (map key s) t v levels p c d l e =
-      let a = some_then (λ ps. option_map value.map (views_entries (views_key key) (views s) ps)) (pairs_of t) v e in
-      let b = some_map value.map (views_entries (views_key key) (views s) a.0) v a.2 in
-      subst (λ u. IsClean u → depth u ≤ levels → length (enc u) < 2 ^ 31 → reads (map key s) levels (kind u) (enc u) ≡ Ok v) (sym (pairs_then t a.0 a.1))
-      (λ c' d' l'.
-      let below = levels - 1 in
-      ap (λ r. r >>= document_of >>= λ x. result_map value.map (reads_entries (reads_key key) (reads s below) (walk x) no_entries)) (judged_again (document a.0) levels c' d' l')
-      ∙ ap (λ w. result_map value.map (reads_entries (reads_key key) (reads s below) w no_entries)) (walk_inside (elements a.0))
-      ∙ ap (result_map value.map) (entries_again (views_key key) (reads_key key) (views s) (reads s below) below (key_again key) (λ u w. reads_again s u w below p.3) a.0 no_entries b.0 c' (omega arith) (omega (arith, elements_size a.0)) (new_first a.0) b.1)
-      ∙ ap Ok b.2)
-      c d l
+      array_again value.sequence (views_items (views s)) (reads_items (reads s below) 0) t v levels
+      (λ ts vs c' d' l' h. items_again (views s) (reads s below) below (λ u w. reads_again s u w below p.1) 0 ts vs c' d' l' h) c d l e
+  reads_again (map key s) t v levels p c d l e = map_again key s t v levels (λ u w. reads_again s u w (levels - 1) p.3) c d l e
   reads_again (structure name fs) t v levels p c d l e =
-      let a = some_then (λ ps. option_map (value.structure name) (views_fields fs ps)) (pairs_of t) v e in
-      let b = some_map (value.structure name) (views_fields fs a.0) v a.2 in
-      subst (λ u. IsClean u → depth u ≤ levels → length (enc u) < 2 ^ 31 → reads (structure name fs) levels (kind u) (enc u) ≡ Ok v) (sym (pairs_then t a.0 a.1))
-      (λ c' d' l'.
-      let all = all_view fs a.0 b.0 b.1 in
-      let below = levels - 1 in
-      ap (λ r. r >>= λ x. result_map (value.structure name) (read_structure (λ y. reads_fields fs below (λ i. reads_field fs i below) (walk y)) (λ y. reads_places fs 0 below (walk y)) x)) (judged_again (document a.0) levels c' d' l')
-      ∙ ap (λ w. result_map (value.structure name) (reads_fields fs below (λ i. reads_field fs i below) w)) (walk_inside (elements a.0))
-      ∙ ap (λ r. result_map (value.structure name) (r >>= finish fs)) (fill_again fs below (distinct_from fs p.0.distinct) (λ i u w. reads_field_again fs i u w below p.1) a.0 (no_slots fs) c' (omega arith) (omega (arith, elements_size a.0)) all.0 (free_first fs a.0))
-      ∙ ap (result_map (value.structure name)) all.1
-      ∙ ap Ok b.2)
-      c d l
+      fields_again (value.structure name) fs t v levels p.0.distinct (λ i u w. reads_field_again fs i u w (levels - 1) p.1) c d l e
+  reads_again (tuple ps) t v levels p c d l e =
+      array_again value.tuple (views_parts ps) (reads_parts ps 0 (levels - 1)) t v levels (λ ts vs c' d' l' h. reads_parts_again ps 0 ts vs (levels - 1) p.1 c' d' l' h) c d l e
+  reads_again (tuple_structure name ps) t v levels p c d l e =
+      array_again (value.tuple_structure name) (views_parts ps) (reads_parts ps 0 (levels - 1)) t v levels (λ ts vs c' d' l' h. reads_parts_again ps 0 ts vs (levels - 1) p.2 c' d' l' h) c d l e
+  reads_again (enumeration vs) t v levels p c d l e = enum_again vs t v levels (λ name u w. reads_variant_again vs name u w (levels - 1) p.1) c d l e
 
   pub reads_field_again : (fs : Fields) (i : ℕ) (t : Tree) (v : Value) (levels : ℕ) → AreShapes fs → IsClean t → depth t ≤ levels → length (enc t) < 2 ^ 31 → views_nth fs i t ≡ Some v → reads_field fs i levels (kind t) (enc t) ≡ Ok v
   reads_field_again no_fields i t v levels p c d l e = absurd cc
   reads_field_again (field n s fs) zero t v levels p c d l e = reads_again s t v levels p.1 c d l e
   reads_field_again (field n s fs) (suc i) t v levels p c d l e = reads_field_again fs i t v levels p.2 c d l e
+
+  reads_parts_again : (ps : Parts) (i : ℕ) (ts : Trees) (vs : Items) (levels : ℕ) → AreParts ps → AreTreesClean ts → trees_depth ts ≤ levels → length (array_elements i ts) < 2 ^ 31 → views_parts ps ts ≡ Some vs
+      → reads_parts ps i levels (walk_elements (array_elements i ts)) ≡ Ok vs
+  reads_parts_again no_parts i no_trees vs levels p c d l e = ap Ok (some_is no_items vs e)
+  reads_parts_again (part s ps) i (tree t ts) vs levels p c d l e =
+      let a = some_then (λ v. option_map (item v) (views_parts ps ts)) (views s t) vs e in
+      let b = some_map (item a.0) (views_parts ps ts) vs a.2 in
+      ap (reads_parts (part s ps) i levels) (array_walk_again i t ts c.0 l)
+      ∙ ap (λ r. under_index i r >>= λ v. result_map (item v) (reads_parts ps (suc i) levels (walk_elements (array_elements (suc i) ts)))) (reads_again s t a.0 levels p.0 c.0 (omega arith) (omega (arith, first_size i t ts)) a.1)
+      ∙ ap (result_map (item a.0)) (reads_parts_again ps (suc i) ts b.0 levels p.1 c.1 (omega arith) (omega (arith, later_size i t ts)) b.1)
+      ∙ ap Ok b.2
+  reads_parts_again ps i ts vs levels p c d l e = absurd cc
+
+  reads_variant_again : (vs : Variants) (name : Utf8) (t : Tree) (v : Value) (levels : ℕ) → AreVariants vs → IsClean t → depth t ≤ levels → length (enc t) < 2 ^ 31 → views_variant vs name t ≡ Some v
+      → reads_variant vs levels (elem name t) ≡ Ok v
+  reads_variant_again no_variants name t v levels p c d l e = absurd cc
+  reads_variant_again (variant n x vs) name t v levels p c d l e =
+      chosen_read (bytes_eq n name) (views_content n x t) (views_variant vs name t) (reads_content n x levels (elem name t)) (reads_variant vs levels (elem name t)) v e
+      (λ h. reads_content_again x n name t v levels p.1 c d l h) (λ h. reads_variant_again vs name t v levels p.2 c d l h)
+
+  reads_content_again : (x : Content) (n name : Utf8) (t : Tree) (v : Value) (levels : ℕ) → IsContent x → IsClean t → depth t ≤ levels → length (enc t) < 2 ^ 31 → views_content n x t ≡ Some v
+      → reads_content n x levels (elem name t) ≡ Ok v
+  reads_content_again unit_content n name t v levels p c d l e = absurd cc
+  reads_content_again (newtype_content s) n name t v levels p c d l e =
+      let m = some_map (value.newtype_variant n) (views s t) v e in
+      ap (λ r. under name (result_map (value.newtype_variant n) r)) (reads_again s t m.0 levels p c d l m.1) ∙ ap Ok m.2
+  reads_content_again (tuple_content ps) n name t v levels p c d l e =
+      ap (under name) (array_again (value.tuple_variant n) (views_parts ps) (reads_parts ps 0 (levels - 1)) t v levels (λ ts vs c' d' l' h. reads_parts_again ps 0 ts vs (levels - 1) p c' d' l' h) c d l e)
+  reads_content_again (struct_content fs) n name t v levels p c d l e =
+      ap (under name) (fields_again (value.structure_variant n) fs t v levels p.0 (λ i u w. reads_field_again fs i u w (levels - 1) p.1) c d l e)
 
 passed : (a b c : Bool) (x : Bytes) → a ≡ false → b ≡ true → c ≡ true → cond a (Err TooShort) (cond (not b) (Err LengthDiffers) (cond (not c) (Err NoTerminator) (Ok x))) ≡ Ok x
 passed true b c x p q r = absurd cc

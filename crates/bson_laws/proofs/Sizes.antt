@@ -12,10 +12,10 @@ use Rattle.bson_base.specs.declared.element_type.ElementType.{ElementType}
 use Rattle.bson_base.specs.declared.element_type.ElementType.TheVariants.{EmbeddedDocument, Binary, Int32}
 use Rattle.bson_base.proofs.Outcomes.{map_ok, bind_ok}
 use Rattle.bson_base.proofs.Lengths.{length-le32, length-le64, length-text, length-boolean, length-binary, length-document, length-array}
-use Rattle.bson_datum.specs.Value.{IntegerType, i8, i16, i32, i64, u8, u16, u32, u64, written_as, Value, boolean, integer, double, character, str, bytes, none, some, unit, unit_structure, newtype, sequence, map, structure, Items, no_items, item, Entries, no_entries, entry, FieldValues, no_field_values, field_value, newtype_kind, kind_of, reserved_or_document}
+use Rattle.bson_datum.specs.Value.{IntegerType, i8, i16, i32, i64, u8, u16, u32, u64, written_as, Value, boolean, integer, double, character, str, bytes, none, some, unit, unit_structure, newtype, sequence, map, structure, unit_variant, newtype_variant, tuple, tuple_structure, tuple_variant, structure_variant, Items, no_items, item, Entries, no_entries, entry, FieldValues, no_field_values, field_value, newtype_kind, kind_of, reserved_or_document}
 use Rattle.bson_datum.specs.Refusal.{Segment, at_key, at_index, Refusal, WriteFault, inside, under, under_index}
 use Rattle.bson_laws.specs.Means.{key_text}
-use Rattle.bson_laws.specs.Spell.{Writing, written_key, spell_key, key_size, spell_entries, size_entries, enclosed_at, struct_at, named, number_size, spell_number, unbuilt_newtype, newtype_at, spell, spell_items, spell_fields, size, size_items, size_fields}
+use Rattle.bson_laws.specs.Spell.{Writing, written_key, spell_key, key_size, spell_entries, size_entries, variant_at, variant_size, enclosed_at, struct_at, named, number_size, spell_number, unbuilt_newtype, newtype_at, spell, spell_items, spell_fields, size, size_items, size_fields}
 
 abbrev done : {A : Type 0} → A → Writing A
 done x = Ok x
@@ -49,6 +49,19 @@ pub struct_ok : (o : Option ElementType) (levels : ℕ) (pairs : ℕ → Writing
     → (o ≡ None) × ((n : ℕ) × (levels ≡ suc n) × ((ps : Pairs) × (pairs n ≡ Ok ps) × (document ps ≡ t)))
 struct_ok (Some k) levels pairs t e = absurd cc
 struct_ok None levels pairs t e = (refl, enclosed_ok document levels pairs t e)
+
+-- a variant that is written is a document of one pair, whose value is what is written for its contents one level further in
+pub variant_ok : (name : Utf8) (levels : ℕ) (content : ℕ → Writing Tree) (t : Tree) → variant_at name levels content ≡ Ok t
+    → (n : ℕ) × (levels ≡ suc n) × ((u : Tree) × (content n ≡ Ok u) × (document (pair name u no_pairs) ≡ t))
+variant_ok name levels content t e =
+    let m = enclosed_ok document levels (λ inner. named name (content inner) >>= λ u. Ok (pair name u no_pairs)) t e in
+    let b = bind_ok (named name (content m.0)) (λ u. Ok (pair name u no_pairs)) m.2.0 m.2.1 in
+    (m.0, m.1, (b.0, (named_ok name (content m.0) b.0 b.1).1, ap document (ok_is (pair name b.0 no_pairs) m.2.0 b.2) ∙ m.2.2))
+
+-- a document of one pair
+variant_length : (name : Utf8) (u : Tree) (n : ℕ) → length (enc u) ≡ n → length (enc (document (pair name u no_pairs))) ≡ variant_size name n
+variant_length name u n e =
+    length-document (pair name u no_pairs) ∙ omega (arith, e, length-append name (0 ∷ enc u), length-append (name ++ (0 ∷ enc u)) (elements no_pairs))
 
 kept_key : (b : Bool) (f : Refusal WriteFault) (x key : Utf8) → cond b (Err f) (done x) ≡ Ok key → (b ≡ false) × (x ≡ key)
 kept_key true f x key e = absurd cc
@@ -110,6 +123,12 @@ spell_kind (newtype name v) levels t e = let m = newtype_ok (unbuilt_newtype nam
 spell_kind (str x) levels t e = ap kind (sym (ok_is (string x) t e))
 spell_kind (sequence vs) levels t e = let m = enclosed_ok array levels (spell_items 0 vs) t e in ap kind (sym m.2.2)
 spell_kind (map es) levels t e = let m = enclosed_ok document levels (spell_entries es) t e in ap kind (sym m.2.2)
+spell_kind (unit_variant name) levels t e = ap kind (sym (ok_is (string name) t e))
+spell_kind (newtype_variant name v) levels t e = let m = variant_ok name levels (spell v) t e in ap kind (sym m.2.2)
+spell_kind (tuple vs) levels t e = let m = enclosed_ok array levels (spell_items 0 vs) t e in ap kind (sym m.2.2)
+spell_kind (tuple_structure name vs) levels t e = let m = enclosed_ok array levels (spell_items 0 vs) t e in ap kind (sym m.2.2)
+spell_kind (tuple_variant name vs) levels t e = let m = variant_ok name levels (λ inner. enclosed_at array inner (spell_items 0 vs)) t e in ap kind (sym m.2.2)
+spell_kind (structure_variant name fs) levels t e = let m = variant_ok name levels (λ inner. enclosed_at document inner (spell_fields fs)) t e in ap kind (sym m.2.2)
 spell_kind (structure name fs) levels t e = let m = struct_ok (reserved_kind name) levels (spell_fields fs) t e in ap kind (sym m.1.2.2) ∙ ap reserved_or_document (sym m.0)
 
 mutual
@@ -131,6 +150,26 @@ mutual
   length-spell (map es) levels t e =
       let m = enclosed_ok document levels (spell_entries es) t e in
       ap (λ u. length (enc u)) (sym m.2.2) ∙ length-document m.2.0 ∙ ap (λ k. k + 5) (length-spell_entries es m.0 m.2.0 m.2.1)
+  length-spell (unit_variant name) levels t e = ap (λ u. length (enc u)) (sym (ok_is (string name) t e)) ∙ length-text name
+  length-spell (newtype_variant name v) levels t e =
+      let m = variant_ok name levels (spell v) t e in
+      ap (λ u. length (enc u)) (sym m.2.2) ∙ variant_length name m.2.0 (size v) (length-spell v m.0 m.2.0 m.2.1)
+  length-spell (tuple vs) levels t e =
+      let m = enclosed_ok array levels (spell_items 0 vs) t e in
+      ap (λ u. length (enc u)) (sym m.2.2) ∙ length-array m.2.0 ∙ ap (λ k. k + 5) (length-spell_items 0 vs m.0 m.2.0 m.2.1)
+  length-spell (tuple_structure name vs) levels t e =
+      let m = enclosed_ok array levels (spell_items 0 vs) t e in
+      ap (λ u. length (enc u)) (sym m.2.2) ∙ length-array m.2.0 ∙ ap (λ k. k + 5) (length-spell_items 0 vs m.0 m.2.0 m.2.1)
+  length-spell (tuple_variant name vs) levels t e =
+      let m = variant_ok name levels (λ inner. enclosed_at array inner (spell_items 0 vs)) t e in
+      let a = enclosed_ok array m.0 (spell_items 0 vs) m.2.0 m.2.1 in
+      ap (λ u. length (enc u)) (sym m.2.2)
+      ∙ variant_length name m.2.0 (size_items 0 vs + 5) (ap (λ u. length (enc u)) (sym a.2.2) ∙ length-array a.2.0 ∙ ap (λ k. k + 5) (length-spell_items 0 vs a.0 a.2.0 a.2.1))
+  length-spell (structure_variant name fs) levels t e =
+      let m = variant_ok name levels (λ inner. enclosed_at document inner (spell_fields fs)) t e in
+      let a = enclosed_ok document m.0 (spell_fields fs) m.2.0 m.2.1 in
+      ap (λ u. length (enc u)) (sym m.2.2)
+      ∙ variant_length name m.2.0 (size_fields fs + 5) (ap (λ u. length (enc u)) (sym a.2.2) ∙ length-document a.2.0 ∙ ap (λ k. k + 5) (length-spell_fields fs a.0 a.2.0 a.2.1))
   length-spell (structure name fs) levels t e =
       let m = struct_ok (reserved_kind name) levels (spell_fields fs) t e in
       ap (λ u. length (enc u)) (sym m.1.2.2) ∙ length-document m.1.2.0 ∙ ap (λ k. k + 5) (length-spell_fields fs m.1.0 m.1.2.0 m.1.2.1)

@@ -2,7 +2,7 @@
 use Rattle.std.proofs.Common.{◌≡◌, ℕ, ℤ, Bool, true, false, zero, suc, ◌≤◌, length, cond, Option, Some, None, Ok, Err, refl, ap, sym, subst, ◌∙◌, arith}
 use Rattle.std.specs.Prelude.{encode_utf8, option_map, option_and_then, is_some, ◌||◌}
 use Rattle.std.proofs.lemmas.Bool.{le-ltb}
-use Rattle.bson_base.specs.Text.{Bytes, Utf8}
+use Rattle.bson_base.specs.Text.{Bytes, Utf8, has_zero}
 use Rattle.bson_base.specs.Outcome.{◌>>=◌, result_map}
 use Rattle.bson_base.specs.Reserved.{reserved_kind}
 use Rattle.bson_base.specs.Sound.{max_levels, IsClean, ArePairsClean, AreTreesClean, IsSound, IsDocument}
@@ -12,10 +12,10 @@ use Rattle.bson_base.specs.declared.element_type.ElementType.{ElementType}
 use Rattle.bson_base.specs.declared.element_type.ElementType.TheVariants.{EmbeddedDocument, Binary, Int32}
 use Rattle.bson_base.proofs.Outcomes.{some_map, some_then}
 use Rattle.bson_shape.specs.Makers.{is_reserved_newtype}
-use Rattle.bson_datum.specs.Value.{written_as, Value, boolean, integer, double, character, str, bytes, none, some, unit, unit_structure, newtype, sequence, map, structure, Items, no_items, item, Entries, no_entries, entry, FieldValues, no_field_values, field_value, kind_of, reserved_or_document}
+use Rattle.bson_datum.specs.Value.{written_as, Value, boolean, integer, double, character, str, bytes, none, some, unit, unit_structure, newtype, sequence, map, structure, unit_variant, newtype_variant, tuple, tuple_structure, tuple_variant, structure_variant, Items, no_items, item, Entries, no_entries, entry, FieldValues, no_field_values, field_value, kind_of, reserved_or_document}
 use Rattle.bson_datum.specs.Refusal.{WriteFault, Refusal, here, invalid_cstring, under, under_index}
-use Rattle.bson_laws.specs.Means.{key_text, means_entries, number_of, means, means_items, means_fields}
-use Rattle.bson_laws.specs.Spell.{written_key, spell_entries, Writing, spell_number, spell_bytes, unbuilt_newtype, newtype_at, enclosed_at, struct_at, spell, spell_items, spell_fields, at_top, spell_document, size}
+use Rattle.bson_laws.specs.Means.{under_name, key_text, means_entries, number_of, means, means_items, means_fields}
+use Rattle.bson_laws.specs.Spell.{named, variant_at, written_key, spell_entries, Writing, spell_number, spell_bytes, unbuilt_newtype, newtype_at, enclosed_at, struct_at, spell, spell_items, spell_fields, at_top, spell_document, size}
 use Rattle.bson_laws.proofs.Sizes.{built_kind, length-spell}
 
 abbrev pub pairs_found : Pairs → Option Pairs
@@ -79,6 +79,17 @@ enclosed : {A : Type 0} (container : A → Tree) (parts : ℕ → Writing A) (ps
 enclosed container parts ps inner zero d h = absurd (omega arith)
 enclosed container parts ps inner (suc n) d h = ap (result_map container) (h n (omega arith))
 
+named_is : (name : Utf8) (r : Writing Tree) (u : Tree) → has_zero name ≡ false → r ≡ Ok u → (named name r >>= λ t. Ok (pair name t no_pairs)) ≡ Ok (pair name u no_pairs)
+named_is name r u z e =
+    ap (λ b. cond b (Err (here (invalid_cstring name))) (under name r) >>= λ t. Ok (pair name t no_pairs)) z
+    ∙ ap (λ s. under name s >>= λ t. Ok (pair name t no_pairs)) e
+
+-- a variant whose contents are written, however many levels are left for them
+variant_is : (name : Utf8) (levels : ℕ) (content : ℕ → Writing Tree) (u : Tree) → has_zero name ≡ false → suc (depth u) ≤ levels → ((n : ℕ) → depth u ≤ n → content n ≡ Ok u)
+    → variant_at name levels content ≡ Ok (document (pair name u no_pairs))
+variant_is name levels content u z d h =
+    enclosed document (λ inner. named name (content inner) >>= λ t. Ok (pair name t no_pairs)) (pair name u no_pairs) (depth u) levels d (λ n le. named_is name (content n) u z (h n le))
+
 abbrev pub trees_found : Trees → Option Trees
 trees_found ts = Some ts
 
@@ -108,6 +119,29 @@ mutual
       let m = some_map document (means_entries es) t e in
       subst (λ x. IsClean x → depth x ≤ levels → spell (map es) levels ≡ Ok x) m.2
       (λ c' d'. enclosed document (spell_entries es) m.0 (pairs_depth m.0) levels d' (λ n le. spell_entries_are es m.0 n m.1 c' le)) c d
+  spell_is (unit_variant name) t levels e c d = ap Ok (tree_is (string name) t e)
+  spell_is (newtype_variant name v) t levels e c d =
+      let m = some_map (under_name name) (means v) t e in
+      subst (λ x. IsClean x → depth x ≤ levels → spell (newtype_variant name v) levels ≡ Ok x) m.2
+      (λ c' d'. variant_is name levels (spell v) m.0 c'.0.no_zero (omega arith) (λ n le. spell_is v m.0 n m.1 c'.2 le)) c d
+  spell_is (tuple vs) t levels e c d =
+      let m = some_map array (means_items vs) t e in
+      subst (λ x. IsClean x → depth x ≤ levels → spell (tuple vs) levels ≡ Ok x) m.2
+      (λ c' d'. enclosed array (spell_items 0 vs) m.0 (trees_depth m.0) levels d' (λ n le. spell_items_are 0 vs m.0 n m.1 c' le)) c d
+  spell_is (tuple_structure name vs) t levels e c d =
+      let m = some_map array (means_items vs) t e in
+      subst (λ x. IsClean x → depth x ≤ levels → spell (tuple_structure name vs) levels ≡ Ok x) m.2
+      (λ c' d'. enclosed array (spell_items 0 vs) m.0 (trees_depth m.0) levels d' (λ n le. spell_items_are 0 vs m.0 n m.1 c' le)) c d
+  spell_is (tuple_variant name vs) t levels e c d =
+      let m = some_map (λ ts. under_name name (array ts)) (means_items vs) t e in
+      subst (λ x. IsClean x → depth x ≤ levels → spell (tuple_variant name vs) levels ≡ Ok x) m.2
+      (λ c' d'. variant_is name levels (λ inner. enclosed_at array inner (spell_items 0 vs)) (array m.0) c'.0.no_zero (omega arith)
+      (λ n le. enclosed array (spell_items 0 vs) m.0 (trees_depth m.0) n le (λ k le'. spell_items_are 0 vs m.0 k m.1 c'.2 le'))) c d
+  spell_is (structure_variant name fs) t levels e c d =
+      let m = some_map (λ ps. under_name name (document ps)) (means_fields fs) t e in
+      subst (λ x. IsClean x → depth x ≤ levels → spell (structure_variant name fs) levels ≡ Ok x) m.2
+      (λ c' d'. variant_is name levels (λ inner. enclosed_at document inner (spell_fields fs)) (document m.0) c'.0.no_zero (omega arith)
+      (λ n le. enclosed document (spell_fields fs) m.0 (pairs_depth m.0) n le (λ k le'. spell_fields_are fs m.0 k m.1 c'.2 le'))) c d
   spell_is (structure name fs) t levels e c d =
       let u = unreserved (reserved_kind name) (option_map document (means_fields fs)) t e in
       let m = some_map document (means_fields fs) t u.1 in
@@ -169,6 +203,12 @@ document_only (newtype name v) t e doc h =
 document_only (str x) t e doc h = absurd (subst IsDocument (sym (tree_is (string x) t e)) doc)
 document_only (sequence vs) t e doc h = let m = some_map array (means_items vs) t e in absurd (subst IsDocument (sym m.2) doc)
 document_only (map es) t e doc h = h
+document_only (unit_variant name) t e doc h = absurd (subst IsDocument (sym (tree_is (string name) t e)) doc)
+document_only (newtype_variant name v) t e doc h = h
+document_only (tuple vs) t e doc h = let m = some_map array (means_items vs) t e in absurd (subst IsDocument (sym m.2) doc)
+document_only (tuple_structure name vs) t e doc h = let m = some_map array (means_items vs) t e in absurd (subst IsDocument (sym m.2) doc)
+document_only (tuple_variant name vs) t e doc h = h
+document_only (structure_variant name fs) t e doc h = h
 document_only (structure name fs) t e doc h =
     let u = unreserved (reserved_kind name) (option_map document (means_fields fs)) t e in
     ap (λ o. at_top (reserved_or_document o) (spell (structure name fs) max_levels)) u.0 ∙ h

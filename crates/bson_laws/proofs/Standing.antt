@@ -17,7 +17,7 @@ use Rattle.bson_rawdoc.specs.RawValue.{RawValue, string, document, array, binary
 use Rattle.bson_rawdoc.specs.Walk.{Element, Walk, ended, faulty, then_walk, of_kind, with_key, element_at, walk_step, walk_within, walk_elements, walk}
 use Rattle.bson_rawdoc.specs.declared.raw.Error.{Error}
 use Rattle.bson_rawdoc.specs.declared.raw.Error.TheVariants.{TooShort, LengthDiffers, NoTerminator, KeyNotUtf8, BadExtent, NotUtf8, TextUnclosed, InnerLength, ValueUnclosed}
-use Rattle.bson_laws.specs.Lent.{StandsIn, PartsStandIn}
+use Rattle.bson_laws.specs.Lent.{StandsIn, PartsStandIn, ElementsStandIn}
 
 -- the whole stands in itself
 stands_whole : (bytes : Bytes) → StandsIn bytes bytes
@@ -99,12 +99,6 @@ key_stands b bytes (Some q) p cut e = kind_stands b q.0 (of_byte b) q.1 bytes p 
 element_stands : (b : ℕ) (bytes : Bytes) (p : Element × Bytes) → element_at b bytes ≡ Ok p → Stands bytes p
 unfolding element_at
 element_stands b bytes p e = key_stands b bytes (cut_at_zero bytes) p refl e
-
--- the key and the value of each of these elements stand in the bytes
-abbrev pub ElementsStandIn : Bytes → Walk → Type 0
-ElementsStandIn bytes ended = Unit {0}
-ElementsStandIn bytes (faulty f) = Unit {0}
-ElementsStandIn bytes (then_walk e w) = StandsIn e.key bytes × StandsIn e.value bytes × ElementsStandIn bytes w
 
 step_stands : (more : Bytes → Walk) (input : Bytes) (r : Result (Element × Bytes) Error) → ((p : Element × Bytes) → r ≡ Ok p → StandsIn p.0.key input × StandsIn p.0.value input × ElementsStandIn input (more p.1)) → ElementsStandIn input (walk_step more r)
 step_stands more input (Ok p) h = h p refl

@@ -66,5 +66,5 @@ any_again (suc n) t v c d l e =
     ∙ items_again views_any read n each 0 ts vs c' (omega arith) (omega (arith, array_elements_size ts)) (sym (any_items ts) ∙ h))
     (λ ps es c' d' l' h.
     ap (λ w. reads_entries key_as_text read w no_entries) (walk_inside (elements ps))
-    ∙ entries_again view_text key_as_text views_any read n (λ key k is. (sym (some_is (value.str key) k is), refl)) each ps no_entries es c' (omega arith) (omega (arith, elements_size ps)) (new_first ps) (sym (any_entries ps) ∙ h))
+    ∙ entries_again value.str (λ a b. refl) view_text key_as_text views_any read n (λ key k is. (sym (some_is (value.str key) k is), refl)) each ps no_entries es c' (omega arith) (omega (arith, elements_size ps)) (new_first value.str ps) (sym (any_entries ps) ∙ h))
     t v c d l e

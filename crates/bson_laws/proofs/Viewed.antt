@@ -16,18 +16,20 @@ use Rattle.bson_base.specs.Tree.{Tree, double, string, boolean, binary, null, in
 use Rattle.bson_base.specs.declared.element_type.ElementType.{ElementType}
 use Rattle.bson_base.specs.declared.element_type.ElementType.TheVariants.{Int32}
 use Rattle.bson_base.proofs.Outcomes.{some_is, some_map, some_then}
-use Rattle.bson_shape.specs.Form.{Form, leaf, optional, sequence, newtype, unit_structure, map, structure, Fields, no_fields, field}
+use Rattle.bson_shape.specs.Form.{Form, leaf, optional, sequence, newtype, unit_structure, map, tuple, tuple_structure, structure, enumeration, Fields, no_fields, field, Parts, no_parts, part, Content, unit_content, newtype_content, tuple_content, struct_content, Variants, no_variants, variant}
 use Rattle.bson_shape.specs.Makers.{is_reserved_newtype}
 use Rattle.bson_datum.specs.Value as value
 use Rattle.bson_datum.specs.Value.{IntegerType, i32, i64, in_range, written_as, Value, Items, no_items, item, Entries, no_entries, entry, FieldValues, no_field_values, field_value}
 use Rattle.bson_datum.specs.Cause.{out_of_range}
 use Rattle.bson_laws.specs.Leaves.{LeafKind, anything, ignored, booleans, numbers, doubles, characters, texts, byte_strings, byte_buffers, units, leaf_kind}
 use Rattle.bson_laws.specs.Reads.{refused}
-use Rattle.bson_laws.specs.Views.{lookup, one_character, views_any, views_any_items, views_any_entries, views_leaf, views_leaf_key, views_option, views_items, views_key, views_entries, absent, views_at, views, views_fields}
-use Rattle.bson_laws.specs.Means.{number_of, some_or_none, means, means_items, means_entries, means_fields, norm, norm_items, norm_entries, norm_fields}
-use Rattle.bson_laws.specs.Fits.{IsText, IsAny, AreAnyItems, AreAnyEntries, FitsLeaf, FitsLeafKey, FitsKey, Fits, ItemsFit, EntriesFit, FieldsFit}
+use Rattle.bson_laws.specs.Variants.{content_of}
+use Rattle.bson_laws.specs.Views.{lookup, one_character, views_any, views_any_items, views_any_entries, views_leaf, views_leaf_key, views_option, views_items, views_key, views_entries, absent, views_at, views, views_fields, views_parts, views_variant, views_content}
+use Rattle.bson_laws.specs.Means.{number_of, some_or_none, under_name, means, means_items, means_entries, means_fields, norm, norm_items, norm_entries, norm_fields}
+use Rattle.bson_laws.specs.Fits.{IsText, IsAny, AreAnyItems, AreAnyEntries, FitsLeaf, FitsLeafKey, FitsKey, Fits, ItemsFit, PartsFit, EntriesFit, FieldsFit}
 use Rattle.bson_laws.proofs.Spelled.{unreserved, free_newtype}
 use Rattle.bson_laws.proofs.Fitting.{leaf_fits}
+use Rattle.bson_laws.proofs.Variants.{unit_is, chosen_holds, FitsContent, FitsVariant, chosen_fits, variant_fits}
 
 -- ---- numbers and characters
 
@@ -146,6 +148,7 @@ leaf_key_fits k key v u e = absurd cc
 
 key_fits : (s : Form) (key : Utf8) (v : Value) → is_utf8 key ≡ true → views_key s key ≡ Some v → FitsKey s v
 key_fits (leaf l) key v u e = leaf_key_fits (leaf_kind l) key v u e
+key_fits (enumeration vs) key v u e = let h = unit_is key (content_of vs key) v e in subst (FitsKey (enumeration vs)) (sym h.1) h.0
 key_fits s key v u e = absurd cc
 
 -- the pairs of a document fit the shapes of the keys and of the values
@@ -178,6 +181,38 @@ mutual
       let b = some_map (value.structure name) (views_fields fs ps) v e in
       subst (λ x. Fits x (structure name fs)) b.2 (refl, views_fields_fit fs ps b.0 c b.1)
   views_fit (structure name fs) t v c e = absurd cc
+  views_fit (tuple ps) (array ts) v c e =
+      let b = some_map value.tuple (views_parts ps ts) v e in
+      subst (λ x. Fits x (tuple ps)) b.2 (views_parts_fit ps ts b.0 c b.1)
+  views_fit (tuple ps) t v c e = absurd cc
+  views_fit (tuple_structure name ps) (array ts) v c e =
+      let b = some_map (value.tuple_structure name) (views_parts ps ts) v e in
+      subst (λ x. Fits x (tuple_structure name ps)) b.2 (refl, views_parts_fit ps ts b.0 c b.1)
+  views_fit (tuple_structure name ps) t v c e = absurd cc
+  views_fit (enumeration vs) (string name) v c e = let h = unit_is name (content_of vs name) v e in subst (λ x. Fits x (enumeration vs)) (sym h.1) h.0
+  views_fit (enumeration vs) (document (pair name t no_pairs)) v c e = let f = views_variant_fit vs name t v c.2 e in variant_fits vs name f.0 v f.1 f.2
+  views_fit (enumeration vs) t v c e = absurd cc
+
+  views_parts_fit : (ps : Parts) (ts : Trees) (vs : Items) → AreTreesClean ts → views_parts ps ts ≡ Some vs → PartsFit vs ps
+  views_parts_fit no_parts no_trees vs c e = subst (λ x. PartsFit x no_parts) (some_is no_items vs e) tt
+  views_parts_fit (part s ps) (tree.tree t ts) vs c e =
+      let a = some_then (λ v. option_map (item v) (views_parts ps ts)) (views s t) vs e in
+      let b = some_map (item a.0) (views_parts ps ts) vs a.2 in
+      subst (λ x. PartsFit x (part s ps)) b.2 (views_fit s t a.0 c.0 a.1, views_parts_fit ps ts b.0 c.1 b.1)
+  views_parts_fit ps ts vs c e = absurd cc
+
+  views_variant_fit : (vs : Variants) (name : Utf8) (t : Tree) (v : Value) → IsClean t → views_variant vs name t ≡ Some v → FitsVariant (content_of vs name) name v
+  views_variant_fit no_variants name t v c e = absurd cc
+  views_variant_fit (variant n d vs) name t v c e =
+      chosen_fits (bytes_eq n name) n name d (content_of vs name) (views_content n d t) (views_variant vs name t) v refl e (λ h. views_content_fit d n t v c h) (λ h. views_variant_fit vs name t v c h)
+
+  views_content_fit : (d : Content) (name : Utf8) (t : Tree) (v : Value) → IsClean t → views_content name d t ≡ Some v → FitsContent name d v
+  views_content_fit unit_content name t v c e = absurd cc
+  views_content_fit (newtype_content s) name t v c e = let m = some_map (value.newtype_variant name) (views s t) v e in (m.0, sym m.2, views_fit s t m.0 c m.1)
+  views_content_fit (tuple_content ps) name (array ts) v c e = let m = some_map (value.tuple_variant name) (views_parts ps ts) v e in (m.0, sym m.2, views_parts_fit ps ts m.0 c m.1)
+  views_content_fit (tuple_content ps) name t v c e = absurd cc
+  views_content_fit (struct_content fs) name (document ps) v c e = let m = some_map (value.structure_variant name) (views_fields fs ps) v e in (m.0, sym m.2, views_fields_fit fs ps m.0 c m.1)
+  views_content_fit (struct_content fs) name t v c e = absurd cc
 
   views_fields_fit : (fs : Fields) (ps : Pairs) (vs : FieldValues) → ArePairsClean ps → views_fields fs ps ≡ Some vs → FieldsFit vs fs
   views_fields_fit no_fields ps vs c e = subst (λ x. FieldsFit x no_fields) (some_is no_field_values vs e) tt
@@ -304,6 +339,7 @@ leaf_key_normal k key v e = absurd cc
 
 key_normal : (s : Form) (key : Utf8) (v : Value) → views_key s key ≡ Some v → norm v ≡ v
 key_normal (leaf l) key v e = leaf_key_normal (leaf_kind l) key v e
+key_normal (enumeration vs) key v e = subst (λ x. norm x ≡ x) (sym (unit_is key (content_of vs key) v e).1) refl
 key_normal s key v e = absurd cc
 
 entries_normal : (key s : Form) → ((t : Tree) (v : Value) → views s t ≡ Some v → IsNormal t v) → (ps : Pairs) (es : Entries) → views_entries (views_key key) (views s) ps ≡ Some es → norm_entries es ≡ es
@@ -313,6 +349,14 @@ entries_normal key s each (pair name t ps) es e =
     let b = some_then (λ v. option_map (entry a.0 v) (views_entries (views_key key) (views s) ps)) (views s t) es a.2 in
     let m = some_map (entry a.0 b.0) (views_entries (views_key key) (views s) ps) es b.2 in
     subst (λ x. norm_entries x ≡ x) m.2 (λ i. entry (key_normal key name a.0 a.1 i) ((each t b.0 b.1).0 i) (entries_normal key s each ps m.0 m.1 i))
+
+-- the value is its own normal form, and does not mean null
+abbrev IsVariantNormal : Value → Type 0
+IsVariantNormal v = (norm v ≡ v) × (means v ≡ Some null → ⊥)
+
+-- a document of one pair is not null
+no_variant : {A : Type 0} (wrap : A → Tree) (name : Utf8) (o : Option A) → option_map (λ x. under_name name (wrap x)) o ≡ Some null → ⊥
+no_variant wrap name o e = let m = some_map (λ x. under_name name (wrap x)) o null e in absurd cc
 
 mutual
   views_normal : (s : Form) (t : Tree) (v : Value) → views s t ≡ Some v → IsNormal t v
@@ -336,6 +380,44 @@ mutual
       let b = some_map (value.structure name) (views_fields fs ps) v e in
       subst (IsNormal (document ps)) b.2 (ap (value.structure name) (fields_normal fs ps b.0 b.1), λ h. absurd (no_structure name b.0 h))
   views_normal (structure name fs) t v e = absurd cc
+  views_normal (tuple ps) (array ts) v e =
+      let b = some_map value.tuple (views_parts ps ts) v e in
+      subst (IsNormal (array ts)) b.2 (ap value.tuple (parts_normal ps ts b.0 b.1), λ h. absurd (no_sequence b.0 h))
+  views_normal (tuple ps) t v e = absurd cc
+  views_normal (tuple_structure name ps) (array ts) v e =
+      let b = some_map (value.tuple_structure name) (views_parts ps ts) v e in
+      subst (IsNormal (array ts)) b.2 (ap (value.tuple_structure name) (parts_normal ps ts b.0 b.1), λ h. absurd (no_sequence b.0 h))
+  views_normal (tuple_structure name ps) t v e = absurd cc
+  views_normal (enumeration vs) (string name) v e = subst (IsNormal (string name)) (sym (unit_is name (content_of vs name) v e).1) (refl, λ h. absurd cc)
+  views_normal (enumeration vs) (document (pair name t no_pairs)) v e = let n = variant_normal vs name t v e in (n.0, λ h. absurd (n.1 h))
+  views_normal (enumeration vs) t v e = absurd cc
+
+  parts_normal : (ps : Parts) (ts : Trees) (vs : Items) → views_parts ps ts ≡ Some vs → norm_items vs ≡ vs
+  parts_normal no_parts no_trees vs e = subst (λ x. norm_items x ≡ x) (some_is no_items vs e) refl
+  parts_normal (part s ps) (tree.tree t ts) vs e =
+      let a = some_then (λ v. option_map (item v) (views_parts ps ts)) (views s t) vs e in
+      let b = some_map (item a.0) (views_parts ps ts) vs a.2 in
+      subst (λ x. norm_items x ≡ x) b.2 (λ i. item ((views_normal s t a.0 a.1).0 i) (parts_normal ps ts b.0 b.1 i))
+  parts_normal ps ts vs e = absurd cc
+
+  variant_normal : (vs : Variants) (name : Utf8) (t : Tree) (v : Value) → views_variant vs name t ≡ Some v → IsVariantNormal v
+  variant_normal no_variants name t v e = absurd cc
+  variant_normal (variant n d vs) name t v e =
+      chosen_holds {P = IsVariantNormal v} (bytes_eq n name) (views_content n d t) (views_variant vs name t) v e (λ h. content_normal d n t v h) (λ h. variant_normal vs name t v h)
+
+  content_normal : (d : Content) (name : Utf8) (t : Tree) (v : Value) → views_content name d t ≡ Some v → IsVariantNormal v
+  content_normal unit_content name t v e = absurd cc
+  content_normal (newtype_content s) name t v e =
+      let m = some_map (value.newtype_variant name) (views s t) v e in
+      subst IsVariantNormal m.2 (ap (value.newtype_variant name) (views_normal s t m.0 m.1).0, λ h. no_variant (λ x. x) name (means m.0) h)
+  content_normal (tuple_content ps) name (array ts) v e =
+      let m = some_map (value.tuple_variant name) (views_parts ps ts) v e in
+      subst IsVariantNormal m.2 (ap (value.tuple_variant name) (parts_normal ps ts m.0 m.1), λ h. no_variant array name (means_items m.0) h)
+  content_normal (tuple_content ps) name t v e = absurd cc
+  content_normal (struct_content fs) name (document ps) v e =
+      let m = some_map (value.structure_variant name) (views_fields fs ps) v e in
+      subst IsVariantNormal m.2 (ap (value.structure_variant name) (fields_normal fs ps m.0 m.1), λ h. no_variant document name (means_fields m.0) h)
+  content_normal (struct_content fs) name t v e = absurd cc
 
   fields_normal : (fs : Fields) (ps : Pairs) (vs : FieldValues) → views_fields fs ps ≡ Some vs → norm_fields vs ≡ vs
   fields_normal no_fields ps vs e = subst (λ x. norm_fields x ≡ x) (some_is no_field_values vs e) refl

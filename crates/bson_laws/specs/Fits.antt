@@ -1,10 +1,11 @@
--- The values that are values of a shape.
-use Rattle.std.specs.Prelude.{◌≡◌, true}
+-- The values that are values of a shape. Source: serde's data model.
+use Rattle.std.specs.Prelude.{◌≡◌, true, Some}
 use Rattle.std.specs.Char.{IsScalar}
 use Rattle.std.specs.Str.{is_utf8}
 use Rattle.bson_base.specs.Sound.{HasBytes}
 use Rattle.bson_base.specs.Text.{AreBytes}
-use Rattle.bson_shape.specs.Form.{Form, leaf, optional, sequence, newtype, unit_structure, map, structure, Fields, no_fields, field}
+use Rattle.bson_shape.specs.Form.{Form, leaf, optional, sequence, newtype, unit_structure, map, tuple, tuple_structure, structure, enumeration, Fields, no_fields, field, Parts, no_parts, part, Content, unit_content, newtype_content, tuple_content, struct_content, Variants, no_variants, variant}
+use Rattle.bson_laws.specs.Variants.{content_of}
 use Rattle.bson_laws.specs.Leaves.{LeafKind, anything, booleans, numbers, doubles, characters, texts, byte_strings, byte_buffers, units, leaf_kind}
 use Rattle.bson_datum.specs.Value as value
 use Rattle.bson_datum.specs.Value.{i32, i64, in_range, Value, boolean, integer, double, character, str, bytes, none, some, unit, Items, no_items, item, Entries, no_entries, entry, FieldValues, no_field_values, field_value}
@@ -49,19 +50,22 @@ FitsLeaf byte_buffers (bytes bs) = AreBytes bs
 FitsLeaf units unit = Unit {0}
 FitsLeaf k v = ⊥
 
--- a key of a map: a text, where the keys are texts
+-- a key where the keys are what a leaf takes
 abbrev pub FitsLeafKey : LeafKind → Value → Type 0
 FitsLeafKey texts k = IsText k
 FitsLeafKey kind k = ⊥
 
+-- a key of a map: a text, where the keys are texts, or a unit variant of the enum that the keys are
 abbrev pub FitsKey : Form → Value → Type 0
 FitsKey (leaf l) k = FitsLeafKey (leaf_kind l) k
+FitsKey (enumeration vs) (value.unit_variant name) = content_of vs name ≡ Some unit_content
 FitsKey s k = ⊥
 
 abbrev mutual
-  -- a leaf's value of what the leaf takes; none, or what fits the inner shape; a newtype or a unit struct of the shape's name; a sequence
-  -- whose values fit its shape; a map whose keys and values fit theirs; a struct of the shape's name, with its fields in its order, whose
-  -- values fit theirs
+  -- A leaf's value of what the leaf takes; none, or what fits the inner shape; a newtype or a unit struct of the shape's name; a sequence
+  -- whose values fit its shape; a map whose keys and values fit theirs; a tuple, or a tuple struct of the shape's name, of as many values as
+  -- the shape has parts, each fitting its own; a variant of the enum, with contents that fit those of that name; a struct of the shape's name,
+  -- with its fields in its order, whose values fit theirs.
   pub Fits : Value → Form → Type 0
   Fits v (leaf l) = FitsLeaf (leaf_kind l) v
   Fits none (optional s) = Unit {0}
@@ -70,12 +74,23 @@ abbrev mutual
   Fits (value.unit_structure name) (unit_structure n) = name ≡ n
   Fits (value.sequence vs) (sequence s) = ItemsFit vs s
   Fits (value.map es) (map key s) = EntriesFit es key s
+  Fits (value.tuple vs) (tuple ps) = PartsFit vs ps
+  Fits (value.tuple_structure name vs) (tuple_structure n ps) = (name ≡ n) × PartsFit vs ps
+  Fits (value.unit_variant name) (enumeration vs) = content_of vs name ≡ Some unit_content
+  Fits (value.newtype_variant name v) (enumeration vs) = (s : Form) × (content_of vs name ≡ Some (newtype_content s)) × Fits v s
+  Fits (value.tuple_variant name vs) (enumeration ws) = (ps : Parts) × (content_of ws name ≡ Some (tuple_content ps)) × PartsFit vs ps
+  Fits (value.structure_variant name vs) (enumeration ws) = (fs : Fields) × (content_of ws name ≡ Some (struct_content fs)) × FieldsFit vs fs
   Fits (value.structure name vs) (structure n fs) = (name ≡ n) × FieldsFit vs fs
   Fits v s = ⊥
 
   pub ItemsFit : Items → Form → Type 0
   ItemsFit no_items s = Unit {0}
   ItemsFit (item v vs) s = Fits v s × ItemsFit vs s
+
+  pub PartsFit : Items → Parts → Type 0
+  PartsFit no_items no_parts = Unit {0}
+  PartsFit (item v vs) (part s ps) = Fits v s × PartsFit vs ps
+  PartsFit vs ps = ⊥
 
   pub EntriesFit : Entries → Form → Form → Type 0
   EntriesFit no_entries key s = Unit {0}

@@ -1,4 +1,5 @@
 pub mod Leaves
+pub mod Variants
 pub mod Views
 pub mod Means
 pub mod Fits

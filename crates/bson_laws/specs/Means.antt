@@ -7,7 +7,7 @@ use Rattle.bson_base.specs.declared.element_type.ElementType.TheVariants.{Int32}
 use Rattle.bson_base.specs.Tree as tree
 use Rattle.bson_base.specs.Tree.{Tree, string, document, array, binary, null, int32, int64, Pairs, no_pairs, pair, Trees, no_trees}
 use Rattle.bson_shape.specs.Makers.{is_reserved_newtype}
-use Rattle.bson_datum.specs.Value.{i64, greatest, written_as, Value, boolean, integer, double, character, str, bytes, none, some, unit, unit_structure, newtype, sequence, map, structure, Items, no_items, item, Entries, no_entries, entry, FieldValues, no_field_values, field_value}
+use Rattle.bson_datum.specs.Value.{i64, greatest, written_as, Value, boolean, integer, double, character, str, bytes, none, some, unit, unit_structure, newtype, sequence, map, structure, unit_variant, newtype_variant, tuple, tuple_structure, tuple_variant, structure_variant, Items, no_items, item, Entries, no_entries, entry, FieldValues, no_field_values, field_value}
 
 -- a number as a value of a kind; an Int64 is none that is greater than the greatest of `i64`
 abbrev pub number_of : ElementType → ℤ → Option Tree
@@ -19,15 +19,22 @@ abbrev pub some_or_none : Option Tree → Value → Value
 some_or_none (Some null) v = none
 some_or_none t v = some v
 
--- The key that a value is written as in a map: a text as it is, some value and a newtype, whatever its name, as what they hold. Others are no keys.
+-- The key that a value is written as in a map: a text as it is, a unit variant as its name, some value and a newtype, whatever its name, as what
+-- they hold. Others are no keys.
 abbrev pub key_text : Value → Option Utf8
 key_text (str t) = Some t
+key_text (unit_variant name) = Some name
 key_text (some v) = key_text v
 key_text (newtype name v) = key_text v
 key_text v = None
 
+-- a variant with contents: the document of one pair, whose key is the name of the variant
+abbrev pub under_name : Utf8 → Tree → Tree
+under_name name t = document (pair name t no_pairs)
+
 abbrev mutual
-  -- the tree that a value is written as, where it is written; a struct or a newtype of a reserved name is not written yet
+  -- The tree that a value is written as, where it is written. A struct or a newtype of a reserved name means none, though one of them,
+  -- `$__bson_private_utf8_lossy`, is written as its content.
   pub means : Value → Option Tree
   means (boolean b) = Some (tree.boolean b)
   means (double bits) = Some (tree.double bits)
@@ -42,6 +49,12 @@ abbrev mutual
   means (str t) = Some (string t)
   means (sequence vs) = option_map array (means_items vs)
   means (map es) = option_map document (means_entries es)
+  means (unit_variant name) = Some (string name)
+  means (newtype_variant name v) = option_map (under_name name) (means v)
+  means (tuple vs) = option_map array (means_items vs)
+  means (tuple_structure name vs) = option_map array (means_items vs)
+  means (tuple_variant name vs) = option_map (λ ts. under_name name (array ts)) (means_items vs)
+  means (structure_variant name fs) = option_map (λ ps. under_name name (document ps)) (means_fields fs)
   means (structure name fs) = if is_some (reserved_kind name) then None else option_map document (means_fields fs)
 
   pub means_items : Items → Option Trees
@@ -72,6 +85,12 @@ abbrev mutual
   norm (str t) = str t
   norm (sequence vs) = sequence (norm_items vs)
   norm (map es) = map (norm_entries es)
+  norm (unit_variant name) = unit_variant name
+  norm (newtype_variant name v) = newtype_variant name (norm v)
+  norm (tuple vs) = tuple (norm_items vs)
+  norm (tuple_structure name vs) = tuple_structure name (norm_items vs)
+  norm (tuple_variant name vs) = tuple_variant name (norm_items vs)
+  norm (structure_variant name fs) = structure_variant name (norm_fields fs)
   norm (structure name fs) = structure name (norm_fields fs)
 
   pub norm_items : Items → Items

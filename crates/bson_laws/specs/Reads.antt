@@ -10,14 +10,16 @@ use Rattle.bson_rawdoc.specs.Envelope.{envelope}
 use Rattle.bson_rawdoc.specs.Walk.{Element, Walk, ended, faulty, then_walk, walk}
 use Rattle.bson_rawdoc.specs.RawValue.{RawValue, double, string, document, array, binary, object_id, boolean, null, javascript_code_with_scope, int32, int64, kind_of, value_in}
 use Rattle.bson_rawdoc.specs.declared.raw.Error as raw_error
-use Rattle.bson_shape.specs.Form.{Form, leaf, optional, sequence, newtype, unit_structure, map, structure, Fields, no_fields, field}
+use Rattle.bson_shape.specs.Form.{Form, leaf, optional, sequence, newtype, unit_structure, map, tuple, tuple_structure, structure, enumeration, Fields, no_fields, field, Parts, no_parts, part, Content, unit_content, newtype_content, tuple_content, struct_content, Variants, no_variants, variant}
+use Rattle.bson_shape.specs.Makers.{field_names}
+use Rattle.bson_laws.specs.Variants.{content_of}
 use Rattle.bson_laws.specs.Leaves.{LeafKind, anything, ignored, booleans, numbers, doubles, characters, texts, byte_strings, byte_buffers, units, leaf_kind}
 use Rattle.bson_laws.specs.Views.{one_character, absent}
 use Rattle.bson_datum.specs.Value as value
 use Rattle.bson_datum.specs.Value.{IntegerType, i32, i64, u8, in_range, Value, Items, no_items, item, Entries, no_entries, entry, FieldValues, no_field_values, field_value}
 use Rattle.bson_datum.specs.Same.{same}
-use Rattle.bson_datum.specs.Cause.{Cause, raw, too_deep, invalid_type, out_of_range, not_one_char, not_utf8, invalid_length, missing_field, duplicate_field, not_built}
-use Rattle.bson_datum.specs.Refusal.{Segment, at_key, at_index, ReadFault, unreadable, Refusal, here, inside, under, under_index, Failure, bare, with_path}
+use Rattle.bson_datum.specs.Cause.{Cause, raw, too_deep, invalid_type, out_of_range, not_one_char, not_utf8, invalid_length, unknown_variant, contents_wanted, unit_in_document, missing_field, duplicate_field, not_built}
+use Rattle.bson_datum.specs.Refusal.{Segment, at_key, at_index, ReadFault, unreadable, end_of_stream, Refusal, here, inside, under, under_index, Failure, bare, with_path}
 
 -- an answer of reading: something, or a refusal with its path
 abbrev pub Reading : Type 0 → Type 0
@@ -244,21 +246,32 @@ read_leaf levels byte_strings v = result_map value.bytes (bytes_of v)
 read_leaf levels byte_buffers v = result_map value.bytes (buffer_of levels v)
 read_leaf levels units v = result_map (λ _. value.unit) (null_of v)
 
--- the key of a map, read at the shape of keys as that text would be; a text takes no level
-abbrev pub reads_key : Form → Utf8 → Reading Value
-reads_key (leaf l) key = read_leaf 0 (leaf_kind l) (string key)
-reads_key s key = refused (invalid_type String)
-
--- ---- structs
+-- ---- names
 
 abbrev pub one_further : Option ℕ → Option ℕ
 one_further None = None
 one_further (Some i) = Some (suc i)
 
--- the place of the field that has a name, from 0
-abbrev pub place_of : Fields → Utf8 → Option ℕ
-place_of no_fields key = None
-place_of (field name s fs) key = if bytes_eq name key then Some 0 else one_further (place_of fs key)
+-- the place of a name among others, from 0
+abbrev pub place_of : List Utf8 → Utf8 → Option ℕ
+place_of [] key = None
+place_of (name ∷ names) key = if bytes_eq name key then Some 0 else one_further (place_of names key)
+
+-- ---- unit variants
+
+-- the unit variant that a text names
+abbrev pub unit_of : Utf8 → Option Content → Reading Value
+unit_of name None = refused (unknown_variant name)
+unit_of name (Some unit_content) = Ok (value.unit_variant name)
+unit_of name (Some c) = refused contents_wanted
+
+-- the key of a map, read at the shape of keys as that text would be; a text takes no level
+abbrev pub reads_key : Form → Utf8 → Reading Value
+reads_key (leaf l) key = read_leaf 0 (leaf_kind l) (string key)
+reads_key (enumeration vs) key = unit_of key (content_of vs key)
+reads_key s key = refused (invalid_type String)
+
+-- ---- structs
 
 -- for each field in the shape's order the value that was read for it, or none yet
 abbrev pub Slots : Type 0
@@ -284,7 +297,7 @@ fill_found levels read e slots None = under e.key (ignores levels e.kind e.value
 fill_found levels read e slots (Some i) = fill_field read e slots i
 
 abbrev pub fill_one : Fields → ℕ → ReadField → Element → Slots → Reading Slots
-fill_one fs levels read e slots = fill_found levels read e slots (place_of fs e.key)
+fill_one fs levels read e slots = fill_found levels read e slots (place_of (field_names fs) e.key)
 
 -- the elements one after another, up to the fault that ends their list
 abbrev pub fill : (Element → Slots → Reading Slots) → Walk → Slots → Reading Slots
@@ -321,6 +334,20 @@ reads_next i read others ended = refused (invalid_length i)
 reads_next i read others (faulty e) = refused (raw e)
 reads_next i read others (then_walk e w) = under_index i (read e.kind e.value) >>= λ v. others v w
 
+-- ---- enums
+
+-- the first element of a document at the variant that its key names; an empty document has none, and further elements stay unread
+abbrev pub read_first_element : (Element → Reading Value) → Walk → Reading Value
+read_first_element contents ended = Err (here end_of_stream)
+read_first_element contents (faulty e) = refused (raw e)
+read_first_element contents (then_walk e w) = contents e
+
+-- a text at the unit variant that it names, a document at the variant with contents that its first key names
+abbrev pub read_enum : (Utf8 → Reading Value) → (Element → Reading Value) → RawValue → Reading Value
+read_enum unit contents (string name) = unit name
+read_enum unit contents (document b) = read_first_element contents (walk b)
+read_enum unit contents v = refused (no_document v)
+
 -- null at an option, and a value of its form elsewhere; an option looks at the kind alone
 abbrev pub reads_option : ElementType → Reading Value → Reading Value
 reads_option Null r = Ok value.none
@@ -336,6 +363,11 @@ abbrev mutual
   reads (sequence s) levels k bytes = judged levels (value_in k bytes) >>= array_of >>= λ b. result_map value.sequence (reads_items (reads s (levels - 1)) 0 (walk b))
   reads (map key s) levels k bytes =
       judged levels (value_in k bytes) >>= document_of >>= λ b. result_map value.map (reads_entries (reads_key key) (reads s (levels - 1)) (walk b) no_entries)
+  reads (tuple ps) levels k bytes = judged levels (value_in k bytes) >>= array_of >>= λ b. result_map value.tuple (reads_parts ps 0 (levels - 1) (walk b))
+  reads (tuple_structure name ps) levels k bytes =
+      judged levels (value_in k bytes) >>= array_of >>= λ b. result_map (value.tuple_structure name) (reads_parts ps 0 (levels - 1) (walk b))
+  reads (enumeration vs) levels k bytes =
+      judged levels (value_in k bytes) >>= read_enum (λ name. unit_of name (content_of vs name)) (λ e. reads_variant vs (levels - 1) e)
   reads (structure name fs) levels k bytes =
       judged levels (value_in k bytes) >>= λ v. result_map (value.structure name)
       (read_structure (λ b. reads_fields fs (levels - 1) (λ i. reads_field fs i (levels - 1)) (walk b)) (λ b. reads_places fs 0 (levels - 1) (walk b)) v)
@@ -344,6 +376,26 @@ abbrev mutual
   pub reads_places : Fields → ℕ → ℕ → Walk → Reading FieldValues
   reads_places no_fields i levels w = Ok no_field_values
   reads_places (field name s fs) i levels w = reads_next i (reads s levels) (λ v rest. result_map (field_value name v) (reads_places fs (suc i) levels rest)) w
+
+  -- the parts of a tuple in their order from the elements of an array from this index on; further elements and a fault behind them stay unread
+  pub reads_parts : Parts → ℕ → ℕ → Walk → Reading Items
+  reads_parts no_parts i levels w = Ok no_items
+  reads_parts (part s ps) i levels w = reads_next i (reads s levels) (λ v rest. result_map (item v) (reads_parts ps (suc i) levels rest)) w
+
+  -- an element at the variant that its key names
+  pub reads_variant : Variants → ℕ → Element → Reading Value
+  reads_variant no_variants levels e = refused (unknown_variant e.key)
+  reads_variant (variant name c vs) levels e = if bytes_eq name e.key then reads_content name c levels e else reads_variant vs levels e
+
+  -- The contents of a variant. A unit variant has none: it is refused at the document, before the value is looked at.
+  pub reads_content : Utf8 → Content → ℕ → Element → Reading Value
+  reads_content name unit_content levels e = refused unit_in_document
+  reads_content name (newtype_content s) levels e = under e.key (result_map (value.newtype_variant name) (reads s levels e.kind e.value))
+  reads_content name (tuple_content ps) levels e =
+      under e.key (judged levels (value_in e.kind e.value) >>= array_of >>= λ b. result_map (value.tuple_variant name) (reads_parts ps 0 (levels - 1) (walk b)))
+  reads_content name (struct_content fs) levels e =
+      under e.key (judged levels (value_in e.kind e.value) >>= λ v. result_map (value.structure_variant name)
+      (read_structure (λ b. reads_fields fs (levels - 1) (λ i. reads_field fs i (levels - 1)) (walk b)) (λ b. reads_places fs 0 (levels - 1) (walk b)) v))
 
   -- at the shape of the field at a place (every place that is asked for is that of a field)
   pub reads_field : Fields → ℕ → ℕ → ElementType → Bytes → Reading Value

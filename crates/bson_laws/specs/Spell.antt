@@ -1,4 +1,5 @@
--- The tree that a value is written as, or why it is not written, and how large it is.
+-- The tree that a value is written as, or why it is not written, and how large it is. Source: serde's data model, and bsonspec.org, version 1.1,
+-- `document`, `e_name` and `cstring`.
 use Rattle.std.specs.Prelude.{encode_utf8, ◌≡◌, ◌<◌, ℕ, ℤ, int_lt, nat_lt, zero, suc, ◌+◌, length, codes, Option, Some, None, if◌then◌else◌, Result, Ok, Err}
 use Rattle.std.specs.Fmt.{decimal}
 use Rattle.std.specs.Str.{bytes_eq}
@@ -10,7 +11,7 @@ use Rattle.bson_base.specs.Tree as tree
 use Rattle.bson_base.specs.Tree.{Tree, string, document, array, binary, null, int32, int64, Pairs, no_pairs, pair, Trees, no_trees}
 use Rattle.bson_base.specs.declared.element_type.ElementType.{ElementType}
 use Rattle.bson_base.specs.declared.element_type.ElementType.TheVariants.{EmbeddedDocument, Binary, Int32}
-use Rattle.bson_datum.specs.Value.{i64, greatest, written_as, Value, boolean, integer, double, character, str, bytes, none, some, unit, unit_structure, newtype, sequence, map, structure, Items, no_items, item, Entries, no_entries, entry, FieldValues, no_field_values, field_value, kind_of}
+use Rattle.bson_datum.specs.Value.{i64, greatest, written_as, Value, boolean, integer, double, character, str, bytes, none, some, unit, unit_structure, newtype, sequence, map, structure, unit_variant, newtype_variant, tuple, tuple_structure, tuple_variant, structure_variant, Items, no_items, item, Entries, no_entries, entry, FieldValues, no_field_values, field_value, kind_of}
 use Rattle.bson_datum.specs.Cause.{too_deep, binary_too_long, top_level, not_built}
 use Rattle.bson_datum.specs.Refusal.{WriteFault, unwritable, invalid_document_key, invalid_cstring, unsigned_exceeds, Refusal, here, under, under_index}
 use Rattle.bson_laws.specs.Means.{number_of, key_text}
@@ -32,6 +33,11 @@ struct_at (Some k) levels pairs = Err (here (unwritable (not_built k)))
 -- the value of a field, whose name is judged before it
 abbrev pub named : Utf8 → Writing Tree → Writing Tree
 named name r = if has_zero name then Err (here (invalid_cstring name)) else under name r
+
+-- A variant with contents: a document of one pair, whose key is the name of the variant. Its level is taken first, then its name is judged, then its
+-- contents are written under it.
+abbrev pub variant_at : Utf8 → ℕ → (ℕ → Writing Tree) → Writing Tree
+variant_at name levels content = enclosed_at document levels (λ inside. named name (content inside) >>= λ t. Ok (pair name t no_pairs))
 
 -- a number as a value of a kind; an Int64 is none that is greater than the greatest of `i64`
 abbrev pub spell_number : ElementType → ℤ → Writing Tree
@@ -59,8 +65,9 @@ abbrev pub newtype_at : Option ElementType → Writing Tree → Writing Tree
 newtype_at None content = content
 newtype_at (Some k) content = Err (here (unwritable (not_built k)))
 
--- What the refusal of a key carries: a scalar as it would be written, null for none, a unit and a number that is not written, an empty
--- array for a sequence, for some value and for a newtype what their content would carry, an empty document for every other value.
+-- What the refusal of a key carries: a scalar as it would be written, null for none, a unit, a unit struct and a number that is not written, an
+-- empty array for a sequence, a tuple and a tuple variant, for some value and for a newtype what their content would carry, an empty document for
+-- every other value, a tuple struct among them. A text and a unit variant are keys, and never carried.
 abbrev pub carried : Value → Tree
 carried (boolean b) = tree.boolean b
 carried (integer type n) = or_null (number_of (written_as type) n)
@@ -74,7 +81,13 @@ carried (unit_structure name) = null
 carried (some v) = carried v
 carried (newtype name v) = carried v
 carried (sequence vs) = array no_trees
+carried (unit_variant name) = string name
+carried (tuple vs) = array no_trees
+carried (tuple_variant name vs) = array no_trees
 carried (map es) = document no_pairs
+carried (newtype_variant name v) = document no_pairs
+carried (tuple_structure name vs) = document no_pairs
+carried (structure_variant name fs) = document no_pairs
 carried (structure name fs) = document no_pairs
 
 -- the text of a key, which holds no zero character; a value that is no key is refused, and carried
@@ -102,6 +115,12 @@ abbrev mutual
   spell (str t) levels = Ok (string t)
   spell (sequence vs) levels = enclosed_at array levels (spell_items 0 vs)
   spell (map es) levels = enclosed_at document levels (spell_entries es)
+  spell (unit_variant name) levels = Ok (string name)
+  spell (newtype_variant name v) levels = variant_at name levels (spell v)
+  spell (tuple vs) levels = enclosed_at array levels (spell_items 0 vs)
+  spell (tuple_structure name vs) levels = enclosed_at array levels (spell_items 0 vs)
+  spell (tuple_variant name vs) levels = variant_at name levels (λ inside. enclosed_at array inside (spell_items 0 vs))
+  spell (structure_variant name fs) levels = variant_at name levels (λ inside. enclosed_at document inside (spell_fields fs))
   spell (structure name fs) levels = struct_at (reserved_kind name) levels (spell_fields fs)
 
   -- the values of a sequence from this index on
@@ -136,6 +155,10 @@ abbrev pub key_size : Option Utf8 → ℕ
 key_size (Some key) = length key
 key_size None = 0
 
+-- how many bytes a variant takes whose contents take so many
+abbrev pub variant_size : Utf8 → ℕ → ℕ
+variant_size name content = length name + 2 + content + 5
+
 abbrev mutual
   -- how many bytes a value takes; a struct of a reserved name, which is not written yet, counts as any other
   pub size : Value → ℕ
@@ -152,6 +175,12 @@ abbrev mutual
   size (str t) = length t + 5
   size (sequence vs) = size_items 0 vs + 5
   size (map es) = size_entries es + 5
+  size (unit_variant name) = length name + 5
+  size (newtype_variant name v) = variant_size name (size v)
+  size (tuple vs) = size_items 0 vs + 5
+  size (tuple_structure name vs) = size_items 0 vs + 5
+  size (tuple_variant name vs) = variant_size name (size_items 0 vs + 5)
+  size (structure_variant name fs) = variant_size name (size_fields fs + 5)
   size (structure name fs) = size_fields fs + 5
 
   -- an element takes one byte for its kind, its key and a zero, and its value; the keys of an array are the decimal indexes from this one on

@@ -3,7 +3,8 @@ use Rattle.std.specs.Prelude.{ℕ, Bool, [], ◌∷◌, List, zero, if◌then◌
 use Rattle.std.specs.Str.{bytes_eq, chars}
 use Rattle.bson_base.specs.Text.{Bytes, Utf8}
 use Rattle.bson_base.specs.Tree.{Tree, double, string, document, array, binary, boolean, null, int32, int64, Pairs, no_pairs, pair, Trees, no_trees, tree}
-use Rattle.bson_shape.specs.Form.{Form, leaf, optional, sequence, newtype, unit_structure, map, structure, Fields, no_fields, field}
+use Rattle.bson_shape.specs.Form.{Form, leaf, optional, sequence, newtype, unit_structure, map, tuple, tuple_structure, structure, enumeration, Fields, no_fields, field, Parts, no_parts, part, Content, unit_content, newtype_content, tuple_content, struct_content, Variants, no_variants, variant}
+use Rattle.bson_laws.specs.Variants.{content_of}
 use Rattle.bson_laws.specs.Leaves.{LeafKind, anything, ignored, booleans, numbers, doubles, characters, texts, byte_strings, byte_buffers, units, leaf_kind}
 use Rattle.bson_datum.specs.Value as value
 use Rattle.bson_datum.specs.Value.{IntegerType, i32, i64, in_range, Value, integer, Items, no_items, item, Entries, no_entries, entry, FieldValues, no_field_values, field_value}
@@ -115,15 +116,30 @@ abbrev pub views_items : (Tree → Option Value) → Trees → Option Items
 views_items views no_trees = Some no_items
 views_items views (tree t ts) = option_and_then (λ v. option_map (item v) (views_items views ts)) (views t)
 
--- the key of a map that a key of a document is: a text; keys that are characters are read, but not written
+-- the unit variant that a text names, where it names one
+abbrev pub named_unit : Utf8 → Option Content → Option Value
+named_unit name (Some unit_content) = Some (value.unit_variant name)
+named_unit name o = None
+
+abbrev pub views_unit : Variants → Utf8 → Option Value
+views_unit vs name = named_unit name (content_of vs name)
+
+-- the key of a map that a key of a document is: a text, or the unit variant that it names; keys that are characters are read, but not written
 abbrev pub views_key : Form → Utf8 → Option Value
 views_key (leaf l) key = views_leaf_key (leaf_kind l) key
+views_key (enumeration vs) key = views_unit vs key
 views_key s key = None
 
 -- the entries of a map that these pairs are, each key and each value where it is one
 abbrev pub views_entries : (Utf8 → Option Value) → (Tree → Option Value) → Pairs → Option Entries
 views_entries view_key views no_pairs = Some no_entries
 views_entries view_key views (pair key t ps) = option_and_then (λ k. option_and_then (λ v. option_map (entry k v) (views_entries view_key views ps)) (views t)) (view_key key)
+
+-- a text as the unit variant that it names, a document of one pair as the variant that its key names
+abbrev pub views_enum : (Utf8 → Option Value) → (Utf8 → Tree → Option Value) → Tree → Option Value
+views_enum unit contents (string name) = unit name
+views_enum unit contents (document (pair name t no_pairs)) = contents name t
+views_enum unit contents t = None
 
 -- the value of a field that no pair has: none, where its shape is an option
 abbrev pub absent : Form → Option Value
@@ -137,7 +153,9 @@ views_at views missing (Some t) = views t
 
 abbrev mutual
   -- The value that a tree is at a shape, where it is one. A sequence takes the values of an array, each at its shape, a map the pairs of a
-  -- document in their order. A struct takes each of its fields from the document by its key, in the shape's order; other keys are dropped.
+  -- document in their order. A struct takes each of its fields from the document by its key, in the shape's order; other keys are dropped. A tuple
+  -- takes an array of as many values as it has parts. An enum takes a text that names a unit variant, and a document of one pair whose key names a
+  -- variant with contents.
   pub views : Form → Tree → Option Value
   views (leaf l) t = views_leaf (leaf_kind l) t
   views (optional s) t = views_option (views s) t
@@ -145,8 +163,28 @@ abbrev mutual
   views (unit_structure name) t = option_map (λ _. value.unit_structure name) (null_of_tree t)
   views (sequence s) t = option_and_then (λ ts. option_map value.sequence (views_items (views s) ts)) (trees_of t)
   views (map key s) t = option_and_then (λ ps. option_map value.map (views_entries (views_key key) (views s) ps)) (pairs_of t)
+  views (tuple ps) t = option_and_then (λ ts. option_map value.tuple (views_parts ps ts)) (trees_of t)
+  views (tuple_structure name ps) t = option_and_then (λ ts. option_map (value.tuple_structure name) (views_parts ps ts)) (trees_of t)
+  views (enumeration vs) t = views_enum (views_unit vs) (views_variant vs) t
   views (structure name fs) t = option_and_then (λ ps. option_map (value.structure name) (views_fields fs ps)) (pairs_of t)
 
   pub views_fields : Fields → Pairs → Option FieldValues
   views_fields no_fields ps = Some no_field_values
   views_fields (field name s fs) ps = option_and_then (λ v. option_map (field_value name v) (views_fields fs ps)) (views_at (views s) (absent s) (lookup name ps))
+
+  -- as many values as there are parts, each at its own
+  pub views_parts : Parts → Trees → Option Items
+  views_parts no_parts no_trees = Some no_items
+  views_parts (part s ps) (tree t ts) = option_and_then (λ v. option_map (item v) (views_parts ps ts)) (views s t)
+  views_parts ps ts = None
+
+  -- the contents of the variant that a name names, where it has some
+  pub views_variant : Variants → Utf8 → Tree → Option Value
+  views_variant no_variants key t = None
+  views_variant (variant name c vs) key t = if bytes_eq name key then views_content name c t else views_variant vs key t
+
+  pub views_content : Utf8 → Content → Tree → Option Value
+  views_content name unit_content t = None
+  views_content name (newtype_content s) t = option_map (value.newtype_variant name) (views s t)
+  views_content name (tuple_content ps) t = option_and_then (λ ts. option_map (value.tuple_variant name) (views_parts ps ts)) (trees_of t)
+  views_content name (struct_content fs) t = option_and_then (λ ps. option_map (value.structure_variant name) (views_fields fs ps)) (pairs_of t)

@@ -54,8 +54,8 @@ pub fn law_read_back()
 /// What is read at a shape is written, unless it or a binary in it is too long: no other refusal of the writer is due for it.
 ///
 /// No name of a field may hold a zero character, since an option's field that no pair has is read as none, and a struct takes the
-/// values of an array by their places: each is written under its name; the keys of maps are `str` or `string`; and the document is
-/// not ignored. The call does nothing.
+/// values of an array by their places: each is written under its name; the keys of maps are `str`, `string` or unit variants; and the
+/// document is not ignored. The call does nothing.
 pub fn law_reads_spell()
     ensures spells { (s : Form) (bytes : Bytes) (d : Value) → IsShape s → IsWritable s → reads_document s bytes ≡ Ok d
         → IsWrittenUnlessLong (spell_document d) }
