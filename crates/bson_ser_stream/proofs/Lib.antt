@@ -9,5 +9,6 @@ pub mod Containers
 pub mod Structs
 pub mod Sequences
 pub mod Maps
+pub mod Variants
 pub mod Limits
 pub mod Meant

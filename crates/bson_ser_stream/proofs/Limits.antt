@@ -5,14 +5,14 @@ use Rattle.bson_base.specs.Text.{Bytes, Utf8, has_zero}
 use Rattle.bson_base.specs.Outcome.{◌>>=◌, result_map}
 use Rattle.bson_base.specs.Reserved.{reserved_kind}
 use Rattle.bson_base.specs.Sound.{max_bytes, max_levels, max_binary}
-use Rattle.bson_base.specs.Tree.{Tree, int64, document, array, binary, Pairs, pair, tree}
+use Rattle.bson_base.specs.Tree.{Tree, int64, document, array, binary, Pairs, no_pairs, pair, tree}
 use Rattle.bson_base.specs.declared.element_type.ElementType.{ElementType}
 use Rattle.bson_base.specs.declared.element_type.ElementType.TheVariants.{EmbeddedDocument, Int32}
 use Rattle.bson_datum.specs.Cause.{Cause, binary_too_long, too_long}
 use Rattle.bson_datum.specs.Refusal.{WriteFault, unwritable, invalid_document_key, invalid_cstring, unsigned_exceeds, Refusal, Segment, at_key, at_index, here, inside, under_index, under, Failure, no_memory, bare, placed, with_path}
-use Rattle.bson_datum.specs.Value.{i64, greatest, written_as, Value, boolean, integer, double, character, str, bytes, none, some, unit, unit_structure, newtype, sequence, map, structure, Items, no_items, item, Entries, no_entries, entry, FieldValues, no_field_values, field_value, kind_of}
+use Rattle.bson_datum.specs.Value.{i64, greatest, written_as, Value, boolean, integer, double, character, str, bytes, none, some, unit, unit_structure, newtype, sequence, map, structure, unit_variant, newtype_variant, tuple, tuple_structure, tuple_variant, structure_variant, Items, no_items, item, Entries, no_entries, entry, FieldValues, no_field_values, field_value, kind_of}
 use Rattle.bson_laws.specs.Means.{key_text}
-use Rattle.bson_laws.specs.Spell.{Writing, spell_number, unbuilt_newtype, newtype_at, enclosed_at, struct_at, named, written_key, spell_key, spell, spell_items, spell_entries, spell_fields, at_top, spell_document, size}
+use Rattle.bson_laws.specs.Spell.{Writing, spell_number, unbuilt_newtype, newtype_at, enclosed_at, struct_at, named, variant_at, written_key, spell_key, spell, spell_items, spell_entries, spell_fields, at_top, spell_document, size}
 use Rattle.bson_datum.specs.Stop.{IsPlaced}
 use Rattle.bson_ser_stream.specs.Writing.{with_tree, IsDue, Fails, too_long_failure}
 use Rattle.bson_ser_stream.specs.Halting.{halt_view, Halts}
@@ -53,6 +53,15 @@ inside_else segment (Err f) h = h
 named_else : (b : Bool) (name : Utf8) (r : Writing Tree) → Else r → Else (cond b (Err (here (invalid_cstring name))) (under name r))
 named_else true name r h = λ e. e
 named_else false name r h = inside_else (at_key name) r h
+
+pair_else : (name : Utf8) (r : Writing Tree) → Else r → Else (r >>= λ t. Ok (pair name t no_pairs))
+pair_else name (Ok t) h = tt
+pair_else name (Err f) h = h
+
+variant_else : (name : Utf8) (levels : ℕ) (content : ℕ → Writing Tree) → ((n : ℕ) → Else (content n)) → Else (variant_at name levels content)
+variant_else name levels content h =
+    enclosed_else document levels (λ inner. named name (content inner) >>= λ t. Ok (pair name t no_pairs))
+    (λ n. pair_else name (named name (content n)) (named_else (has_zero name) name (content n) (h n)))
 
 both_else : {A : Type 0} (join : Tree → A → A) (r : Writing Tree) (s : Writing A) → Else r → Else s → Else (r >>= λ t. s >>= λ xs. Ok (join t xs))
 both_else join (Err f) s h k = h
@@ -101,6 +110,12 @@ mutual
   spell_else (newtype name v) levels = newtype_else (unbuilt_newtype name) (spell v levels) (spell_else v levels)
   spell_else (str t) levels = tt
   spell_else (sequence vs) levels = enclosed_else array levels (spell_items 0 vs) (λ n. items_else 0 vs n)
+  spell_else (unit_variant name) levels = tt
+  spell_else (newtype_variant name v) levels = variant_else name levels (spell v) (λ n. spell_else v n)
+  spell_else (tuple vs) levels = enclosed_else array levels (spell_items 0 vs) (λ n. items_else 0 vs n)
+  spell_else (tuple_structure name vs) levels = enclosed_else array levels (spell_items 0 vs) (λ n. items_else 0 vs n)
+  spell_else (tuple_variant name vs) levels = variant_else name levels (λ inner. enclosed_at array inner (spell_items 0 vs)) (λ n. enclosed_else array n (spell_items 0 vs) (λ m. items_else 0 vs m))
+  spell_else (structure_variant name fs) levels = variant_else name levels (λ inner. enclosed_at document inner (spell_fields fs)) (λ n. enclosed_else document n (spell_fields fs) (λ m. fields_else fs m))
   spell_else (map es) levels = enclosed_else document levels (spell_entries es) (λ n. entries_else es n)
   spell_else (structure name fs) levels = struct_else (reserved_kind name) levels (spell_fields fs) (λ n. fields_else fs n)
 

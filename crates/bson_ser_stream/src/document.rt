@@ -44,11 +44,14 @@ fn put_whole<L: Ledger>(
 /// Appends the bytes of a document to an output buffer, in one pass over the datum.
 ///
 /// A struct is a document of its fields, in order. A map is a document of its entries, in order, whose keys are texts: a `Str`,
-/// or what a `Some` or a `NewtypeStruct` of any name holds. A sequence is an array of its values, in order, whose keys are their
-/// indexes from 0 in decimal digits. `Bool` is a boolean, `I8`, `I16`, `I32`, `U8` and `U16` are an int32, `I64`, `U32` and `U64`
-/// an int64, `Double` is a double, `Str` and `Char` are a string, and `Bytes` is a binary of subtype 0 (bsonspec.org, version
-/// 1.1). `None`, `Unit` and `UnitStruct` are null. `Some` and `NewtypeStruct` are the value in them. `steps` counts one for each
-/// byte that is appended, and one for each byte that is written over the place of a kind or a length.
+/// the name of a `UnitVariant`, or what a `Some` or a `NewtypeStruct` of any name holds. A sequence, a tuple and a tuple struct
+/// are an array of their values, in order, whose keys are their indexes from 0 in decimal digits. A variant with contents is a
+/// document of one pair: under the name of the variant stands the value of a `NewtypeVariant`, an array of the values of a
+/// `TupleVariant`, or a document of the fields of a `StructVariant`. `Bool` is a boolean, `I8`, `I16`, `I32`, `U8` and `U16` are
+/// an int32, `I64`, `U32` and `U64` an int64, `Double` is a double, `Str`, `Char` and the name of a `UnitVariant` are a string,
+/// and `Bytes` is a binary of subtype 0 (bsonspec.org, version 1.1). `None`, `Unit` and `UnitStruct` are null. `Some` and
+/// `NewtypeStruct` are the value in them. `steps` counts one for each byte that is appended, and one for each byte that is
+/// written over the place of a kind or a length.
 ///
 /// # Errors
 ///
@@ -56,16 +59,17 @@ fn put_whole<L: Ledger>(
 /// the bytes that it had.
 ///
 /// - `SerializationError` with `TopLevel`: the datum is written as a value of this kind, which is no document.
-/// - `SerializationError` with `TooDeep`: a struct, a map or a sequence stands at level 201. The whole document is at level 1.
+/// - `SerializationError` with `TooDeep`: a document or an array stands at level 201. The whole document is at level 1. What a
+///   `TupleVariant` or a `StructVariant` holds is one level further in than the document of its name.
 /// - `SerializationError` with `NotBuilt`: a struct has a reserved name, or a newtype the name `$__bson_private_uuid` (the kind
 ///   is `Binary`) or `$__bson_private_human_readable` (`EmbeddedDocument`).
 /// - `SerializationError` with `BinaryTooLong`: a `Bytes` has so many bytes, and a binary has at most 16777216.
 /// - `UnsignedIntegerExceededRange`: a `U64` is greater than 9223372036854775807, the greatest that an int64 holds.
 /// - `InvalidDocumentKey`: a key of a map is no text. It carries a scalar as it would be written, null for `None`, `Unit`, a
-///   `UnitStruct` and a number that is not written, what a `Some` or a `NewtypeStruct` holds, an empty array for a sequence, and
-///   an empty document for a map or a struct. The path is that of the map.
-/// - `InvalidCString`: a zero character stands in the name of a field or in a key of a map. The path is that of the struct or
-///   the map.
+///   `UnitStruct` and a number that is not written, what a `Some` or a `NewtypeStruct` holds, an empty array for a sequence, a
+///   tuple and a `TupleVariant`, and an empty document for every other value. The path is that of the map.
+/// - `InvalidCString`: a zero character stands in the name of a field, in the name of a variant with contents, or in a key of a
+///   map. The path is that of the struct, of the document that the variant is written as, or of the map.
 /// - `SerializationError` with `TooLong`, with the empty path: the document would have more than 2147483647 bytes. Where it
 ///   would, and a value is refused too, either may come.
 pub fn to_buf<L: Ledger>(value: &Datum<'_>, out: &mut Out, steps: &mut Steps<L>) -> Result<()>

@@ -73,9 +73,7 @@ impl Halt {
         ensures placed { IsPlaced (halt_view self) (write_failure result) }
     {
         match self {
-            Halt::Refused(refused) => {
-                Error::from_stop(alloc, Stop::Refused(Box::into_inner(refused)))
-            }
+            Halt::Refused(refused) => Error::from_stop(alloc, Stop::Refused(refused)),
             Halt::NoMemory => Error::NoMemory,
             Halt::TooLong => Error::from_stop(
                 alloc,

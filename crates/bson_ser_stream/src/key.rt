@@ -31,12 +31,14 @@ pub(crate) fn written_key<'a>(alloc: Global, key: &'a Datum<'_>) -> Result<&'a s
     }
 }
 
-// The text that a value is as a key: a text itself, and what some value and a newtype hold. Others are no keys.
+// The text that a value is as a key: a text itself, the name of a unit variant, and what some value and a newtype hold. Others
+// are no keys.
 fn key_text<'a>(key: &'a Datum<'_>) -> Option<&'a str>
     ensures text { option_map (λ text. text.now) result ≡ key_text (view key.now) }
 {
     match key {
         Datum::Str(text) => Some(text.as_str()),
+        Datum::UnitVariant { variant } => Some(variant.as_str()),
         Datum::Some(content) => key_text(content),
         Datum::NewtypeStruct { value, .. } => key_text(value),
         Datum::Bool(_)
@@ -54,9 +56,14 @@ fn key_text<'a>(key: &'a Datum<'_>) -> Option<&'a str>
         | Datum::None
         | Datum::Unit
         | Datum::UnitStruct { .. }
+        | Datum::NewtypeVariant { .. }
         | Datum::Seq(_)
+        | Datum::Tuple(_)
+        | Datum::TupleStruct { .. }
+        | Datum::TupleVariant { .. }
         | Datum::Map(_)
-        | Datum::Struct { .. } => None,
+        | Datum::Struct { .. }
+        | Datum::StructVariant { .. } => None,
     }
 }
 
@@ -71,7 +78,8 @@ fn no_text(alloc: Global, key: &Datum<'_>) -> Halt
 }
 
 // The value that the refusal of a key carries: a scalar as it would be written, null for nothing and for a number that is not
-// written, what it holds for some value and for a newtype, an empty array for a sequence, an empty document for a map or a struct.
+// written, what it holds for some value and for a newtype, an empty array for a sequence, a tuple and a tuple variant, an empty
+// document for every other value.
 #[tactic(auto, using(bson_base::proofs::Rows::row_items))]
 fn carried(alloc: Global, key: &Datum<'_>) -> Result<Bson, AllocError>
     ensures value { IfOk result (λ value. tree_of value ≡ carried (view key.now)) }
@@ -88,13 +96,21 @@ fn carried(alloc: Global, key: &Datum<'_>) -> Result<Bson, AllocError>
         Datum::U64(n) => Ok(carried_u64(*n)),
         Datum::Double(number) => Ok(Bson::Double(*number)),
         Datum::Char(c) => carried_char(alloc, *c),
-        Datum::Str(text) => Ok(Bson::String(String::from_str(alloc, text.as_str())?)),
+        Datum::Str(text) | Datum::UnitVariant { variant: text } => {
+            Ok(Bson::String(String::from_str(alloc, text.as_str())?))
+        }
         Datum::Bytes(bytes) => carried_bytes(alloc, bytes.as_bytes()),
         Datum::None | Datum::Unit | Datum::UnitStruct { .. } => Ok(Bson::Null),
         Datum::Some(content) => carried(alloc, content),
         Datum::NewtypeStruct { value, .. } => carried(alloc, value),
-        Datum::Seq(_) => Ok(Bson::Array(Vec::new(alloc))),
-        Datum::Map(_) | Datum::Struct { .. } => Ok(Bson::Document(Document::new(alloc))),
+        Datum::Seq(_) | Datum::Tuple(_) | Datum::TupleVariant { .. } => {
+            Ok(Bson::Array(Vec::new(alloc)))
+        }
+        Datum::NewtypeVariant { .. }
+        | Datum::TupleStruct { .. }
+        | Datum::Map(_)
+        | Datum::Struct { .. }
+        | Datum::StructVariant { .. } => Ok(Bson::Document(Document::new(alloc))),
     }
 }
 

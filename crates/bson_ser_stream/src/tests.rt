@@ -80,6 +80,25 @@ fn a_map_is_a_document_by_each_call(rt: HostRuntime) -> Result<(), Fail> {
 }
 
 #[test]
+fn a_variant_is_a_document_by_each_call(rt: HostRuntime) -> Result<(), Fail> {
+    let alloc = rt.alloc();
+    let mut items = Vec::new(alloc);
+    items.push(Datum::I32(1))?;
+    let value = Datum::TupleVariant {
+        variant: Text::Borrowed("a"),
+        items,
+    };
+    let document = [
+        0x14, 0, 0, 0, 0x04, 0x61, 0, 0x0c, 0, 0, 0, 0x10, 0x30, 0, 0x01, 0, 0, 0, 0, 0,
+    ];
+    let (at_once, counted, buffered) = by_each_call(alloc, &value)?;
+    assert_eq!(rt; at_once.as_slice(), document.as_slice());
+    assert_eq!(rt; counted.as_slice(), document.as_slice());
+    assert_eq!(rt; buffered.as_slice(), document.as_slice());
+    Ok(())
+}
+
+#[test]
 fn a_struct_stands_in_a_struct(rt: HostRuntime) -> Result<(), Fail> {
     let alloc = rt.alloc();
     let inner = one_field(alloc, "i", Datum::I32(-1))?;

@@ -9,7 +9,8 @@ ghost use Rattle.bson_datum.specs.TextView.{text_view};
 ghost use Rattle.bson_datum.specs.Value.{newtype_kind, kind_of};
 ghost use Rattle.bson_datum.specs.View.{view, items_view, entries_view, fields_view};
 ghost use Rattle.bson_laws.specs.Means.{key_text};
-ghost use Rattle.bson_laws.specs.Spell.{unbuilt_newtype, newtype_at, spell, spell_items, spell_key, spell_entries, spell_fields, named, enclosed_at, key_size, size, size_items, size_entries, size_fields};
+ghost use Rattle.bson_laws.specs.Spell.{unbuilt_newtype, newtype_at, spell, spell_items, spell_key, spell_entries, spell_fields, named, variant_at, enclosed_at, key_size, variant_size, size, size_items, size_entries, size_fields};
+ghost use Rattle.bson_ser_stream.specs.ContentsView.{contents_view};
 ghost use Rattle.bson_ser_stream.specs.Writing.{with_tree, with_element, with_entry, with_elements, with_array_elements};
 ghost use Rattle.bson_ser_stream.specs.Halting.{Gives, Grows};
 
@@ -23,6 +24,16 @@ use crate::scalar::{
 use bson_base::{ElementType, reserved_kind};
 use bson_datum::{Cause, Datum, Entry, Field, Text};
 use bson_io::{Ledger, Out, Steps};
+
+// What stands under a key: a value, or what a variant holds that is no datum of its own.
+#[derive(Clone, Copy)]
+enum Contents<'a, 'b> {
+    Value(&'a Datum<'b>),
+    // The values of a tuple variant.
+    Items(&'a [Datum<'b>]),
+    // The fields of a struct variant.
+    Fields(&'a [Field<'b>]),
+}
 
 // The kind of a newtype that is not written yet: one of a reserved name.
 fn unbuilt_newtype(name: &str) -> Option<ElementType>
@@ -66,12 +77,24 @@ pub(crate) fn put_value<L: Ledger>(
         Datum::None | Datum::Unit | Datum::UnitStruct { .. } => Ok(ElementType::Null),
         Datum::Some(content) => put_value(out, steps, content, levels),
         Datum::NewtypeStruct { name, value } => put_newtype(out, steps, name, value, levels),
-        Datum::Seq(items) => put_array(out, steps, items, levels),
+        Datum::UnitVariant { variant } => put_text(out, steps, variant.as_str()),
+        Datum::NewtypeVariant { variant, value } => {
+            put_variant(out, steps, variant, Contents::Value(value), levels)
+        }
+        Datum::Seq(items) | Datum::Tuple(items) | Datum::TupleStruct { items, .. } => {
+            put_array(out, steps, items, levels)
+        }
+        Datum::TupleVariant { variant, items } => {
+            put_variant(out, steps, variant, Contents::Items(items), levels)
+        }
         Datum::Map(entries) => put_map(out, steps, entries, levels),
         Datum::Struct { name, fields } => match reserved_kind(name.as_str()) {
             Some(kind) => Err(Halt::caused(out.allocator(), Cause::NotBuilt(kind))),
             None => put_document(out, steps, fields, levels),
         },
+        Datum::StructVariant { variant, fields } => {
+            put_variant(out, steps, variant, Contents::Fields(fields), levels)
+        }
     }
 }
 
@@ -96,6 +119,29 @@ fn put_newtype<L: Ledger>(
         Some(kind) => Err(Halt::caused(out.allocator(), Cause::NotBuilt(kind))),
         None => put_value(out, steps, content, levels),
     }
+}
+
+// A variant with contents: a document of one pair, whose key is the name of the variant.
+#[cycle(put)]
+fn put_variant<L: Ledger>(
+    out: &mut Out,
+    steps: &mut Steps<L>,
+    name: &Text<'_>,
+    contents: Contents<'_, '_>,
+    levels: u32,
+) -> Result<ElementType, Halt>
+    ensures kind { IfOk result (λ k. k ≡ ElementType.EmbeddedDocument) }
+    ensures bytes { let name = text_view name.now in let value = contents_view contents.entry in
+        Gives (variant_size name (size value)) out.old.spare (λ _. out.new.bytes) result
+        (with_tree out.old.bytes (variant_at name levels (spell value))) }
+    ensures fits { let name = text_view name.now in let value = contents_view contents.entry in
+        OnOk result (variant_size name (size value) ≤ max_bytes) }
+    ensures grows { Grows out.old out.new steps.old steps.new }
+{
+    let document = Container::begin(out, steps, levels)?;
+    put_named(out, steps, name, contents, document.levels)?;
+    document.end(out, steps)?;
+    Ok(ElementType::EmbeddedDocument)
 }
 
 // A document of these fields.
@@ -177,7 +223,8 @@ fn put_fields<L: Ledger>(
     ensures grows { Grows out.old out.new steps.old steps.new }
 {
     for field in fields {
-        put_field(out, steps, field, levels)?;
+        let value = Contents::Value(&field.value);
+        put_named(out, steps, &field.name, value, levels)?;
     }
     Ok(())
 }
@@ -220,24 +267,25 @@ fn put_items<L: Ledger>(
     Ok(())
 }
 
-// The element of a field, whose name is judged before its value.
+// The element of a field, or of what a variant holds. Its name is judged before it.
 #[cycle(put)]
-fn put_field<L: Ledger>(
+fn put_named<L: Ledger>(
     out: &mut Out,
     steps: &mut Steps<L>,
-    field: &Field<'_>,
+    name: &Text<'_>,
+    contents: Contents<'_, '_>,
     levels: u32,
 ) -> Result<(), Halt>
-    ensures bytes { let key = text_view field.now.name in let value = view field.now.value in
-        Gives (length key + 2 + size value) out.old.spare (λ _. out.new.bytes) result
-        (with_element out.old.bytes key (named key (spell value levels))) }
+    ensures bytes { let name = text_view name.now in let value = contents_view contents.entry in
+        Gives (length name + 2 + size value) out.old.spare (λ _. out.new.bytes) result
+        (with_element out.old.bytes name (named name (spell value levels))) }
     ensures grows { Grows out.old out.new steps.old steps.new }
 {
-    let key = field.name.as_str();
+    let key = name.as_str();
     if has_zero(key) {
         return Err(zero_in(out.allocator(), key));
     }
-    put_under_key(out, steps, key, &field.value, levels)
+    put_under_key(out, steps, key, contents, levels)
 }
 
 // The element of an entry, whose key is judged before its value.
@@ -254,25 +302,25 @@ fn put_entry<L: Ledger>(
     ensures grows { Grows out.old out.new steps.old steps.new }
 {
     let key = written_key(out.allocator(), &entry.key)?;
-    put_under_key(out, steps, key, &entry.value, levels)
+    put_under_key(out, steps, key, Contents::Value(&entry.value), levels)
 }
 
-// The element of a value under a key. A refusal is seen from the document.
+// The element of what stands under a key. A refusal is seen from the document.
 #[cycle(put)]
 #[inline(always)]
 fn put_under_key<L: Ledger>(
     out: &mut Out,
     steps: &mut Steps<L>,
     key: &str,
-    value: &Datum<'_>,
+    contents: Contents<'_, '_>,
     levels: u32,
 ) -> Result<(), Halt>
-    ensures bytes { let value = view value.now in
+    ensures bytes { let value = contents_view contents.entry in
         Gives (length key.now + 2 + size value) out.old.spare (λ _. out.new.bytes) result
         (with_element out.old.bytes key.now (under key.now (spell value levels))) }
     ensures grows { Grows out.old out.new steps.old steps.new }
 {
-    match put_element(out, steps, key, value, levels) {
+    match put_element(out, steps, key, contents, levels) {
         Ok(()) => Ok(()),
         Err(halt) => Err(halt.under_key(key)),
     }
@@ -293,30 +341,52 @@ fn put_item<L: Ledger>(
     ensures grows { Grows out.old out.new steps.old steps.new }
 {
     let mut digits = itoa::Buffer::new();
-    match put_element(out, steps, digits.format(index), item, levels) {
+    let value = Contents::Value(item);
+    match put_element(out, steps, digits.format(index), value, levels) {
         Ok(()) => Ok(()),
         Err(halt) => Err(halt.under_index(index)),
     }
 }
 
-// An element: its key and its value, whose kind is known behind it. A refusal is seen from the value.
+// An element: its key and what stands under it, whose kind is known behind it. A refusal is seen from the value.
 #[cycle(put)]
 #[inline(always)]
 fn put_element<L: Ledger>(
     out: &mut Out,
     steps: &mut Steps<L>,
     key: &str,
-    value: &Datum<'_>,
+    contents: Contents<'_, '_>,
     levels: u32,
 ) -> Result<(), Halt>
-    ensures bytes { let value = view value.now in
+    ensures bytes { let value = contents_view contents.entry in
         Gives (length key.now + 2 + size value) out.old.spare (λ _. out.new.bytes) result
         (with_element out.old.bytes key.now (spell value levels)) }
     ensures grows { Grows out.old out.new steps.old steps.new }
 {
     let start = out.len();
     begin_element(out, steps, key)?;
-    let kind = put_value(out, steps, value, levels)?;
+    let kind = put_contents(out, steps, contents, levels)?;
     out.patch_byte(start, kind.byte(), steps);
     Ok(())
+}
+
+// What stands under a key, and the kind that it is written as.
+#[cycle(put)]
+fn put_contents<L: Ledger>(
+    out: &mut Out,
+    steps: &mut Steps<L>,
+    contents: Contents<'_, '_>,
+    levels: u32,
+) -> Result<ElementType, Halt>
+    ensures kind { IfOk result (λ k. k ≡ kind_of (contents_view contents.entry)) }
+    ensures bytes { let value = contents_view contents.entry in
+        Gives (size value) out.old.spare (λ _. out.new.bytes) result
+        (with_tree out.old.bytes (spell value levels)) }
+    ensures grows { Grows out.old out.new steps.old steps.new }
+{
+    match contents {
+        Contents::Value(value) => put_value(out, steps, value, levels),
+        Contents::Items(items) => put_array(out, steps, items, levels),
+        Contents::Fields(fields) => put_document(out, steps, fields, levels),
+    }
 }

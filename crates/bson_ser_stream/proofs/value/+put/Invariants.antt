@@ -1,9 +1,13 @@
 -- What was appended so far leaves to come what was to come from the fields, the entries or the values that are left.
-use Rattle.std.proofs.Common.{◌≡◌, ◌≤◌, drop}
+use Rattle.std.proofs.Common.{◌≡◌, ◌+◌, ◌*◌, ◌≤◌, ℕ, drop}
 use Rattle.bson_datum.specs.View.{items_view, entries_view, fields_view}
 use Rattle.bson_laws.specs.Spell.{spell_items, spell_entries, spell_fields, size_items, size_entries, size_fields}
 use Rattle.bson_ser_stream.specs.Writing.{with_elements, with_array_elements}
 use Rattle.bson_ser_stream.specs.Halting.{Grows}
+use denote.Param.Weighed.{most}
+use Rattle.bson_datum.specs.declared.datum.Datum.TheViews.{size-Datum, size-Field}
+use Rattle.bson_ser_stream.specs.declared.value.Contents.{Contents}
+use Rattle.bson_ser_stream.specs.declared.value.Contents.TheVariants as contents
 use Rattle.bson_ser_stream.proofs.value.+put.Given as goal
 
 abbrev pub invariant-put_fields-loop-field : goal.invariant-put_fields-loop-field
@@ -32,3 +36,54 @@ invariant-put_items-loop-index g l =
       size : size_items l.index left ≤ size_items 0 (items_view l.items);
       grows : Grows l.initial.out l.out l.initial.steps l.steps;
     }
+
+abbrev pub decreases-put_value : goal.decreases-put_value
+decreases-put_value g l = 16 * goal.size-put_value g l
+
+abbrev pub decreases-put_newtype : goal.decreases-put_newtype
+decreases-put_newtype g l = 16 * goal.size-put_newtype g l + 1
+
+abbrev pub decreases-put_array : goal.decreases-put_array
+decreases-put_array g l = 16 * goal.size-put_array g l + 7
+
+abbrev pub decreases-put_document : goal.decreases-put_document
+decreases-put_document g l = 16 * goal.size-put_document g l + 7
+
+abbrev pub decreases-put_map : goal.decreases-put_map
+decreases-put_map g l = 16 * goal.size-put_map g l + 7
+
+abbrev pub decreases-put_fields : goal.decreases-put_fields
+decreases-put_fields g l = 16 * goal.size-put_fields g l + 6
+
+abbrev pub decreases-put_entries : goal.decreases-put_entries
+decreases-put_entries g l = 16 * goal.size-put_entries g l + 6
+
+abbrev pub decreases-put_items : goal.decreases-put_items
+decreases-put_items g l = 16 * goal.size-put_items g l + 6
+
+abbrev pub decreases-put_entry : goal.decreases-put_entry
+decreases-put_entry g l = 16 * goal.size-put_entry g l + 5
+
+abbrev pub decreases-put_item : goal.decreases-put_item
+decreases-put_item g l = 16 * goal.size-put_item g l + 5
+
+-- how deep what stands under a key goes
+abbrev pub contents_depth : Contents → ℕ
+contents_depth (contents.Value d) = 16 * size-Datum d.now
+contents_depth (contents.Items ds) = 16 * most size-Datum ds.now + 8
+contents_depth (contents.Fields fs) = 16 * most size-Field fs.now + 8
+
+abbrev pub decreases-put_variant : goal.decreases-put_variant
+decreases-put_variant g l = contents_depth l.contents + 5
+
+abbrev pub decreases-put_named : goal.decreases-put_named
+decreases-put_named g l = contents_depth l.contents + 4
+
+abbrev pub decreases-put_under_key : goal.decreases-put_under_key
+decreases-put_under_key g l = contents_depth l.contents + 3
+
+abbrev pub decreases-put_element : goal.decreases-put_element
+decreases-put_element g l = contents_depth l.contents + 2
+
+abbrev pub decreases-put_contents : goal.decreases-put_contents
+decreases-put_contents g l = contents_depth l.contents + 1
