@@ -4,12 +4,9 @@ use Rattle.std.proofs.Math.Seq.{drop-cons}
 use Rattle.std.proofs.lemmas.List.{drop_all, take_all, take_more}
 use Rattle.bson_base.specs.Text.{Bytes}
 use Rattle.bson_base.specs.Outcome.{◌>>=◌, result_map}
-use Rattle.bson_rawdoc.specs.Walk.{Element, Walk, ended, then_walk}
+use Rattle.bson_rawdoc.specs.Walk.{Walk}
 use Rattle.bson_shape.specs.ShapeView.{fields_of}
 use Rattle.bson_shape.specs.declared.shape.FieldShape.{FieldShape}
-use Rattle.bson_datum.specs.Cause.{invalid_length}
-use Rattle.bson_datum.specs.Refusal.{at_index, under_index}
-use Rattle.bson_datum.specs.Stop.{IsUnder}
 use Rattle.bson_datum.specs.TextView.{text_view}
 use Rattle.bson_datum.specs.Value.{FieldValues, no_field_values, field_value}
 use Rattle.bson_datum.specs.View.{view, fields_view}
@@ -17,8 +14,10 @@ use Rattle.bson_datum.specs.declared.datum.Field.{Field}
 use Rattle.bson_datum.specs.declared.de.Fault.{Fault}
 use Rattle.bson_datum.specs.declared.stop.Stop.{Stop}
 use Rattle.bson_laws.specs.Lent.{IsTextOwned, IsLentAs, AreFieldsLentAs}
-use Rattle.bson_laws.specs.Reads.{Reading, refused, reads, reads_places}
-use Rattle.bson_de_raw.proofs.Refusals.{StopsAs, stops_bind, stops_inside, stops_map}
+use Rattle.bson_laws.specs.Reads.{Reading, reads, reads_places}
+use Rattle.bson_de_raw.specs.NextValue.{next_value, behind_first}
+use Rattle.bson_de_raw.proofs.NextValues.{next_parts}
+use Rattle.bson_de_raw.proofs.Refusals.{StopsAs, stops_bind, stops_map}
 
 -- the values of these fields, and then the rest
 abbrev pub values_before : List Field → FieldValues → FieldValues
@@ -48,32 +47,30 @@ module _ (fs : List FieldShape) (levels i : ℕ) (done : List Field) (old : Walk
     left : drop i fs ≡ f ∷ drop (suc i) fs
     left = drop-cons fs i f lt ∙ ap (λ g. g ∷ drop (suc i) fs) (sym stands)
 
-    so_far_one : result_map (values_before done) (reads_places (fields_of (f ∷ drop (suc i) fs)) i levels old) ≡ total
-    so_far_one = sym (ap (λ gs. result_map (values_before done) (reads_places (fields_of gs) i levels old)) left) ∙ so_far
-
-    -- no element is left for it
-    pub places_short : old ≡ ended → total ≡ refused (invalid_length i)
-    places_short e = sym so_far_one ∙ ap (λ w. result_map (values_before done) (reads_places (fields_of (f ∷ drop (suc i) fs)) i levels w)) e
+    -- its value, and then those of the others
+    due : result_map (values_before done) (next_value i (reads f.shape levels) old >>= λ v. result_map (field_value (string_bytes f.name) v) (reads_places (fields_of (drop (suc i) fs)) (suc i) levels (behind_first old))) ≡ total
+    due =
+        ap (result_map (values_before done)) (sym (next_parts i (reads f.shape levels) (λ v rest. result_map (field_value (string_bytes f.name) v) (reads_places (fields_of (drop (suc i) fs)) (suc i) levels rest)) old))
+        ∙ sym (ap (λ gs. result_map (values_before done) (reads_places (fields_of gs) i levels old)) left)
+        ∙ so_far
 
     -- its value was read
-    pub places_step : (e : Element) (rest : Walk) (x : Field) (all : List Field) → old ≡ then_walk e rest → reads f.shape levels e.kind e.value ≡ Ok (view x.value) → text_view x.name ≡ string_bytes f.name → all ≡ done ++ x ∷ []
-        → result_map (values_before all) (reads_places (fields_of (drop (i + 1) fs)) (i + 1) levels rest) ≡ total
-    places_step e rest x all first is named pushed =
-        ap (λ n. result_map (values_before all) (reads_places (fields_of (drop n fs)) n levels rest)) (add-one i)
-        ∙ ap (λ xs. result_map (values_before xs) (reads_places (fields_of (drop (suc i) fs)) (suc i) levels rest)) pushed
-        ∙ sym (more done x (reads_places (fields_of (drop (suc i) fs)) (suc i) levels rest))
-        ∙ ap (λ n. result_map (values_before done) (result_map (field_value n (view x.value)) (reads_places (fields_of (drop (suc i) fs)) (suc i) levels rest))) named
-        ∙ ap (λ r. result_map (values_before done) (under_index i r >>= λ v. result_map (field_value (string_bytes f.name) v) (reads_places (fields_of (drop (suc i) fs)) (suc i) levels rest))) (sym is)
-        ∙ ap (λ w. result_map (values_before done) (reads_places (fields_of (f ∷ drop (suc i) fs)) i levels w)) (sym first)
-        ∙ so_far_one
+    pub places_step : (new : Walk) (x : Field) (all : List Field) → new ≡ behind_first old → next_value i (reads f.shape levels) old ≡ Ok (view x.value) → text_view x.name ≡ string_bytes f.name → all ≡ done ++ x ∷ []
+        → result_map (values_before all) (reads_places (fields_of (drop (i + 1) fs)) (i + 1) levels new) ≡ total
+    places_step new x all rest is named pushed =
+        ap (λ n. result_map (values_before all) (reads_places (fields_of (drop n fs)) n levels new)) (add-one i)
+        ∙ (λ j. result_map (values_before (pushed j)) (reads_places (fields_of (drop (suc i) fs)) (suc i) levels (rest j)))
+        ∙ sym (more done x (reads_places (fields_of (drop (suc i) fs)) (suc i) levels (behind_first old)))
+        ∙ ap (λ n. result_map (values_before done) (result_map (field_value n (view x.value)) (reads_places (fields_of (drop (suc i) fs)) (suc i) levels (behind_first old)))) named
+        ∙ sym (ap (λ r. result_map (values_before done) (r >>= λ v. result_map (field_value (string_bytes f.name) v) (reads_places (fields_of (drop (suc i) fs)) (suc i) levels (behind_first old)))) is)
+        ∙ due
 
-    -- its value is refused
-    pub places_stop : (e : Element) (rest : Walk) (s t : Stop Fault) → old ≡ then_walk e rest → IsUnder (at_index i) s t → StopsAs s (reads f.shape levels e.kind e.value) → StopsAs t total
-    places_stop e rest s t first u h =
-        subst (λ (r : Reading FieldValues). StopsAs t r) (ap (λ w. result_map (values_before done) (reads_places (fields_of (f ∷ drop (suc i) fs)) i levels w)) (sym first) ∙ so_far_one)
-        (stops_map t (values_before done) (under_index i (reads f.shape levels e.kind e.value) >>= λ v. result_map (field_value (string_bytes f.name) v) (reads_places (fields_of (drop (suc i) fs)) (suc i) levels rest))
-        (stops_bind t (under_index i (reads f.shape levels e.kind e.value)) (λ v. result_map (field_value (string_bytes f.name) v) (reads_places (fields_of (drop (suc i) fs)) (suc i) levels rest))
-        (stops_inside (at_index i) s t (reads f.shape levels e.kind e.value) u h)))
+    -- it is refused, or no element is left for it
+    pub places_stop : (t : Stop Fault) → StopsAs t (next_value i (reads f.shape levels) old) → StopsAs t total
+    places_stop t h =
+        subst (λ (r : Reading FieldValues). StopsAs t r) due
+        (stops_map t (values_before done) (next_value i (reads f.shape levels) old >>= λ v. result_map (field_value (string_bytes f.name) v) (reads_places (fields_of (drop (suc i) fs)) (suc i) levels (behind_first old)))
+        (stops_bind t (next_value i (reads f.shape levels) old) (λ v. result_map (field_value (string_bytes f.name) v) (reads_places (fields_of (drop (suc i) fs)) (suc i) levels (behind_first old))) h))
 
   -- no field is left
   pub places_end : length fs ≡ i → total ≡ Ok (fields_view done)

@@ -30,7 +30,7 @@ pub all_left : (r : Reading Items) → result_map (items_before []) r ≡ r
 all_left (Ok x) = refl
 all_left (Err e) = refl
 
-before-none : (ds : List Datum) → items_before ds no_items ≡ items_view ds
+pub before-none : (ds : List Datum) → items_before ds no_items ≡ items_view ds
 before-none [] = refl
 before-none (d ∷ ds) = ap (item (view d)) (before-none ds)
 
@@ -38,7 +38,8 @@ before-push : (ds : List Datum) (d : Datum) (rest : Items) → items_before (ds 
 before-push [] d rest = refl
 before-push (e ∷ ds) d rest = ap (item (view e)) (before-push ds d rest)
 
-more : (done : List Datum) (d : Datum) (r : Reading Items) → result_map (items_before done) (result_map (item (view d)) r) ≡ result_map (items_before (done ++ d ∷ [])) r
+-- one more datum before the rest
+pub more : (done : List Datum) (d : Datum) (r : Reading Items) → result_map (items_before done) (result_map (item (view d)) r) ≡ result_map (items_before (done ++ d ∷ [])) r
 more done d (Ok x) = ap Ok (sym (before-push done d x))
 more done d (Err e) = refl
 

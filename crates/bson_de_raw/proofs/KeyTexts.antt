@@ -1,17 +1,19 @@
 -- Keys of maps: two texts that are one key are one text.
-use Rattle.std.proofs.Common.{◌≡◌, ℕ, List, [], ◌∷◌, true, Ok, IsUtf8, refl, ap, sym, ◌∙◌}
+use Rattle.std.proofs.Common.{◌≡◌, ℕ, List, [], ◌∷◌, true, Option, Some, None, Ok, IsUtf8, refl, ap, sym, ◌∙◌}
 use Rattle.std.specs.Str.{chars}
 use lib.Utf8.{encodes}
 use Rattle.std.proofs.lemmas.Bool.{false≢true}
 use Rattle.std.proofs.lemmas.Str.{encodes-chars}
 use Rattle.bson_base.specs.Text.{Utf8}
-use Rattle.bson_shape.specs.Form.{leaf}
+use Rattle.bson_shape.specs.Form.{Form, leaf, enumeration, Content, unit_content}
 use Rattle.bson_shape.specs.Leaf.{is_text}
+use Rattle.bson_shape.specs.Makers.{is_text_key}
 use Rattle.bson_shape.specs.declared.leaf.Leaf.{Leaf}
 use Rattle.bson_shape.specs.declared.leaf.Leaf.TheVariants.{Char, Str, String}
-use Rattle.bson_datum.specs.Value.{Value, character}
+use Rattle.bson_datum.specs.Value.{Value, character, unit_variant}
 use Rattle.bson_laws.specs.Views.{one_character}
-use Rattle.bson_laws.specs.Reads.{read_character, reads_key}
+use Rattle.bson_laws.specs.Reads.{read_character, reads_key, unit_of}
+use Rattle.bson_laws.specs.Variants.{content_of}
 
 -- what is read as a character is one
 one_read : (cs : List ℕ) (k : Value) → read_character (one_character cs) ≡ Ok k → (c : ℕ) × (cs ≡ c ∷ []) × (k ≡ character c)
@@ -25,9 +27,23 @@ same_characters cs ds k e f =
     let d = one_read ds k f in
     cc
 
+-- what is read as a unit variant is that of the text
+unit_read : (t : Utf8) (o : Option Content) (k : Value) → unit_of t o ≡ Ok k → k ≡ unit_variant t
+unit_read t None k e = absurd cc
+unit_read t (Some unit_content) k e = cc
+unit_read t (Some c) k e = absurd cc
+
+leaf_same : (l : Leaf) (t u : Utf8) (k : Value) → is_text l ≡ true → IsUtf8 t → IsUtf8 u → reads_key (leaf l) t ≡ Ok k → reads_key (leaf l) u ≡ Ok k → t ≡ u
+leaf_same Str t u k text a b e f = cc
+leaf_same String t u k text a b e f = cc
+leaf_same Char t u k text a b e f = sym (encodes-chars t a) ∙ ap encodes (same_characters (chars t) (chars u) k e f) ∙ encodes-chars u b
+leaf_same l t u k text a b e f = absurd (false≢true text)
+
 -- two texts that are read as one key
-pub key_same : (l : Leaf) (t u : Utf8) (k : Value) → is_text l ≡ true → IsUtf8 t → IsUtf8 u → reads_key (leaf l) t ≡ Ok k → reads_key (leaf l) u ≡ Ok k → t ≡ u
-key_same Str t u k text a b e f = cc
-key_same String t u k text a b e f = cc
-key_same Char t u k text a b e f = sym (encodes-chars t a) ∙ ap encodes (same_characters (chars t) (chars u) k e f) ∙ encodes-chars u b
-key_same l t u k text a b e f = absurd (false≢true text)
+pub key_same : (s : Form) (t u : Utf8) (k : Value) → is_text_key s ≡ true → IsUtf8 t → IsUtf8 u → reads_key s t ≡ Ok k → reads_key s u ≡ Ok k → t ≡ u
+key_same (leaf l) t u k text a b e f = leaf_same l t u k text a b e f
+key_same (enumeration vs) t u k text a b e f =
+    let v = unit_read t (content_of vs t) k e in
+    let w = unit_read u (content_of vs u) k f in
+    cc
+key_same s t u k text a b e f = absurd (false≢true text)

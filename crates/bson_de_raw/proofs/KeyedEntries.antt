@@ -6,9 +6,9 @@ use Rattle.std.proofs.lemmas.Bool.{false≢true}
 use Rattle.std.proofs.lemmas.List.{length-append, length-set}
 use Rattle.std.proofs.lemmas.Slice.Eq.{bytes_eq-Decides}
 use Rattle.bson_base.specs.Text.{Utf8}
-use Rattle.bson_shape.specs.Form.{leaf}
-use Rattle.bson_shape.specs.Leaf.{is_text}
-use Rattle.bson_shape.specs.declared.leaf.Leaf.{Leaf}
+use Rattle.bson_shape.specs.Form.{Form}
+use Rattle.bson_shape.specs.Makers.{is_text_key}
+use Rattle.bson_shape.specs.ShapeView.{form_view}
 use Rattle.bson_datum.specs.Decided.{same_decides}
 use Rattle.bson_datum.specs.Same.{same}
 use Rattle.bson_datum.specs.Value.{Value, Entries, entry}
@@ -106,13 +106,13 @@ unfolding first_or
 at_last n = refl
 
 -- Behind the others stands an entry with a new key, which was read from a text: each text has the place that it had, and that text the last.
-pub place_more : (l : Leaf) (es : List Entry) (e : Entry) (text t : Utf8) (k : Value) → is_text l ≡ true → IsUtf8 text → IsUtf8 t → reads_key (leaf l) text ≡ Ok (view e.key) → reads_key (leaf l) t ≡ Ok k
+pub place_more : (s : Form) (es : List Entry) (e : Entry) (text t : Utf8) (k : Value) → is_text_key s ≡ true → IsUtf8 text → IsUtf8 t → reads_key s text ≡ Ok (view e.key) → reads_key s t ≡ Ok k
     → entry_place (view e.key) (entries_view es) ≡ None → cond (bytes_eq text t) (Some (length es)) (entry_place k (entries_view es)) ≡ entry_place k (entries_view (es ++ e ∷ []))
-place_more l es e text t k is_key utf8 utf8t reads reads_t new = by_text (bytes_eq text t) refl ∙ sym (place_behind es e k)
+place_more s es e text t k is_key utf8 utf8t reads reads_t new = by_text (bytes_eq text t) refl ∙ sym (place_behind es e k)
   where
-    by_same : (s : Bool) → same k (view e.key) ≡ s → bytes_eq text t ≡ false → entry_place k (entries_view es) ≡ first_or (entry_place k (entries_view es)) (at_end s (length es))
+    by_same : (b : Bool) → same k (view e.key) ≡ b → bytes_eq text t ≡ false → entry_place k (entries_view es) ≡ first_or (entry_place k (entries_view es)) (at_end b (length es))
     by_same true is other =
-        let one : text ≡ t = key_same l text t k is_key utf8 utf8t (reads ∙ ap Ok (sym ((same_decides k (view e.key)).0 is))) reads_t in
+        let one : text ≡ t = key_same s text t k is_key utf8 utf8t (reads ∙ ap Ok (sym ((same_decides k (view e.key)).0 is))) reads_t in
         absurd (false≢true (sym other ∙ (bytes_eq-Decides text t).1 one))
     by_same false is other = sym (or_none (entry_place k (entries_view es)))
 
@@ -120,7 +120,7 @@ place_more l es e text t k is_key utf8 utf8t reads reads_t new = by_text (bytes_
     by_text false other = by_same (same k (view e.key)) refl other
     by_text true is =
         let texts : text ≡ t = (bytes_eq-Decides text t).0 is in
-        let keys : k ≡ view e.key = (let one : Ok k ≡ Ok (view e.key) = sym reads_t ∙ ap (reads_key (leaf l)) (sym texts) ∙ reads in cc) in
+        let keys : k ≡ view e.key = (let one : Ok k ≡ Ok (view e.key) = sym reads_t ∙ ap (reads_key s) (sym texts) ∙ reads in cc) in
         sym ((λ i. first_or (entry_place (keys i) (entries_view es)) (at_end (same (keys i) (view e.key)) (length es)))
         ∙ (λ i. first_or (new i) (at_end ((same_decides (view e.key) (view e.key)).1 refl i) (length es))) ∙ at_last (length es))
 
@@ -128,7 +128,7 @@ length-push : (es : List Entry) (x : Entry) → length (es ++ x ∷ []) ≡ leng
 length-push es x = omega (arith, length-append es (x ∷ []))
 
 -- the entries of a map so far, and a text that is read as a key
-module _ (e : code.Entries) (indexed : IsIndexed e) (text : Utf8) (k : Value) (utf8 : IsUtf8 text) (reads : reads_key (leaf e.leaf) text ≡ Ok k) where
+module _ (e : code.Entries) (indexed : IsIndexed e) (text : Utf8) (k : Value) (utf8 : IsUtf8 text) (reads : reads_key (form_view e.key) text ≡ Ok k) where
   -- the place of the text is that of the key
   among : (o : Option ℕ) → o ≡ key_place e.keys text → entry_place k (entries_view e.entries.items) ≡ o
   among o is = sym (is ∙ indexed.places text k utf8 reads)
@@ -148,7 +148,7 @@ module _ (e : code.Entries) (indexed : IsIndexed e) (text : Utf8) (k : Value) (u
       ∙ ap (λ v. put_entry v (view x.value) (entries_view e.entries.items)) named
 
   pub new_indexed : (x : Entry) (entries : Vec Entry) (keys : Keys) (n : ℕ) → view x.key ≡ k → None ≡ key_place e.keys text → entries.items ≡ e.entries.items ++ x ∷ [] → n ≡ length e.entries.items → HasPlacesBelow (n + 1) keys
-      → ((t : Utf8) → key_place keys t ≡ cond (bytes_eq text t) (Some n) (key_place e.keys t)) → IsIndexed (record { leaf = e.leaf; entries = entries; keys = keys })
+      → ((t : Utf8) → key_place keys t ≡ cond (bytes_eq text t) (Some n) (key_place e.keys t)) → IsIndexed (record { key = e.key; entries = entries; keys = keys })
   new_indexed x entries keys n named is pushed many below places = record {
     text = indexed.text;
     next = subst (λ m. HasPlacesBelow m keys) (ap (λ m. m + 1) many ∙ sym (ap length pushed ∙ length-push e.entries.items x)) below;
@@ -156,12 +156,12 @@ module _ (e : code.Entries) (indexed : IsIndexed e) (text : Utf8) (k : Value) (u
         places t
         ∙ ap (λ m. cond (bytes_eq text t) (Some m) (key_place e.keys t)) many
         ∙ ap (cond (bytes_eq text t) (Some (length e.entries.items))) (indexed.places t l u r)
-        ∙ place_more e.leaf e.entries.items x text t l indexed.text utf8 u (reads ∙ ap Ok (sym named)) r (ap (λ v. entry_place v (entries_view e.entries.items)) named ∙ among None is)
+        ∙ place_more (form_view e.key) e.entries.items x text t l indexed.text utf8 u (reads ∙ ap Ok (sym named)) r (ap (λ v. entry_place v (entries_view e.entries.items)) named ∙ among None is)
         ∙ ap (λ es. entry_place l (entries_view es)) (sym pushed);
   }
 
 pub known_indexed : (e : code.Entries) (entries : Vec Entry) (i : ℕ) (d x : Entry) → IsIndexed e → entries.items ≡ set e.entries.items i x → view x.key ≡ view (get_or e.entries.items i d).key
-    → IsIndexed (record { leaf = e.leaf; entries = entries; keys = e.keys })
+    → IsIndexed (record { key = e.key; entries = entries; keys = e.keys })
 known_indexed e entries i d x indexed put same_key = record {
   text = indexed.text;
   next = subst (λ n. HasPlacesBelow n e.keys) (sym (ap length put ∙ length-set e.entries.items i x)) indexed.next;

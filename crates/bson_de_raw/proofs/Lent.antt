@@ -10,26 +10,30 @@ use Rattle.bson_base.specs.declared.element_type.ElementType.{ElementType}
 use Rattle.bson_rawdoc.specs.DocumentView.{document_bytes}
 use Rattle.bson_rawdoc.specs.Envelope.{envelope}
 use Rattle.bson_rawdoc.specs.RawValue.{RawValue, string, document, array, binary, object_id, value_in}
+use Rattle.bson_rawdoc.specs.Walk.{Element, Walk, ended, faulty, then_walk}
 use Rattle.bson_rawdoc.specs.declared.document.RawDocument.{RawDocument}
 use Rattle.bson_rawdoc.specs.declared.raw.Error as raw_error
-use Rattle.bson_shape.specs.Form.{Form, Fields, leaf, sequence, map, structure}
+use Rattle.bson_shape.specs.Form.{Form, Fields, Parts, leaf, sequence, map, tuple, tuple_structure, structure, tuple_content, struct_content}
 use Rattle.bson_shape.specs.ShapeView.{fields_of}
 use Rattle.bson_shape.specs.declared.shape.FieldShape.{FieldShape}
 use Rattle.bson_shape.specs.declared.leaf.Leaf.{Leaf}
 use Rattle.bson_datum.specs.Cause.{not_utf8, too_deep}
 use Rattle.bson_datum.specs.Refusal.{ReadFault, Refusal}
 use Rattle.bson_datum.specs.Loans.{IsOwned}
-use Rattle.bson_datum.specs.declared.datum.Datum.{Datum, Seq, Map, Struct}
+use Rattle.bson_datum.specs.TextView.{text_view}
+use Rattle.bson_datum.specs.declared.datum.Datum.{Datum, Seq, Tuple, TupleStruct, TupleVariant, Map, Struct, StructVariant}
 use Rattle.bson_datum.specs.declared.datum.Entry.{Entry}
 use Rattle.bson_datum.specs.declared.datum.Field.{Field}
 use Rattle.bson_datum.specs.declared.de.Fault.{Fault}
 use Rattle.bson_datum.specs.declared.stop.Stop.{Stop}
 use Rattle.bson_datum.specs.declared.text.Text as text
-use Rattle.bson_laws.specs.Lent.{StandsIn, PartsStandIn, IsTextOwned, AllLent, lends, IsLentIf, IsLentAs, AreItemsLentAs, AreEntriesLentAs, AreFieldsLentAs}
+use Rattle.bson_laws.specs.Lent.{StandsIn, PartsStandIn, ElementsStandIn, IsTextOwned, AllLent, lends, IsLentIf, IsLentAs, IsContentLentAs, AreItemsLentAs, AreEntriesLentAs, AreFieldsLentAs, ArePartsLentAs}
 use Rattle.bson_laws.specs.Reads.{refused, faultless, is_container, with_level, judged, text_of, text_of_binary, bytes_of, bytes_of_binary, array_of, document_of}
-use Rattle.bson_laws.proofs.Lent.{lent_wider, fields_lent_wider, sequence_lent, map_lent, structure_lent}
+use Rattle.bson_laws.proofs.Lent.{lent_wider, content_wider, fields_lent_wider, sequence_lent, map_lent, structure_lent, tuple_lent, tuple_structure_lent, tuple_variant_lent, structure_variant_lent}
 use Rattle.bson_laws.proofs.Standing.{value_stands, envelope_is}
 use Rattle.bson_de_raw.specs.Encoded.{encoded_kind, encoded_bytes, raw_in, entered, entered_array, IsLentFrom}
+use Rattle.bson_de_raw.specs.Enums.{first_of}
+use Rattle.bson_de_raw.specs.NextValue.{behind_first}
 use Rattle.bson_de_raw.specs.SlotsView.{slot_values, AreSlotsLent}
 use Rattle.bson_de_raw.specs.ValuesRead.{AreValuesLent}
 use Rattle.bson_de_raw.specs.declared.encoded.Encoded.{Encoded}
@@ -162,6 +166,37 @@ any_leaf_lent l v x r e is h = all_at_leaf l v r e (any_part_lent (encoded_kind 
 pub items_of_lent : (item : Form) (v : Encoded) (levels : ℕ) (body : Bytes) (ds : Vec Datum) → entered_array levels v ≡ Ok body → AreItemsLentAs item body ds.items → IsLentFrom v (sequence item) (Seq ds)
 items_of_lent item v levels body ds inside read =
     lent_wider (sequence item) body (encoded_bytes v) (Seq ds) (entered_array_stands levels v body inside) (sequence_lent item body ds read)
+
+-- the parts of a tuple whose array stands in a value's bytes; they are those of a tuple struct or a tuple variant too
+module _ (ps : Parts) (v : Encoded) (levels : ℕ) (body : Bytes) (entered : entered_array levels v ≡ Ok body) where
+  there : StandsIn body (encoded_bytes v)
+  there = entered_array_stands levels v body entered
+
+  pub tuple_of_lent : (ds : Vec Datum) → ArePartsLentAs ps body ds.items → IsLentFrom v (tuple ps) (Tuple ds)
+  tuple_of_lent ds read = lent_wider (tuple ps) body (encoded_bytes v) (Tuple ds) there (tuple_lent ps body ds read)
+
+  pub tuple_struct_of_lent : (name : Utf8) (named : text.Text) (ds : Vec Datum) → IsTextOwned named → ArePartsLentAs ps body ds.items → IsLentFrom v (tuple_structure name ps) (TupleStruct named ds)
+  tuple_struct_of_lent name named ds owned read = lent_wider (tuple_structure name ps) body (encoded_bytes v) (TupleStruct named ds) there (tuple_structure_lent name ps body named ds owned read)
+
+  pub tuple_variant_of_lent : (name : Utf8) (named : text.Text) (ds : Vec Datum) → text_view named ≡ name → IsTextOwned named → ArePartsLentAs ps body ds.items → IsContentLentAs name (tuple_content ps) (encoded_bytes v) (TupleVariant named ds)
+  tuple_variant_of_lent name named ds is owned read = content_wider name (tuple_content ps) body (encoded_bytes v) (TupleVariant named ds) there (tuple_variant_lent name ps body named ds is owned read)
+
+-- a struct variant whose value is this one
+pub struct_variant_of_lent : (name : Utf8) (fs : Fields) (v : Encoded) (x : RawValue) (named : text.Text) (xs : Vec Field) → raw_in v ≡ Ok x → text_view named ≡ name → IsTextOwned named
+    → ((input : Bytes) → PartsStandIn input x → AreFieldsLentAs fs input xs.items) → IsContentLentAs name (struct_content fs) (encoded_bytes v) (StructVariant named xs)
+struct_variant_of_lent name fs v x named xs is same owned h = structure_variant_lent name fs (encoded_bytes v) named xs same owned (h (encoded_bytes v) (value_stands (encoded_kind v) (encoded_bytes v) x is))
+
+-- what is behind the first of these elements stands in the bytes too
+pub behind_stand : (bytes : Bytes) (w : Walk) → ElementsStandIn bytes w → ElementsStandIn bytes (behind_first w)
+behind_stand bytes ended h = tt
+behind_stand bytes (faulty f) h = tt
+behind_stand bytes (then_walk e w) h = h.2
+
+-- so does the value of the first
+pub first_stands : (bytes : Bytes) (w : Walk) (e : Element) → ElementsStandIn bytes w → first_of w ≡ Ok e → StandsIn e.value bytes
+first_stands bytes ended e h is = absurd cc
+first_stands bytes (faulty f) e h is = absurd cc
+first_stands bytes (then_walk d w) e h is = subst (λ (x : Element). StandsIn x.value bytes) (got d e is) h.1
 
 -- a whole document, whose envelope was passed
 pub document_lent : (s : Form) (bytes : Bytes) (whole : RawDocument) (d : Datum) → envelope bytes ≡ Ok (document_bytes whole) → IsLentFrom (Document whole) s d → IsLentAs s bytes d

@@ -16,3 +16,7 @@ pub mod FieldPlaces
 pub mod KeyTexts
 pub mod KeyedEntries
 pub mod Lent
+pub mod Variants
+pub mod NextValues
+pub mod Parts
+pub mod VariantContents

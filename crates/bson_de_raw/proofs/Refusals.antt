@@ -1,11 +1,12 @@
 -- A refusal goes on through what would have followed, and out of the documents round it.
-use Rattle.std.proofs.Common.{◌≡◌, Option, Some, None, Result, Ok, Err, ap, sym, ◌∙◌, reverse, [], ◌∷◌, ◌++◌}
+use Rattle.std.proofs.Common.{◌≡◌, Option, Some, None, Result, Ok, Err, IfOk, ap, sym, subst, ◌∙◌, reverse, [], ◌∷◌, ◌++◌}
 use Rattle.std.proofs.lemmas.List.{reverse-append}
 use Rattle.bson_base.specs.Outcome.{◌>>=◌, result_map}
 use Rattle.bson_rawdoc.specs.Walk.{Element, Walk, then_walk}
 use Rattle.bson_rawdoc.specs.Next.{IsNext}
 use Rattle.bson_rawdoc.specs.declared.raw.Error as raw_error
-use Rattle.bson_datum.specs.Refusal.{ReadFault, Refusal, Segment, in_segment, inside}
+use Rattle.bson_base.specs.Text.{Utf8}
+use Rattle.bson_datum.specs.Refusal.{ReadFault, Refusal, Segment, at_key, in_segment, inside, under}
 use Rattle.bson_datum.specs.Stop.{stop_view, segments_out, IsUnder}
 use Rattle.bson_datum.specs.ErrorView.{read_fault}
 use Rattle.bson_datum.specs.declared.de.Fault.{Fault}
@@ -13,7 +14,8 @@ use Rattle.bson_datum.specs.declared.stop.Refused as code
 use Rattle.bson_datum.specs.declared.stop.Stop.{Stop}
 use Rattle.bson_datum.specs.declared.stop.Stop.TheVariants.{Refused, NoMemory}
 use Rattle.bson_laws.specs.Reads.{Reading}
-use Rattle.bson_de_raw.specs.Gives.{RefusesAs}
+use Rattle.bson_de_raw.specs.AtKey.{IsAtKey}
+use Rattle.bson_de_raw.specs.Gives.{RefusesAs, Reaches}
 
 -- a stop on its way out is what the definition refuses with
 abbrev pub StopsAs : {A : Type 0} → Stop Fault → Reading A → Type 0
@@ -41,9 +43,23 @@ out_of segment s t faults steps = λ i. record { path = sym (ap reverse steps �
 pub stops_inside : {A : Type 0} (segment : Segment) (s t : Stop Fault) (r : Reading A) → IsUnder segment s t → StopsAs s r → StopsAs t (inside segment r)
 stops_inside segment s NoMemory r u h = tt
 stops_inside segment NoMemory (Refused t) r u h = absurd u
-stops_inside segment (Refused s) (Refused t) r u h = ap (inside segment) h ∙ ap Err (out_of segment s t u.0 u.1)
+stops_inside segment (Refused s) (Refused t) r u h = ap (inside segment) h ∙ ap Err (out_of segment s.value t.value u.0 u.1)
 
 -- the element that an iterator gives is the first of what was left
 pub next_is : (old new : Walk) (step : Result Element raw_error.Error) (e : Element) → IsNext old (Some step) new → step ≡ Ok e → old ≡ then_walk e new
 next_is old new (Ok d) e n is = n ∙ (let same : d ≡ e = cc in ap (λ x. then_walk x new) same)
 next_is old new (Err f) e n is = absurd cc
+
+-- a reading at a key is what the definition reads there
+pub reaches_at : {X Y : Type 0} (see : X → Y) (key : Utf8) (old new : Result X (Stop Fault)) (r : Reading Y) → IsAtKey key old new → Reaches see old r → Reaches see new (under key r)
+reaches_at see key (Ok x) (Ok y) r same h = ap (under key) h ∙ (let e : x ≡ y = cc in ap (λ z. Ok (see z)) e)
+reaches_at see key (Ok x) (Err t) r same h = absurd cc
+reaches_at see key (Err s) (Ok y) r same h = absurd same
+reaches_at see key (Err s) (Err t) r same h = stops_inside (at_key key) s t r same h
+
+-- what holds of the value that was read holds of it at the key
+pub ok_at_key : {X : Type 0} (P : X → Type 0) (key : Utf8) (old new : Result X (Stop Fault)) → IsAtKey key old new → IfOk old P → IfOk new P
+ok_at_key P key (Ok x) (Ok y) same h = let e : x ≡ y = cc in subst P e h
+ok_at_key P key (Ok x) (Err t) same h = tt
+ok_at_key P key (Err s) (Ok y) same h = absurd same
+ok_at_key P key (Err s) (Err t) same h = tt

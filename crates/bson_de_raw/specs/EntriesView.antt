@@ -2,8 +2,8 @@
 use Rattle.std.specs.Prelude.{◌≡◌, ℕ, true, if◌then◌else◌, length, Option, Some, None, Ok}
 use Rattle.std.specs.Str.{IsUtf8}
 use Rattle.bson_base.specs.Text.{Utf8}
-use Rattle.bson_shape.specs.Form.{leaf}
-use Rattle.bson_shape.specs.Leaf.{is_text}
+use Rattle.bson_shape.specs.Makers.{is_text_key}
+use Rattle.bson_shape.specs.ShapeView.{form_view}
 use Rattle.bson_datum.specs.Same.{same}
 use Rattle.bson_datum.specs.Value.{Value, Entries, no_entries, entry}
 use Rattle.bson_datum.specs.View.{entries_view}
@@ -18,6 +18,6 @@ entry_place k (entry key v es) = if same k key then Some 0 else one_further (ent
 
 -- Each text has, among the texts of the keys, the place of the entry whose key it is.
 pub record IsIndexed (e : code.Entries) : Type 0 where
-  pub text : is_text e.leaf ≡ true
+  pub text : is_text_key (form_view e.key) ≡ true
   pub next : HasPlacesBelow (length e.entries.items) e.keys
-  pub places : (t : Utf8) (k : Value) → IsUtf8 t → reads_key (leaf e.leaf) t ≡ Ok k → key_place e.keys t ≡ entry_place k (entries_view e.entries.items)
+  pub places : (t : Utf8) (k : Value) → IsUtf8 t → reads_key (form_view e.key) t ≡ Ok k → key_place e.keys t ≡ entry_place k (entries_view e.entries.items)

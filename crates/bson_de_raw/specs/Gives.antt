@@ -1,6 +1,7 @@
 -- What a reader answers: what the definition of reading answers, or want of memory.
 use Rattle.std.specs.Prelude.{◌≡◌, Option, Some, None, Result, Ok, Err}
-use Rattle.bson_datum.specs.Refusal.{ReadFault, Refusal, Failure, no_memory, bare, placed}
+use Rattle.bson_datum.specs.Cause.{Cause}
+use Rattle.bson_datum.specs.Refusal.{ReadFault, unreadable, Refusal, here, Failure, no_memory, bare, placed}
 use Rattle.bson_datum.specs.Stop.{stop_view}
 use Rattle.bson_datum.specs.Value.{Value}
 use Rattle.bson_datum.specs.View.{view}
@@ -15,6 +16,11 @@ use Rattle.bson_laws.specs.Reads.{Reading}
 abbrev pub RefusesAs : {Y : Type 0} → Option (Refusal ReadFault) → Reading Y → Type 0
 RefusesAs None answer = Unit {0}
 RefusesAs (Some r) answer = answer ≡ Err r
+
+-- a refusal of the value itself for this cause, or want of memory
+abbrev pub IsRefusedOrWant : Cause → Option (Refusal ReadFault) → Type 0
+IsRefusedOrWant c None = Unit {0}
+IsRefusedOrWant c (Some r) = r ≡ here (unreadable c)
 
 -- A reader inside a document gives what is answered, its value seen so, or its refusal with the path so far; or memory ran out.
 abbrev pub Reaches : {X Y : Type 0} → (X → Y) → Result X (Stop Fault) → Reading Y → Type 0

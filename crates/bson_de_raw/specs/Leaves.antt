@@ -1,13 +1,26 @@
 -- What contracts see of leaves.
-use Rattle.std.specs.Prelude.{ℕ, ℤ, Option, None}
+use Rattle.std.specs.Prelude.{ℕ, ℤ, Bool as Boolean, true, false, Option, None}
 use Rattle.bson_base.specs.Outcome.{◌>>=◌}
 use Rattle.bson_rawdoc.specs.RawValue.{RawValue, value_in}
 use Rattle.bson_rawdoc.specs.Walk.{Element}
+use Rattle.bson_shape.specs.declared.leaf.Leaf.{Leaf}
+use Rattle.bson_shape.specs.declared.leaf.Leaf.TheVariants as leaves
 use Rattle.bson_datum.specs.Cause.{out_of_range}
 use Rattle.bson_datum.specs.Value.{Value}
 use Rattle.bson_laws.specs.Leaves.{LeafKind, numbers}
 use Rattle.bson_laws.specs.Reads.{Reading, refused, judged, integer_of, read_integer, as_byte}
 use Rattle.bson_laws.specs.Views.{as_integer}
+
+-- a leaf of anything but numbers, texts and `any`
+abbrev pub is_other : Leaf → Boolean
+is_other leaves.Ignored = true
+is_other leaves.Bool = true
+is_other leaves.Double = true
+is_other leaves.Char = true
+is_other leaves.Bytes = true
+is_other leaves.ByteBuf = true
+is_other leaves.Unit = true
+is_other l = false
 
 -- the number as a value of the leaf's type, where it is one of the type; a leaf that takes no numbers has none
 abbrev pub number_as : LeafKind → ℤ → Option Value

@@ -9,3 +9,6 @@ pub mod KeyPlaces
 pub mod KeysView
 pub mod EntriesView
 pub mod Any
+pub mod AtKey
+pub mod NextValue
+pub mod Enums

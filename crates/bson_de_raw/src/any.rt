@@ -15,11 +15,12 @@ use crate::entries::Entries;
 use crate::reading::{Reading, refused};
 use bson_datum::{ByteStr, Cause, Datum, Entry, Text};
 use bson_rawdoc::{RawArray, RawBsonRef, RawDocument, RawElement};
-use bson_shape::Leaf;
+use bson_shape::{Form, Leaf};
 use std::alloc::Global;
 
 /// A value without a shape, where so many levels are left for it.
 #[cycle(any)]
+#[inline(never)]
 pub(crate) fn read_any<'de>(
     alloc: Global,
     levels: u32,
@@ -47,6 +48,7 @@ pub(crate) fn read_any<'de>(
 
 /// The value of an element without a shape, with so many levels left.
 #[cycle(any)]
+#[inline(always)]
 fn any_element<'de>(alloc: Global, levels: u32, element: &RawElement<'de>) -> Reading<Datum<'de>>
     ensures exact { Reaches view result
         (reads.reads_judged levels (reads.read_any levels) element.now.kind element.now.value) }
@@ -58,6 +60,7 @@ fn any_element<'de>(alloc: Global, levels: u32, element: &RawElement<'de>) -> Re
 
 /// The values in an array, where so many levels are left for it.
 #[cycle(any)]
+#[inline(never)]
 fn any_items<'de>(alloc: Global, levels: u32, array: RawArray<'de>) -> Reading<Vec<Datum<'de>>>
     ensures exact { Reaches (λ v. items_view v.items) result (any_items levels (array_bytes array.entry)) }
     ensures lent { IfOk result
@@ -85,6 +88,7 @@ fn any_items<'de>(alloc: Global, levels: u32, array: RawArray<'de>) -> Reading<V
 
 /// The entries of a document, where so many levels are left for it. Their keys are lent.
 #[cycle(any)]
+#[inline(never)]
 fn any_entries<'de>(
     alloc: Global,
     levels: u32,
@@ -98,18 +102,17 @@ fn any_entries<'de>(
     if levels == 0 {
         return Err(refused(alloc, Cause::TooDeep));
     }
-    let mut entries = Entries::new(alloc, Leaf::Str);
+    let mut entries = Entries::new(alloc, Form::Leaf(Leaf::Str));
     let mut elements = document.iter_elements();
     while let Some(step) = elements.next() {
         let element = match step {
             Ok(element) => element,
             Err(fault) => return Err(refused(alloc, Cause::Raw(fault))),
         };
-        let text = element.key();
-        let key = entries.read_key(text)?;
+        let key = element.key();
         match any_element(alloc, levels - 1, &element) {
-            Ok(value) => entries.put(text, key, value)?,
-            Err(stop) => return Err(stop.under_key(text)),
+            Ok(value) => entries.put(key, Datum::Str(Text::Borrowed(key)), value)?,
+            Err(stop) => return Err(stop.under_key(key)),
         }
     }
     Ok(entries.finish())

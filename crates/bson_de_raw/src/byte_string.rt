@@ -17,6 +17,7 @@ use bson_rawdoc::{RawArray, RawBinaryRef, RawBsonRef, RawElement};
 use std::alloc::Global;
 
 /// The bytes of a value that has some in the document. Those of an ObjectId are all its bytes there.
+#[inline(never)]
 pub(crate) fn byte_string<'de>(
     alloc: Global,
     value: Encoded<'_, 'de>,
@@ -45,6 +46,7 @@ fn bytes_of_binary<'a>(alloc: Global, binary: RawBinaryRef<'a>) -> Reading<&'a [
 
 /// A copy of the bytes of a binary or of a text, or the bytes that the numbers of an array are, where so
 /// many levels are left for it.
+#[inline(never)]
 pub(crate) fn buffer(alloc: Global, levels: u32, value: RawBsonRef<'_>) -> Reading<Vec<u8>>
     ensures { Reaches (λ v. v.items) result (reads.buffer_of levels (raw_value value.entry)) }
 {

@@ -35,7 +35,11 @@ const MAX_LEVELS: u32 = 200;
 ///   document, array and scope in it.
 /// - An option is none at a Null, and some value of its shape at every other kind. A newtype takes what its
 ///   shape takes.
-/// - A sequence takes the elements of an array in order. The keys in an array are not looked at.
+/// - A sequence takes the elements of an array in order. The keys in an array are not looked at. A tuple and
+///   a tuple struct take its first elements, one for each part at the part's shape; further ones stay unread.
+/// - An enum takes a String that is the name of a unit variant, and a document whose first key is the name of a
+///   variant with contents. The value under that key is its contents: at its shape for a newtype variant, as at a
+///   tuple for a tuple variant, as at a struct for a struct variant. Further elements stay unread.
 /// - A map takes the elements of a document. A key is taken as a String of its text would be. The entries
 ///   stand in the order in which their keys came first; of a repeated key the last value stays.
 /// - A struct takes each of its fields from the element of a document that has the field's name as its key,
@@ -46,7 +50,7 @@ const MAX_LEVELS: u32 = 200;
 ///
 /// The texts at `str` and the byte strings at `bytes` are lent from the input, and so are all texts and byte
 /// strings at `any`, the keys of its maps included, and the keys of a map whose key is `str`. All others
-/// are copies, and so are the names in the value, which are those in the shape.
+/// are copies, and so are the names of structs, fields and variants, which are those in the shape.
 ///
 /// Keys in the shape's order are found at once. The first other key of a struct with sixteen or more
 /// fields has the names put into a map, where it and each key after it that is not found at once is
@@ -58,6 +62,7 @@ const MAX_LEVELS: u32 = 200;
 ///
 /// - `DeserializationError` with `Raw`, without a path, exactly where the envelope refuses the bytes:
 ///   they are fewer than five, they announce another length than theirs, or the last is not zero.
+/// - `WithPath` round `EndOfStream`, with its path, where the first refusal is an empty document at an enum.
 /// - `WithPath` round a `DeserializationError`, with the path of the value that is refused: the keys and
 ///   the indexes that lead to it. The path of the document itself is empty. A value in the scope of a
 ///   code has `$scope` behind the code's own path. The key of a map has the map's own path. The first
@@ -65,13 +70,18 @@ const MAX_LEVELS: u32 = 200;
 ///   - `Raw`: a fault of the bytes, before any shape looks at the value.
 ///   - `TooDeep`: a document, an array or a scope at level 201.
 ///   - `InvalidType`: a value of another kind than the shape takes.
-///   - `NotBuilt`: at a struct, a map and `any` a value of a kind that serde's data model lacks (ObjectId,
-///     DateTime, Binary of a subtype other than 0, and the like), which is not read there yet.
+///   - `NotBuilt`: at a struct, the contents of a struct variant, a map, an enum and `any` a value of a kind that
+///     serde's data model lacks (ObjectId, DateTime, Binary of a subtype other than 0, and the like), which is
+///     not read there yet.
 ///   - `OutOfRange`: a number that does not lie in the range of the shape's integer type, or one in an array
 ///     at `bytebuf` that is no byte.
 ///   - `NotOneChar`: at `char` a String or a key of no character or of more than one.
 ///   - `NotUtf8`: at `str` and `string` a Binary of subtype 0 whose bytes are not UTF-8.
-///   - `InvalidLength`: at a struct an array of so many elements, which are fewer than its fields.
+///   - `InvalidLength`: at a struct, a tuple, a tuple struct and the contents of a tuple or a struct variant an
+///     array of so many elements, which are fewer than its fields or parts.
+///   - `UnknownVariant`: at an enum a String, a key of a map or a first key that is the name of no variant.
+///   - `ContentsWanted`: at an enum a String that is the name of a variant with contents.
+///   - `UnitInDocument`: at an enum a first key that is the name of a unit variant.
 ///   - `DuplicateField`: a second element of a field; its value is not looked at.
 ///   - `MissingField`: at the end of a document, the first field in the shape's order that is no option
 ///     and has no element.

@@ -38,6 +38,7 @@ pub(crate) fn ignore(alloc: Global, levels: u32, element: &RawElement<'_>) -> Re
 
 /// Walks what stands inside a value to its end.
 #[cycle(ignore)]
+#[inline(never)]
 pub(crate) fn pass_inside(alloc: Global, levels: u32, value: RawBsonRef<'_>) -> Reading<()>
     ensures { Reaches (λ u. u) result (reads.pass_inside (passes levels) (raw_value value.entry)) }
 {

@@ -1,119 +1,129 @@
-ghost use Rattle.std.specs.Prelude.{◌≡◌, ◌<◌, length, Some, IfOk, IfSome};
+ghost use Rattle.std.specs.Prelude.{◌≡◌, ◌<◌, false, length, map, Some, IfOk, IfSome};
 ghost use Rattle.std.specs.Bool.{OnTrue};
 ghost use Rattle.std.specs.Option.{ForSome};
-ghost use Rattle.bson_shape.specs.Makers.{AreDistinct};
-ghost use Rattle.bson_shape.specs.ShapeView.{fields_of};
+ghost use Rattle.bson_shape.specs.Makers.{has_repeat};
 ghost use Rattle.bson_laws.specs.Reads as reads;
 ghost use Rattle.bson_de_raw.specs.Indexes.{Indexes};
 
-use bson_shape::FieldShape;
+use bson_shape::Named;
 use std::alloc::{AllocError, Global};
 use std::collections::HashMap;
 
-/// Below this count of fields a scan is as fast as a map.
+/// Below this count of names a scan is as fast as a map.
 const FEW: usize = 16;
 
-/// The fields of a struct, which are looked up by their names.
+/// Fields or variants, which are looked up by their names.
 #[derive(Drop)]
-pub(crate) struct FieldIndex<'s> {
-    /// The fields, in the shape's order.
-    pub(crate) fields: &'s [FieldShape],
-    /// The place after that of the field that was found last.
+pub(crate) struct NameIndex<'s, T: Named> {
+    /// The fields or variants, in the shape's order.
+    pub(crate) items: &'s [T],
+    /// The place after that of the one that was found last.
     next: usize,
     /// The places by the names, made for the first name that was not found at once.
     places: Option<HashMap<&'s str, usize>>,
-    ghost distinct: { AreDistinct (fields_of fields.now) },
-    ghost indexed: { ForSome places (λ m. Indexes m (fields_of fields.now)) },
+    ghost distinct: { has_repeat (map T.named items.now) ≡ false },
+    ghost indexed: { ForSome places (λ m. Indexes m (map T.named items.now)) },
 }
 
-impl<'s> FieldIndex<'s> {
-    /// Over fields of different names.
-    pub(crate) fn new(fields: &'s [FieldShape]) -> FieldIndex<'s>
-        requires { AreDistinct (fields_of fields.now) }
-        ensures { result.fields ≡ fields.entry }
+impl<'s, T: Named> NameIndex<'s, T> {
+    /// Over fields or variants of different names.
+    pub(crate) fn new(items: &'s [T]) -> NameIndex<'s, T>
+        requires { has_repeat (map T.named items.now) ≡ false }
+        ensures { result.items ≡ items.entry }
     {
-        FieldIndex {
-            fields,
+        NameIndex {
+            items,
             next: 0,
             places: None,
         }
     }
 
-    /// The place of the field that has the name.
+    /// The place of the one that has the name.
     ///
-    /// The field after the one that was found last is looked at first, so that names in the shape's order
-    /// are found at once. Among many fields every other name is looked up in a map. Where the memory for
+    /// The one after that which was found last is looked at first, so that names in the shape's order
+    /// are found at once. Among many names every other is looked up in a map. Where the memory for
     /// the map is refused the answer is the same, and takes longer.
     pub(crate) fn place_of(&mut self, alloc: Global, name: &str) -> Option<usize>
-        ensures place { result ≡ reads.place_of (fields_of self.old.fields.now) name.now }
-        ensures within { IfSome result (λ i. i < length self.old.fields.now) }
-        ensures fields { self.new.fields ≡ self.old.fields }
+        ensures place { result ≡ reads.place_of (map T.named self.old.items.now) name.now }
+        ensures within { IfSome result (λ i. i < length self.old.items.now) }
+        ensures items { self.new.items ≡ self.old.items }
     {
         let place = if self.is_next(name) {
             self.next
         } else {
             self.find(alloc, name)?
         };
-        self.next = place + 1;
+        self.next = place.saturating_add(1);
         Some(place)
     }
 
-    /// Whether the field after the one that was found last has the name.
+    /// Whether the one after that which was found last has the name.
     fn is_next(&self, name: &str) -> bool
         ensures place { OnTrue result
-            (reads.place_of (fields_of self.now.fields.now) name.now ≡ Some self.now.next) }
-        ensures within { OnTrue result (self.now.next < length self.now.fields.now) }
+            (reads.place_of (map T.named self.now.items.now) name.now ≡ Some self.now.next) }
+        ensures within { OnTrue result (self.now.next < length self.now.items.now) }
     {
-        match self.fields.get(self.next) {
-            Some(field) => field.name.as_str() == name,
+        match self.items.get(self.next) {
+            Some(item) => item.name() == name,
             None => false,
         }
     }
 
-    /// The place of the field that has the name, wherever it stands.
-    #[inline(never)]
+    /// The place of the one that has the name, wherever it stands.
     fn find(&mut self, alloc: Global, name: &str) -> Option<usize>
-        ensures place { result ≡ reads.place_of (fields_of self.old.fields.now) name.now }
-        ensures within { IfSome result (λ i. i < length self.old.fields.now) }
-        ensures fields { self.new.fields ≡ self.old.fields }
+        ensures place { result ≡ reads.place_of (map T.named self.old.items.now) name.now }
+        ensures within { IfSome result (λ i. i < length self.old.items.now) }
+        ensures items { self.new.items ≡ self.old.items }
+    {
+        if self.items.len() < FEW {
+            return scan(self.items, name);
+        }
+        self.find_in_map(alloc, name)
+    }
+
+    /// The same, among many names.
+    #[inline(never)]
+    fn find_in_map(&mut self, alloc: Global, name: &str) -> Option<usize>
+        ensures place { result ≡ reads.place_of (map T.named self.old.items.now) name.now }
+        ensures within { IfSome result (λ i. i < length self.old.items.now) }
+        ensures items { self.new.items ≡ self.old.items }
     {
         self.make_map(alloc);
         match &self.places {
             Some(places) => places.get(name).copied(),
-            None => scan(self.fields, name),
+            None => scan(self.items, name),
         }
     }
 
-    /// Makes the map, where there are many fields and it was not made before. It stays unmade where the
-    /// memory for it is refused.
+    /// Makes the map, where it was not made before. It stays unmade where the memory for it is refused.
     fn make_map(&mut self, alloc: Global)
-        ensures { self.new.fields ≡ self.old.fields }
+        ensures { self.new.items ≡ self.old.items }
     {
-        if self.places.is_none() && self.fields.len() >= FEW {
-            self.places = places_of(alloc, self.fields).ok();
+        if self.places.is_none() {
+            self.places = places_of(alloc, self.items).ok();
         }
     }
 }
 
-/// The places of the fields, by their names.
-fn places_of(alloc: Global, fields: &[FieldShape]) -> Result<HashMap<&str, usize>, AllocError>
-    requires { AreDistinct (fields_of fields.now) }
-    ensures { IfOk result (λ m. Indexes m (fields_of fields.now)) }
+/// The places of fields or variants, by their names.
+fn places_of<T: Named>(alloc: Global, items: &[T]) -> Result<HashMap<&str, usize>, AllocError>
+    requires { has_repeat (map T.named items.now) ≡ false }
+    ensures { IfOk result (λ m. Indexes m (map T.named items.now)) }
 {
-    let mut places = HashMap::with_capacity(alloc, fields.len())?;
-    for (place, field) in fields.iter().enumerate() {
-        places.insert(field.name.as_str(), place)?;
+    let mut places = HashMap::with_capacity(alloc, items.len())?;
+    for (place, item) in items.iter().enumerate() {
+        places.insert(item.name(), place)?;
     }
     Ok(places)
 }
 
-/// The place of the first field that has the name.
-fn scan(fields: &[FieldShape], name: &str) -> Option<usize>
-    ensures place { result ≡ reads.place_of (fields_of fields.now) name.now }
-    ensures within { IfSome result (λ i. i < length fields.now) }
+/// The place of the first field or variant that has the name.
+pub(crate) fn scan<T: Named>(items: &[T], name: &str) -> Option<usize>
+    ensures place { result ≡ reads.place_of (map T.named items.now) name.now }
+    ensures within { IfSome result (λ i. i < length items.now) }
 {
-    for (place, field) in fields.iter().enumerate() {
-        if field.name.as_str() == name {
+    for (place, item) in items.iter().enumerate() {
+        if item.name() == name {
             return Some(place);
         }
     }

@@ -1,7 +1,7 @@
 ghost use Rattle.std.specs.Prelude.{◌≡◌, ◌≤◌, ◌+◌, Some, None, if◌then◌else◌, map, IfOk};
 ghost use Rattle.std.specs.Str.{bytes_eq};
 ghost use Rattle.bson_base.specs.Text.{Utf8};
-ghost use Rattle.bson_de_raw.specs.KeyPlaces.{place_among, FindsAll};
+ghost use Rattle.bson_de_raw.specs.KeyPlaces.{place_among, place_in_map, FindsAll};
 
 use std::alloc::{AllocError, Global};
 use std::collections::HashMap;
@@ -41,7 +41,7 @@ impl<'de> Keys<'de> {
         ensures { result ≡ key_place self.now text.now }
     {
         match &self.places {
-            Some(places) => places.get(text).copied(),
+            Some(places) => look_up(places, text),
             None => scan(&self.first[..self.count], text),
         }
     }
@@ -59,7 +59,7 @@ impl<'de> Keys<'de> {
         ensures next { IfOk result (λ _. HasPlacesBelow (place + 1) self.new) }
     {
         if let Some(places) = &mut self.places {
-            places.insert(key, place)?;
+            insert(places, key, place)?;
             return Ok(());
         }
         if self.count < FEW {
@@ -67,11 +67,38 @@ impl<'de> Keys<'de> {
             self.count += 1;
             return Ok(());
         }
+        self.push_to_map(alloc, key, place)
+    }
+
+    /// The same, where the first keys fill all the room that there is for them: all go into a map.
+    #[inline(never)]
+    fn push_to_map(&mut self, alloc: Global, key: &'de str, place: usize) -> Result<(), AllocError>
+        requires few { self.old.count ≤ 16 }
+        requires full { 16 ≤ self.old.count }
+        requires none { self.old.places ≡ None }
+        ensures places { IfOk result (λ _. (text : Utf8) → key_place self.new text
+            ≡ (if bytes_eq key.now text then Some place else key_place self.old text)) }
+        ensures next { IfOk result (λ _. HasPlacesBelow (place + 1) self.new) }
+    {
         let mut places = places_of(alloc, &self.first)?;
-        places.insert(key, place)?;
+        insert(&mut places, key, place)?;
         self.places = Some(places);
         Ok(())
     }
+}
+
+/// Puts the place of a key into a map.
+#[inline(never)]
+fn insert<'de>(
+    places: &mut HashMap<&'de str, usize>,
+    key: &'de str,
+    place: usize,
+) -> Result<(), AllocError>
+    ensures { IfOk result (λ _. (text : Utf8) → place_in_map places.new text
+        ≡ (if bytes_eq key.now text then Some place else place_in_map places.old text)) }
+{
+    places.insert(key, place)?;
+    Ok(())
 }
 
 /// The places by the keys, of each key the last.
@@ -83,6 +110,14 @@ fn places_of<'de>(alloc: Global, keys: &[&'de str]) -> Result<HashMap<&'de str, 
         places.insert(*key, place)?;
     }
     Ok(places)
+}
+
+/// The place that a map has for a text.
+#[inline(never)]
+fn look_up(places: &HashMap<&str, usize>, text: &str) -> Option<usize>
+    ensures { result ≡ place_in_map places.now text.now }
+{
+    places.get(text).copied()
 }
 
 /// The place of the last key that is the text.

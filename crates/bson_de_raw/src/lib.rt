@@ -6,6 +6,7 @@ mod byte_string;
 mod document;
 mod encoded;
 mod entries;
+mod enumeration;
 mod ignored;
 mod index;
 mod keys;
@@ -17,6 +18,7 @@ mod structure;
 #[cfg(test)]
 mod tests;
 mod text;
+mod tuple;
 mod value;
 
 pub use document::from_slice_at;

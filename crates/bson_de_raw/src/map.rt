@@ -2,7 +2,6 @@ ghost use Rattle.std.specs.Prelude.{◌≡◌, true, IfOk};
 ghost use Rattle.bson_rawdoc.specs.DocumentView.{document_bytes};
 ghost use Rattle.bson_rawdoc.specs.Walk.{walk};
 ghost use Rattle.bson_shape.specs.Form as form;
-ghost use Rattle.bson_shape.specs.Leaf.{is_text};
 ghost use Rattle.bson_shape.specs.Makers.{is_text_key};
 ghost use Rattle.bson_datum.specs.Value.{no_entries};
 ghost use Rattle.bson_datum.specs.View.{view, entries_view};
@@ -17,11 +16,12 @@ use crate::reading::{Reading, refused};
 use crate::value::read_value;
 use bson_datum::{Cause, Datum, Entry};
 use bson_rawdoc::RawDocument;
-use bson_shape::{Form, Leaf, Shape};
+use bson_shape::Shape;
 use std::alloc::Global;
 
 /// The value at a map whose keys and values have these shapes.
 #[cycle(read)]
+#[inline(never)]
 pub(crate) fn read_map<'de>(
     alloc: Global,
     key: &Shape,
@@ -37,18 +37,6 @@ pub(crate) fn read_map<'de>(
     let document = value.enter(alloc, levels)?;
     let entries = read_entries(alloc, key, item, levels - 1, document)?;
     Ok(Datum::Map(entries))
-}
-
-/// The leaf that the keys of a map have as their shape.
-fn key_leaf(key: &Shape) -> Leaf
-    requires { is_text_key key.now ≡ true }
-    ensures leaf { form.leaf result ≡ key.now }
-    ensures text { is_text result ≡ true }
-{
-    match key.form() {
-        Form::Leaf(leaf) => leaf,
-        _ => unreachable!(),
-    }
 }
 
 /// The entries of a document, each key and each value at its shape, with so many levels left inside it.
@@ -67,7 +55,7 @@ fn read_entries<'de>(
     ensures lent { IfOk result
         (λ v. AreEntriesLentAs key.now item.now (document_bytes document.entry) v.items) }
 {
-    let mut entries = Entries::new(alloc, key_leaf(key));
+    let mut entries = Entries::new(alloc, key.form());
     let mut elements = document.iter_elements();
     while let Some(step) = elements.next() {
         let element = match step {

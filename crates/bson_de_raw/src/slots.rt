@@ -92,6 +92,7 @@ impl<'s, 'de> Slots<'s, 'de> {
     }
 
     /// Keeps the value of the field that is at this place behind the first.
+    #[inline(never)]
     fn put_later(&mut self, place: usize, value: Datum<'de>) -> Result<(), AllocError>
         requires { length self.old.first.items + place < length self.old.fields.now }
         ensures put { IfOk result (λ _. slot_values self.new
@@ -120,6 +121,7 @@ impl<'s, 'de> Slots<'s, 'de> {
     }
 
     /// The same, where a value came out of order or a field has none.
+    #[inline(never)]
     fn finish_later(self, alloc: Global) -> Reading<Vec<Field<'de>>>
         ensures exact { Reaches (λ v. fields_view v.items) result
             (reads.finish (fields_of self.entry.fields.now) (slots_view self.entry)) }

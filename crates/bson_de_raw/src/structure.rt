@@ -15,9 +15,10 @@ ghost use Rattle.bson_de_raw.specs.SlotsView.{slots_view, filled_by, AreSlotsLen
 
 use crate::encoded::{Encoded, no_document};
 use crate::ignored::ignore;
-use crate::index::FieldIndex;
+use crate::index::NameIndex;
 use crate::reading::{Reading, refused};
 use crate::slots::Slots;
+use crate::tuple::read_next;
 use crate::value::read_value;
 use bson_datum::{Cause, Datum, Field, Text};
 use bson_rawdoc::{RawArray, RawBsonRef, RawDocument, RawElement};
@@ -26,6 +27,7 @@ use std::alloc::Global;
 
 /// The value at a struct of this name with these fields.
 #[cycle(read)]
+#[inline(never)]
 pub(crate) fn read_struct<'de>(
     alloc: Global,
     name: &str,
@@ -47,7 +49,7 @@ pub(crate) fn read_struct<'de>(
 
 /// The fields with their values: from a document by their keys, from an array by their places.
 #[cycle(read)]
-fn read_fields<'de>(
+pub(crate) fn read_fields<'de>(
     alloc: Global,
     fields: &[FieldShape],
     levels: u32,
@@ -100,7 +102,7 @@ fn fill<'s, 'de>(
         (walk (document_bytes document.entry)) (reads.no_slots (fields_of fields.now))) }
     ensures lent { IfOk result (AreSlotsLent (document_bytes document.entry)) }
 {
-    let mut index = FieldIndex::new(fields);
+    let mut index = NameIndex::new(fields);
     let mut slots = Slots::new(alloc, fields)?;
     let mut elements = document.iter_elements();
     while let Some(step) = elements.next() {
@@ -119,19 +121,19 @@ fn fill_one<'de>(
     alloc: Global,
     levels: u32,
     element: &RawElement<'de>,
-    index: &mut FieldIndex<'_>,
+    index: &mut NameIndex<'_, FieldShape>,
     slots: &mut Slots<'_, 'de>,
 ) -> Reading<()>
-    requires { slots.old.fields.now ≡ index.old.fields.now }
-    ensures fields { index.new.fields ≡ index.old.fields }
+    requires { slots.old.fields.now ≡ index.old.items.now }
+    ensures items { index.new.items ≡ index.old.items }
     ensures kept { slots.new.fields ≡ slots.old.fields }
     ensures exact { Reaches (λ _. slots_view slots.new) result
-        (filled_by (fields_of index.old.fields.now) levels element.now (slots_view slots.old)) }
+        (filled_by (fields_of index.old.items.now) levels element.now (slots_view slots.old)) }
     ensures lent { IfOk result (λ _. (input : Bytes) → StandsIn element.now.value input
         → AreSlotsLent input slots.old → AreSlotsLent input slots.new) }
 {
     let key = element.key();
-    let fields = index.fields;
+    let fields = index.items;
     let Some(place) = index.place_of(alloc, key) else {
         if let Err(stop) = ignore(alloc, levels, element) {
             return Err(stop.under_key(key));
@@ -155,6 +157,7 @@ fn fill_one<'de>(
 /// The fields with their values from the elements of an array by their places, with so many levels left
 /// inside it. Further elements stay unread.
 #[cycle(read)]
+#[inline(never)]
 fn read_by_place<'de>(
     alloc: Global,
     fields: &[FieldShape],
@@ -168,19 +171,9 @@ fn read_by_place<'de>(
     let mut values = Vec::new(alloc);
     let mut elements = array.as_doc().iter_elements();
     for (place, field) in fields.iter().enumerate() {
-        let index = place as u64;
-        let element = match elements.next() {
-            Some(Ok(element)) => element,
-            Some(Err(fault)) => return Err(refused(alloc, Cause::Raw(fault))),
-            None => return Err(refused(alloc, Cause::InvalidLength(index))),
-        };
-        match read_value(alloc, &field.shape, levels, Encoded::Element(&element)) {
-            Ok(value) => {
-                let name = Text::Owned(String::from_str(alloc, field.name.as_str())?);
-                values.push(Field { name, value })?;
-            }
-            Err(stop) => return Err(stop.under_index(index)),
-        }
+        let value = read_next(alloc, &field.shape, levels, place as u64, &mut elements)?;
+        let name = Text::Owned(String::from_str(alloc, field.name.as_str())?);
+        values.push(Field { name, value })?;
     }
     Ok(values)
 }

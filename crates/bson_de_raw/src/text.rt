@@ -40,6 +40,7 @@ fn text_of_binary<'a>(alloc: Global, binary: RawBinaryRef<'a>) -> Reading<&'a st
 }
 
 /// The character of a value that is a text of one.
+#[inline(never)]
 pub(crate) fn character<'de>(alloc: Global, value: RawBsonRef<'_>) -> Reading<Datum<'de>>
     ensures exact { Reaches view result (reads.read_leaf 0 characters (raw_value value.entry)) }
     ensures owned { IfOk result IsOwned }

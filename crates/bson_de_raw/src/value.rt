@@ -9,10 +9,12 @@ ghost use Rattle.bson_de_raw.specs.Encoded.{reads_encoded, IsLentFrom};
 ghost use Rattle.bson_de_raw.specs.Gives.{Reaches};
 
 use crate::encoded::Encoded;
+use crate::enumeration::read_enum;
 use crate::leaf::{null, read_leaf};
 use crate::map::read_map;
 use crate::reading::{Reading, refused};
 use crate::structure::read_struct;
+use crate::tuple::{read_tuple, read_tuple_struct};
 use bson_base::ElementType;
 use bson_datum::{Cause, Datum, Text};
 use bson_rawdoc::RawArray;
@@ -36,14 +38,18 @@ pub(crate) fn read_value<'de>(
         Form::Option(inner) => read_option(alloc, inner, levels, value),
         Form::Seq(item) => read_sequence(alloc, item, levels, value),
         Form::Map(key, item) => read_map(alloc, key, item, levels, value),
+        Form::Tuple(parts) => read_tuple(alloc, parts, levels, value),
+        Form::TupleStruct(name, parts) => read_tuple_struct(alloc, name, parts, levels, value),
         Form::Newtype(name, inner) => read_newtype(alloc, name, inner, levels, value),
         Form::UnitStruct(name) => read_unit_struct(alloc, name, levels, value),
         Form::Struct(name, fields) => read_struct(alloc, name, fields, levels, value),
+        Form::Enum(variants) => read_enum(alloc, variants, levels, value),
     }
 }
 
 /// The value at an option whose value has this shape. Of a null the kind alone is looked at.
 #[cycle(read)]
+#[inline(never)]
 fn read_option<'de>(
     alloc: Global,
     inner: &Shape,
@@ -62,6 +68,7 @@ fn read_option<'de>(
 
 /// The value at a newtype of this name, whose value has this shape.
 #[cycle(read)]
+#[inline(never)]
 fn read_newtype<'de>(
     alloc: Global,
     name: &str,
@@ -80,6 +87,7 @@ fn read_newtype<'de>(
 }
 
 /// The value at a unit struct of this name.
+#[inline(never)]
 fn read_unit_struct<'de>(
     alloc: Global,
     name: &str,

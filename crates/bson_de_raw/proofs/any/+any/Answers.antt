@@ -1,20 +1,22 @@
-use Rattle.std.proofs.Common.{◌≡◌, ◌-◌, ◌<◌, Ok, ap, sym, subst, ◌∙◌, arith}
+use Rattle.std.proofs.Common.{◌≡◌, ◌-◌, ◌<◌, Ok, refl, ap, sym, subst, ◌∙◌, arith}
 use Rattle.bson_base.specs.Outcome.{◌>>=◌, result_map}
 use Rattle.bson_rawdoc.specs.DocumentView.{array_bytes, document_bytes}
 use Rattle.bson_rawdoc.specs.Next.{count}
 use Rattle.bson_rawdoc.specs.Walk.{then_walk, walk}
 use Rattle.bson_rawdoc.specs.ValueView.{raw_value}
 use Rattle.bson_shape.specs.Form.{leaf}
+use Rattle.bson_shape.specs.ShapeView.{form_view}
 use Rattle.bson_shape.specs.declared.leaf.Leaf.TheVariants.{Any, Str}
 use Rattle.bson_datum.specs.Stop.{IsUnderKey}
 use Rattle.bson_datum.specs.Value as value
 use Rattle.bson_datum.specs.Value.{Value}
 use Rattle.bson_datum.specs.View.{view, entries_view}
-use Rattle.bson_datum.specs.declared.datum.Datum.{Seq, Map}
+use Rattle.bson_datum.specs.declared.datum.Datum.{Seq, Map, Str as Str_datum}
+use Rattle.bson_datum.specs.declared.text.Text.TheVariants.{Borrowed}
 use Rattle.bson_datum.proofs.Views.{view-Seq, view-Map}
-use Rattle.bson_laws.specs.Lent.{StandsIn, PartsStandIn, AreItemsLentAs, AreEntriesLentAs}
+use Rattle.bson_laws.specs.Lent.{StandsIn, PartsStandIn, ElementsStandIn, IsLentAs, AreItemsLentAs, AreEntriesLentAs}
 use Rattle.bson_laws.proofs.Lent.{lent_wider, items_lent_push, any_sequence_lent, any_map_lent}
-use Rattle.bson_laws.proofs.Standing.{ElementsStandIn, walk_stands}
+use Rattle.bson_laws.proofs.Standing.{walk_stands}
 use Rattle.bson_laws.specs.Reads.{Reading, reads_key, key_as_text, reads_judged, reads_items, reads_entries, read_any}
 use Rattle.bson_de_raw.specs.Any.{any_entries, any_inside}
 use Rattle.bson_de_raw.specs.Gives.{Reaches}
@@ -34,11 +36,13 @@ pub any_entries-returns-in-Err-any_element-clause-exact : goal.any_entries-retur
 any_entries-returns-in-Err-any_element-clause-exact t c =
     let levels = c.args.levels - 1 in
     let e = c.in-Ok.element in
-    let text = c.key-text.ensures.key in
+    let text = c.key-key.ensures.key in
     let first = next_is _ _ c.in-Some.step e c.in-Some.ensures.next c.in-Ok.is in
-    let named : key_as_text e.key ≡ Ok (view c.in_ok-key.key) = ap key_as_text (sym text) ∙ ap (λ l. reads_key (leaf l) c.key-text.result.now) (sym c.loop-step.invariant.2) ∙ c.in_ok-key.ensures.exact in
-    entries_stop key_as_text (reads_judged levels (read_any levels)) c.loop-step.elements (entries_view c.loop-step.entries.entries.items) (any_entries c.args.levels (document_bytes c.args.document)) c.loop-step.invariant.3 e c.next.new.self (view c.in_ok-key.key)
-    c.in-Err-any_element.stop c.under_key.result first named (subst (λ k. IsUnderKey k c.in-Err-any_element.stop c.under_key.result) text c.under_key.ensures.under) c.in-Err-any_element.ensures.exact
+    entries_stop key_as_text (reads_judged levels (read_any levels)) c.loop-step.elements (entries_view c.loop-step.entries.entries.items) (any_entries c.args.levels (document_bytes c.args.document)) c.loop-step.invariant.3 e c.next.new.self (value.str e.key)
+    c.in-Err-any_element.stop c.under_key.result first refl (subst (λ k. IsUnderKey k c.in-Err-any_element.stop c.under_key.result) text c.under_key.ensures.under) c.in-Err-any_element.ensures.exact
+
+pub any_entries-put-requires : goal.any_entries-put-requires
+any_entries-put-requires t c = record { indexed = c.loop-step.invariant.1; key = ap (λ s. reads_key s c.key-key.result.now) c.loop-step.invariant.2 }
 
 pub any_items-loop-step-preserved : goal.any_items-loop-step-preserved
 any_items-loop-step-preserved t c =
@@ -113,7 +117,7 @@ any_entries-loop-step-init t c =
     let read = reads_judged (c.args.levels - 1) (read_any (c.args.levels - 1)) in (
       some,
       c.new-entries.ensures.indexed,
-      c.new-entries.ensures.leaf,
+      ap form_view c.new-entries.ensures.key,
       (λ i. reads_entries key_as_text read (elements i) (entries_view (c.new-entries.ensures.none i))) ∙ sym (any_entries_are c.args.levels body some),
       subst (ElementsStandIn body) (sym elements) (walk_stands body),
       subst (AreEntriesLentAs (leaf Str) (leaf Any) body) (sym c.new-entries.ensures.none) tt,
@@ -126,18 +130,18 @@ any_entries-loop-step-preserved t c =
     let e = c.in-Ok.element in
     let so_far = c.loop-step.invariant in
     let put = c.in_ok-put-in-Ok-any_element.ensures in
-    let text = c.key-text.ensures.key in
+    let text = c.key-key.ensures.key in
     let first = next_is _ _ c.in-Some.step e c.in-Some.ensures.next c.in-Ok.is in
     let stands : ElementsStandIn body (then_walk e c.next.new.self) = subst (ElementsStandIn body) first so_far.4 in
-    let named : key_as_text e.key ≡ Ok (view c.in_ok-key.key) = ap key_as_text (sym text) ∙ ap (λ l. reads_key (leaf l) c.key-text.result.now) (sym so_far.2) ∙ c.in_ok-key.ensures.exact in
-    let old = subst (λ l. AreEntriesLentAs (leaf l) (leaf Any) body c.loop-step.entries.entries.items) (sym so_far.2) so_far.5 in
-    let key = c.in_ok-key.ensures.lent body (subst (λ x. StandsIn x body) (sym text) stands.0) in
-    let value = lent_wider (leaf Any) e.value body c.in-Ok-any_element.value stands.1 c.in-Ok-any_element.ensures.lent in (
+    let named : key_as_text e.key ≡ Ok (value.str c.key-key.result.now) = ap key_as_text (sym text) in
+    let old = subst (λ s. AreEntriesLentAs s (leaf Any) body c.loop-step.entries.entries.items) (sym so_far.2) so_far.5 in
+    let key = subst (λ s. IsLentAs s body (Str_datum (Borrowed c.key-key.result))) (sym so_far.2) (subst (λ x. StandsIn x body) (sym text) stands.0) in
+    let valued = lent_wider (leaf Any) e.value body c.in-Ok-any_element.value stands.1 c.in-Ok-any_element.ensures.lent in (
       so_far.0,
       put.indexed,
-      put.leaf ∙ so_far.2,
-      entries_step key_as_text (reads_judged levels (read_any levels)) c.loop-step.elements (entries_view c.loop-step.entries.entries.items) (any_entries c.args.levels body) so_far.3 e c.next.new.self (view c.in_ok-key.key) (view c.in-Ok-any_element.value)
+      ap form_view put.key ∙ so_far.2,
+      entries_step key_as_text (reads_judged levels (read_any levels)) c.loop-step.elements (entries_view c.loop-step.entries.entries.items) (any_entries c.args.levels body) so_far.3 e c.next.new.self (value.str c.key-key.result.now) (view c.in-Ok-any_element.value)
           (entries_view c.put.new.self.entries.items) first named c.in-Ok-any_element.ensures.exact put.entries,
       stands.2,
-      subst (λ l. AreEntriesLentAs (leaf l) (leaf Any) body c.put.new.self.entries.items) so_far.2 (put.lent (leaf Any) body old key value),
+      subst (λ s. AreEntriesLentAs s (leaf Any) body c.put.new.self.entries.items) so_far.2 (put.lent (leaf Any) body old key valued),
     )

@@ -3,11 +3,11 @@ use Rattle.bson_base.specs.Outcome.{result_map}
 use Rattle.bson_rawdoc.specs.DocumentView.{array_bytes, document_bytes}
 use Rattle.bson_rawdoc.specs.Next.{count}
 use Rattle.bson_shape.specs.Form.{leaf}
+use Rattle.bson_shape.specs.ShapeView.{form_view}
 use Rattle.bson_shape.specs.declared.leaf.Leaf.TheVariants.{Any, Str}
 use Rattle.bson_datum.specs.View.{entries_view}
-use Rattle.bson_laws.specs.Lent.{AreItemsLentAs, AreEntriesLentAs}
+use Rattle.bson_laws.specs.Lent.{AreItemsLentAs, AreEntriesLentAs, ElementsStandIn}
 use Rattle.bson_laws.specs.Reads.{reads_items, reads_entries, reads_judged, key_as_text, read_any}
-use Rattle.bson_laws.proofs.Standing.{ElementsStandIn}
 use Rattle.bson_de_raw.specs.Any.{any_items, any_entries}
 use Rattle.bson_de_raw.specs.EntriesView.{IsIndexed}
 use Rattle.bson_de_raw.proofs.Items.{items_before}
@@ -39,7 +39,7 @@ decreases-any_items-loop-step l = count l.elements
 abbrev pub invariant-any_entries-loop-step : goal.invariant-any_entries-loop-step
 invariant-any_entries-loop-step l =
     let read = reads_judged (l.levels - 1) (read_any (l.levels - 1)) in
-    (0 < l.levels) × IsIndexed l.entries × (l.entries.leaf ≡ Str) × (reads_entries key_as_text read l.elements (entries_view l.entries.entries.items) ≡ any_entries l.levels (document_bytes l.document))
+    (0 < l.levels) × IsIndexed l.entries × (form_view l.entries.key ≡ leaf Str) × (reads_entries key_as_text read l.elements (entries_view l.entries.entries.items) ≡ any_entries l.levels (document_bytes l.document))
     × ElementsStandIn (document_bytes l.document) l.elements × AreEntriesLentAs (leaf Str) (leaf Any) (document_bytes l.document) l.entries.entries.items
 
 abbrev pub decreases-any_entries-loop-step : goal.decreases-any_entries-loop-step

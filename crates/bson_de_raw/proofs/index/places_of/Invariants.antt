@@ -1,8 +1,7 @@
-use Rattle.std.proofs.Common.{take}
-use Rattle.bson_shape.specs.ShapeView.{fields_of}
+use Rattle.std.proofs.Common.{map, take}
 use Rattle.bson_de_raw.specs.Indexes.{Indexes}
 use Rattle.bson_de_raw.proofs.index.places_of.Given as goal
 
--- the map has the places of the fields so far
+-- the map has the places of the names so far
 abbrev pub invariant-loop-place : goal.invariant-loop-place
-invariant-loop-place l = Indexes l.places (fields_of (take l.place l.fields))
+invariant-loop-place g l = Indexes l.places (map g.T.Named.named (take l.place l.items))

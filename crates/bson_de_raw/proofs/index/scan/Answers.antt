@@ -1,14 +1,14 @@
-use Rattle.std.proofs.Common.{ap, sym, ◌∙◌, string_bytes, arith}
+use Rattle.std.proofs.Common.{ap, sym, ◌∙◌, arith}
 use Rattle.std.specs.Str.{bytes_eq}
-use Rattle.bson_shape.specs.declared.shape.FieldShape.{FieldShape}
 use Rattle.bson_de_raw.proofs.Places.{place_found, place_none}
 use Rattle.bson_de_raw.proofs.index.scan.Goals as goal
 
 pub returns-then-eq-clause-place : goal.returns-then-eq-clause-place
-returns-then-eq-clause-place c =
+returns-then-eq-clause-place g c =
+    let named = g.T.Named.named in
     let key = c.args.name.now in
-    sym (place_found c.args.fields.now key c.loop-place.place c.index-fields-place.result c.loop-place-test.true c.loop-place.invariant
-    (ap (λ (f : FieldShape). bytes_eq (string_bytes f.name) key) (sym c.index-fields-place.is) ∙ ap (λ b. bytes_eq b key) (sym c.as_str.ensures.value) ∙ sym c.if-eq.ensures))
+    sym (place_found named c.args.items.now key c.loop-place.place c.index-items-place.result c.loop-place-test.true c.loop-place.invariant
+    (ap (λ x. bytes_eq (named x) key) (sym c.index-items-place.is) ∙ ap (λ b. bytes_eq b key) (sym c.name.ensures) ∙ sym c.eq.ensures ∙ c.if-eq.true))
 
 pub returns-clause-place : goal.returns-clause-place
-returns-clause-place c = sym (place_none c.args.fields.now c.args.name.now (λ k e l. c.loop-place.invariant k e (omega arith)))
+returns-clause-place g c = sym (place_none g.T.Named.named c.args.items.now c.args.name.now (λ k e l. c.loop-place.invariant k e (omega arith)))

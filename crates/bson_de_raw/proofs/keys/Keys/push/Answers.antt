@@ -1,23 +1,15 @@
 use Rattle.std.proofs.Common.{Some, cond, ap, sym, ◌∙◌, take, arith}
-use Rattle.std.proofs.lemmas.Map.Text.{hash_map_updates_str}
 use Rattle.std.specs.Str.{bytes_eq}
 use Rattle.bson_de_raw.specs.KeysView.{place_found}
-use Rattle.bson_de_raw.proofs.KeyPlaces.{texts_of, few_more, few_all}
+use Rattle.bson_de_raw.proofs.KeyPlaces.{texts_of, few_more}
 use Rattle.bson_de_raw.proofs.keys.Keys.push.Goals as goal
 
 pub returns-in-Some-clause-places : goal.returns-in-Some-clause-places
 returns-in-Some-clause-places c = λ text.
     let keys = c.args.self.now in
-    hash_map_updates_str c.args.key.now c.in-Some.places c.insert.new.self (Some c.args.place) c.in_ok-insert.ensures.updates text
-    ∙ ap (λ o. cond (bytes_eq c.args.key.now text) (Some c.args.place) (place_found o (texts_of (take keys.count keys.first)) text)) (sym c.in-Some.is)
+    c.in_ok-insert.ensures text ∙ ap (λ o. cond (bytes_eq c.args.key.now text) (Some c.args.place) (place_found o (texts_of (take keys.count keys.first)) text)) (sym c.in-Some.is)
 
 pub returns-then-self-lt-FEW-clause-places : goal.returns-then-self-lt-FEW-clause-places
 returns-then-self-lt-FEW-clause-places c = λ text.
     let keys = c.args.self.now in
     few_more keys.places keys.first keys.count c.args.place c.args.key text c.in_default.is (c.requires.next c.in_default.is) (omega arith)
-
-pub returns-clause-places : goal.returns-clause-places
-returns-clause-places c = λ text.
-    let keys = c.args.self.now in
-    hash_map_updates_str c.args.key.now c.in_ok-places.places c.insert-2.new.self (Some c.args.place) c.in_ok-insert-2.ensures.updates text
-    ∙ ap (cond (bytes_eq c.args.key.now text) (Some c.args.place)) (c.in_ok-places.ensures text ∙ few_all keys.places keys.first keys.count text c.in_default.is (omega arith))
