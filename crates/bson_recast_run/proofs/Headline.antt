@@ -6,7 +6,7 @@ use Rattle.std.proofs.lemmas.Bool.{eqb-true}
 use Rattle.bson_base.specs.Sound.{IsSound}
 use Rattle.bson_base.specs.Text.{Bytes, Utf8}
 use Rattle.bson_base.specs.Tree.{Tree, enc}
-use Rattle.bson_shape.specs.Form.{Form, leaf, optional, newtype, unit_structure, sequence, map, structure}
+use Rattle.bson_shape.specs.Form.{Form, leaf, optional, newtype, unit_structure, sequence, map, tuple, tuple_structure, structure, enumeration}
 use Rattle.bson_shape.specs.Machine.{parsed}
 use Rattle.bson_shape.specs.Makers.{IsShape}
 use Rattle.bson_shape.proofs.Texts.{parsed-shape}
@@ -70,6 +70,9 @@ no_option (newtype name s) = begins_no_option (bare name) name _ refl
 no_option (unit_structure name) = begins_no_option (bare name) name _ refl
 no_option (sequence s) = refl
 no_option (map key s) = refl
+no_option (tuple ps) = refl
+no_option (tuple_structure name ps) = begins_no_option (bare name) name _ refl
+no_option (enumeration vs) = refl
 no_option (structure [] fs) = refl
 no_option (structure (c ∷ name) fs) = begins_no_option (bare (c ∷ name)) (c ∷ name) _ refl
 

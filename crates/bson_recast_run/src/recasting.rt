@@ -32,7 +32,7 @@ pub enum RecastError {
 /// `to_vec_at` refuses, each with that call's error; `NoMemory` where memory ran out.
 ///
 /// What was read is refused by the writer for its size alone, where no field of the shape has a zero character in its name, the
-/// keys of its maps are `str` or `string`, and the document itself is not read at `ignored`: a number may take more bytes when it
+/// keys of its maps are `str`, `string` or unit variants, and the document itself is not read at `ignored`: a number may take more bytes when it
 /// is written than it took before, and a text that is read as a byte string is written as a binary, which may have no more than
 /// 16777216 bytes.
 pub fn recast(alloc: Global, shape: &Shape, bytes: &[u8]) -> Result<Vec<u8>, RecastError>
@@ -68,9 +68,9 @@ fn unread(e: de::Error) -> RecastError
 {
     match e {
         de::Error::NoMemory => RecastError::NoMemory,
-        e @ (de::Error::DeserializationError { .. } | de::Error::WithPath { .. }) => {
-            RecastError::Read(e)
-        }
+        e @ (de::Error::EndOfStream
+        | de::Error::DeserializationError { .. }
+        | de::Error::WithPath { .. }) => RecastError::Read(e),
     }
 }
 
