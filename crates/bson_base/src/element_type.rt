@@ -83,6 +83,7 @@ impl ElementType {
     }
 
     /// The kind that a byte stands for; `None` where it stands for none.
+    #[inline(always)]
     pub fn from_byte(byte: u8) -> Option<ElementType>
         ensures kind { result ≡ kind.of_byte byte }
     {

@@ -1,8 +1,7 @@
 -- How many elements a document has.
-use Rattle.std.proofs.Common.{◌≡◌, ℕ, zero, suc, ◌<◌, ◌≤◌, ◌+◌, ◌-◌, ◌^◌, [], ◌∷◌, length, take, drop, Bool, true, false, cond, Result, Ok, Err, refl, ap, sym, ◌∙◌, arith, pos, negsuc, ℤ, ltb}
-use Rattle.std.specs.Prelude.{nat_lt, not}
+use Rattle.std.proofs.Common.{◌≡◌, ℕ, zero, suc, ◌<◌, ◌≤◌, ◌-◌, ◌^◌, [], ◌∷◌, length, drop, Bool, true, false, cond, Result, Ok, Err, refl, arith, pos, negsuc, ltb}
+use Rattle.std.specs.Prelude.{not}
 use Rattle.std.specs.Int.{w32, from_le_bytes}
-use Rattle.std.specs.Ordering.{int_eq}
 use Rattle.std.proofs.lemmas.Int.{ints}
 use Rattle.std.proofs.lemmas.Bool.Decides.{Decides-int_eq}
 use Rattle.std.proofs.lemmas.List.{length-take, length-drop}

@@ -1,5 +1,6 @@
 -- Where the first zero is, and what is cut there.
 use Rattle.std.proofs.Common.{◌≡◌, ℕ, zero, suc, ◌+◌, ◌<◌, List, [], ◌∷◌, length, get_or, take, drop, Option, Some, None, refl, ap, sym, ◌∙◌, arith}
+use Rattle.std.specs.Str.{IsAscii}
 use Rattle.bson_base.specs.Text.{Bytes}
 use Rattle.bson_rawdoc.specs.Extent.{in_front, cut_at_zero}
 
@@ -16,6 +17,13 @@ pub cut_none : (xs : List ℕ) → ((k : ℕ) → k < length xs → get_or xs k 
 cut_none [] none = refl
 cut_none (zero ∷ xs) none = absurd (none 0 (omega arith) refl)
 cut_none (suc x ∷ xs) none = ap (in_front (suc x)) (cut_none xs (λ k l e. none (suc k) (omega arith) e))
+
+-- bytes in front that are ASCII, one by one
+pub ascii_front : (xs : List ℕ) (n : ℕ) → ((k : ℕ) → k < n → get_or xs k 0 < 128) → IsAscii (take n xs)
+ascii_front xs zero all i = omega arith
+ascii_front [] (suc n) all i = omega arith
+ascii_front (x ∷ xs) (suc n) all zero = all 0 (omega arith)
+ascii_front (x ∷ xs) (suc n) all (suc i) = ascii_front xs n (λ k lt. all (suc k) (omega arith)) i
 
 -- ---- a cut within the first bytes
 

@@ -12,7 +12,7 @@ use Rattle.bson_rawdoc.specs.Numbers.{int32_in}
 use Rattle.bson_rawdoc.specs.Extent.{Layout, fixed, announced, two_texts, layout, cut_at_zero, two_texts_in, two_texts_extent, length_from, announced_extent, extent_by, extent}
 use Rattle.bson_rawdoc.specs.declared.raw.Error.{Error}
 use Rattle.bson_rawdoc.specs.declared.raw.Error.TheVariants.{BadExtent}
-use Rattle.bson_rawdoc.proofs.Cuts.{cut_parts, cut_take}
+use Rattle.bson_rawdoc.proofs.Cuts.{cut_take}
 
 abbrev found : ℕ → Result ℕ Error
 found n = Ok n

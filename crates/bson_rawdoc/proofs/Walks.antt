@@ -10,7 +10,7 @@ use Rattle.bson_base.proofs.Outcomes.{bind_ok}
 use Rattle.bson_rawdoc.proofs.Cuts.{cut_parts}
 use Rattle.bson_rawdoc.specs.declared.raw.Error.{Error}
 use Rattle.bson_rawdoc.specs.declared.raw.Error.TheVariants.{KeyNotUtf8, BadExtent}
-use Rattle.bson_rawdoc.specs.Extent.{in_front, cut_at_zero, extent}
+use Rattle.bson_rawdoc.specs.Extent.{cut_at_zero, extent}
 use Rattle.bson_rawdoc.specs.Walk.{Element, with_value, of_kind, with_key, element_at, Walk, ended, faulty, then_walk, walk_step, walk_within, walk_elements}
 
 abbrev Found : Type 0

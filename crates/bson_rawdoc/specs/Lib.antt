@@ -3,6 +3,7 @@ pub mod Envelope
 pub mod Extent
 pub mod Walk
 pub mod RawValue
+pub mod JsonKinds
 pub mod Stored
 pub mod DocumentView
 pub mod ValueView

@@ -1,10 +1,14 @@
-ghost use Rattle.std.specs.Prelude.{◌≡◌};
+ghost use Rattle.std.specs.Prelude.{◌≡◌, false, Ok, length};
+ghost use Rattle.bson_base.specs.Kind.{of_byte};
 ghost use Rattle.bson_base.specs.Outcome.{result_map};
+ghost use Rattle.bson_rawdoc.specs.Extent.{extent};
+ghost use Rattle.bson_rawdoc.specs.JsonKinds.{is_of_json};
 ghost use Rattle.bson_rawdoc.specs.Walk as walk;
 ghost use Rattle.bson_rawdoc.specs.RawValue.{value_in};
 ghost use Rattle.bson_rawdoc.specs.ValueView.{raw_value};
 
 use crate::extent::extent;
+use crate::key::ascii_key;
 use crate::parts::{
     array_in, binary_in, boolean_in, db_pointer_in, document_in, regex_in, scoped_code_in, text_in,
     timestamp_in,
@@ -75,6 +79,7 @@ impl<'a> RawElement<'a> {
     /// - Of a code with scope: `ScopeTotal` where the code's length is under 1 or leaves the scope less than five bytes, or the
     ///   scope announces another length than what is left; then `TextUnclosed` and `NotUtf8` of the code; then
     ///   `ValueUnclosed` of the scope.
+    #[inline(always)]
     pub fn value(&self) -> Result<RawBsonRef<'a>, Error>
         ensures value { result_map raw_value result ≡ value_in self.now.kind self.now.value }
     {
@@ -84,30 +89,51 @@ impl<'a> RawElement<'a> {
             ElementType::String => RawBsonRef::String(text_in(bytes)?),
             ElementType::EmbeddedDocument => RawBsonRef::Document(document_in(bytes)?),
             ElementType::Array => RawBsonRef::Array(array_in(bytes)?),
-            ElementType::Binary => RawBsonRef::Binary(binary_in(bytes)?),
-            ElementType::Undefined => RawBsonRef::Undefined,
-            ElementType::ObjectId => RawBsonRef::ObjectId(ObjectId(fixed(bytes))),
             ElementType::Boolean => RawBsonRef::Boolean(boolean_in(bytes[0])?),
-            ElementType::DateTime => RawBsonRef::DateTime(DateTime::from_millis(int64_in(bytes))),
             ElementType::Null => RawBsonRef::Null,
-            ElementType::RegularExpression => RawBsonRef::RegularExpression(regex_in(bytes)?),
-            ElementType::DbPointer => RawBsonRef::DbPointer(db_pointer_in(bytes)?),
-            ElementType::JavaScriptCode => RawBsonRef::JavaScriptCode(text_in(bytes)?),
-            ElementType::Symbol => RawBsonRef::Symbol(text_in(bytes)?),
-            ElementType::JavaScriptCodeWithScope => {
-                RawBsonRef::JavaScriptCodeWithScope(scoped_code_in(bytes)?)
-            }
             ElementType::Int32 => RawBsonRef::Int32(int32_in(bytes)),
-            ElementType::Timestamp => RawBsonRef::Timestamp(timestamp_in(bytes)),
             ElementType::Int64 => RawBsonRef::Int64(int64_in(bytes)),
-            ElementType::Decimal128 => RawBsonRef::Decimal128(Decimal128(fixed(bytes))),
-            ElementType::MaxKey => RawBsonRef::MaxKey,
-            ElementType::MinKey => RawBsonRef::MinKey,
+            other => return value_beyond_json(other, bytes),
         })
     }
 }
 
+// The value of a kind that JSON lacks. It stands apart so that those of JSON's kinds pay for none of its locals.
+#[inline(never)]
+fn value_beyond_json(kind: ElementType, bytes: &[u8]) -> Result<RawBsonRef<'_>, Error>
+    requires other { is_of_json kind ≡ false }
+    requires whole { extent kind bytes.now ≡ Ok (length bytes.now) }
+    ensures value { result_map raw_value result ≡ value_in kind bytes.now }
+{
+    Ok(match kind {
+        ElementType::Binary => RawBsonRef::Binary(binary_in(bytes)?),
+        ElementType::Undefined => RawBsonRef::Undefined,
+        ElementType::ObjectId => RawBsonRef::ObjectId(ObjectId(fixed(bytes))),
+        ElementType::DateTime => RawBsonRef::DateTime(DateTime::from_millis(int64_in(bytes))),
+        ElementType::RegularExpression => RawBsonRef::RegularExpression(regex_in(bytes)?),
+        ElementType::DbPointer => RawBsonRef::DbPointer(db_pointer_in(bytes)?),
+        ElementType::JavaScriptCode => RawBsonRef::JavaScriptCode(text_in(bytes)?),
+        ElementType::Symbol => RawBsonRef::Symbol(text_in(bytes)?),
+        ElementType::JavaScriptCodeWithScope => {
+            RawBsonRef::JavaScriptCodeWithScope(scoped_code_in(bytes)?)
+        }
+        ElementType::Timestamp => RawBsonRef::Timestamp(timestamp_in(bytes)),
+        ElementType::Decimal128 => RawBsonRef::Decimal128(Decimal128(fixed(bytes))),
+        ElementType::MaxKey => RawBsonRef::MaxKey,
+        ElementType::MinKey => RawBsonRef::MinKey,
+        ElementType::Double
+        | ElementType::String
+        | ElementType::EmbeddedDocument
+        | ElementType::Array
+        | ElementType::Boolean
+        | ElementType::Null
+        | ElementType::Int32
+        | ElementType::Int64 => unreachable!(),
+    })
+}
+
 // The element whose value begins these bytes, and the bytes behind it.
+#[inline(always)]
 fn with_value<'a>(
     key: &'a str,
     kind: ElementType,
@@ -123,9 +149,32 @@ fn with_value<'a>(
     Ok((RawElement { kind, key, slice }, rest))
 }
 
+// The element of this kind byte and this key, whose value begins these bytes, and the bytes behind it.
+#[inline(always)]
+fn of_kind<'a>(byte: u8, key: &'a str, bytes: &'a [u8]) -> Result<(RawElement<'a>, &'a [u8]), Error>
+    ensures { result_map (λ x. (x.0, x.1.now)) result ≡ walk.of_kind byte key.now (of_byte byte) bytes.now }
+{
+    match ElementType::from_byte(byte) {
+        Some(kind) => with_value(key, kind, bytes),
+        None => Err(Error::UnknownKind(byte)),
+    }
+}
+
 // The element of this kind byte whose key begins these bytes, and the bytes behind it.
-#[tactic(auto, unfolding(crate::specs::Walk::element_at))]
+#[inline(always)]
 pub(crate) fn element_at(byte: u8, bytes: &[u8]) -> Result<(RawElement<'_>, &[u8]), Error>
+    ensures { result_map (λ x. (x.0, x.1.now)) result ≡ walk.element_at byte bytes.now }
+{
+    match ascii_key(bytes) {
+        Some((key, rest)) => of_kind(byte, key, rest),
+        None => element_beyond_ascii(byte, bytes),
+    }
+}
+
+// The same, where the key may have any characters.
+#[inline(never)]
+#[tactic(auto, unfolding(crate::specs::Walk::element_at))]
+fn element_beyond_ascii(byte: u8, bytes: &[u8]) -> Result<(RawElement<'_>, &[u8]), Error>
     ensures { result_map (λ x. (x.0, x.1.now)) result ≡ walk.element_at byte bytes.now }
 {
     let Some((key, rest)) = cut_at_zero(bytes) else {
@@ -134,8 +183,5 @@ pub(crate) fn element_at(byte: u8, bytes: &[u8]) -> Result<(RawElement<'_>, &[u8
     let Ok(key) = str::from_utf8(key) else {
         return Err(Error::KeyNotUtf8);
     };
-    let Some(kind) = ElementType::from_byte(byte) else {
-        return Err(Error::UnknownKind(byte));
-    };
-    with_value(key, kind, rest)
+    of_kind(byte, key, rest)
 }

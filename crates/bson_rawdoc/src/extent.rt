@@ -7,6 +7,7 @@ use crate::reading::{cut_at_zero, int32_in};
 use bson_base::ElementType;
 
 // How many bytes a value of the kind takes, of the bytes that begin with it.
+#[inline(always)]
 pub(crate) fn extent(kind: ElementType, bytes: &[u8]) -> Result<usize, Error>
     ensures { result ≡ extents.extent kind bytes.now }
 {
@@ -46,6 +47,7 @@ fn length_from(least: u32, announced: i32) -> Result<u32, Error>
 }
 
 // The length that the int32 in front announces, at least this, and so many bytes more.
+#[inline(always)]
 fn announced_extent(least: u32, more: u8, bytes: &[u8]) -> Result<usize, Error>
     ensures { result ≡ extents.announced_extent least more bytes.now }
 {
@@ -66,6 +68,7 @@ pub(crate) fn two_texts_in(bytes: &[u8]) -> Option<(&[u8], &[u8])>
 }
 
 // Two texts and the zeros behind them.
+#[inline(never)]
 fn two_texts_extent(bytes: &[u8]) -> Result<usize, Error>
     ensures { result ≡ extents.two_texts_extent (extents.two_texts_in bytes.now) }
 {

@@ -41,6 +41,7 @@ impl<'a> RawIter<'a> {
     /// The next element; or the fault that ends the list, once; or `None`, for good.
     ///
     /// It takes no memory.
+    #[inline(always)]
     pub fn next(&mut self) -> Option<Result<RawElement<'a>, Error>>
         ensures next { IsNext self.old result self.new }
     {
@@ -65,6 +66,7 @@ impl<'a> RawIter<'a> {
 }
 
 // The first element of these and the bytes behind it, or the fault that ends them.
+#[inline(always)]
 fn next_element(bytes: &[u8]) -> Option<Result<(RawElement<'_>, &[u8]), Error>>
     ensures { IsStep bytes.now result }
 {

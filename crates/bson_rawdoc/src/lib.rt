@@ -6,6 +6,7 @@ mod document;
 mod element;
 mod extent;
 mod iter;
+mod key;
 mod parts;
 pub mod raw;
 mod reading;
