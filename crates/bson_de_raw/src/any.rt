@@ -18,10 +18,25 @@ use bson_rawdoc::{RawArray, RawBsonRef, RawDocument, RawElement};
 use bson_shape::{Form, Leaf};
 use std::alloc::Global;
 
-/// A value without a shape, where so many levels are left for it.
-#[cycle(any)]
+/// The value at the leaf `any`, where so many levels are left for it.
 #[inline(never)]
-pub(crate) fn read_any<'de>(
+pub(crate) fn any_leaf<'de>(
+    alloc: Global,
+    levels: u32,
+    value: RawBsonRef<'de>,
+) -> Reading<Datum<'de>>
+    ensures exact { Reaches view result (any_inside levels (raw_value value.entry)) }
+    ensures lent { IfOk result (λ d. (input : Bytes) → PartsStandIn input (raw_value value.entry)
+        → AllLent input d) }
+{
+    read_any(alloc, levels, value)
+}
+
+/// A value without a shape, where so many levels are left for it. It is compiled into the loops over items and entries, so that
+/// each value is made where it is wanted.
+#[cycle(any)]
+#[inline(always)]
+fn read_any<'de>(
     alloc: Global,
     levels: u32,
     value: RawBsonRef<'de>,

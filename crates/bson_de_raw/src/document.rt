@@ -55,7 +55,7 @@ const MAX_LEVELS: u32 = 200;
 /// Keys in the shape's order are found at once. The first other key of a struct with sixteen or more
 /// fields has the names put into a map, where it and each key after it that is not found at once is
 /// looked up. In a smaller struct, and where the memory for the map is refused, such keys are found by a
-/// scan over the names. The first sixteen keys of a map are looked up by a scan, and with more of them all
+/// scan over the names. The first eight keys of a map are looked up by a scan, and with more of them all
 /// are put into a map.
 ///
 /// # Errors

@@ -45,6 +45,7 @@ impl<'de> Encoded<'_, 'de> {
     }
 
     /// The value, or its first fault.
+    #[inline(always)]
     fn value(self) -> Result<RawBsonRef<'de>, raw::Error>
         ensures { result_map raw_value result ≡ raw_in self.entry }
     {

@@ -66,6 +66,7 @@ impl<'s, 'de> Entries<'s, 'de> {
 
     /// Puts an entry, whose key was read from this text: in the place of the one that has its key, and
     /// else behind all others.
+    #[inline(always)]
     pub(crate) fn put(
         &mut self,
         text: &'de str,

@@ -7,7 +7,7 @@ use std::alloc::{AllocError, Global};
 use std::collections::HashMap;
 
 /// So many keys are looked up by a scan.
-const FEW: usize = 16;
+const FEW: usize = 8;
 
 /// The keys of a map that is read, each with its place.
 #[derive(Drop)]
@@ -17,7 +17,7 @@ pub(crate) struct Keys<'de> {
     /// How many of the first keys there are.
     count: usize,
     /// The places by the keys, made for the first key that has no room among the first ones.
-    places: Option<HashMap<&'de str, usize>>,
+    places: Option<Box<HashMap<&'de str, usize>>>,
 }
 
 impl<'de> Keys<'de> {
@@ -37,7 +37,7 @@ impl<'de> Keys<'de> {
 
     /// The place of the key that is the text.
     pub(crate) fn place_of(&self, text: &str) -> Option<usize>
-        requires { self.now.count ≤ 16 }
+        requires { self.now.count ≤ 8 }
         ensures { result ≡ key_place self.now text.now }
     {
         match &self.places {
@@ -73,8 +73,8 @@ impl<'de> Keys<'de> {
     /// The same, where the first keys fill all the room that there is for them: all go into a map.
     #[inline(never)]
     fn push_to_map(&mut self, alloc: Global, key: &'de str, place: usize) -> Result<(), AllocError>
-        requires few { self.old.count ≤ 16 }
-        requires full { 16 ≤ self.old.count }
+        requires few { self.old.count ≤ 8 }
+        requires full { 8 ≤ self.old.count }
         requires none { self.old.places ≡ None }
         ensures places { IfOk result (λ _. (text : Utf8) → key_place self.new text
             ≡ (if bytes_eq key.now text then Some place else key_place self.old text)) }
@@ -82,7 +82,7 @@ impl<'de> Keys<'de> {
     {
         let mut places = places_of(alloc, &self.first)?;
         insert(&mut places, key, place)?;
-        self.places = Some(places);
+        self.places = Some(Box::new(alloc, places)?);
         Ok(())
     }
 }

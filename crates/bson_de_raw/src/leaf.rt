@@ -10,7 +10,7 @@ ghost use Rattle.bson_de_raw.specs.Encoded.{raw_in, reads_encoded, IsLentFrom};
 ghost use Rattle.bson_de_raw.specs.Gives.{Reaches};
 ghost use Rattle.bson_de_raw.specs.Leaves.{is_other, number_as, reads_number};
 
-use crate::any::read_any;
+use crate::any::any_leaf;
 use crate::byte_string::{buffer, byte_string};
 use crate::encoded::Encoded;
 use crate::ignored::pass_inside;
@@ -47,7 +47,7 @@ pub(crate) fn read_leaf<'de>(
             Ok(Datum::Str(Text::Owned(text)))
         }
         Leaf::Str => Ok(Datum::Str(Text::Borrowed(text(alloc, raw)?))),
-        Leaf::Any => read_any(alloc, levels, raw),
+        Leaf::Any => any_leaf(alloc, levels, raw),
         _ => other_leaf(alloc, leaf, levels, value, raw),
     }
 }

@@ -44,6 +44,19 @@ cut_parts [] p e = absurd cc
 cut_parts (zero ∷ bs) p e = let is = cut_is ([], bs) p e in rw (sym is) (omega arith)
 cut_parts (suc b ∷ bs) p e = front_parts b bs p (cut_at_zero bs) (λ q found. cut_parts bs q found) e
 
+front_places : (b : ℕ) (bs : Bytes) (p : Bytes × Bytes) (o : Option (Bytes × Bytes)) → ((q : Bytes × Bytes) → o ≡ Some q → q ≡ (take (length q.0) bs, drop (length q.0 + 1) bs)) → in_front (suc b) o ≡ Some p
+    → p ≡ (take (length p.0) (suc b ∷ bs), drop (length p.0 + 1) (suc b ∷ bs))
+front_places b bs p None again e = absurd cc
+front_places b bs p (Some q) again e =
+    let is = cut_is (suc b ∷ q.0, q.1) p e in
+    rw (sym is) (let n : suc (length q.0) + 1 ≡ suc (length q.0 + 1) = omega arith in rw n (ap (λ (r : Bytes × Bytes). (suc b ∷ r.0, r.1)) (again q refl)))
+
+-- the bytes before the zero and those behind it, by their places
+pub cut_places : (bs : Bytes) (p : Bytes × Bytes) → cut_at_zero bs ≡ Some p → p ≡ (take (length p.0) bs, drop (length p.0 + 1) bs)
+cut_places [] p e = absurd cc
+cut_places (zero ∷ bs) p e = let is = cut_is ([], bs) p e in rw (sym is) refl
+cut_places (suc b ∷ bs) p e = front_places b bs p (cut_at_zero bs) (λ q found. cut_places bs q found) e
+
 front_take : (b : ℕ) (bs : Bytes) (p : Bytes × Bytes) (m : ℕ) (o : Option (Bytes × Bytes)) → ((q : Bytes × Bytes) → o ≡ Some q → cut_at_zero (take (length q.0 + 1 + m) bs) ≡ Some (q.0, take m q.1)) → in_front (suc b) o ≡ Some p
     → cut_at_zero (take (length p.0 + 1 + m) (suc b ∷ bs)) ≡ Some (p.0, take m p.1)
 front_take b bs p m None again e = absurd cc

@@ -8,13 +8,13 @@ ghost use Rattle.bson_rawdoc.specs.RawValue.{value_in};
 ghost use Rattle.bson_rawdoc.specs.ValueView.{raw_value};
 
 use crate::extent::extent;
-use crate::key::ascii_key;
 use crate::parts::{
     array_in, binary_in, boolean_in, db_pointer_in, document_in, regex_in, scoped_code_in, text_in,
     timestamp_in,
 };
 use crate::raw::Error;
-use crate::reading::{cut_at_zero, fixed, int32_in, int64_in};
+use crate::reading::{fixed, int32_in, int64_in};
+use crate::utf8::key_len;
 use crate::value::RawBsonRef;
 use bson_base::{DateTime, Decimal128, Double, ElementType, ObjectId};
 use std::marker::Model;
@@ -165,23 +165,7 @@ fn of_kind<'a>(byte: u8, key: &'a str, bytes: &'a [u8]) -> Result<(RawElement<'a
 pub(crate) fn element_at(byte: u8, bytes: &[u8]) -> Result<(RawElement<'_>, &[u8]), Error>
     ensures { result_map (λ x. (x.0, x.1.now)) result ≡ walk.element_at byte bytes.now }
 {
-    match ascii_key(bytes) {
-        Some((key, rest)) => of_kind(byte, key, rest),
-        None => element_beyond_ascii(byte, bytes),
-    }
-}
-
-// The same, where the key may have any characters.
-#[inline(never)]
-#[tactic(auto, unfolding(crate::specs::Walk::element_at))]
-fn element_beyond_ascii(byte: u8, bytes: &[u8]) -> Result<(RawElement<'_>, &[u8]), Error>
-    ensures { result_map (λ x. (x.0, x.1.now)) result ≡ walk.element_at byte bytes.now }
-{
-    let Some((key, rest)) = cut_at_zero(bytes) else {
-        return Err(Error::KeyUnclosed);
-    };
-    let Ok(key) = str::from_utf8(key) else {
-        return Err(Error::KeyNotUtf8);
-    };
-    of_kind(byte, key, rest)
+    let len = key_len(bytes)?;
+    let key = unsafe { str::from_utf8_unchecked(&bytes[..len]) };
+    of_kind(byte, key, &bytes[len + 1..])
 }

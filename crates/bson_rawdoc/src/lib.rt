@@ -6,10 +6,10 @@ mod document;
 mod element;
 mod extent;
 mod iter;
-mod key;
 mod parts;
 pub mod raw;
 mod reading;
+mod utf8;
 mod value;
 
 pub use array::RawArray;

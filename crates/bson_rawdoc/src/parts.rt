@@ -11,23 +11,19 @@ use crate::document::RawDocument;
 use crate::extent::two_texts_in;
 use crate::raw::Error;
 use crate::reading::{fixed, inside, int32_in, is_closed, uint32_in};
+use crate::utf8::is_utf8;
 use crate::value::{RawBinaryRef, RawDbPointerRef, RawJavaScriptCodeWithScopeRef, RawRegexRef};
 use bson_base::{BinarySubtype, ObjectId, Timestamp};
 
-// Texts of up to so many bytes are tested for ASCII first, since most of them are, and that test is shorter.
-const SHORT: usize = 16;
-
 // These bytes as a text.
+#[inline(always)]
 fn utf8_in(bytes: &[u8]) -> Result<&str, Error>
     ensures { result_map (λ t. t.now) result ≡ raw.utf8_in bytes.now }
 {
-    if bytes.len() <= SHORT && bytes.is_ascii() {
-        return Ok(unsafe { str::from_utf8_unchecked(bytes) });
+    if !is_utf8(bytes) {
+        return Err(Error::NotUtf8);
     }
-    match str::from_utf8(bytes) {
-        Ok(text) => Ok(text),
-        Err(_) => Err(Error::NotUtf8),
-    }
+    Ok(unsafe { str::from_utf8_unchecked(bytes) })
 }
 
 // The text between its length and the zero behind it.

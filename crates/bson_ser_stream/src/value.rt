@@ -48,6 +48,7 @@ fn unbuilt_newtype(name: &str) -> Option<ElementType>
 
 /// Appends a value, with so many levels of documents and arrays left, and answers the kind that it wrote.
 #[cycle(put)]
+#[inline(always)]
 pub(crate) fn put_value<L: Ledger>(
     out: &mut Out,
     steps: &mut Steps<L>,
@@ -75,7 +76,7 @@ pub(crate) fn put_value<L: Ledger>(
         Datum::Str(text) => put_text(out, steps, text.as_str()),
         Datum::Bytes(bytes) => put_bytes(out, steps, bytes.as_bytes()),
         Datum::None | Datum::Unit | Datum::UnitStruct { .. } => Ok(ElementType::Null),
-        Datum::Some(content) => put_value(out, steps, content, levels),
+        Datum::Some(content) => put_some(out, steps, content, levels),
         Datum::NewtypeStruct { name, value } => put_newtype(out, steps, name, value, levels),
         Datum::UnitVariant { variant } => put_text(out, steps, variant.as_str()),
         Datum::NewtypeVariant { variant, value } => {
@@ -96,6 +97,24 @@ pub(crate) fn put_value<L: Ledger>(
             put_variant(out, steps, variant, Contents::Fields(fields), levels)
         }
     }
+}
+
+// The content of some value. It stands apart since `put_value` is compiled into what calls it.
+#[cycle(put)]
+#[inline(never)]
+fn put_some<L: Ledger>(
+    out: &mut Out,
+    steps: &mut Steps<L>,
+    content: &Datum<'_>,
+    levels: u32,
+) -> Result<ElementType, Halt>
+    ensures kind { IfOk result (λ k. k ≡ kind_of (view content.now)) }
+    ensures bytes { Gives (size (view content.now)) out.old.spare (λ _. out.new.bytes) result
+        (with_tree out.old.bytes (spell (view content.now) levels)) }
+    ensures fits { OnOk result (size (view content.now) ≤ max_bytes) }
+    ensures grows { Grows out.old out.new steps.old steps.new }
+{
+    put_value(out, steps, content, levels)
 }
 
 // The content of a newtype.

@@ -29,8 +29,8 @@ returns-in-I8-clause-exact c =
 pub returns-in-Any-clause-exact : goal.returns-in-Any-clause-exact
 returns-in-Any-clause-exact c =
     let v = raw_value c.in_ok-raw.raw in
-    subst (λ (r : Reading Value). Reaches view c.read_any.result r)
-    (sym (ap (λ r. r >>= read_leaf c.args.levels (leaf_kind c.args.leaf)) c.in_ok-raw.ensures.exact ∙ ap (λ l. read_leaf c.args.levels (leaf_kind l) v) c.in-Any.is ∙ any_is c.args.levels v)) c.read_any.ensures.exact
+    subst (λ (r : Reading Value). Reaches view c.any_leaf.result r)
+    (sym (ap (λ r. r >>= read_leaf c.args.levels (leaf_kind c.args.leaf)) c.in_ok-raw.ensures.exact ∙ ap (λ l. read_leaf c.args.levels (leaf_kind l) v) c.in-Any.is ∙ any_is c.args.levels v)) c.any_leaf.ensures.exact
 
 pub returns-in-Any-clause-lent : goal.returns-in-Any-clause-lent
-returns-in-Any-clause-lent c = any_leaf_lent c.args.leaf c.args.value (raw_value c.in_ok-raw.raw) c.read_any.result (ap lends c.in-Any.is) c.in_ok-raw.ensures.faultless c.read_any.ensures.lent
+returns-in-Any-clause-lent c = any_leaf_lent c.args.leaf c.args.value (raw_value c.in_ok-raw.raw) c.any_leaf.result (ap lends c.in-Any.is) c.in_ok-raw.ensures.faultless c.any_leaf.ensures.lent

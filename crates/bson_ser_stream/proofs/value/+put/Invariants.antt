@@ -40,6 +40,9 @@ invariant-put_items-loop-index g l =
 abbrev pub decreases-put_value : goal.decreases-put_value
 decreases-put_value g l = 16 * goal.size-put_value g l
 
+abbrev pub decreases-put_some : goal.decreases-put_some
+decreases-put_some g l = 16 * goal.size-put_some g l + 1
+
 abbrev pub decreases-put_newtype : goal.decreases-put_newtype
 decreases-put_newtype g l = 16 * goal.size-put_newtype g l + 1
 

@@ -1,5 +1,5 @@
 use Rattle.std.proofs.Common.{◌≡◌, ℕ, ◌<◌, get_or}
-use Rattle.bson_rawdoc.proofs.key.ascii_key.Given as goal
+use Rattle.bson_rawdoc.proofs.utf8.key_len.Given as goal
 
 -- no character so far is zero, and all are ASCII
 abbrev pub invariant-loop-i : goal.invariant-loop-i
