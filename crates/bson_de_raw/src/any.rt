@@ -36,11 +36,7 @@ pub(crate) fn any_leaf<'de>(
 /// each value is made where it is wanted.
 #[cycle(any)]
 #[inline(always)]
-fn read_any<'de>(
-    alloc: Global,
-    levels: u32,
-    value: RawBsonRef<'de>,
-) -> Reading<Datum<'de>>
+fn read_any<'de>(alloc: Global, levels: u32, value: RawBsonRef<'de>) -> Reading<Datum<'de>>
     ensures exact { Reaches view result (any_inside levels (raw_value value.entry)) }
     ensures lent { IfOk result (λ d. (input : Bytes) → PartsStandIn input (raw_value value.entry)
         → AllLent input d) }

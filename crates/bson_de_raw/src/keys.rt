@@ -36,6 +36,7 @@ impl<'de> Keys<'de> {
     }
 
     /// The place of the key that is the text.
+    #[inline(always)]
     pub(crate) fn place_of(&self, text: &str) -> Option<usize>
         requires { self.now.count ≤ 8 }
         ensures { result ≡ key_place self.now text.now }

@@ -1,10 +1,9 @@
 -- The element at a key that is a text and at one that is not, and a text.
-use Rattle.std.proofs.Common.{◌≡◌, List, ℕ, Bool, true, false, cond, Option, Some, None, Ok, Err, refl, ap, sym, ◌∙◌}
+use Rattle.std.proofs.Common.{◌≡◌, List, ℕ, Bool, true, false, cond, Some, None, Ok, Err, refl, ap, sym, ◌∙◌}
 use Rattle.std.specs.Str.{IsUtf8, is_utf8}
 use Rattle.std.proofs.lemmas.Str.{IsUtf8-from_is_utf8, is_utf8-from_IsUtf8}
 use Rattle.bson_base.specs.Text.{Bytes}
 use Rattle.bson_base.specs.Kind.{of_byte}
-use Rattle.bson_base.specs.declared.element_type.ElementType.{ElementType}
 use Rattle.bson_rawdoc.specs.Extent.{cut_at_zero}
 use Rattle.bson_rawdoc.specs.RawValue.{utf8_in}
 use Rattle.bson_rawdoc.specs.declared.raw.Error.TheVariants.{KeyUnclosed, KeyNotUtf8, NotUtf8}

@@ -33,14 +33,16 @@ pub(crate) fn written_key<'a>(alloc: Global, key: &'a Datum<'_>) -> Result<&'a s
 
 // The text that a value is as a key: a text itself, the name of a unit variant, and what some value and a newtype hold. Others
 // are no keys.
+#[cycle(text)]
+#[inline(always)]
 fn key_text<'a>(key: &'a Datum<'_>) -> Option<&'a str>
     ensures text { option_map (λ text. text.now) result ≡ key_text (view key.now) }
 {
     match key {
         Datum::Str(text) => Some(text.as_str()),
         Datum::UnitVariant { variant } => Some(variant.as_str()),
-        Datum::Some(content) => key_text(content),
-        Datum::NewtypeStruct { value, .. } => key_text(value),
+        Datum::Some(content) => inner_key_text(content),
+        Datum::NewtypeStruct { value, .. } => inner_key_text(value),
         Datum::Bool(_)
         | Datum::I8(_)
         | Datum::I16(_)
@@ -65,6 +67,15 @@ fn key_text<'a>(key: &'a Datum<'_>) -> Option<&'a str>
         | Datum::Struct { .. }
         | Datum::StructVariant { .. } => None,
     }
+}
+
+// The text that the content of some value or of a newtype is as a key. It stands apart since `key_text` is compiled into what calls it.
+#[cycle(text)]
+#[inline(never)]
+fn inner_key_text<'a>(content: &'a Datum<'_>) -> Option<&'a str>
+    ensures text { option_map (λ text. text.now) result ≡ key_text (view content.now) }
+{
+    key_text(content)
 }
 
 // The refusal of a key that is no text.

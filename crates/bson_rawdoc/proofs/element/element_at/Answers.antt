@@ -1,4 +1,4 @@
-use Rattle.std.proofs.Common.{◌+◌, ◌-◌, Some, take, drop, length, refl, ap, sym, ◌∙◌, arith}
+use Rattle.std.proofs.Common.{◌+◌, ◌-◌, take, drop, length, ap, sym, ◌∙◌, arith}
 use Rattle.std.proofs.lemmas.List.{take_all, length-drop}
 use Rattle.bson_base.specs.Kind.{of_byte}
 use Rattle.bson_rawdoc.specs.Walk.{of_kind}
