@@ -14,7 +14,7 @@ use Rattle.bson_rawdoc.specs.Envelope.{envelope, inside, is_closed}
 use Rattle.bson_rawdoc.specs.Extent.{in_front, cut_at_zero, extent, two_texts_in}
 use Rattle.bson_rawdoc.specs.Numbers.{int32_in}
 use Rattle.bson_rawdoc.specs.RawValue.{RawValue, string, document, array, binary, object_id, regular_expression, db_pointer, javascript_code, symbol, javascript_code_with_scope, boolean, boolean_of, utf8_in, text_in, closed_in, old_binary_in, bytes_of_subtype, binary_in, regex_of, db_pointer_in, scoped_code_in, value_in}
-use Rattle.bson_rawdoc.specs.Walk.{Element, Walk, ended, faulty, then_walk, of_kind, with_key, element_at, walk_step, walk_within, walk_elements, walk}
+use Rattle.bson_rawdoc.specs.Walk.{Element, Walk, of_kind, with_key, element_at, walk_step, walk_within, walk_elements, walk}
 use Rattle.bson_rawdoc.specs.declared.raw.Error.{Error}
 use Rattle.bson_rawdoc.specs.declared.raw.Error.TheVariants.{TooShort, LengthDiffers, NoTerminator, KeyNotUtf8, BadExtent, NotUtf8, TextUnclosed, InnerLength, ValueUnclosed}
 use Rattle.bson_laws.specs.Lent.{StandsIn, PartsStandIn, ElementsStandIn}

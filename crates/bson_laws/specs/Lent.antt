@@ -3,7 +3,7 @@ use Rattle.std.specs.Prelude.{◌≡◌, Some, List, [], ◌∷◌, ◌++◌, Bo
 use Rattle.bson_base.specs.Text.{Bytes, Utf8}
 use Rattle.bson_rawdoc.specs.RawValue.{RawValue, string, document, array, binary, object_id}
 use Rattle.bson_rawdoc.specs.Walk.{Walk, ended, faulty, then_walk}
-use Rattle.bson_shape.specs.Form.{Form, leaf, optional, sequence, newtype, unit_structure, map, tuple, tuple_structure, structure, enumeration, Fields, no_fields, field, Parts, no_parts, part, Content, unit_content, newtype_content, tuple_content, struct_content, Variants}
+use Rattle.bson_shape.specs.Form.{Form, leaf, optional, sequence, newtype, unit_structure, map, tuple, tuple_structure, structure, enumeration, Fields, no_fields, field, Parts, no_parts, part, Content, unit_content, newtype_content, tuple_content, struct_content}
 use Rattle.bson_shape.specs.declared.leaf.Leaf as leaves
 use Rattle.bson_shape.specs.declared.leaf.Leaf.TheVariants as leaf_words
 use Rattle.bson_laws.specs.Variants.{content_of}

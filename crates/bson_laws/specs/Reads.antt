@@ -183,6 +183,14 @@ abbrev pub array_of : RawValue → Reading Bytes
 array_of (array bytes) = Ok bytes
 array_of v = refused (invalid_type (kind_of v))
 
+-- a value that is an array, whose elements are read with the levels that are left inside it
+abbrev pub in_array : {A : Type 0} → ℕ → (ℕ → Walk → Reading A) → ElementType → Bytes → Reading A
+in_array levels read k bytes = judged levels (value_in k bytes) >>= array_of >>= λ b. read (levels - 1) (walk b)
+
+-- a value that is a document, whose elements are read with the levels that are left inside it
+abbrev pub in_document : {A : Type 0} → ℕ → (ℕ → Walk → Reading A) → ElementType → Bytes → Reading A
+in_document levels read k bytes = judged levels (value_in k bytes) >>= document_of >>= λ b. read (levels - 1) (walk b)
+
 -- the values in an array from this index on, up to the fault that ends their list
 abbrev pub reads_items : (ElementType → Bytes → Reading Value) → ℕ → Walk → Reading Items
 reads_items read i ended = Ok no_items
@@ -327,6 +335,11 @@ read_structure by_key by_place (document bytes) = by_key bytes
 read_structure by_key by_place (array bytes) = by_place bytes
 read_structure by_key by_place v = refused (no_document v)
 
+-- the value of a struct or of a struct variant, whose fields are read so, each at its key or all by their places
+abbrev pub in_structure : (FieldValues → Value) → Fields → ℕ → ReadField → (Walk → Reading FieldValues) → ElementType → Bytes → Reading Value
+in_structure make fs levels read places k bytes =
+    judged levels (value_in k bytes) >>= λ v. result_map make (read_structure (λ b. reads_fields fs (levels - 1) read (walk b)) (λ b. places (walk b)) v)
+
 -- the element that is due at an index, and then what is read from the others; where none is left, a fault of the list is told before that there
 -- are too few
 abbrev pub reads_next : {A : Type 0} → ℕ → (ElementType → Bytes → Reading Value) → (Value → Walk → Reading A) → Walk → Reading A
@@ -360,17 +373,13 @@ abbrev mutual
   reads (optional s) levels k bytes = reads_option k (reads s levels k bytes)
   reads (newtype name s) levels k bytes = result_map (value.newtype name) (reads s levels k bytes)
   reads (unit_structure name) levels k bytes = judged levels (value_in k bytes) >>= null_of >>= λ _. Ok (value.unit_structure name)
-  reads (sequence s) levels k bytes = judged levels (value_in k bytes) >>= array_of >>= λ b. result_map value.sequence (reads_items (reads s (levels - 1)) 0 (walk b))
-  reads (map key s) levels k bytes =
-      judged levels (value_in k bytes) >>= document_of >>= λ b. result_map value.map (reads_entries (reads_key key) (reads s (levels - 1)) (walk b) no_entries)
-  reads (tuple ps) levels k bytes = judged levels (value_in k bytes) >>= array_of >>= λ b. result_map value.tuple (reads_parts ps 0 (levels - 1) (walk b))
-  reads (tuple_structure name ps) levels k bytes =
-      judged levels (value_in k bytes) >>= array_of >>= λ b. result_map (value.tuple_structure name) (reads_parts ps 0 (levels - 1) (walk b))
+  reads (sequence s) levels k bytes = in_array levels (λ inside w. result_map value.sequence (reads_items (reads s inside) 0 w)) k bytes
+  reads (map key s) levels k bytes = in_document levels (λ inside w. result_map value.map (reads_entries (reads_key key) (reads s inside) w no_entries)) k bytes
+  reads (tuple ps) levels k bytes = in_array levels (λ inside w. result_map value.tuple (reads_parts ps 0 inside w)) k bytes
+  reads (tuple_structure name ps) levels k bytes = in_array levels (λ inside w. result_map (value.tuple_structure name) (reads_parts ps 0 inside w)) k bytes
   reads (enumeration vs) levels k bytes =
       judged levels (value_in k bytes) >>= read_enum (λ name. unit_of name (content_of vs name)) (λ e. reads_variant vs (levels - 1) e)
-  reads (structure name fs) levels k bytes =
-      judged levels (value_in k bytes) >>= λ v. result_map (value.structure name)
-      (read_structure (λ b. reads_fields fs (levels - 1) (λ i. reads_field fs i (levels - 1)) (walk b)) (λ b. reads_places fs 0 (levels - 1) (walk b)) v)
+  reads (structure name fs) levels k bytes = in_structure (value.structure name) fs levels (λ i. reads_field fs i (levels - 1)) (reads_places fs 0 (levels - 1)) k bytes
 
   -- the fields in their order from the elements of an array from this index on; further elements and a fault behind them stay unread
   pub reads_places : Fields → ℕ → ℕ → Walk → Reading FieldValues
@@ -391,11 +400,9 @@ abbrev mutual
   pub reads_content : Utf8 → Content → ℕ → Element → Reading Value
   reads_content name unit_content levels e = refused unit_in_document
   reads_content name (newtype_content s) levels e = under e.key (result_map (value.newtype_variant name) (reads s levels e.kind e.value))
-  reads_content name (tuple_content ps) levels e =
-      under e.key (judged levels (value_in e.kind e.value) >>= array_of >>= λ b. result_map (value.tuple_variant name) (reads_parts ps 0 (levels - 1) (walk b)))
+  reads_content name (tuple_content ps) levels e = under e.key (in_array levels (λ inside w. result_map (value.tuple_variant name) (reads_parts ps 0 inside w)) e.kind e.value)
   reads_content name (struct_content fs) levels e =
-      under e.key (judged levels (value_in e.kind e.value) >>= λ v. result_map (value.structure_variant name)
-      (read_structure (λ b. reads_fields fs (levels - 1) (λ i. reads_field fs i (levels - 1)) (walk b)) (λ b. reads_places fs 0 (levels - 1) (walk b)) v))
+      under e.key (in_structure (value.structure_variant name) fs levels (λ i. reads_field fs i (levels - 1)) (reads_places fs 0 (levels - 1)) e.kind e.value)
 
   -- at the shape of the field at a place (every place that is asked for is that of a field)
   pub reads_field : Fields → ℕ → ℕ → ElementType → Bytes → Reading Value
