@@ -154,6 +154,13 @@ def wide(shape, count):
     return shape, document(text(key, word()) if mixed_values and i % 2 else int32(key, i) for i, key in enumerate(keys))
 
 
+def texts(count):
+    """An array of so many long texts, most of whose characters are not ASCII."""
+    words = ["\u0434\u0430\u043d\u043d\u044b\u0435", "caf\u00e9", "\u6771\u4eac\u90fd", "\u0438", "\u0442\u0435\u043a\u0441\u0442\u0430", "in"]
+    line = lambda i: " ".join(words[(i * 7 + j * 5) % len(words)] for j in range(110))
+    return "{texts:[str]}", document([element(4, "texts", array((2, string(line(i))) for i in range(count)))])
+
+
 WORKLOADS = {
     "rows": lambda: rows(100_000),
     "rows, a tenth": lambda: rows(10_000),
@@ -163,6 +170,7 @@ WORKLOADS = {
     "wide, a tenth": lambda: wide("any", 10_000),
     "wide at a map": lambda: wide("[str:i32]", 100_000),
     "wide at a map, a tenth": lambda: wide("[str:i32]", 10_000),
+    "texts": lambda: texts(3_000),
     "18,000 fields in order": lambda: fields(18_000, False),
     "9,000 fields in order": lambda: fields(9_000, False),
     "18,000 fields in reverse": lambda: fields(18_000, True),

@@ -1,5 +1,7 @@
 -- The element at a key that is a text and at one that is not, and a text.
 use Rattle.std.proofs.Common.{◌≡◌, List, ℕ, Bool, true, false, cond, Some, None, Ok, Err, refl, ap, sym, ◌∙◌}
+use Rattle.std.specs.Prelude.{Result, MatchResult, is_ok}
+use Rattle.std.specs.Borrow.{Bor}
 use Rattle.std.specs.Str.{IsUtf8, is_utf8}
 use Rattle.std.proofs.lemmas.Str.{IsUtf8-from_is_utf8, is_utf8-from_IsUtf8}
 use Rattle.bson_base.specs.Text.{Bytes}
@@ -15,6 +17,11 @@ not_true false n = refl
 
 pub not_text : (bs : List ℕ) → ¬ (IsUtf8 bs) → is_utf8 bs ≡ false
 not_text bs n = not_true (is_utf8 bs) (λ e. n (IsUtf8-from_is_utf8 bs e))
+
+-- a test that lends the text where there is one
+pub decided : {E : Type 0} (bs : List ℕ) (r : Result (Bor (List ℕ)) E) → MatchResult r (λ s. (s.now ≡ bs) × IsUtf8 bs) (λ _. ¬ (IsUtf8 bs)) → is_ok r ≡ is_utf8 bs
+decided bs (Ok s) m = sym (is_utf8-from_IsUtf8 bs m.1)
+decided bs (Err e) m = sym (not_text bs m)
 
 pub key_open : (b : ℕ) (bytes : Bytes) → cut_at_zero bytes ≡ None → element_at b bytes ≡ Err KeyUnclosed
 unfolding element_at

@@ -38,10 +38,7 @@ fn is_ascii(bytes: &[u8]) -> bool
 fn is_utf8_of_any_length(bytes: &[u8]) -> bool
     ensures { result ≡ is_utf8 bytes.now }
 {
-    match str::from_utf8(bytes) {
-        Ok(_) => true,
-        Err(_) => false,
-    }
+    simdutf8::basic::from_utf8(bytes).is_ok()
 }
 
 // How many bytes the key takes that begins these bytes, without the zero behind it. One pass looks for the zero and for characters

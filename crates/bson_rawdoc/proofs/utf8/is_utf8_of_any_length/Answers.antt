@@ -1,10 +1,6 @@
-use Rattle.std.proofs.Common.{sym}
-use Rattle.std.proofs.lemmas.Str.{is_utf8-from_IsUtf8}
-use Rattle.bson_rawdoc.proofs.Keys.{not_text}
+use Rattle.std.proofs.Common.{◌∙◌}
+use Rattle.bson_rawdoc.proofs.Keys.{decided}
 use Rattle.bson_rawdoc.proofs.utf8.is_utf8_of_any_length.Goals as goal
 
-pub returns-in-Ok : goal.returns-in-Ok
-returns-in-Ok c = sym (is_utf8-from_IsUtf8 c.args.bytes.now c.in-Ok.ensures.cases.1)
-
-pub returns-in-Err : goal.returns-in-Err
-returns-in-Err c = sym (not_text c.args.bytes.now c.in-Err.ensures.cases.0)
+pub returns : goal.returns
+returns c = c.is_ok.ensures.value ∙ decided c.args.bytes.now c.from_utf8.result c.from_utf8.ensures
