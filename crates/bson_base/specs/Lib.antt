@@ -4,11 +4,9 @@ pub mod Reserved
 pub mod Tree
 pub mod Sound
 pub mod Outcome
-pub mod Stored
-pub mod StoredTree
 pub mod Instant
 pub mod BsonView
 pub mod Pairs
 pub mod Next
 pub mod Same
-pub mod Decided
+pub mod Prover

@@ -10,7 +10,7 @@ use crate::document::Document;
 impl PartialEq for Binary {
     ghost use Rattle.bson_base.specs.BsonView.{binary_of};
     ghost use Rattle.bson_base.specs.Same.{same};
-    ghost use Rattle.bson_base.specs.Decided.{binary_laws};
+    ghost use Rattle.bson_base.specs.Prover.Decided.{binary_laws};
 
     ghost eq = { λ a b. same (binary_of a) (binary_of b) };
 
@@ -28,7 +28,7 @@ impl PartialEq for Binary {
 impl PartialEq for Bson {
     ghost use Rattle.bson_base.specs.BsonView.{tree_of};
     ghost use Rattle.bson_base.specs.Same.{same};
-    ghost use Rattle.bson_base.specs.Decided.{bson_laws};
+    ghost use Rattle.bson_base.specs.Prover.Decided.{bson_laws};
 
     ghost eq = { λ a b. same (tree_of a) (tree_of b) };
 
@@ -46,7 +46,7 @@ impl PartialEq for Bson {
 impl PartialEq for Document {
     ghost use Rattle.bson_base.specs.BsonView.{pairs_of};
     ghost use Rattle.bson_base.specs.Same.{same_pairs};
-    ghost use Rattle.bson_base.specs.Decided.{document_laws};
+    ghost use Rattle.bson_base.specs.Prover.Decided.{document_laws};
 
     ghost eq = { λ a b. same_pairs (pairs_of a) (pairs_of b) };
 

@@ -18,7 +18,7 @@ pub struct Iter<'a> {
 
 impl<'a> Model for Iter<'a> {
     ghost use Rattle.bson_base.specs.Tree.{Pairs};
-    ghost use Rattle.bson_base.specs.StoredTree.{coded_pairs};
+    ghost use Rattle.bson_base.specs.Prover.StoredTree.{coded_pairs};
     ghost use Rattle.bson_base.specs.BsonView.{zipped, trees_of};
 
     ghost Value = { Pairs };
@@ -64,7 +64,7 @@ impl Model for IntoIter {
     ghost use Rattle.std.specs.Prelude.{◌≡◌, length};
     ghost use Rattle.std.specs.Vec.Iter.{into_iter_items, into_iter_len};
     ghost use Rattle.bson_base.specs.Tree.{Pairs};
-    ghost use Rattle.bson_base.specs.StoredTree.{coded_pairs};
+    ghost use Rattle.bson_base.specs.Prover.StoredTree.{coded_pairs};
     ghost use Rattle.bson_base.specs.BsonView.{zipped, trees_of};
 
     ghost Value = { Pairs };

@@ -18,10 +18,6 @@ use Rattle.bson_datum.specs.declared.datum.Field.{Field}
 use Rattle.bson_datum.specs.declared.datum.Datum.{Datum, NewtypeStruct, NewtypeStruct', NewtypeVariant, NewtypeVariant', Seq, Seq', Tuple, Tuple', TupleStruct, TupleStruct', TupleVariant, TupleVariant', Map, Map', Struct, Struct', StructVariant, StructVariant'}
 use Rattle.bson_datum.specs.declared.datum.Datum.TheViews.{roll-Datum, roll-out-Datum, rolls-NewtypeStruct, outs-NewtypeStruct', rolls-NewtypeVariant, outs-NewtypeVariant', rolls-Seq, outs-Seq', rolls-Tuple, outs-Tuple', rolls-TupleStruct, outs-TupleStruct', rolls-TupleVariant, outs-TupleVariant', rolls-Map, outs-Map', rolls-Struct, outs-Struct', rolls-StructVariant, outs-StructVariant'}
 
--- what a test that decides a fact answers says of the fact
-pub exactly : {P : Type 0} (r test : Bool) → r ≡ test → Decides test P → IsTrue r ↔ P
-exactly r test e d = (λ t. d.0 (sym e ∙ t), λ p. e ∙ d.1 p)
-
 -- the segments of two paths, compared as they stand in the code
 pub same_segments : (ss ts : List Segment) → pointwise (λ s t. same_segment (segment_view s) (segment_view t)) ss ts ≡ same_path (map segment_view ss) (map segment_view ts)
 same_segments [] [] = refl

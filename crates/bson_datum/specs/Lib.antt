@@ -10,4 +10,4 @@ pub mod Stop
 pub mod ErrorView
 pub mod Printed
 pub mod Same
-pub mod Decided
+pub mod Prover

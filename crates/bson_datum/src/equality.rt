@@ -13,7 +13,7 @@ use crate::{ByteStr, Datum, Entry, Field, Path, Segment, Text};
 impl PartialEq for Text<'_> {
     ghost use Rattle.std.specs.Str.{bytes_eq};
     ghost use Rattle.bson_datum.specs.TextView.{text_view};
-    ghost use Rattle.bson_datum.specs.Decided.{text_laws};
+    ghost use Rattle.bson_datum.specs.Prover.Decided.{text_laws};
 
     ghost eq = { λ a b. bytes_eq (text_view a) (text_view b) };
 
@@ -31,7 +31,7 @@ impl PartialEq for Text<'_> {
 impl PartialEq for ByteStr<'_> {
     ghost use Rattle.std.specs.Str.{bytes_eq};
     ghost use Rattle.bson_datum.specs.ByteStrView.{bytes_view};
-    ghost use Rattle.bson_datum.specs.Decided.{byte_str_laws};
+    ghost use Rattle.bson_datum.specs.Prover.Decided.{byte_str_laws};
 
     ghost eq = { λ a b. bytes_eq (bytes_view a) (bytes_view b) };
 
@@ -49,7 +49,7 @@ impl PartialEq for ByteStr<'_> {
 impl PartialEq for Segment {
     ghost use Rattle.bson_datum.specs.PathView.{segment_view};
     ghost use Rattle.bson_datum.specs.Same.{same_segment};
-    ghost use Rattle.bson_datum.specs.Decided.{segment_laws};
+    ghost use Rattle.bson_datum.specs.Prover.Decided.{segment_laws};
 
     ghost eq = { λ a b. same_segment (segment_view a) (segment_view b) };
 
@@ -71,7 +71,7 @@ impl PartialEq for Segment {
 impl PartialEq for Path {
     ghost use Rattle.bson_datum.specs.PathView.{path_view};
     ghost use Rattle.bson_datum.specs.Same.{same_path};
-    ghost use Rattle.bson_datum.specs.Decided.{path_laws};
+    ghost use Rattle.bson_datum.specs.Prover.Decided.{path_laws};
 
     ghost eq = { λ a b. same_path (path_view a) (path_view b) };
 
@@ -89,7 +89,7 @@ impl PartialEq for Path {
 impl PartialEq for Entry<'_> {
     ghost use Rattle.bson_datum.specs.View.{entry_view};
     ghost use Rattle.bson_datum.specs.Same.{same_entry};
-    ghost use Rattle.bson_datum.specs.Decided.{entry_laws};
+    ghost use Rattle.bson_datum.specs.Prover.Decided.{entry_laws};
 
     ghost eq = { λ a b. same_entry (entry_view a) (entry_view b) };
 
@@ -107,7 +107,7 @@ impl PartialEq for Entry<'_> {
 impl PartialEq for Field<'_> {
     ghost use Rattle.bson_datum.specs.View.{field_view};
     ghost use Rattle.bson_datum.specs.Same.{same_field};
-    ghost use Rattle.bson_datum.specs.Decided.{field_laws};
+    ghost use Rattle.bson_datum.specs.Prover.Decided.{field_laws};
 
     ghost eq = { λ a b. same_field (field_view a) (field_view b) };
 
@@ -125,7 +125,7 @@ impl PartialEq for Field<'_> {
 impl PartialEq for Datum<'_> {
     ghost use Rattle.bson_datum.specs.View.{view};
     ghost use Rattle.bson_datum.specs.Same.{same};
-    ghost use Rattle.bson_datum.specs.Decided.{datum_laws};
+    ghost use Rattle.bson_datum.specs.Prover.Decided.{datum_laws};
 
     ghost eq = { λ a b. same (view a) (view b) };
 

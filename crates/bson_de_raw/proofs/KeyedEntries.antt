@@ -9,7 +9,7 @@ use Rattle.bson_base.specs.Text.{Utf8}
 use Rattle.bson_shape.specs.Form.{Form}
 use Rattle.bson_shape.specs.Makers.{is_text_key}
 use Rattle.bson_shape.specs.ShapeView.{form_view}
-use Rattle.bson_datum.specs.Decided.{same_decides}
+use Rattle.bson_datum.specs.Prover.Decided.{same_decides}
 use Rattle.bson_datum.specs.Same.{same}
 use Rattle.bson_datum.specs.Value.{Value, Entries, entry}
 use Rattle.bson_datum.specs.View.{view, entries_view}

@@ -47,8 +47,8 @@ fn read_any<'de>(alloc: Global, levels: u32, value: RawBsonRef<'de>) -> Reading<
         RawBsonRef::Int64(number) => Ok(Datum::I64(number)),
         RawBsonRef::Double(double) => Ok(Datum::Double(double)),
         RawBsonRef::String(text) => Ok(Datum::Str(Text::Borrowed(text))),
-        RawBsonRef::Binary(binary) if binary.subtype.0 == 0 => {
-            Ok(Datum::Bytes(ByteStr::Borrowed(binary.bytes)))
+        RawBsonRef::Binary { subtype, bytes } if subtype.0 == 0 => {
+            Ok(Datum::Bytes(ByteStr::Borrowed(bytes)))
         }
         RawBsonRef::Null => Ok(Datum::Unit),
         RawBsonRef::Array(array) => Ok(Datum::Seq(any_items(alloc, levels, array)?)),

@@ -11,9 +11,9 @@ ghost use Rattle.bson_de_raw.specs.Leaves.{reads_byte};
 use crate::encoded::Encoded;
 use crate::leaf::integer;
 use crate::reading::{Reading, refused};
-use bson_base::ElementType;
+use bson_base::{BinarySubtype, ElementType};
 use bson_datum::Cause;
-use bson_rawdoc::{RawArray, RawBinaryRef, RawBsonRef, RawElement};
+use bson_rawdoc::{RawArray, RawBsonRef, RawElement};
 use std::alloc::Global;
 
 /// The bytes of a value that has some in the document. Those of an ObjectId are all its bytes there.
@@ -27,7 +27,7 @@ pub(crate) fn byte_string<'de>(
     ensures { Reaches (λ b. b.now) result (reads.bytes_of (raw_value raw.entry)) }
 {
     match raw {
-        RawBsonRef::Binary(binary) => bytes_of_binary(alloc, binary),
+        RawBsonRef::Binary { subtype, bytes } => bytes_of_binary(alloc, subtype, bytes),
         RawBsonRef::String(text) => Ok(text.as_bytes()),
         RawBsonRef::ObjectId(_) => Ok(value.bytes()),
         other => Err(refused(alloc, Cause::InvalidType(other.element_type()))),
@@ -35,13 +35,17 @@ pub(crate) fn byte_string<'de>(
 }
 
 /// The bytes of a binary of subtype 0.
-fn bytes_of_binary<'a>(alloc: Global, binary: RawBinaryRef<'a>) -> Reading<&'a [u8]>
-    ensures { Reaches (λ b. b.now) result (reads.bytes_of_binary binary.entry.subtype.0 binary.entry.bytes.now) }
+fn bytes_of_binary<'a>(
+    alloc: Global,
+    subtype: BinarySubtype,
+    bytes: &'a [u8],
+) -> Reading<&'a [u8]>
+    ensures { Reaches (λ b. b.now) result (reads.bytes_of_binary subtype.0 bytes.now) }
 {
-    if binary.subtype.0 != 0 {
+    if subtype.0 != 0 {
         return Err(refused(alloc, Cause::InvalidType(ElementType::Binary)));
     }
-    Ok(binary.bytes)
+    Ok(bytes)
 }
 
 /// A copy of the bytes of a binary or of a text, or the bytes that the numbers of an array are, where so
@@ -51,7 +55,9 @@ pub(crate) fn buffer(alloc: Global, levels: u32, value: RawBsonRef<'_>) -> Readi
     ensures { Reaches (λ v. v.items) result (reads.buffer_of levels (raw_value value.entry)) }
 {
     match value {
-        RawBsonRef::Binary(binary) => Ok(bytes_of_binary(alloc, binary)?.to_vec(alloc)?),
+        RawBsonRef::Binary { subtype, bytes } => {
+            Ok(bytes_of_binary(alloc, subtype, bytes)?.to_vec(alloc)?)
+        }
         RawBsonRef::String(text) => Ok(text.as_bytes().to_vec(alloc)?),
         RawBsonRef::Array(array) => bytes_of_array(alloc, levels.saturating_sub(1), array),
         other => Err(refused(alloc, Cause::InvalidType(other.element_type()))),

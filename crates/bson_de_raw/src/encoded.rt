@@ -128,7 +128,7 @@ fn is_extended(value: RawBsonRef<'_>) -> bool
         | RawBsonRef::Null
         | RawBsonRef::Int32(_)
         | RawBsonRef::Int64(_) => false,
-        RawBsonRef::Binary(binary) => binary.subtype.0 != 0,
+        RawBsonRef::Binary { subtype, .. } => subtype.0 != 0,
         _ => true,
     }
 }

@@ -45,8 +45,8 @@ pub(crate) fn pass_inside(alloc: Global, levels: u32, value: RawBsonRef<'_>) -> 
     match value {
         RawBsonRef::Document(document) => pass(alloc, levels, Container::Document, document),
         RawBsonRef::Array(array) => pass(alloc, levels, Container::Array, array.as_doc()),
-        RawBsonRef::JavaScriptCodeWithScope(code) => {
-            match pass(alloc, levels, Container::Document, code.scope) {
+        RawBsonRef::JavaScriptCodeWithScope { scope, .. } => {
+            match pass(alloc, levels, Container::Document, scope) {
                 Ok(()) => Ok(()),
                 Err(stop) => Err(stop.under_key(SCOPE_KEY)),
             }

@@ -10,9 +10,9 @@ ghost use Rattle.bson_laws.specs.Views as views;
 ghost use Rattle.bson_de_raw.specs.Gives.{Reaches};
 
 use crate::reading::{Reading, refused};
-use bson_base::ElementType;
+use bson_base::{BinarySubtype, ElementType};
 use bson_datum::{Cause, Datum};
-use bson_rawdoc::{RawBinaryRef, RawBsonRef};
+use bson_rawdoc::RawBsonRef;
 use std::alloc::Global;
 
 /// The text of a value that is one.
@@ -21,19 +21,23 @@ pub(crate) fn text<'a>(alloc: Global, value: RawBsonRef<'a>) -> Reading<&'a str>
 {
     match value {
         RawBsonRef::String(text) => Ok(text),
-        RawBsonRef::Binary(binary) => text_of_binary(alloc, binary),
+        RawBsonRef::Binary { subtype, bytes } => text_of_binary(alloc, subtype, bytes),
         other => Err(refused(alloc, Cause::InvalidType(other.element_type()))),
     }
 }
 
 /// The bytes of a binary of subtype 0 as a text.
-fn text_of_binary<'a>(alloc: Global, binary: RawBinaryRef<'a>) -> Reading<&'a str>
-    ensures { Reaches (λ t. t.now) result (reads.text_of_binary binary.entry.subtype.0 binary.entry.bytes.now) }
+fn text_of_binary<'a>(
+    alloc: Global,
+    subtype: BinarySubtype,
+    bytes: &'a [u8],
+) -> Reading<&'a str>
+    ensures { Reaches (λ t. t.now) result (reads.text_of_binary subtype.0 bytes.now) }
 {
-    if binary.subtype.0 != 0 {
+    if subtype.0 != 0 {
         return Err(refused(alloc, Cause::InvalidType(ElementType::Binary)));
     }
-    match str::from_utf8(binary.bytes) {
+    match str::from_utf8(bytes) {
         Ok(text) => Ok(text),
         Err(_) => Err(refused(alloc, Cause::NotUtf8)),
     }

@@ -1,11 +1,11 @@
 -- What a transfer in several calls has moved.
-use Rattle.std.proofs.Common.{ℕ, ◌+◌, ◌-◌, ◌<◌, ◌≤◌, List, ◌++◌, take, drop, length, sym, subst, ap, Some, None, Ok, length-drop, length-append, length-take, arith}
+use Rattle.std.proofs.Common.{◌≡◌, ℕ, ◌+◌, ◌-◌, ◌≤◌, List, ◌++◌, take, drop, length, sym, subst, ap, Some, None, Ok, length-drop, length-append, length-take, arith}
 use Rattle.std.specs.declared.option.Option.{Option}
 use Rattle.std.specs.Io.KnownBytes.{Appends, Consumes}
 use Rattle.std.proofs.KnownBytes.{Appends-trans, Consumes-trans}
 use Rattle.std.proofs.lemmas.List.{take_rest}
 use lib.Seq.{take-add}
-use Rattle.bson_io.specs.Ends.{FitsIn, UsesRoom, Takes, TakesAtMost, TakesMore}
+use Rattle.bson_io.specs.Ends.{FitsIn, UsesRoom, Takes, TakesAtMost, TakesExactly}
 
 -- The first `at` were written, and then n of what was due after them: the first `at + n` are written.
 pub written_more : (a b c : Option (List ℕ)) (at n : ℕ) (due : List ℕ) → Appends a b (take at due) → Appends b c (take n (take (length due - at) (drop at due))) → Appends a c (take (at + n) due)
@@ -31,10 +31,10 @@ takes_at_most most a b c bs buf n before step few = record {
   within = omega (arith, length-append bs (take n buf), length-take n buf);
 }
 
--- They are more than so many.
-pub takes_too_many : (most : ℕ) (a b c : Option (List ℕ)) (bs buf : List ℕ) (n : ℕ) → Consumes a b bs → Consumes b c (take n buf) → n ≤ length buf → most < length bs + n → TakesMore most a c
-takes_too_many most a b c bs buf n before step full many = record {
+-- They are exactly so many.
+pub takes_exactly : (count : ℕ) (a b c : Option (List ℕ)) (bs buf : List ℕ) (n : ℕ) → Consumes a b bs → Consumes b c (take n buf) → n ≤ length buf → length bs + n ≡ count → TakesExactly count a c
+takes_exactly count a b c bs buf n before step full all = record {
   bytes = bs ++ take n buf;
   taken = Consumes-trans a b c bs (take n buf) before step;
-  more = omega (arith, length-append bs (take n buf), length-take n buf);
+  all = omega (arith, length-append bs (take n buf), length-take n buf);
 }

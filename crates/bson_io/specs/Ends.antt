@@ -59,8 +59,8 @@ pub record TakesAtMost (most : ℕ) (old new : Option (List ℕ)) : Type 0 where
   pub taken : Consumes old new bytes
   pub within : length bytes ≤ most
 
--- More bytes than this were taken off the front of what was left.
-pub record TakesMore (most : ℕ) (old new : Option (List ℕ)) : Type 0 where
+-- Exactly so many bytes were taken off the front of what was left.
+pub record TakesExactly (count : ℕ) (old new : Option (List ℕ)) : Type 0 where
   pub bytes : List ℕ
   pub taken : Consumes old new bytes
-  pub more : most < length bytes
+  pub all : length bytes ≡ count

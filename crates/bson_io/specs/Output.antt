@@ -1,15 +1,10 @@
 -- What contracts see of an output buffer: its bytes, and how many more it takes without memory.
-use Rattle.std.specs.Prelude.{ℕ, ℤ, ◌+◌, ◌≤◌, ◌≡◌, List, ◌++◌, length, take, drop}
-use Rattle.std.specs.Int.{w32, to_le_bytes, cast_unsigned}
+use Rattle.std.specs.Prelude.{ℕ, ◌+◌, ◌≤◌, ◌≡◌, List, ◌++◌, length, take, drop}
 
 -- the bytes so far, and how many more bytes can be appended without taking memory
 pub record Output : Type 0 where
   pub bytes : List ℕ
   pub spare : ℕ
-
--- the four bytes of an int32 of BSON (bsonspec.org, basic types): little-endian, two's complement
-abbrev pub i32_bytes : ℤ → List ℕ
-i32_bytes v = to_le_bytes w32 (cast_unsigned w32 v)
 
 -- bytes in which a piece stands from a place on, in place of as many that stood there
 abbrev pub patched : List ℕ → ℕ → List ℕ → List ℕ

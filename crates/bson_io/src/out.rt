@@ -1,6 +1,7 @@
 // The output buffer: bytes are appended, patched in their place and cut off.
 ghost use Rattle.std.specs.Prelude.{◌≡◌, ◌≤◌, ◌+◌, ◌∷◌, ◌↔◌, [], length, take, IsTrue, IsOk, OnOk, OnErr};
-ghost use Rattle.bson_io.specs.Output.{Appended, Patched, Refused, i32_bytes};
+ghost use Rattle.std.specs.Int.{w32, to_le_bytes, cast_unsigned};
+ghost use Rattle.bson_io.specs.Output.{Appended, Patched, Refused};
 
 use crate::steps::{Ledger, Steps};
 use std::alloc::{AllocError, Global};
@@ -108,10 +109,10 @@ impl Out {
         steps.tick();
     }
 
-    /// Replaces the four bytes from a place on by an int32 of BSON, at four steps.
+    /// Replaces the four bytes from a place on by an int32 of BSON, at four steps: little-endian, two's complement (bsonspec.org, basic types).
     pub fn patch_i32<L: Ledger>(&mut self, at: usize, v: i32, steps: &mut Steps<L>)
         requires { at + 4 ≤ length self.old.bytes }
-        ensures { Patched self.old self.new at (i32_bytes v) steps.old steps.new }
+        ensures { Patched self.old self.new at (to_le_bytes w32 (cast_unsigned w32 v)) steps.old steps.new }
     {
         self.buf[at..at + 4].copy_from_slice(&v.to_le_bytes());
         steps.tick_all(4);

@@ -1,7 +1,7 @@
 // A source read to its end, and all that is due written to a sink.
-ghost use Rattle.std.specs.Prelude.{◌≡◌, ◌≢◌, ◌≤◌, ◌<◌, ℕ, length, IfOk, IsOk, OnOk};
+ghost use Rattle.std.specs.Prelude.{◌≡◌, ◌≢◌, ◌+◌, ◌≤◌, ◌<◌, ℕ, length, IfOk, IsOk, OnOk};
 ghost use Rattle.std.specs.Io.KnownBytes.{Appends, Consumes, IsAtEnd};
-ghost use Rattle.bson_io.specs.Ends.{Rose, HasSinkCause, AppendsPrefix, FitsIn, Takes, TakesAtMost, TakesMore};
+ghost use Rattle.bson_io.specs.Ends.{Rose, HasSinkCause, AppendsPrefix, FitsIn, Takes, TakesAtMost, TakesExactly};
 ghost use Rattle.bson_io.specs.declared.transfer.ReadFault.TheVariants.{NoMemory};
 
 use crate::{Failed, Sink, Source};
@@ -33,16 +33,22 @@ impl From<AllocError> for ReadFault {
     }
 }
 
-/// All that a source has left. After a refusal the bytes that were taken are gone from the source.
+/// All that a source has left.
+///
+/// # Errors
+///
+/// `TooLong` where more than [`MOST`] bytes are left: `MOST + 1` of them were taken then. `Failed` where a call on the source failed,
+/// `NoMemory` where memory ran out. After an error the bytes that were taken are gone from the source.
 pub fn read_to_end<I: Source>(alloc: Global, input: &mut I) -> Result<Vec<u8>, ReadFault>
     // The bytes are all that was left.
     ensures bytes { IfOk result (λ v. Consumes (I.left input.old) (I.left input.new) v.items) }
     ensures end { OnOk result (IsAtEnd (I.left input.new)) }
     ensures most { IfOk result (λ v. length v.items ≤ MOST) }
 
-    // Whatever comes, only bytes at the front were taken. `TooLong` comes exactly where they were too many.
+    // Whatever comes, only bytes at the front were taken. `TooLong` comes where exactly one more was taken than may come, and
+    // nowhere else.
     ensures taken { Takes (I.left input.old) (I.left input.new) }
-    ensures too_long { result ≡ Err ReadFault.TooLong → TakesMore MOST (I.left input.old) (I.left input.new) }
+    ensures too_long { result ≡ Err ReadFault.TooLong → TakesExactly (MOST + 1) (I.left input.old) (I.left input.new) }
     ensures within { result ≢ Err ReadFault.TooLong → TakesAtMost MOST (I.left input.old) (I.left input.new) }
 
     // `Failed` comes only where a call on the source failed.

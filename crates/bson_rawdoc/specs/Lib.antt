@@ -4,8 +4,8 @@ pub mod Extent
 pub mod Walk
 pub mod RawValue
 pub mod JsonKinds
-pub mod Stored
 pub mod DocumentView
 pub mod ValueView
 pub mod Printed
 pub mod Next
+pub mod Prover

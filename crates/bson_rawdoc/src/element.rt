@@ -31,7 +31,7 @@ impl<'a> Model for RawElement<'a> {
     ghost use Rattle.std.specs.Prelude.{◌≡◌, Ok, length};
     ghost use Rattle.bson_rawdoc.specs.Extent.{extent};
     ghost use Rattle.bson_rawdoc.specs.Walk.{Element};
-    ghost use Rattle.bson_rawdoc.specs.Stored.{coded_element};
+    ghost use Rattle.bson_rawdoc.specs.Prover.Stored.{coded_element};
 
     ghost Value = { Element };
 
@@ -106,17 +106,15 @@ fn value_beyond_json(kind: ElementType, bytes: &[u8]) -> Result<RawBsonRef<'_>, 
     ensures value { result_map raw_value result ≡ value_in kind bytes.now }
 {
     Ok(match kind {
-        ElementType::Binary => RawBsonRef::Binary(binary_in(bytes)?),
+        ElementType::Binary => binary_in(bytes)?,
         ElementType::Undefined => RawBsonRef::Undefined,
         ElementType::ObjectId => RawBsonRef::ObjectId(ObjectId(fixed(bytes))),
         ElementType::DateTime => RawBsonRef::DateTime(DateTime::from_millis(int64_in(bytes))),
-        ElementType::RegularExpression => RawBsonRef::RegularExpression(regex_in(bytes)?),
-        ElementType::DbPointer => RawBsonRef::DbPointer(db_pointer_in(bytes)?),
+        ElementType::RegularExpression => regex_in(bytes)?,
+        ElementType::DbPointer => db_pointer_in(bytes)?,
         ElementType::JavaScriptCode => RawBsonRef::JavaScriptCode(text_in(bytes)?),
         ElementType::Symbol => RawBsonRef::Symbol(text_in(bytes)?),
-        ElementType::JavaScriptCodeWithScope => {
-            RawBsonRef::JavaScriptCodeWithScope(scoped_code_in(bytes)?)
-        }
+        ElementType::JavaScriptCodeWithScope => scoped_code_in(bytes)?,
         ElementType::Timestamp => RawBsonRef::Timestamp(timestamp_in(bytes)),
         ElementType::Decimal128 => RawBsonRef::Decimal128(Decimal128(fixed(bytes))),
         ElementType::MaxKey => RawBsonRef::MaxKey,

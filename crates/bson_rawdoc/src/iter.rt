@@ -17,7 +17,7 @@ pub struct RawIter<'a> {
 impl<'a> Model for RawIter<'a> {
     ghost use Rattle.std.specs.Prelude.{if◌then◌else◌};
     ghost use Rattle.bson_rawdoc.specs.Walk.{Walk, ended, walk_elements};
-    ghost use Rattle.bson_rawdoc.specs.Stored.{coded_walk};
+    ghost use Rattle.bson_rawdoc.specs.Prover.Stored.{coded_walk};
 
     ghost Value = { Walk };
 

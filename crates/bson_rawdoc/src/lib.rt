@@ -20,6 +20,4 @@ pub use bson_io::{
 pub use document::RawDocument;
 pub use element::RawElement;
 pub use iter::RawIter;
-pub use value::{
-    RawBinaryRef, RawBsonRef, RawDbPointerRef, RawJavaScriptCodeWithScopeRef, RawRegexRef,
-};
+pub use value::RawBsonRef;

@@ -5,6 +5,7 @@ ghost use Rattle.bson_rawdoc.specs.DocumentView.{document_bytes, array_bytes};
 ghost use Rattle.bson_rawdoc.specs.Extent as extents;
 ghost use Rattle.bson_rawdoc.specs.Numbers as numbers;
 ghost use Rattle.bson_rawdoc.specs.RawValue as raw;
+ghost use Rattle.bson_rawdoc.specs.ValueView.{raw_value};
 
 use crate::array::RawArray;
 use crate::document::RawDocument;
@@ -12,8 +13,8 @@ use crate::extent::two_texts_in;
 use crate::raw::Error;
 use crate::reading::{fixed, inside, int32_in, is_closed, uint32_in};
 use crate::utf8::is_utf8;
-use crate::value::{RawBinaryRef, RawDbPointerRef, RawJavaScriptCodeWithScopeRef, RawRegexRef};
-use bson_base::{BinarySubtype, ObjectId, Timestamp};
+use crate::value::RawBsonRef;
+use bson_base::{BinarySubtype, ElementType, ObjectId, Timestamp};
 
 // These bytes as a text.
 #[inline(always)]
@@ -60,13 +61,13 @@ pub(crate) fn array_in(bytes: &[u8]) -> Result<RawArray<'_>, Error>
 }
 
 // A binary: its length, its subtype, and then its bytes.
-pub(crate) fn binary_in(bytes: &[u8]) -> Result<RawBinaryRef<'_>, Error>
+pub(crate) fn binary_in(bytes: &[u8]) -> Result<RawBsonRef<'_>, Error>
     requires { 5 ≤ length bytes.now }
-    ensures { result_map (λ b. (b.subtype.0, b.bytes.now)) result ≡ raw.binary_in bytes.now }
+    ensures { result_map raw_value result ≡ raw.value_in ElementType.Binary bytes.now }
 {
     let subtype = BinarySubtype(bytes[4]);
     let bytes = bytes_of_subtype(subtype.0, &bytes[5..])?;
-    Ok(RawBinaryRef { subtype, bytes })
+    Ok(RawBsonRef::Binary { subtype, bytes })
 }
 
 // The bytes of a binary of this subtype, behind its subtype.
@@ -105,42 +106,42 @@ pub(crate) fn boolean_in(byte: u8) -> Result<bool, Error>
 }
 
 // A pattern and its options.
-pub(crate) fn regex_in(bytes: &[u8]) -> Result<RawRegexRef<'_>, Error>
-    ensures { result_map (λ r. (r.pattern.now, r.options.now)) result ≡ raw.regex_of (extents.two_texts_in bytes.now) }
+pub(crate) fn regex_in(bytes: &[u8]) -> Result<RawBsonRef<'_>, Error>
+    ensures { result_map raw_value result ≡ raw.value_in ElementType.RegularExpression bytes.now }
 {
     let Some((pattern, options)) = two_texts_in(bytes) else {
         return Err(Error::BadExtent);
     };
     let pattern = utf8_in(pattern)?;
     let options = utf8_in(options)?;
-    Ok(RawRegexRef { pattern, options })
+    Ok(RawBsonRef::RegularExpression { pattern, options })
 }
 
 // A text, and an ObjectId behind it.
-pub(crate) fn db_pointer_in(bytes: &[u8]) -> Result<RawDbPointerRef<'_>, Error>
+pub(crate) fn db_pointer_in(bytes: &[u8]) -> Result<RawBsonRef<'_>, Error>
     requires { 17 ≤ length bytes.now }
-    ensures { result_map (λ p. (p.namespace.now, p.id.0)) result ≡ raw.db_pointer_in bytes.now }
+    ensures { result_map raw_value result ≡ raw.value_in ElementType.DbPointer bytes.now }
 {
     let (text, id) = bytes.split_at(bytes.len() - 12);
     let namespace = text_in(text)?;
-    Ok(RawDbPointerRef {
+    Ok(RawBsonRef::DbPointer {
         namespace,
         id: ObjectId(fixed(id)),
     })
 }
 
 // The code and the scope behind the total length.
-pub(crate) fn scoped_code_in(bytes: &[u8]) -> Result<RawJavaScriptCodeWithScopeRef<'_>, Error>
+pub(crate) fn scoped_code_in(bytes: &[u8]) -> Result<RawBsonRef<'_>, Error>
     requires { 14 ≤ length bytes.now }
-    ensures { result_map (λ c. (c.code.now, document_bytes c.scope)) result ≡ raw.scoped_code_in bytes.now }
+    ensures { result_map raw_value result ≡ raw.value_in ElementType.JavaScriptCodeWithScope bytes.now }
 {
     let bytes = &bytes[4..];
     scoped_code(int32_in(bytes), bytes)
 }
 
 // A code whose length is announced as this, and the scope behind it.
-fn scoped_code(announced: i32, bytes: &[u8]) -> Result<RawJavaScriptCodeWithScopeRef<'_>, Error>
-    ensures { result_map (λ c. (c.code.now, document_bytes c.scope)) result ≡ raw.scoped_code announced bytes.now }
+fn scoped_code(announced: i32, bytes: &[u8]) -> Result<RawBsonRef<'_>, Error>
+    ensures { result_map raw_value result ≡ result_map (λ c. raw.javascript_code_with_scope c.0 c.1) (raw.scoped_code announced bytes.now) }
 {
     let Ok(length) = u32::try_from(announced) else {
         return Err(Error::ScopeTotal);
@@ -157,18 +158,15 @@ fn scoped_code(announced: i32, bytes: &[u8]) -> Result<RawJavaScriptCodeWithScop
 }
 
 // A code, and the scope that announces as many bytes as it has.
-fn code_and_scope<'a>(
-    text: &'a [u8],
-    scope: &'a [u8],
-) -> Result<RawJavaScriptCodeWithScopeRef<'a>, Error>
+fn code_and_scope<'a>(text: &'a [u8], scope: &'a [u8]) -> Result<RawBsonRef<'a>, Error>
     requires text { 5 ≤ length text.now }
     requires scope { 5 ≤ length scope.now }
     requires announced { numbers.int32_in scope.now ≡ pos (length scope.now) }
-    ensures { result_map (λ c. (c.code.now, document_bytes c.scope)) result ≡ raw.code_and_scope text.now scope.now }
+    ensures { result_map raw_value result ≡ result_map (λ c. raw.javascript_code_with_scope c.0 c.1) (raw.code_and_scope text.now scope.now) }
 {
     let code = text_in(text)?;
     let scope = document_in(scope)?;
-    Ok(RawJavaScriptCodeWithScopeRef { code, scope })
+    Ok(RawBsonRef::JavaScriptCodeWithScope { code, scope })
 }
 
 // A timestamp: its increment, and then its time.

@@ -11,7 +11,7 @@ use bson_base::{BinarySubtype, DateTime, Decimal128, Double, ElementType, Object
 pub enum RawBsonRef<'a> {
     /// A floating point number of 64 bits.
     Double(Double),
-    /// A UTF-8 text, lent from the document.
+    /// A UTF-8 text, borrowed from the document.
     String(&'a str),
     /// An array.
     Array(RawArray<'a>),
@@ -21,25 +21,40 @@ pub enum RawBsonRef<'a> {
     Boolean(bool),
     /// No value.
     Null,
-    /// A pattern and its options.
-    RegularExpression(RawRegexRef<'a>),
-    /// JavaScript code, lent from the document.
+    /// A regular expression, borrowed from the document.
+    RegularExpression {
+        /// The pattern.
+        pattern: &'a str,
+        /// The options, as they stand.
+        options: &'a str,
+    },
+    /// JavaScript code, borrowed from the document.
     JavaScriptCode(&'a str),
-    /// JavaScript code with a document of its names.
-    JavaScriptCodeWithScope(RawJavaScriptCodeWithScopeRef<'a>),
+    /// JavaScript code with a document of its names, borrowed from the document.
+    JavaScriptCodeWithScope {
+        /// The code.
+        code: &'a str,
+        /// The names that the code may use, with their values.
+        scope: RawDocument<'a>,
+    },
     /// A signed number of 32 bits.
     Int32(i32),
     /// A signed number of 64 bits.
     Int64(i64),
     /// A time in seconds and an increment.
     Timestamp(Timestamp),
-    /// Bytes with a subtype.
-    Binary(RawBinaryRef<'a>),
+    /// Bytes with a subtype, borrowed from the document.
+    Binary {
+        /// What the bytes are.
+        subtype: BinarySubtype,
+        /// The bytes. Those of subtype 2 stand behind its second length.
+        bytes: &'a [u8],
+    },
     /// Twelve bytes that name a document.
     ObjectId(ObjectId),
     /// Milliseconds since 1970.
     DateTime(DateTime),
-    /// A text of the deprecated kind Symbol, lent from the document.
+    /// A text of the deprecated kind Symbol, borrowed from the document.
     Symbol(&'a str),
     /// A decimal floating point number of 128 bits.
     Decimal128(Decimal128),
@@ -50,43 +65,12 @@ pub enum RawBsonRef<'a> {
     /// The value that is less than every other.
     MinKey,
     /// A namespace and an ObjectId.
-    DbPointer(RawDbPointerRef<'a>),
-}
-
-/// A regular expression, lent from its document.
-#[derive(Clone, Copy, Debug)]
-pub struct RawRegexRef<'a> {
-    /// The pattern.
-    pub pattern: &'a str,
-    /// The options, as they stand.
-    pub options: &'a str,
-}
-
-/// A binary value, lent from its document.
-#[derive(Clone, Copy, Debug)]
-pub struct RawBinaryRef<'a> {
-    /// What the bytes are.
-    pub subtype: BinarySubtype,
-    /// The bytes. Those of subtype 2 stand behind its second length.
-    pub bytes: &'a [u8],
-}
-
-/// JavaScript code with a document of its names, lent from its document.
-#[derive(Clone, Copy, Debug)]
-pub struct RawJavaScriptCodeWithScopeRef<'a> {
-    /// The code.
-    pub code: &'a str,
-    /// The names that the code may use, with their values.
-    pub scope: RawDocument<'a>,
-}
-
-/// A namespace and an ObjectId, lent from its document.
-#[derive(Clone, Copy, Debug)]
-pub struct RawDbPointerRef<'a> {
-    /// The namespace.
-    pub namespace: &'a str,
-    /// The name of a document in it.
-    pub id: ObjectId,
+    DbPointer {
+        /// The namespace, borrowed from the document.
+        namespace: &'a str,
+        /// The name of a document in it.
+        id: ObjectId,
+    },
 }
 
 impl RawBsonRef<'_> {
@@ -101,13 +85,13 @@ impl RawBsonRef<'_> {
             RawBsonRef::Document(_) => ElementType::EmbeddedDocument,
             RawBsonRef::Boolean(_) => ElementType::Boolean,
             RawBsonRef::Null => ElementType::Null,
-            RawBsonRef::RegularExpression(_) => ElementType::RegularExpression,
+            RawBsonRef::RegularExpression { .. } => ElementType::RegularExpression,
             RawBsonRef::JavaScriptCode(_) => ElementType::JavaScriptCode,
-            RawBsonRef::JavaScriptCodeWithScope(_) => ElementType::JavaScriptCodeWithScope,
+            RawBsonRef::JavaScriptCodeWithScope { .. } => ElementType::JavaScriptCodeWithScope,
             RawBsonRef::Int32(_) => ElementType::Int32,
             RawBsonRef::Int64(_) => ElementType::Int64,
             RawBsonRef::Timestamp(_) => ElementType::Timestamp,
-            RawBsonRef::Binary(_) => ElementType::Binary,
+            RawBsonRef::Binary { .. } => ElementType::Binary,
             RawBsonRef::ObjectId(_) => ElementType::ObjectId,
             RawBsonRef::DateTime(_) => ElementType::DateTime,
             RawBsonRef::Symbol(_) => ElementType::Symbol,
@@ -115,7 +99,7 @@ impl RawBsonRef<'_> {
             RawBsonRef::Undefined => ElementType::Undefined,
             RawBsonRef::MaxKey => ElementType::MaxKey,
             RawBsonRef::MinKey => ElementType::MinKey,
-            RawBsonRef::DbPointer(_) => ElementType::DbPointer,
+            RawBsonRef::DbPointer { .. } => ElementType::DbPointer,
         }
     }
 }

@@ -11,21 +11,20 @@ use Rattle.bson_shape.specs.Machine.{parsed}
 use Rattle.bson_shape.specs.Makers.{IsShape}
 use Rattle.bson_shape.proofs.Texts.{parsed-shape}
 use Rattle.bson_shape.specs.Notation.{text, bare, quoted}
-use Rattle.bson_shape.specs.declared.leaf.Leaf.TheVariants as leaves
+use Rattle.bson_shape.specs.Leaf.{word}
+use Rattle.bson_shape.proofs.Words.{bare-word}
 use Rattle.bson_datum.specs.Value.{Value}
 use Rattle.bson_laws.specs.Means.{means}
 use Rattle.bson_laws.specs.Views.{views}
-use Rattle.bson_recast_run.specs.declared.status.Status.{Status}
 use Rattle.bson_recast_run.specs.declared.status.Status.TheVariants as statuses
-use Rattle.bson_recast_run.specs.Complete.{status_due, WritesExactly}
+use Rattle.bson_recast_run.specs.Complete.{recast_status, status_due, WritesExactly}
 use Rattle.bson_recast_run.specs.Due.{Request, recast_at, refused_with, usage_line, is_option, at_shape, request}
-use Rattle.bson_recast_run.specs.Ends as ends
-use Rattle.bson_recast_run.specs.Ends.{SourceChange, Silent}
-use Rattle.bson_recast_run.specs.Recasting.{Recasts}
-use Rattle.bson_recast_run.specs.Rows.{Told}
+use Rattle.bson_recast_run.specs.Run.{Run, AllQuiet}
+use Rattle.bson_recast_run.specs.Recasting.{Recast, writes, recast_of}
+use Rattle.bson_recast_run.specs.Rows.{IsDue, DoneRow, Told, IsAnswered}
 use Rattle.bson_recast_run.proofs.Inputs.{whole}
-use Rattle.bson_recast_run.proofs.Statuses.{status_read, status_of_value, status_written}
-use Rattle.bson_recast_run.proofs.Migrates.{reads_it, spells_it, sized, writes_it}
+use Rattle.bson_recast_run.proofs.Statuses.{status_read}
+use Rattle.bson_recast_run.proofs.Migrates.{recasts_it}
 
 -- ---- the words
 
@@ -45,26 +44,14 @@ begins_no_option false name rest e = refl
 begins_no_option true [] rest e = absurd cc
 begins_no_option true (c ∷ name) rest e = not_both (nat_eq 45 c) _ (bare_no_dash c name e)
 
+-- a bare name begins no option
+bare_no_option : (name : Utf8) → bare name ≡ true → is_option name ≡ false
+bare_no_option [] e = absurd cc
+bare_no_option (c ∷ name) e = not_both (nat_eq 45 c) _ (bare_no_dash c name e)
+
 -- no notation begins as an option does
 pub no_option : (s : Form) → is_option (text s) ≡ false
-no_option (leaf leaves.Any) = refl
-no_option (leaf leaves.Ignored) = refl
-no_option (leaf leaves.I8) = refl
-no_option (leaf leaves.I16) = refl
-no_option (leaf leaves.I32) = refl
-no_option (leaf leaves.I64) = refl
-no_option (leaf leaves.U8) = refl
-no_option (leaf leaves.U16) = refl
-no_option (leaf leaves.U32) = refl
-no_option (leaf leaves.U64) = refl
-no_option (leaf leaves.Bool) = refl
-no_option (leaf leaves.Double) = refl
-no_option (leaf leaves.Char) = refl
-no_option (leaf leaves.Str) = refl
-no_option (leaf leaves.String) = refl
-no_option (leaf leaves.Bytes) = refl
-no_option (leaf leaves.ByteBuf) = refl
-no_option (leaf leaves.Unit) = refl
+no_option (leaf l) = bare_no_option (word l) (bare-word l)
 no_option (optional s) = refl
 no_option (newtype name s) = begins_no_option (bare name) name _ refl
 no_option (unit_structure name) = begins_no_option (bare name) name _ refl
@@ -88,42 +75,40 @@ same_shape r s t a b = cc
 
 -- ---- the status
 
-module _ (s : Form) (t u : Tree) (d : Value) (words : List Utf8) (shape : IsShape s) (sound : IsSound t) (view : views s t ≡ Some d) (mean : means d ≡ Some u) (clean : IsSound u) (asked : request words ≡ recast_at s) where
-  pub is_done : status_due words (enc t) ≡ statuses.Done
-  is_done =
-      status_read words s (enc t) asked sound.fits
-      ∙ status_of_value s (enc t) d (reads_it s (enc t) t u d shape sound view mean clean refl)
-      ∙ status_written d u (spells_it s (enc t) t u d shape sound view mean clean refl) (let fits = clean.fits in omega (arith, sized s (enc t) t u d shape sound view mean clean refl, fits))
+-- what is appended where nothing is
+keeps_from : (a b : Option Bytes) → Appends a b [] → Keeps a b
+keeps_from None b h = tt
+keeps_from (Some x) None h = absurd h
+keeps_from (Some x) (Some y) h = h ∙ append-nil x
 
-  module _ (input : SourceChange) (out err : ends.SinkChange) (told : input.before ≡ Some (enc t)) where
-    exactly : Told words input statuses.Done out err → Appends out.before out.after (enc u) × Appends err.before err.after []
-    exactly h =
-        let given = h.due.given in
-        let is_shape : given.shape ≡ s = same_shape (request words) given.shape s given.for_shape.asked asked in
-        let is_input : given.bytes ≡ enc t = whole input.before input.after given.bytes (enc t) given.read.taken given.read.ended told in
-        let made : h.bytes ≡ enc u = writes_it s given.bytes t u d shape sound view mean clean is_input h.bytes (subst (λ x. Recasts x given.bytes h.bytes) is_shape h.due.answer) in
-        (subst (Appends out.before out.after) made h.out_grew, subst (Appends err.before err.after) h.due.no_line h.err_grew)
+module _ (s : Form) (t u : Tree) (d : Value) (r : Run) (shape : IsShape s) (sound : IsSound t) (view : views s t ≡ Some d) (mean : means d ≡ Some u) (clean : IsSound u) (asked : request r.words ≡ recast_at s) (told : r.input.before ≡ Some (enc t)) where
+  recast_is : recast_of s (enc t) ≡ writes (enc u)
+  recast_is = recasts_it s (enc t) t u d shape sound view mean clean refl
 
-    keeps_from : (a b : Option Bytes) → Appends a b [] → Keeps a b
-    keeps_from None b h = tt
-    keeps_from (Some x) None h = absurd h
-    keeps_from (Some x) (Some y) h = h ∙ append-nil x
+  is_done : status_due r.words (enc t) ≡ statuses.Done
+  is_done = status_read r.words s (enc t) asked sound.fits ∙ ap recast_status recast_is
 
-    pub writes_exactly : (status : Status) → (status ≡ status_due words (enc t)) ⊎ (status ≡ statuses.NoMemory) → (status ≡ statuses.Done → Told words input statuses.Done out err)
-        → (status ≡ statuses.NoMemory → Silent out err) → WritesExactly status out err (enc u)
-    writes_exactly status (inl is) done memory =
-        let now : status ≡ statuses.Done = is ∙ is_done in
-        let e = exactly (done now) in
-        inl (now, e.0, keeps_from err.before err.after e.1)
-    writes_exactly status (inr is) done memory = let m = memory is in inr (is, m.out_kept, m.err_kept)
+  exactly : r.status ≡ statuses.Done → Told r → Appends r.out.before r.out.after (enc u) × Appends r.err.before r.err.after []
+  exactly done h =
+      let row : DoneRow r.words r.input h.bytes h.line = subst (λ x. IsDue r.words r.input x h.bytes h.line) done h.due in
+      let given = row.given in
+      let is_shape : given.shape ≡ s = same_shape (request r.words) given.shape s given.for_shape.asked asked in
+      let is_input : given.bytes ≡ enc t = whole r.input.before r.input.after given.bytes (enc t) given.read.taken given.read.ended told in
+      let both : writes h.bytes ≡ writes (enc u) = sym row.answer ∙ (λ i. recast_of (is_shape i) (is_input i)) ∙ recast_is in
+      let made : h.bytes ≡ enc u = cc in
+      (subst (Appends r.out.before r.out.after) made h.out_grew, subst (Appends r.err.before r.err.after) row.no_line h.err_grew)
 
-completed : (o : Option Bytes) (doc : Bytes) (words : List Utf8) (status : Status) → o ≡ Some doc → IfSome o (λ bytes. (status ≡ status_due words bytes) ⊎ (status ≡ statuses.NoMemory)) → (status ≡ status_due words doc) ⊎ (status ≡ statuses.NoMemory)
-completed o doc words status is h = subst (λ p. IfSome p (λ bytes. (status ≡ status_due words bytes) ⊎ (status ≡ statuses.NoMemory))) is h
+  pub writes_exactly : IsAnswered r → (r.status ≡ status_due r.words (enc t)) ⊎ (r.status ≡ statuses.NoMemory) → WritesExactly r (enc u)
+  writes_exactly answers (inl is) =
+      let now : r.status ≡ statuses.Done = is ∙ is_done in
+      let e = exactly now (answers.done now) in
+      inl (now, e.0, keeps_from r.err.before r.err.after e.1)
+  writes_exactly answers (inr is) = inr (is, answers.no_memory is)
+
+completed : (o : Option Bytes) (doc : Bytes) (r : Run) → o ≡ Some doc → IfSome o (λ bytes. (r.status ≡ status_due r.words bytes) ⊎ (r.status ≡ statuses.NoMemory)) → (r.status ≡ status_due r.words doc) ⊎ (r.status ≡ statuses.NoMemory)
+completed o doc r is h = subst (λ p. IfSome p (λ bytes. (r.status ≡ status_due r.words bytes) ⊎ (r.status ≡ statuses.NoMemory))) is h
 
 -- Given the notation of a shape and the bytes of a sound document, whose value at the shape means a sound document, exactly that document is written, or nothing.
-pub headline : (s : Form) (t u : Tree) (d : Value) (words : List Utf8) → IsShape s → IsSound t → views s t ≡ Some d → means d ≡ Some u → IsSound u → words ≡ text s ∷ []
-    → (input : SourceChange) (out err : ends.SinkChange) → input.before ≡ Some (enc t) → ends.AllQuiet input out err → (status : Status)
-    → (ends.AllQuiet input out err → IfSome input.before (λ bytes. (status ≡ status_due words bytes) ⊎ (status ≡ statuses.NoMemory)))
-    → (status ≡ statuses.Done → Told words input statuses.Done out err) → (status ≡ statuses.NoMemory → Silent out err) → WritesExactly status out err (enc u)
-headline s t u d words shape sound view mean clean words_are input out err told quiet status complete done memory =
-    writes_exactly s t u d words shape sound view mean clean (requested s words shape words_are) input out err told status (completed input.before (enc t) words status told (complete quiet)) done memory
+pub headline : (s : Form) (t u : Tree) (d : Value) (r : Run) → IsAnswered r → IsShape s → IsSound t → views s t ≡ Some d → means d ≡ Some u → IsSound u → r.words ≡ text s ∷ [] → r.input.before ≡ Some (enc t) → AllQuiet r → WritesExactly r (enc u)
+headline s t u d r answers shape sound view mean clean words told quiet =
+    writes_exactly s t u d r shape sound view mean clean (requested s r.words shape words) told answers (completed r.input.before (enc t) r told (answers.complete quiet))

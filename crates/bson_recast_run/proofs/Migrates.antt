@@ -1,9 +1,9 @@
--- A sound document, whose value at a shape means a sound document, is recast as that document.
-use Rattle.std.proofs.Common.{◌≡◌, Result, Ok, Err, ap, sym, subst, ◌∙◌, inl, inr, arith}
-use Rattle.std.specs.Prelude.{◌⊎◌, ◌<◌, ℕ, length, Some}
+-- A sound document, whose value at a shape means a sound document, is recast as that document; and what is read is refused for its size alone.
+use Rattle.std.proofs.Common.{◌≡◌, Bool, true, false, Result, Ok, Err, refl, ap, sym, subst, ◌∙◌, inl, inr, arith}
+use Rattle.std.specs.Prelude.{◌⊎◌, ◌<◌, ◌≤◌, ℕ, nat_lt, length, Some}
 use Rattle.std.specs.Global.{Vec}
+use Rattle.std.proofs.lemmas.Bool.{le-ltb, ltb-true}
 use Rattle.bson_base.specs.Text.{Bytes}
-use Rattle.bson_base.specs.Outcome.{result_map}
 use Rattle.bson_base.specs.Sound.{IsSound, max_bytes}
 use Rattle.bson_base.specs.Tree.{Tree, enc}
 use Rattle.bson_shape.specs.Form.{Form}
@@ -22,54 +22,49 @@ use Rattle.bson_laws.proofs.Spelled.{spell_means}
 use Rattle.bson_ser_stream.specs.Writing.{IsDue, too_long_failure}
 use Rattle.bson_recast_run.specs.declared.recasting.RecastError.{RecastError}
 use Rattle.bson_recast_run.specs.declared.recasting.RecastError.TheVariants.{Read, Write, NoMemory}
-use Rattle.bson_recast_run.specs.Recasting.{Recasts, ReadRefuses, WriteRefuses, IsRecast, GivesBytes, IsTooLarge, IsForSize}
-
-abbrev read : Value → Result Value (Failure ReadFault)
-read d = Ok d
-
-abbrev wrote : Bytes → Writing Bytes
-wrote b = Ok b
-
-never_due : (f : Failure WriteFault) (t : Tree) (w : Writing Tree) → w ≡ Ok t → IsDue w f → ⊥
-never_due f t (Ok u) e h = h
-never_due f t (Err r) e h = absurd cc
+use Rattle.bson_recast_run.specs.Recasting.{Recast, writes, unread, written, recast_read, recast_of, Unwritten, IsRecast, GivesBytes, IsTooLarge, IsForSize}
 
 module _ (s : Form) (bytes : Bytes) (t u : Tree) (d : Value) (shape : IsShape s) (sound : IsSound t) (view : views s t ≡ Some d) (mean : means d ≡ Some u) (clean : IsSound u) (is : bytes ≡ enc t) where
-  pub reads_it : reads_document s bytes ≡ Ok d
+  reads_it : reads_document s bytes ≡ Ok d
   reads_it = ap (reads_document s) is ∙ views_reads s t d shape sound view
 
-  pub spells_it : spell_document d ≡ Ok u
-  spells_it = (spell_means d u mean clean).0
+  fits : size d ≤ max_bytes
+  fits = let whole = spell_means d u mean clean in let small = clean.fits in omega (arith, whole.1, small)
 
-  pub sized : size d ≡ length (enc u)
-  sized = (spell_means d u mean clean).1
+  -- what it comes to is the document
+  pub recasts_it : recast_of s bytes ≡ writes (enc u)
+  recasts_it = ap recast_read reads_it ∙ ap (written (nat_lt max_bytes (size d))) (spell_means d u mean clean).0 ∙ ap (λ b. written b (Ok u)) (le-ltb _ _ fits)
 
-  same : (e : Value) → reads_document s bytes ≡ Ok e → e ≡ d
-  same e h = let both : read e ≡ read d = sym h ∙ reads_it in cc
-
-  -- the bytes that are written are those of the document
-  pub writes_it : (w : Bytes) → Recasts s bytes w → w ≡ enc u
-  writes_it w h =
-      let both : wrote w ≡ wrote (enc u) = sym h.wrote ∙ ap (λ e. result_map enc (spell_document e)) (same h.value h.read) ∙ ap (result_map enc) spells_it in cc
-
-  pub never_unread : (f : Failure ReadFault) → ReadRefuses s bytes f → ⊥
-  never_unread f h = let both : Err f ≡ read d = sym h ∙ reads_it in cc
-
-  pub never_unwritten : (f : Failure WriteFault) → WriteRefuses s bytes f → ⊥
-  never_unwritten f h = by_cause h.refused where
-    by_cause : IsDue (spell_document h.value) f ⊎ ((f ≡ too_long_failure) × (max_bytes < size h.value)) → ⊥
-    by_cause (inl due) = never_due f u (spell_document h.value) (ap spell_document (same h.value h.read) ∙ spells_it) due
-    by_cause (inr long) = let fits = clean.fits in omega (arith, long.1, ap size (same h.value h.read), sized, fits)
-
-  pub migrates : (r : Result (Vec ℕ) RecastError) → IsRecast s bytes r → GivesBytes (enc u) r
-  migrates (Ok v) h = writes_it v.items h
-  migrates (Err (Read e)) h = never_unread (read_failure e) h
-  migrates (Err (Write e)) h = never_unwritten (write_failure e) h
+  pub migrates : (r : Result (Vec ℕ) RecastError) → IsRecast (recast_of s bytes) r → GivesBytes (enc u) r
+  migrates (Ok v) h = let both : writes v.items ≡ writes (enc u) = sym h ∙ recasts_it in cc
+  migrates (Err (Read e)) h = let both : unread (read_failure e) ≡ writes (enc u) = sym h ∙ recasts_it in cc
+  migrates (Err (Write e)) h = subst (λ x. Unwritten x (write_failure e)) recasts_it h
   migrates (Err NoMemory) h = tt
 
 -- ---- what was read is refused for its size alone
 
+-- what is due for a value that is not written
+value_refused : (d : Value) (b : Bool) (w : Writing Tree) (f : Failure WriteFault) → nat_lt max_bytes (size d) ≡ b → Unwritten (written b w) f → IsDue w f ⊎ ((f ≡ too_long_failure) × (max_bytes < size d))
+value_refused d b (Err r) f e (inl is) = inl is
+value_refused d b (Err r) f e (inr long) = inr (long.1, ltb-true _ _ (e ∙ long.0))
+value_refused d true (Ok t) f e (inl is) = absurd is
+value_refused d true (Ok t) f e (inr long) = inr (long.1, ltb-true _ _ e)
+value_refused d false (Ok t) f e h = absurd h
+
+-- a value that was read and is not written, for the refusal that is due or for its size
+pub record IsRefused (s : Form) (bytes : Bytes) (f : Failure WriteFault) : Type 0 where
+  pub value : Value
+  pub read : reads_document s bytes ≡ Ok value
+  pub refused : IsDue (spell_document value) f ⊎ ((f ≡ too_long_failure) × (max_bytes < size value))
+
+unwritten_is : (s : Form) (bytes : Bytes) (f : Failure WriteFault) (answer : Result Value (Failure ReadFault)) → reads_document s bytes ≡ answer → Unwritten (recast_read answer) f → IsRefused s bytes f
+unwritten_is s bytes f (Err e) is h = absurd h
+unwritten_is s bytes f (Ok d) is h = record { value = d; read = is; refused = value_refused d (nat_lt max_bytes (size d)) (spell_document d) f refl h }
+
 module _ (s : Form) (bytes : Bytes) (shape : IsShape s) where
+  abbrev read : Value → Result Value (Failure ReadFault)
+  read d = Ok d
+
   value_is : (d e : Value) → reads_document s bytes ≡ Ok d → reads_document s bytes ≡ Ok e → d ≡ e
   value_is d e p q = let both : read d ≡ read e = sym p ∙ q in cc
 
@@ -78,14 +73,14 @@ module _ (s : Form) (bytes : Bytes) (shape : IsShape s) where
   due_for_size (Ok t) f u due = absurd due
   due_for_size (Err r) f u due = inr (r.path, u.0, due ∙ ap (λ (x : WriteFault). placed r.path (bare x)) u.1, u.2)
 
-  too_large : IsWritable s → (f : Failure WriteFault) (h : WriteRefuses s bytes f) → IsTooLarge s bytes f
+  too_large : IsWritable s → (f : Failure WriteFault) (h : IsRefused s bytes f) → IsTooLarge s bytes f
   too_large writable f h = by_cause h.refused where
     by_cause : IsDue (spell_document h.value) f ⊎ ((f ≡ too_long_failure) × (max_bytes < size h.value)) → IsTooLarge s bytes f
     by_cause (inl due) = due_for_size (spell_document h.value) f (document_written s bytes h.value shape writable h.read) due
     by_cause (inr long) = inl (long.0, λ d is. subst (λ x. max_bytes < size x) (value_is h.value d h.read is) long.1)
 
-  pub for_size : IsWritable s → (r : Result (Vec ℕ) RecastError) → IsRecast s bytes r → IsForSize s bytes r
+  pub for_size : IsWritable s → (r : Result (Vec ℕ) RecastError) → IsRecast (recast_of s bytes) r → IsForSize s bytes r
   for_size writable (Ok v) h = tt
   for_size writable (Err (Read e)) h = tt
-  for_size writable (Err (Write e)) h = too_large writable (write_failure e) h
+  for_size writable (Err (Write e)) h = too_large writable (write_failure e) (unwritten_is s bytes (write_failure e) (reads_document s bytes) refl h)
   for_size writable (Err NoMemory) h = tt

@@ -1,9 +1,14 @@
--- The error of a recast, from the errors of its halves.
-use Rattle.std.proofs.Common.{◌≡◌, Result, Ok, Err, refl, sym, subst, inl, inr}
-use Rattle.std.specs.Prelude.{◌≢◌, ◌⊎◌}
-use Rattle.std.specs.Prelude.{◌<◌}
+-- What a recast comes to, from the answers of its halves.
+use Rattle.std.proofs.Common.{◌≡◌, Bool, true, false, Option, Some, None, Result, Ok, Err, refl, ap, sym, subst, ◌∙◌, inl, inr}
+use Rattle.std.specs.Prelude.{◌≢◌, ◌⊎◌, ◌<◌, ◌≤◌, nat_lt}
+use Rattle.std.specs.Global.{Vec}
+use Rattle.std.specs.Prelude.{ℕ}
+use Rattle.std.proofs.lemmas.Bool.{le-ltb, lt-ltb}
 use Rattle.bson_base.specs.Text.{Bytes}
+use Rattle.bson_base.specs.Outcome.{result_map}
 use Rattle.bson_base.specs.Sound.{max_bytes}
+use Rattle.bson_base.specs.Tree.{Tree, enc}
+use Rattle.bson_base.proofs.Outcomes.{map_ok}
 use Rattle.bson_shape.specs.Form.{Form}
 use Rattle.bson_datum.specs.Value.{Value}
 use Rattle.bson_datum.specs.Refusal.{ReadFault, WriteFault, Failure, no_memory, bare, placed}
@@ -11,29 +16,50 @@ use Rattle.bson_datum.specs.ErrorView.{read_failure, write_failure}
 use Rattle.bson_datum.specs.declared.de.Error as de
 use Rattle.bson_datum.specs.declared.ser.Error as ser
 use Rattle.bson_laws.specs.Reads.{reads_document}
-use Rattle.bson_laws.specs.Spell.{spell_document, size}
+use Rattle.bson_laws.specs.Spell.{Writing, spell_document, size}
 use Rattle.bson_de_raw.specs.Gives.{FailsAs}
 use Rattle.bson_ser_stream.specs.Writing.{Fails, IsDue, too_long_failure}
 use Rattle.bson_recast_run.specs.declared.recasting.RecastError.{RecastError}
 use Rattle.bson_recast_run.specs.declared.recasting.RecastError.TheVariants.{Read, Write, NoMemory}
-use Rattle.bson_recast_run.specs.Recasting.{IsRecast, IsReadError, IsWriteError, WriteRefuses}
+use Rattle.bson_recast_run.specs.Recasting.{Recast, writes, unread, written, recast_read, recast_of, Unwritten, IsRecast, IsReadError, IsWriteError}
+
+-- ---- from the halves to the whole
+
+-- a value that is written within the limit
+within : (b : Bool) (w : Writing Tree) (bytes : Bytes) → b ≡ false → result_map enc w ≡ Ok bytes → written b w ≡ writes bytes
+within true w bytes e is = absurd cc
+within false (Ok t) bytes e is = let same : enc t ≡ bytes = cc in ap writes same
+within false (Err r) bytes e is = absurd cc
+
+pub writes_value : (s : Form) (bytes : Bytes) (d : Value) (v : Vec ℕ) → reads_document s bytes ≡ Ok d → result_map enc (spell_document d) ≡ Ok v.items → size d ≤ max_bytes → recast_of s bytes ≡ writes v.items
+writes_value s bytes d v read wrote fits = ap recast_read read ∙ within (nat_lt max_bytes (size d)) (spell_document d) v.items (le-ltb _ _ fits) wrote
 
 refuses : (answer : Result Value (Failure ReadFault)) (f : Failure ReadFault) → f ≢ no_memory → FailsAs f answer → answer ≡ Err f
 refuses answer no_memory n h = absurd (n refl)
 refuses answer (bare f) n h = h
 refuses answer (placed path f) n h = h
 
-pub read_error : (s : Form) (bytes : Bytes) (e : de.Error) (r : RecastError) → FailsAs (read_failure e) (reads_document s bytes) → IsReadError e r → IsRecast s bytes (Err r)
+pub read_error : (s : Form) (bytes : Bytes) (e : de.Error) (r : RecastError) → FailsAs (read_failure e) (reads_document s bytes) → IsReadError e r → IsRecast (recast_of s bytes) (Err r)
 read_error s bytes e NoMemory h is = tt
-read_error s bytes e (Read d) h is = subst (λ x. reads_document s bytes ≡ Err (read_failure x)) (sym is.0) (refuses (reads_document s bytes) (read_failure e) is.1 h)
+read_error s bytes e (Read d) h is = ap recast_read (subst (λ x. reads_document s bytes ≡ Err (read_failure x)) (sym is.0) (refuses (reads_document s bytes) (read_failure e) is.1 h))
 read_error s bytes e (Write d) h is = absurd is
 
-due : (d : Value) (f : Failure WriteFault) → f ≢ no_memory → Fails (size d) (spell_document d) f → IsDue (spell_document d) f ⊎ ((f ≡ too_long_failure) × (max_bytes < size d))
-due d f n (inl none) = absurd (n none)
-due d f n (inr h) = h
+-- a value that is refused, or is too long
+refused_or : (b : Bool) (w : Writing Tree) (f : Failure WriteFault) → IsDue w f ⊎ ((b ≡ true) × (f ≡ too_long_failure)) → Unwritten (written b w) f
+refused_or b (Err r) f h = h
+refused_or true (Ok t) f (inl due) = absurd due
+refused_or true (Ok t) f (inr long) = inr long
+refused_or false (Ok t) f (inl due) = absurd due
+refused_or false (Ok t) f (inr long) = absurd (let e = long.0 in cc)
 
-pub write_error : (s : Form) (bytes : Bytes) (d : Value) (e : ser.Error) (r : RecastError) → reads_document s bytes ≡ Ok d → Fails (size d) (spell_document d) (write_failure e) → IsWriteError e r → IsRecast s bytes (Err r)
+due : (d : Value) (f : Failure WriteFault) → f ≢ no_memory → Fails (size d) (spell_document d) f → IsDue (spell_document d) f ⊎ ((nat_lt max_bytes (size d) ≡ true) × (f ≡ too_long_failure))
+due d f n (inl none) = absurd (n none)
+due d f n (inr (inl h)) = inl h
+due d f n (inr (inr h)) = inr (lt-ltb _ _ h.1, h.0)
+
+pub write_error : (s : Form) (bytes : Bytes) (d : Value) (e : ser.Error) (r : RecastError) → reads_document s bytes ≡ Ok d → Fails (size d) (spell_document d) (write_failure e) → IsWriteError e r → IsRecast (recast_of s bytes) (Err r)
 write_error s bytes d e NoMemory read h is = tt
 write_error s bytes d e (Write x) read h is =
-    subst (λ y. WriteRefuses s bytes (write_failure y)) (sym is.0) (record { value = d; read = read; refused = due d (write_failure e) is.1 h })
+    let answer : Unwritten (recast_of s bytes) (write_failure e) = subst (λ a. Unwritten (recast_read a) (write_failure e)) (sym read) (refused_or (nat_lt max_bytes (size d)) (spell_document d) (write_failure e) (due d (write_failure e) is.1 h)) in
+    subst (λ y. Unwritten (recast_of s bytes) (write_failure y)) (sym is.0) answer
 write_error s bytes d e (Read x) read h is = absurd is

@@ -1,11 +1,10 @@
 -- A source and a sink before and after a call.
 use Rattle.std.specs.Prelude.{ℕ}
 use Rattle.std.specs.declared.option.Option.{Option}
-use Rattle.std.specs.Io.KnownBytes.{Keeps, Consumes, IsAtEnd}
-use Rattle.std.specs.Prelude.{◌≡◌, ◌≤◌, ◌<◌, length}
+use Rattle.std.specs.Io.KnownBytes.{Consumes, IsAtEnd}
+use Rattle.std.specs.Prelude.{◌≤◌, length}
 use Rattle.bson_base.specs.Sound.{max_bytes}
 use Rattle.bson_base.specs.Text.{Bytes}
-use Rattle.bson_io.specs.Ends.{last_count}
 
 -- a source: the bytes that were left, where it tells them, and how often it failed
 pub record SourceChange : Type 0 where
@@ -33,16 +32,3 @@ pub record ReadAs (input : SourceChange) (bytes : Bytes) : Type 0 where
   pub taken : Consumes input.before input.after bytes
   pub ended : IsAtEnd input.after
   pub most : length bytes ≤ max_bytes
-
--- No count rose, and no sink's count stands at its last value.
-pub record AllQuiet (input : SourceChange) (to_out to_err : SinkChange) : Type 0 where
-  pub source : input.faults_after ≡ input.faults_before
-  pub out : to_out.faults_after ≡ to_out.faults_before
-  pub out_below : to_out.faults_after < last_count
-  pub err : to_err.faults_after ≡ to_err.faults_before
-  pub err_below : to_err.faults_after < last_count
-
--- Nothing was written.
-pub record Silent (to_out to_err : SinkChange) : Type 0 where
-  pub out_kept : Keeps to_out.before to_out.after
-  pub err_kept : Keeps to_err.before to_err.after

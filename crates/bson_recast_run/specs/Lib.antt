@@ -3,6 +3,7 @@ pub mod Recasting
 pub mod Due
 pub mod Asked
 pub mod Ends
-pub mod Rows
+pub mod Run
 pub mod Complete
+pub mod Rows
 pub mod Prepared

@@ -8,13 +8,13 @@ use Rattle.bson_datum.specs.Refusal as refusal
 use Rattle.bson_recast_run.specs.declared.status.Status.{Status}
 use Rattle.bson_recast_run.specs.declared.status.Status.TheVariants as statuses
 use Rattle.bson_recast_run.specs.Due.{read_refused_line, write_refused_line, too_long_line, source_fault_line}
-use Rattle.bson_recast_run.specs.Recasting.{Recasts, ReadRefuses, WriteRefuses}
+use Rattle.bson_recast_run.specs.Recasting.{recast_of, writes, unread, Unwritten}
 
 -- the status, the bytes and the line for an input at a shape
 abbrev pub Answers : Form → Bytes → Status → Bytes → Utf8 → Type 0
-Answers s bytes statuses.Done out line = Recasts s bytes out × (line ≡ [])
-Answers s bytes statuses.ReadRefused out line = (f : refusal.Failure refusal.ReadFault) × ReadRefuses s bytes f × (line ≡ read_refused_line f) × (out ≡ [])
-Answers s bytes statuses.WriteRefused out line = (f : refusal.Failure refusal.WriteFault) × WriteRefuses s bytes f × (line ≡ write_refused_line f) × (out ≡ [])
+Answers s bytes statuses.Done out line = (recast_of s bytes ≡ writes out) × (line ≡ [])
+Answers s bytes statuses.ReadRefused out line = (f : refusal.Failure refusal.ReadFault) × (recast_of s bytes ≡ unread f) × (line ≡ read_refused_line f) × (out ≡ [])
+Answers s bytes statuses.WriteRefused out line = (f : refusal.Failure refusal.WriteFault) × Unwritten (recast_of s bytes) f × (line ≡ write_refused_line f) × (out ≡ [])
 Answers s bytes status out line = ⊥
 
 -- the status, the bytes and the line where the input was not read to its end

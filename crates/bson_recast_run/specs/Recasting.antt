@@ -1,48 +1,65 @@
--- What recasting a document's bytes at a shape answers.
-use Rattle.std.specs.Prelude.{◌≡◌, ◌≢◌, ◌⊎◌, ℕ, ◌<◌, ◌≤◌, Result, Ok, Err}
+-- What recasting a document's bytes at a shape comes to.
+use Rattle.std.specs.Prelude.{◌≡◌, ◌≢◌, ◌⊎◌, ℕ, ◌<◌, Bool, true, false, nat_lt, Option, Some, None, Result, Ok, Err}
 use Rattle.std.specs.Global.{Vec}
 use Rattle.bson_base.specs.Text.{Bytes}
-use Rattle.bson_base.specs.Outcome.{result_map}
 use Rattle.bson_base.specs.Sound.{max_bytes, max_binary}
-use Rattle.bson_base.specs.Tree.{enc}
+use Rattle.bson_base.specs.Tree.{Tree, enc}
 use Rattle.bson_shape.specs.Form.{Form}
 use Rattle.bson_datum.specs.Value.{Value}
 use Rattle.bson_datum.specs.Cause.{binary_too_long}
-use Rattle.bson_datum.specs.Refusal.{Path, ReadFault, WriteFault, unwritable, Failure, no_memory, bare, placed}
+use Rattle.bson_datum.specs.Refusal.{Path, Refusal, ReadFault, WriteFault, unwritable, Failure, no_memory, bare, placed, with_path}
 use Rattle.bson_datum.specs.declared.de.Error as de
 use Rattle.bson_datum.specs.declared.ser.Error as ser
 use Rattle.bson_datum.specs.ErrorView.{read_failure, write_failure}
 use Rattle.bson_laws.specs.Reads.{reads_document}
-use Rattle.bson_laws.specs.Spell.{spell_document, size}
-use Rattle.bson_ser_stream.specs.Writing.{IsDue, too_long_failure}
+use Rattle.bson_laws.specs.Spell.{Writing, spell_document, size}
+use Rattle.bson_ser_stream.specs.Writing.{too_long_failure}
 use Rattle.bson_recast_run.specs.declared.recasting.RecastError.{RecastError}
 use Rattle.bson_recast_run.specs.declared.recasting.RecastError.TheVariants.{Read, Write, NoMemory}
 
--- The bytes are read at the shape as a value, which is written as these bytes.
-pub record Recasts (s : Form) (bytes written : Bytes) : Type 0 where
-  pub value : Value
-  pub read : reads_document s bytes ≡ Ok value
-  pub wrote : result_map enc (spell_document value) ≡ Ok written
-  pub fits : size value ≤ max_bytes
+-- what a recast comes to
+pub data Recast : Type 0 where
+  -- these bytes are written
+  writes : Bytes → Recast
+  -- the bytes are not read at the shape, for this failure
+  unread : Failure ReadFault → Recast
+  -- what is read is not written: for this refusal, where one is due, or for its size, where it takes more bytes than a document may
+  unwritten : (due : Option (Refusal WriteFault)) → (too_long : Bool) → Recast
 
--- The bytes are not read at the shape, for this failure.
-abbrev pub ReadRefuses : Form → Bytes → Failure ReadFault → Type 0
-ReadRefuses s bytes f = reads_document s bytes ≡ Err f
+-- the recast of a value that is too long or not, by the tree that it is written as
+abbrev pub written : (too_long : Bool) → Writing Tree → Recast
+written too_long (Err r) = unwritten (Some r) too_long
+written true (Ok t) = unwritten None true
+written false (Ok t) = writes (enc t)
 
--- The bytes are read at the shape as a value, which is not written, for this failure: the refusal that is due, or its size.
-pub record WriteRefuses (s : Form) (bytes : Bytes) (f : Failure WriteFault) : Type 0 where
-  pub value : Value
-  pub read : reads_document s bytes ≡ Ok value
-  pub refused : IsDue (spell_document value) f ⊎ ((f ≡ too_long_failure) × (max_bytes < size value))
+-- the recast of what was read
+abbrev pub recast_read : Result Value (Failure ReadFault) → Recast
+recast_read (Err f) = unread f
+recast_read (Ok d) = written (nat_lt max_bytes (size d)) (spell_document d)
 
--- the answer of a recast; want of memory is free
-abbrev pub IsRecast : Form → Bytes → Result (Vec ℕ) RecastError → Type 0
-IsRecast s bytes (Ok v) = Recasts s bytes v.items
-IsRecast s bytes (Err (Read e)) = ReadRefuses s bytes (read_failure e)
-IsRecast s bytes (Err (Write e)) = WriteRefuses s bytes (write_failure e)
-IsRecast s bytes (Err NoMemory) = Unit {0}
+-- the recast of a document's bytes at a shape
+abbrev pub recast_of : Form → Bytes → Recast
+recast_of s bytes = recast_read (reads_document s bytes)
 
--- these bytes, or want of memory
+-- the refusal that is due, with its path
+abbrev pub Is : Option (Refusal WriteFault) → Failure WriteFault → Type 0
+Is None f = ⊥
+Is (Some r) f = f ≡ with_path r
+
+-- What is read is not written, for this failure. Where a refusal is due and the whole is too long, it is either.
+abbrev pub Unwritten : Recast → Failure WriteFault → Type 0
+Unwritten (writes bytes) f = ⊥
+Unwritten (unread e) f = ⊥
+Unwritten (unwritten due too_long) f = Is due f ⊎ ((too_long ≡ true) × (f ≡ too_long_failure))
+
+-- the answer of a recast; out of memory is free
+abbrev pub IsRecast : Recast → Result (Vec ℕ) RecastError → Type 0
+IsRecast r (Ok v) = r ≡ writes v.items
+IsRecast r (Err (Read e)) = r ≡ unread (read_failure e)
+IsRecast r (Err (Write e)) = Unwritten r (write_failure e)
+IsRecast r (Err NoMemory) = Unit {0}
+
+-- these bytes, or out of memory
 abbrev pub GivesBytes : Bytes → Result (Vec ℕ) RecastError → Type 0
 GivesBytes bytes (Ok v) = v.items ≡ bytes
 GivesBytes bytes (Err (Read e)) = ⊥
@@ -62,13 +79,13 @@ IsForSize s bytes (Err (Read e)) = Unit {0}
 IsForSize s bytes (Err (Write e)) = IsTooLarge s bytes (write_failure e)
 IsForSize s bytes (Err NoMemory) = Unit {0}
 
--- an error of reading, unless it is want of memory
+-- an error of reading, unless it is out of memory
 abbrev pub IsReadError : de.Error → RecastError → Type 0
 IsReadError e NoMemory = read_failure e ≡ no_memory
 IsReadError e (Read d) = (d ≡ e) × (read_failure e ≢ no_memory)
 IsReadError e (Write d) = ⊥
 
--- an error of writing, unless it is want of memory
+-- an error of writing, unless it is out of memory
 abbrev pub IsWriteError : ser.Error → RecastError → Type 0
 IsWriteError e NoMemory = write_failure e ≡ no_memory
 IsWriteError e (Write d) = (d ≡ e) × (write_failure e ≢ no_memory)

@@ -1,17 +1,19 @@
 -- The rows of the table of answers: when each status comes, and what was written then.
-use Rattle.std.specs.Prelude.{◌≡◌, ◌⊎◌, List, []}
+use Rattle.std.specs.Prelude.{◌≡◌, ◌+◌, ◌≤◌, ◌⊎◌, List, [], IfSome}
 use Rattle.std.specs.Io.KnownBytes.{Keeps, Appends}
 use Rattle.bson_base.specs.Sound.{max_bytes}
 use Rattle.bson_base.specs.Text.{Bytes, Utf8}
-use Rattle.bson_io.specs.Ends.{Rose, RoseOrLast, AppendsPrefix, TakesAtMost, TakesMore, FitsIn}
+use Rattle.bson_io.specs.Ends.{Rose, RoseOrLast, AppendsPrefix, TakesAtMost, TakesExactly, FitsIn}
 use Rattle.bson_shape.specs.Form.{Form}
 use Rattle.bson_datum.specs.Refusal.{ReadFault, WriteFault, Failure}
 use Rattle.bson_recast_run.specs.declared.status.Status.{Status}
 use Rattle.bson_recast_run.specs.declared.status.Status.TheVariants as statuses
-use Rattle.bson_recast_run.specs.Recasting.{Recasts, ReadRefuses, WriteRefuses}
+use Rattle.bson_recast_run.specs.Recasting.{recast_of, writes, unread, Unwritten}
+use Rattle.bson_recast_run.specs.Run.{Run, AllQuiet, Silent}
+use Rattle.bson_recast_run.specs.Complete.{status_due}
 use Rattle.bson_recast_run.specs.Asked.{AsksFor, RefusesWords}
 use Rattle.bson_recast_run.specs.Due.{read_refused_line, write_refused_line, too_long_line, source_fault_line}
-use Rattle.bson_recast_run.specs.Ends.{SourceChange, SinkChange, ReadAs}
+use Rattle.bson_recast_run.specs.Ends.{SourceChange, ReadAs}
 
 -- The words are the notation of this shape, and these bytes were the whole input.
 pub record Asked (words : List Utf8) (input : SourceChange) : Type 0 where
@@ -23,7 +25,7 @@ pub record Asked (words : List Utf8) (input : SourceChange) : Type 0 where
 -- The recast writes this, and nothing is told.
 pub record DoneRow (words : List Utf8) (input : SourceChange) (out line : Bytes) : Type 0 where
   pub given : Asked words input
-  pub answer : Recasts given.shape given.bytes out
+  pub answer : recast_of given.shape given.bytes ≡ writes out
   pub no_line : line ≡ []
 
 -- The words ask for no recast, as this line tells; the input was not touched.
@@ -36,15 +38,15 @@ pub record UsageRow (words : List Utf8) (input : SourceChange) (out line : Bytes
 pub record ReadRefusedRow (words : List Utf8) (input : SourceChange) (out line : Bytes) : Type 0 where
   pub given : Asked words input
   pub failure : Failure ReadFault
-  pub answer : ReadRefuses given.shape given.bytes failure
+  pub answer : recast_of given.shape given.bytes ≡ unread failure
   pub says : line ≡ read_refused_line failure
   pub nothing : out ≡ []
 
--- More bytes were taken than a document may have.
+-- One byte more was taken than a document may have.
 pub record TooLongRow (words : List Utf8) (input : SourceChange) (out line : Bytes) : Type 0 where
   pub shape : Form
   pub for_shape : AsksFor words shape
-  pub taken : TakesMore max_bytes input.before input.after
+  pub taken : TakesExactly (max_bytes + 1) input.before input.after
   pub says : line ≡ too_long_line
   pub nothing : out ≡ []
 
@@ -52,7 +54,7 @@ pub record TooLongRow (words : List Utf8) (input : SourceChange) (out line : Byt
 pub record WriteRefusedRow (words : List Utf8) (input : SourceChange) (out line : Bytes) : Type 0 where
   pub given : Asked words input
   pub failure : Failure WriteFault
-  pub answer : WriteRefuses given.shape given.bytes failure
+  pub answer : Unwritten (recast_of given.shape given.bytes) failure
   pub says : line ≡ write_refused_line failure
   pub nothing : out ≡ []
 
@@ -75,22 +77,39 @@ IsDue words input statuses.SourceFault out line = SourceFaultRow words input out
 IsDue words input statuses.SinkFault out line = ⊥
 IsDue words input statuses.NoMemory out line = ⊥
 
--- What was due with this status was written, all of it and nothing else.
-pub record Told (words : List Utf8) (input : SourceChange) (status : Status) (to_out to_err : SinkChange) : Type 0 where
+-- What was due with the status was written, all of it and nothing else.
+pub record Told (r : Run) : Type 0 where
   pub bytes : Bytes
   pub line : Bytes
-  pub due : IsDue words input status bytes line
-  pub out_grew : Appends to_out.before to_out.after bytes
-  pub err_grew : Appends to_err.before to_err.after line
+  pub due : IsDue r.words r.input r.status bytes line
+  pub out_grew : Appends r.out.before r.out.after bytes
+  pub err_grew : Appends r.err.before r.err.after line
 
 -- Some status was due; a sink's count rose or stands at its last value; each sink grew by a first part of what was due; and
 -- there was not room for all of it that a sink told of.
-pub record CutShort (words : List Utf8) (input : SourceChange) (to_out to_err : SinkChange) : Type 0 where
+pub record CutShort (r : Run) : Type 0 where
   pub status : Status
   pub bytes : Bytes
   pub line : Bytes
-  pub due : IsDue words input status bytes line
-  pub cause : RoseOrLast to_out.faults_before to_out.faults_after ⊎ RoseOrLast to_err.faults_before to_err.faults_after
-  pub out_grew : AppendsPrefix to_out.before to_out.after bytes
-  pub err_grew : AppendsPrefix to_err.before to_err.after line
-  pub no_room : FitsIn to_out.room bytes → FitsIn to_err.room line → ⊥
+  pub due : IsDue r.words r.input status bytes line
+  pub cause : RoseOrLast r.out.faults_before r.out.faults_after ⊎ RoseOrLast r.err.faults_before r.err.faults_after
+  pub out_grew : AppendsPrefix r.out.before r.out.after bytes
+  pub err_grew : AppendsPrefix r.err.before r.err.after line
+  pub no_room : FitsIn r.out.room bytes → FitsIn r.err.room line → ⊥
+
+-- The table of answers: each status comes only where its row holds, with exactly what the row says on the two sinks.
+pub record IsAnswered (r : Run) : Type 0 where
+  pub done : r.status ≡ statuses.Done → Told r
+  pub usage : r.status ≡ statuses.Usage → Told r
+  pub read_refused : r.status ≡ statuses.ReadRefused → Told r
+  pub write_refused : r.status ≡ statuses.WriteRefused → Told r
+  -- a fault only where a count rose, or for a sink stands at its last value
+  pub source_fault : r.status ≡ statuses.SourceFault → Told r
+  pub sink_fault : r.status ≡ statuses.SinkFault → CutShort r
+  pub no_memory : r.status ≡ statuses.NoMemory → Silent r
+  -- where no count rose, the status is the one that is due, or out of memory
+  pub complete : AllQuiet r → IfSome r.input.before (λ bytes. (r.status ≡ status_due r.words bytes) ⊎ (r.status ≡ statuses.NoMemory))
+  -- no count falls
+  pub input_later : r.input.faults_before ≤ r.input.faults_after
+  pub out_later : r.out.faults_before ≤ r.out.faults_after
+  pub err_later : r.err.faults_before ≤ r.err.faults_after

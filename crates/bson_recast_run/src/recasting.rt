@@ -6,7 +6,7 @@ ghost use Rattle.bson_laws.specs.Views.{views};
 ghost use Rattle.bson_laws.specs.Means.{means};
 ghost use Rattle.bson_laws.specs.Plain.{IsPlain};
 ghost use Rattle.bson_laws.specs.Writable.{IsWritable};
-ghost use Rattle.bson_recast_run.specs.Recasting.{IsRecast, GivesBytes, IsForSize, IsReadError, IsWriteError};
+ghost use Rattle.bson_recast_run.specs.Recasting.{recast_of, IsRecast, GivesBytes, IsForSize, IsReadError, IsWriteError};
 
 use bson_datum::{Shape, de, ser};
 use bson_de_raw::from_slice_at;
@@ -37,7 +37,7 @@ pub enum RecastError {
 /// 16777216 bytes.
 pub fn recast(alloc: Global, shape: &Shape, bytes: &[u8]) -> Result<Vec<u8>, RecastError>
     // What is read at the shape is written.
-    ensures exact { IsRecast shape.now bytes.now result }
+    ensures exact { IsRecast (recast_of shape.now bytes.now) result }
     // A sound document, whose value at a plain shape means a sound document, becomes that document.
     ensures migrates { (t u : Tree) (d : Value) → IsPlain shape.now → IsSound t → views shape.now t ≡ Some d → means d ≡ Some u → IsSound u
         → bytes.now ≡ enc t → GivesBytes (enc u) result }
@@ -50,7 +50,7 @@ pub fn recast(alloc: Global, shape: &Shape, bytes: &[u8]) -> Result<Vec<u8>, Rec
 
 // `recast`, but for its other promises.
 fn through(alloc: Global, shape: &Shape, bytes: &[u8]) -> Result<Vec<u8>, RecastError>
-    ensures { IsRecast shape.now bytes.now result }
+    ensures { IsRecast (recast_of shape.now bytes.now) result }
 {
     let datum = match from_slice_at(alloc, shape, bytes) {
         Ok(datum) => datum,

@@ -1,5 +1,5 @@
 // The run: the words are judged, the input is read to its end, the recast runs, and all is written.
-ghost use Rattle.std.specs.Prelude.{◌≡◌, ◌≢◌, ◌≤◌, ◌++◌, ◌⊎◌, [], ◌∷◌, length, map, string_bytes, IfSome, IfOk, IfErr, IsOk, OnOk, OnErr, Some, false};
+ghost use Rattle.std.specs.Prelude.{◌≡◌, ◌≤◌, ◌⊎◌, [], ◌∷◌, map, string_bytes, IfOk, IsOk, OnOk, OnErr, Some, false};
 ghost use Rattle.std.specs.Io.KnownBytes.{Appends};
 ghost use Rattle.bson_base.specs.Sound.{IsSound};
 ghost use Rattle.bson_base.specs.Tree.{Tree, enc};
@@ -13,9 +13,10 @@ ghost use Rattle.bson_laws.specs.Means.{means};
 ghost use Rattle.bson_laws.specs.Plain.{IsPlain};
 ghost use Rattle.bson_recast_run.specs.Asked.{Asks};
 ghost use Rattle.bson_recast_run.specs.Due.{is_option, line_at, line_for};
-ghost use Rattle.bson_recast_run.specs.Ends.{source_change, sink_change, AllQuiet, Silent};
-ghost use Rattle.bson_recast_run.specs.Rows.{IsDue, Told, CutShort};
-ghost use Rattle.bson_recast_run.specs.Complete.{status_due, WritesExactly};
+ghost use Rattle.bson_recast_run.specs.Ends.{source_change, sink_change};
+ghost use Rattle.bson_recast_run.specs.Run.{run_of, AllQuiet};
+ghost use Rattle.bson_recast_run.specs.Rows.{IsDue, IsAnswered};
+ghost use Rattle.bson_recast_run.specs.Complete.{WritesExactly};
 ghost use Rattle.bson_recast_run.specs.Prepared.{Answers, Reports};
 
 use crate::recasting::{RecastError, recast};
@@ -164,24 +165,8 @@ fn carry_out<I: Source, O: Sink, E: Sink>(
     out: &mut O,
     err: &mut E,
 ) -> Status
-    ensures done { result ≡ Status.Done → Told (map string_bytes words.now) (source_change I.left I.faults input.old input.new) Status.Done
-        (sink_change O.written O.room O.faults out.old out.new) (sink_change E.written E.room E.faults err.old err.new) }
-    ensures read_refused { result ≡ Status.ReadRefused → Told (map string_bytes words.now) (source_change I.left I.faults input.old input.new) Status.ReadRefused
-        (sink_change O.written O.room O.faults out.old out.new) (sink_change E.written E.room E.faults err.old err.new) }
-    ensures write_refused { result ≡ Status.WriteRefused → Told (map string_bytes words.now) (source_change I.left I.faults input.old input.new) Status.WriteRefused
-        (sink_change O.written O.room O.faults out.old out.new) (sink_change E.written E.room E.faults err.old err.new) }
-    ensures usage { result ≡ Status.Usage → Told (map string_bytes words.now) (source_change I.left I.faults input.old input.new) Status.Usage
-        (sink_change O.written O.room O.faults out.old out.new) (sink_change E.written E.room E.faults err.old err.new) }
-    ensures source_fault { result ≡ Status.SourceFault → Told (map string_bytes words.now) (source_change I.left I.faults input.old input.new) Status.SourceFault
-        (sink_change O.written O.room O.faults out.old out.new) (sink_change E.written E.room E.faults err.old err.new) }
-    ensures sink_fault { result ≡ Status.SinkFault → CutShort (map string_bytes words.now) (source_change I.left I.faults input.old input.new)
-        (sink_change O.written O.room O.faults out.old out.new) (sink_change E.written E.room E.faults err.old err.new) }
-    ensures no_memory { result ≡ Status.NoMemory → Silent (sink_change O.written O.room O.faults out.old out.new) (sink_change E.written E.room E.faults err.old err.new) }
-    ensures complete { AllQuiet (source_change I.left I.faults input.old input.new) (sink_change O.written O.room O.faults out.old out.new) (sink_change E.written E.room E.faults err.old err.new)
-        → IfSome (I.left input.old) (λ bytes. (result ≡ status_due (map string_bytes words.now) bytes) ⊎ (result ≡ Status.NoMemory)) }
-    ensures input_later { I.faults input.old ≤ I.faults input.new }
-    ensures out_later { O.faults out.old ≤ O.faults out.new }
-    ensures err_later { E.faults err.old ≤ E.faults err.new }
+    ensures { IsAnswered (run_of (map string_bytes words.now) (source_change I.left I.faults input.old input.new)
+        (sink_change O.written O.room O.faults out.old out.new) (sink_change E.written E.room E.faults err.old err.new) result) }
 {
     let answer = match prepare(alloc, words, input) {
         Ok(answer) => answer,
@@ -213,37 +198,16 @@ pub fn run<I: Source, O: Sink, E: Sink>(
     err: &mut E,
 ) -> Status
     // Given the notation of a plain shape and the bytes of a sound document whose value at the shape means a sound document, it
-    // writes exactly the bytes of that document, or reports want of memory.
-    ensures headline { (s : Form) (t u : Tree) (d : Value) → IsShape s → IsPlain s → IsSound t → views s t ≡ Some d → means d ≡ Some u → IsSound u
-        → map string_bytes words.now ≡ text s ∷ [] → I.left input.old ≡ Some (enc t)
-        → AllQuiet (source_change I.left I.faults input.old input.new) (sink_change O.written O.room O.faults out.old out.new) (sink_change E.written E.room E.faults err.old err.new)
-        → WritesExactly result (sink_change O.written O.room O.faults out.old out.new) (sink_change E.written E.room E.faults err.old err.new) (enc u) }
+    // writes exactly the bytes of that document, or reports that memory ran out.
+    ensures headline { let r = run_of (map string_bytes words.now) (source_change I.left I.faults input.old input.new)
+        (sink_change O.written O.room O.faults out.old out.new) (sink_change E.written E.room E.faults err.old err.new) result in
+        (s : Form) (t u : Tree) (d : Value) → IsShape s → IsPlain s → IsSound t → views s t ≡ Some d → means d ≡ Some u → IsSound u
+        → r.words ≡ text s ∷ [] → r.input.before ≡ Some (enc t) → AllQuiet r → WritesExactly r (enc u) }
 
-    // Each status only where its row holds, with exactly what the row says on the two sinks.
-    ensures done { result ≡ Status.Done → Told (map string_bytes words.now) (source_change I.left I.faults input.old input.new) Status.Done
-        (sink_change O.written O.room O.faults out.old out.new) (sink_change E.written E.room E.faults err.old err.new) }
-    ensures read_refused { result ≡ Status.ReadRefused → Told (map string_bytes words.now) (source_change I.left I.faults input.old input.new) Status.ReadRefused
-        (sink_change O.written O.room O.faults out.old out.new) (sink_change E.written E.room E.faults err.old err.new) }
-    ensures write_refused { result ≡ Status.WriteRefused → Told (map string_bytes words.now) (source_change I.left I.faults input.old input.new) Status.WriteRefused
-        (sink_change O.written O.room O.faults out.old out.new) (sink_change E.written E.room E.faults err.old err.new) }
-    ensures usage { result ≡ Status.Usage → Told (map string_bytes words.now) (source_change I.left I.faults input.old input.new) Status.Usage
-        (sink_change O.written O.room O.faults out.old out.new) (sink_change E.written E.room E.faults err.old err.new) }
-
-    // A fault only where a count rose, or for a sink stands at its last value.
-    ensures source_fault { result ≡ Status.SourceFault → Told (map string_bytes words.now) (source_change I.left I.faults input.old input.new) Status.SourceFault
-        (sink_change O.written O.room O.faults out.old out.new) (sink_change E.written E.room E.faults err.old err.new) }
-    ensures sink_fault { result ≡ Status.SinkFault → CutShort (map string_bytes words.now) (source_change I.left I.faults input.old input.new)
-        (sink_change O.written O.room O.faults out.old out.new) (sink_change E.written E.room E.faults err.old err.new) }
-    ensures no_memory { result ≡ Status.NoMemory → Silent (sink_change O.written O.room O.faults out.old out.new) (sink_change E.written E.room E.faults err.old err.new) }
-
-    // Where no count rose, the status is the one that is due, or want of memory.
-    ensures complete { AllQuiet (source_change I.left I.faults input.old input.new) (sink_change O.written O.room O.faults out.old out.new) (sink_change E.written E.room E.faults err.old err.new)
-        → IfSome (I.left input.old) (λ bytes. (result ≡ status_due (map string_bytes words.now) bytes) ⊎ (result ≡ Status.NoMemory)) }
-
-    // No count falls.
-    ensures input_later { I.faults input.old ≤ I.faults input.new }
-    ensures out_later { O.faults out.old ≤ O.faults out.new }
-    ensures err_later { E.faults err.old ≤ E.faults err.new }
+    // The table of answers: each status only where its row holds, with exactly what the row says on the two sinks; and where no
+    // count rose, the status whose row holds.
+    ensures answers { IsAnswered (run_of (map string_bytes words.now) (source_change I.left I.faults input.old input.new)
+        (sink_change O.written O.room O.faults out.old out.new) (sink_change E.written E.room E.faults err.old err.new) result) }
 {
     carry_out(alloc, words, input, out, err)
 }

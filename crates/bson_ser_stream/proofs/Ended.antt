@@ -1,24 +1,24 @@
 -- The end of a document or an array.
 use Rattle.std.proofs.Common.{◌≡◌, ℕ, ◌+◌, ◌-◌, ◌≤◌, [], ◌∷◌, ◌++◌, length, take, drop, ap, sym, ◌∙◌, append_assoc, arith}
-use Rattle.std.specs.Int.{w32, to_le_bytes, cast_signed}
+use Rattle.std.specs.Int.{w32, to_le_bytes, cast_unsigned, cast_signed}
 use Rattle.std.proofs.lemmas.Int.{of_z-to_z}
 use Rattle.std.proofs.lemmas.List.{length-append, length-drop, length-take-le, take_at, take-append-le}
 use Rattle.bson_base.specs.Text.{Bytes}
 use Rattle.bson_base.specs.Sound.{max_bytes}
 use Rattle.bson_base.specs.Tree.{le32}
 use Rattle.bson_base.proofs.Lengths.{length-le32}
-use Rattle.bson_io.specs.Output.{Output, Appended, Patched, patched, i32_bytes}
+use Rattle.bson_io.specs.Output.{Output, Appended, Patched, patched}
 use Rattle.bson_ser_stream.specs.Writing.{length_place}
 use Rattle.bson_ser_stream.specs.Halting.{Ends, Grows}
 use Rattle.bson_ser_stream.proofs.Growth.{Grows-trans, Grows-appended, Grows-longer}
 
 -- a length in four bytes
-pub length_bytes : (n : ℕ) → n ≤ max_bytes → i32_bytes (cast_signed w32 n) ≡ le32 n
+pub length_bytes : (n : ℕ) → n ≤ max_bytes → to_le_bytes w32 (cast_unsigned w32 (cast_signed w32 n)) ≡ le32 n
 unfolding le32
 length_bytes n small = ap (to_le_bytes w32) (of_z-to_z w32 n (omega arith))
 
 pub ends : (old mid new : Output) (start len before between now : ℕ) → Appended old mid (0 ∷ []) before between → len ≡ length mid.bytes - start → len ≤ max_bytes
-    → Patched mid new start (i32_bytes (cast_signed w32 len)) between now → Ends old new start before now
+    → Patched mid new start (to_le_bytes w32 (cast_unsigned w32 (cast_signed w32 len))) between now → Ends old new start before now
 ends old mid new start len before between now a is small p =
     let longer : length mid.bytes ≡ length old.bytes + 1 = omega (arith, ap length a.bytes, length-append old.bytes (0 ∷ [])) in
     let same : len ≡ length old.bytes + 1 - start = omega arith in

@@ -1,16 +1,16 @@
 -- A text closed by a zero, with its length before it.
 use Rattle.std.proofs.Common.{◌≡◌, ℕ, ◌+◌, ◌≤◌, [], ◌∷◌, ◌++◌, length, ap, ◌∙◌, append_assoc, arith}
-use Rattle.std.specs.Int.{w32, cast_signed}
+use Rattle.std.specs.Int.{w32, to_le_bytes, cast_unsigned, cast_signed}
 use Rattle.std.proofs.lemmas.List.{length-append}
 use Rattle.bson_base.specs.Text.{Bytes, Utf8}
 use Rattle.bson_base.specs.Sound.{max_bytes}
 use Rattle.bson_base.specs.Tree.{le32, closed_text}
 use Rattle.bson_base.proofs.Lengths.{length-le32}
-use Rattle.bson_io.specs.Output.{Output, Appended, i32_bytes}
+use Rattle.bson_io.specs.Output.{Output, Appended}
 use Rattle.bson_ser_stream.proofs.Ended.{length_bytes}
 
 -- the length, the text and the zero, appended one after another
-pub wrote_text : (old begun filled new : Output) (t piece : Utf8) (lead : Bytes) (s0 s1 s2 s3 : ℕ) → length t + 5 ≤ max_bytes → piece ≡ t → lead ≡ i32_bytes (cast_signed w32 (length t + 1))
+pub wrote_text : (old begun filled new : Output) (t piece : Utf8) (lead : Bytes) (s0 s1 s2 s3 : ℕ) → length t + 5 ≤ max_bytes → piece ≡ t → lead ≡ to_le_bytes w32 (cast_unsigned w32 (cast_signed w32 (length t + 1)))
     → Appended old begun lead s0 s1 → Appended begun filled piece s1 s2 → Appended filled new (0 ∷ []) s2 s3 → Appended old new (closed_text t) s0 s3
 wrote_text old begun filled new t piece lead s0 s1 s2 s3 small same is a b c =
     let long : lead ≡ le32 (length t + 1) = is ∙ length_bytes (length t + 1) (omega arith) in

@@ -5,7 +5,8 @@ use lib.Dec.{ltb}
 use Rattle.std.proofs.lemmas.Str.{encode_ascii, length-encode, len_utf8_bounds}
 use Rattle.bson_base.specs.Text.{Utf8}
 use Rattle.bson_shape.specs.Notation.{begins_bare, in_bare, names_form, is_escaped}
-use Rattle.bson_shape.specs.Machine.{Refusal, Not_notation, OpenEnum, Level, In_field, In_option, In_brackets, In_map, In_newtype, In_part, In_variant, Owner, Form_at, Field_of, Variant_of, Mode, Form_due, First_field, Field_due, First_part, First_variant, Variant_due, Bare, Quoted, Escape, Named, Variant_done, Done, State, Open, ◌>>=◌, wrapped, variant_ended, enclosed, form_ended, begins_name, begins_form, form_due, field_due, first_field, first_part, variant_due, first_variant, named, word_ended, leaf_ended, bare_name, quoted_name, escape, step, no_more, no_more_behind, other_character, run}
+use Rattle.bson_base.specs.Outcome.{◌>>=◌}
+use Rattle.bson_shape.specs.Machine.{Refusal, Not_notation, OpenEnum, Level, In_field, In_option, In_brackets, In_map, In_newtype, In_part, In_variant, Owner, Form_at, Field_of, Variant_of, Mode, Form_due, First_field, Field_due, First_part, First_variant, Variant_due, Bare, Quoted, Escape, Named, Variant_done, Done, State, Open, wrapped, enclosed, form_ended, begins_name, begins_form, form_due, field_due, first_field, first_part, variant_due, first_variant, named, word_ended, leaf_ended, bare_name, quoted_name, escape, step, no_more, no_more_behind, other_character, run}
 use Rattle.bson_shape.proofs.NameRuns.{run_step, run_refused}
 use Rattle.std.proofs.lemmas.Bool.Decides.{nat_tests}
 use Rattle.bson_shape.specs.Answers.{Gives}

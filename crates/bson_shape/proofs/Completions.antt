@@ -3,12 +3,12 @@ use Rattle.std.proofs.Common.{◌≡◌, ℕ, Bool, true, false, ◌&&◌, List,
 use Rattle.std.specs.List.{list_all}
 use Rattle.std.specs.Str.{is_utf8}
 use Rattle.bson_base.specs.Text.{Utf8}
-use Rattle.bson_shape.specs.Form.{Form, optional, sequence, map, tuple, tuple_structure, newtype, unit_structure, structure, enumeration, Fields, no_fields, Parts, Content, unit_content, newtype_content, tuple_content, struct_content}
-use Rattle.bson_shape.specs.Notation.{begins_bare, in_bare, bare, escaped, quoted, name_text, listed, text, field_texts, part_texts, variant_texts}
-use Rattle.bson_shape.specs.Machine.{OpenEnum, Braces, Struct_at, Struct_variant, Open, Parens, Tuple_at, Tuple_struct_at, Tuple_variant, OpenTuple, Level, In_field, In_option, In_brackets, In_map, In_newtype, In_part, In_variant, Owner, Form_at, Field_of, Variant_of, Mode, Form_due, First_field, Field_due, First_part, First_variant, Variant_due, Bare, Quoted, Escape, Named, Variant_done, Done, State, grown, grown_tuple, grown_enum}
-use Rattle.bson_shape.specs.Fronts.{HasTextNames, HaveTextNames, PartsHaveTextNames, VariantsHaveTextNames, ContentHasTextNames, goes_on, BeginsNotation}
-use Rattle.bson_shape.proofs.TextStates.{TextEnum, TextBraces, TextOpen, TextParens, TextTuple, TextOwner, TextLevels, TextMode, TextState, text-nil, text-one, text-push, texts-snoc, parts_texts-snoc, variants_texts-snoc}
-use Rattle.bson_shape.proofs.States.{sep, enum_text, braces_text, open_text, parens_text, tuple_text, owner_text, levels_text, mode_text, written, ValidMode, after_braces, after_parens, closed_braces, closed_parens, grown_text, grown_enum_text, levels_grown, levels_part, levels_variant, levels_inner, levels_named, levels_item, levels_value, name-bare, name-quoted}
+use Rattle.bson_shape.specs.Form.{Form, optional, sequence, map, tuple, tuple_structure, newtype, unit_structure, structure, enumeration, Fields, no_fields, Parts, unit_content, newtype_content, tuple_content, struct_content}
+use Rattle.bson_shape.specs.Notation.{begins_bare, in_bare, bare, escaped, quoted, name_text, listed, text, field_texts, part_texts}
+use Rattle.bson_shape.specs.Machine.{OpenEnum, Braces, Struct_at, Struct_variant, Parens, Tuple_at, Tuple_struct_at, Tuple_variant, Level, In_field, In_option, In_brackets, In_map, In_newtype, In_part, In_variant, Owner, Form_at, Field_of, Variant_of, Mode, Form_due, First_field, Field_due, First_part, First_variant, Variant_due, Bare, Quoted, Escape, Named, Variant_done, Done, State, grown, grown_tuple, grown_enum}
+use Rattle.bson_shape.specs.Fronts.{HasTextNames, HaveTextNames, PartsHaveTextNames, goes_on, BeginsNotation}
+use Rattle.bson_shape.proofs.TextStates.{TextEnum, TextBraces, TextParens, TextOwner, TextLevels, TextMode, TextState, text-nil, text-one, text-push, texts-snoc, parts_texts-snoc, variants_texts-snoc}
+use Rattle.bson_shape.proofs.States.{sep, enum_text, braces_text, open_text, parens_text, owner_text, levels_text, mode_text, written, ValidMode, after_braces, after_parens, closed_braces, closed_parens, grown_text, grown_enum_text, levels_grown, levels_part, levels_variant, levels_inner, levels_named, levels_item, levels_value, name-bare, name-quoted}
 use Rattle.bson_shape.proofs.Steps.{escaped-plain, escaped-marked}
 
 -- a form whose text begins with these bytes

@@ -12,7 +12,8 @@ use Rattle.std.specs.List.{list_all}
 use Rattle.bson_shape.specs.Notation.{begins_bare, in_bare, bare, names_form, escaped, quoted, name_text, struct_name_text, after_commas, listed, text, field_texts, part_texts, variant_texts, content_text}
 use Rattle.bson_shape.specs.FirstRefusal.{MakerRefusal, or_else, too_deep, refusal_of, first_refusal, fields_refusal, parts_refusal, variants_refusal, content_refusal}
 use Rattle.bson_shape.specs.Fronts.{goes_on}
-use Rattle.bson_shape.specs.Machine.{Refusal, Refused, OpenEnum, Braces, Struct_at, Struct_variant, Open, Parens, Tuple_at, Tuple_struct_at, Tuple_variant, OpenTuple, Level, In_field, In_option, In_brackets, In_map, In_newtype, In_part, In_variant, Owner, Form_at, Field_of, Variant_of, Mode, Form_due, First_field, Field_due, First_part, First_variant, Variant_due, Bare, Named, Variant_done, Done, State, ◌>>=◌, opened, grown, opened_tuple, grown_tuple, opened_enum, grown_enum, made, Ended, wrapped, closed, braces_closed, parens_closed, enum_closed, enclosed, form_ended, begins_name, name_begun, opens_form, begins_form, form_begun, form_due, field_due, first_field, first_part, variant_due, first_variant, word_ended, bare_name, alone, step, run, finish}
+use Rattle.bson_base.specs.Outcome.{◌>>=◌}
+use Rattle.bson_shape.specs.Machine.{Refusal, Refused, OpenEnum, Braces, Struct_at, Struct_variant, Open, Parens, Tuple_at, Tuple_struct_at, Tuple_variant, OpenTuple, Level, In_field, In_option, In_brackets, In_map, In_newtype, In_part, In_variant, Owner, Form_at, Field_of, Variant_of, Mode, Form_due, First_field, Field_due, First_part, First_variant, Variant_due, Bare, Named, Variant_done, Done, State, opened, grown, opened_tuple, grown_tuple, opened_enum, grown_enum, made, Ended, wrapped, closed, braces_closed, parens_closed, enum_closed, enclosed, form_ended, begins_name, name_begun, opens_form, begins_form, form_begun, form_due, field_due, first_field, first_part, variant_due, first_variant, word_ended, bare_name, alone, step, run, finish}
 use Rattle.bson_shape.proofs.Made.{within_levels-made, made_map-made, made_newtype-made, made_structure-made, made_enumeration-made}
 use Rattle.bson_shape.proofs.Shapes.{joined-assoc, joined-none, joined_parts-assoc, joined_parts-none, joined_variants-assoc, joined_variants-none}
 use Rattle.bson_shape.proofs.Words.{and_true, or_false, differs, of_word-word, bare-word}

@@ -6,7 +6,8 @@ use Rattle.std.proofs.lemmas.Str.{length-encode}
 use Rattle.bson_base.specs.Text.{Utf8}
 use Rattle.bson_shape.specs.declared.error.ParseError.{ParseError}
 use Rattle.bson_shape.specs.declared.error.ParseError.TheVariants as errors
-use Rattle.bson_shape.specs.Machine.{State, Refusal, Not_notation, Refused, ◌>>=◌, step, run}
+use Rattle.bson_base.specs.Outcome.{◌>>=◌}
+use Rattle.bson_shape.specs.Machine.{State, Refusal, Not_notation, Refused, step, run}
 use Rattle.bson_shape.specs.Answers.{error_of, Fails}
 
 pub bound_assoc : {A B C : Type 0} (r : Result A Refusal) (f : A → Result B Refusal) (g : B → Result C Refusal) → ((r >>= f) >>= g) ≡ (r >>= λ x. f x >>= g)

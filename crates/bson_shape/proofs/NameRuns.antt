@@ -4,7 +4,8 @@ use Rattle.std.specs.List.{list_all}
 use Rattle.bson_base.specs.Text.{Utf8}
 use Rattle.bson_shape.specs.Notation.{begins_bare, in_bare, bare, is_escaped, escaped, quoted, name_text}
 use Rattle.bson_shape.specs.Form.{unit_structure, unit_content}
-use Rattle.bson_shape.specs.Machine.{Refusal, OpenEnum, Struct_at, Struct_variant, Open, Tuple_struct_at, Tuple_variant, Level, In_field, In_newtype, In_variant, Owner, Form_at, Field_of, Variant_of, Mode, Form_due, First_field, First_part, Bare, Quoted, Escape, Named, Done, State, ◌>>=◌, opened, opened_tuple, grown_enum, variant_ended, begins_name, name_begun, named, word_ended, bare_name, name_closed, quoted_name, escape, step, run}
+use Rattle.bson_base.specs.Outcome.{◌>>=◌}
+use Rattle.bson_shape.specs.Machine.{Refusal, OpenEnum, Struct_at, Struct_variant, Open, Tuple_struct_at, Tuple_variant, Level, In_field, In_newtype, In_variant, Owner, Form_at, Field_of, Variant_of, Mode, Form_due, First_field, First_part, Bare, Quoted, Escape, Named, Done, State, opened, opened_tuple, grown_enum, variant_ended, begins_name, name_begun, named, word_ended, bare_name, name_closed, quoted_name, escape, step, run}
 use Rattle.bson_shape.proofs.Words.{and_true, or_false, differs}
 
 -- a byte that is taken

@@ -9,7 +9,8 @@ use Rattle.bson_shape.specs.Leaf.{of_word}
 use Rattle.bson_shape.specs.declared.leaf.Leaf.{Leaf}
 use Rattle.bson_shape.specs.Notation.{begins_bare, in_bare, bare, names_form, text}
 use Rattle.bson_shape.specs.FirstRefusal.{MakerRefusal, first_refusal}
-use Rattle.bson_shape.specs.Machine.{Refusal, Not_notation, Refused, Level, Form_at, Mode, Form_due, Bare, Done, State, ◌>>=◌, wrapped, enclosed, form_ended, word_ended, bare_name, alone, last, last_leaf, step, run, finish, parsed}
+use Rattle.bson_base.specs.Outcome.{◌>>=◌}
+use Rattle.bson_shape.specs.Machine.{Refusal, Not_notation, Refused, Level, Form_at, Mode, Form_due, Bare, Done, State, wrapped, enclosed, form_ended, word_ended, bare_name, alone, last, last_leaf, step, run, finish, parsed}
 use Rattle.bson_shape.specs.Fronts.{ends_in_word, goes_on, BeginsNotation, IsLongestFront, IsMet, IsNotNotationAt}
 use Rattle.bson_shape.proofs.Words.{and_true, or_false}
 use Rattle.bson_shape.proofs.Texts.{judged, parsed-text}

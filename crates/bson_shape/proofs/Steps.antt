@@ -10,9 +10,10 @@ use Rattle.bson_shape.specs.declared.leaf.Leaf.{Leaf}
 use Rattle.bson_shape.specs.Makers.{made_sequence, made_map, made_tuple, made_tuple_structure, made_structure, made_enumeration}
 use Rattle.bson_shape.specs.declared.error.ShapeError.{ShapeError}
 use Rattle.bson_shape.specs.declared.error.ShapeError.TheVariants.{TooDeep}
-use Rattle.bson_shape.specs.Notation.{begins_bare, in_bare, bare, names_form, is_escaped, escaped, quoted, name_text, struct_name_text, listed, text, field_texts, part_texts, variant_texts, content_text}
+use Rattle.bson_shape.specs.Notation.{begins_bare, in_bare, bare, names_form, is_escaped, escaped, quoted, name_text, struct_name_text, listed, text, field_texts, part_texts, variant_texts}
 use Rattle.bson_shape.specs.FirstRefusal.{MakerRefusal}
-use Rattle.bson_shape.specs.Machine.{Refusal, Not_notation, Refused, OpenEnum, Braces, Struct_at, Struct_variant, Open, Parens, Tuple_at, Tuple_struct_at, Tuple_variant, OpenTuple, Level, In_field, In_option, In_brackets, In_map, In_newtype, In_part, In_variant, Owner, Form_at, Field_of, Variant_of, Mode, Form_due, First_field, Field_due, First_part, First_variant, Variant_due, Bare, Quoted, Escape, Named, Variant_done, Done, State, opened, grown, opened_tuple, grown_tuple, opened_enum, grown_enum, ◌>>=◌, Ended, wrapped, closed, braces_closed, parens_closed, enum_closed, part_ended, variant_ended, enclosed, form_ended, begins_name, name_begun, opens_form, begins_form, form_begun, form_due, field_due, first_field, first_part, variant_due, first_variant, is_written, form_named, variant_named, named, leaf_ended, word_ended, bare_name, name_closed, quoted_name, escape, step}
+use Rattle.bson_base.specs.Outcome.{◌>>=◌}
+use Rattle.bson_shape.specs.Machine.{Refusal, Not_notation, Refused, OpenEnum, Braces, Struct_at, Struct_variant, Open, Parens, Tuple_at, Tuple_struct_at, Tuple_variant, OpenTuple, Level, In_field, In_option, In_brackets, In_map, In_newtype, In_part, In_variant, Owner, Form_at, Field_of, Variant_of, Mode, Form_due, First_field, Field_due, First_part, First_variant, Variant_due, Bare, Quoted, Escape, Named, Variant_done, Done, State, opened, grown, opened_tuple, grown_tuple, opened_enum, grown_enum, Ended, wrapped, closed, braces_closed, parens_closed, enum_closed, part_ended, variant_ended, enclosed, form_ended, begins_name, name_begun, opens_form, begins_form, form_begun, form_due, field_due, first_field, first_part, variant_due, first_variant, is_written, form_named, variant_named, named, leaf_ended, word_ended, bare_name, name_closed, quoted_name, escape, step}
 use Rattle.bson_shape.proofs.Made.{within_levels-made, made_map-made, made_structure-made, made_enumeration-made}
 use Rattle.bson_shape.proofs.Words.{and_true, or_rest, differs}
 use Rattle.std.specs.Prelude.{◌⊎◌}

@@ -9,7 +9,8 @@ use Rattle.bson_base.specs.Text.{Utf8}
 use Rattle.bson_shape.specs.Form.{leaf}
 use Rattle.bson_shape.specs.Leaf.{of_word}
 use Rattle.bson_shape.specs.declared.leaf.Leaf.{Leaf}
-use Rattle.bson_shape.specs.Machine.{Refusal, Not_notation, Level, Form_at, Mode, Bare, Quoted, Done, State, ◌>>=◌, wrapped, step, no_more_behind, other_character, run}
+use Rattle.bson_base.specs.Outcome.{◌>>=◌}
+use Rattle.bson_shape.specs.Machine.{Refusal, Not_notation, Level, Form_at, Mode, Bare, Quoted, Done, State, wrapped, step, no_more_behind, other_character, run}
 use Rattle.bson_shape.proofs.Words.{and_true}
 use Rattle.bson_shape.proofs.TextStates.{TextState, text-append, text-encode}
 use Rattle.bson_shape.proofs.States.{written, ValidMode}

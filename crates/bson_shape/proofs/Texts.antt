@@ -10,7 +10,8 @@ use Rattle.bson_shape.specs.Levels.{levels, deepest, deepest_part, deepest_varia
 use Rattle.bson_shape.specs.Makers.{IsShape, AreShapes, AreParts, AreVariants, IsContent, made_optional, made_sequence, made_map, made_tuple, made_tuple_structure, made_newtype, made_structure, made_enumeration}
 use Rattle.bson_shape.specs.Notation.{text, name_text, struct_name_text, listed, field_texts, part_texts, variant_texts, content_text}
 use Rattle.bson_shape.specs.FirstRefusal.{MakerRefusal, or_else, too_deep, refusal_of, first_refusal, fields_refusal, parts_refusal, variants_refusal, content_refusal}
-use Rattle.bson_shape.specs.Machine.{Refusal, Refused, Form_due, Done, ◌>>=◌, wrapped, run, finish, parsed}
+use Rattle.bson_base.specs.Outcome.{◌>>=◌}
+use Rattle.bson_shape.specs.Machine.{Refusal, Refused, Form_due, Done, wrapped, run, finish, parsed}
 use Rattle.bson_shape.proofs.Made.{within_levels-few, made_map-few, made_newtype-IsNewtype, made_structure-IsStruct, made_enumeration-IsEnum}
 use Rattle.bson_shape.proofs.Shapes.{levels_few}
 use Rattle.bson_shape.proofs.FormRuns.{read, settle, reads_form}

@@ -9,7 +9,8 @@ use Rattle.bson_shape.specs.Notation.{text}
 use Rattle.bson_shape.specs.Fronts.{HasTextNames}
 use Rattle.bson_shape.specs.FirstRefusal.{MakerRefusal}
 use Rattle.bson_shape.specs.declared.error.ShapeError.{ShapeError}
-use Rattle.bson_shape.specs.Machine.{Refusal, Not_notation, Refused, Level, In_field, In_option, In_brackets, In_map, In_newtype, In_part, In_variant, Form_at, Mode, Bare, Done, State, ◌>>=◌, made, Ended, wrapped}
+use Rattle.bson_base.specs.Outcome.{◌>>=◌}
+use Rattle.bson_shape.specs.Machine.{Refusal, Not_notation, Refused, Level, In_field, In_option, In_brackets, In_map, In_newtype, In_part, In_variant, Form_at, Mode, Bare, Done, State, made, Ended, wrapped}
 use Rattle.bson_shape.proofs.Made.{within_levels-made, made_newtype-made}
 use Rattle.bson_shape.proofs.Words.{of_word-is}
 use Rattle.bson_shape.proofs.TextStates.{TextLevels, TextMode}

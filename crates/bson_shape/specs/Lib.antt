@@ -9,9 +9,8 @@ pub mod Levels
 pub mod Makers
 pub mod Refusals
 pub mod ShapeView
-pub mod ShapeFalls
 pub mod Same
-pub mod Decided
 pub mod Answers
 pub mod ParserView
 pub mod PrinterView
+pub mod Prover

@@ -1,5 +1,6 @@
 -- Reading a notation from left to right, a byte at a time. Source: this library's own notation.
 use Rattle.std.specs.Prelude.{ℕ, ◌+◌, Bool, true, false, ◌&&◌, ◌||◌, ◌==◌, nat_le, if◌then◌else◌, List, [], ◌∷◌, ◌++◌, length, Option, Some, None, Result, Ok, Err}
+use Rattle.bson_base.specs.Outcome.{◌>>=◌}
 use Rattle.bson_base.specs.Text.{Utf8}
 use Rattle.bson_shape.specs.Form.{Form, leaf, unit_structure, Fields, no_fields, push_field, Parts, no_parts, push_part, Variants, no_variants, push_variant, Content, unit_content, newtype_content, tuple_content, struct_content}
 use Rattle.bson_shape.specs.Leaf.{of_word}
@@ -105,11 +106,6 @@ pub data Mode : Type 0 where
 -- With the levels around, the innermost first.
 abbrev pub State : Type 0
 State = Mode × List Level
-
-infixl 10 ◌>>=◌
-abbrev pub ◌>>=◌ : {A B : Type 0} → Result A Refusal → (A → Result B Refusal) → Result B Refusal
-(Ok x) >>= f = f x
-(Err e) >>= f = Err e
 
 abbrev pub opened : Braces → Open
 opened holder = record { holder = holder; fields = no_fields }

@@ -1,4 +1,4 @@
-ghost use Rattle.std.specs.Prelude.{◌≡◌};
+ghost use Rattle.std.specs.Prelude.{◌≡◌, ◌↔◌, IsTrue};
 ghost use Rattle.bson_shape.specs.Same.{same, same_fields, same_parts, same_variants, same_content};
 ghost use Rattle.bson_shape.specs.ShapeView.{fields_of, parts_of, variants_of, content_of};
 
@@ -7,13 +7,16 @@ use crate::{FieldShape, Form, Shape, VariantContent, VariantShape};
 /// Two shapes are equal exactly where their forms are.
 impl PartialEq for Shape {
     ghost use Rattle.bson_shape.specs.Same.{same};
-    ghost use Rattle.bson_shape.specs.Decided.{same_laws};
+    ghost use Rattle.bson_shape.specs.Prover.Decided.{same_laws};
 
     ghost eq = { same };
 
     ghost laws = { same_laws };
 
-    fn eq(&self, other: &Shape) -> bool {
+    fn eq(&self, other: &Shape) -> bool
+        ensures value { result ≡ same self.now other.now }
+        ensures equal { IsTrue result ↔ (self.now ≡ other.now) }
+    {
         is_same(self, other)
     }
 }

@@ -76,7 +76,8 @@ pub enum VariantContent {
 
 impl Model for Shape {
     ghost use Rattle.std.specs.Prelude.{◌≡◌};
-    ghost use Rattle.bson_shape.specs.Form.{Form, coded_form};
+    ghost use Rattle.bson_shape.specs.Form.{Form};
+    ghost use Rattle.bson_shape.specs.Prover.StoredForm.{coded_form};
 
     ghost Value = { Form };
 
@@ -92,7 +93,7 @@ impl Model for Shape {
 
     ghost size = { nodes };
 
-    ghost use Rattle.bson_shape.specs.ShapeFalls.{falls};
+    ghost use Rattle.bson_shape.specs.Prover.ShapeFalls.{falls};
 
     ghost size_decreases = { λ a h. falls a.node };
 }

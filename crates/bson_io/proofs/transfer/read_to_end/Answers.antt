@@ -1,6 +1,6 @@
 -- The exits after a read: what was taken before and in that read.
-use Rattle.std.proofs.Common.{arith}
-use Rattle.bson_io.proofs.Transfers.{takes_more, takes_at_most, takes_too_many}
+use Rattle.std.proofs.Common.{length-take, arith}
+use Rattle.bson_io.proofs.Transfers.{takes_more, takes_at_most, takes_exactly}
 use Rattle.bson_io.proofs.transfer.read_to_end.Goals as goal
 
 pub returns-then-n-len-clause-taken : goal.returns-then-n-len-clause-taken
@@ -9,8 +9,8 @@ returns-then-n-len-clause-taken g c =
 
 pub returns-then-n-len-clause-too_long : goal.returns-then-n-len-clause-too_long
 returns-then-n-len-clause-too_long g c = λ _.
-    takes_too_many _ _ _ _ c.loop-bytes.bytes.items c.read.new.buf c.in-Ok.n c.loop-bytes.invariant.taken c.in-Ok.ensures.bytes.0
-    (omega (arith, c.in-Ok.ensures.bound)) (omega (arith, c.loop-bytes.bytes.ok.0))
+    takes_exactly _ _ _ _ c.loop-bytes.bytes.items c.read.new.buf c.in-Ok.n c.loop-bytes.invariant.taken c.in-Ok.ensures.bytes.0
+    (omega (arith, c.in-Ok.ensures.bound)) (omega (arith, c.in-Ok.ensures.bound, c.read.auto.buf, length-take c.min-room.result c.loop-bytes.buf, c.loop-bytes.bytes.ok.0))
 
 pub returns-in_err-extend_from_slice-in-Ok-clause-taken : goal.returns-in_err-extend_from_slice-in-Ok-clause-taken
 returns-in_err-extend_from_slice-in-Ok-clause-taken g c =

@@ -1,4 +1,4 @@
-use Rattle.std.proofs.Common.{◌<◌, sym, subst, arith, rules}
+use Rattle.std.proofs.Common.{◌<◌, sym, subst, arith}
 use Rattle.bson_shape.specs.ShapeView.{fields_of, parts_of, variants_of, content_of, nodes, fields_nodes, parts_nodes, variants_nodes, content_nodes}
 use Rattle.bson_shape.specs.declared.shape.VariantShape.{VariantShape}
 use Rattle.bson_shape.proofs.Sames.{same_fields-lengths, same_parts-lengths, same_variants-lengths}

@@ -1,4 +1,4 @@
-use Rattle.std.proofs.Common.{◌∙◌, sym, subst, ap, arith}
+use Rattle.std.proofs.Common.{◌∙◌, subst, ap, arith}
 use Rattle.bson_shape.specs.Levels.{deepest_inside}
 use Rattle.bson_shape.specs.Makers.{content_repeats, IsContent}
 use Rattle.bson_shape.specs.ShapeView.{content_of}

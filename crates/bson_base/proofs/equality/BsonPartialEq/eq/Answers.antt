@@ -1,5 +1,5 @@
 use Rattle.bson_base.specs.BsonView.{tree_of}
-use Rattle.bson_base.specs.Decided.{same_decides}
+use Rattle.bson_base.specs.Prover.Decided.{same_decides}
 use Rattle.bson_base.proofs.Sames.{exactly}
 use Rattle.bson_base.proofs.equality.BsonPartialEq.eq.Goals as goal
 

@@ -1,5 +1,5 @@
 use Rattle.bson_base.specs.BsonView.{pairs_of}
-use Rattle.bson_base.specs.Decided.{same_pairs_decides}
+use Rattle.bson_base.specs.Prover.Decided.{same_pairs_decides}
 use Rattle.bson_base.proofs.Sames.{exactly}
 use Rattle.bson_base.proofs.equality.DocumentPartialEq.eq.Goals as goal
 

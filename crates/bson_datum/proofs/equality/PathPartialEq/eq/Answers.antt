@@ -1,8 +1,9 @@
 use Rattle.std.proofs.Common.{◌∙◌}
 use Rattle.bson_datum.specs.PathView.{path_view}
 use Rattle.bson_datum.specs.Same.{same_path}
-use Rattle.bson_datum.specs.Decided.{same_path_decides}
-use Rattle.bson_datum.proofs.Sames.{exactly, same_segments}
+use Rattle.bson_datum.specs.Prover.Decided.{same_path_decides}
+use Rattle.bson_base.proofs.Sames.{exactly}
+use Rattle.bson_datum.proofs.Sames.{same_segments}
 use Rattle.bson_datum.proofs.equality.PathPartialEq.eq.Goals as goal
 
 pub returns-clause-value : goal.returns-clause-value

@@ -3,7 +3,7 @@ use Rattle.std.specs.Prelude.{◌≡◌, ℕ, List, refl}
 use Rattle.std.specs.Coded.{Coded, coded_ℕ, coded_list, coded×, code_by}
 use Rattle.std.proofs.Common.{ap, arith}
 use base.Stored.{Gv, gnil, gnum, gcons}
-use Rattle.bson_base.specs.Stored.{head, tail, num}
+use Rattle.bson_base.specs.Prover.Stored.{head, tail, num}
 use Rattle.bson_base.specs.declared.element_type.ElementType.{ElementType}
 use Rattle.bson_base.specs.contracts.element_type.ElementType as kinds
 use Rattle.bson_rawdoc.specs.contracts.raw.Error as faults

@@ -1,0 +1,6 @@
+use Rattle.bson_base.proofs.Sames.{exactly}
+use Rattle.bson_shape.specs.Prover.Decided.{same_decides}
+use Rattle.bson_shape.proofs.equality.ShapePartialEq.eq.Goals as goal
+
+pub returns-clause-equal : goal.returns-clause-equal
+returns-clause-equal c = exactly _ _ c.is_same.ensures (same_decides c.args.self.now c.args.other.now)
