@@ -16,15 +16,16 @@ use Rattle.bson_ser_stream.specs.Writing.{with_bytes, with_tree, with_element, w
 use Rattle.bson_ser_stream.specs.Halting.{Halts, Gives, Grows, EndHalts}
 use Rattle.bson_ser_stream.proofs.Written.{length-with_elements, length-with_entries, length-with_array_elements}
 use Rattle.bson_ser_stream.specs.declared.halt.Halt.{Halt}
-use Rattle.bson_ser_stream.specs.declared.halt.Halt.TheVariants.{Refused, NoMemory, TooLong}
+use Rattle.bson_datum.specs.declared.stop.Stop.TheVariants.{Refused, NoMemory}
+use Rattle.bson_ser_stream.specs.declared.halt.Halt.TheVariants.{Stopped, TooLong}
 
 pub gives_err : {X Y : Type 0} (size spare : ℕ) (view : X → Y) (result : Result X Halt) (h : Halt) (due : Writing Y) → result ≡ Err h → Halts size spare due h → Gives size spare view result due
 gives_err size spare view result h due is halts = subst (λ r. Gives size spare view r due) (sym is) halts
 
 -- a document or an array that is not ended
 pub unended : {A : Type 0} (h : Halt) (total spare start : ℕ) (mid : Output) (due : Writing A) → length mid.bytes + 1 ≡ total + start → spare + start ≤ length mid.bytes + mid.spare → EndHalts mid start h → Halts total spare due h
-unended NoMemory total spare start mid due long room e = λ _. omega (arith, e)
-unended (Refused r) total spare start mid due long room e = absurd e
+unended (Stopped NoMemory) total spare start mid due long room e = λ _. omega (arith, e)
+unended (Stopped (Refused r)) total spare start mid due long room e = absurd e
 unended TooLong total spare start mid due long room e = omega (arith, e)
 
 no_ok : {A : Type 0} (r : Writing A) (f : Refusal WriteFault) → r ≡ Err f → IsOk r → ⊥
@@ -60,8 +61,8 @@ rest_halts : (one due : Writing Bytes) (h : Halt) (first left all before now : �
     → ((new : Bytes) → due ≡ Ok new → length new ≡ length old.bytes + all) → ((new : Bytes) → due ≡ Ok new → length new ≡ length mid.bytes + left) → first ≤ left → left ≤ all → Grows old mid before now
     → Halts first mid.spare one h → Halts all old.spare due h
 rest_halts one due TooLong first left all before now old mid ok err long longer within less grows halts = omega (arith, halts)
-rest_halts one due (Refused x) first left all before now old mid ok err long longer within less grows halts = err _ halts
-rest_halts one due NoMemory first left all before now old mid ok err long longer within less grows halts = λ done.
+rest_halts one due (Stopped (Refused x)) first left all before now old mid ok err long longer within less grows halts = err _ halts
+rest_halts one due (Stopped NoMemory) first left all before now old mid ok err long longer within less grows halts = λ done.
     let whole = ok_value due done in
     omega (arith, halts (ok whole.0 whole.1), grows.room, long whole.0 whole.1, longer whole.0 whole.1)
 
@@ -104,9 +105,9 @@ item_halts h i v rest left all levels before now old mid is same less grows halt
 -- what means a sound document is written where its room is spare
 pub sound_written : (h : Halt) (v : Value) (t : Tree) (old : Bytes) (spare : ℕ) → means v ≡ Some t → IsSound t → size v ≤ spare → Halts (size v) spare (with_tree old (spell_document v)) h → ⊥
 sound_written TooLong v t old spare e s room halts = omega (arith, (spell_means v t e s).1, s.fits, halts)
-sound_written NoMemory v t old spare e s room halts =
+sound_written (Stopped NoMemory) v t old spare e s room halts =
     let ok : IsOk (with_tree old (spell_document v)) = ap (λ r. is_ok (with_tree old r)) (spell_means v t e s).0 in
     omega (arith, halts ok)
-sound_written (Refused r) v t old spare e s room halts =
+sound_written (Stopped (Refused r)) v t old spare e s room halts =
     let ok : IsOk (with_tree old (spell_document v)) = ap (λ r. is_ok (with_tree old r)) (spell_means v t e s).0 in
     no_ok (with_tree old (spell_document v)) _ halts ok

@@ -6,9 +6,7 @@ pub mod Binaries
 pub mod Elements
 pub mod Halted
 pub mod Containers
-pub mod Structs
-pub mod Sequences
-pub mod Maps
+pub mod Arms
 pub mod Variants
 pub mod Limits
 pub mod Meant

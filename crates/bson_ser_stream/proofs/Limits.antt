@@ -17,7 +17,8 @@ use Rattle.bson_datum.specs.Stop.{IsPlaced}
 use Rattle.bson_ser_stream.specs.Writing.{with_tree, IsDue, Fails, too_long_failure}
 use Rattle.bson_ser_stream.specs.Halting.{halt_view, Halts}
 use Rattle.bson_ser_stream.specs.declared.halt.Halt.{Halt}
-use Rattle.bson_ser_stream.specs.declared.halt.Halt.TheVariants.{Refused, NoMemory, TooLong}
+use Rattle.bson_datum.specs.declared.stop.Stop.TheVariants.{Refused, NoMemory}
+use Rattle.bson_ser_stream.specs.declared.halt.Halt.TheVariants.{Stopped, TooLong}
 
 abbrev IsLength : Cause → Type 0
 IsLength too_long = Unit {0}
@@ -159,6 +160,6 @@ placed_is g (placed path x) h = inr h
 
 -- what a caller sees of a halt
 pub fails : (h : Halt) (f : Failure WriteFault) (total spare : ℕ) (old : Bytes) (r : Writing Tree) → Halts total spare (with_tree old r) h → IsPlaced (halt_view h) f → Fails total r f
-fails NoMemory f total spare old r halts is = inl is
-fails (Refused x) f total spare old r halts is = elim (placed_is _ f is) [ inl want ↦ inl want | inr due ↦ inr (inl (due_is r old _ f halts due)) ]
+fails (Stopped NoMemory) f total spare old r halts is = inl is
+fails (Stopped (Refused x)) f total spare old r halts is = elim (placed_is _ f is) [ inl want ↦ inl want | inr due ↦ inr (inl (due_is r old _ f halts due)) ]
 fails TooLong f total spare old r halts is = elim (placed_is _ f is) [ inl want ↦ inl want | inr long ↦ inr (inr (long, halts)) ]

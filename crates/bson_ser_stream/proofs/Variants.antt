@@ -1,22 +1,15 @@
 -- A variant with contents is written as a document of one pair: what it holds, under its name.
-use Rattle.std.proofs.Common.{◌≡◌, ℕ, ◌+◌, ◌≤◌, ◌++◌, List, Result, Ok, Err, ap, sym, subst, ◌∙◌, arith, append-nil}
-use Rattle.std.specs.Prelude.{OnOk}
-use Rattle.std.specs.Global.{Vec}
+use Rattle.std.proofs.Common.{◌≡◌, ℕ, ◌+◌, ◌++◌, Result, Ok, Err, ap, subst, ◌∙◌, arith, append-nil}
 use Rattle.bson_base.specs.Text.{Bytes, Utf8}
 use Rattle.bson_base.specs.Outcome.{◌>>=◌}
-use Rattle.bson_base.specs.Sound.{max_bytes}
-use Rattle.bson_base.specs.Tree.{Tree, array, document, no_pairs, pair, enc, kind, element}
+use Rattle.bson_base.specs.Tree.{Tree, no_pairs, pair, enc, kind, element}
 use Rattle.bson_base.specs.declared.element_type.ElementType.{ElementType}
-use Rattle.bson_datum.specs.TextView.{text_view}
-use Rattle.bson_datum.specs.Value.{Value, FieldValues, no_field_values, field_value, tuple_variant, structure_variant}
-use Rattle.bson_datum.specs.View.{view, items_view, fields_view}
-use Rattle.bson_datum.proofs.Views.{view-TupleVariant, view-StructVariant}
-use Rattle.bson_datum.specs.declared.text.Text.{Text}
-use Rattle.bson_datum.specs.declared.datum.Field.{Field}
-use Rattle.bson_datum.specs.declared.datum.Datum.{Datum, TupleVariant, StructVariant}
-use Rattle.bson_laws.specs.Spell.{Writing, named, variant_at, variant_size, spell, spell_items, spell_fields, enclosed_at, size, size_items, size_fields}
-use Rattle.bson_ser_stream.specs.Writing.{with_tree, with_element, with_elements}
-use Rattle.bson_ser_stream.specs.Halting.{Gives, Halts}
+use Rattle.bson_base.specs.declared.element_type.ElementType.TheVariants.{EmbeddedDocument}
+use Rattle.bson_datum.specs.Value.{Value, FieldValues, no_field_values, field_value}
+use Rattle.bson_io.specs.Output.{Output}
+use Rattle.bson_laws.specs.Spell.{Writing, named, variant_at, variant_size, spell, spell_fields, size, size_fields}
+use Rattle.bson_ser_stream.specs.Writing.{with_element, with_elements}
+use Rattle.bson_ser_stream.specs.Halting.{Puts}
 use Rattle.bson_ser_stream.specs.declared.halt.Halt.{Halt}
 
 -- a value under its name, as the one field of a struct
@@ -34,34 +27,6 @@ wrote_pair name v levels old new e = one_pair name (named name (spell v levels))
 one_size : (name : Utf8) (v : Value) → size_fields (one_field name v) + 5 ≡ variant_size name (size v)
 one_size name v = omega arith
 
-pub variant_fits : (name : Utf8) (v : Value) → size_fields (one_field name v) + 5 ≤ max_bytes → variant_size name (size v) ≤ max_bytes
-variant_fits name v fits = subst (λ n. n ≤ max_bytes) (one_size name v) fits
-
-pub variant_halts : (name : Utf8) (v : Value) (spare : ℕ) (due : Writing Bytes) (h : Halt) → Halts (size_fields (one_field name v) + 5) spare due h → Halts (variant_size name (size v)) spare due h
-variant_halts name v spare due h halts = subst (λ n. Halts n spare due h) (one_size name v) halts
-
--- a tuple variant
-module _ (d : Datum) (n : Text) (ds : Vec Datum) (xs : List Datum) (is : d ≡ TupleVariant n ds) (same : xs ≡ ds.items) where
-  seen_items : tuple_variant (text_view n) (items_view xs) ≡ view d
-  seen_items = ap (λ ys. tuple_variant (text_view n) (items_view ys)) same ∙ sym (ap view is ∙ view-TupleVariant n ds)
-
-  pub tuple_variant_fits : (r : Result ElementType Halt) → OnOk r (variant_size (text_view n) (size_items 0 (items_view xs) + 5) ≤ max_bytes) → OnOk r (size (view d) ≤ max_bytes)
-  tuple_variant_fits r h = subst (λ v. OnOk r (size v ≤ max_bytes)) seen_items h
-
-  pub wrote_tuple_variant : (levels spare : ℕ) (old new : Bytes) (r : Result ElementType Halt)
-      → Gives (variant_size (text_view n) (size_items 0 (items_view xs) + 5)) spare (λ _. new) r (with_tree old (variant_at (text_view n) levels (λ inner. enclosed_at array inner (spell_items 0 (items_view xs)))))
-      → Gives (size (view d)) spare (λ _. new) r (with_tree old (spell (view d) levels))
-  wrote_tuple_variant levels spare old new r h = subst (λ v. Gives (size v) spare (λ _. new) r (with_tree old (spell v levels))) seen_items h
-
--- a struct variant
-module _ (d : Datum) (n : Text) (fs : Vec Field) (gs : List Field) (is : d ≡ StructVariant n fs) (same : gs ≡ fs.items) where
-  seen_fields : structure_variant (text_view n) (fields_view gs) ≡ view d
-  seen_fields = ap (λ hs. structure_variant (text_view n) (fields_view hs)) same ∙ sym (ap view is ∙ view-StructVariant n fs)
-
-  pub struct_variant_fits : (r : Result ElementType Halt) → OnOk r (variant_size (text_view n) (size_fields (fields_view gs) + 5) ≤ max_bytes) → OnOk r (size (view d) ≤ max_bytes)
-  struct_variant_fits r h = subst (λ v. OnOk r (size v ≤ max_bytes)) seen_fields h
-
-  pub wrote_struct_variant : (levels spare : ℕ) (old new : Bytes) (r : Result ElementType Halt)
-      → Gives (variant_size (text_view n) (size_fields (fields_view gs) + 5)) spare (λ _. new) r (with_tree old (variant_at (text_view n) levels (λ inner. enclosed_at document inner (spell_fields (fields_view gs)))))
-      → Gives (size (view d)) spare (λ _. new) r (with_tree old (spell (view d) levels))
-  wrote_struct_variant levels spare old new r h = subst (λ v. Gives (size v) spare (λ _. new) r (with_tree old (spell v levels))) seen_fields h
+-- a variant is written as a struct of one field
+pub puts_variant : (name : Utf8) (v : Value) (levels : ℕ) (old new : Output) (before now : ℕ) (r : Result ElementType Halt) → Puts EmbeddedDocument (size_fields (one_field name v) + 5) (variant_at name levels (spell v)) old new before now r → Puts EmbeddedDocument (variant_size name (size v)) (variant_at name levels (spell v)) old new before now r
+puts_variant name v levels old new before now r h = subst (λ n. Puts EmbeddedDocument n (variant_at name levels (spell v)) old new before now r) (one_size name v) h

@@ -1,17 +1,22 @@
 -- What a writer leaves, whether it comes to its end or halts.
-use Rattle.std.specs.Prelude.{◌≡◌, ℕ, ◌+◌, ◌-◌, ◌*◌, ◌<◌, ◌≤◌, [], ◌∷◌, ◌++◌, length, reverse, take, Option, Some, None, Result, Ok, Err, IsOk}
+use Rattle.std.specs.Prelude.{◌≡◌, ℕ, ◌+◌, ◌-◌, ◌*◌, ◌<◌, ◌≤◌, [], ◌∷◌, ◌++◌, length, reverse, take, Option, Some, Result, Ok, Err, IsOk, IfOk, OnOk}
 use Rattle.bson_base.specs.Sound.{max_bytes}
-use Rattle.bson_base.specs.Tree.{le32}
+use Rattle.bson_base.specs.Text.{Bytes}
+use Rattle.bson_base.specs.Tree.{Tree, le32}
+use Rattle.bson_base.specs.declared.element_type.ElementType.{ElementType}
 use Rattle.bson_datum.specs.Cause.{too_long}
 use Rattle.bson_datum.specs.Refusal.{WriteFault, unwritable, Refusal, here, Segment}
-use Rattle.bson_datum.specs.Stop.{segments_out}
+use Rattle.bson_datum.specs.Stop as stops
+use Rattle.bson_datum.specs.Stop.{segments_out, stop_view}
 use Rattle.bson_datum.specs.ErrorView.{write_fault}
 use Rattle.bson_datum.specs.declared.stop.Refused as code
+use Rattle.bson_datum.specs.declared.stop.Stop.TheVariants.{Refused, NoMemory}
 use Rattle.bson_datum.specs.declared.ser.Fault.{Fault}
 use Rattle.bson_io.specs.Output.{Output, patched}
 use Rattle.bson_laws.specs.Spell.{Writing}
+use Rattle.bson_ser_stream.specs.Writing.{with_tree}
 use Rattle.bson_ser_stream.specs.declared.halt.Halt.{Halt}
-use Rattle.bson_ser_stream.specs.declared.halt.Halt.TheVariants.{Refused, NoMemory, TooLong}
+use Rattle.bson_ser_stream.specs.declared.halt.Halt.TheVariants.{Stopped, TooLong}
 
 -- a refusal as it was met: a fault, and the segments from the innermost outwards
 abbrev pub refusal : code.Refused Fault → Refusal WriteFault
@@ -19,33 +24,31 @@ refusal r = record { path = reverse (segments_out r); fault = write_fault r.faul
 
 -- the refusal, where memory did not run out
 abbrev pub halt_view : Halt → Option (Refusal WriteFault)
-halt_view (Refused r) = Some (refusal r.value)
-halt_view NoMemory = None
+halt_view (Stopped s) = stop_view write_fault s
 halt_view TooLong = Some (here (unwritable too_long))
 
 -- memory ran out
-abbrev pub IsWantOfMemory : Halt → Type 0
-IsWantOfMemory NoMemory = Unit {0}
-IsWantOfMemory h = ⊥
+abbrev pub IsOutOfMemory : Halt → Type 0
+IsOutOfMemory (Stopped s) = stops.IsOutOfMemory s
+IsOutOfMemory TooLong = ⊥
 
--- a fault of the value itself, or want of memory
-abbrev pub IsHereOrWant : WriteFault → Halt → Type 0
-IsHereOrWant f (Refused r) = refusal r.value ≡ here f
-IsHereOrWant f NoMemory = Unit {0}
-IsHereOrWant f TooLong = ⊥
+-- a fault of the value itself, or memory ran out
+abbrev pub IsHereOrMemory : WriteFault → Halt → Type 0
+IsHereOrMemory f (Stopped (Refused r)) = refusal r.value ≡ here f
+IsHereOrMemory f (Stopped NoMemory) = Unit {0}
+IsHereOrMemory f TooLong = ⊥
 
--- the same, seen from the value that has the value at this segment, or want of memory
+-- the same, seen from the value that has the value at this segment, or memory ran out
 abbrev pub IsUnder : Segment → Halt → Halt → Type 0
 IsUnder segment TooLong h = h ≡ TooLong
-IsUnder segment (Refused r) (Refused s) = (s.value.fault ≡ r.value.fault) × (segments_out s.value ≡ segments_out r.value ++ segment ∷ [])
-IsUnder segment h NoMemory = Unit {0}
-IsUnder segment h t = ⊥
+IsUnder segment (Stopped s) (Stopped t) = stops.IsUnder segment s t
+IsUnder segment (Stopped s) TooLong = ⊥
 
 -- Why something of a size is not written into so much spare room: a refusal is the one that is due, memory runs out only where
 -- another refusal is due or the room is too small, and only what has more bytes than a document may is too long.
 abbrev pub Halts : {A : Type 0} → ℕ → ℕ → Writing A → Halt → Type 0
-Halts size spare due (Refused r) = due ≡ Err (refusal r.value)
-Halts size spare due NoMemory = IsOk due → spare < size
+Halts size spare due (Stopped (Refused r)) = due ≡ Err (refusal r.value)
+Halts size spare due (Stopped NoMemory) = IsOk due → spare < size
 Halts size spare due TooLong = max_bytes < size
 
 -- what is due is given, or there is a reason not to
@@ -60,6 +63,18 @@ pub record Grows (old new : Output) (before now : ℕ) : Type 0 where
   pub least : before + length new.bytes ≤ now + length old.bytes
   pub most : now + 2 * length old.bytes ≤ before + 2 * length new.bytes
 
+-- A value of a kind and a size was appended as what is due, and its kind is answered; or there is a reason not to.
+pub record Puts (its : ElementType) (size : ℕ) (due : Writing Tree) (old new : Output) (before now : ℕ) (result : Result ElementType Halt) : Type 0 where
+  pub kind : IfOk result (λ k. k ≡ its)
+  pub bytes : Gives size old.spare (λ _. new.bytes) result (with_tree old.bytes due)
+  pub fits : OnOk result (size ≤ max_bytes)
+  pub grows : Grows old new before now
+
+-- Elements that take so many bytes were appended, so that these bytes are due; or there is a reason not to.
+pub record PutsParts (size : ℕ) (due : Writing Bytes) (old new : Output) (before now : ℕ) (result : Result (Unit {0}) Halt) : Type 0 where
+  pub bytes : Gives size old.spare (λ _. new.bytes) result due
+  pub grows : Grows old new before now
+
 -- A document or an array that begins at a place is ended: a zero stands behind it, and its length in its first four bytes.
 pub record Ends (old new : Output) (start before now : ℕ) : Type 0 where
   pub bytes : new.bytes ≡ patched (old.bytes ++ 0 ∷ []) start (le32 (length old.bytes + 1 - start))
@@ -69,6 +84,6 @@ pub record Ends (old new : Output) (start before now : ℕ) : Type 0 where
 
 -- why a document or an array that begins at a place is not ended: no byte is spare, or it has too many bytes
 abbrev pub EndHalts : Output → ℕ → Halt → Type 0
-EndHalts old start (Refused r) = ⊥
-EndHalts old start NoMemory = old.spare < 1
+EndHalts old start (Stopped (Refused r)) = ⊥
+EndHalts old start (Stopped NoMemory) = old.spare < 1
 EndHalts old start TooLong = max_bytes < length old.bytes + 1 - start

@@ -4,7 +4,7 @@ ghost use Rattle.bson_base.specs.Text.{has_zero};
 ghost use Rattle.bson_datum.specs.Refusal.{invalid_cstring};
 ghost use Rattle.bson_io.specs.Output.{Appended};
 ghost use Rattle.bson_ser_stream.specs.Writing.{front};
-ghost use Rattle.bson_ser_stream.specs.Halting.{Grows, IsHereOrWant};
+ghost use Rattle.bson_ser_stream.specs.Halting.{Grows, IsHereOrMemory};
 
 use crate::halt::Halt;
 use bson_datum::ser::Fault;
@@ -30,7 +30,7 @@ pub(crate) fn has_zero(text: &str) -> bool
 
 /// The refusal of a name that has a zero character.
 pub(crate) fn zero_in(alloc: Global, name: &str) -> Halt
-    ensures { IsHereOrWant (invalid_cstring name.now) result }
+    ensures { IsHereOrMemory (invalid_cstring name.now) result }
 {
     match String::from_str(alloc, name) {
         Ok(name) => Halt::here(alloc, Fault::InvalidCString(name)),

@@ -7,7 +7,7 @@ ghost use Rattle.bson_datum.specs.Refusal.{invalid_document_key};
 ghost use Rattle.bson_datum.specs.View.{view};
 ghost use Rattle.bson_laws.specs.Means.{number_of, key_text};
 ghost use Rattle.bson_laws.specs.Spell.{or_null, carried, spell_key};
-ghost use Rattle.bson_ser_stream.specs.Halting.{Gives, IsHereOrWant};
+ghost use Rattle.bson_ser_stream.specs.Halting.{Gives, IsHereOrMemory};
 
 use crate::element::{has_zero, zero_in};
 use crate::halt::Halt;
@@ -80,7 +80,7 @@ fn inner_key_text<'a>(content: &'a Datum<'_>) -> Option<&'a str>
 
 // The refusal of a key that is no text.
 fn no_text(alloc: Global, key: &Datum<'_>) -> Halt
-    ensures { IsHereOrWant (invalid_document_key (carried (view key.now))) result }
+    ensures { IsHereOrMemory (invalid_document_key (carried (view key.now))) result }
 {
     match carried(alloc, key) {
         Ok(value) => Halt::here(alloc, Fault::InvalidDocumentKey(value)),

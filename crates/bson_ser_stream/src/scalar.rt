@@ -1,11 +1,10 @@
 // Values in which no other value stands.
-ghost use Rattle.std.specs.Prelude.{◌≡◌, ◌≤◌, ◌+◌, length, encode_utf8, pos, IsOk, OnOk, IfOk, Ok};
+ghost use Rattle.std.specs.Prelude.{◌≤◌, ◌+◌, length, encode_utf8, pos, IsOk, OnOk, Ok};
 ghost use Rattle.bson_base.specs.Sound.{max_bytes, max_binary};
 ghost use Rattle.bson_base.specs.Tree.{boolean, double, string, int32, int64, closed_text, after_length};
 ghost use Rattle.bson_io.specs.Output.{Appended};
 ghost use Rattle.bson_laws.specs.Spell.{spell_number, spell_bytes};
-ghost use Rattle.bson_ser_stream.specs.Writing.{with_tree};
-ghost use Rattle.bson_ser_stream.specs.Halting.{Gives, Grows};
+ghost use Rattle.bson_ser_stream.specs.Halting.{Puts, Grows};
 
 use crate::container::MAX_BYTES;
 use crate::halt::Halt;
@@ -27,10 +26,8 @@ pub(crate) fn put_bool<L: Ledger>(
     steps: &mut Steps<L>,
     b: bool,
 ) -> Result<ElementType, Halt>
-    ensures kind { IfOk result (λ k. k ≡ ElementType.Boolean) }
-    ensures bytes { Gives 1 out.old.spare (λ _. out.new.bytes) result
-        (with_tree out.old.bytes (Ok (boolean b))) }
-    ensures grows { Grows out.old out.new steps.old steps.new }
+    ensures { Puts ElementType.Boolean 1 (Ok (boolean b))
+        out.old out.new steps.old steps.new result }
 {
     out.push(u8::from(b), steps)?;
     Ok(ElementType::Boolean)
@@ -43,10 +40,8 @@ pub(crate) fn put_i32<L: Ledger>(
     steps: &mut Steps<L>,
     n: i32,
 ) -> Result<ElementType, Halt>
-    ensures kind { IfOk result (λ k. k ≡ ElementType.Int32) }
-    ensures bytes { Gives 4 out.old.spare (λ _. out.new.bytes) result
-        (with_tree out.old.bytes (Ok (int32 n))) }
-    ensures grows { Grows out.old out.new steps.old steps.new }
+    ensures { Puts ElementType.Int32 4 (Ok (int32 n))
+        out.old out.new steps.old steps.new result }
 {
     out.push_all(&n.to_le_bytes(), steps)?;
     Ok(ElementType::Int32)
@@ -59,10 +54,8 @@ pub(crate) fn put_i64<L: Ledger>(
     steps: &mut Steps<L>,
     number: i64,
 ) -> Result<ElementType, Halt>
-    ensures kind { IfOk result (λ k. k ≡ ElementType.Int64) }
-    ensures bytes { Gives 8 out.old.spare (λ _. out.new.bytes) result
-        (with_tree out.old.bytes (Ok (int64 number))) }
-    ensures grows { Grows out.old out.new steps.old steps.new }
+    ensures { Puts ElementType.Int64 8 (Ok (int64 number))
+        out.old out.new steps.old steps.new result }
 {
     out.push_all(&number.to_le_bytes(), steps)?;
     Ok(ElementType::Int64)
@@ -74,10 +67,8 @@ pub(crate) fn put_u64<L: Ledger>(
     steps: &mut Steps<L>,
     number: u64,
 ) -> Result<ElementType, Halt>
-    ensures kind { IfOk result (λ k. k ≡ ElementType.Int64) }
-    ensures bytes { Gives 8 out.old.spare (λ _. out.new.bytes) result
-        (with_tree out.old.bytes (spell_number ElementType.Int64 (pos number))) }
-    ensures grows { Grows out.old out.new steps.old steps.new }
+    ensures { Puts ElementType.Int64 8 (spell_number ElementType.Int64 (pos number))
+        out.old out.new steps.old steps.new result }
 {
     match i64::try_from(number) {
         Ok(signed) => put_i64(out, steps, signed),
@@ -91,11 +82,8 @@ pub(crate) fn put_double<L: Ledger>(
     steps: &mut Steps<L>,
     number: Double,
 ) -> Result<ElementType, Halt>
-    ensures kind { IfOk result (λ k. k ≡ ElementType.Double) }
-    ensures bytes { Gives (length number.0) out.old.spare (λ _. out.new.bytes) result
-        (with_tree out.old.bytes (Ok (double number.0))) }
-    ensures fits { OnOk result (length number.0 ≤ max_bytes) }
-    ensures grows { Grows out.old out.new steps.old steps.new }
+    ensures { Puts ElementType.Double (length number.0) (Ok (double number.0))
+        out.old out.new steps.old steps.new result }
 {
     out.push_all(&number.0, steps)?;
     Ok(ElementType::Double)
@@ -122,11 +110,8 @@ pub(crate) fn put_text<L: Ledger>(
     steps: &mut Steps<L>,
     text: &str,
 ) -> Result<ElementType, Halt>
-    ensures kind { IfOk result (λ k. k ≡ ElementType.String) }
-    ensures bytes { Gives (length text.now + 5) out.old.spare (λ _. out.new.bytes) result
-        (with_tree out.old.bytes (Ok (string text.now))) }
-    ensures fits { OnOk result (length text.now + 5 ≤ max_bytes) }
-    ensures grows { Grows out.old out.new steps.old steps.new }
+    ensures { Puts ElementType.String (length text.now + 5) (Ok (string text.now))
+        out.old out.new steps.old steps.new result }
 {
     if text.len() + 5 > MAX_BYTES {
         return Err(Halt::TooLong);
@@ -141,11 +126,8 @@ pub(crate) fn put_char<L: Ledger>(
     steps: &mut Steps<L>,
     c: char,
 ) -> Result<ElementType, Halt>
-    ensures kind { IfOk result (λ k. k ≡ ElementType.String) }
-    ensures bytes { Gives (length (encode_utf8 c) + 5) out.old.spare (λ _. out.new.bytes) result
-        (with_tree out.old.bytes (Ok (string (encode_utf8 c)))) }
-    ensures fits { OnOk result (length (encode_utf8 c) + 5 ≤ max_bytes) }
-    ensures grows { Grows out.old out.new steps.old steps.new }
+    ensures { Puts ElementType.String (length (encode_utf8 c) + 5) (Ok (string (encode_utf8 c)))
+        out.old out.new steps.old steps.new result }
 {
     let mut buffer = [0; 4];
     put_text(out, steps, c.encode_utf8(&mut buffer))
@@ -175,11 +157,8 @@ pub(crate) fn put_bytes<L: Ledger>(
     steps: &mut Steps<L>,
     bytes: &[u8],
 ) -> Result<ElementType, Halt>
-    ensures kind { IfOk result (λ k. k ≡ ElementType.Binary) }
-    ensures bytes { Gives (length bytes.now + 5) out.old.spare (λ _. out.new.bytes) result
-        (with_tree out.old.bytes (spell_bytes bytes.now)) }
-    ensures fits { OnOk result (length bytes.now + 5 ≤ max_bytes) }
-    ensures grows { Grows out.old out.new steps.old steps.new }
+    ensures { Puts ElementType.Binary (length bytes.now + 5) (spell_bytes bytes.now)
+        out.old out.new steps.old steps.new result }
 {
     if bytes.len() > MAX_BINARY {
         let length = bytes.len() as u64;

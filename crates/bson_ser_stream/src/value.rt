@@ -1,8 +1,7 @@
 // One pass over a datum. What is known only behind a value is written over its place there: the kind of each element, and the
 // length of each document and array.
-ghost use Rattle.std.specs.Prelude.{◌≡◌, ◌≤◌, ◌+◌, length, OnOk, IfOk};
+ghost use Rattle.std.specs.Prelude.{◌≡◌, ◌+◌, length};
 ghost use Rattle.std.specs.Fmt.{decimal};
-ghost use Rattle.bson_base.specs.Sound.{max_bytes};
 ghost use Rattle.bson_base.specs.Tree.{document, array};
 ghost use Rattle.bson_datum.specs.Refusal.{under, under_index};
 ghost use Rattle.bson_datum.specs.TextView.{text_view};
@@ -11,8 +10,8 @@ ghost use Rattle.bson_datum.specs.View.{view, items_view, entries_view, fields_v
 ghost use Rattle.bson_laws.specs.Means.{key_text};
 ghost use Rattle.bson_laws.specs.Spell.{unbuilt_newtype, newtype_at, spell, spell_items, spell_key, spell_entries, spell_fields, named, variant_at, enclosed_at, key_size, variant_size, size, size_items, size_entries, size_fields};
 ghost use Rattle.bson_ser_stream.specs.ContentsView.{contents_view};
-ghost use Rattle.bson_ser_stream.specs.Writing.{with_tree, with_element, with_entry, with_elements, with_array_elements};
-ghost use Rattle.bson_ser_stream.specs.Halting.{Gives, Grows};
+ghost use Rattle.bson_ser_stream.specs.Writing.{with_element, with_entry, with_elements, with_array_elements};
+ghost use Rattle.bson_ser_stream.specs.Halting.{Puts, PutsParts};
 
 use crate::container::Container;
 use crate::element::{begin_element, has_zero, zero_in};
@@ -55,11 +54,8 @@ pub(crate) fn put_value<L: Ledger>(
     value: &Datum<'_>,
     levels: u32,
 ) -> Result<ElementType, Halt>
-    ensures kind { IfOk result (λ k. k ≡ kind_of (view value.now)) }
-    ensures bytes { Gives (size (view value.now)) out.old.spare (λ _. out.new.bytes) result
-        (with_tree out.old.bytes (spell (view value.now) levels)) }
-    ensures fits { OnOk result (size (view value.now) ≤ max_bytes) }
-    ensures grows { Grows out.old out.new steps.old steps.new }
+    ensures { Puts (kind_of (view value.now)) (size (view value.now)) (spell (view value.now) levels)
+        out.old out.new steps.old steps.new result }
 {
     match value {
         Datum::Bool(b) => put_bool(out, steps, *b),
@@ -108,11 +104,8 @@ fn put_some<L: Ledger>(
     content: &Datum<'_>,
     levels: u32,
 ) -> Result<ElementType, Halt>
-    ensures kind { IfOk result (λ k. k ≡ kind_of (view content.now)) }
-    ensures bytes { Gives (size (view content.now)) out.old.spare (λ _. out.new.bytes) result
-        (with_tree out.old.bytes (spell (view content.now) levels)) }
-    ensures fits { OnOk result (size (view content.now) ≤ max_bytes) }
-    ensures grows { Grows out.old out.new steps.old steps.new }
+    ensures { Puts (kind_of (view content.now)) (size (view content.now)) (spell (view content.now) levels)
+        out.old out.new steps.old steps.new result }
 {
     put_value(out, steps, content, levels)
 }
@@ -126,13 +119,9 @@ fn put_newtype<L: Ledger>(
     content: &Datum<'_>,
     levels: u32,
 ) -> Result<ElementType, Halt>
-    ensures kind { let name = text_view name.now in
-        IfOk result (λ k. k ≡ newtype_kind name (kind_of (view content.now))) }
-    ensures bytes { let name = text_view name.now in let value = view content.now in
-        Gives (size value) out.old.spare (λ _. out.new.bytes) result
-        (with_tree out.old.bytes (newtype_at (unbuilt_newtype name) (spell value levels))) }
-    ensures fits { OnOk result (size (view content.now) ≤ max_bytes) }
-    ensures grows { Grows out.old out.new steps.old steps.new }
+    ensures { let name = text_view name.now in let value = view content.now in
+        Puts (newtype_kind name (kind_of (view content.now))) (size value) (newtype_at (unbuilt_newtype name) (spell value levels))
+        out.old out.new steps.old steps.new result }
 {
     match unbuilt_newtype(name.as_str()) {
         Some(kind) => Err(Halt::caused(out.allocator(), Cause::NotBuilt(kind))),
@@ -149,13 +138,9 @@ fn put_variant<L: Ledger>(
     contents: Contents<'_, '_>,
     levels: u32,
 ) -> Result<ElementType, Halt>
-    ensures kind { IfOk result (λ k. k ≡ ElementType.EmbeddedDocument) }
-    ensures bytes { let name = text_view name.now in let value = contents_view contents.entry in
-        Gives (variant_size name (size value)) out.old.spare (λ _. out.new.bytes) result
-        (with_tree out.old.bytes (variant_at name levels (spell value))) }
-    ensures fits { let name = text_view name.now in let value = contents_view contents.entry in
-        OnOk result (variant_size name (size value) ≤ max_bytes) }
-    ensures grows { Grows out.old out.new steps.old steps.new }
+    ensures { let name = text_view name.now in let value = contents_view contents.entry in
+        Puts ElementType.EmbeddedDocument (variant_size name (size value)) (variant_at name levels (spell value))
+        out.old out.new steps.old steps.new result }
 {
     let document = Container::begin(out, steps, levels)?;
     put_named(out, steps, name, contents, document.levels)?;
@@ -172,12 +157,9 @@ fn put_document<L: Ledger>(
     fields: &[Field<'_>],
     levels: u32,
 ) -> Result<ElementType, Halt>
-    ensures kind { IfOk result (λ k. k ≡ ElementType.EmbeddedDocument) }
-    ensures bytes { let values = fields_view fields.now in
-        Gives (size_fields values + 5) out.old.spare (λ _. out.new.bytes) result
-        (with_tree out.old.bytes (enclosed_at document levels (spell_fields values))) }
-    ensures fits { OnOk result (size_fields (fields_view fields.now) + 5 ≤ max_bytes) }
-    ensures grows { Grows out.old out.new steps.old steps.new }
+    ensures { let values = fields_view fields.now in
+        Puts ElementType.EmbeddedDocument (size_fields values + 5) (enclosed_at document levels (spell_fields values))
+        out.old out.new steps.old steps.new result }
 {
     let document = Container::begin(out, steps, levels)?;
     put_fields(out, steps, fields, document.levels)?;
@@ -193,12 +175,9 @@ fn put_map<L: Ledger>(
     entries: &[Entry<'_>],
     levels: u32,
 ) -> Result<ElementType, Halt>
-    ensures kind { IfOk result (λ k. k ≡ ElementType.EmbeddedDocument) }
-    ensures bytes { let values = entries_view entries.now in
-        Gives (size_entries values + 5) out.old.spare (λ _. out.new.bytes) result
-        (with_tree out.old.bytes (enclosed_at document levels (spell_entries values))) }
-    ensures fits { OnOk result (size_entries (entries_view entries.now) + 5 ≤ max_bytes) }
-    ensures grows { Grows out.old out.new steps.old steps.new }
+    ensures { let values = entries_view entries.now in
+        Puts ElementType.EmbeddedDocument (size_entries values + 5) (enclosed_at document levels (spell_entries values))
+        out.old out.new steps.old steps.new result }
 {
     let document = Container::begin(out, steps, levels)?;
     put_entries(out, steps, entries, document.levels)?;
@@ -214,12 +193,9 @@ fn put_array<L: Ledger>(
     items: &[Datum<'_>],
     levels: u32,
 ) -> Result<ElementType, Halt>
-    ensures kind { IfOk result (λ k. k ≡ ElementType.Array) }
-    ensures bytes { let values = items_view items.now in
-        Gives (size_items 0 values + 5) out.old.spare (λ _. out.new.bytes) result
-        (with_tree out.old.bytes (enclosed_at array levels (spell_items 0 values))) }
-    ensures fits { OnOk result (size_items 0 (items_view items.now) + 5 ≤ max_bytes) }
-    ensures grows { Grows out.old out.new steps.old steps.new }
+    ensures { let values = items_view items.now in
+        Puts ElementType.Array (size_items 0 values + 5) (enclosed_at array levels (spell_items 0 values))
+        out.old out.new steps.old steps.new result }
 {
     let array = Container::begin(out, steps, levels)?;
     put_items(out, steps, items, array.levels)?;
@@ -236,10 +212,9 @@ fn put_fields<L: Ledger>(
     fields: &[Field<'_>],
     levels: u32,
 ) -> Result<(), Halt>
-    ensures bytes { let values = fields_view fields.now in
-        Gives (size_fields values) out.old.spare (λ _. out.new.bytes) result
-        (with_elements out.old.bytes (spell_fields values levels)) }
-    ensures grows { Grows out.old out.new steps.old steps.new }
+    ensures { let values = fields_view fields.now in
+        PutsParts (size_fields values) (with_elements out.old.bytes (spell_fields values levels))
+        out.old out.new steps.old steps.new result }
 {
     for field in fields {
         let value = Contents::Value(&field.value);
@@ -256,10 +231,9 @@ fn put_entries<L: Ledger>(
     entries: &[Entry<'_>],
     levels: u32,
 ) -> Result<(), Halt>
-    ensures bytes { let values = entries_view entries.now in
-        Gives (size_entries values) out.old.spare (λ _. out.new.bytes) result
-        (with_elements out.old.bytes (spell_entries values levels)) }
-    ensures grows { Grows out.old out.new steps.old steps.new }
+    ensures { let values = entries_view entries.now in
+        PutsParts (size_entries values) (with_elements out.old.bytes (spell_entries values levels))
+        out.old out.new steps.old steps.new result }
 {
     for entry in entries {
         put_entry(out, steps, entry, levels)?;
@@ -275,10 +249,9 @@ fn put_items<L: Ledger>(
     items: &[Datum<'_>],
     levels: u32,
 ) -> Result<(), Halt>
-    ensures bytes { let values = items_view items.now in
-        Gives (size_items 0 values) out.old.spare (λ _. out.new.bytes) result
-        (with_array_elements out.old.bytes 0 (spell_items 0 values levels)) }
-    ensures grows { Grows out.old out.new steps.old steps.new }
+    ensures { let values = items_view items.now in
+        PutsParts (size_items 0 values) (with_array_elements out.old.bytes 0 (spell_items 0 values levels))
+        out.old out.new steps.old steps.new result }
 {
     for (index, item) in items.iter().enumerate() {
         put_item(out, steps, index as u64, item, levels)?;
@@ -295,10 +268,9 @@ fn put_named<L: Ledger>(
     contents: Contents<'_, '_>,
     levels: u32,
 ) -> Result<(), Halt>
-    ensures bytes { let name = text_view name.now in let value = contents_view contents.entry in
-        Gives (length name + 2 + size value) out.old.spare (λ _. out.new.bytes) result
-        (with_element out.old.bytes name (named name (spell value levels))) }
-    ensures grows { Grows out.old out.new steps.old steps.new }
+    ensures { let name = text_view name.now in let value = contents_view contents.entry in
+        PutsParts (length name + 2 + size value) (with_element out.old.bytes name (named name (spell value levels)))
+        out.old out.new steps.old steps.new result }
 {
     let key = name.as_str();
     if has_zero(key) {
@@ -315,10 +287,9 @@ fn put_entry<L: Ledger>(
     entry: &Entry<'_>,
     levels: u32,
 ) -> Result<(), Halt>
-    ensures bytes { let key = view entry.now.key in let value = view entry.now.value in
-        Gives (key_size (key_text key) + 2 + size value) out.old.spare (λ _. out.new.bytes) result
-        (with_entry out.old.bytes (spell_key key) (spell value levels)) }
-    ensures grows { Grows out.old out.new steps.old steps.new }
+    ensures { let key = view entry.now.key in let value = view entry.now.value in
+        PutsParts (key_size (key_text key) + 2 + size value) (with_entry out.old.bytes (spell_key key) (spell value levels))
+        out.old out.new steps.old steps.new result }
 {
     let key = written_key(out.allocator(), &entry.key)?;
     put_under_key(out, steps, key, Contents::Value(&entry.value), levels)
@@ -334,10 +305,9 @@ fn put_under_key<L: Ledger>(
     contents: Contents<'_, '_>,
     levels: u32,
 ) -> Result<(), Halt>
-    ensures bytes { let value = contents_view contents.entry in
-        Gives (length key.now + 2 + size value) out.old.spare (λ _. out.new.bytes) result
-        (with_element out.old.bytes key.now (under key.now (spell value levels))) }
-    ensures grows { Grows out.old out.new steps.old steps.new }
+    ensures { let value = contents_view contents.entry in
+        PutsParts (length key.now + 2 + size value) (with_element out.old.bytes key.now (under key.now (spell value levels)))
+        out.old out.new steps.old steps.new result }
 {
     match put_element(out, steps, key, contents, levels) {
         Ok(()) => Ok(()),
@@ -354,10 +324,9 @@ fn put_item<L: Ledger>(
     item: &Datum<'_>,
     levels: u32,
 ) -> Result<(), Halt>
-    ensures bytes { let value = view item.now in
-        Gives (length (decimal index) + 2 + size value) out.old.spare (λ _. out.new.bytes) result
-        (with_element out.old.bytes (decimal index) (under_index index (spell value levels))) }
-    ensures grows { Grows out.old out.new steps.old steps.new }
+    ensures { let value = view item.now in
+        PutsParts (length (decimal index) + 2 + size value) (with_element out.old.bytes (decimal index) (under_index index (spell value levels)))
+        out.old out.new steps.old steps.new result }
 {
     let mut digits = itoa::Buffer::new();
     let value = Contents::Value(item);
@@ -377,10 +346,9 @@ fn put_element<L: Ledger>(
     contents: Contents<'_, '_>,
     levels: u32,
 ) -> Result<(), Halt>
-    ensures bytes { let value = contents_view contents.entry in
-        Gives (length key.now + 2 + size value) out.old.spare (λ _. out.new.bytes) result
-        (with_element out.old.bytes key.now (spell value levels)) }
-    ensures grows { Grows out.old out.new steps.old steps.new }
+    ensures { let value = contents_view contents.entry in
+        PutsParts (length key.now + 2 + size value) (with_element out.old.bytes key.now (spell value levels))
+        out.old out.new steps.old steps.new result }
 {
     let start = out.len();
     begin_element(out, steps, key)?;
@@ -397,11 +365,9 @@ fn put_contents<L: Ledger>(
     contents: Contents<'_, '_>,
     levels: u32,
 ) -> Result<ElementType, Halt>
-    ensures kind { IfOk result (λ k. k ≡ kind_of (contents_view contents.entry)) }
-    ensures bytes { let value = contents_view contents.entry in
-        Gives (size value) out.old.spare (λ _. out.new.bytes) result
-        (with_tree out.old.bytes (spell value levels)) }
-    ensures grows { Grows out.old out.new steps.old steps.new }
+    ensures { let value = contents_view contents.entry in
+        Puts (kind_of (contents_view contents.entry)) (size value) (spell value levels)
+        out.old out.new steps.old steps.new result }
 {
     match contents {
         Contents::Value(value) => put_value(out, steps, value, levels),
