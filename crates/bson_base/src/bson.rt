@@ -82,7 +82,7 @@ impl Bson {
     ///
     /// # Errors
     ///
-    /// Want of memory.
+    /// Memory ran out.
     #[cycle(copy)]
     #[tactic(auto, using(crate::proofs::Rows::row_items))]
     pub fn try_clone(&self, alloc: Global) -> Result<Bson, AllocError>

@@ -62,7 +62,7 @@ impl Document {
     ///
     /// # Errors
     ///
-    /// Want of memory; the document is then unchanged.
+    /// Memory ran out; the document is then unchanged.
     pub fn insert(&mut self, key: String, value: Bson) -> Result<Option<Bson>, AllocError>
         ensures new { OnOk result (pairs_of self.new ≡ put (string_bytes key) (tree_of value) (pairs_of self.old)) }
         ensures old { IfOk result (λ old. option_map tree_of old ≡ lookup (string_bytes key) (pairs_of self.old)) }
@@ -79,7 +79,7 @@ impl Document {
         Ok(None)
     }
 
-    /// The pairs in order, lent. It takes no memory.
+    /// The pairs in order, borrowed. It takes no memory.
     pub fn iter(&self) -> Iter<'_>
         ensures pairs { result ≡ pairs_of self.now }
     {
@@ -91,7 +91,7 @@ impl Document {
     ///
     /// # Errors
     ///
-    /// Want of memory.
+    /// Memory ran out.
     #[cycle(copy)]
     #[tactic(auto, using(crate::proofs::Rows::row_items))]
     pub fn try_clone(&self, alloc: Global) -> Result<Document, AllocError>

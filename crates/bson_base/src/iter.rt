@@ -9,7 +9,7 @@ use indexmap::{IndexSet, set};
 use std::marker::Model;
 use std::vec;
 
-/// The pairs of a document, lent one after another. Contracts see it as the pairs that are left.
+/// The pairs of a document, borrowed one after another. Contracts see it as the pairs that are left.
 #[derive(Debug, Drop)]
 pub struct Iter<'a> {
     keys: &'a [String],

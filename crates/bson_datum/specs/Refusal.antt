@@ -59,7 +59,7 @@ under key = inside (at_key key)
 abbrev pub under_index : {A F : Type 0} → ℕ → Result A (Refusal F) → Result A (Refusal F)
 under_index i = inside (at_index i)
 
--- what a call refuses with: want of memory, a fault without a path, or a failure with the path of a value
+-- what a call refuses with: out of memory, a fault without a path, or a failure with the path of a value
 pub data Failure (F : Type 0) : Type 0 where
   no_memory : Failure F
   bare : F → Failure F

@@ -15,7 +15,7 @@ abbrev pub stop_view : {E F : Type 0} → (E → F) → Stop E → Option (Refus
 stop_view fault_view NoMemory = None
 stop_view fault_view (Refused r) = Some (record { path = reverse (segments_out r.value); fault = fault_view r.value.fault })
 
--- a fault of the value itself, or want of memory
+-- a fault of the value itself, or out of memory
 abbrev pub IsRefusedHere : {E : Type 0} → E → Stop E → Type 0
 IsRefusedHere e NoMemory = Unit {0}
 IsRefusedHere e (Refused r) = (r.value.fault ≡ e) × (segments_out r.value ≡ [])
@@ -24,7 +24,7 @@ abbrev pub IsOutOfMemory : {E : Type 0} → Stop E → Type 0
 IsOutOfMemory NoMemory = Unit {0}
 IsOutOfMemory (Refused r) = ⊥
 
--- the same fault with one more segment, or want of memory
+-- the same fault with one more segment, or out of memory
 abbrev pub IsUnder : {E : Type 0} → Segment → Stop E → Stop E → Type 0
 IsUnder segment old NoMemory = Unit {0}
 IsUnder segment NoMemory (Refused r) = ⊥
@@ -34,7 +34,7 @@ IsUnder segment (Refused r) (Refused s) = (s.value.fault ≡ r.value.fault) × (
 abbrev pub IsUnderKey : {E : Type 0} → Utf8 → Stop E → Stop E → Type 0
 IsUnderKey key = IsUnder (at_key key)
 
--- the failure is the refusal, with its path; or want of memory
+-- the failure is the refusal, with its path; or out of memory
 abbrev pub IsPlaced : {F : Type 0} → Option (Refusal F) → Failure F → Type 0
 IsPlaced None f = f ≡ no_memory
 IsPlaced (Some r) no_memory = Unit {0}

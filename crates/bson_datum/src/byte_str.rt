@@ -1,10 +1,10 @@
 ghost use Rattle.std.specs.Prelude.{◌≡◌};
 ghost use Rattle.bson_datum.specs.ByteStrView.{bytes_view};
 
-/// A byte string, lent or owned.
+/// A byte string, borrowed or owned.
 #[derive(Debug, Drop)]
 pub enum ByteStr<'a> {
-    /// Lent, by the input or by the value that is written.
+    /// Borrowed, by the input or by the value that is written.
     Borrowed(&'a [u8]),
     /// Owned.
     Owned(Vec<u8>),

@@ -9,7 +9,7 @@ use crate::{ByteStr, Datum, Entry, Field, Text};
 use std::alloc::{AllocError, Global};
 
 impl<'a> Text<'a> {
-    /// An equal text: lent where this one is, else a copy.
+    /// An equal text: borrowed where this one is, else a copy.
     pub fn try_clone(&self, alloc: Global) -> Result<Text<'a>, AllocError>
         ensures equal { IfOk result (λ t. text_view t ≡ text_view self.now) }
         ensures lent { IfOk result (λ t. text_lent t ≡ text_lent self.now) }
@@ -20,7 +20,7 @@ impl<'a> Text<'a> {
         }
     }
 
-    /// An equal text that is owned: a copy where this one is lent.
+    /// An equal text that is owned: a copy where this one is borrowed.
     pub fn into_owned<'x>(self, alloc: Global) -> Result<Text<'x>, AllocError>
         ensures equal { IfOk result (λ t. text_view t ≡ text_view self.entry) }
         ensures owned { IfOk result (λ t. text_lent t ≡ false) }
@@ -33,7 +33,7 @@ impl<'a> Text<'a> {
 }
 
 impl<'a> ByteStr<'a> {
-    /// An equal byte string: lent where this one is, else a copy.
+    /// An equal byte string: borrowed where this one is, else a copy.
     pub fn try_clone(&self, alloc: Global) -> Result<ByteStr<'a>, AllocError>
         ensures equal { IfOk result (λ b. bytes_view b ≡ bytes_view self.now) }
         ensures lent { IfOk result (λ b. bytes_lent b ≡ bytes_lent self.now) }
@@ -44,7 +44,7 @@ impl<'a> ByteStr<'a> {
         }
     }
 
-    /// An equal byte string that is owned: a copy where this one is lent.
+    /// An equal byte string that is owned: a copy where this one is borrowed.
     pub fn into_owned<'x>(self, alloc: Global) -> Result<ByteStr<'x>, AllocError>
         ensures equal { IfOk result (λ b. bytes_view b ≡ bytes_view self.entry) }
         ensures owned { IfOk result (λ b. bytes_lent b ≡ false) }
@@ -57,7 +57,7 @@ impl<'a> ByteStr<'a> {
 }
 
 impl<'a> Datum<'a> {
-    /// An equal datum. Its parts are lent where those of this one are, else copies.
+    /// An equal datum. Its parts are borrowed where those of this one are, else copies.
     pub fn try_clone(&self, alloc: Global) -> Result<Datum<'a>, AllocError>
         ensures equal { IfOk result (λ d. view d ≡ view self.now) }
         ensures lent { IfOk result (λ d. loans d ≡ loans self.now) }
@@ -65,7 +65,7 @@ impl<'a> Datum<'a> {
         copy(alloc, self)
     }
 
-    /// An equal datum in which nothing is lent: a copy stands where a part of this one is lent.
+    /// An equal datum in which nothing is borrowed: a copy stands where a part of this one is borrowed.
     pub fn into_owned<'x>(self, alloc: Global) -> Result<Datum<'x>, AllocError>
         ensures equal { IfOk result (λ d. view d ≡ view self.entry) }
         ensures owned { IfOk result IsOwned }
@@ -261,7 +261,7 @@ fn copy_fields<'a>(alloc: Global, fields: &[Field<'a>]) -> Result<Vec<Field<'a>>
     Ok(copies)
 }
 
-// The same datum, with nothing lent in it.
+// The same datum, with nothing borrowed in it.
 #[cycle(owned)]
 #[tactic(auto, using(crate::proofs::Views::item_rows_items, crate::proofs::Views::entry_rows_items, crate::proofs::Views::rows_items, crate::proofs::Lent::item_rows_lent, crate::proofs::Lent::entry_rows_lent, crate::proofs::Lent::rows_lent))]
 fn owned<'x>(alloc: Global, datum: Datum<'_>) -> Result<Datum<'x>, AllocError>
@@ -303,7 +303,7 @@ fn owned<'x>(alloc: Global, datum: Datum<'_>) -> Result<Datum<'x>, AllocError>
     }
 }
 
-// The same newtype, with nothing lent in it.
+// The same newtype, with nothing borrowed in it.
 #[cycle(owned)]
 fn owned_newtype<'x>(
     alloc: Global,
@@ -319,7 +319,7 @@ fn owned_newtype<'x>(
     })
 }
 
-// The same variant around one value, with nothing lent in it.
+// The same variant around one value, with nothing borrowed in it.
 #[cycle(owned)]
 fn owned_newtype_variant<'x>(
     alloc: Global,
@@ -335,7 +335,7 @@ fn owned_newtype_variant<'x>(
     })
 }
 
-// The same tuple struct, with nothing lent in it.
+// The same tuple struct, with nothing borrowed in it.
 #[cycle(owned)]
 #[tactic(auto, using(crate::proofs::Views::item_rows_items, crate::proofs::Lent::item_rows_lent))]
 fn owned_tuple_struct<'x>(
@@ -352,7 +352,7 @@ fn owned_tuple_struct<'x>(
     })
 }
 
-// The same variant with values, with nothing lent in it.
+// The same variant with values, with nothing borrowed in it.
 #[cycle(owned)]
 #[tactic(auto, using(crate::proofs::Views::item_rows_items, crate::proofs::Lent::item_rows_lent))]
 fn owned_tuple_variant<'x>(
@@ -369,7 +369,7 @@ fn owned_tuple_variant<'x>(
     })
 }
 
-// The same struct, with nothing lent in it.
+// The same struct, with nothing borrowed in it.
 #[cycle(owned)]
 #[tactic(auto, using(crate::proofs::Views::rows_items, crate::proofs::Lent::rows_lent))]
 fn owned_struct<'x>(
@@ -386,7 +386,7 @@ fn owned_struct<'x>(
     })
 }
 
-// The same variant with fields, with nothing lent in it.
+// The same variant with fields, with nothing borrowed in it.
 #[cycle(owned)]
 #[tactic(auto, using(crate::proofs::Views::rows_items, crate::proofs::Lent::rows_lent))]
 fn owned_struct_variant<'x>(
@@ -403,7 +403,7 @@ fn owned_struct_variant<'x>(
     })
 }
 
-// The same datum in a box, with nothing lent in it.
+// The same datum in a box, with nothing borrowed in it.
 #[cycle(owned)]
 fn owned_box<'x>(alloc: Global, value: Box<Datum<'_>>) -> Result<Box<Datum<'x>>, AllocError>
     ensures equal { IfOk result (λ b. view b.value ≡ view value.entry.value) }
@@ -413,7 +413,7 @@ fn owned_box<'x>(alloc: Global, value: Box<Datum<'_>>) -> Result<Box<Datum<'x>>,
     Ok(Box::new(alloc, value)?)
 }
 
-// The same data, with nothing lent in them.
+// The same data, with nothing borrowed in them.
 #[cycle(owned)]
 fn owned_items<'x>(alloc: Global, items: Vec<Datum<'_>>) -> Result<Vec<Datum<'x>>, AllocError>
     ensures equal { IfOk result (λ v. items_view v.items ≡ items_view items.entry.items) }
@@ -426,7 +426,7 @@ fn owned_items<'x>(alloc: Global, items: Vec<Datum<'_>>) -> Result<Vec<Datum<'x>
     Ok(copies)
 }
 
-// The same entries, with nothing lent in them.
+// The same entries, with nothing borrowed in them.
 #[cycle(owned)]
 fn owned_entries<'x>(alloc: Global, entries: Vec<Entry<'_>>) -> Result<Vec<Entry<'x>>, AllocError>
     ensures equal { IfOk result (λ v. entries_view v.items ≡ entries_view entries.entry.items) }
@@ -442,7 +442,7 @@ fn owned_entries<'x>(alloc: Global, entries: Vec<Entry<'_>>) -> Result<Vec<Entry
     Ok(copies)
 }
 
-// The same fields, with nothing lent in them.
+// The same fields, with nothing borrowed in them.
 #[cycle(owned)]
 fn owned_fields<'x>(alloc: Global, fields: Vec<Field<'_>>) -> Result<Vec<Field<'x>>, AllocError>
     ensures equal { IfOk result (λ v. fields_view v.items ≡ fields_view fields.entry.items) }

@@ -4,7 +4,7 @@ use bson_base::Bson;
 use std::alloc::{AllocError, Global};
 use std::test::Fail;
 
-// A tuple struct with a variant of each form, their texts lent.
+// A tuple struct with a variant of each form, their texts borrowed.
 fn lent_variants<'a>(alloc: Global) -> Result<Datum<'a>, AllocError> {
     let mut fields = Vec::new(alloc);
     fields.push(Field {
@@ -31,7 +31,7 @@ fn lent_variants<'a>(alloc: Global) -> Result<Datum<'a>, AllocError> {
     })
 }
 
-// A struct with a value of each form that holds others, its texts and its byte string lent.
+// A struct with a value of each form that holds others, its texts and its byte string borrowed.
 fn lent_struct<'a>(alloc: Global) -> Result<Datum<'a>, AllocError> {
     let bytes = Datum::Bytes(ByteStr::Borrowed(b"ab"));
     let newtype = Datum::NewtypeStruct {

@@ -1,10 +1,10 @@
 ghost use Rattle.std.specs.Prelude.{◌≡◌};
 ghost use Rattle.bson_datum.specs.TextView.{text_view};
 
-/// A text, lent or owned.
+/// A text, borrowed or owned.
 #[derive(Debug, Drop)]
 pub enum Text<'a> {
-    /// Lent, by the input or by a shape.
+    /// Borrowed, by the input or by a shape.
     Borrowed(&'a str),
     /// Owned.
     Owned(String),

@@ -1,4 +1,4 @@
--- What a reader answers: what the definition of reading answers, or want of memory.
+-- What a reader answers: what the definition of reading answers, or out of memory.
 use Rattle.std.specs.Prelude.{◌≡◌, Option, Some, None, Result, Ok, Err}
 use Rattle.bson_datum.specs.Cause.{Cause}
 use Rattle.bson_datum.specs.Refusal.{ReadFault, unreadable, Refusal, here, Failure, no_memory, bare, placed}
@@ -17,7 +17,7 @@ abbrev pub RefusesAs : {Y : Type 0} → Option (Refusal ReadFault) → Reading Y
 RefusesAs None answer = Unit {0}
 RefusesAs (Some r) answer = answer ≡ Err r
 
--- a refusal of the value itself for this cause, or want of memory
+-- a refusal of the value itself for this cause, or out of memory
 abbrev pub IsRefusedOrWant : Cause → Option (Refusal ReadFault) → Type 0
 IsRefusedOrWant c None = Unit {0}
 IsRefusedOrWant c (Some r) = r ≡ here (unreadable c)

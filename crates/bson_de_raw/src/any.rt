@@ -97,7 +97,7 @@ fn any_items<'de>(alloc: Global, levels: u32, array: RawArray<'de>) -> Reading<V
     Ok(items)
 }
 
-/// The entries of a document, where so many levels are left for it. Their keys are lent.
+/// The entries of a document, where so many levels are left for it. Their keys are borrowed.
 #[cycle(any)]
 #[inline(never)]
 fn any_entries<'de>(

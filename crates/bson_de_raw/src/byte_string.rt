@@ -1,4 +1,4 @@
-// Byte strings, lent and owned.
+// Byte strings, borrowed and owned.
 ghost use Rattle.std.specs.Prelude.{◌≡◌, Ok};
 ghost use Rattle.bson_rawdoc.specs.DocumentView.{array_bytes};
 ghost use Rattle.bson_rawdoc.specs.ValueView.{raw_value};

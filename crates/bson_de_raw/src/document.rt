@@ -48,7 +48,7 @@ const MAX_LEVELS: u32 = 200;
 ///   From an array a struct takes its fields in the shape's order, one element each; further elements
 ///   stay unread.
 ///
-/// The texts at `str` and the byte strings at `bytes` are lent from the input, and so are all texts and byte
+/// The texts at `str` and the byte strings at `bytes` are borrowed from the input, and so are all texts and byte
 /// strings at `any`, the keys of its maps included, and the keys of a map whose key is `str`. All others
 /// are copies, and so are the names of structs, fields and variants, which are those in the shape.
 ///
@@ -91,7 +91,7 @@ pub fn from_slice_at<'de>(alloc: Global, shape: &Shape, bytes: &'de [u8]) -> de:
     // The document that a value of a plain shape means is read back as the normal form of the value.
     ensures read_back { (v : Value) (t : Tree) → IsPlain shape.now → Fits v shape.now → means v ≡ Some t → IsSound t
         → bytes.now ≡ enc t → GivesValue (norm v) result }
-    // What stands at `str`, `bytes` and `any`, keys included, is lent from the input; all else is owned.
+    // What stands at `str`, `bytes` and `any`, keys included, is borrowed from the input; all else is owned.
     ensures lent { IfOk result (λ d. IsLentAs shape.now bytes.now d) }
 {
     shape.known();

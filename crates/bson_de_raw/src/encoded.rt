@@ -34,7 +34,7 @@ impl<'de> Encoded<'_, 'de> {
         }
     }
 
-    /// Its bytes, lent from the document that it stands in.
+    /// Its bytes, borrowed from the document that it stands in.
     pub(crate) fn bytes(self) -> &'de [u8]
         ensures { result.now ≡ encoded_bytes self.entry }
     {

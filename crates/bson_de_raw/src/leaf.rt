@@ -22,7 +22,7 @@ use bson_rawdoc::RawBsonRef;
 use bson_shape::Leaf;
 use std::alloc::Global;
 
-/// The value at a leaf. Those at `str`, `bytes` and `any` are lent from the document, all others are copies.
+/// The value at a leaf. Those at `str`, `bytes` and `any` are borrowed from the document, all others are copies.
 pub(crate) fn read_leaf<'de>(
     alloc: Global,
     leaf: Leaf,

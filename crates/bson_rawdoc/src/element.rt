@@ -43,7 +43,7 @@ impl<'a> Model for RawElement<'a> {
 }
 
 impl<'a> RawElement<'a> {
-    /// The key, lent from the document.
+    /// The key, borrowed from the document.
     pub fn key(&self) -> &'a str
         ensures key { result.now ≡ self.now.key }
     {
@@ -57,7 +57,7 @@ impl<'a> RawElement<'a> {
         self.kind
     }
 
-    /// The bytes of the value, lent from the document.
+    /// The bytes of the value, borrowed from the document.
     pub fn slice(&self) -> &'a [u8]
         ensures slice { result.now ≡ self.now.value }
     {

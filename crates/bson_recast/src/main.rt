@@ -18,7 +18,7 @@ fn words(rt: &HostRuntime) -> io::Result<Vec<String>> {
     Ok(words)
 }
 
-/// Ends with the status of the run; with 6 or 7 where the words cannot be taken, for want of memory or another cause.
+/// Ends with the status of the run; with 6 or 7 where the words cannot be taken, because memory ran out or another cause.
 fn main(rt: HostRuntime) -> ExitCode {
     let words = match words(&rt) {
         Ok(words) => words,

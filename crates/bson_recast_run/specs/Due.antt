@@ -26,7 +26,7 @@ usage_line = codes "usage: bson_recast [OPTIONS] SHAPE\n"
 abbrev pub line_at : ℕ → ParseError → Utf8
 line_at place e = codes "shape refused at " ++ (decimal place ++ (codes ": " ++ (refusal_text e ++ newline)))
 
--- the line for an error of the parser, but for want of memory
+-- the line for an error of the parser, but because memory ran out
 abbrev pub line_for : ParseError → Option Utf8
 line_for (errors.NotNotation place) = Some (line_at place (errors.NotNotation place))
 line_for (errors.Refused place cause) = Some (line_at place (errors.Refused place cause))

@@ -53,7 +53,7 @@ fn line_at(alloc: Global, place: usize, e: &ParseError) -> Result<String, AllocE
     format!(in alloc; "shape refused at {place}: {e}\n")
 }
 
-// The line for a shape word that is refused. Want of memory has none.
+// The line for a shape word that is refused. Out of memory has none.
 fn line_of(alloc: Global, e: &ParseError) -> Result<String, AllocError>
     ensures { IfOk result (λ l. line_for e.now ≡ Some (string_bytes l)) }
 {
@@ -63,7 +63,7 @@ fn line_of(alloc: Global, e: &ParseError) -> Result<String, AllocError>
     }
 }
 
-// The shape that a word is the notation of, or the line that refuses it. The outer error is want of memory.
+// The shape that a word is the notation of, or the line that refuses it. The outer error means out of memory.
 fn shape_of(alloc: Global, word: &str) -> Result<Result<Shape, String>, AllocError>
     requires { is_option word.now ≡ false }
     ensures { IfOk result (λ r. Asks (word.now ∷ []) r) }
@@ -77,7 +77,7 @@ fn shape_of(alloc: Global, word: &str) -> Result<Result<Shape, String>, AllocErr
     }
 }
 
-// The shape that the words ask for, or the line that refuses them. The outer error is want of memory.
+// The shape that the words ask for, or the line that refuses them. The outer error means out of memory.
 fn asked(alloc: Global, words: &[String]) -> Result<Result<Shape, String>, AllocError>
     ensures { IfOk result (λ r. Asks (map string_bytes words.now) r) }
 {
@@ -87,7 +87,7 @@ fn asked(alloc: Global, words: &[String]) -> Result<Result<Shape, String>, Alloc
     }
 }
 
-// What is due for an input that was read to its end. An error is want of memory.
+// What is due for an input that was read to its end. An error means out of memory.
 fn answer_to(alloc: Global, shape: &Shape, bytes: &[u8]) -> Result<Answer, AllocError>
     ensures { IfOk result (λ a. Answers shape.now bytes.now a.status a.bytes.items (string_bytes a.line)) }
 {
@@ -109,7 +109,7 @@ fn answer_to(alloc: Global, shape: &Shape, bytes: &[u8]) -> Result<Answer, Alloc
     }
 }
 
-// What is due for an input that was not read to its end. An error is want of memory.
+// What is due for an input that was not read to its end. An error means out of memory.
 fn answer_to_fault(alloc: Global, fault: ReadFault) -> Result<Answer, AllocError>
     ensures { IfOk result (λ a. Reports fault a.status a.bytes.items (string_bytes a.line)) }
 {
@@ -126,7 +126,7 @@ fn answer_to_fault(alloc: Global, fault: ReadFault) -> Result<Answer, AllocError
     }
 }
 
-// What is due for these words on this input. An error is want of memory.
+// What is due for these words on this input. An error means out of memory.
 fn prepare<I: Source>(alloc: Global, words: &[String], input: &mut I) -> Result<Answer, AllocError>
     ensures due { IfOk result (λ a. IsDue (map string_bytes words.now) (source_change I.left I.faults input.old input.new)
         a.status a.bytes.items (string_bytes a.line)) }

@@ -1,4 +1,4 @@
--- What means a sound document is written as it, and fails for want of memory alone.
+-- What means a sound document is written as it, and fails only where memory runs out.
 use Rattle.std.proofs.Common.{◌≡◌, [], inl, inr, Some, Ok, ap, sym, subst, ◌∙◌, arith}
 use Rattle.bson_base.specs.Text.{Bytes}
 use Rattle.bson_base.specs.Outcome.{result_map}

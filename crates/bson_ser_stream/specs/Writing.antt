@@ -57,7 +57,7 @@ abbrev pub IsDue : {A : Type 0} → Writing A → Failure WriteFault → Type 0
 IsDue (Ok x) f = ⊥
 IsDue (Err r) f = f ≡ with_path r
 
--- Why something of a size is not written: for want of memory, for the refusal that is due, or for its size.
+-- Why something of a size is not written: because memory ran out, for the refusal that is due, or for its size.
 abbrev pub Fails : {A : Type 0} → ℕ → Writing A → Failure WriteFault → Type 0
 Fails size due f = (f ≡ no_memory) ⊎ IsDue due f ⊎ ((f ≡ too_long_failure) × (max_bytes < size))
 

@@ -16,11 +16,11 @@ use bson_datum::Datum;
 use bson_datum::ser::Fault;
 use std::alloc::{AllocError, Global};
 
-/// The text of a key of a map, lent by the key: it takes no memory.
+/// The text of a key of a map, borrowed by the key: it takes no memory.
 ///
 /// # Errors
 ///
-/// The refusal of a key that is no text, or that has a zero character; or want of memory for what the refusal carries.
+/// The refusal of a key that is no text, or that has a zero character; or out of memory for what the refusal carries.
 pub(crate) fn written_key<'a>(alloc: Global, key: &'a Datum<'_>) -> Result<&'a str, Halt>
     ensures key { Gives 0 0 (λ text. text.now) result (spell_key (view key.now)) }
 {

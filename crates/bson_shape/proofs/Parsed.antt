@@ -60,6 +60,6 @@ refused bytes (Err (errors.Refused q d)) u given p c e =
     let cause : d ≡ c = cc in
     subst (λ (x : ℕ × ShapeError). IsRefusedAt bytes x.0 x.1) (λ i. (place i, cause i)) (refused_at bytes u q d given)
 
--- want of memory is a cause of no form
+-- out of memory is a cause of no form
 pub no_memory : (bytes : Utf8) (r : Result Form ParseError) → IsUtf8 bytes → Gives (λ f. f) r (parsed bytes) → (p : ℕ) → r ≡ Err (errors.Refused p NoMemory) → ⊥
 no_memory bytes r u given p e = (refused bytes r u given p NoMemory e).fault.is

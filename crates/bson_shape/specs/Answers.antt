@@ -10,7 +10,7 @@ error_of (Ok y) = None
 error_of (Err (Not_notation place)) = Some (errors.NotNotation place)
 error_of (Err (Refused r)) = Some (errors.Refused r.place r.cause)
 
--- the error tells of the refusal, or of want of memory
+-- the error tells of the refusal, or of out of memory
 abbrev pub Fails : {Y : Type 0} → ParseError → Result Y Refusal → Type 0
 Fails errors.NoMemory read = Unit {0}
 Fails (errors.NotNotation place) read = error_of read ≡ Some (errors.NotNotation place)

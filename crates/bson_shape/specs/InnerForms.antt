@@ -70,7 +70,7 @@ abbrev pub HasOtherKey : Form → Type 0
 HasOtherKey (map k v) = is_text_key k ≡ false
 HasOtherKey f = ⊥
 
--- the cause holds of the form; want of memory holds of none
+-- the cause holds of the form; out of memory holds of none
 abbrev pub HasCause : ShapeError → Inner → Type 0
 HasCause ReservedName i = HasReservedName i.form
 HasCause RepeatedName i = HasRepeatedName i.form

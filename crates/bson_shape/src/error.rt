@@ -49,7 +49,7 @@ impl<T: Drop> From<AllocFailed<T>> for ShapeError {
 pub enum ParseError {
     /// The text is no notation of a shape. The number is the count of bytes of the longest beginning that it shares with a notation.
     NotNotation(usize),
-    /// A maker refuses a form of the text, and not for want of memory. The number is the index of the form's first byte.
+    /// A maker refuses a form of the text, and not because memory ran out. The number is the index of the form's first byte.
     Refused(usize, ShapeError),
     /// The memory that the call asked for was refused.
     NoMemory,

@@ -1,6 +1,6 @@
 use crate::{FieldShape, Leaf, Shape, VariantShape};
 
-/// The form of a shape, lent to match on.
+/// The form of a shape, borrowed to match on.
 #[derive(Clone, Copy)]
 pub enum Form<'a> {
     /// A shape without inner shapes.

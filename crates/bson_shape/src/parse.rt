@@ -34,7 +34,7 @@ impl Shape {
         // A maker's refusal is answered only where it is the first one that is met,
         ensures refused { (p : ℕ) → (e : ShapeError) → result ≡ Err (ParseError.Refused p e) → IsRefusedAt text.now p e }
 
-        // never for want of memory,
+        // never because memory ran out,
         ensures memory { (p : ℕ) → result ≡ Err (ParseError.Refused p NoMemory) → ⊥ }
 
         // and wherever one is met.

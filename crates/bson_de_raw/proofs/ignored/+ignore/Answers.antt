@@ -26,6 +26,5 @@ pass-ignore-requires t c =
 
 pub pass_inside-returns-in-Err : goal.pass_inside-returns-in-Err
 pass_inside-returns-in-Err t c =
-    let code = c.in-JavaScriptCodeWithScope.code in
     subst (λ v. StopsAs c.under_key.result (pass_inside (passes c.args.levels) (raw_value v))) (sym c.in-JavaScriptCodeWithScope.is)
-    (stops_inside (at_key scope_key) c.in-Err.stop c.under_key.result (passes c.args.levels at_its_key (document_bytes code.scope)) c.under_key.ensures.under c.in-Err.ensures)
+    (stops_inside (at_key scope_key) c.in-Err.stop c.under_key.result (passes c.args.levels at_its_key (document_bytes c.in-JavaScriptCodeWithScope.scope)) c.under_key.ensures.under c.in-Err.ensures)
