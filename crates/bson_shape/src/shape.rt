@@ -515,6 +515,3 @@ fn deepest(fields: &[FieldShape]) -> u16
     }
     levels
 }
-
-#[cfg(test)]
-mod tests;
