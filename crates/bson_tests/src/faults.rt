@@ -5,7 +5,7 @@ use std::alloc::{AllocError, Global};
 use std::test::Fail;
 
 /// The document with the field `i`, an Int32 1.
-const DOCUMENT: &[u8] = b"\x0c\0\0\0\x10i\0\x01\0\0\0\0";
+const DOCUMENT: &[u8; 12] = b"\x0c\0\0\0\x10i\0\x01\0\0\0\0";
 
 /// The ends of a run.
 #[derive(Drop)]
