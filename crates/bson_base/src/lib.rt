@@ -25,6 +25,3 @@ pub use iter::{IntoIter, Iter};
 pub use object_id::ObjectId;
 pub use reserved::reserved_kind;
 pub use timestamp::Timestamp;
-
-#[cfg(test)]
-mod tests;

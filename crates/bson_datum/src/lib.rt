@@ -21,6 +21,3 @@ pub use datum::{Datum, Entry, Field};
 pub use path::{Path, Segment};
 pub use stop::{Refused, Stop};
 pub use text::Text;
-
-#[cfg(test)]
-mod tests;

@@ -35,11 +35,7 @@ pub(crate) fn byte_string<'de>(
 }
 
 /// The bytes of a binary of subtype 0.
-fn bytes_of_binary<'a>(
-    alloc: Global,
-    subtype: BinarySubtype,
-    bytes: &'a [u8],
-) -> Reading<&'a [u8]>
+fn bytes_of_binary<'a>(alloc: Global, subtype: BinarySubtype, bytes: &'a [u8]) -> Reading<&'a [u8]>
     ensures { Reaches (λ b. b.now) result (reads.bytes_of_binary subtype.0 bytes.now) }
 {
     if subtype.0 != 0 {

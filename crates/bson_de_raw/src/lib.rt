@@ -15,8 +15,6 @@ mod map;
 mod reading;
 mod slots;
 mod structure;
-#[cfg(test)]
-mod tests;
 mod text;
 mod tuple;
 mod value;

@@ -27,11 +27,7 @@ pub(crate) fn text<'a>(alloc: Global, value: RawBsonRef<'a>) -> Reading<&'a str>
 }
 
 /// The bytes of a binary of subtype 0 as a text.
-fn text_of_binary<'a>(
-    alloc: Global,
-    subtype: BinarySubtype,
-    bytes: &'a [u8],
-) -> Reading<&'a str>
+fn text_of_binary<'a>(alloc: Global, subtype: BinarySubtype, bytes: &'a [u8]) -> Reading<&'a str>
     ensures { Reaches (λ t. t.now) result (reads.text_of_binary subtype.0 bytes.now) }
 {
     if subtype.0 != 0 {

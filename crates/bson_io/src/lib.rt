@@ -10,8 +10,6 @@ mod memory;
 mod out;
 mod steady;
 mod steps;
-#[cfg(test)]
-mod tests;
 mod transfer;
 
 pub use adapters::{ReadAdapter, WriteAdapter};

@@ -1,9 +1,6 @@
 //! Reads a BSON document on standard input at a shape, and writes it anew on standard output.
 #![tactic(auto)]
 
-#[cfg(test)]
-mod tests;
-
 use bson_rawdoc::{ReadAdapter, WriteAdapter};
 use bson_recast_run::run;
 use std::process::ExitCode;

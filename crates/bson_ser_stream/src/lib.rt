@@ -7,8 +7,6 @@ mod element;
 mod halt;
 mod key;
 mod scalar;
-#[cfg(test)]
-mod tests;
 mod value;
 
 pub use document::{to_buf, to_vec_at, to_vec_counted};

@@ -54,6 +54,3 @@ impl Shape {
 pub fn law_text()
     ensures { (f : form.Form) → IsShape f → machine.parsed (notation.text f) ≡ Ok f }
 {}
-
-#[cfg(test)]
-mod tests;

@@ -516,6 +516,3 @@ fn deepest(fields: &[FieldShape]) -> u16
     }
     levels
 }
-
-#[cfg(test)]
-mod tests;

@@ -62,8 +62,11 @@ put_fields-returns-in_err-put_named g t c =
     let lt : i < length xs = omega (arith, c.loop-field-test.true) in
     let is : fields_view (drop i xs) ≡ fields_view (x ∷ drop (suc i) xs) = ap fields_view (drop-cons xs i x lt ∙ ap (λ y. y ∷ drop (suc i) xs) (sym c.field-item.is)) in
     let kept = c.loop-field.invariant in
-    record { bytes = gives_err _ _ _ _ c.in_err-put_named.field-0.0 _ (p.1 ∙ ap Err p.2)
-    (field_halts c.in_err-put_named.field-0.0 (text_view x.name) (view x.value) (fields_view (drop (suc i) xs)) (fields_view (drop i xs)) (fields_view xs) c.args.levels _ _ c.args.out.now c.loop-field.out is kept.bytes kept.size kept.grows c.in_err-put_named.ensures.bytes); grows = Grows-trans _ _ _ _ _ _ kept.grows c.in_err-put_named.ensures.grows }
+    record {
+      bytes = gives_err _ _ _ _ c.in_err-put_named.field-0.0 _ (p.1 ∙ ap Err p.2)
+          (field_halts c.in_err-put_named.field-0.0 (text_view x.name) (view x.value) (fields_view (drop (suc i) xs)) (fields_view (drop i xs)) (fields_view xs) c.args.levels _ _ c.args.out.now c.loop-field.out is kept.bytes kept.size kept.grows c.in_err-put_named.ensures.bytes);
+      grows = Grows-trans _ _ _ _ _ _ kept.grows c.in_err-put_named.ensures.grows;
+    }
 
 pub put_entries-returns-in_err-put_entry : goal.put_entries-returns-in_err-put_entry
 put_entries-returns-in_err-put_entry g t c =
@@ -74,8 +77,11 @@ put_entries-returns-in_err-put_entry g t c =
     let lt : i < length xs = omega (arith, c.loop-entry-test.true) in
     let is : entries_view (drop i xs) ≡ entries_view (x ∷ drop (suc i) xs) = ap entries_view (drop-cons xs i x lt ∙ ap (λ y. y ∷ drop (suc i) xs) (sym c.entry-item.is)) in
     let kept = c.loop-entry.invariant in
-    record { bytes = gives_err _ _ _ _ c.in_err-put_entry.field-0.0 _ (p.1 ∙ ap Err p.2)
-    (entry_halts c.in_err-put_entry.field-0.0 (view x.key) (view x.value) (entries_view (drop (suc i) xs)) (entries_view (drop i xs)) (entries_view xs) c.args.levels _ _ c.args.out.now c.loop-entry.out is kept.bytes kept.size kept.grows c.in_err-put_entry.ensures.bytes); grows = Grows-trans _ _ _ _ _ _ kept.grows c.in_err-put_entry.ensures.grows }
+    record {
+      bytes = gives_err _ _ _ _ c.in_err-put_entry.field-0.0 _ (p.1 ∙ ap Err p.2)
+          (entry_halts c.in_err-put_entry.field-0.0 (view x.key) (view x.value) (entries_view (drop (suc i) xs)) (entries_view (drop i xs)) (entries_view xs) c.args.levels _ _ c.args.out.now c.loop-entry.out is kept.bytes kept.size kept.grows c.in_err-put_entry.ensures.bytes);
+      grows = Grows-trans _ _ _ _ _ _ kept.grows c.in_err-put_entry.ensures.grows;
+    }
 
 pub put_items-returns-in_err-put_item : goal.put_items-returns-in_err-put_item
 put_items-returns-in_err-put_item g t c =
@@ -86,13 +92,19 @@ put_items-returns-in_err-put_item g t c =
     let lt : i < length xs = omega (arith, c.loop-index-test.true) in
     let is : items_view (drop i xs) ≡ items_view (x ∷ drop (suc i) xs) = ap items_view (drop-cons xs i x lt ∙ ap (λ y. y ∷ drop (suc i) xs) (sym c.index-items-index.is)) in
     let kept = c.loop-index.invariant in
-    record { bytes = gives_err _ _ _ _ c.in_err-put_item.field-0.0 _ (p.1 ∙ ap Err p.2)
-    (item_halts c.in_err-put_item.field-0.0 i (view x) (items_view (drop (suc i) xs)) (items_view (drop i xs)) (items_view xs) c.args.levels _ _ c.args.out.now c.loop-index.out is kept.bytes kept.size kept.grows c.in_err-put_item.ensures.bytes); grows = Grows-trans _ _ _ _ _ _ kept.grows c.in_err-put_item.ensures.grows }
+    record {
+      bytes = gives_err _ _ _ _ c.in_err-put_item.field-0.0 _ (p.1 ∙ ap Err p.2)
+          (item_halts c.in_err-put_item.field-0.0 i (view x) (items_view (drop (suc i) xs)) (items_view (drop i xs)) (items_view xs) c.args.levels _ _ c.args.out.now c.loop-index.out is kept.bytes kept.size kept.grows c.in_err-put_item.ensures.bytes);
+      grows = Grows-trans _ _ _ _ _ _ kept.grows c.in_err-put_item.ensures.grows;
+    }
 
 pub put_element-returns : goal.put_element-returns
 put_element-returns g t c =
-    record { bytes = wrote_element c.args.out.now c.begin_element.new.out c.put_contents.new.out c.patch_byte.new.self c.args.key.now c.len-start.result _ _ _ _ c.in_ok-kind.kind c.len-start.ensures c.in_ok-begin_element.ensures.ok
-    (subst (λ b. Patched c.put_contents.new.out c.patch_byte.new.self c.len-start.result (b ∷ []) c.put_contents.new.steps c.patch_byte.new.steps) c.byte.ensures.byte c.patch_byte.ensures) (contents_view c.args.contents) c.args.levels c.in_ok-kind.ensures.kind c.in_ok-kind.ensures.bytes; grows = grind (arith, common_steps) }
+    record {
+      bytes = wrote_element c.args.out.now c.begin_element.new.out c.put_contents.new.out c.patch_byte.new.self c.args.key.now c.len-start.result _ _ _ _ c.in_ok-kind.kind c.len-start.ensures c.in_ok-begin_element.ensures.ok
+          (subst (λ b. Patched c.put_contents.new.out c.patch_byte.new.self c.len-start.result (b ∷ []) c.put_contents.new.steps c.patch_byte.new.steps) c.byte.ensures.byte c.patch_byte.ensures) (contents_view c.args.contents) c.args.levels c.in_ok-kind.ensures.kind c.in_ok-kind.ensures.bytes;
+      grows = grind (arith, common_steps);
+    }
 
 pub put_value-returns-in-Seq : goal.put_value-returns-in-Seq
 put_value-returns-in-Seq g t c = puts_array c.args.levels _ _ _ _ _ c.args.value.now c.in-Seq.items c.deref-in-Seq.result.now c.in-Seq.is c.deref-in-Seq.ensures.value c.put_array.ensures

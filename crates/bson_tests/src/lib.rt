@@ -1,0 +1,21 @@
+//! Tests of the library crates: what no contract says of them, and worked rows of whole runs.
+#![tactic(auto)]
+
+#[cfg(test)]
+mod data;
+#[cfg(test)]
+mod debug;
+#[cfg(test)]
+mod ends;
+#[cfg(test)]
+mod faults;
+#[cfg(test)]
+mod reading;
+#[cfg(test)]
+mod runs;
+#[cfg(test)]
+mod shapes;
+#[cfg(test)]
+mod values;
+#[cfg(test)]
+mod writing;
