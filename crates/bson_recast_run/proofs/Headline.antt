@@ -1,5 +1,5 @@
 -- What is written under the headline's conditions.
-use Rattle.std.proofs.Common.{◌≡◌, List, [], ◌∷◌, ◌++◌, Bool, true, false, cond, Option, Some, None, refl, ap, subst, ◌∙◌, inl, inr, arith, append-nil}
+use Rattle.std.proofs.Common.{◌≡◌, List, [], ◌∷◌, ◌++◌, Bool, true, false, cond, Option, Some, None, refl, ap, sym, subst, ◌∙◌, inl, inr, append-nil}
 use Rattle.std.specs.Prelude.{◌⊎◌, ◌&&◌, ℕ, IfSome, nat_eq}
 use Rattle.std.specs.Io.KnownBytes.{Keeps, Appends}
 use Rattle.std.proofs.lemmas.Bool.{eqb-true}
@@ -20,7 +20,7 @@ use Rattle.bson_recast_run.specs.declared.status.Status.TheVariants as statuses
 use Rattle.bson_recast_run.specs.Complete.{recast_status, status_due, WritesExactly}
 use Rattle.bson_recast_run.specs.Due.{Request, recast_at, refused_with, usage_line, is_option, at_shape, request}
 use Rattle.bson_recast_run.specs.Run.{Run, AllQuiet}
-use Rattle.bson_recast_run.specs.Recasting.{Recast, writes, recast_of}
+use Rattle.bson_recast_run.specs.Recasting.{writes, recast_of}
 use Rattle.bson_recast_run.specs.Rows.{IsDue, DoneRow, Told, IsAnswered}
 use Rattle.bson_recast_run.proofs.Inputs.{whole}
 use Rattle.bson_recast_run.proofs.Statuses.{status_read}

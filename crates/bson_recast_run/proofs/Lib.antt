@@ -5,3 +5,4 @@ pub mod Inputs
 pub mod Statuses
 pub mod Headline
 pub mod Words
+pub mod Answered

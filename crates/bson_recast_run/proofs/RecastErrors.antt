@@ -1,6 +1,6 @@
 -- What a recast comes to, from the answers of its halves.
-use Rattle.std.proofs.Common.{◌≡◌, Bool, true, false, Option, Some, None, Result, Ok, Err, refl, ap, sym, subst, ◌∙◌, inl, inr}
-use Rattle.std.specs.Prelude.{◌≢◌, ◌⊎◌, ◌<◌, ◌≤◌, nat_lt}
+use Rattle.std.proofs.Common.{◌≡◌, Bool, true, false, Result, Ok, Err, refl, ap, sym, subst, ◌∙◌, inl, inr}
+use Rattle.std.specs.Prelude.{◌≢◌, ◌⊎◌, ◌≤◌, nat_lt}
 use Rattle.std.specs.Global.{Vec}
 use Rattle.std.specs.Prelude.{ℕ}
 use Rattle.std.proofs.lemmas.Bool.{le-ltb, lt-ltb}
@@ -8,7 +8,6 @@ use Rattle.bson_base.specs.Text.{Bytes}
 use Rattle.bson_base.specs.Outcome.{result_map}
 use Rattle.bson_base.specs.Sound.{max_bytes}
 use Rattle.bson_base.specs.Tree.{Tree, enc}
-use Rattle.bson_base.proofs.Outcomes.{map_ok}
 use Rattle.bson_shape.specs.Form.{Form}
 use Rattle.bson_datum.specs.Value.{Value}
 use Rattle.bson_datum.specs.Refusal.{ReadFault, WriteFault, Failure, no_memory, bare, placed}
@@ -21,7 +20,7 @@ use Rattle.bson_de_raw.specs.Gives.{FailsAs}
 use Rattle.bson_ser_stream.specs.Writing.{Fails, IsDue, too_long_failure}
 use Rattle.bson_recast_run.specs.declared.recasting.RecastError.{RecastError}
 use Rattle.bson_recast_run.specs.declared.recasting.RecastError.TheVariants.{Read, Write, NoMemory}
-use Rattle.bson_recast_run.specs.Recasting.{Recast, writes, unread, written, recast_read, recast_of, Unwritten, IsRecast, IsReadError, IsWriteError}
+use Rattle.bson_recast_run.specs.Recasting.{writes, written, recast_read, recast_of, Unwritten, IsRecast, IsReadError, IsWriteError}
 
 -- ---- from the halves to the whole
 
