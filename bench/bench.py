@@ -161,6 +161,17 @@ def texts(count):
     return "{texts:[str]}", document([element(4, "texts", array((2, string(line(i))) for i in range(count)))])
 
 
+def opened(count):
+    """An array of so many documents of an ObjectId, a date and a binary of 16 bytes, which have no shape of their own at `any`."""
+    draws = Draws(7)
+    data = lambda length: bytes(draws.below(256) for _ in range(length))
+
+    def one():
+        binary = struct.pack("<i", 16) + b"\x04" + data(16)
+        return document([element(7, "_id", data(12)), element(9, "at", struct.pack("<q", draws.below(2**41))), element(5, "user", binary)])
+    return "any", document([element(4, "items", array([(3, one()) for _ in range(count)]))])
+
+
 WORKLOADS = {
     "rows": lambda: rows(100_000),
     "rows, a tenth": lambda: rows(10_000),
@@ -171,6 +182,7 @@ WORKLOADS = {
     "wide at a map": lambda: wide("[str:i32]", 100_000),
     "wide at a map, a tenth": lambda: wide("[str:i32]", 10_000),
     "texts": lambda: texts(3_000),
+    "opened": lambda: opened(20_000),
     "18,000 fields in order": lambda: fields(18_000, False),
     "9,000 fields in order": lambda: fields(9_000, False),
     "18,000 fields in reverse": lambda: fields(18_000, True),

@@ -59,6 +59,5 @@ decimal_plain n =
     let ds = decimal_are_digits n in
     record {
       text = is_utf8-from_IsUtf8 (decimal n) (IsUtf8-from_ascii (decimal n) (digits_ascii (decimal n) ds));
-      no_zero = digits_no_zero (decimal n) ds;
-      no_dollar = digits_no_dollar (decimal n) ds;
+      free = record { no_zero = digits_no_zero (decimal n) ds; no_dollar = digits_no_dollar (decimal n) ds };
     }

@@ -5,6 +5,7 @@ pub mod Tree
 pub mod Sound
 pub mod Outcome
 pub mod Instant
+pub mod Made
 pub mod BsonView
 pub mod Pairs
 pub mod Next

@@ -24,8 +24,12 @@ abbrev pub begins_with_dollar : Utf8 → Bool
 begins_with_dollar [] = false
 begins_with_dollar (c ∷ cs) = eqb c 36
 
+-- The name does not begin with `$` and holds no zero character.
+pub record IsFreeName (name : Utf8) : Type 0 where
+  pub no_zero : has_zero name ≡ false
+  pub no_dollar : begins_with_dollar name ≡ false
+
 -- A name that may stand as a key in every document: a text that does not begin with `$` and holds no zero character.
 pub record IsPlainName (name : Utf8) : Type 0 where
   pub text : is_utf8 name ≡ true
-  pub no_zero : has_zero name ≡ false
-  pub no_dollar : begins_with_dollar name ≡ false
+  pub free : IsFreeName name

@@ -1,4 +1,4 @@
--- Why a value is refused. Source: serde's data model.
+-- Why a value is refused. Source: serde's `de::Error` (invalid type and length, missing and duplicate field, unknown variant), and the limits of this library.
 use Rattle.std.specs.Prelude.{ℕ, ℤ}
 use Rattle.bson_base.specs.Text.{Utf8}
 use Rattle.bson_base.specs.declared.element_type.ElementType.{ElementType}
@@ -17,6 +17,8 @@ pub data Cause : Type 0 where
   not_one_char : Cause
   -- the bytes of a binary are not UTF-8
   not_utf8 : Cause
+  -- the text or byte string is to be borrowed, and cannot be: it was made by opening a value, or ill-formed texts are replaced in this reading
+  not_borrowed : Cause
   -- the array has this many elements, which are fewer than the shape takes
   invalid_length : ℕ → Cause
   -- no element has the name of this field
@@ -29,11 +31,11 @@ pub data Cause : Type 0 where
   contents_wanted : Cause
   -- a document names a variant that has no contents
   unit_in_document : Cause
-  -- a value of this kind stands where a document is due
+  -- the whole value is written as this kind, which is no document
   top_level : ElementType → Cause
   -- a binary of so many bytes, which are more than a binary may have
   binary_too_long : ℕ → Cause
   -- the document would have more bytes than a document may
   too_long : Cause
-  -- a value of this kind is not read or written yet at its place
+  -- a value of this kind is not written yet at its place
   not_built : ElementType → Cause

@@ -5,7 +5,7 @@ use Rattle.bson_datum.specs.Cause as cause
 use Rattle.bson_datum.specs.Refusal.{ReadFault, end_of_stream, unreadable, WriteFault, unwritable, invalid_document_key, invalid_cstring, unsigned_exceeds, Failure, no_memory, bare, placed}
 use Rattle.bson_datum.specs.PathView.{path_view}
 use Rattle.bson_datum.specs.declared.cause.Cause.{Cause}
-use Rattle.bson_datum.specs.declared.cause.Cause.TheVariants.{Raw, TooDeep, InvalidType, OutOfRange, NotOneChar, NotUtf8, InvalidLength, MissingField, DuplicateField, UnknownVariant, ContentsWanted, UnitInDocument, TopLevel, BinaryTooLong, TooLong, NotBuilt}
+use Rattle.bson_datum.specs.declared.cause.Cause.TheVariants.{Raw, TooDeep, InvalidType, OutOfRange, NotOneChar, NotUtf8, NotBorrowed, InvalidLength, MissingField, DuplicateField, UnknownVariant, ContentsWanted, UnitInDocument, TopLevel, BinaryTooLong, TooLong, NotBuilt}
 use Rattle.bson_datum.specs.declared.de.Fault as de_fault
 use Rattle.bson_datum.specs.declared.de.Fault.TheVariants as de_faults
 use Rattle.bson_datum.specs.declared.ser.Fault as ser_fault
@@ -20,6 +20,7 @@ cause_view (InvalidType k) = cause.invalid_type k
 cause_view (OutOfRange n) = cause.out_of_range n
 cause_view NotOneChar = cause.not_one_char
 cause_view NotUtf8 = cause.not_utf8
+cause_view NotBorrowed = cause.not_borrowed
 cause_view (InvalidLength n) = cause.invalid_length n
 cause_view (MissingField t) = cause.missing_field (string_bytes t)
 cause_view (DuplicateField t) = cause.duplicate_field (string_bytes t)

@@ -1,8 +1,10 @@
 pub mod Value
 pub mod TextView
 pub mod ByteStrView
+pub mod Marked
 pub mod View
 pub mod Loans
+pub mod MarkedView
 pub mod Cause
 pub mod Refusal
 pub mod PathView

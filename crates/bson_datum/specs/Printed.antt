@@ -5,7 +5,7 @@ use Rattle.bson_base.specs.Text.{Utf8}
 use Rattle.bson_base.specs.Kind.{name}
 use Rattle.bson_base.specs.Tree.{kind}
 use Rattle.bson_rawdoc.specs.Printed.{printed_fault}
-use Rattle.bson_datum.specs.Cause.{Cause, raw, too_deep, invalid_type, out_of_range, not_one_char, not_utf8, invalid_length, missing_field, duplicate_field, unknown_variant, contents_wanted, unit_in_document, top_level, binary_too_long, too_long, not_built}
+use Rattle.bson_datum.specs.Cause.{Cause, raw, too_deep, invalid_type, out_of_range, not_one_char, not_utf8, not_borrowed, invalid_length, missing_field, duplicate_field, unknown_variant, contents_wanted, unit_in_document, top_level, binary_too_long, too_long, not_built}
 use Rattle.bson_datum.specs.Refusal.{Segment, Path, at_key, at_index, ReadFault, end_of_stream, unreadable, WriteFault, unwritable, invalid_document_key, invalid_cstring, unsigned_exceeds, Failure, no_memory, bare, placed}
 
 -- the segment at a place of a path: a key has a point before it unless it comes first, an index stands in brackets
@@ -37,6 +37,7 @@ printed_cause (invalid_type k) = codes "invalid type: " ++ name k
 printed_cause (out_of_range n) = codes "integer " ++ signed_decimal n ++ codes " out of range"
 printed_cause not_one_char = codes "not one character"
 printed_cause not_utf8 = codes "bytes are not UTF-8"
+printed_cause not_borrowed = codes "cannot be borrowed"
 printed_cause (invalid_length n) = codes "invalid length " ++ decimal n
 printed_cause (missing_field t) = codes "missing field " ++ t
 printed_cause (duplicate_field t) = codes "duplicate field " ++ t

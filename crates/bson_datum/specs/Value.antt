@@ -1,5 +1,5 @@
--- Values of serde's data model.
-use Rattle.std.specs.Prelude.{ℕ, ℤ, pos, negsuc, Bool, ◌&&◌, not, int_lt, if◌then◌else◌, Option, Some, None, codes}
+-- Values of serde's data model, without f32, i128, u128 and the names of enums.
+use Rattle.std.specs.Prelude.{ℕ, ℤ, pos, neg_ℤ, ◌^◌, ◌-◌, Bool, ◌&&◌, not, int_lt, if◌then◌else◌, Option, Some, None, codes}
 use Rattle.std.specs.Str.{bytes_eq}
 use Rattle.bson_base.specs.Text.{Bytes, Utf8}
 use Rattle.bson_base.specs.Reserved.{reserved_kind}
@@ -17,12 +17,16 @@ pub data IntegerType : Type 0 where
   u32 : IntegerType
   u64 : IntegerType
 
+-- the negative of a number
+abbrev pub minus : ℕ → ℤ
+minus n = neg_ℤ (pos n)
+
 -- the least number of a type
 abbrev pub least : IntegerType → ℤ
-least i8 = negsuc 127
-least i16 = negsuc 32767
-least i32 = negsuc 2147483647
-least i64 = negsuc 9223372036854775807
+least i8 = minus (2 ^ 7)
+least i16 = minus (2 ^ 15)
+least i32 = minus (2 ^ 31)
+least i64 = minus (2 ^ 63)
 least u8 = pos 0
 least u16 = pos 0
 least u32 = pos 0
@@ -30,14 +34,14 @@ least u64 = pos 0
 
 -- the greatest number of a type
 abbrev pub greatest : IntegerType → ℤ
-greatest i8 = pos 127
-greatest i16 = pos 32767
-greatest i32 = pos 2147483647
-greatest i64 = pos 9223372036854775807
-greatest u8 = pos 255
-greatest u16 = pos 65535
-greatest u32 = pos 4294967295
-greatest u64 = pos 18446744073709551615
+greatest i8 = pos (2 ^ 7 - 1)
+greatest i16 = pos (2 ^ 15 - 1)
+greatest i32 = pos (2 ^ 31 - 1)
+greatest i64 = pos (2 ^ 63 - 1)
+greatest u8 = pos (2 ^ 8 - 1)
+greatest u16 = pos (2 ^ 16 - 1)
+greatest u32 = pos (2 ^ 32 - 1)
+greatest u64 = pos (2 ^ 64 - 1)
 
 -- the number is one of the type
 abbrev pub in_range : IntegerType → ℤ → Bool
@@ -55,46 +59,59 @@ written_as u32 = Int64
 written_as u64 = Int64
 
 mutual
-  -- a value
-  pub data Value : Type 0 where
-    boolean : Bool → Value
-    integer : (type : IntegerType) → (number : ℤ) → Value
+  -- a value, whose texts and byte strings are of this type
+  pub data ValueOf (T : Type 0) : Type 0 where
+    boolean : Bool → ValueOf T
+    integer : (type : IntegerType) → (number : ℤ) → ValueOf T
     -- a floating point number of 64 bits, by its eight bytes
-    double : Bytes → Value
+    double : Bytes → ValueOf T
     -- a character, by its code point
-    character : ℕ → Value
-    str : Utf8 → Value
-    bytes : Bytes → Value
+    character : ℕ → ValueOf T
+    str : T → ValueOf T
+    bytes : T → ValueOf T
     -- an optional value that is not there, and one that is
-    none : Value
-    some : Value → Value
-    unit : Value
-    unit_structure : (name : Utf8) → Value
-    unit_variant : (variant : Utf8) → Value
-    newtype : (name : Utf8) → (value : Value) → Value
-    newtype_variant : (variant : Utf8) → (value : Value) → Value
-    sequence : (items : Items) → Value
-    tuple : (items : Items) → Value
-    tuple_structure : (name : Utf8) → (items : Items) → Value
-    tuple_variant : (variant : Utf8) → (items : Items) → Value
-    map : (entries : Entries) → Value
-    structure : (name : Utf8) → (fields : FieldValues) → Value
-    structure_variant : (variant : Utf8) → (fields : FieldValues) → Value
+    none : ValueOf T
+    some : ValueOf T → ValueOf T
+    unit : ValueOf T
+    unit_structure : (name : T) → ValueOf T
+    unit_variant : (variant : T) → ValueOf T
+    newtype : (name : T) → (value : ValueOf T) → ValueOf T
+    newtype_variant : (variant : T) → (value : ValueOf T) → ValueOf T
+    sequence : (items : ItemsOf T) → ValueOf T
+    tuple : (items : ItemsOf T) → ValueOf T
+    tuple_structure : (name : T) → (items : ItemsOf T) → ValueOf T
+    tuple_variant : (variant : T) → (items : ItemsOf T) → ValueOf T
+    map : (entries : EntriesOf T) → ValueOf T
+    structure : (name : T) → (fields : FieldsOf T) → ValueOf T
+    structure_variant : (variant : T) → (fields : FieldsOf T) → ValueOf T
 
   -- the values of a sequence or a tuple, in order
-  pub data Items : Type 0 where
-    no_items : Items
-    item : (value : Value) → (rest : Items) → Items
+  pub data ItemsOf (T : Type 0) : Type 0 where
+    no_items : ItemsOf T
+    item : (value : ValueOf T) → (rest : ItemsOf T) → ItemsOf T
 
   -- the entries of a map, in order
-  pub data Entries : Type 0 where
-    no_entries : Entries
-    entry : (key : Value) → (value : Value) → (rest : Entries) → Entries
+  pub data EntriesOf (T : Type 0) : Type 0 where
+    no_entries : EntriesOf T
+    entry : (key : ValueOf T) → (value : ValueOf T) → (rest : EntriesOf T) → EntriesOf T
 
   -- the fields of a struct or a variant with their values, in order
-  pub data FieldValues : Type 0 where
-    no_field_values : FieldValues
-    field_value : (name : Utf8) → (value : Value) → (rest : FieldValues) → FieldValues
+  pub data FieldsOf (T : Type 0) : Type 0 where
+    no_field_values : FieldsOf T
+    field_value : (name : T) → (value : ValueOf T) → (rest : FieldsOf T) → FieldsOf T
+
+-- a value
+abbrev pub Value : Type 0
+Value = ValueOf Utf8
+
+abbrev pub Items : Type 0
+Items = ItemsOf Utf8
+
+abbrev pub Entries : Type 0
+Entries = EntriesOf Utf8
+
+abbrev pub FieldValues : Type 0
+FieldValues = FieldsOf Utf8
 
 abbrev pub reserved_or_document : Option ElementType → ElementType
 reserved_or_document (Some k) = k

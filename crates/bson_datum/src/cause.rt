@@ -17,6 +17,8 @@ pub enum Cause {
     NotOneChar,
     /// The bytes of a binary are not UTF-8.
     NotUtf8,
+    /// The text or byte string is to be borrowed, and is not a part of the input.
+    NotBorrowed,
     /// The array has this many elements, which are fewer than the shape takes.
     InvalidLength(u64),
     /// No element has the name of this field.
@@ -35,7 +37,7 @@ pub enum Cause {
     BinaryTooLong(u64),
     /// The document would have more than 2147483647 bytes.
     TooLong,
-    /// A value of this kind is not read or written yet at its place.
+    /// A value of this kind is not written yet at its place.
     NotBuilt(ElementType),
 }
 
@@ -54,6 +56,7 @@ impl fmt::Display for Cause {
             Cause::OutOfRange(number) => write!(f, "integer {number} out of range"),
             Cause::NotOneChar => f.write_str("not one character"),
             Cause::NotUtf8 => f.write_str("bytes are not UTF-8"),
+            Cause::NotBorrowed => f.write_str("cannot be borrowed"),
             Cause::InvalidLength(length) => write!(f, "invalid length {length}"),
             Cause::MissingField(name) => write!(f, "missing field {name}"),
             Cause::DuplicateField(name) => write!(f, "duplicate field {name}"),

@@ -14,12 +14,16 @@ use Rattle.bson_datum.specs.declared.de.Error.{Error}
 use Rattle.bson_laws.specs.Fits.{Fits}
 use Rattle.bson_laws.specs.Means.{means, norm}
 use Rattle.bson_laws.specs.Plain.{IsPlain}
-use Rattle.bson_laws.specs.Reads.{reads_document}
+use Rattle.bson_base.specs.Outcome.{result_map}
+use Rattle.bson_datum.specs.Marked.{Marked, contents}
+use Rattle.bson_datum.specs.MarkedView.{marked}
+use Rattle.bson_datum.proofs.Marks.{marked-contents}
+use Rattle.bson_laws.specs.Reads.{reads_document, reads_marked}
 use Rattle.bson_laws.proofs.Fitted.{views_means}
 use Rattle.bson_laws.proofs.ReadBack.{views_reads}
 use Rattle.bson_de_raw.specs.Gives.{FailsAs, Gives, GivesValue}
 
--- where the answer is a value, running out of memory alone fails
+-- where the answer is a value, want of memory alone fails
 fails_for_memory : (f : Failure ReadFault) (v : Value) (answer : Result Value (Failure ReadFault)) → answer ≡ Ok v → FailsAs f answer → f ≡ no_memory
 fails_for_memory no_memory v answer is h = refl
 fails_for_memory (bare f) v answer is h = absurd cc
@@ -29,6 +33,19 @@ gives_value : (v : Value) (r : Result Datum Error) (answer : Result Value (Failu
 gives_value v (Ok d) answer is h = cc
 gives_value v (Err e) answer is h = fails_for_memory (read_failure e) v answer is h
 
-pub read_back : (s : Form) (bytes : Bytes) (v : Value) (t : Tree) (r : Result Datum Error) → IsShape s → IsPlain s → Fits v s → means v ≡ Some t → IsSound t → bytes ≡ enc t → Gives view r (reads_document s bytes) → GivesValue (norm v) r
+fails_without : (f : Failure ReadFault) (answer : Result Marked (Failure ReadFault)) → FailsAs f answer → FailsAs f (result_map contents answer)
+fails_without no_memory answer h = tt
+fails_without (bare f) answer h = ap (result_map contents) h
+fails_without (placed path f) answer h = ap (result_map contents) h
+
+gives_without : (r : Result Datum Error) (answer : Result Marked (Failure ReadFault)) → Gives marked r answer → Gives view r (result_map contents answer)
+gives_without (Ok d) answer h = ap (result_map contents) h ∙ ap Ok (marked-contents d)
+gives_without (Err e) answer h = fails_without (read_failure e) answer h
+
+-- what is given with its marks is given without them
+pub gives_document : (s : Form) (bytes : Bytes) (r : Result Datum Error) → Gives marked r (reads_marked s bytes) → Gives view r (reads_document s bytes)
+gives_document s bytes r h = gives_without r (reads_marked s bytes) h
+
+pub read_back : (s : Form) (bytes : Bytes) (v : Value) (t : Tree) (r : Result Datum Error) → IsShape s → IsPlain s → Fits v s → means v ≡ Some t → IsSound t → bytes ≡ enc t → Gives marked r (reads_marked s bytes) → GivesValue (norm v) r
 read_back s bytes v t r shape plain fits mean sound is exact =
-    gives_value (norm v) r (reads_document s bytes) (ap (reads_document s) is ∙ views_reads s t (norm v) shape sound (views_means v s t plain fits mean sound.clean)) exact
+    gives_value (norm v) r (reads_document s bytes) (ap (reads_document s) is ∙ views_reads s t (norm v) shape sound (views_means v s t plain fits mean sound.clean)) (gives_document s bytes r exact)

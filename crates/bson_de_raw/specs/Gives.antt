@@ -1,31 +1,11 @@
--- What a reader answers: what the definition of reading answers, or out of memory.
-use Rattle.std.specs.Prelude.{◌≡◌, Option, Some, None, Result, Ok, Err}
-use Rattle.bson_datum.specs.Cause.{Cause}
-use Rattle.bson_datum.specs.Refusal.{ReadFault, unreadable, Refusal, here, Failure, no_memory, bare, placed}
-use Rattle.bson_datum.specs.Stop.{stop_view}
+-- What a reader of whole documents returns: what the definition of reading answers, or out of memory.
+use Rattle.std.specs.Prelude.{◌≡◌, Result, Ok, Err}
+use Rattle.bson_datum.specs.Refusal.{ReadFault, Failure, no_memory, bare, placed}
 use Rattle.bson_datum.specs.Value.{Value}
 use Rattle.bson_datum.specs.View.{view}
-use Rattle.bson_datum.specs.ErrorView.{read_fault, read_failure}
+use Rattle.bson_datum.specs.ErrorView.{read_failure}
 use Rattle.bson_datum.specs.declared.datum.Datum.{Datum}
-use Rattle.bson_datum.specs.declared.de.Fault.{Fault}
 use Rattle.bson_datum.specs.declared.de.Error.{Error}
-use Rattle.bson_datum.specs.declared.stop.Stop.{Stop}
-use Rattle.bson_laws.specs.Reads.{Reading}
-
--- the answer is this refusal; nothing is said where memory ran out
-abbrev pub RefusesAs : {Y : Type 0} → Option (Refusal ReadFault) → Reading Y → Type 0
-RefusesAs None answer = Unit {0}
-RefusesAs (Some r) answer = answer ≡ Err r
-
--- a refusal of the value itself for this cause, or out of memory
-abbrev pub IsRefusedOrWant : Cause → Option (Refusal ReadFault) → Type 0
-IsRefusedOrWant c None = Unit {0}
-IsRefusedOrWant c (Some r) = r ≡ here (unreadable c)
-
--- A reader inside a document gives what is answered, its value seen so, or its refusal with the path so far; or memory ran out.
-abbrev pub Reaches : {X Y : Type 0} → (X → Y) → Result X (Stop Fault) → Reading Y → Type 0
-Reaches see (Ok x) answer = answer ≡ Ok (see x)
-Reaches see (Err s) answer = RefusesAs (stop_view read_fault s) answer
 
 -- the answer is this failure; nothing is said where memory ran out
 abbrev pub FailsAs : {Y : Type 0} → Failure ReadFault → Result Y (Failure ReadFault) → Type 0

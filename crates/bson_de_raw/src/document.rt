@@ -1,18 +1,17 @@
-ghost use Rattle.std.specs.Prelude.{◌≡◌, Some, IfOk};
+ghost use Rattle.std.specs.Prelude.{◌≡◌, Some};
 ghost use Rattle.bson_base.specs.Sound.{IsSound};
 ghost use Rattle.bson_base.specs.Tree.{Tree, enc};
+ghost use Rattle.bson_datum.specs.MarkedView.{marked};
 ghost use Rattle.bson_datum.specs.Value.{Value};
-ghost use Rattle.bson_datum.specs.View.{view};
 ghost use Rattle.bson_laws.specs.Fits.{Fits};
-ghost use Rattle.bson_laws.specs.Lent.{IsLentAs};
 ghost use Rattle.bson_laws.specs.Means.{means, norm};
 ghost use Rattle.bson_laws.specs.Plain.{IsPlain};
-ghost use Rattle.bson_laws.specs.Reads.{reads_document};
+ghost use Rattle.bson_laws.specs.Reads.{reads_marked};
 ghost use Rattle.bson_de_raw.specs.Gives.{Gives, GivesValue};
 
-use crate::encoded::Encoded;
-use crate::value::read_value;
 use bson_datum::{Datum, de};
+use bson_de::read_value;
+use bson_met::Met;
 use bson_rawdoc::RawDocument;
 use bson_shape::Shape;
 use std::alloc::Global;
@@ -31,6 +30,9 @@ const MAX_LEVELS: u32 = 200;
 /// - `any` takes a Boolean, an Int32 as `i32`, an Int64 as `i64`, a Double, a String, a Binary of subtype 0, a
 ///   Null as the unit, an array as a sequence and a document as a map whose keys are texts, with the values
 ///   in them taken in the same way.
+/// - A value of a kind that serde's data model lacks is taken as the document that it is opened to, at a struct, a map,
+///   an enum and `any`: an ObjectId as `{"$oid": ..}` with its hexadecimal digits, a DateTime as
+///   `{"$date": {"$numberLong": ..}}`, and so on for the other kinds, as in MongoDB's extended JSON.
 /// - `ignored` takes every value, and is the unit. The value is walked to its end, and so are every
 ///   document, array and scope in it.
 /// - An option is none at a Null, and some value of its shape at every other kind. A newtype takes what its
@@ -49,8 +51,8 @@ const MAX_LEVELS: u32 = 200;
 ///   stay unread.
 ///
 /// The texts at `str` and the byte strings at `bytes` are borrowed from the input, and so are all texts and byte
-/// strings at `any`, the keys of its maps included, and the keys of a map whose key is `str`. All others
-/// are copies, and so are the names of structs, fields and variants, which are those in the shape.
+/// strings at `any` that stand there, the keys of its maps included, and the keys of a map whose key is `str`. All
+/// others are owned, and so are the names of structs, fields and variants, which are those in the shape.
 ///
 /// Keys in the shape's order are found at once. The first other key of a struct with sixteen or more
 /// fields has the names put into a map, where it and each key after it that is not found at once is
@@ -70,13 +72,12 @@ const MAX_LEVELS: u32 = 200;
 ///   - `Raw`: a fault of the bytes, before any shape looks at the value.
 ///   - `TooDeep`: a document, an array or a scope at level 201.
 ///   - `InvalidType`: a value of another kind than the shape takes.
-///   - `NotBuilt`: at a struct, the contents of a struct variant, a map, an enum and `any` a value of a kind that
-///     serde's data model lacks (ObjectId, DateTime, Binary of a subtype other than 0, and the like), which is
-///     not read there yet.
 ///   - `OutOfRange`: a number that does not lie in the range of the shape's integer type, or one in an array
 ///     at `bytebuf` that is no byte.
 ///   - `NotOneChar`: at `char` a String or a key of no character or of more than one.
 ///   - `NotUtf8`: at `str` and `string` a Binary of subtype 0 whose bytes are not UTF-8.
+///   - `NotBorrowed`: at `str` and `bytes` a text, a key or a byte string that does not stand in the input, as the digits
+///     of an ObjectId that is opened.
 ///   - `InvalidLength`: at a struct, a tuple, a tuple struct and the contents of a tuple or a struct variant an
 ///     array of so many elements, which are fewer than its fields or parts.
 ///   - `UnknownVariant`: at an enum a String, a key of a map or a first key that is the name of no variant.
@@ -87,12 +88,11 @@ const MAX_LEVELS: u32 = 200;
 ///     and has no element.
 /// - `NoMemory` where memory ran out.
 pub fn from_slice_at<'de>(alloc: Global, shape: &Shape, bytes: &'de [u8]) -> de::Result<Datum<'de>>
-    ensures exact { Gives view result (reads_document shape.now bytes.now) }
+    // The value, and which of its texts and byte strings are borrowed.
+    ensures exact { Gives marked result (reads_marked shape.now bytes.now) }
     // The document that a value of a plain shape means is read back as the normal form of the value.
     ensures read_back { (v : Value) (t : Tree) → IsPlain shape.now → Fits v shape.now → means v ≡ Some t → IsSound t
         → bytes.now ≡ enc t → GivesValue (norm v) result }
-    // What stands at `str`, `bytes` and `any`, keys included, is borrowed from the input; all else is owned.
-    ensures lent { IfOk result (λ d. IsLentAs shape.now bytes.now d) }
 {
     shape.known();
     read_document(alloc, shape, bytes)
@@ -100,11 +100,10 @@ pub fn from_slice_at<'de>(alloc: Global, shape: &Shape, bytes: &'de [u8]) -> de:
 
 /// `from_slice_at`, but for its promise on what is read back.
 fn read_document<'de>(alloc: Global, shape: &Shape, bytes: &'de [u8]) -> de::Result<Datum<'de>>
-    ensures exact { Gives view result (reads_document shape.now bytes.now) }
-    ensures lent { IfOk result (λ d. IsLentAs shape.now bytes.now d) }
+    ensures exact { Gives marked result (reads_marked shape.now bytes.now) }
 {
     let document = RawDocument::from_bytes(bytes)?;
-    match read_value(alloc, shape, MAX_LEVELS, Encoded::Document(document)) {
+    match read_value(alloc, shape, &Met::of_document(MAX_LEVELS, document)) {
         Ok(value) => Ok(value),
         Err(stop) => Err(de::Error::from_stop(alloc, stop)),
     }

@@ -5,6 +5,7 @@ use Rattle.std.specs.Char.{IsScalar}
 use Rattle.std.specs.Str.{bytes_eq, chars}
 use Rattle.std.proofs.lemmas.Slice.Eq.{bytes_eq-Decides}
 use Rattle.std.proofs.lemmas.Str.{chars-encodes}
+use Rattle.bson_base.specs.Pairs.{lookup}
 use Rattle.bson_base.specs.Text.{Utf8}
 use Rattle.bson_base.specs.Reserved.{reserved_kind}
 use Rattle.bson_base.specs.Sound.{IsClean, ArePairsClean, AreTreesClean, Lacks}
@@ -20,7 +21,7 @@ use Rattle.bson_datum.specs.Value.{IntegerType, i32, i64, in_range, written_as, 
 use Rattle.bson_laws.specs.Leaves.{LeafKind, anything, booleans, numbers, doubles, characters, texts, byte_strings, byte_buffers, units, leaf_kind}
 use Rattle.bson_laws.specs.Variants.{content_of}
 use Rattle.bson_laws.specs.Plain.{IsPlainKey, IsPlain, AreFieldsPlain, ArePartsPlain, AreVariantsPlain, IsContentPlain}
-use Rattle.bson_laws.specs.Views.{lookup, as_integer, integer_of_tree, null_of_tree, one_character, as_character, views_any, views_any_items, views_any_entries, views_leaf, views_leaf_key, views_key, views_entries, views_option, named_unit, absent, views_at, views, views_items, views_parts, views_variant, views_content, views_fields}
+use Rattle.bson_laws.specs.Views.{as_integer, one_character, as_character, views_any, views_any_items, views_any_entries, views_leaf, views_leaf_key, views_key, views_entries, named_unit, absent, views_at, views, views_items, views_parts, views_variant, views_content, views_fields}
 use Rattle.bson_laws.specs.Means.{key_text, number_of, some_or_none, under_name, means, means_items, means_entries, means_fields, norm, norm_items, norm_entries, norm_fields}
 use Rattle.bson_laws.specs.Fits.{IsAny, AreAnyItems, AreAnyEntries, FitsLeaf, FitsLeafKey, FitsKey, Fits, ItemsFit, PartsFit, EntriesFit, FieldsFit}
 use Rattle.bson_laws.proofs.Fitting.{fits_leaf}
@@ -36,16 +37,16 @@ in_range_is : (type : IntegerType) (n : ℤ) (b : Bool) → in_range type n ≡ 
 in_range_is type n true e t = ap (λ c. cond c (Some (integer type n)) None) e
 in_range_is type n false e t = absurd cc
 
-wide_number : (b : Bool) (n : ℤ) (t : Tree) → cond b None (Some (int64 n)) ≡ Some t → integer_of_tree t ≡ Some n
-wide_number true n t e = absurd cc
-wide_number false n t e = ap integer_of_tree (sym (tree_is (int64 n) t e))
+wide_number : (type : IntegerType) (b : Bool) (n : ℤ) (t : Tree) → cond b None (Some (int64 n)) ≡ Some t → views_leaf (numbers type) t ≡ as_integer type n
+wide_number type true n t e = absurd cc
+wide_number type false n t e = ap (views_leaf (numbers type)) (sym (tree_is (int64 n) t e))
 
 -- the tree that a number means is that number
-number_tree : (k : ElementType) (n : ℤ) (t : Tree) → number_of k n ≡ Some t → integer_of_tree t ≡ Some n
-number_tree Int32 n t e = ap integer_of_tree (sym (tree_is (int32 n) t e))
-number_tree k n t e = wide_number _ n t e
+number_tree : (type : IntegerType) (k : ElementType) (n : ℤ) (t : Tree) → number_of k n ≡ Some t → views_leaf (numbers type) t ≡ as_integer type n
+number_tree type Int32 n t e = ap (views_leaf (numbers type)) (sym (tree_is (int32 n) t e))
+number_tree type k n t e = wide_number type _ n t e
 
-chosen_t : (a : Bool) (t : Tree) (o : Option Tree) → a ≡ true → cond a (Some t) o ≡ Some t
+pub chosen_t : (a : Bool) (t : Tree) (o : Option Tree) → a ≡ true → cond a (Some t) o ≡ Some t
 chosen_t true t o p = refl
 chosen_t false t o p = absurd cc
 
@@ -88,7 +89,7 @@ unnamed key (field_value m v vs) (field n s fs) ps f e l =
 -- ---- leaves
 
 -- the text of a character has that character alone
-one_again : (c : ℕ) → IsScalar c → chars (encode_utf8 c) ≡ c ∷ []
+pub one_again : (c : ℕ) → IsScalar c → chars (encode_utf8 c) ≡ c ∷ []
 one_again c h = ap chars (sym (append-nil (encode_utf8 c))) ∙ chars-encodes (c ∷ []) (ap (λ b. b && true) h)
 
 character_again : (c : ℕ) → IsScalar c → as_character (encode_utf8 c) ≡ Some (value.character c)
@@ -140,7 +141,7 @@ leaf_means : (k : LeafKind) (v : Value) (t : Tree) → FitsLeaf k v → means v 
 leaf_means anything v t f e = any_means v t f e
 leaf_means booleans (value.boolean b) t f e = ap (views_leaf booleans) (sym (tree_is (tree.boolean b) t e))
 leaf_means (numbers type) (integer other n) t f e =
-    ap (option_and_then (as_integer type)) (number_tree (written_as other) n t e) ∙ in_range_is type n (in_range type n) refl f.1 ∙ ap (λ k. Some (integer k n)) (sym f.0)
+    number_tree type (written_as other) n t e ∙ in_range_is type n (in_range type n) refl f.1 ∙ ap (λ k. Some (integer k n)) (sym f.0)
 leaf_means doubles (value.double bits) t f e = ap (views_leaf doubles) (sym (tree_is (tree.double bits) t e))
 leaf_means characters (value.character x) t f e = ap (views_leaf characters) (sym (tree_is (string (encode_utf8 x)) t e)) ∙ character_again x f
 leaf_means texts (str x) t f e = ap (views_leaf texts) (sym (tree_is (string x) t e))
@@ -181,22 +182,22 @@ key_means s k x p f e = absurd p
 -- ---- options
 
 -- a value of the form is at an option some value, but null is none
-present : (view : Tree → Option Value) (t : Tree) (v : Value) → view t ≡ Some v → views_option view t ≡ Some (some_or_none (Some t) v)
-present view null v e = refl
-present view t v e = ap (option_map value.some) e
+present : (s : Form) (t : Tree) (v : Value) → views s t ≡ Some v → views (optional s) t ≡ Some (some_or_none (Some t) v)
+present s null v e = refl
+present s t v e = ap (option_map value.some) e
 
 -- ---- all values
 
 mutual
   pub views_means : (v : Value) (s : Form) (t : Tree) → IsPlain s → Fits v s → means v ≡ Some t → IsClean t → views s t ≡ Some (norm v)
   views_means v (leaf l) t p f e c = leaf_means (leaf_kind l) v t (fits_leaf v l f) e
-  views_means value.none (optional s) t p f e c = ap (views_option (views s)) (sym (tree_is null t e))
-  views_means (value.some v) (optional s) t p f e c = present (views s) t (norm v) (views_means v s t p f e c) ∙ ap (λ o. Some (some_or_none o (norm v))) (sym e)
+  views_means value.none (optional s) t p f e c = ap (views (optional s)) (sym (tree_is null t e))
+  views_means (value.some v) (optional s) t p f e c = present s t (norm v) (views_means v s t p f e c) ∙ ap (λ o. Some (some_or_none o (norm v))) (sym e)
   views_means (value.newtype m v) (newtype n s) t p f e c =
       let u = free_newtype (is_reserved_newtype m) (means v) t e in
       ap (option_map (value.newtype n)) (views_means v s t p.1 f.1 u.1 c) ∙ ap (λ x. Some (value.newtype x (norm v))) (sym f.0)
   views_means (value.unit_structure m) (unit_structure n) t p f e c =
-      ap (λ u. option_map (λ _. value.unit_structure n) (null_of_tree u)) (sym (tree_is null t e)) ∙ ap (λ x. Some (value.unit_structure x)) (sym f)
+      ap (views (unit_structure n)) (sym (tree_is null t e)) ∙ ap (λ x. Some (value.unit_structure x)) (sym f)
   views_means (value.sequence vs) (sequence s) t p f e c =
       let a = some_map array (means_items vs) t e in
       subst (λ x. IsClean x → views (sequence s) x ≡ Some (value.sequence (norm_items vs))) a.2 (λ c'. ap (option_map value.sequence) (views_means_items vs s a.0 p f a.1 c')) c

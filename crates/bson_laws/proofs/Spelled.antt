@@ -123,7 +123,7 @@ mutual
   spell_is (newtype_variant name v) t levels e c d =
       let m = some_map (under_name name) (means v) t e in
       subst (λ x. IsClean x → depth x ≤ levels → spell (newtype_variant name v) levels ≡ Ok x) m.2
-      (λ c' d'. variant_is name levels (spell v) m.0 c'.0.no_zero (omega arith) (λ n le. spell_is v m.0 n m.1 c'.2 le)) c d
+      (λ c' d'. variant_is name levels (spell v) m.0 c'.0.free.no_zero (omega arith) (λ n le. spell_is v m.0 n m.1 c'.2 le)) c d
   spell_is (tuple vs) t levels e c d =
       let m = some_map array (means_items vs) t e in
       subst (λ x. IsClean x → depth x ≤ levels → spell (tuple vs) levels ≡ Ok x) m.2
@@ -135,12 +135,12 @@ mutual
   spell_is (tuple_variant name vs) t levels e c d =
       let m = some_map (λ ts. under_name name (array ts)) (means_items vs) t e in
       subst (λ x. IsClean x → depth x ≤ levels → spell (tuple_variant name vs) levels ≡ Ok x) m.2
-      (λ c' d'. variant_is name levels (λ inner. enclosed_at array inner (spell_items 0 vs)) (array m.0) c'.0.no_zero (omega arith)
+      (λ c' d'. variant_is name levels (λ inner. enclosed_at array inner (spell_items 0 vs)) (array m.0) c'.0.free.no_zero (omega arith)
       (λ n le. enclosed array (spell_items 0 vs) m.0 (trees_depth m.0) n le (λ k le'. spell_items_are 0 vs m.0 k m.1 c'.2 le'))) c d
   spell_is (structure_variant name fs) t levels e c d =
       let m = some_map (λ ps. under_name name (document ps)) (means_fields fs) t e in
       subst (λ x. IsClean x → depth x ≤ levels → spell (structure_variant name fs) levels ≡ Ok x) m.2
-      (λ c' d'. variant_is name levels (λ inner. enclosed_at document inner (spell_fields fs)) (document m.0) c'.0.no_zero (omega arith)
+      (λ c' d'. variant_is name levels (λ inner. enclosed_at document inner (spell_fields fs)) (document m.0) c'.0.free.no_zero (omega arith)
       (λ n le. enclosed document (spell_fields fs) m.0 (pairs_depth m.0) n le (λ k le'. spell_fields_are fs m.0 k m.1 c'.2 le'))) c d
   spell_is (structure name fs) t levels e c d =
       let u = unreserved (reserved_kind name) (option_map document (means_fields fs)) t e in
@@ -168,7 +168,7 @@ mutual
       subst (λ u. ArePairsClean u → pairs_depth u ≤ levels → spell_entries (entry k v es) levels ≡ Ok u) q.2
       (λ c' d'.
       ap (λ o. written_key k o >>= λ key. under key (spell v levels) >>= λ t. spell_entries es levels >>= λ qs. Ok (pair key t qs)) a.1
-      ∙ ap (λ z. cond z (Err (here (invalid_cstring a.0))) (Ok a.0) >>= λ key. under key (spell v levels) >>= λ t. spell_entries es levels >>= λ qs. Ok (pair key t qs)) c'.0.no_zero
+      ∙ ap (λ z. cond z (Err (here (invalid_cstring a.0))) (Ok a.0) >>= λ key. under key (spell v levels) >>= λ t. spell_entries es levels >>= λ qs. Ok (pair key t qs)) c'.0.free.no_zero
       ∙ ap (λ r. under a.0 r >>= λ t. spell_entries es levels >>= λ qs. Ok (pair a.0 t qs)) (spell_is v b.0 levels b.1 c'.2 (omega arith))
       ∙ ap (λ r. r >>= λ qs. Ok (pair a.0 b.0 qs)) (spell_entries_are es q.0 levels q.1 c'.3 (omega arith)))
       c d
@@ -180,7 +180,7 @@ mutual
       let b = some_map (pair name a.0) (means_fields fs) ps a.2 in
       subst (λ u. ArePairsClean u → pairs_depth u ≤ levels → spell_fields (field_value name v fs) levels ≡ Ok u) b.2
       (λ c' d'.
-      ap (λ z. cond z (Err (here (invalid_cstring name))) (under name (spell v levels)) >>= λ t. spell_fields fs levels >>= λ qs. Ok (pair name t qs)) c'.0.no_zero
+      ap (λ z. cond z (Err (here (invalid_cstring name))) (under name (spell v levels)) >>= λ t. spell_fields fs levels >>= λ qs. Ok (pair name t qs)) c'.0.free.no_zero
       ∙ ap (λ r. under name r >>= λ t. spell_fields fs levels >>= λ qs. Ok (pair name t qs)) (spell_is v a.0 levels a.1 c'.2 (omega arith))
       ∙ ap (λ r. r >>= λ qs. Ok (pair name a.0 qs)) (spell_fields_are fs b.0 levels b.1 c'.3 (omega arith)))
       c d

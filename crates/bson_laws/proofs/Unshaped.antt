@@ -1,70 +1,83 @@
--- What a clean tree is without a shape is read from its bytes.
-use Rattle.std.proofs.Common.{◌≡◌, ℕ, zero, suc, ◌^◌, ◌<◌, ◌≤◌, length, Option, Some, Ok, refl, ap, sym, ◌∙◌, arith}
+-- What a clean tree is without a shape is read from it.
+use Rattle.std.proofs.Common.{◌≡◌, ℕ, zero, suc, ◌≤◌, true, Option, Some, Ok, refl, ap, sym, ◌∙◌, arith}
 use Rattle.std.specs.Prelude.{option_map, option_and_then}
-use Rattle.bson_base.specs.Text.{Bytes, Utf8}
+use Rattle.bson_base.specs.Text.{Utf8}
 use Rattle.bson_base.specs.Outcome.{◌>>=◌, result_map}
-use Rattle.bson_base.specs.Sound.{IsClean, ArePairsClean, AreTreesClean}
-use Rattle.bson_base.specs.Tree.{Tree, double, string, document, array, binary, boolean, null, int32, int64, Pairs, no_pairs, pair, Trees, no_trees, tree, enc, elements, array_elements, depth, pairs_depth, trees_depth}
-use Rattle.bson_base.proofs.Lengths.{elements_size, array_elements_size}
+use Rattle.bson_base.specs.Sound.{IsClean}
+use Rattle.bson_base.specs.Tree.{Tree, double, string, document, array, binary, boolean, null, javascript_code_with_scope, int32, int64, Pairs, no_pairs, pair, Trees, no_trees, tree, depth}
 use Rattle.bson_base.proofs.Outcomes.{some_is, some_map}
-use Rattle.bson_rawdoc.specs.Walk.{walk}
+use Rattle.bson_rawdoc.specs.Node as node
+use Rattle.bson_rawdoc.specs.Node.{Node, Nodes, tree_node, pair_nodes, tree_nodes}
+use Rattle.bson_rawdoc.specs.Piece.{Piece, borrowed}
 use Rattle.bson_datum.specs.Value as value
 use Rattle.bson_datum.specs.Value.{i32, i64, Value, Items, item, Entries, no_entries, entry}
-use Rattle.bson_datum.specs.Cause.{too_deep}
-use Rattle.bson_laws.specs.Reads.{Reading, refused, reads_items, reads_entries, read_plain, key_as_text, reads_judged, read_any}
+use Rattle.bson_datum.specs.Marked.{Marked, MarkedEntries, contents}
+use Rattle.bson_datum.specs.Refusal.{under, under_index}
+use Rattle.bson_laws.specs.Judged.{Reading, Mode, plain, judged}
+use Rattle.bson_laws.specs.Taken.{unmended}
+use Rattle.bson_laws.specs.ReadsLeaf.{put_entry, read_any, any_items, any_entries}
+use Rattle.bson_laws.specs.Containers.{reads_items, reads_entries}
 use Rattle.bson_laws.specs.Views.{views_any, views_any_items, views_any_entries, views_items, views_entries}
-use Rattle.bson_laws.proofs.Values.{raw_of}
-use Rattle.bson_laws.proofs.Encoded.{walk_inside}
-use Rattle.bson_laws.proofs.Ignored.{judged_again}
+use Rattle.bson_laws.proofs.Judged.{ReadAs, judged_again}
 use Rattle.bson_laws.proofs.Items.{ReadsBack, items_again}
 use Rattle.bson_laws.proofs.Entries.{new_first, entries_again}
 
--- ---- items and entries, each of them viewed without a shape
+-- ---- items and entries, each of them viewed and read without a shape
 
 abbrev view_text : Utf8 → Option Value
 view_text key = Some (value.str key)
 
-any_items : (ts : Trees) → views_any_items ts ≡ views_items views_any ts
-any_items no_trees = refl
-any_items (tree t ts) = ap (λ o. option_and_then (λ v. option_map (item v) o) (views_any t)) (any_items ts)
+viewed_items : (ts : Trees) → views_any_items ts ≡ views_items views_any ts
+viewed_items no_trees = refl
+viewed_items (tree t ts) = ap (λ o. option_and_then (λ v. option_map (item v) o) (views_any t)) (viewed_items ts)
 
-any_entries : (ps : Pairs) → views_any_entries ps ≡ views_entries view_text views_any ps
-any_entries no_pairs = refl
-any_entries (pair key t ps) = ap (λ o. option_and_then (λ v. option_map (entry (value.str key) v) o) (views_any t)) (any_entries ps)
+viewed_entries : (ps : Pairs) → views_any_entries ps ≡ views_entries view_text views_any ps
+viewed_entries no_pairs = refl
+viewed_entries (pair key t ps) = ap (λ o. option_and_then (λ v. option_map (entry (value.str key) v) o) (views_any t)) (viewed_entries ps)
+
+-- a value, judged and read without a shape
+abbrev pub reads_any : Mode → Node → Reading Marked
+reads_any mode n = judged mode n >>= λ _. read_any mode n
+
+abbrev pub key_text : Mode → Piece → Reading Marked
+key_text mode key = Ok (value.str (unmended mode key))
+
+pub items_any : (mode : Mode) (i : ℕ) (ns : Nodes) → any_items mode i ns ≡ reads_items (reads_any mode) i ns
+items_any mode i node.ended = refl
+items_any mode i (node.faulty e) = refl
+items_any mode i (node.then_node key n ns) = ap (λ r. under_index i (reads_any mode n) >>= λ v. result_map (item v) r) (items_any mode (suc i) ns)
+
+pub entries_any : (mode : Mode) (ns : Nodes) (es : MarkedEntries) → any_entries mode ns es ≡ reads_entries (key_text mode) (reads_any mode) ns es
+entries_any mode node.ended es = refl
+entries_any mode (node.faulty e) es = refl
+entries_any mode (node.then_node key n ns) es = λ i. under key.bytes (reads_any mode n) >>= λ v. entries_any mode ns (put_entry (value.str (unmended mode key)) v es) i
 
 -- ---- values
 
--- a value is read where the items and the entries in it are
-plain_read : (items : Bytes → Reading Items) (entries : Bytes → Reading Entries) (levels : ℕ)
-    → ((ts : Trees) (vs : Items) → AreTreesClean ts → trees_depth ts < levels → length (enc (array ts)) < 2 ^ 31 → views_any_items ts ≡ Some vs → items (enc (array ts)) ≡ Ok vs)
-    → ((ps : Pairs) (es : Entries) → ArePairsClean ps → pairs_depth ps < levels → length (enc (document ps)) < 2 ^ 31 → views_any_entries ps ≡ Some es → entries (enc (document ps)) ≡ Ok es)
-    → (t : Tree) (v : Value) → IsClean t → depth t ≤ levels → length (enc t) < 2 ^ 31 → views_any t ≡ Some v → read_plain items entries (raw_of t) ≡ Ok v
-plain_read items entries levels a b (boolean x) v c d l e = ap Ok (some_is (value.boolean x) v e)
-plain_read items entries levels a b (int32 n) v c d l e = ap Ok (some_is (value.integer i32 n) v e)
-plain_read items entries levels a b (int64 n) v c d l e = ap Ok (some_is (value.integer i64 n) v e)
-plain_read items entries levels a b (double bits) v c d l e = ap Ok (some_is (value.double bits) v e)
-plain_read items entries levels a b (string t) v c d l e = ap Ok (some_is (value.str t) v e)
-plain_read items entries levels a b (binary zero bs) v c d l e = ap Ok (some_is (value.bytes bs) v e)
-plain_read items entries levels a b null v c d l e = ap Ok (some_is value.unit v e)
-plain_read items entries levels a b (array ts) v c d l e =
-    let m = some_map value.sequence (views_any_items ts) v e in
-    ap (result_map value.sequence) (a ts m.0 c (omega arith) l m.1) ∙ ap Ok m.2
-plain_read items entries levels a b (document ps) v c d l e =
-    let m = some_map value.map (views_any_entries ps) v e in
-    ap (result_map value.map) (b ps m.0 c (omega arith) l m.1) ∙ ap Ok m.2
-plain_read items entries levels a b t v c d l e = absurd cc
+-- a tree that holds no value is read
+flat_again : (t : Tree) (v : Value) (levels : ℕ) → depth t ≤ 0 → views_any t ≡ Some v → ReadAs contents (read_any plain (tree_node true t levels)) v
+flat_again (boolean x) v levels d e = (value.boolean x, refl, some_is (value.boolean x) v e)
+flat_again (int32 n) v levels d e = (value.integer i32 n, refl, some_is (value.integer i32 n) v e)
+flat_again (int64 n) v levels d e = (value.integer i64 n, refl, some_is (value.integer i64 n) v e)
+flat_again (double bits) v levels d e = (value.double bits, refl, some_is (value.double bits) v e)
+flat_again (string t) v levels d e = (value.str (borrowed t), refl, some_is (value.str t) v e)
+flat_again (binary zero bs) v levels d e = (value.bytes (borrowed bs), refl, some_is (value.bytes bs) v e)
+flat_again null v levels d e = (value.unit, refl, some_is value.unit v e)
+flat_again (array ts) v levels d e = absurd (omega arith)
+flat_again (document ps) v levels d e = absurd (omega arith)
+flat_again t v levels d e = absurd cc
 
-pub any_again : (levels : ℕ) (t : Tree) (v : Value) → IsClean t → depth t ≤ levels → length (enc t) < 2 ^ 31 → views_any t ≡ Some v → read_any levels (raw_of t) ≡ Ok v
-any_again zero t v c d l e =
-    plain_read (λ b. refused too_deep) (λ b. refused too_deep) zero (λ ts vs c' d' l' h. absurd (omega arith)) (λ ps es c' d' l' h. absurd (omega arith)) t v c d l e
-any_again (suc n) t v c d l e =
-    let read = reads_judged n (read_any n) in
-    let each : ReadsBack views_any read n = λ u w c' d' l' h. ap (λ r. r >>= read_any n) (judged_again u n c' d' l') ∙ any_again n u w c' d' l' h in
-    plain_read (λ b. reads_items read 0 (walk b)) (λ b. reads_entries key_as_text read (walk b) no_entries) (suc n)
-    (λ ts vs c' d' l' h.
-    ap (reads_items read 0) (walk_inside (array_elements 0 ts))
-    ∙ items_again views_any read n each 0 ts vs c' (omega arith) (omega (arith, array_elements_size ts)) (sym (any_items ts) ∙ h))
-    (λ ps es c' d' l' h.
-    ap (λ w. reads_entries key_as_text read w no_entries) (walk_inside (elements ps))
-    ∙ entries_again value.str (λ a b. refl) view_text key_as_text views_any read n (λ key k is. (sym (some_is (value.str key) k is), refl)) each ps no_entries es c' (omega arith) (omega (arith, elements_size ps)) (new_first value.str ps) (sym (any_entries ps) ∙ h))
-    t v c d l e
+pub any_again : (levels : ℕ) (t : Tree) (v : Value) → IsClean t → depth t ≤ levels → views_any t ≡ Some v → ReadAs contents (read_any plain (tree_node true t levels)) v
+any_again zero t v c d e = flat_again t v zero d e
+any_again (suc n) (array ts) v c d e =
+    let m = some_map value.sequence (views_any_items ts) v e in
+    let each : ReadsBack views_any (reads_any plain) n = λ u w c' d' h. let r = any_again n u w c' d' h in (r.0, ap (λ x. x >>= λ _. read_any plain (tree_node true u n)) (judged_again true u n c' d') ∙ r.1, r.2) in
+    let h = items_again views_any (reads_any plain) n each 0 ts m.0 c (omega arith) (sym (viewed_items ts) ∙ m.1) in
+    (value.sequence h.0, ap (result_map value.sequence) (items_any plain 0 (tree_nodes true 0 ts n) ∙ h.1), ap value.sequence h.2 ∙ m.2)
+any_again (suc n) (document ps) v c d e =
+    let m = some_map value.map (views_any_entries ps) v e in
+    let each : ReadsBack views_any (reads_any plain) n = λ u w c' d' h. let r = any_again n u w c' d' h in (r.0, ap (λ x. x >>= λ _. read_any plain (tree_node true u n)) (judged_again true u n c' d') ∙ r.1, r.2) in
+    let h = entries_again value.str (λ a b. refl) view_text (key_text plain) views_any (reads_any plain) n (λ key k is. (sym (some_is (value.str key) k is), (value.str (borrowed key), refl, refl))) each ps no_entries m.0 c (omega arith) (new_first value.str ps) (sym (viewed_entries ps) ∙ m.1) in
+    (value.map h.0, ap (result_map value.map) (entries_any plain (pair_nodes true ps n) no_entries ∙ h.1), ap value.map h.2 ∙ m.2)
+any_again (suc n) (javascript_code_with_scope code scope) v c d e = absurd cc
+any_again (suc n) t v c d e = flat_again t v (suc n) (omega arith) e

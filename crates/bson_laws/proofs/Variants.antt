@@ -8,12 +8,13 @@ use Rattle.bson_datum.specs.Value as value
 use Rattle.bson_datum.specs.Value.{Value, Items, FieldValues}
 use Rattle.bson_laws.specs.Variants.{content_of}
 use Rattle.bson_laws.specs.Views.{named_unit}
-use Rattle.bson_laws.specs.Reads.{Reading, unit_of}
+use Rattle.bson_rawdoc.specs.Piece.{made}
+use Rattle.bson_laws.specs.Containers.{unit_of}
 use Rattle.bson_laws.specs.Fits.{Fits, PartsFit, FieldsFit}
 use Rattle.bson_laws.proofs.Fitted.{bytes_same}
 
 -- a text that names a unit variant is that variant, and is read as it
-pub unit_is : (name : Utf8) (o : Option Content) (v : Value) → named_unit name o ≡ Some v → (o ≡ Some unit_content) × (v ≡ value.unit_variant name) × (unit_of name o ≡ Ok (value.unit_variant name))
+pub unit_is : (name : Utf8) (o : Option Content) (v : Value) → named_unit name o ≡ Some v → (o ≡ Some unit_content) × (v ≡ value.unit_variant name) × (unit_of name o ≡ Ok (value.unit_variant (made name)))
 unit_is name (Some unit_content) v e = (refl, sym (some_is (value.unit_variant name) v e), refl)
 unit_is name o v e = absurd cc
 
@@ -23,11 +24,6 @@ unit_is name o v e = absurd cc
 pub chosen_holds : {P : Type 0} (b : Bool) (x y : Option Value) (v : Value) → cond b x y ≡ Some v → (x ≡ Some v → P) → (y ≡ Some v → P) → P
 chosen_holds true x y v e first others = first e
 chosen_holds false x y v e first others = others e
-
--- what is read in both cases is read in the chosen one
-pub chosen_read : (b : Bool) (x y : Option Value) (r q : Reading Value) (v : Value) → cond b x y ≡ Some v → (x ≡ Some v → r ≡ Ok v) → (y ≡ Some v → q ≡ Ok v) → cond b r q ≡ Ok v
-chosen_read true x y r q v e first others = first e
-chosen_read false x y r q v e first others = others e
 
 -- ---- what fits
 

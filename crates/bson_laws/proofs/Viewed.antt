@@ -9,6 +9,7 @@ use Rattle.std.proofs.Math.Utf8.{scalar, scalars}
 use Rattle.std.proofs.lemmas.Int.{ints}
 use Rattle.std.proofs.lemmas.Str.{scalars-chars, IsUtf8-from_is_utf8}
 use Rattle.bson_base.specs.Reserved.{reserved_kind}
+use Rattle.bson_base.specs.Pairs.{lookup}
 use Rattle.bson_base.specs.Text.{Utf8}
 use Rattle.bson_base.specs.Sound.{IsClean, ArePairsClean, AreTreesClean}
 use Rattle.bson_base.specs.Tree as tree
@@ -22,9 +23,9 @@ use Rattle.bson_datum.specs.Value as value
 use Rattle.bson_datum.specs.Value.{IntegerType, i32, i64, in_range, written_as, Value, Items, no_items, item, Entries, no_entries, entry, FieldValues, no_field_values, field_value}
 use Rattle.bson_datum.specs.Cause.{out_of_range}
 use Rattle.bson_laws.specs.Leaves.{LeafKind, anything, ignored, booleans, numbers, doubles, characters, texts, byte_strings, byte_buffers, units, leaf_kind}
-use Rattle.bson_laws.specs.Reads.{refused}
+use Rattle.bson_laws.specs.Judged.{refused}
 use Rattle.bson_laws.specs.Variants.{content_of}
-use Rattle.bson_laws.specs.Views.{lookup, one_character, views_any, views_any_items, views_any_entries, views_leaf, views_leaf_key, views_option, views_items, views_key, views_entries, absent, views_at, views, views_fields, views_parts, views_variant, views_content}
+use Rattle.bson_laws.specs.Views.{one_character, views_any, views_any_items, views_any_entries, views_leaf, views_leaf_key, views_items, views_key, views_entries, absent, views_at, views, views_fields, views_parts, views_variant, views_content}
 use Rattle.bson_laws.specs.Means.{number_of, some_or_none, under_name, means, means_items, means_entries, means_fields, norm, norm_items, norm_entries, norm_fields}
 use Rattle.bson_laws.specs.Fits.{IsText, IsAny, AreAnyItems, AreAnyEntries, FitsLeaf, FitsLeafKey, FitsKey, Fits, ItemsFit, PartsFit, EntriesFit, FieldsFit}
 use Rattle.bson_laws.proofs.Spelled.{unreserved, free_newtype}
@@ -38,7 +39,7 @@ in_range_or type n true v e = (ap Ok cc, refl, cc)
 in_range_or type n false v e = absurd cc
 
 -- the one character of a list of characters is one of them
-one_scalar : (cs : List ℕ) (c : ℕ) → scalars cs ≡ true → one_character cs ≡ Some c → IsScalar c
+pub one_scalar : (cs : List ℕ) (c : ℕ) → scalars cs ≡ true → one_character cs ≡ Some c → IsScalar c
 one_scalar [] c s e = absurd cc
 one_scalar (d ∷ []) c s e = subst IsScalar (some_is d c e) (sym (and-true (scalar d)) ∙ s)
 one_scalar (d ∷ x ∷ cs) c s e = absurd cc
@@ -108,7 +109,7 @@ leaf_taken units t v c e = absurd cc
 
 -- ---- options and missing fields
 
-option_fits : (s : Form) (t : Tree) (v : Value) → ((w : Value) → views s t ≡ Some w → Fits w s) → views_option (views s) t ≡ Some v → Fits v (optional s)
+option_fits : (s : Form) (t : Tree) (v : Value) → ((w : Value) → views s t ≡ Some w → Fits w s) → views (optional s) t ≡ Some v → Fits v (optional s)
 option_fits s null v inner e = subst (λ x. Fits x (optional s)) (some_is value.none v e) tt
 option_fits s t v inner e = let m = some_map value.some (views s t) v e in subst (λ x. Fits x (optional s)) m.2 (inner m.0 m.1)
 
@@ -308,9 +309,9 @@ stays o v h = refl
 some_normal : (t : Tree) (v : Value) → (t ≡ null → ⊥) → IsNormal t v → IsNormal t (value.some v)
 some_normal t v there h = (stays (means v) (norm v) (λ e. there (h.1 e)) ∙ ap value.some h.0, h.1)
 
-option_normal : (view : Tree → Option Value) (t : Tree) (v : Value) → ((w : Value) → view t ≡ Some w → IsNormal t w) → views_option view t ≡ Some v → IsNormal t v
-option_normal view null v inner e = subst (IsNormal null) (some_is value.none v e) (refl, λ h. refl)
-option_normal view t v inner e = let m = some_map value.some (view t) v e in subst (IsNormal t) m.2 (some_normal t m.0 (λ h. absurd cc) (inner m.0 m.1))
+option_normal : (s : Form) (t : Tree) (v : Value) → ((w : Value) → views s t ≡ Some w → IsNormal t w) → views (optional s) t ≡ Some v → IsNormal t v
+option_normal s null v inner e = subst (IsNormal null) (some_is value.none v e) (refl, λ h. refl)
+option_normal s t v inner e = let m = some_map value.some (views s t) v e in subst (IsNormal t) m.2 (some_normal t m.0 (λ h. absurd cc) (inner m.0 m.1))
 
 absent_normal : (s : Form) (v : Value) → absent s ≡ Some v → norm v ≡ v
 absent_normal (optional s) v e = subst (λ x. norm x ≡ x) (some_is value.none v e) refl
@@ -361,7 +362,7 @@ no_variant wrap name o e = let m = some_map (λ x. under_name name (wrap x)) o n
 mutual
   views_normal : (s : Form) (t : Tree) (v : Value) → views s t ≡ Some v → IsNormal t v
   views_normal (leaf l) t v e = leaf_normal (leaf_kind l) t v e
-  views_normal (optional s) t v e = option_normal (views s) t v (λ w h. views_normal s t w h) e
+  views_normal (optional s) t v e = option_normal s t v (λ w h. views_normal s t w h) e
   views_normal (newtype name s) t v e =
       let m = some_map (value.newtype name) (views s t) v e in
       let inner = views_normal s t m.0 m.1 in

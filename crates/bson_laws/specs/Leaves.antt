@@ -1,10 +1,10 @@
--- What the leaves of shapes take. Source: serde's data model.
+-- The kinds of leaves; `Taken` says what each takes where it is read. Source: serde's data model.
 use Rattle.bson_shape.specs.declared.leaf.Leaf.{Leaf}
 use Rattle.bson_shape.specs.declared.leaf.Leaf.TheVariants.{Any, Ignored, Bool, I8, I16, I32, I64, U8, U16, U32, U64, Double, Char, Str, String, Bytes, ByteBuf, Unit}
 use Rattle.bson_datum.specs.Value.{IntegerType, i8, i16, i32, i64, u8, u16, u32, u64}
 
 pub data LeafKind : Type 0 where
-  -- every value that has a kind of serde's data model
+  -- every value; one of an extended kind is read as the document that it is opened to, and has no view
   anything : LeafKind
   -- every value, of which nothing is kept
   ignored : LeafKind

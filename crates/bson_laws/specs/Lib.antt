@@ -5,6 +5,10 @@ pub mod Means
 pub mod Fits
 pub mod Plain
 pub mod Writable
+pub mod Judged
+pub mod Taken
+pub mod ReadsLeaf
+pub mod Containers
+pub mod Slots
 pub mod Reads
 pub mod Spell
-pub mod Lent

@@ -1,14 +1,9 @@
 -- The shapes whose documents are read back as they were written. Source: bsonspec.org, version 1.1, `e_name` and `cstring`, with serde's data model.
-use Rattle.std.specs.Prelude.{◌≡◌, true, false}
-use Rattle.bson_base.specs.Text.{Utf8, has_zero, begins_with_dollar}
+use Rattle.std.specs.Prelude.{◌≡◌, true}
+use Rattle.bson_base.specs.Text.{IsFreeName}
 use Rattle.bson_shape.specs.Form.{Form, leaf, optional, sequence, newtype, unit_structure, map, tuple, tuple_structure, structure, enumeration, Fields, no_fields, field, Parts, no_parts, part, Content, unit_content, newtype_content, tuple_content, struct_content, Variants, no_variants, variant}
 use Rattle.bson_shape.specs.Makers.{are_units}
 use Rattle.bson_laws.specs.Leaves.{LeafKind, ignored, texts, leaf_kind}
-
--- The name does not begin with `$` and holds no zero character.
-pub record IsFreeName (name : Utf8) : Type 0 where
-  pub no_zero : has_zero name ≡ false
-  pub no_dollar : begins_with_dollar name ≡ false
 
 -- a leaf that keeps what it reads
 abbrev pub IsKept : LeafKind → Type 0

@@ -1,6 +1,6 @@
 -- The tree that a value is written as, or why it is not written, and how large it is. Source: serde's data model, and bsonspec.org, version 1.1,
 -- `document`, `e_name` and `cstring`.
-use Rattle.std.specs.Prelude.{encode_utf8, ◌≡◌, ◌<◌, ℕ, ℤ, int_lt, nat_lt, zero, suc, ◌+◌, length, codes, Option, Some, None, if◌then◌else◌, Result, Ok, Err}
+use Rattle.std.specs.Prelude.{encode_utf8, ◌<◌, ℕ, ℤ, int_lt, nat_lt, zero, suc, ◌+◌, length, codes, Option, Some, None, if◌then◌else◌, Result, Ok, Err}
 use Rattle.std.specs.Fmt.{decimal}
 use Rattle.std.specs.Str.{bytes_eq}
 use Rattle.bson_base.specs.Text.{Bytes, Utf8, has_zero}
@@ -20,7 +20,7 @@ use Rattle.bson_laws.specs.Means.{number_of, key_text}
 abbrev pub Writing : Type 0 → Type 0
 Writing A = Result A (Refusal WriteFault)
 
--- a document or an array, whose parts these are with so many levels left for them, takes one of the levels that are left
+-- a document or an array takes one of the levels that are left, and its parts are written with the others
 abbrev pub enclosed_at : {A : Type 0} → (A → Tree) → ℕ → (ℕ → Writing A) → Writing Tree
 enclosed_at container zero parts = Err (here (unwritable too_deep))
 enclosed_at container (suc levels) parts = result_map container (parts levels)
@@ -196,7 +196,23 @@ abbrev mutual
   size_fields no_field_values = 0
   size_fields (field_value name v fs) = length name + 2 + size v + size_fields fs
 
--- It is written, or refused for nothing but a binary that has more bytes than a binary may.
-abbrev pub IsWrittenUnlessLong : {A : Type 0} → Writing A → Type 0
-IsWrittenUnlessLong (Ok x) = Unit {0}
-IsWrittenUnlessLong (Err r) = (n : ℕ) × (r.fault ≡ unwritable (binary_too_long n)) × (max_binary 0 < n)
+-- what nests too deep, or a binary that has more bytes than a binary may
+abbrev pub IsTooLarge : WriteFault → Type 0
+IsTooLarge (unwritable too_deep) = Unit {0}
+IsTooLarge (unwritable (binary_too_long n)) = max_binary 0 < n
+IsTooLarge f = ⊥
+
+-- It is written, or refused for nothing but its size.
+abbrev pub IsWrittenUnlessLarge : {A : Type 0} → Writing A → Type 0
+IsWrittenUnlessLarge (Ok x) = Unit {0}
+IsWrittenUnlessLarge (Err r) = IsTooLarge r.fault
+
+-- a number that no Int64 holds
+abbrev pub IsNumber : WriteFault → Type 0
+IsNumber (unsigned_exceeds n) = Unit {0}
+IsNumber f = ⊥
+
+-- It is not refused for a number that no Int64 holds.
+abbrev pub HoldsNumbers : {A : Type 0} → Writing A → Type 0
+HoldsNumbers (Ok x) = Unit {0}
+HoldsNumbers (Err r) = IsNumber r.fault → ⊥

@@ -1,54 +1,14 @@
--- The value that a document is at a shape. Source: serde's data model.
-use Rattle.std.specs.Prelude.{ℕ, Bool, [], ◌∷◌, List, zero, if◌then◌else◌, ℤ, Option, Some, None, option_map, option_and_then}
+-- The value that a tree is at a shape. Source: serde's data model.
+use Rattle.std.specs.Prelude.{ℕ, [], ◌∷◌, List, zero, if◌then◌else◌, ℤ, Option, Some, None, option_map, option_and_then}
 use Rattle.std.specs.Str.{bytes_eq, chars}
-use Rattle.bson_base.specs.Text.{Bytes, Utf8}
+use Rattle.bson_base.specs.Text.{Utf8}
+use Rattle.bson_base.specs.Pairs.{lookup}
 use Rattle.bson_base.specs.Tree.{Tree, double, string, document, array, binary, boolean, null, int32, int64, Pairs, no_pairs, pair, Trees, no_trees, tree}
 use Rattle.bson_shape.specs.Form.{Form, leaf, optional, sequence, newtype, unit_structure, map, tuple, tuple_structure, structure, enumeration, Fields, no_fields, field, Parts, no_parts, part, Content, unit_content, newtype_content, tuple_content, struct_content, Variants, no_variants, variant}
 use Rattle.bson_laws.specs.Variants.{content_of}
-use Rattle.bson_laws.specs.Leaves.{LeafKind, anything, ignored, booleans, numbers, doubles, characters, texts, byte_strings, byte_buffers, units, leaf_kind}
+use Rattle.bson_laws.specs.Leaves.{LeafKind, anything, booleans, numbers, doubles, characters, texts, byte_strings, byte_buffers, units, leaf_kind}
 use Rattle.bson_datum.specs.Value as value
-use Rattle.bson_datum.specs.Value.{IntegerType, i32, i64, in_range, Value, integer, Items, no_items, item, Entries, no_entries, entry, FieldValues, no_field_values, field_value}
-
--- the value at a key: that of the first pair that has it
-abbrev pub lookup : Utf8 → Pairs → Option Tree
-lookup key no_pairs = None
-lookup key (pair k t ps) = if bytes_eq key k then Some t else lookup key ps
-
--- ---- what a tree is, where it is of the kind
-
-abbrev pub boolean_of_tree : Tree → Option Bool
-boolean_of_tree (boolean b) = Some b
-boolean_of_tree t = None
-
-abbrev pub integer_of_tree : Tree → Option ℤ
-integer_of_tree (int32 n) = Some n
-integer_of_tree (int64 n) = Some n
-integer_of_tree t = None
-
-abbrev pub double_of_tree : Tree → Option Bytes
-double_of_tree (double bits) = Some bits
-double_of_tree t = None
-
-abbrev pub text_of_tree : Tree → Option Utf8
-text_of_tree (string t) = Some t
-text_of_tree t = None
-
--- the bytes of a binary of subtype 0
-abbrev pub bytes_of_tree : Tree → Option Bytes
-bytes_of_tree (binary zero bytes) = Some bytes
-bytes_of_tree t = None
-
-abbrev pub null_of_tree : Tree → Option (Unit {0})
-null_of_tree null = Some tt
-null_of_tree t = None
-
-abbrev pub pairs_of : Tree → Option Pairs
-pairs_of (document ps) = Some ps
-pairs_of t = None
-
-abbrev pub trees_of : Tree → Option Trees
-trees_of (array ts) = Some ts
-trees_of t = None
+use Rattle.bson_datum.specs.Value.{IntegerType, i32, i64, in_range, ValueOf, Value, integer, Items, no_items, item, Entries, no_entries, entry, FieldValues, no_field_values, field_value}
 
 -- ---- leaves
 
@@ -89,15 +49,16 @@ abbrev mutual
 
 abbrev pub views_leaf : LeafKind → Tree → Option Value
 views_leaf anything t = views_any t
-views_leaf ignored t = None
-views_leaf booleans t = option_map value.boolean (boolean_of_tree t)
-views_leaf (numbers type) t = option_and_then (as_integer type) (integer_of_tree t)
-views_leaf doubles t = option_map value.double (double_of_tree t)
-views_leaf characters t = option_and_then as_character (text_of_tree t)
-views_leaf texts t = option_map value.str (text_of_tree t)
-views_leaf byte_strings t = option_map value.bytes (bytes_of_tree t)
-views_leaf byte_buffers t = option_map value.bytes (bytes_of_tree t)
-views_leaf units t = option_map (λ _. value.unit) (null_of_tree t)
+views_leaf booleans (boolean b) = Some (value.boolean b)
+views_leaf (numbers type) (int32 n) = as_integer type n
+views_leaf (numbers type) (int64 n) = as_integer type n
+views_leaf doubles (double bits) = Some (value.double bits)
+views_leaf characters (string t) = as_character t
+views_leaf texts (string t) = Some (value.str t)
+views_leaf byte_strings (binary zero bytes) = Some (value.bytes bytes)
+views_leaf byte_buffers (binary zero bytes) = Some (value.bytes bytes)
+views_leaf units null = Some value.unit
+views_leaf k t = None
 
 -- a key where the keys are what a leaf takes
 abbrev pub views_leaf_key : LeafKind → Utf8 → Option Value
@@ -105,11 +66,6 @@ views_leaf_key texts key = Some (value.str key)
 views_leaf_key k key = None
 
 -- ---- shapes
-
--- null at an option, and a value of its form elsewhere
-abbrev pub views_option : (Tree → Option Value) → Tree → Option Value
-views_option views null = Some value.none
-views_option views t = option_map value.some (views t)
 
 -- the values that these trees are, each where it is one
 abbrev pub views_items : (Tree → Option Value) → Trees → Option Items
@@ -124,7 +80,7 @@ named_unit name o = None
 abbrev pub views_unit : Variants → Utf8 → Option Value
 views_unit vs name = named_unit name (content_of vs name)
 
--- the key of a map that a key of a document is: a text, or the unit variant that it names; keys that are characters are read, but not written
+-- the key of a map that a key of a document is: a text, or the unit variant that it names; a key that is a character has no view, since such a map is not written
 abbrev pub views_key : Form → Utf8 → Option Value
 views_key (leaf l) key = views_leaf_key (leaf_kind l) key
 views_key (enumeration vs) key = views_unit vs key
@@ -135,14 +91,8 @@ abbrev pub views_entries : (Utf8 → Option Value) → (Tree → Option Value) �
 views_entries view_key views no_pairs = Some no_entries
 views_entries view_key views (pair key t ps) = option_and_then (λ k. option_and_then (λ v. option_map (entry k v) (views_entries view_key views ps)) (views t)) (view_key key)
 
--- a text as the unit variant that it names, a document of one pair as the variant that its key names
-abbrev pub views_enum : (Utf8 → Option Value) → (Utf8 → Tree → Option Value) → Tree → Option Value
-views_enum unit contents (string name) = unit name
-views_enum unit contents (document (pair name t no_pairs)) = contents name t
-views_enum unit contents t = None
-
 -- the value of a field that no pair has: none, where its shape is an option
-abbrev pub absent : Form → Option Value
+abbrev pub absent : {T : Type 0} → Form → Option (ValueOf T)
 absent (optional s) = Some value.none
 absent s = None
 
@@ -158,15 +108,18 @@ abbrev mutual
   -- variant with contents.
   pub views : Form → Tree → Option Value
   views (leaf l) t = views_leaf (leaf_kind l) t
-  views (optional s) t = views_option (views s) t
+  views (optional s) null = Some value.none
+  views (optional s) t = option_map value.some (views s t)
   views (newtype name s) t = option_map (value.newtype name) (views s t)
-  views (unit_structure name) t = option_map (λ _. value.unit_structure name) (null_of_tree t)
-  views (sequence s) t = option_and_then (λ ts. option_map value.sequence (views_items (views s) ts)) (trees_of t)
-  views (map key s) t = option_and_then (λ ps. option_map value.map (views_entries (views_key key) (views s) ps)) (pairs_of t)
-  views (tuple ps) t = option_and_then (λ ts. option_map value.tuple (views_parts ps ts)) (trees_of t)
-  views (tuple_structure name ps) t = option_and_then (λ ts. option_map (value.tuple_structure name) (views_parts ps ts)) (trees_of t)
-  views (enumeration vs) t = views_enum (views_unit vs) (views_variant vs) t
-  views (structure name fs) t = option_and_then (λ ps. option_map (value.structure name) (views_fields fs ps)) (pairs_of t)
+  views (unit_structure name) null = Some (value.unit_structure name)
+  views (sequence s) (array ts) = option_map value.sequence (views_items (views s) ts)
+  views (map key s) (document ps) = option_map value.map (views_entries (views_key key) (views s) ps)
+  views (tuple ps) (array ts) = option_map value.tuple (views_parts ps ts)
+  views (tuple_structure name ps) (array ts) = option_map (value.tuple_structure name) (views_parts ps ts)
+  views (structure name fs) (document ps) = option_map (value.structure name) (views_fields fs ps)
+  views (enumeration vs) (string name) = views_unit vs name
+  views (enumeration vs) (document (pair name t no_pairs)) = views_variant vs name t
+  views s t = None
 
   pub views_fields : Fields → Pairs → Option FieldValues
   views_fields no_fields ps = Some no_field_values
@@ -184,7 +137,7 @@ abbrev mutual
   views_variant (variant name c vs) key t = if bytes_eq name key then views_content name c t else views_variant vs key t
 
   pub views_content : Utf8 → Content → Tree → Option Value
-  views_content name unit_content t = None
   views_content name (newtype_content s) t = option_map (value.newtype_variant name) (views s t)
-  views_content name (tuple_content ps) t = option_and_then (λ ts. option_map (value.tuple_variant name) (views_parts ps ts)) (trees_of t)
-  views_content name (struct_content fs) t = option_and_then (λ ps. option_map (value.structure_variant name) (views_fields fs ps)) (pairs_of t)
+  views_content name (tuple_content ps) (array ts) = option_map (value.tuple_variant name) (views_parts ps ts)
+  views_content name (struct_content fs) (document ps) = option_map (value.structure_variant name) (views_fields fs ps)
+  views_content name c t = None

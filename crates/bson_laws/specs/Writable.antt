@@ -1,4 +1,4 @@
--- The shapes at which each value that is read is written again, unless it is too long. Source: bsonspec.org, version 1.1, `document` and `e_name`.
+-- The shapes at which each value that is read is written again, unless it is too large. Source: bsonspec.org, version 1.1, `document` and `e_name`.
 use Rattle.std.specs.Prelude.{◌≡◌, false}
 use Rattle.bson_base.specs.Text.{has_zero}
 use Rattle.bson_shape.specs.Form.{Form, leaf, optional, sequence, newtype, unit_structure, map, tuple, tuple_structure, structure, enumeration, Fields, no_fields, field, Parts, no_parts, part, Content, unit_content, newtype_content, tuple_content, struct_content, Variants, no_variants, variant}

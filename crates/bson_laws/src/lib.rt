@@ -1,9 +1,9 @@
 //! What documents are at a shape, what values mean, how they are read and written, and the laws between these.
 #![tactic(auto)]
 
-ghost use Rattle.std.specs.Prelude.{◌≡◌, length, Some, Ok};
-ghost use Rattle.bson_base.specs.Sound.{IsSound};
-ghost use Rattle.bson_base.specs.Text.{Bytes};
+ghost use Rattle.std.specs.Prelude.{◌≡◌, ℕ, ◌≤◌, length, Some, Ok};
+ghost use Rattle.bson_base.specs.Sound.{IsSound, max_bytes};
+ghost use Rattle.bson_base.specs.Text.{Bytes, AreBytes};
 ghost use Rattle.bson_base.specs.Tree.{Tree, enc};
 ghost use Rattle.bson_shape.specs.Form.{Form};
 ghost use Rattle.bson_shape.specs.Makers.{IsShape};
@@ -14,7 +14,7 @@ ghost use Rattle.bson_laws.specs.Fits.{Fits};
 ghost use Rattle.bson_laws.specs.Plain.{IsPlain};
 ghost use Rattle.bson_laws.specs.Writable.{IsWritable};
 ghost use Rattle.bson_laws.specs.Reads.{reads_document};
-ghost use Rattle.bson_laws.specs.Spell.{IsWrittenUnlessLong, spell_document, size};
+ghost use Rattle.bson_laws.specs.Spell.{IsWrittenUnlessLarge, HoldsNumbers, spell, spell_document, size};
 
 /// What a sound document is at a plain shape is read from its bytes; it fits the shape, and is its own normal form.
 ///
@@ -35,12 +35,13 @@ pub fn law_views_means()
         → views s t ≡ Some (norm d) }
 {}
 
-/// A value that means a sound document is spelled as that document, in as many bytes as its size says.
+/// A value that means a sound document is spelled as that document, and whatever is spelled takes as many bytes as the size of
+/// the value says.
 ///
 /// It does nothing.
 pub fn law_spell_means()
     ensures spells { (d : Value) (t : Tree) → means d ≡ Some t → IsSound t → spell_document d ≡ Ok t }
-    ensures size { (d : Value) (t : Tree) → means d ≡ Some t → IsSound t → size d ≡ length (enc t) }
+    ensures size { (d : Value) (levels : ℕ) (t : Tree) → spell d levels ≡ Ok t → size d ≡ length (enc t) }
 {}
 
 /// The document that a value of a plain shape means is read back, at the shape, as the normal form of the value.
@@ -51,12 +52,30 @@ pub fn law_read_back()
         → reads_document s (enc t) ≡ Ok (norm d) }
 {}
 
-/// What is read at a shape is written, unless it or a binary in it is too long: no other refusal of the writer is due for it.
+/// What is read at a shape is written, unless it nests too deep or a binary in it is too long: no other refusal of the writer is due for it.
+///
+/// The document that an extended value is opened to takes no level when it is read, and one when it is written: so what was read may nest too deep.
 ///
 /// No name of a field may hold a zero character, since an option's field that no pair has is read as none, and a struct takes the
 /// values of an array by their places: each is written under its name; the keys of maps are `str`, `string` or unit variants; and the
 /// document is not ignored. The call does nothing.
 pub fn law_reads_spell()
-    ensures spells { (s : Form) (bytes : Bytes) (d : Value) → IsShape s → IsWritable s → reads_document s bytes ≡ Ok d
-        → IsWrittenUnlessLong (spell_document d) }
+    ensures spells { (s : Form) (bytes : Bytes) (d : Value) → IsShape s → IsWritable s → AreBytes bytes → reads_document s bytes ≡ Ok d
+        → IsWrittenUnlessLarge (spell_document d) }
+{}
+
+/// What is read at any shape is never refused by the writer for a number: each number that is read is one that an Int64 holds.
+///
+/// It does nothing.
+pub fn law_reads_numbers()
+    ensures numbers { (s : Form) (bytes : Bytes) (d : Value) → AreBytes bytes → reads_document s bytes ≡ Ok d
+        → HoldsNumbers (spell_document d) }
+{}
+
+/// What is read at a shape from bytes, and written, is read at the shape from what was written, and written as the same again.
+///
+/// This holds at every shape and for every byte string, sound or not: a migration may be run again without harm. The call does nothing.
+pub fn law_read_again()
+    ensures again { (s : Form) (bytes : Bytes) (d : Value) (t : Tree) → IsShape s → AreBytes bytes → reads_document s bytes ≡ Ok d → spell_document d ≡ Ok t
+        → length (enc t) ≤ max_bytes → (v : Value) × (reads_document s (enc t) ≡ Ok v) × (spell_document v ≡ Ok t) }
 {}

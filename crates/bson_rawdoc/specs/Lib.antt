@@ -2,6 +2,8 @@ pub mod Numbers
 pub mod Envelope
 pub mod Extent
 pub mod Walk
+pub mod Piece
+pub mod Node
 pub mod RawValue
 pub mod JsonKinds
 pub mod DocumentView

@@ -64,6 +64,18 @@ impl<'a> RawElement<'a> {
         self.slice
     }
 
+    /// The same element once more.
+    #[inline(always)]
+    pub fn clone(&self) -> RawElement<'a>
+        ensures same { result ≡ self.now }
+    {
+        RawElement {
+            kind: self.kind,
+            key: self.key,
+            slice: self.slice,
+        }
+    }
+
     /// The value.
     ///
     /// # Errors

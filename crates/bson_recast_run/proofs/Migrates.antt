@@ -1,28 +1,29 @@
 -- A sound document, whose value at a shape means a sound document, is recast as that document; and what is read is refused for its size alone.
 use Rattle.std.proofs.Common.{◌≡◌, Bool, true, false, Result, Ok, Err, refl, ap, sym, subst, ◌∙◌, inl, inr, arith}
-use Rattle.std.specs.Prelude.{◌⊎◌, ◌<◌, ◌≤◌, ℕ, nat_lt, Some}
+use Rattle.std.specs.Prelude.{◌⊎◌, ◌<◌, ◌≤◌, ℕ, nat_lt, length, Some}
 use Rattle.std.specs.Global.{Vec}
 use Rattle.std.proofs.lemmas.Bool.{le-ltb, ltb-true}
-use Rattle.bson_base.specs.Text.{Bytes}
+use Rattle.bson_base.specs.Text.{Bytes, AreBytes}
 use Rattle.bson_base.specs.Sound.{IsSound, max_bytes}
 use Rattle.bson_base.specs.Tree.{Tree, enc}
 use Rattle.bson_shape.specs.Form.{Form}
 use Rattle.bson_shape.specs.Makers.{IsShape}
 use Rattle.bson_datum.specs.Value.{Value}
-use Rattle.bson_datum.specs.Refusal.{ReadFault, WriteFault, Failure, bare, placed}
+use Rattle.bson_datum.specs.Cause.{too_long}
+use Rattle.bson_datum.specs.Refusal.{ReadFault, WriteFault, unwritable, here, Failure, bare, placed}
 use Rattle.bson_datum.specs.ErrorView.{read_failure, write_failure}
 use Rattle.bson_laws.specs.Means.{means}
 use Rattle.bson_laws.specs.Reads.{reads_document}
-use Rattle.bson_laws.specs.Spell.{Writing, IsWrittenUnlessLong, spell_document, size}
+use Rattle.bson_laws.specs.Spell.{Writing, IsWrittenUnlessLarge, IsNumber, HoldsNumbers, spell_document, size}
 use Rattle.bson_laws.specs.Views.{views}
 use Rattle.bson_laws.specs.Writable.{IsWritable}
 use Rattle.bson_laws.proofs.ReadBack.{views_reads}
-use Rattle.bson_laws.proofs.Rewritten.{document_written}
+use Rattle.bson_laws.proofs.Documents.{document_written, document_numbers}
 use Rattle.bson_laws.proofs.Spelled.{spell_means}
 use Rattle.bson_ser_stream.specs.Writing.{IsDue, too_long_failure}
 use Rattle.bson_recast_run.specs.declared.recasting.RecastError.{RecastError}
 use Rattle.bson_recast_run.specs.declared.recasting.RecastError.TheVariants.{Read, Write, NoMemory}
-use Rattle.bson_recast_run.specs.Recasting.{writes, unread, written, recast_read, recast_of, Unwritten, IsRecast, GivesBytes, IsTooLarge, IsForSize}
+use Rattle.bson_recast_run.specs.Recasting.{Recast, writes, unread, written, recast_read, recast_of, Unwritten, IsRecast, GivesBytes, IsForSize, IsForNoNumber, IfUnwritten}
 
 module _ (s : Form) (bytes : Bytes) (t u : Tree) (d : Value) (shape : IsShape s) (sound : IsSound t) (view : views s t ≡ Some d) (mean : means d ≡ Some u) (clean : IsSound u) (is : bytes ≡ enc t) where
   reads_it : reads_document s bytes ≡ Ok d
@@ -61,26 +62,49 @@ unwritten_is : (s : Form) (bytes : Bytes) (f : Failure WriteFault) (answer : Res
 unwritten_is s bytes f (Err e) is h = absurd h
 unwritten_is s bytes f (Ok d) is h = record { value = d; read = is; refused = value_refused d (nat_lt max_bytes (size d)) (spell_document d) f refl h }
 
-module _ (s : Form) (bytes : Bytes) (shape : IsShape s) where
+module _ (s : Form) (bytes : Bytes) (are : AreBytes bytes) where
   abbrev read : Value → Result Value (Failure ReadFault)
   read d = Ok d
 
   value_is : (d e : Value) → reads_document s bytes ≡ Ok d → reads_document s bytes ≡ Ok e → d ≡ e
   value_is d e p q = let both : read d ≡ read e = sym p ∙ q in cc
 
-  -- of what is read only a binary that is too long is refused
-  due_for_size : (w : Writing Tree) (f : Failure WriteFault) → IsWrittenUnlessLong w → IsDue w f → IsTooLarge s bytes f
-  due_for_size (Ok t) f u due = absurd due
-  due_for_size (Err r) f u due = inr (r.path, u.0, due ∙ ap (λ (x : WriteFault). placed r.path (bare x)) u.1, u.2)
+  -- a property of each failure of the writer for what was read
+  of_each : (P : Failure WriteFault → Type 0) → ((f : Failure WriteFault) → IsRefused s bytes f → P f) → (r : Result (Vec ℕ) RecastError) → IsRecast (recast_of s bytes) r → IfUnwritten P r
+  of_each P holds (Ok v) h = tt
+  of_each P holds (Err (Read e)) h = tt
+  of_each P holds (Err (Write e)) h = holds (write_failure e) (unwritten_is s bytes (write_failure e) (reads_document s bytes) refl h)
+  of_each P holds (Err NoMemory) h = tt
 
-  too_large : IsWritable s → (f : Failure WriteFault) (h : IsRefused s bytes f) → IsTooLarge s bytes f
-  too_large writable f h = by_cause h.refused where
-    by_cause : IsDue (spell_document h.value) f ⊎ ((f ≡ too_long_failure) × (max_bytes < size h.value)) → IsTooLarge s bytes f
-    by_cause (inl due) = due_for_size (spell_document h.value) f (document_written s bytes h.value shape writable h.read) due
+  -- ---- its size alone
+
+  due_for_size : (w : Writing Tree) (f : Failure WriteFault) → IsWrittenUnlessLarge w → IsDue w f → IsForSize s bytes f
+  due_for_size (Ok t) f u due = absurd due
+  due_for_size (Err r) f u due = inr (r.path, r.fault, due, u)
+
+  too_large : IsShape s → IsWritable s → (f : Failure WriteFault) (h : IsRefused s bytes f) → IsForSize s bytes f
+  too_large shape writable f h = by_cause h.refused where
+    by_cause : IsDue (spell_document h.value) f ⊎ ((f ≡ too_long_failure) × (max_bytes < size h.value)) → IsForSize s bytes f
+    by_cause (inl due) = due_for_size (spell_document h.value) f (document_written s bytes h.value shape writable are h.read) due
     by_cause (inr long) = inl (long.0, λ d is. subst (λ x. max_bytes < size x) (value_is h.value d h.read is) long.1)
 
-  pub for_size : IsWritable s → (r : Result (Vec ℕ) RecastError) → IsRecast (recast_of s bytes) r → IsForSize s bytes r
-  for_size writable (Ok v) h = tt
-  for_size writable (Err (Read e)) h = tt
-  for_size writable (Err (Write e)) h = too_large writable (write_failure e) (unwritten_is s bytes (write_failure e) (reads_document s bytes) refl h)
-  for_size writable (Err NoMemory) h = tt
+  pub for_size : IsShape s → IsWritable s → (r : Result (Vec ℕ) RecastError) → IsRecast (recast_of s bytes) r → IfUnwritten (IsForSize s bytes) r
+  for_size shape writable r h = of_each (IsForSize s bytes) (too_large shape writable) r h
+
+  -- ---- no number
+
+  due_for_none : (w : Writing Tree) (f : Failure WriteFault) → HoldsNumbers w → IsDue w f → IsForNoNumber f
+  due_for_none (Ok t) f u due = absurd due
+  due_for_none (Err r) f u due = λ path fault is n.
+      let both : placed r.path (bare r.fault) ≡ placed path (bare fault) = sym due ∙ is in
+      let same : r.fault ≡ fault = cc in
+      u (subst IsNumber (sym same) n)
+
+  no_number : (f : Failure WriteFault) (h : IsRefused s bytes f) → IsForNoNumber f
+  no_number f h = by_cause h.refused where
+    by_cause : IsDue (spell_document h.value) f ⊎ ((f ≡ too_long_failure) × (max_bytes < size h.value)) → IsForNoNumber f
+    by_cause (inl due) = due_for_none (spell_document h.value) f (document_numbers s bytes h.value are h.read) due
+    by_cause (inr long) = due_for_none (Err (here (unwritable too_long))) f (λ e. e) long.0
+
+  pub for_no_number : (r : Result (Vec ℕ) RecastError) → IsRecast (recast_of s bytes) r → IfUnwritten IsForNoNumber r
+  for_no_number r h = of_each IsForNoNumber no_number r h

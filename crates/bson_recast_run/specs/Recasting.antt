@@ -2,17 +2,16 @@
 use Rattle.std.specs.Prelude.{◌≡◌, ◌≢◌, ◌⊎◌, ℕ, ◌<◌, Bool, true, false, nat_lt, Option, Some, None, Result, Ok, Err}
 use Rattle.std.specs.Global.{Vec}
 use Rattle.bson_base.specs.Text.{Bytes}
-use Rattle.bson_base.specs.Sound.{max_bytes, max_binary}
+use Rattle.bson_base.specs.Sound.{max_bytes}
 use Rattle.bson_base.specs.Tree.{Tree, enc}
 use Rattle.bson_shape.specs.Form.{Form}
 use Rattle.bson_datum.specs.Value.{Value}
-use Rattle.bson_datum.specs.Cause.{binary_too_long}
-use Rattle.bson_datum.specs.Refusal.{Path, Refusal, ReadFault, WriteFault, unwritable, Failure, no_memory, bare, placed, with_path}
+use Rattle.bson_datum.specs.Refusal.{Path, Refusal, ReadFault, WriteFault, Failure, no_memory, bare, placed, with_path}
 use Rattle.bson_datum.specs.declared.de.Error as de
 use Rattle.bson_datum.specs.declared.ser.Error as ser
 use Rattle.bson_datum.specs.ErrorView.{read_failure, write_failure}
 use Rattle.bson_laws.specs.Reads.{reads_document}
-use Rattle.bson_laws.specs.Spell.{Writing, spell_document, size}
+use Rattle.bson_laws.specs.Spell.{Writing, spell_document, size, IsTooLarge, IsNumber}
 use Rattle.bson_ser_stream.specs.Writing.{too_long_failure}
 use Rattle.bson_recast_run.specs.declared.recasting.RecastError.{RecastError}
 use Rattle.bson_recast_run.specs.declared.recasting.RecastError.TheVariants.{Read, Write, NoMemory}
@@ -66,18 +65,22 @@ GivesBytes bytes (Err (Read e)) = ⊥
 GivesBytes bytes (Err (Write e)) = ⊥
 GivesBytes bytes (Err NoMemory) = Unit {0}
 
--- a value is too large: it takes more bytes than a document may, or a binary in it has more than a binary may
-abbrev pub IsTooLarge : Form → Bytes → Failure WriteFault → Type 0
-IsTooLarge s bytes f =
+-- A value is too large: it takes more bytes than a document may, or something in it nests too deep or is a binary of more bytes than a binary may have.
+abbrev pub IsForSize : Form → Bytes → Failure WriteFault → Type 0
+IsForSize s bytes f =
     ((f ≡ too_long_failure) × ((d : Value) → reads_document s bytes ≡ Ok d → max_bytes < size d))
-    ⊎ ((path : Path) × (n : ℕ) × (f ≡ placed path (bare (unwritable (binary_too_long n)))) × (max_binary 0 < n))
+    ⊎ ((path : Path) × (fault : WriteFault) × (f ≡ placed path (bare fault)) × IsTooLarge fault)
 
--- a refusal to write is that of a value that is too large
-abbrev pub IsForSize : Form → Bytes → Result (Vec ℕ) RecastError → Type 0
-IsForSize s bytes (Ok v) = Unit {0}
-IsForSize s bytes (Err (Read e)) = Unit {0}
-IsForSize s bytes (Err (Write e)) = IsTooLarge s bytes (write_failure e)
-IsForSize s bytes (Err NoMemory) = Unit {0}
+-- the failure is not that of a number that no Int64 holds
+abbrev pub IsForNoNumber : Failure WriteFault → Type 0
+IsForNoNumber f = (path : Path) (fault : WriteFault) → f ≡ placed path (bare fault) → IsNumber fault → ⊥
+
+-- a failure of the writer, where that is the answer, has this property
+abbrev pub IfUnwritten : (Failure WriteFault → Type 0) → Result (Vec ℕ) RecastError → Type 0
+IfUnwritten P (Ok v) = Unit {0}
+IfUnwritten P (Err (Read e)) = Unit {0}
+IfUnwritten P (Err (Write e)) = P (write_failure e)
+IfUnwritten P (Err NoMemory) = Unit {0}
 
 -- an error of reading, unless it is out of memory
 abbrev pub IsReadError : de.Error → RecastError → Type 0

@@ -2,13 +2,16 @@ ghost use Rattle.std.specs.Prelude.{◌≡◌, Some};
 ghost use Rattle.bson_base.specs.Sound.{IsSound};
 ghost use Rattle.bson_base.specs.Tree.{Tree, enc};
 ghost use Rattle.bson_datum.specs.Value.{Value};
+ghost use Rattle.bson_datum.specs.View.{view};
 ghost use Rattle.bson_laws.specs.Views.{views};
 ghost use Rattle.bson_laws.specs.Means.{means};
 ghost use Rattle.bson_laws.specs.Plain.{IsPlain};
+ghost use Rattle.bson_laws.specs.Reads.{reads_document};
 ghost use Rattle.bson_laws.specs.Writable.{IsWritable};
-ghost use Rattle.bson_recast_run.specs.Recasting.{recast_of, IsRecast, GivesBytes, IsForSize, IsReadError, IsWriteError};
+ghost use Rattle.bson_de_raw.specs.Gives.{Gives};
+ghost use Rattle.bson_recast_run.specs.Recasting.{recast_of, IsRecast, GivesBytes, IsForSize, IsForNoNumber, IfUnwritten, IsReadError, IsWriteError};
 
-use bson_datum::{Shape, de, ser};
+use bson_datum::{Datum, Shape, de, ser};
 use bson_de_raw::from_slice_at;
 use bson_ser_stream::to_vec_at;
 use std::alloc::Global;
@@ -33,8 +36,9 @@ pub enum RecastError {
 ///
 /// What was read is refused by the writer for its size alone, where no field of the shape has a zero character in its name, the
 /// keys of its maps are `str`, `string` or unit variants, and the document itself is not read at `ignored`: a number may take more bytes when it
-/// is written than it took before, and a text that is read as a byte string is written as a binary, which may have no more than
-/// 16777216 bytes.
+/// is written than it took before, a text that is read as a byte string is written as a binary, which may have no more than
+/// 16777216 bytes, and the document that a value is opened to takes a level when it is written. At every shape it is never refused as
+/// `UnsignedIntegerExceededRange`.
 pub fn recast(alloc: Global, shape: &Shape, bytes: &[u8]) -> Result<Vec<u8>, RecastError>
     // What is read at the shape is written.
     ensures exact { IsRecast (recast_of shape.now bytes.now) result }
@@ -42,17 +46,26 @@ pub fn recast(alloc: Global, shape: &Shape, bytes: &[u8]) -> Result<Vec<u8>, Rec
     ensures migrates { (t u : Tree) (d : Value) → IsPlain shape.now → IsSound t → views shape.now t ≡ Some d → means d ≡ Some u → IsSound u
         → bytes.now ≡ enc t → GivesBytes (enc u) result }
     // What was read at a shape whose keys can be written, and which keeps the document, is refused by the writer for its size alone.
-    ensures too_long { IsWritable shape.now → IsForSize shape.now bytes.now result }
+    ensures too_large { IsWritable shape.now → IfUnwritten (IsForSize shape.now bytes.now) result }
+    // At no shape is what was read refused for a number that no Int64 holds.
+    ensures numbers { IfUnwritten IsForNoNumber result }
 {
     shape.known();
     through(alloc, shape, bytes)
+}
+
+// The value of the document, without its marks.
+fn read<'de>(alloc: Global, shape: &Shape, bytes: &'de [u8]) -> de::Result<Datum<'de>>
+    ensures exact { Gives view result (reads_document shape.now bytes.now) }
+{
+    from_slice_at(alloc, shape, bytes)
 }
 
 // `recast`, but for its other promises.
 fn through(alloc: Global, shape: &Shape, bytes: &[u8]) -> Result<Vec<u8>, RecastError>
     ensures { IsRecast (recast_of shape.now bytes.now) result }
 {
-    let datum = match from_slice_at(alloc, shape, bytes) {
+    let datum = match read(alloc, shape, bytes) {
         Ok(datum) => datum,
         Err(e) => return Err(unread(e)),
     };

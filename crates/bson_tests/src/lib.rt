@@ -16,6 +16,8 @@ mod runs;
 #[cfg(test)]
 mod shapes;
 #[cfg(test)]
+mod tree;
+#[cfg(test)]
 mod values;
 #[cfg(test)]
 mod writing;

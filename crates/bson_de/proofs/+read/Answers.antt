@@ -1,0 +1,373 @@
+use Rattle.std.proofs.Common.{rules, ◌≡◌, ℕ, Ok, Some, None, List, refl, string_bytes, ◌+◌, ◌*◌, ◌<◌, ap, sym, subst, ◌∙◌, get_or, map, arith}
+use Rattle.std.specs.Borrow.{Bor}
+use Rattle.bson_base.specs.Outcome.{◌>>=◌, result_map}
+use Rattle.bson_rawdoc.specs.Piece.{made}
+use Rattle.bson_shape.specs.Form.{tuple_content, struct_content}
+use Rattle.bson_shape.specs.Makers.{has_repeat}
+use Rattle.bson_shape.specs.ShapeView.{form_view, fields_of, parts_of, variants_of, content_of, nodes, fields_nodes, parts_nodes, variants_nodes, content_nodes}
+use Rattle.bson_shape.specs.declared.shape.FieldShape.{FieldShape}
+use Rattle.bson_shape.proofs.Names.{field_names_are}
+use Rattle.bson_shape.proofs.Shapes.{field_smaller, part_smaller}
+use Rattle.bson_datum.specs.Cause.{duplicate_field}
+use Rattle.bson_datum.specs.Marked.{Marked, MarkedFields}
+use Rattle.bson_datum.specs.MarkedView.{marked}
+use Rattle.bson_datum.specs.Refusal.{at_key, under}
+use Rattle.bson_datum.specs.Value as value
+use Rattle.bson_datum.specs.declared.text.Text.TheVariants.{Owned}
+use Rattle.bson_datum.specs.Value.{no_entries}
+use Rattle.bson_laws.specs.Containers.{reads_items, reads_entries, reads_key, read_enum, read_first, reads_unit}
+use Rattle.bson_laws.specs.Judged.{Reading, plain, judged, refused, ignores}
+use Rattle.bson_laws.specs.Reads.{reads, reads_parts, reads_variant, reads_content, slots_of}
+use Rattle.bson_laws.specs.Slots.{Slot, Slots, fill, finish, read_structure, reads_places}
+use Rattle.bson_met.specs.Gives.{Reaches}
+use Rattle.bson_met.specs.PieceView.{str_piece}
+use Rattle.bson_met.specs.Sizes.{count}
+use Rattle.bson_met.proofs.Refusals.{StopsAs, stops_inside}
+use Rattle.bson_slots.specs.Place.{place_of}
+use Rattle.bson_slots.specs.SlotsView.{slots_view}
+use Rattle.bson_slots.proofs.Elements.{value_put, value_refused, put_filled, unknown_dropped, unknown_refused}
+use Rattle.bson_de.specs.Enums.{variant_named}
+use Rattle.bson_de.specs.KeyValues.{key_value}
+use Rattle.bson_de.specs.ListsMarked.{items_marked, entries_marked}
+use Rattle.bson_de.specs.Passes.{pass_at}
+use Rattle.bson_de.proofs.Each.{each, step_is, item_is, each_step, each_next, each_stop}
+use Rattle.bson_de.proofs.FieldPlaces.{values_before, places_step, places_stop, places_end, all_left as no_values}
+use Rattle.bson_de.proofs.KeyTexts.{key_valued}
+use Rattle.bson_de.proofs.Loops.{items_by, items_each, items_push, item_done, item_stops, entries_by, entries_each, entry_done, key_stops, entry_stops, slots_by, fill_each, ignored_at}
+use Rattle.bson_de.proofs.Mapped.{taken, not_taken}
+use Rattle.bson_de.proofs.Nulls.{option_null}
+use Rattle.bson_de.proofs.MarkedLists.{marked-Seq, marked-Tuple, marked-TupleStruct, marked-TupleVariant, marked-Map}
+use Rattle.bson_de.proofs.Parts.{items_before, parts_step, parts_stop, parts_end, all_left}
+use Rattle.bson_de.proofs.VariantContents.{contents_at_key, other_enum, other_structure}
+use Rattle.bson_de.proofs.Variants.{first_read, element_read, content_read, named_smaller, named_content}
+use Rattle.bson_de.proofs.+read.Goals as goal
+
+pub value::read_items-step-init : goal.value::read_items-step-init
+value::read_items-step-init t c =
+    let read = reads c.args.item.now plain in
+    (omega (arith, c.start-value.ensures.few), (λ i. each (items_by read) 0 c.args.elements (items_marked (c.new-items.ensures.items i))) ∙ items_each read c.args.elements)
+
+pub value::read_items-step-preserved : goal.value::read_items-step-preserved
+value::read_items-step-preserved t c =
+    let read = reads c.args.item.now plain in
+    let v = c.advance.new.value in
+    let i = c.step.index in
+    let old = items_marked c.step.items.items in
+    let d = c.in_ok-read_item.field-0 in
+    let first = item_is _ _ c.in_ok-advance.field-0 v c.in_ok-advance.ensures.advanced c.if-branch.true in (
+      omega (arith, c.step.invariant.0, ap count first.first),
+      ap (each (items_by read) (i + 1) c.advance.new.self) (ap items_marked c.in_ok-push.ensures.items ∙ items_push c.step.items.items d)
+          ∙ each_step (items_by read) i c.step.elements old _ c.step.invariant.1 first.key v c.advance.new.self _ first.first (item_done read i first.key v old (marked d) c.in_ok-read_item.ensures.exact),
+    )
+
+pub value::read_sequence-returns : goal.value::read_sequence-returns
+value::read_sequence-returns t c = record {
+  exact = ap (λ r. r >>= λ ns. result_map value.sequence (reads_items (reads c.args.item.now plain) 0 ns)) c.in_ok-elements.ensures.array ∙ ap (result_map value.sequence) c.in_ok-items.ensures.exact ∙ ap Ok (sym (marked-Seq c.in_ok-items.items));
+}
+
+pub tuple::read_tuple-returns : goal.tuple::read_tuple-returns
+tuple::read_tuple-returns t c = record {
+  exact = ap (λ r. r >>= λ ns. result_map value.tuple (reads_parts (parts_of c.args.parts.now) plain 0 ns)) c.in_ok-elements.ensures.array ∙ ap (result_map value.tuple) c.in_ok-items.ensures.exact ∙ ap Ok (sym (marked-Tuple c.in_ok-items.items));
+}
+
+pub map::read_map-returns : goal.map::read_map-returns
+map::read_map-returns t c = record {
+  exact = ap (λ r. r >>= λ ns. result_map value.map (reads_entries (reads_key plain c.args.key.now) (reads c.args.item.now plain) ns no_entries)) c.in_ok-elements.ensures.document ∙ ap (result_map value.map) c.in_ok-entries.ensures.exact ∙ ap Ok (sym (marked-Map c.in_ok-entries.entries));
+}
+
+pub tuple::read_parts-loop-place-init : goal.tuple::read_parts-loop-place-init
+tuple::read_parts-loop-place-init t c =
+    let ps = parts_of c.args.parts.now in
+    (λ i. result_map (items_before (c.new-values.ensures.items i)) (reads_parts ps plain 0 c.args.elements)) ∙ all_left (reads_parts ps plain 0 c.args.elements)
+
+pub tuple::read_parts-read_next-requires : goal.tuple::read_parts-read_next-requires
+tuple::read_parts-read_next-requires t c =
+    let ps = c.args.parts.now in
+    let s = c.index-parts-place.result in
+    let smaller = part_smaller ps c.loop-place.place s c.loop-place-test.true in
+    let same : nodes (get_or ps c.loop-place.place s) ≡ nodes s = ap nodes (sym c.index-parts-place.is) in
+    let less : 8 * nodes s + 2 < 8 * parts_nodes (parts_of ps) + 3 = omega (arith, smaller, same) in
+    (search rules, tt)
+
+pub tuple::read_parts-loop-place-preserved : goal.tuple::read_parts-loop-place-preserved
+tuple::read_parts-loop-place-preserved t c =
+    parts_step c.args.parts.now c.loop-place.place c.loop-place.values.items c.loop-place.elements _ c.loop-place.invariant c.index-parts-place.result c.loop-place-test.true c.index-parts-place.is c.read_next.new.elements c.in_ok-value.value c.push.new.self.items
+    c.in_ok-value.ensures.rest c.in_ok-value.ensures.value c.in_ok-push.ensures.items
+
+pub tuple::read_parts-returns : goal.tuple::read_parts-returns
+tuple::read_parts-returns t c = record {
+  exact = parts_end c.args.parts.now c.loop-place.place c.loop-place.values.items c.loop-place.elements _ c.loop-place.invariant (omega (arith, c.loop-place-test.false));
+}
+
+pub structure::read_by_place-read_next-requires : goal.structure::read_by_place-read_next-requires
+structure::read_by_place-read_next-requires t c =
+    let fs = c.args.fields.now in
+    let f = c.index-fields-place.result in
+    let smaller = field_smaller fs c.loop-place.place f c.loop-place-test.true in
+    let same : nodes (get_or fs c.loop-place.place f).shape ≡ nodes f.shape = ap (λ (g : FieldShape). nodes g.shape) (sym c.index-fields-place.is) in
+    let less : 8 * nodes f.shape + 2 < 8 * fields_nodes (fields_of fs) + 3 = omega (arith, smaller, same) in
+    (search rules, tt)
+
+pub structure::fill_one-read_value-requires : goal.structure::fill_one-read_value-requires
+structure::fill_one-read_value-requires t c =
+    let fs = c.args.index.now.items.now in
+    let smaller = field_smaller fs c.in-Some.place c.index-fields-place.result c.in-Some.ensures.within in
+    let less : 8 * nodes (get_or fs c.in-Some.place c.index-fields-place.result).shape < 8 * fields_nodes (fields_of fs) + 1 = omega (arith, smaller) in
+    (search rules, tt)
+
+pub enumeration::read_variant-read_content-requires : goal.enumeration::read_variant-read_content-requires
+enumeration::read_variant-read_content-requires t c =
+    let vs = c.args.variants.now in
+    let v = c.in_ok-variant.variant.now in
+    let key = c.in_ok-step.step.key.text.now in
+    let smaller = named_smaller vs key v c.in_ok-variant.ensures in
+    let less : 8 * content_nodes (content_of v.content) + 6 < 8 * variants_nodes (variants_of vs) + 1 = omega (arith, smaller) in
+    (search rules, named_content vs key v c.requires c.in_ok-variant.ensures)
+
+pub value::read_items-returns-in_err-read_item : goal.value::read_items-returns-in_err-read_item
+value::read_items-returns-in_err-read_item t c =
+    let read = reads c.args.item.now plain in
+    let v = c.advance.new.value in
+    let i = c.step.index in
+    let old = items_marked c.step.items.items in
+    let stop = c.in_err-read_item.field-0.0 in
+    let first = item_is _ _ c.in_ok-advance.field-0 v c.in_ok-advance.ensures.advanced c.if-branch.true in
+    let here = each_stop (items_by read) i c.step.elements old _ c.step.invariant.1 first.key v c.advance.new.self stop first.first (item_stops read i first.key v old stop c.in_err-read_item.ensures.exact) in
+    record { exact = search (rules, here) }
+
+pub tuple::read_parts-returns-in_err-value : goal.tuple::read_parts-returns-in_err-value
+tuple::read_parts-returns-in_err-value t c =
+    let stop = c.in_err-value.field-0.0 in
+    let here = parts_stop c.args.parts.now c.loop-place.place c.loop-place.values.items c.loop-place.elements _ c.loop-place.invariant c.index-parts-place.result c.loop-place-test.true c.index-parts-place.is stop c.in_err-value.ensures.value in
+    record { exact = search (rules, here) }
+
+pub tuple::read_tuple_struct-returns : goal.tuple::read_tuple_struct-returns
+tuple::read_tuple_struct-returns t c =
+    let name = c.args.name.now in
+    let ps = parts_of c.args.parts.now in
+    record {
+      exact = ap (λ r. r >>= λ ns. result_map (value.tuple_structure (made name)) (reads_parts ps plain 0 ns)) c.in_ok-elements.ensures.array ∙ ap (result_map (value.tuple_structure (made name))) c.in_ok-items.ensures.exact
+          ∙ ap (λ n. Ok (value.tuple_structure (made n) (items_marked c.in_ok-items.items.items))) (sym c.in_ok-from_str.ensures.ok) ∙ ap Ok (sym (marked-TupleStruct (Owned c.in_ok-from_str.field-0) c.in_ok-items.items));
+    }
+
+pub enumeration::read_tuple_variant-returns : goal.enumeration::read_tuple_variant-returns
+enumeration::read_tuple_variant-returns t c =
+    let name = c.args.name.now in
+    let ps = parts_of c.args.parts.now in
+    record {
+      exact = ap (λ r. r >>= λ ns. result_map (value.tuple_variant (made name)) (reads_parts ps plain 0 ns)) c.in_ok-elements.ensures.array ∙ ap (result_map (value.tuple_variant (made name))) c.in_ok-items.ensures.exact
+          ∙ ap (λ n. Ok (value.tuple_variant (made n) (items_marked c.in_ok-items.items.items))) (sym c.in_ok-from_str.ensures.ok) ∙ ap Ok (sym (marked-TupleVariant (Owned c.in_ok-from_str.field-0) c.in_ok-items.items));
+    }
+
+pub map::read_entries-step-init : goal.map::read_entries-step-init
+map::read_entries-step-init t c =
+    let read_key = reads_key plain c.args.key.now in
+    let read = reads c.args.item.now plain in (
+      c.new-entries.ensures.indexed,
+      ap form_view c.new-entries.ensures.key ∙ c.form.ensures.form,
+      (λ i. each (entries_by read_key read) 0 c.args.elements (entries_marked (c.new-entries.ensures.none i))) ∙ entries_each read_key read 0 c.args.elements no_entries,
+    )
+
+pub map::read_entries-put-requires : goal.map::read_entries-put-requires
+map::read_entries-put-requires t c =
+    let s = c.advance.new.step in
+    record {
+      indexed = c.step.invariant.0;
+      key = key_valued (form_view c.step.entries.key) (str_piece s.key) (marked c.in_ok-key.key) c.step.invariant.0.text c.in_ok-key.ensures.exact;
+    }
+
+pub map::read_entries-step-preserved : goal.map::read_entries-step-preserved
+map::read_entries-step-preserved t c =
+    let read_key = reads_key plain c.args.key.now in
+    let read = reads c.args.item.now plain in
+    let s = c.advance.new.step in
+    let k = str_piece s.key in
+    let old = entries_marked c.step.entries.entries.items in
+    let put = c.in_ok-put.ensures in
+    let first = step_is _ _ c.in_ok-advance.field-0 s c.in_ok-advance.ensures.advanced c.if-branch.true in
+    let named : read_key k ≡ Ok (marked c.in_ok-key.key) = ap (λ f. reads_key plain f k) (sym c.step.invariant.1) ∙ c.in_ok-key.ensures.exact in (
+      put.indexed,
+      ap form_view put.key ∙ c.step.invariant.1,
+      ap (each (entries_by read_key read) 0 c.advance.new.self) put.entries
+          ∙ each_next (entries_by read_key read) 0 c.step.elements old _ c.step.invariant.2 (λ j l n x. refl) k s.value c.advance.new.self _ first
+          (entry_done read_key read 0 k s.value old (marked c.in_ok-key.key) (marked c.in_ok-value.value) named c.in_ok-value.ensures.exact),
+    )
+
+pub map::read_entries-returns-in_err-key : goal.map::read_entries-returns-in_err-key
+map::read_entries-returns-in_err-key t c =
+    let read_key = reads_key plain c.args.key.now in
+    let read = reads c.args.item.now plain in
+    let s = c.advance.new.step in
+    let k = str_piece s.key in
+    let old = entries_marked c.step.entries.entries.items in
+    let stop = c.in_err-key.field-0.0 in
+    let first = step_is _ _ c.in_ok-advance.field-0 s c.in_ok-advance.ensures.advanced c.if-branch.true in
+    let refused_key = subst (λ f. StopsAs stop (reads_key plain f k)) c.step.invariant.1 c.in_err-key.ensures.exact in
+    let here = each_stop (entries_by read_key read) 0 c.step.elements old _ c.step.invariant.2 k s.value c.advance.new.self stop first (key_stops read_key read 0 k s.value old stop refused_key) in
+    record { exact = search (rules, here) }
+
+pub map::read_entries-returns-in_err-value : goal.map::read_entries-returns-in_err-value
+map::read_entries-returns-in_err-value t c =
+    let read_key = reads_key plain c.args.key.now in
+    let read = reads c.args.item.now plain in
+    let s = c.advance.new.step in
+    let k = str_piece s.key in
+    let old = entries_marked c.step.entries.entries.items in
+    let stop = c.in_err-value.field-0.0 in
+    let first = step_is _ _ c.in_ok-advance.field-0 s c.in_ok-advance.ensures.advanced c.if-branch.true in
+    let named : read_key k ≡ Ok (marked c.in_ok-key.key) = ap (λ f. reads_key plain f k) (sym c.step.invariant.1) ∙ c.in_ok-key.ensures.exact in
+    let here = each_stop (entries_by read_key read) 0 c.step.elements old _ c.step.invariant.2 k s.value c.advance.new.self stop first (entry_stops read_key read 0 k s.value old (marked c.in_ok-key.key) stop named c.in_err-value.ensures.exact) in
+    record { exact = search (rules, here) }
+
+pub enumeration::read_variant-returns : goal.enumeration::read_variant-returns
+enumeration::read_variant-returns t c =
+    let vs = c.args.variants.now in
+    let s = c.in_ok-step.step in
+    let ns = c.args.elements in
+    let parts = first_read (reads_variant (variants_of vs) plain) ns ∙ ap (λ r. r >>= λ p. reads_variant (variants_of vs) plain p.key.bytes p.value) c.in_ok-step.ensures ∙ element_read vs (str_piece s.key).bytes s.value in
+    record { exact = subst (λ (r : Reading Marked). Reaches marked c.read_content.result r) (sym (parts ∙ ap (λ r. r >>= content_read s.value) c.in_ok-variant.ensures)) c.read_content.ensures.exact }
+
+pub enumeration::read_variant-returns-in_err-variant : goal.enumeration::read_variant-returns-in_err-variant
+enumeration::read_variant-returns-in_err-variant t c =
+    let vs = c.args.variants.now in
+    let s = c.in_ok-step.step in
+    let ns = c.args.elements in
+    let parts = first_read (reads_variant (variants_of vs) plain) ns ∙ ap (λ r. r >>= λ p. reads_variant (variants_of vs) plain p.key.bytes p.value) c.in_ok-step.ensures ∙ element_read vs (str_piece s.key).bytes s.value in
+    let here : Reaches marked c.from_residual-in_err-variant.result (variant_named vs (str_piece s.key).bytes >>= content_read s.value) = search rules in
+    record { exact = subst (λ (r : Reading Marked). Reaches marked c.from_residual-in_err-variant.result r) (sym parts) here }
+
+pub enumeration::read_content-returns-in-Tuple : goal.enumeration::read_content-returns-in-Tuple
+enumeration::read_content-returns-in-Tuple t c =
+    let own = string_bytes c.args.variant.now.name in
+    let content : tuple_content (parts_of c.deref.result.now) ≡ content_of c.args.variant.now.content = ap (λ xs. tuple_content (parts_of xs)) c.deref.ensures.value ∙ ap content_of (sym c.in-Tuple.is) in
+    record {
+      exact = subst (λ k. Reaches marked c.at_key-in-Tuple.result (reads_content own k plain c.args.step.now.value)) content
+          (contents_at_key own c.as_str-name.result.now (tuple_content (parts_of c.deref.result.now)) c.args.step.now.value c.read_tuple_variant.result c.at_key-in-Tuple.result refl c.as_str-name.ensures.value c.at_key-in-Tuple.ensures c.read_tuple_variant.ensures.exact);
+    }
+
+pub enumeration::read_content-returns-in-Struct : goal.enumeration::read_content-returns-in-Struct
+enumeration::read_content-returns-in-Struct t c =
+    let own = string_bytes c.args.variant.now.name in
+    let content : struct_content (fields_of c.deref-in-Struct.result.now) ≡ content_of c.args.variant.now.content = ap (λ xs. struct_content (fields_of xs)) c.deref-in-Struct.ensures.value ∙ ap content_of (sym c.in-Struct.is) in
+    record {
+      exact = subst (λ k. Reaches marked c.at_key-in-Struct.result (reads_content own k plain c.args.step.now.value)) content
+          (contents_at_key own c.as_str-name.result.now (struct_content (fields_of c.deref-in-Struct.result.now)) c.args.step.now.value c.read_struct_variant.result c.at_key-in-Struct.result refl c.as_str-name.ensures.value c.at_key-in-Struct.ensures c.read_struct_variant.ensures.exact);
+    }
+
+pub structure::read_by_key-new-index-requires : goal.structure::read_by_key-new-index-requires
+structure::read_by_key-new-index-requires t c = ap has_repeat (field_names_are c.args.fields.now) ∙ c.requires
+
+pub structure::read_by_key-step-init : goal.structure::read_by_key-step-init
+structure::read_by_key-step-init t c =
+    let slots = slots_of (fields_of c.args.fields.now) plain in (
+      ap (λ (fs : Bor (List FieldShape)). fs.now) c.new-index.ensures,
+      ap (λ (fs : Bor (List FieldShape)). fs.now) c.in_ok-slots.ensures.fields,
+      ap (each slots_by 0 c.args.elements) c.in_ok-slots.ensures.empty ∙ fill_each 0 c.args.elements slots,
+    )
+
+pub structure::read_by_key-step-preserved : goal.structure::read_by_key-step-preserved
+structure::read_by_key-step-preserved t c =
+    let s = c.advance.new.step in
+    let first = step_is _ _ c.in_ok-advance.field-0 s c.in_ok-advance.ensures.advanced c.if-branch.true in (
+      ap (λ (fs : Bor (List FieldShape)). fs.now) c.in_ok-fill_one.ensures.items ∙ c.step.invariant.0,
+      ap (λ (fs : Bor (List FieldShape)). fs.now) c.in_ok-fill_one.ensures.kept ∙ c.step.invariant.1,
+      each_next slots_by 0 c.step.elements (slots_view c.step.slots) _ c.step.invariant.2 (λ j l n x. refl) (str_piece s.key) s.value c.advance.new.self (slots_view c.fill_one.new.slots) first c.in_ok-fill_one.ensures.exact,
+    )
+
+pub structure::fill_one-returns-in_ok-put-in-Ok-clause-exact : goal.structure::fill_one-returns-in_ok-put-in-Ok-clause-exact
+structure::fill_one-returns-in_ok-put-in-Ok-clause-exact t c =
+    let s = c.args.step.now in
+    let key = (str_piece s.key).bytes in
+    let i = c.in-Some.place in
+    let slots = c.args.slots.now in
+    let place = ap (λ xs. place_of (map (λ (f : FieldShape). string_bytes f.name) xs) key) c.requires ∙ sym c.in-Some.ensures.place in
+    let f = c.index-fields-place.result in
+    let at = ap (λ xs. under key (reads (get_or xs i f).shape plain s.value)) c.requires in
+    value_put slots key s.value i f place (sym c.if-is_filled.ensures) (marked c.in-Ok.value) (at ∙ ap (under key) c.in-Ok.ensures.exact) ∙ ap Ok (sym c.in_ok-put-in-Ok.ensures.put)
+
+pub structure::fill_one-returns-in-Err-read_value-clause-exact : goal.structure::fill_one-returns-in-Err-read_value-clause-exact
+structure::fill_one-returns-in-Err-read_value-clause-exact t c =
+    let s = c.args.step.now in
+    let key = (str_piece s.key).bytes in
+    let i = c.in-Some.place in
+    let slots = c.args.slots.now in
+    let place = ap (λ xs. place_of (map (λ (f : FieldShape). string_bytes f.name) xs) key) c.requires ∙ sym c.in-Some.ensures.place in
+    let f = c.index-fields-place.result in
+    let stop = c.under_key-in-Err-read_value.result in
+    let here = stops_inside (at_key key) c.in-Err-read_value.stop stop (reads (get_or c.args.index.now.items.now i f).shape plain s.value) c.under_key-in-Err-read_value.ensures.under c.in-Err-read_value.ensures.exact in
+    value_refused slots key s.value i f place (sym c.if-is_filled.ensures) stop (subst (λ xs. StopsAs stop (under key (reads (get_or xs i f).shape plain s.value))) (sym c.requires) here)
+
+pub structure::fill_one-returns-then-is_filled-clause-exact : goal.structure::fill_one-returns-then-is_filled-clause-exact
+structure::fill_one-returns-then-is_filled-clause-exact t c =
+    let s = c.args.step.now in
+    let key = (str_piece s.key).bytes in
+    let i = c.in-Some.place in
+    let slots = c.args.slots.now in
+    let place = ap (λ xs. place_of (map (λ (f : FieldShape). string_bytes f.name) xs) key) c.requires ∙ sym c.in-Some.ensures.place in
+    let some : Slot = record { name = key; missing = None; read = λ n. Ok value.unit; value = None } in
+    let here : StopsAs c.refused.result (refused {A = Slots} (duplicate_field key)) = search rules in
+    subst (λ (r : Reading Slots). StopsAs c.refused.result r) (sym (put_filled slots key s.value i place (sym c.if-is_filled.ensures) some)) here
+
+pub structure::fill_one-returns-in-Err-clause-exact : goal.structure::fill_one-returns-in-Err-clause-exact
+structure::fill_one-returns-in-Err-clause-exact t c =
+    let s = c.args.step.now in
+    let key = (str_piece s.key).bytes in
+    let slots = c.args.slots.now in
+    let unknown = ap (λ xs. place_of (map (λ (f : FieldShape). string_bytes f.name) xs) key) c.requires ∙ sym c.in_default.ensures.place in
+    let here = subst (λ (r : Reading (Unit {0})). StopsAs c.in-Err.stop r) (ignored_at s.value) c.in-Err.ensures.exact in
+    unknown_refused slots key s.value unknown c.under_key.result (stops_inside (at_key key) c.in-Err.stop c.under_key.result (ignores plain s.value) c.under_key.ensures.under here)
+
+pub structure::fill_one-returns-in_default-clause-exact : goal.structure::fill_one-returns-in_default-clause-exact
+structure::fill_one-returns-in_default-clause-exact t c =
+    let s = c.args.step.now in
+    let key = (str_piece s.key).bytes in
+    let slots = c.args.slots.now in
+    let unknown = ap (λ xs. place_of (map (λ (f : FieldShape). string_bytes f.name) xs) key) c.requires ∙ sym c.in_default.ensures.place in
+    unknown_dropped slots key s.value unknown tt (ap (under key) (sym (ignored_at s.value) ∙ c.in_default-ignore.ensures.exact))
+
+pub structure::read_struct-returns : goal.structure::read_struct-returns
+structure::read_struct-returns t c = record {
+  exact = taken (value.structure (made c.args.name.now)) (judged plain c.args.value.now) (read_structure plain (slots_of (fields_of c.args.fields.now) plain)) _ c.in_ok-fields.ensures.exact ∙ ap Ok (sym c.in_ok-named_struct.ensures.marked);
+}
+
+pub structure::read_struct-returns-in_err-fields : goal.structure::read_struct-returns-in_err-fields
+structure::read_struct-returns-in_err-fields t c =
+    let here = not_taken (value.structure (made c.args.name.now)) (judged plain c.args.value.now) (read_structure plain (slots_of (fields_of c.args.fields.now) plain)) c.in_err-fields.field-0.0 c.in_err-fields.ensures.exact in
+    record { exact = search (rules, here) }
+
+pub enumeration::read_struct_variant-returns : goal.enumeration::read_struct_variant-returns
+enumeration::read_struct_variant-returns t c = record {
+  exact = taken (value.structure_variant (made c.args.name.now)) (judged plain c.args.value.now) (read_structure plain (slots_of (fields_of c.args.fields.now) plain)) _ c.in_ok-fields.ensures.exact ∙ ap Ok (sym c.in_ok-named_struct_variant.ensures.marked);
+}
+
+pub enumeration::read_struct_variant-returns-in_err-fields : goal.enumeration::read_struct_variant-returns-in_err-fields
+enumeration::read_struct_variant-returns-in_err-fields t c =
+    let here = not_taken (value.structure_variant (made c.args.name.now)) (judged plain c.args.value.now) (read_structure plain (slots_of (fields_of c.args.fields.now) plain)) c.in_err-fields.field-0.0 c.in_err-fields.ensures.exact in
+    record { exact = search (rules, here) }
+
+pub map::read_entries-read_key-requires : goal.map::read_entries-read_key-requires
+map::read_entries-read_key-requires t c = c.step.invariant.0.text
+
+pub value::read_option-returns-then-is_null : goal.value::read_option-returns-then-is_null
+value::read_option-returns-then-is_null t c = record { exact = option_null c.args.value.now (reads c.args.inner.now plain c.args.value.now) (sym c.if-is_null.ensures.null) }
+
+pub structure::read_by_place-loop-place-init : goal.structure::read_by_place-loop-place-init
+structure::read_by_place-loop-place-init t c =
+    let slots = slots_of (fields_of c.args.fields.now) plain in
+    (λ i. result_map (values_before (c.new-values.ensures.items i)) (reads_places 0 slots c.args.elements)) ∙ no_values (reads_places 0 slots c.args.elements)
+
+pub structure::read_by_place-loop-place-preserved : goal.structure::read_by_place-loop-place-preserved
+structure::read_by_place-loop-place-preserved t c =
+    places_step c.args.fields.now c.loop-place.place c.loop-place.values.items c.loop-place.elements _ c.loop-place.invariant c.index-fields-place.result c.loop-place-test.true c.index-fields-place.is c.read_next.new.elements c.in_ok-named_field.field-0 c.push.new.self.items
+    c.in_ok-value.ensures.rest (c.in_ok-value.ensures.value ∙ ap (λ d. Ok (marked d)) (sym c.in_ok-named_field.ensures.value)) (c.in_ok-named_field.ensures.name ∙ ap made c.as_str.ensures.value) c.in_ok-push.ensures.items
+
+pub structure::read_by_place-returns-in_err-value : goal.structure::read_by_place-returns-in_err-value
+structure::read_by_place-returns-in_err-value t c =
+    let stop = c.in_err-value.field-0.0 in
+    let here = places_stop c.args.fields.now c.loop-place.place c.loop-place.values.items c.loop-place.elements _ c.loop-place.invariant c.index-fields-place.result c.loop-place-test.true c.index-fields-place.is stop c.in_err-value.ensures.value in
+    record { exact = search (rules, here) }
+
+pub structure::read_by_place-returns : goal.structure::read_by_place-returns
+structure::read_by_place-returns t c = record {
+  exact = places_end c.args.fields.now c.loop-place.place c.loop-place.values.items c.loop-place.elements _ c.loop-place.invariant (omega (arith, c.loop-place-test.false));
+}

@@ -1,0 +1,16 @@
+pub mod Characters
+pub mod Each
+pub mod KeyedEntries
+pub mod KeyPlaces
+pub mod KeyTexts
+pub mod Loops
+pub mod MarkedLists
+pub mod NumberLeaves
+pub mod Texts
+pub mod Variants
+pub mod FieldPlaces
+pub mod Parts
+pub mod AnyRead
+pub mod Mapped
+pub mod VariantContents
+pub mod Nulls

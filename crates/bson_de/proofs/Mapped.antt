@@ -1,0 +1,17 @@
+-- What is taken of a judged value, made into something.
+use Rattle.std.proofs.Common.{◌≡◌, Ok, Err, refl, ap, sym, subst, ◌∙◌}
+use Rattle.bson_base.specs.Outcome.{◌>>=◌, result_map}
+use Rattle.bson_datum.specs.declared.de.Fault.{Fault}
+use Rattle.bson_datum.specs.declared.stop.Stop.{Stop}
+use Rattle.bson_laws.specs.Judged.{Reading}
+use Rattle.bson_met.proofs.Refusals.{StopsAs, stops_map}
+
+mapped : {A B C : Type 0} (f : B → C) (r : Reading A) (take : A → Reading B) → (r >>= λ n. result_map f (take n)) ≡ result_map f (r >>= take)
+mapped f (Ok x) take = refl
+mapped f (Err e) take = refl
+
+pub taken : {A B C : Type 0} (f : B → C) (r : Reading A) (take : A → Reading B) (x : B) → (r >>= take) ≡ Ok x → (r >>= λ n. result_map f (take n)) ≡ Ok (f x)
+taken f r take x e = mapped f r take ∙ ap (result_map f) e
+
+pub not_taken : {A B C : Type 0} (f : B → C) (r : Reading A) (take : A → Reading B) (s : Stop Fault) → StopsAs s (r >>= take) → StopsAs s (r >>= λ n. result_map f (take n))
+not_taken {C = C} f r take s h = subst (λ (q : Reading C). StopsAs s q) (sym (mapped f r take)) (stops_map s f (r >>= take) h)

@@ -1,0 +1,15 @@
+use Rattle.std.proofs.Common.{true, false, rules}
+use Rattle.bson_rawdoc.specs.Piece.{made}
+use Rattle.bson_base.specs.Outcome.{◌>>=◌}
+use Rattle.bson_datum.specs.Value as value
+use Rattle.bson_laws.specs.Judged.{judged, plain}
+use Rattle.bson_laws.specs.Taken.{bytes_of}
+use Rattle.bson_met.specs.Gives.{Reaches}
+use Rattle.bson_de.proofs.Mapped.{taken, not_taken}
+use Rattle.bson_de.proofs.leaf.borrowed_bytes.Goals as goal
+
+pub returns : goal.returns
+returns c = record { exact = taken value.bytes (judged plain c.args.value.now) (bytes_of plain) _ c.in_ok-bytes.ensures }
+
+pub returns-in_err-bytes : goal.returns-in_err-bytes
+returns-in_err-bytes c = let here = not_taken value.bytes (judged plain c.args.value.now) (bytes_of plain) c.in_err-bytes.field-0.0 c.in_err-bytes.ensures in record { exact = search (rules, here) }

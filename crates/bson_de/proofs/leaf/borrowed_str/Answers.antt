@@ -1,0 +1,15 @@
+use Rattle.std.proofs.Common.{true, false, rules}
+use Rattle.bson_rawdoc.specs.Piece.{made}
+use Rattle.bson_base.specs.Outcome.{◌>>=◌}
+use Rattle.bson_datum.specs.Value as value
+use Rattle.bson_laws.specs.Judged.{judged, plain}
+use Rattle.bson_laws.specs.Taken.{text_of}
+use Rattle.bson_met.specs.Gives.{Reaches}
+use Rattle.bson_de.proofs.Mapped.{taken, not_taken}
+use Rattle.bson_de.proofs.leaf.borrowed_str.Goals as goal
+
+pub returns : goal.returns
+returns c = record { exact = taken value.str (judged plain c.args.value.now) (text_of plain true) _ c.in_ok-text.ensures }
+
+pub returns-in_err-text : goal.returns-in_err-text
+returns-in_err-text c = let here = not_taken value.str (judged plain c.args.value.now) (text_of plain true) c.in_err-text.field-0.0 c.in_err-text.ensures in record { exact = search (rules, here) }

@@ -1,0 +1,12 @@
+-- What contracts see of a reading at a key.
+use Rattle.std.specs.Prelude.{◌≡◌, Result, Ok, Err}
+use Rattle.bson_base.specs.Text.{Utf8}
+use Rattle.bson_datum.specs.Stop.{IsUnderKey}
+use Rattle.bson_datum.specs.declared.de.Fault.{Fault}
+use Rattle.bson_datum.specs.declared.stop.Stop.{Stop}
+
+-- the same, seen from the document that has the value at the key; or want of memory
+abbrev pub IsAtKey : {X : Type 0} → Utf8 → Result X (Stop Fault) → Result X (Stop Fault) → Type 0
+IsAtKey key (Ok x) new = new ≡ Ok x
+IsAtKey key (Err s) (Ok x) = ⊥
+IsAtKey key (Err s) (Err t) = IsUnderKey key s t

@@ -1,0 +1,13 @@
+-- The keys that texts are.
+use Rattle.bson_base.specs.Text.{Utf8}
+use Rattle.bson_base.specs.Outcome.{result_map}
+use Rattle.bson_rawdoc.specs.Piece.{borrowed}
+use Rattle.bson_shape.specs.Form.{Form}
+use Rattle.bson_datum.specs.Marked.{contents}
+use Rattle.bson_datum.specs.Value.{Value}
+use Rattle.bson_laws.specs.Containers.{reads_key}
+use Rattle.bson_laws.specs.Judged.{Reading, plain}
+
+-- the key that a text is at this form of keys, wherever the text stands
+abbrev pub key_value : Form → Utf8 → Reading Value
+key_value s t = result_map contents (reads_key plain s (borrowed t))

@@ -1,0 +1,133 @@
+ghost use Rattle.std.specs.Prelude.{◌≡◌};
+ghost use Rattle.bson_shape.specs.Form as form;
+ghost use Rattle.bson_shape.specs.Makers.{AreDistinct};
+ghost use Rattle.bson_shape.specs.ShapeView.{fields_of};
+ghost use Rattle.bson_datum.specs.MarkedView.{marked};
+ghost use Rattle.bson_laws.specs.Judged.{plain};
+ghost use Rattle.bson_laws.specs.Reads.{reads, slots_of};
+ghost use Rattle.bson_laws.specs.Slots as laws;
+ghost use Rattle.bson_met.specs.Gives.{Reaches};
+ghost use Rattle.bson_met.specs.PieceView.{str_piece};
+ghost use Rattle.bson_slots.specs.FieldSlots.{fields_marked};
+ghost use Rattle.bson_slots.specs.SlotsView.{slots_view};
+ghost use Rattle.bson_de.specs.Fields.{fields_at, fields_by_key};
+
+use crate::ignored::ignore;
+use crate::tuple::read_next;
+use crate::value::read_value;
+use bson_datum::{Cause, Datum, Field};
+use bson_met::{Elements, Items, Met, Reading, Step, Value, refused};
+use bson_shape::FieldShape;
+use bson_slots::{NameIndex, Slots, named_field, named_struct};
+use std::alloc::Global;
+
+/// The value at a struct of this name with these fields.
+#[cycle(read)]
+#[inline(never)]
+pub(crate) fn read_struct<'de>(
+    alloc: Global,
+    name: &str,
+    fields: &[FieldShape],
+    value: &Met<'de>,
+) -> Reading<Datum<'de>>
+    requires { AreDistinct (fields_of fields.now) }
+    ensures exact { Reaches marked result
+        (reads (form.structure name.now (fields_of fields.now)) plain value.now) }
+{
+    let fields = read_fields(alloc, fields, value)?;
+    Ok(named_struct(alloc, name, fields)?)
+}
+
+/// The fields with their values: from an array by their places, from a document by their keys.
+#[cycle(read)]
+pub(crate) fn read_fields<'de>(
+    alloc: Global,
+    fields: &[FieldShape],
+    value: &Met<'de>,
+) -> Reading<Vec<Field<'de>>>
+    requires { AreDistinct (fields_of fields.now) }
+    ensures exact { Reaches (λ v. fields_marked v.items) result (fields_at (fields_of fields.now) value.now) }
+{
+    match value.judge(alloc)? {
+        Value::Array(items) => read_by_place(alloc, fields, items),
+        other => {
+            let elements = other.document(alloc)?;
+            read_by_key(alloc, fields, elements)
+        }
+    }
+}
+
+/// The fields with their values from the elements of a document.
+#[cycle(read)]
+fn read_by_key<'de>(
+    alloc: Global,
+    fields: &[FieldShape],
+    mut elements: Elements<'de>,
+) -> Reading<Vec<Field<'de>>>
+    requires { AreDistinct (fields_of fields.now) }
+    ensures exact { Reaches (λ v. fields_marked v.items) result
+        (fields_by_key (slots_of (fields_of fields.now) plain) elements.entry) }
+{
+    let mut index = NameIndex::new(fields);
+    let mut slots = Slots::new(alloc, fields)?;
+    let mut step = elements.start();
+    'step: while elements.advance(alloc, &mut step)? {
+        fill_one(alloc, &step, &mut index, &mut slots)?;
+    }
+    slots.finish(alloc)
+}
+
+/// One element: its value is read for the field that has its key, or dropped where none has.
+#[cycle(read)]
+fn fill_one<'de>(
+    alloc: Global,
+    step: &Step<'de>,
+    index: &mut NameIndex<'_, FieldShape>,
+    slots: &mut Slots<'_, 'de>,
+) -> Reading<()>
+    requires { slots.old.fields.now ≡ index.old.items.now }
+    ensures items { index.new.items ≡ index.old.items }
+    ensures kept { slots.new.fields ≡ slots.old.fields }
+    ensures exact { Reaches (λ _. slots_view slots.new) result
+        (laws.put_at plain (str_piece step.now.key).bytes step.now.value (slots_view slots.old)) }
+{
+    let key = step.key.text;
+    let fields = index.items;
+    let Some(place) = index.place_of(alloc, key) else {
+        if let Err(stop) = ignore(alloc, &step.value) {
+            return Err(stop.under_key(key));
+        }
+        return Ok(());
+    };
+    if slots.is_filled(place) {
+        let cause = Cause::DuplicateField(String::from_str(alloc, key)?);
+        return Err(refused(alloc, cause));
+    }
+    let shape = &fields[place].shape;
+    match read_value(alloc, shape, &step.value) {
+        Ok(value) => {
+            slots.put(alloc, place, value)?;
+            Ok(())
+        }
+        Err(stop) => Err(stop.under_key(key)),
+    }
+}
+
+/// The fields with their values from the elements of an array by their places. Further elements stay unread.
+#[cycle(read)]
+#[inline(never)]
+fn read_by_place<'de>(
+    alloc: Global,
+    fields: &[FieldShape],
+    mut elements: Items<'de>,
+) -> Reading<Vec<Field<'de>>>
+    ensures exact { Reaches (λ v. fields_marked v.items) result
+        (laws.reads_places 0 (slots_of (fields_of fields.now) plain) elements.entry) }
+{
+    let mut values = Vec::new(alloc);
+    for (place, field) in fields.iter().enumerate() {
+        let value = read_next(alloc, &field.shape, place as u64, &mut elements)?;
+        values.push(named_field(alloc, field.name.as_str(), value)?)?;
+    }
+    Ok(values)
+}

@@ -1,0 +1,94 @@
+// Tuples and tuple structs.
+ghost use Rattle.std.specs.Prelude.{◌≡◌, IfOk};
+ghost use Rattle.bson_shape.specs.Form as form;
+ghost use Rattle.bson_shape.specs.ShapeView.{parts_of};
+ghost use Rattle.bson_datum.specs.MarkedView.{marked};
+ghost use Rattle.bson_laws.specs.Judged.{plain};
+ghost use Rattle.bson_laws.specs.Reads.{reads, reads_parts};
+ghost use Rattle.bson_met.specs.Gives.{Reaches};
+ghost use Rattle.bson_de.specs.ListsMarked.{items_marked};
+ghost use Rattle.bson_de.specs.NextValue.{next_value, behind_first, IsDue};
+
+use crate::value::read_item;
+use bson_datum::{Cause, Datum, Text};
+use bson_met::{Items, Met, Reading, refused};
+use bson_shape::Shape;
+use std::alloc::Global;
+
+/// The value at a tuple whose parts have these shapes.
+#[cycle(read)]
+#[inline(never)]
+pub(crate) fn read_tuple<'de>(
+    alloc: Global,
+    parts: &[Shape],
+    value: &Met<'de>,
+) -> Reading<Datum<'de>>
+    ensures exact { Reaches marked result (reads (form.tuple (parts_of parts.now)) plain value.now) }
+{
+    let elements = value.array(alloc)?;
+    let items = read_parts(alloc, parts, elements)?;
+    Ok(Datum::Tuple(items))
+}
+
+/// The value at a tuple struct of this name, whose parts have these shapes.
+#[cycle(read)]
+#[inline(never)]
+pub(crate) fn read_tuple_struct<'de>(
+    alloc: Global,
+    name: &str,
+    parts: &[Shape],
+    value: &Met<'de>,
+) -> Reading<Datum<'de>>
+    ensures exact { Reaches marked result
+        (reads (form.tuple_structure name.now (parts_of parts.now)) plain value.now) }
+{
+    let elements = value.array(alloc)?;
+    let items = read_parts(alloc, parts, elements)?;
+    let name = Text::Owned(String::from_str(alloc, name)?);
+    Ok(Datum::TupleStruct { name, items })
+}
+
+/// The values of parts of these shapes from the elements of an array, one each. Further elements stay unread.
+#[cycle(read)]
+pub(crate) fn read_parts<'de>(
+    alloc: Global,
+    parts: &[Shape],
+    mut elements: Items<'de>,
+) -> Reading<Vec<Datum<'de>>>
+    ensures exact { Reaches (λ v. items_marked v.items) result
+        (reads_parts (parts_of parts.now) plain 0 elements.entry) }
+{
+    let mut values = Vec::new(alloc);
+    for (place, part) in parts.iter().enumerate() {
+        let value = read_next(alloc, part, place as u64, &mut elements)?;
+        values.push(value)?;
+    }
+    Ok(values)
+}
+
+/// The value at a shape of the element that is due at this index of an array.
+#[cycle(read)]
+pub(crate) fn read_next<'de>(
+    alloc: Global,
+    shape: &Shape,
+    index: u64,
+    elements: &mut Items<'de>,
+) -> Reading<Datum<'de>>
+    ensures rest { IfOk result (λ _. elements.new ≡ behind_first elements.old) }
+    ensures value { Reaches marked result (next_value index (reads shape.now plain) elements.old) }
+{
+    let value = due(alloc, index, elements)?;
+    read_item(alloc, shape, index, &value)
+}
+
+/// The element that is due at this index of an array. Where none is left, the fault that ends their list is the refusal, and
+/// without a fault that there are too few.
+fn due<'de>(alloc: Global, index: u64, elements: &mut Items<'de>) -> Reading<Met<'de>>
+    ensures { IsDue index elements.old result elements.new }
+{
+    let mut value = elements.start();
+    if elements.advance(alloc, &mut value)? {
+        return Ok(value);
+    }
+    Err(refused(alloc, Cause::InvalidLength(index)))
+}

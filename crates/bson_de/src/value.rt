@@ -1,0 +1,127 @@
+ghost use Rattle.bson_shape.specs.Form as form;
+ghost use Rattle.bson_datum.specs.MarkedView.{marked};
+ghost use Rattle.bson_datum.specs.Refusal.{under_index};
+ghost use Rattle.bson_laws.specs.Containers.{reads_items};
+ghost use Rattle.bson_laws.specs.Judged.{plain};
+ghost use Rattle.bson_laws.specs.Reads.{reads};
+ghost use Rattle.bson_met.specs.Gives.{Reaches};
+ghost use Rattle.bson_de.specs.ListsMarked.{items_marked};
+
+use crate::enumeration::read_enum;
+use crate::leaf::{null, read_leaf};
+use crate::map::read_map;
+use crate::structure::read_struct;
+use crate::tuple::{read_tuple, read_tuple_struct};
+use bson_datum::{Datum, Text};
+use bson_met::{Items, Met, Reading};
+use bson_shape::{Form, Shape};
+use std::alloc::Global;
+
+/// The value at a shape.
+///
+/// What is borrowed is borrowed from the input that the value stands in.
+#[cycle(read)]
+pub fn read_value<'de>(alloc: Global, shape: &Shape, value: &Met<'de>) -> Reading<Datum<'de>>
+    ensures exact { Reaches marked result (reads shape.now plain value.now) }
+{
+    shape.known();
+    match shape.form() {
+        Form::Leaf(leaf) => read_leaf(alloc, leaf, value),
+        Form::Option(inner) => read_option(alloc, inner, value),
+        Form::Seq(item) => read_sequence(alloc, item, value),
+        Form::Map(key, item) => read_map(alloc, key, item, value),
+        Form::Tuple(parts) => read_tuple(alloc, parts, value),
+        Form::TupleStruct(name, parts) => read_tuple_struct(alloc, name, parts, value),
+        Form::Newtype(name, inner) => read_newtype(alloc, name, inner, value),
+        Form::UnitStruct(name) => read_unit_struct(alloc, name, value),
+        Form::Struct(name, fields) => read_struct(alloc, name, fields, value),
+        Form::Enum(variants) => read_enum(alloc, variants, value),
+    }
+}
+
+/// The value at an option whose value has this shape. Of a null the kind alone is looked at.
+#[cycle(read)]
+#[inline(never)]
+fn read_option<'de>(alloc: Global, inner: &Shape, value: &Met<'de>) -> Reading<Datum<'de>>
+    ensures exact { Reaches marked result (reads (form.optional inner.now) plain value.now) }
+{
+    if value.is_null() {
+        return Ok(Datum::None);
+    }
+    let value = read_value(alloc, inner, value)?;
+    Ok(Datum::Some(Box::new(alloc, value)?))
+}
+
+/// The value at a newtype of this name, whose value has this shape.
+#[cycle(read)]
+#[inline(never)]
+fn read_newtype<'de>(
+    alloc: Global,
+    name: &str,
+    inner: &Shape,
+    value: &Met<'de>,
+) -> Reading<Datum<'de>>
+    ensures exact { Reaches marked result (reads (form.newtype name.now inner.now) plain value.now) }
+{
+    let value = read_value(alloc, inner, value)?;
+    let value = Box::new(alloc, value)?;
+    let name = Text::Owned(String::from_str(alloc, name)?);
+    Ok(Datum::NewtypeStruct { name, value })
+}
+
+/// The value at a unit struct of this name.
+#[inline(never)]
+fn read_unit_struct<'de>(alloc: Global, name: &str, value: &Met<'de>) -> Reading<Datum<'de>>
+    ensures exact { Reaches marked result (reads (form.unit_structure name.now) plain value.now) }
+{
+    null(alloc, value)?;
+    let name = Text::Owned(String::from_str(alloc, name)?);
+    Ok(Datum::UnitStruct { name })
+}
+
+/// The value at a sequence whose items have this shape.
+#[cycle(read)]
+#[inline(never)]
+fn read_sequence<'de>(alloc: Global, item: &Shape, value: &Met<'de>) -> Reading<Datum<'de>>
+    ensures exact { Reaches marked result (reads (form.sequence item.now) plain value.now) }
+{
+    let elements = value.array(alloc)?;
+    let items = read_items(alloc, item, elements)?;
+    Ok(Datum::Seq(items))
+}
+
+/// The items of an array, each at this shape.
+#[cycle(read)]
+fn read_items<'de>(
+    alloc: Global,
+    item: &Shape,
+    mut elements: Items<'de>,
+) -> Reading<Vec<Datum<'de>>>
+    ensures exact { Reaches (λ v. items_marked v.items) result
+        (reads_items (reads item.now plain) 0 elements.entry) }
+{
+    let mut items = Vec::new(alloc);
+    let mut index = 0;
+    let mut value = elements.start();
+    'step: while elements.advance(alloc, &mut value)? {
+        items.push(read_item(alloc, item, index, &value)?)?;
+        index += 1;
+    }
+    Ok(items)
+}
+
+/// The value at a shape of the element at this index of an array.
+#[cycle(read)]
+pub(crate) fn read_item<'de>(
+    alloc: Global,
+    shape: &Shape,
+    index: u64,
+    value: &Met<'de>,
+) -> Reading<Datum<'de>>
+    ensures exact { Reaches marked result (under_index index (reads shape.now plain value.now)) }
+{
+    match read_value(alloc, shape, value) {
+        Ok(value) => Ok(value),
+        Err(stop) => Err(stop.under_index(index)),
+    }
+}

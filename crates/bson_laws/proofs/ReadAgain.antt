@@ -1,0 +1,58 @@
+-- What was read and written is read again, and written as the same bytes.
+use Rattle.std.proofs.Common.{◌≡◌, ◌^◌, ◌<◌, ◌≤◌, length, true, false, Ok, Err, refl, ap, sym, ◌∙◌, arith}
+use Rattle.bson_base.specs.Outcome.{result_map}
+use Rattle.bson_base.specs.Sound.{max_levels, max_bytes}
+use Rattle.bson_base.specs.Text.{Bytes, AreBytes}
+use Rattle.bson_base.specs.Tree.{Tree, document, kind, enc}
+use Rattle.bson_base.specs.declared.element_type.ElementType.{ElementType}
+use Rattle.bson_base.specs.declared.element_type.ElementType.TheVariants.{EmbeddedDocument}
+use Rattle.bson_rawdoc.specs.Node.{node_in, tree_node}
+use Rattle.bson_shape.specs.Form.{Form}
+use Rattle.bson_shape.specs.Makers.{IsShape}
+use Rattle.bson_datum.specs.Cause.{raw}
+use Rattle.bson_datum.specs.Marked.{Marked, contents}
+use Rattle.bson_datum.specs.Refusal.{bare, unreadable}
+use Rattle.bson_datum.specs.Value.{Value, kind_of}
+use Rattle.bson_laws.specs.Judged.{plain}
+use Rattle.bson_laws.specs.Reads.{reads, answered, reads_document}
+use Rattle.bson_laws.specs.Spell.{Writing, at_top, spell, spell_document}
+use Rattle.bson_laws.proofs.Again.{again}
+use Rattle.bson_laws.proofs.Bare.{tree_bare, reads_bare}
+use Rattle.bson_laws.proofs.Codec.{seen_again}
+use Rattle.bson_laws.proofs.Coded.{IsCoded}
+use Rattle.bson_laws.proofs.Documents.{node_read}
+use Rattle.bson_laws.proofs.Given.{reads_given}
+use Rattle.bson_laws.proofs.ReadBack.{envelope_again}
+use Rattle.bson_laws.proofs.Sizes.{spell_kind}
+
+top_ok : (k : ElementType) (r : Writing Tree) (t : Tree) → at_top k r ≡ Ok t → (k ≡ EmbeddedDocument) × (r ≡ Ok t)
+top_ok EmbeddedDocument r t e = (refl, e)
+top_ok k r t e = absurd cc
+
+-- a document is read from its bytes as from itself
+coded_read : (s : Form) (t : Tree) (m : Marked) → IsCoded t → kind t ≡ EmbeddedDocument → length (enc t) < 2 ^ 31 → reads s plain (tree_node true t max_levels) ≡ Ok m → reads_document s (enc t) ≡ Ok (contents m)
+coded_read s (document ps) m c k small e =
+    ap (λ r. result_map contents (elim r [ Ok b ↦ answered (reads s plain (node_in max_levels EmbeddedDocument b)) | Err f ↦ Err (bare (unreadable (raw f))) ])) (envelope_again ps small)
+    ∙ ap (λ n. result_map contents (answered (reads s plain n))) (seen_again max_levels (document ps) c small)
+    ∙ ap (λ q. result_map contents (answered q)) e
+coded_read s t m c k small e = absurd cc
+
+-- what was read from bytes and is spelled as a tree is read from the bytes of the tree again, as what is spelled as the same tree
+pub document_again : (s : Form) (bytes : Bytes) (d : Value) (t : Tree) → IsShape s → AreBytes bytes → reads_document s bytes ≡ Ok d → spell_document d ≡ Ok t → length (enc t) ≤ max_bytes
+    → (v : Value) × (reads_document s (enc t) ≡ Ok v) × (spell_document v ≡ Ok t)
+document_again s bytes d t p h e q l =
+    let r = node_read s bytes d h e in
+    let top = top_ok (kind_of d) (spell d max_levels) t q in
+    let given = reads_given s (node_in max_levels EmbeddedDocument r.0) r.1 r.2 r.3 in
+    let k = again (contents r.1) s max_levels t p given (ap (λ v. spell v max_levels) r.4 ∙ top.1) in
+    let is : kind t ≡ EmbeddedDocument = spell_kind d max_levels t top.1 ∙ top.0 in (
+      contents k.0,
+      coded_read s t k.0 k.3 is (omega (arith, l)) k.1,
+      ap (λ x. at_top x (spell (contents k.0) max_levels)) (sym (spell_kind (contents k.0) max_levels t k.2) ∙ is) ∙ k.2,
+    )
+
+-- what is read of a finished tree, of which nothing stands in the input, is read from its bytes
+pub tree_read : (s : Form) (t : Tree) (m : Marked) → IsCoded t → kind t ≡ EmbeddedDocument → length (enc t) < 2 ^ 31 → reads s plain (tree_node false t max_levels) ≡ Ok m → reads_document s (enc t) ≡ Ok (contents m)
+tree_read s t m c k small e =
+    let h = reads_bare s plain (tree_node true t max_levels) m (ap (reads s plain) (tree_bare t max_levels) ∙ e) in
+    coded_read s t h.0 c k small h.1 ∙ ap Ok h.2

@@ -1,0 +1,220 @@
+-- What reading gives is never refused for a number that no Int64 holds.
+use Rattle.std.proofs.Common.{◌≡◌, ℕ, ℤ, zero, suc, Bool, true, false, cond, Option, Some, None, Ok, Err}
+use Rattle.std.specs.Prelude.{length, nat_lt}
+use Rattle.bson_base.specs.Text.{Bytes, Utf8, has_zero}
+use Rattle.bson_base.specs.Outcome.{◌>>=◌, result_map}
+use Rattle.bson_base.specs.Reserved.{reserved_kind}
+use Rattle.bson_base.specs.Sound.{max_binary}
+use Rattle.bson_base.specs.Tree.{Tree, document, array, no_pairs, pair, binary, int64, Pairs}
+use Rattle.bson_base.specs.declared.element_type.ElementType.{ElementType}
+use Rattle.bson_base.specs.declared.element_type.ElementType.TheVariants.{Int32, EmbeddedDocument}
+use Rattle.bson_shape.specs.Form.{Form, leaf, optional, sequence, newtype, unit_structure, map, tuple, tuple_structure, structure, enumeration, Fields, no_fields, field, Parts, no_parts, part}
+use Rattle.bson_datum.specs.Value as value
+use Rattle.bson_datum.specs.Value.{i32, i64, written_as, greatest, Value, Items, no_items, item, Entries, no_entries, entry, FieldValues, no_field_values, field_value}
+use Rattle.bson_datum.specs.Cause.{binary_too_long}
+use Rattle.bson_datum.specs.Refusal.{Segment, unwritable, here, inside, under, at_key, at_index, under_index, unsigned_exceeds, invalid_cstring}
+use Rattle.bson_laws.specs.Means.{key_text}
+use Rattle.bson_laws.specs.Leaves.{LeafKind, anything, ignored, booleans, numbers, doubles, characters, texts, byte_strings, byte_buffers, units, leaf_kind}
+use Rattle.bson_laws.specs.Spell.{Writing, newtype_at, struct_at, unbuilt_newtype, enclosed_at, variant_at, named, written_key, spell_key, spell_number, spell, spell_items, spell_entries, spell_fields, at_top, HoldsNumbers}
+use Rattle.bson_laws.proofs.Given.{IsGivenAny, AreGivenItems, AreGivenEntries, IsGivenLeaf, IsGiven, ItemsGiven, PartsGiven, EntriesGiven, FieldsGiven, given_leaf}
+use Rattle.bson_laws.proofs.Writable.{IsSmall}
+use Rattle.bson_laws.proofs.Rewritten.{wide_small, short_small}
+
+-- ---- values whose numbers an Int64 holds
+
+abbrev mutual
+  pub AreSigned : Value → Type 0
+  AreSigned (value.integer type n) = IsSmall n
+  AreSigned (value.some v) = AreSigned v
+  AreSigned (value.newtype name v) = AreSigned v
+  AreSigned (value.newtype_variant name v) = AreSigned v
+  AreSigned (value.sequence vs) = ItemsSigned vs
+  AreSigned (value.tuple vs) = ItemsSigned vs
+  AreSigned (value.tuple_structure name vs) = ItemsSigned vs
+  AreSigned (value.tuple_variant name vs) = ItemsSigned vs
+  AreSigned (value.map es) = EntriesSigned es
+  AreSigned (value.structure name fs) = FieldsSigned fs
+  AreSigned (value.structure_variant name fs) = FieldsSigned fs
+  AreSigned v = Unit {0}
+
+  pub ItemsSigned : Items → Type 0
+  ItemsSigned no_items = Unit {0}
+  ItemsSigned (item v vs) = AreSigned v × ItemsSigned vs
+
+  pub EntriesSigned : Entries → Type 0
+  EntriesSigned no_entries = Unit {0}
+  EntriesSigned (entry k v es) = AreSigned v × EntriesSigned es
+
+  pub FieldsSigned : FieldValues → Type 0
+  FieldsSigned no_field_values = Unit {0}
+  FieldsSigned (field_value name v fs) = AreSigned v × FieldsSigned fs
+
+-- ---- they are never refused for a number
+
+bound : {A B : Type 0} (r : Writing A) (f : A → Writing B) → HoldsNumbers r → ((x : A) → HoldsNumbers (f x)) → HoldsNumbers (r >>= f)
+bound (Ok x) f w h = h x
+bound (Err e) f w h = w
+
+mapped : {A B : Type 0} (f : A → B) (r : Writing A) → HoldsNumbers r → HoldsNumbers (result_map f r)
+mapped f (Ok x) w = tt
+mapped f (Err e) w = w
+
+placed : {A : Type 0} (segment : Segment) (r : Writing A) → HoldsNumbers r → HoldsNumbers (inside segment r)
+placed segment (Ok x) w = tt
+placed segment (Err e) w = w
+
+named_one : (name : Utf8) (b : Bool) (r : Writing Tree) → HoldsNumbers r → HoldsNumbers (cond b (Err (here (invalid_cstring name))) (under name r))
+named_one name true r w = λ e. e
+named_one name false r w = placed (at_key name) r w
+
+numbered : (k : ElementType) (n : ℤ) → IsSmall n → HoldsNumbers (spell_number k n)
+numbered Int32 n e = tt
+numbered k n e = either _ n e where
+  either : (b : Bool) (n : ℤ) → b ≡ false → HoldsNumbers (cond b (Err (here (unsigned_exceeds n))) (Ok (int64 n)))
+  either true n e = absurd cc
+  either false n e = tt
+
+counted : (b : Bool) (bs : Bytes) → HoldsNumbers (cond b (Err (here (unwritable (binary_too_long (length bs))))) (Ok (binary 0 bs)))
+counted true bs = λ e. e
+counted false bs = tt
+
+enclosed : {A : Type 0} (container : A → Tree) (parts : ℕ → Writing A) → ((levels : ℕ) → HoldsNumbers (parts levels)) → (levels : ℕ) → HoldsNumbers (enclosed_at container levels parts)
+enclosed container parts w zero = λ e. e
+enclosed container parts w (suc levels) = mapped container (parts levels) (w levels)
+
+in_variant : (name : Utf8) (content : ℕ → Writing Tree) → ((levels : ℕ) → HoldsNumbers (content levels)) → (levels : ℕ) → HoldsNumbers (variant_at name levels content)
+in_variant name content w =
+    enclosed document (λ inner. named name (content inner) >>= λ t. Ok (pair name t no_pairs))
+    (λ levels. bound (named name (content levels)) _ (named_one name (has_zero name) (content levels) (w levels)) (λ t. tt))
+
+built_or : (o : Option ElementType) (r : Writing Tree) → HoldsNumbers r → HoldsNumbers (newtype_at o r)
+built_or None r w = w
+built_or (Some k) r w = λ e. e
+
+struct_or : (o : Option ElementType) (parts : ℕ → Writing Pairs) → ((levels : ℕ) → HoldsNumbers (parts levels)) → (levels : ℕ) → HoldsNumbers (struct_at o levels parts)
+struct_or None parts w levels = enclosed document parts w levels
+struct_or (Some k) parts w levels = λ e. e
+
+free_or : (key : Utf8) (b : Bool) → HoldsNumbers {A = Utf8} (cond b (Err (here (invalid_cstring key))) (Ok key))
+free_or key true = λ e. e
+free_or key false = tt
+
+keyed : (k : Value) (o : Option Utf8) → HoldsNumbers (written_key k o)
+keyed k None = λ e. e
+keyed k (Some key) = free_or key (has_zero key)
+
+mutual
+  spelled : (v : Value) → AreSigned v → (levels : ℕ) → HoldsNumbers (spell v levels)
+  spelled (value.boolean b) g levels = tt
+  spelled (value.double bits) g levels = tt
+  spelled (value.character c) g levels = tt
+  spelled (value.bytes bs) g levels = counted (nat_lt (max_binary 0) (length bs)) bs
+  spelled value.none g levels = tt
+  spelled (value.some v) g levels = spelled v g levels
+  spelled value.unit g levels = tt
+  spelled (value.unit_structure name) g levels = tt
+  spelled (value.newtype name v) g levels = built_or (unbuilt_newtype name) (spell v levels) (spelled v g levels)
+  spelled (value.integer type n) g levels = numbered (written_as type) n g
+  spelled (value.str t) g levels = tt
+  spelled (value.sequence vs) g levels = enclosed array (spell_items 0 vs) (items_spelled 0 vs g) levels
+  spelled (value.map es) g levels = enclosed document (spell_entries es) (entries_spelled es g) levels
+  spelled (value.unit_variant name) g levels = tt
+  spelled (value.newtype_variant name v) g levels = in_variant name (spell v) (spelled v g) levels
+  spelled (value.tuple vs) g levels = enclosed array (spell_items 0 vs) (items_spelled 0 vs g) levels
+  spelled (value.tuple_structure name vs) g levels = enclosed array (spell_items 0 vs) (items_spelled 0 vs g) levels
+  spelled (value.tuple_variant name vs) g levels = in_variant name (λ n. enclosed_at array n (spell_items 0 vs)) (enclosed array (spell_items 0 vs) (items_spelled 0 vs g)) levels
+  spelled (value.structure_variant name fs) g levels = in_variant name (λ n. enclosed_at document n (spell_fields fs)) (enclosed document (spell_fields fs) (fields_spelled fs g)) levels
+  spelled (value.structure name fs) g levels = struct_or (reserved_kind name) (spell_fields fs) (fields_spelled fs g) levels
+
+  items_spelled : (i : ℕ) (vs : Items) → ItemsSigned vs → (levels : ℕ) → HoldsNumbers (spell_items i vs levels)
+  items_spelled i no_items g levels = tt
+  items_spelled i (item v vs) g levels =
+      bound (under_index i (spell v levels)) _ (placed (at_index i) (spell v levels) (spelled v g.0 levels)) (λ t. bound (spell_items (suc i) vs levels) _ (items_spelled (suc i) vs g.1 levels) (λ ts. tt))
+
+  entries_spelled : (es : Entries) → EntriesSigned es → (levels : ℕ) → HoldsNumbers (spell_entries es levels)
+  entries_spelled no_entries g levels = tt
+  entries_spelled (entry k v es) g levels =
+      bound (spell_key k) _ (keyed k (key_text k))
+      (λ key. bound (under key (spell v levels)) _ (placed (at_key key) (spell v levels) (spelled v g.0 levels)) (λ t. bound (spell_entries es levels) _ (entries_spelled es g.1 levels) (λ ps. tt)))
+
+  fields_spelled : (fs : FieldValues) → FieldsSigned fs → (levels : ℕ) → HoldsNumbers (spell_fields fs levels)
+  fields_spelled no_field_values g levels = tt
+  fields_spelled (field_value name v fs) g levels =
+      bound (named name (spell v levels)) _ (named_one name (has_zero name) (spell v levels) (spelled v g.0 levels)) (λ t. bound (spell_fields fs levels) _ (fields_spelled fs g.1 levels) (λ ps. tt))
+
+-- nor is a whole document
+pub document_spelled : (k : ElementType) (v : Value) (levels : ℕ) → AreSigned v → HoldsNumbers (at_top k (spell v levels))
+document_spelled EmbeddedDocument v levels g = spelled v g levels
+document_spelled k v levels g = λ e. e
+
+-- ---- what reading gives
+
+mutual
+  any_signed : (v : Value) → IsGivenAny v → AreSigned v
+  any_signed (value.integer i32 n) g = short_small n g
+  any_signed (value.integer i64 n) g = wide_small n g
+  any_signed (value.boolean b) g = tt
+  any_signed (value.double bits) g = tt
+  any_signed (value.str t) g = tt
+  any_signed (value.bytes bs) g = tt
+  any_signed value.unit g = tt
+  any_signed (value.sequence vs) g = any_items_signed vs g
+  any_signed (value.map es) g = any_entries_signed es g.1
+  any_signed v g = absurd g
+
+  any_items_signed : (vs : Items) → AreGivenItems vs → ItemsSigned vs
+  any_items_signed no_items g = tt
+  any_items_signed (item v vs) g = (any_signed v g.0, any_items_signed vs g.1)
+
+  any_entries_signed : (es : Entries) → AreGivenEntries es → EntriesSigned es
+  any_entries_signed no_entries g = tt
+  any_entries_signed (entry k v es) g = (any_signed v g.1, any_entries_signed es g.2)
+
+leaf_signed : (k : LeafKind) (v : Value) → IsGivenLeaf k v → AreSigned v
+leaf_signed anything v g = any_signed v g
+leaf_signed ignored value.unit g = tt
+leaf_signed booleans (value.boolean b) g = tt
+leaf_signed (numbers type) (value.integer t n) g = wide_small n g.2
+leaf_signed doubles (value.double bits) g = tt
+leaf_signed characters (value.character c) g = tt
+leaf_signed texts (value.str t) g = tt
+leaf_signed byte_strings (value.bytes bs) g = tt
+leaf_signed byte_buffers (value.bytes bs) g = tt
+leaf_signed units value.unit g = tt
+leaf_signed k v g = absurd g
+
+mutual
+  pub given_signed : (v : Value) (s : Form) → IsGiven v s → AreSigned v
+  given_signed v (leaf l) g = leaf_signed (leaf_kind l) v (given_leaf v l g)
+  given_signed value.none (optional s) g = tt
+  given_signed (value.some v) (optional s) g = given_signed v s g
+  given_signed (value.newtype m v) (newtype n s) g = given_signed v s g.1
+  given_signed (value.unit_structure m) (unit_structure n) g = tt
+  given_signed (value.sequence vs) (sequence s) g = items_signed vs s g
+  given_signed (value.map es) (map key s) g = entries_signed es key s g.1
+  given_signed (value.tuple vs) (tuple ps) g = parts_signed vs ps g
+  given_signed (value.tuple_structure m vs) (tuple_structure n ps) g = parts_signed vs ps g.1
+  given_signed (value.structure m vs) (structure n fs) g = fields_signed vs fs g.1
+  given_signed (value.unit_variant name) (enumeration vs) g = tt
+  given_signed (value.newtype_variant name v) (enumeration vs) g = given_signed v g.0 g.2
+  given_signed (value.tuple_variant name ws) (enumeration vs) g = parts_signed ws g.0 g.2
+  given_signed (value.structure_variant name ws) (enumeration vs) g = fields_signed ws g.0 g.2
+  given_signed v s g = absurd g
+
+  items_signed : (vs : Items) (s : Form) → ItemsGiven vs s → ItemsSigned vs
+  items_signed no_items s g = tt
+  items_signed (item v vs) s g = (given_signed v s g.0, items_signed vs s g.1)
+
+  parts_signed : (vs : Items) (ps : Parts) → PartsGiven vs ps → ItemsSigned vs
+  parts_signed no_items no_parts g = tt
+  parts_signed (item v vs) (part s ps) g = (given_signed v s g.0, parts_signed vs ps g.1)
+  parts_signed vs ps g = absurd g
+
+  entries_signed : (es : Entries) (key s : Form) → EntriesGiven es key s → EntriesSigned es
+  entries_signed no_entries key s g = tt
+  entries_signed (entry x v es) key s g = (given_signed v s g.1, entries_signed es key s g.2)
+
+  fields_signed : (vs : FieldValues) (fs : Fields) → FieldsGiven vs fs → FieldsSigned vs
+  fields_signed no_field_values no_fields g = tt
+  fields_signed (field_value m v vs) (field n s fs) g = (given_signed v s g.1, fields_signed vs fs g.2)
+  fields_signed vs fs g = absurd g

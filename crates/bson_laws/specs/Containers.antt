@@ -1,0 +1,78 @@
+-- Reading arrays, maps, enums and options, whose parts are read by what is passed for them. Source: serde's data model, over the node that the value is.
+use Rattle.std.specs.Prelude.{ℕ, suc, Option, Some, None, Ok, Err}
+use Rattle.bson_base.specs.Text.{Utf8}
+use Rattle.bson_base.specs.Outcome.{◌>>=◌, result_map}
+use Rattle.bson_base.specs.declared.element_type.ElementType.TheVariants.{String}
+use Rattle.bson_rawdoc.specs.Node.{Node, string, null, Nodes, ended, faulty, then_node}
+use Rattle.bson_rawdoc.specs.Piece.{Piece, made}
+use Rattle.bson_shape.specs.Form.{Form, leaf, enumeration, Content, unit_content, Variants}
+use Rattle.bson_datum.specs.Value as value
+use Rattle.bson_datum.specs.Value.{no_items, item}
+use Rattle.bson_datum.specs.Marked.{Marked, MarkedItems, MarkedEntries}
+use Rattle.bson_datum.specs.Cause.{raw, invalid_type, invalid_length, unknown_variant, contents_wanted}
+use Rattle.bson_datum.specs.Refusal.{end_of_stream, here, under, under_index}
+use Rattle.bson_laws.specs.Leaves.{leaf_kind}
+use Rattle.bson_laws.specs.Variants.{content_of}
+use Rattle.bson_laws.specs.Judged.{Mode, Reading, refused, plain}
+use Rattle.bson_laws.specs.Taken.{text_in, unmended, document_of}
+use Rattle.bson_laws.specs.ReadsLeaf.{put_entry, borrows, read_leaf}
+
+-- ---- options
+
+-- null at an option, and a value of its form elsewhere; an option looks at the kind alone
+abbrev pub reads_option : Node → Reading Marked → Reading Marked
+reads_option null r = Ok value.none
+reads_option n r = result_map value.some r
+
+-- ---- arrays
+
+-- the values in an array from this index on, up to the fault that ends their list
+abbrev pub reads_items : (Node → Reading Marked) → ℕ → Nodes → Reading MarkedItems
+reads_items read i ended = Ok no_items
+reads_items read i (faulty e) = refused (raw e)
+reads_items read i (then_node key n ns) = under_index i (read n) >>= λ v. result_map (item v) (reads_items read (suc i) ns)
+
+-- the value that is due at an index, and then what is read from the others; where none is left, a fault that ends the list comes before that there
+-- are too few
+abbrev pub reads_next : {A : Type 0} → ℕ → (Node → Reading Marked) → (Marked → Nodes → Reading A) → Nodes → Reading A
+reads_next i read others ended = refused (invalid_length i)
+reads_next i read others (faulty e) = refused (raw e)
+reads_next i read others (then_node key n ns) = under_index i (read n) >>= λ v. others v ns
+
+-- ---- enums
+
+-- the unit variant that a text names
+abbrev pub unit_of : Utf8 → Option Content → Reading Marked
+unit_of name None = refused (unknown_variant name)
+unit_of name (Some unit_content) = Ok (value.unit_variant (made name))
+unit_of name (Some c) = refused contents_wanted
+
+abbrev pub reads_unit : Variants → Piece → Reading Marked
+reads_unit vs t = unit_of t.bytes (content_of vs t.bytes)
+
+-- the first element of a document at the variant that its key names; an empty document has none, and further elements stay unread
+abbrev pub read_first : (Utf8 → Node → Reading Marked) → Nodes → Reading Marked
+read_first contents ended = Err (here end_of_stream)
+read_first contents (faulty e) = refused (raw e)
+read_first contents (then_node key n ns) = contents key.bytes n
+
+-- a text at the unit variant that it names, a document at the variant with contents that its first key names
+abbrev pub read_enum : Mode → (Piece → Reading Marked) → (Utf8 → Node → Reading Marked) → Node → Reading Marked
+read_enum mode unit contents (string name) = unit (text_in mode name)
+read_enum mode unit contents n = document_of n >>= read_first contents
+
+-- ---- maps
+
+-- the key of a map, read at the shape of keys as the text of an element would be; it is never replaced, and its refusal is that of the map. The makers of maps
+-- let through `str`, `string`, `char` and enums of unit variants; no other shape of keys occurs
+abbrev pub reads_key : Mode → Form → Piece → Reading Marked
+reads_key mode (leaf l) key = read_leaf plain (borrows l) (leaf_kind l) (string (unmended mode key))
+reads_key mode (enumeration vs) key = reads_unit vs key
+reads_key mode s key = refused (invalid_type String)
+
+-- The entries of a map from the elements of a document, put to those before them, up to the fault that ends the list. A key is read before its
+-- value, and its refusal is that of the document.
+abbrev pub reads_entries : (Piece → Reading Marked) → (Node → Reading Marked) → Nodes → MarkedEntries → Reading MarkedEntries
+reads_entries read_key read ended es = Ok es
+reads_entries read_key read (faulty e) es = refused (raw e)
+reads_entries read_key read (then_node key n ns) es = read_key key >>= λ k. under key.bytes (read n) >>= λ v. reads_entries read_key read ns (put_entry k v es)

@@ -1,0 +1,73 @@
+-- Reading structs. Source: serde's data model, over the node that the value is.
+use Rattle.std.specs.Prelude.{ℕ, suc, List, [], ◌∷◌, if◌then◌else◌, Option, Some, None, Ok}
+use Rattle.std.specs.Str.{bytes_eq}
+use Rattle.bson_base.specs.Text.{Utf8}
+use Rattle.bson_base.specs.Outcome.{◌>>=◌, result_map}
+use Rattle.bson_rawdoc.specs.Node.{Node, array, Nodes, ended, faulty, then_node}
+use Rattle.bson_rawdoc.specs.Piece.{made}
+use Rattle.bson_datum.specs.Value.{no_field_values, field_value}
+use Rattle.bson_datum.specs.Marked.{Marked, MarkedFields}
+use Rattle.bson_datum.specs.Cause.{raw, missing_field, duplicate_field}
+use Rattle.bson_datum.specs.Refusal.{under}
+use Rattle.bson_laws.specs.Judged.{Mode, Reading, refused, ignores}
+use Rattle.bson_laws.specs.Taken.{document_of}
+use Rattle.bson_laws.specs.Containers.{reads_next}
+
+-- a field of a struct that is read
+pub record Slot : Type 0 where
+  pub name : Utf8
+  -- the value that stands for the field where it is missing, if one does
+  pub missing : Option Marked
+  -- reading at the shape of the field
+  pub read : Node → Reading Marked
+  -- the value that was read for the field, if one was
+  pub value : Option Marked
+
+-- the slots of the fields of a struct, in the shape's order
+abbrev pub Slots : Type 0
+Slots = List Slot
+
+-- ---- by key
+
+-- the value of an element in the slot of its key; where that has a value, the element is refused before its value is looked at
+abbrev pub fill_slot : Utf8 → Node → Slot → Option Marked → Reading Slot
+fill_slot key n slot None = under key (slot.read n) >>= λ v. Ok (record slot { value = Some v })
+fill_slot key n slot (Some v) = refused (duplicate_field key)
+
+-- an element at the slot that has its key as its name, or dropped where none has
+abbrev pub put_at : Mode → Utf8 → Node → Slots → Reading Slots
+put_at mode key n [] = under key (ignores mode n) >>= λ _. Ok []
+put_at mode key n (slot ∷ slots) =
+    if bytes_eq slot.name key then result_map (λ filled. filled ∷ slots) (fill_slot key n slot slot.value)
+    else result_map (λ others. slot ∷ others) (put_at mode key n slots)
+
+-- the elements one after another, up to the fault that ends their list
+abbrev pub fill : Mode → Nodes → Slots → Reading Slots
+fill mode ended slots = Ok slots
+fill mode (faulty e) slots = refused (raw e)
+fill mode (then_node key n ns) slots = put_at mode key.bytes n slots >>= fill mode ns
+
+-- the value that was read for a field, or else the one that stands for a missing field
+abbrev pub value_or : Utf8 → (missing value : Option Marked) → Reading Marked
+value_or name missing (Some v) = Ok v
+value_or name (Some v) None = Ok v
+value_or name None None = refused (missing_field name)
+
+-- all fields with their values, or the first that has none
+abbrev pub finish : Slots → Reading MarkedFields
+finish [] = Ok no_field_values
+finish (slot ∷ slots) = value_or slot.name slot.missing slot.value >>= λ v. result_map (field_value (made slot.name) v) (finish slots)
+
+-- ---- by place
+
+-- the elements of an array from this index on, one for each field in the shape's order; further elements and a fault behind them stay unread
+abbrev pub reads_places : ℕ → Slots → Nodes → Reading MarkedFields
+reads_places i [] ns = Ok no_field_values
+reads_places i (slot ∷ slots) ns = reads_next i slot.read (λ v rest. result_map (field_value (made slot.name) v) (reads_places (suc i) slots rest)) ns
+
+-- ---- either
+
+-- a struct takes the elements of an array by their places, and those of a document by their keys
+abbrev pub read_structure : Mode → Slots → Node → Reading MarkedFields
+read_structure mode slots (array ns) = reads_places 0 slots ns
+read_structure mode slots n = document_of n >>= λ ns. fill mode ns slots >>= finish

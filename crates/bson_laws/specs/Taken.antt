@@ -1,0 +1,117 @@
+-- What a judged value is taken as. Source: serde's data model, over the node that the value is.
+use Rattle.std.specs.Prelude.{unsigned_abs, ℕ, suc, List, [], ◌∷◌, Bool, true, false, if◌then◌else◌, ℤ, Option, Some, None, Ok}
+use Rattle.std.specs.Str.{is_utf8, chars}
+use Rattle.std.specs.Str.Lossy.{utf8_lossy}
+use Rattle.bson_base.specs.Text.{Bytes}
+use Rattle.bson_base.specs.Outcome.{◌>>=◌, result_map}
+use Rattle.bson_rawdoc.specs.Node.{Node, double, string, document, array, bytes, boolean, null, int32, int64, extended, object_id, Nodes, ended, faulty, then_node, kind_of}
+use Rattle.bson_rawdoc.specs.Piece.{Piece, made}
+use Rattle.bson_datum.specs.Value as value
+use Rattle.bson_datum.specs.Value.{IntegerType, u8, in_range}
+use Rattle.bson_datum.specs.Marked.{Marked}
+use Rattle.bson_datum.specs.Cause.{raw, invalid_type, out_of_range, not_one_char, not_utf8, not_borrowed}
+use Rattle.bson_datum.specs.Refusal.{under_index}
+use Rattle.bson_laws.specs.Views.{one_character}
+use Rattle.bson_laws.specs.Judged.{Mode, Reading, refused, judged}
+
+-- ---- kinds that are taken as they are
+
+abbrev pub boolean_of : Node → Reading Bool
+boolean_of (boolean b) = Ok b
+boolean_of n = refused (invalid_type (kind_of n))
+
+abbrev pub integer_of : Node → Reading ℤ
+integer_of (int32 n) = Ok n
+integer_of (int64 n) = Ok n
+integer_of n = refused (invalid_type (kind_of n))
+
+abbrev pub double_of : Node → Reading Bytes
+double_of (double bits) = Ok bits
+double_of n = refused (invalid_type (kind_of n))
+
+abbrev pub null_of : Node → Reading (Unit {0})
+null_of null = Ok tt
+null_of n = refused (invalid_type (kind_of n))
+
+-- the elements of a document, or of the document that a value is opened to
+abbrev pub document_of : Node → Reading Nodes
+document_of (document ns) = Ok ns
+document_of (extended x ns) = Ok ns
+document_of n = refused (invalid_type (kind_of n))
+
+-- the elements of an array
+abbrev pub array_of : Node → Reading Nodes
+array_of (array ns) = Ok ns
+array_of n = refused (invalid_type (kind_of n))
+
+-- ---- texts and byte strings
+
+-- a text as it is read: where texts are mended it is made anew
+abbrev pub text_in : Mode → Piece → Piece
+text_in mode t = if mode.lossy then made (utf8_lossy t.bytes) else t
+
+-- a key or a binary as it is read: it is never mended, but where texts are, it is not borrowed
+abbrev pub unmended : Mode → Piece → Piece
+unmended mode p = if mode.lossy then made p.bytes else p
+
+-- the characters of a text, mended where texts are
+abbrev pub characters_of : Mode → Piece → List ℕ
+characters_of mode t = chars (text_in mode t).bytes
+
+-- a part of the input, which alone can be borrowed
+abbrev pub borrow : Piece → Reading Piece
+borrow p = if p.in_input then Ok p else refused not_borrowed
+
+abbrev pub borrow_or_own : (borrows : Bool) → Piece → Reading Piece
+borrow_or_own true p = borrow p
+borrow_or_own false p = Ok (made p.bytes)
+
+-- bytes that are a text
+abbrev pub as_text : Piece → Reading Piece
+as_text p = if is_utf8 p.bytes then Ok p else refused not_utf8
+
+-- a text, or the bytes of a binary of subtype 0 that are UTF-8; `NotBorrowed` comes before `NotUtf8`
+abbrev pub text_of : Mode → (borrows : Bool) → Node → Reading Piece
+text_of mode borrows (string t) = borrow_or_own borrows (text_in mode t)
+text_of mode borrows (bytes b) = borrow_or_own borrows (unmended mode b) >>= as_text
+text_of mode borrows n = refused (invalid_type (kind_of n))
+
+-- the bytes of a binary of subtype 0, of a text, of an ObjectId, borrowed
+abbrev pub bytes_of : Mode → Node → Reading Piece
+bytes_of mode (bytes b) = borrow b
+bytes_of mode (string t) = borrow (text_in mode t)
+bytes_of mode (extended (object_id id) ns) = borrow id
+bytes_of mode n = refused (invalid_type (kind_of n))
+
+-- ---- numbers and characters
+
+-- the number as a value of an integer type, where it is one of the type
+abbrev pub read_integer : IntegerType → ℤ → Reading Marked
+read_integer type n = if in_range type n then Ok (value.integer type n) else refused (out_of_range n)
+
+abbrev pub read_character : Option ℕ → Reading Marked
+read_character (Some c) = Ok (value.character c)
+read_character None = refused not_one_char
+
+abbrev pub character_of : Mode → Node → Reading Marked
+character_of mode (string t) = read_character (one_character (characters_of mode t))
+character_of mode n = refused (invalid_type (kind_of n))
+
+-- ---- bytes that may be given as numbers
+
+-- a number as a byte, where it is one
+abbrev pub as_byte : ℤ → Reading ℕ
+as_byte n = if in_range u8 n then Ok (unsigned_abs n) else refused (out_of_range n)
+
+-- the bytes that the elements of an array from this index on are, up to the fault that ends their list
+abbrev pub reads_bytes : Mode → ℕ → Nodes → Reading Bytes
+reads_bytes mode i ended = Ok []
+reads_bytes mode i (faulty e) = refused (raw e)
+reads_bytes mode i (then_node key n ns) = under_index i (judged mode n >>= integer_of >>= as_byte) >>= λ b. result_map (λ bs. b ∷ bs) (reads_bytes mode (suc i) ns)
+
+-- the bytes of a binary of subtype 0, of a text, of an array of numbers
+abbrev pub buffer_of : Mode → Node → Reading Bytes
+buffer_of mode (bytes b) = Ok b.bytes
+buffer_of mode (string t) = Ok (text_in mode t).bytes
+buffer_of mode (array ns) = reads_bytes mode 0 ns
+buffer_of mode n = refused (invalid_type (kind_of n))

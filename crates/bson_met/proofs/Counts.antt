@@ -1,0 +1,75 @@
+-- How many elements there are.
+use Rattle.std.proofs.Common.{◌≡◌, ℕ, suc, ◌<◌, ◌≤◌, ◌^◌, List, [], ◌∷◌, length, Bool, true, false, Result, Ok, Err, refl, ap, arith}
+use Rattle.bson_base.specs.BsonView.{trees_of}
+use Rattle.bson_base.specs.Pairs as pairs
+use Rattle.bson_base.specs.Text.{Bytes}
+use Rattle.bson_base.specs.Tree.{Pairs, no_pairs, pair, Trees}
+use Rattle.bson_base.specs.declared.bson.Bson.{Bson}
+use Rattle.bson_base.specs.declared.element_type.ElementType.{ElementType}
+use Rattle.bson_rawdoc.specs.Next as next
+use Rattle.bson_rawdoc.specs.Node as node
+use Rattle.bson_rawdoc.specs.Node.{Node, Nodes, nodes_with, pair_nodes, tree_nodes, opened}
+use Rattle.bson_rawdoc.specs.Walk.{Walk, ended, faulty, then_walk}
+use Rattle.bson_datum.specs.declared.de.Fault.{Fault}
+use Rattle.bson_datum.specs.declared.stop.Stop.{Stop}
+use Rattle.bson_met.specs.Next.{IsAdvanced, IsItemAdvanced}
+use Rattle.bson_met.specs.OpenedView.{left_nodes}
+use Rattle.bson_met.specs.Sizes.{count}
+use Rattle.bson_met.specs.declared.elements.Step.{Step}
+use Rattle.bson_met.specs.declared.opened.Place.{Place}
+use Rattle.bson_met.specs.declared.opened.Place.TheVariants as places
+
+pub count_walk : (see : ElementType → Bytes → Node) (w : Walk) → count (nodes_with see w) ≡ next.count w
+count_walk see ended = refl
+count_walk see (faulty e) = refl
+count_walk see (then_walk e w) = ap suc (count_walk see w)
+
+pub count_pairs : (lent : Bool) (levels : ℕ) (ps : Pairs) → count (pair_nodes lent ps levels) ≡ pairs.count ps
+count_pairs lent levels no_pairs = refl
+count_pairs lent levels (pair key t ps) = ap suc (count_pairs lent levels ps)
+
+pub count_values : (lent : Bool) (i levels : ℕ) (bs : List Bson) → count (tree_nodes lent i (trees_of bs) levels) ≡ length bs
+count_values lent i levels [] = refl
+count_values lent i levels (b ∷ bs) = ap suc (count_values lent (suc i) levels bs)
+
+count_whole : (x : node.Extended) → count (opened x) ≤ 2
+count_whole (node.binary s b) = omega arith
+count_whole node.undefined = omega arith
+count_whole (node.object_id id) = omega arith
+count_whole (node.date_time n) = omega arith
+count_whole (node.regular_expression p o) = omega arith
+count_whole (node.db_pointer n id) = omega arith
+count_whole (node.javascript_code t) = omega arith
+count_whole (node.symbol t) = omega arith
+count_whole (node.javascript_code_with_scope c s) = omega arith
+count_whole (node.timestamp t i) = omega arith
+count_whole (node.decimal128 b) = omega arith
+count_whole node.max_key = omega arith
+count_whole node.min_key = omega arith
+
+-- a document that a value is opened to has two elements at most
+pub count_left : (p : Place) (x : node.Extended) → count (left_nodes p x) ≤ 2
+count_left places.Start x = count_whole x
+count_left places.Behind (node.javascript_code_with_scope c s) = omega arith
+count_left places.Inside (node.date_time n) = omega arith
+count_left places.Inside (node.binary s b) = omega arith
+count_left places.Inside (node.timestamp t i) = omega arith
+count_left places.Inside (node.regular_expression p o) = omega arith
+count_left places.Inside (node.db_pointer n id) = omega arith
+count_left places.InsideBehind (node.binary s b) = omega arith
+count_left places.InsideBehind (node.timestamp t i) = omega arith
+count_left places.InsideBehind (node.regular_expression p o) = omega arith
+count_left places.InsideBehind (node.db_pointer n id) = omega arith
+count_left places.Deep (node.db_pointer n id) = omega arith
+count_left p x = omega arith
+
+-- no more are left after a step
+pub fewer : (old new : Nodes) (r : Result Bool (Stop Fault)) (s : Step) → IsAdvanced old r s new → count old < 2 ^ 64 → count new < 2 ^ 64
+fewer old new (Ok true) s h few = omega (arith, ap count h)
+fewer old new (Ok false) s h few = omega (arith, ap count h.1)
+fewer old new (Err e) s h few = omega (arith, ap count h.1)
+
+pub fewer_items : (old new : Nodes) (r : Result Bool (Stop Fault)) (v : Node) → IsItemAdvanced old r v new → count old < 2 ^ 64 → count new < 2 ^ 64
+fewer_items old new (Ok true) v h few = omega (arith, ap count h.first)
+fewer_items old new (Ok false) v h few = omega (arith, ap count h.1)
+fewer_items old new (Err e) v h few = omega (arith, ap count h.1)

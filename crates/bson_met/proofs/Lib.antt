@@ -1,0 +1,6 @@
+pub mod Refusals
+pub mod NodeKinds
+pub mod Judging
+pub mod Counts
+pub mod MadeTexts
+pub mod NodeNulls

@@ -1,0 +1,13 @@
+pub mod Sizes
+pub mod StoredNode
+pub mod Gives
+pub mod PieceView
+pub mod OpenedView
+pub mod MetView
+pub mod ElementsView
+pub mod ItemsView
+pub mod ValueView
+pub mod ScalarView
+pub mod Next
+pub mod First
+pub mod Nulls

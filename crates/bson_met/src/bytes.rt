@@ -1,0 +1,43 @@
+ghost use Rattle.std.specs.Prelude.{◌≡◌, true, IfOk};
+ghost use Rattle.bson_rawdoc.specs.Piece.{borrowed};
+ghost use Rattle.bson_datum.specs.MarkedView.{bytes_piece};
+ghost use Rattle.bson_laws.specs.Taken.{borrow};
+ghost use Rattle.bson_met.specs.Gives.{Reaches};
+ghost use Rattle.bson_met.specs.PieceView.{met_bytes};
+
+use crate::reading::{Reading, refused};
+use bson_datum::{ByteStr, Cause};
+use std::alloc::{AllocError, Global};
+
+/// A byte string that a reader meets.
+#[derive(Clone, Copy)]
+pub struct MetBytes<'de> {
+    /// The bytes.
+    pub bytes: &'de [u8],
+    /// Whether they stand in the input, so that they can be borrowed.
+    pub in_input: bool,
+}
+
+impl<'de> MetBytes<'de> {
+    /// The bytes, borrowed where they stand in the input.
+    #[inline(always)]
+    pub fn to_byte_str(self, alloc: Global) -> Result<ByteStr<'de>, AllocError>
+        ensures piece { IfOk result (λ b. bytes_piece b ≡ met_bytes self.entry) }
+    {
+        if self.in_input {
+            return Ok(ByteStr::Borrowed(self.bytes));
+        }
+        Ok(ByteStr::Owned(self.bytes.to_vec(alloc)?))
+    }
+
+    /// The bytes, where they can be borrowed.
+    #[inline(always)]
+    pub fn borrow(self, alloc: Global) -> Reading<&'de [u8]>
+        ensures borrowed { Reaches (λ b. borrowed b.now) result (borrow (met_bytes self.entry)) }
+    {
+        if self.in_input {
+            return Ok(self.bytes);
+        }
+        Err(refused(alloc, Cause::NotBorrowed))
+    }
+}

@@ -1,0 +1,157 @@
+ghost use Rattle.std.specs.Prelude.{◌≡◌, ◌<◌, ◌^◌, false};
+ghost use Rattle.bson_base.specs.BsonView.{trees_of};
+ghost use Rattle.bson_base.specs.declared.element_type.ElementType.TheVariants as kinds;
+ghost use Rattle.bson_rawdoc.specs.DocumentView.{array_bytes};
+ghost use Rattle.bson_rawdoc.specs.Node as node;
+ghost use Rattle.bson_rawdoc.specs.Node.{node_in, nodes_with, inner_node, one_level, tree_nodes};
+ghost use Rattle.bson_laws.specs.Judged.{with_level};
+ghost use Rattle.bson_met.specs.ItemsView.{array_nodes, value_nodes};
+ghost use Rattle.bson_met.specs.Gives.{Reaches};
+ghost use Rattle.bson_met.specs.Next.{IsItemAdvanced, IsItemTaken};
+ghost use Rattle.bson_met.specs.Sizes.{count};
+
+use crate::met::Met;
+use crate::opened::Made;
+use crate::reading::{Reading, refused};
+use bson_base::Bson;
+use bson_datum::Cause;
+use bson_rawdoc::{RawArray, RawIter};
+use std::alloc::Global;
+use std::marker::Model;
+
+/// The elements of an array, one after another. Contracts see what is left of them. Their keys tell nothing.
+#[derive(Drop)]
+pub struct Items<'de> {
+    levels: u32,
+    array: Array<'de>,
+}
+
+/// Where they come from.
+#[derive(Drop)]
+pub(crate) enum Array<'de> {
+    /// An array of the input.
+    Bytes(RawIter<'de>),
+    /// An array of a tree.
+    Values(Values<'de>),
+}
+
+/// The values of an array of a tree, from an index on.
+#[derive(Drop)]
+pub(crate) struct Values<'de> {
+    all: &'de [Bson],
+    index: usize,
+}
+
+impl<'de> Model for Items<'de> {
+    ghost use Rattle.std.specs.Prelude.{◌<◌, ◌^◌};
+    ghost use Rattle.bson_rawdoc.specs.Node.{Nodes};
+    ghost use Rattle.bson_met.specs.Sizes.{count};
+    ghost use Rattle.bson_met.specs.StoredNode.{coded_nodes};
+    ghost use Rattle.bson_met.specs.ItemsView.{array_nodes};
+
+    ghost Value = { Nodes };
+
+    ghost coded = { coded_nodes };
+
+    ghost view = { λ e. array_nodes e.levels e.array };
+
+    ghost invariant = { λ e. count (array_nodes e.levels e.array) < 2 ^ 64 };
+}
+
+impl<'de> Items<'de> {
+    /// Those of an array of the input, where a level is left for it.
+    #[inline(always)]
+    pub(crate) fn in_array(alloc: Global, levels: u32, array: RawArray<'de>) -> Reading<Items<'de>>
+        ensures { Reaches node.array result
+            (with_level (inner_node levels kinds.Array (array_bytes array.entry))) }
+    {
+        if levels == 0 {
+            return Err(refused(alloc, Cause::TooDeep));
+        }
+        Ok(Items {
+            levels: levels - 1,
+            array: Array::Bytes(array.as_doc().iter_elements()),
+        })
+    }
+
+    /// Those of an array of a tree, where a level is left for it.
+    pub(crate) fn in_values(
+        alloc: Global,
+        levels: u32,
+        values: &'de Vec<Bson>,
+    ) -> Reading<Items<'de>>
+        ensures { Reaches node.array result
+            (with_level (one_level kinds.Array (tree_nodes false 0 (trees_of values.now.items)) levels)) }
+    {
+        if levels == 0 {
+            return Err(refused(alloc, Cause::TooDeep));
+        }
+        // There are no more values than this.
+        let _len = values.len();
+        let values = Values {
+            all: values.as_slice(),
+            index: 0,
+        };
+        Ok(Items {
+            levels: levels - 1,
+            array: Array::Values(values),
+        })
+    }
+
+    /// A value to put the first element into. There are fewer elements than 2 ^ 64.
+    #[inline(always)]
+    pub fn start(&self) -> Met<'de>
+        ensures few { count self.now < 2 ^ 64 }
+    {
+        let _levels = self.levels;
+        Met::of_made(Made::True)
+    }
+
+    /// Puts the next element into the value, and says whether there is one; a fault that ends the list is a refusal.
+    #[inline(always)]
+    pub fn advance(&mut self, alloc: Global, value: &mut Met<'de>) -> Reading<bool>
+        ensures advanced { IsItemAdvanced self.old result value.new self.new }
+    {
+        let levels = self.levels;
+        match &mut self.array {
+            Array::Bytes(elements) => advance_in_bytes(alloc, levels, elements, value),
+            Array::Values(values) => Ok(advance_in_values(levels, values, value)),
+        }
+    }
+}
+
+/// The next element of an array of the input, put into the value.
+#[inline(always)]
+fn advance_in_bytes<'de>(
+    alloc: Global,
+    levels: u32,
+    elements: &mut RawIter<'de>,
+    value: &mut Met<'de>,
+) -> Reading<bool>
+    ensures { IsItemAdvanced (nodes_with (node_in levels) elements.old) result value.new (nodes_with (node_in levels) elements.new) }
+{
+    match elements.next() {
+        Some(Ok(element)) => {
+            *value = Met::of_element(levels, element);
+            Ok(true)
+        }
+        Some(Err(fault)) => Err(refused(alloc, Cause::Raw(fault))),
+        None => Ok(false),
+    }
+}
+
+/// The next element of an array of a tree, put into the value.
+#[inline(never)]
+fn advance_in_values<'de>(levels: u32, values: &mut Values<'de>, value: &mut Met<'de>) -> bool
+    ensures { IsItemTaken (value_nodes levels values.old) result value.new (value_nodes levels values.new) }
+{
+    let all = values.all;
+    match all.get(values.index) {
+        Some(next) => {
+            values.index += 1;
+            *value = Met::of_tree(levels, next);
+            true
+        }
+        None => false,
+    }
+}

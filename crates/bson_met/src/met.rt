@@ -1,0 +1,227 @@
+ghost use Rattle.std.specs.Prelude.{◌≡◌, false, IfSome};
+ghost use Rattle.bson_base.specs.BsonView.{tree_of};
+ghost use Rattle.bson_base.specs.declared.element_type.ElementType.TheVariants as kinds;
+ghost use Rattle.bson_rawdoc.specs.DocumentView.{document_bytes};
+ghost use Rattle.bson_rawdoc.specs.Node as node;
+ghost use Rattle.bson_rawdoc.specs.Node.{node_in, inner_node, tree_node};
+ghost use Rattle.bson_laws.specs.Judged.{judged, plain};
+ghost use Rattle.bson_met.specs.Gives.{Reaches};
+ghost use Rattle.bson_met.specs.Nulls.{is_null, is_null_kind};
+ghost use Rattle.bson_met.specs.MetView.{what_node, document_at, array_at, integer_at};
+ghost use Rattle.bson_met.specs.OpenedView.{made_node, scope_node};
+ghost use Rattle.bson_met.specs.ScalarView.{IsSeen};
+ghost use Rattle.bson_met.specs.ValueView.{value_view};
+
+use crate::elements::Elements;
+use crate::items::Items;
+use crate::judge::{judge_beyond, judge_element};
+use crate::opened::{Made, Scope};
+use crate::reading::Reading;
+use crate::scalar::{Scalar, scalar_in};
+use crate::value::Value;
+use bson_base::{Bson, ElementType};
+use bson_rawdoc::{RawDocument, RawElement};
+use std::alloc::Global;
+use std::marker::Model;
+
+/// A value as a reader meets it. Contracts see it as its node.
+#[derive(Drop)]
+pub struct Met<'de> {
+    levels: u32,
+    what: What<'de>,
+}
+
+/// Where it comes from.
+#[derive(Drop)]
+pub(crate) enum What<'de> {
+    /// The value of an element in the input.
+    Element(RawElement<'de>),
+    /// A document of the input, whole or a scope.
+    Document(RawDocument<'de>),
+    /// A value of a tree.
+    Tree(&'de Bson),
+    /// A value in a document that another value is opened to.
+    Made(Made<'de>),
+}
+
+impl<'de> Model for Met<'de> {
+    ghost use Rattle.bson_rawdoc.specs.Node.{Node};
+    ghost use Rattle.bson_met.specs.StoredNode.{coded_node};
+    ghost use Rattle.bson_met.specs.MetView.{what_node};
+
+    ghost Value = { Node };
+
+    ghost coded = { coded_node };
+
+    ghost view = { λ m. what_node m.levels m.what };
+}
+
+impl<'de> Met<'de> {
+    /// A document of the input, with so many levels left for it.
+    pub fn of_document(levels: u32, document: RawDocument<'de>) -> Met<'de>
+        ensures node { result ≡ inner_node levels kinds.EmbeddedDocument (document_bytes document.entry) }
+    {
+        Met {
+            levels,
+            what: What::Document(document),
+        }
+    }
+
+    /// A value of a tree, with so many levels left for it.
+    pub fn of_tree(levels: u32, value: &'de Bson) -> Met<'de>
+        ensures node { result ≡ tree_node false (tree_of value.now) levels }
+    {
+        Met {
+            levels,
+            what: What::Tree(value),
+        }
+    }
+
+    /// The value of an element, with so many levels left for it.
+    #[inline(always)]
+    pub fn of_element(levels: u32, element: RawElement<'de>) -> Met<'de>
+        ensures node { result ≡ node_in levels element.entry.kind element.entry.value }
+    {
+        Met {
+            levels,
+            what: What::Element(element),
+        }
+    }
+
+    /// A value in a document that another value is opened to.
+    pub(crate) fn of_made(made: Made<'de>) -> Met<'de>
+        ensures node { result ≡ made_node made.entry }
+    {
+        Met {
+            levels: 0,
+            what: What::Made(made),
+        }
+    }
+
+    /// A scope.
+    pub fn of_scope(scope: Scope<'de>) -> Met<'de>
+        ensures node { result ≡ scope_node scope.entry }
+    {
+        Met {
+            levels: scope.levels,
+            what: What::Document(scope.document),
+        }
+    }
+
+    /// The element whose value it is, with the levels left for it; `None` where it is no value of an element.
+    #[inline(always)]
+    pub fn element(&self) -> Option<(u32, &RawElement<'de>)>
+        ensures element { IfSome result (λ p. self.now ≡ node_in p.0 p.1.now.kind p.1.now.value) }
+    {
+        match &self.what {
+            What::Element(element) => Some((self.levels, element)),
+            _ => None,
+        }
+    }
+
+    /// The document of the input that it is, whole or a scope, with the levels left for it; `None` where it is none.
+    #[inline(always)]
+    pub fn raw_document(&self) -> Option<(u32, RawDocument<'de>)>
+        ensures document { IfSome result (λ p. self.now ≡ inner_node p.0 kinds.EmbeddedDocument (document_bytes p.1)) }
+    {
+        match &self.what {
+            What::Document(document) => Some((self.levels, *document)),
+            _ => None,
+        }
+    }
+
+    /// Its kind.
+    #[tactic(auto, using(crate::proofs::NodeKinds::kind_in, crate::proofs::NodeKinds::kind_inner, crate::proofs::NodeKinds::kind_tree))]
+    #[inline(always)]
+    pub fn kind(&self) -> ElementType
+        ensures kind { result ≡ node.kind_of self.now }
+    {
+        match &self.what {
+            What::Element(element) => element.element_type(),
+            What::Document(_) => ElementType::EmbeddedDocument,
+            What::Tree(value) => value.element_type(),
+            What::Made(made) => made.kind(),
+        }
+    }
+
+    /// Whether it is null.
+    #[tactic(auto, using(crate::proofs::NodeNulls::null_in, crate::proofs::NodeNulls::null_inner, crate::proofs::NodeNulls::null_tree, crate::proofs::NodeNulls::null_made))]
+    #[inline(always)]
+    pub fn is_null(&self) -> bool
+        ensures null { result ≡ is_null self.now }
+    {
+        match &self.what {
+            What::Element(element) => is_null_kind(element.element_type()),
+            What::Document(_) => false,
+            What::Tree(value) => is_null_kind(value.element_type()),
+            What::Made(_) => false,
+        }
+    }
+
+    /// The value, judged before any shape looks at it: it is refused for its fault, and then, where no level is left, for
+    /// being a document or an array.
+    #[inline(always)]
+    pub fn judge(&self, alloc: Global) -> Reading<Value<'de>>
+        ensures judged { Reaches value_view result (judged plain self.now) }
+    {
+        if let What::Element(element) = &self.what {
+            return Ok(judge_element(alloc, self.levels, element)?);
+        }
+        judge_beyond(alloc, self.levels, &self.what)
+    }
+
+    /// The value, judged, where it is a scalar of the input that JSON has too.
+    #[inline(always)]
+    pub fn scalar(&self, alloc: Global) -> Reading<Scalar<'de>>
+        ensures scalar { IsSeen result (judged plain self.now) }
+    {
+        match &self.what {
+            What::Element(element) => scalar_in(alloc, self.levels, element),
+            _ => Ok(Scalar::Other),
+        }
+    }
+
+    /// The number that it is.
+    #[inline(always)]
+    pub fn integer(&self, alloc: Global) -> Reading<i64>
+        ensures integer { Reaches (λ n. n) result (integer_at self.now) }
+    {
+        match self.scalar(alloc)? {
+            Scalar::Int32(number) => Ok(i64::from(number)),
+            Scalar::Int64(number) => Ok(number),
+            _ => self.other_integer(alloc),
+        }
+    }
+
+    // The same, wherever it comes from.
+    #[inline(never)]
+    fn other_integer(&self, alloc: Global) -> Reading<i64>
+        ensures { Reaches (λ n. n) result (integer_at self.now) }
+    {
+        self.judge(alloc)?.integer(alloc)
+    }
+
+    /// The elements of the array that it is.
+    #[inline(never)]
+    pub fn array(&self, alloc: Global) -> Reading<Items<'de>>
+        ensures array { Reaches (λ e. e) result (array_at self.now) }
+    {
+        self.judge(alloc)?.array(alloc)
+    }
+
+    /// The elements of the document that it is or is opened to.
+    #[inline(never)]
+    pub fn document(&self, alloc: Global) -> Reading<Elements<'de>>
+        ensures document { Reaches (λ e. e) result (document_at self.now) }
+    {
+        self.judge(alloc)?.document(alloc)
+    }
+}
+
+/// Whether values of the kind are null.
+#[inline(always)]
+fn is_null_kind(kind: ElementType) -> bool
+    ensures { result ≡ is_null_kind kind }
+{
+    matches!(kind, ElementType::Null)
+}

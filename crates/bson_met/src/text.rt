@@ -1,0 +1,188 @@
+ghost use Rattle.std.specs.Prelude.{◌≡◌, true, string_bytes, IfOk};
+ghost use Rattle.std.specs.Str.{is_utf8};
+ghost use Rattle.bson_base.specs.Instant.{millis};
+ghost use Rattle.bson_base.specs.Made.{digits, number_text, base64_text};
+ghost use Rattle.bson_rawdoc.specs.Piece.{borrowed, made};
+ghost use Rattle.bson_datum.specs.MarkedView.{text_piece};
+ghost use Rattle.bson_laws.specs.Taken.{borrow};
+ghost use Rattle.bson_met.specs.Gives.{Reaches};
+ghost use Rattle.bson_met.specs.PieceView.{str_piece, met_text};
+
+use crate::bytes::MetBytes;
+use crate::reading::{Reading, refused};
+use base64::engine::general_purpose::STANDARD;
+use bson_base::{BinarySubtype, DateTime, ObjectId};
+use bson_datum::{Cause, Text};
+use std::alloc::{AllocError, Global};
+
+/// A text that stands somewhere whole, as a key does.
+#[derive(Clone, Copy)]
+pub struct MetStr<'de> {
+    /// The text.
+    pub text: &'de str,
+    /// Whether it stands in the input, so that it can be borrowed.
+    pub in_input: bool,
+}
+
+impl<'de> MetStr<'de> {
+    /// A text of the input.
+    #[inline(always)]
+    pub(crate) fn input(text: &'de str) -> MetStr<'de>
+        ensures piece { str_piece result ≡ borrowed text.now }
+    {
+        MetStr {
+            text,
+            in_input: true,
+        }
+    }
+
+    /// A text that does not stand in the input.
+    #[inline(always)]
+    pub(crate) fn elsewhere(text: &'de str) -> MetStr<'de>
+        ensures piece { str_piece result ≡ made text.now }
+    {
+        MetStr {
+            text,
+            in_input: false,
+        }
+    }
+
+    /// The text, borrowed where it stands in the input.
+    #[inline(always)]
+    pub fn to_text(self, alloc: Global) -> Result<Text<'de>, AllocError>
+        ensures piece { IfOk result (λ t. text_piece t ≡ str_piece self.entry) }
+    {
+        if self.in_input {
+            return Ok(Text::Borrowed(self.text));
+        }
+        Ok(Text::Owned(String::from_str(alloc, self.text)?))
+    }
+
+    /// The text, where it can be borrowed.
+    #[inline(always)]
+    pub fn borrow(self, alloc: Global) -> Reading<&'de str>
+        ensures borrowed { Reaches (λ t. borrowed t.now) result (borrow (str_piece self.entry)) }
+    {
+        if self.in_input {
+            return Ok(self.text);
+        }
+        Err(refused(alloc, Cause::NotBorrowed))
+    }
+}
+
+/// A text that a reader meets as a value.
+#[derive(Clone, Copy)]
+pub enum MetText<'de> {
+    /// It stands somewhere whole.
+    Whole(MetStr<'de>),
+    /// The hexadecimal digits of these bytes.
+    Digits(MetBytes<'de>),
+    /// The hexadecimal digits of an ObjectId.
+    Id(ObjectId),
+    /// The hexadecimal digits of this byte.
+    Subtype(BinarySubtype),
+    /// The base64 text of these bytes.
+    Base64(MetBytes<'de>),
+    /// The decimal digits of these milliseconds.
+    Number(DateTime),
+}
+
+impl<'de> MetText<'de> {
+    /// The text, borrowed from the input where it stands there. A text that no bytes hold is made.
+    #[inline(always)]
+    pub fn to_text(self, alloc: Global) -> Result<Text<'de>, AllocError>
+        ensures piece { IfOk result (λ t. text_piece t ≡ met_text self.entry) }
+    {
+        if let MetText::Whole(text) = self {
+            return text.to_text(alloc);
+        }
+        Ok(Text::Owned(self.make(alloc)?))
+    }
+
+    /// A copy of the text.
+    #[inline(always)]
+    pub fn to_string(self, alloc: Global) -> Result<String, AllocError>
+        ensures text { IfOk result (λ s. string_bytes s ≡ (met_text self.entry).bytes) }
+    {
+        if let MetText::Whole(text) = self {
+            return String::from_str(alloc, text.text);
+        }
+        self.make(alloc)
+    }
+
+    /// The text, where it can be borrowed from the input.
+    #[inline(always)]
+    pub fn borrow(self, alloc: Global) -> Reading<&'de str>
+        ensures borrowed { Reaches (λ t. borrowed t.now) result (borrow (met_text self.entry)) }
+    {
+        match self {
+            MetText::Whole(text) => text.borrow(alloc),
+            MetText::Digits(_)
+            | MetText::Id(_)
+            | MetText::Subtype(_)
+            | MetText::Base64(_)
+            | MetText::Number(_) => Err(refused(alloc, Cause::NotBorrowed)),
+        }
+    }
+
+    // The text in memory of its own.
+    #[inline(never)]
+    fn make(self, alloc: Global) -> Result<String, AllocError>
+        ensures text { IfOk result (λ s. string_bytes s ≡ (met_text self.entry).bytes) }
+    {
+        match self {
+            MetText::Whole(text) => String::from_str(alloc, text.text),
+            MetText::Digits(bytes) => digits(alloc, bytes.bytes),
+            MetText::Id(id) => digits(alloc, &id.0),
+            MetText::Subtype(subtype) => digits(alloc, &[subtype.0]),
+            MetText::Base64(bytes) => base64_text(alloc, bytes.bytes),
+            MetText::Number(time) => number_text(alloc, time),
+        }
+    }
+
+    // It is a text.
+    #[tactic(auto, using(crate::proofs::MadeTexts::digits_are_text, crate::proofs::MadeTexts::base64_is_text, crate::proofs::MadeTexts::number_is_text))]
+    #[inline(always)]
+    pub(crate) fn known(self)
+        ensures text { is_utf8 (met_text self.entry).bytes ≡ true }
+    {
+        match self {
+            MetText::Whole(text) => known(text.text),
+            MetText::Digits(_) | MetText::Id(_) | MetText::Subtype(_) | MetText::Base64(_) => {}
+            MetText::Number(time) => {
+                let _milliseconds = time.timestamp_millis();
+            }
+        }
+    }
+}
+
+// A text is UTF-8.
+#[inline(always)]
+fn known(text: &str)
+    ensures { is_utf8 text.now ≡ true }
+{}
+
+// Each byte as two lower-case hexadecimal digits.
+#[tactic(auto, unfolding(bson_base::specs::Made::digits))]
+fn digits(alloc: Global, bytes: &[u8]) -> Result<String, AllocError>
+    ensures { IfOk result (λ s. string_bytes s ≡ digits bytes.now) }
+{
+    hex::encode(alloc, bytes)
+}
+
+// Standard base64 with padding.
+#[tactic(auto, unfolding(bson_base::specs::Made::base64_text))]
+fn base64_text(alloc: Global, bytes: &[u8]) -> Result<String, AllocError>
+    ensures { IfOk result (λ s. string_bytes s ≡ base64_text bytes.now) }
+{
+    STANDARD.encode(alloc, bytes)
+}
+
+// The milliseconds of a time in decimal digits, with a sign where they are negative.
+#[tactic(auto, unfolding(bson_base::specs::Made::number_text))]
+fn number_text(alloc: Global, time: DateTime) -> Result<String, AllocError>
+    ensures { IfOk result (λ s. string_bytes s ≡ number_text (millis time)) }
+{
+    let mut digits = itoa::Buffer::new();
+    String::from_str(alloc, digits.format(time.timestamp_millis()))
+}

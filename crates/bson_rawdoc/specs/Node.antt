@@ -1,0 +1,312 @@
+-- A value as a reader meets it: in bytes, in a `Bson`, or made by opening. Source: bsonspec.org, version 1.1; the opened forms after MongoDB's extended JSON, but for
+-- `$numberDecimalBytes`, the order of `$binary`, and the Int64s of `$timestamp`.
+use Rattle.std.specs.Prelude.{ℕ, zero, suc, [], ◌∷◌, ℤ, pos, Bool, true, ◌||◌, drop, take, get_or, length, nat_lt, ◌+◌, ◌-◌, negsuc, if◌then◌else◌, Option, Some, None, Result, Ok, Err, codes}
+use Rattle.std.specs.Fmt.{decimal}
+use Rattle.std.specs.Ordering.{int_eq}
+use Rattle.std.specs.Str.{is_utf8}
+use Rattle.bson_base.specs.Text.{Bytes, Utf8}
+use Rattle.bson_base.specs.Outcome.{result_map}
+use Rattle.bson_base.specs.Tree as trees
+use Rattle.bson_base.specs.Tree.{Tree, Pairs, no_pairs, pair, Trees, no_trees, tree}
+use Rattle.bson_base.specs.declared.element_type.ElementType.TheVariants as kinds
+use Rattle.bson_base.specs.declared.element_type.ElementType.{ElementType}
+use Rattle.bson_rawdoc.specs.Envelope.{is_closed, inside}
+use Rattle.bson_rawdoc.specs.Extent.{two_texts_in}
+use Rattle.bson_base.specs.Made.{digits, number_text, base64_text}
+use Rattle.bson_rawdoc.specs.Numbers.{uint32_in, int32_in, int64_in}
+use Rattle.bson_rawdoc.specs.Piece.{Piece, borrowed, made}
+use Rattle.bson_rawdoc.specs.RawValue as raw
+use Rattle.bson_rawdoc.specs.RawValue.{RawValue, boolean_of, binary_in}
+use Rattle.bson_rawdoc.specs.Walk.{Element, Walk, walk}
+use Rattle.bson_rawdoc.specs.Walk as walks
+use Rattle.bson_rawdoc.specs.declared.raw.Error.{Error}
+use Rattle.bson_rawdoc.specs.declared.raw.Error.TheVariants.{BadExtent, NotUtf8, TextUnclosed, ScopeTotal, ValueUnclosed}
+
+-- ---- values
+
+mutual
+  -- A value. Its texts are not judged yet: a reader refuses one that is not UTF-8, or mends it.
+  pub data Node : Type 0 where
+    double : Bytes → Node
+    string : Piece → Node
+    document : Nodes → Node
+    array : Nodes → Node
+    -- a binary of subtype 0
+    bytes : Piece → Node
+    boolean : Bool → Node
+    null : Node
+    int32 : ℤ → Node
+    int64 : ℤ → Node
+    -- an extended value, and the document that it is opened to (`opens` makes it, so that the two agree)
+    extended : (value : Extended) → (opened : Nodes) → Node
+    -- bytes that are no value of their kind
+    broken : ElementType → Error → Node
+    -- a document or an array where no level is left
+    too_deep : ElementType → Node
+
+  -- an extended value: none of double, string, document, array, binary of subtype 0, boolean, null, int32 and int64
+  pub data Extended : Type 0 where
+    -- a binary of another subtype than 0
+    binary : (subtype : ℕ) → Piece → Extended
+    undefined : Extended
+    object_id : Piece → Extended
+    date_time : (milliseconds : ℤ) → Extended
+    regular_expression : (pattern : Piece) → (options : Piece) → Extended
+    db_pointer : (namespace : Piece) → (id : Bytes) → Extended
+    javascript_code : Piece → Extended
+    symbol : Piece → Extended
+    javascript_code_with_scope : (code : Piece) → (scope : Node) → Extended
+    timestamp : (time : ℕ) → (increment : ℕ) → Extended
+    decimal128 : Bytes → Extended
+    max_key : Extended
+    min_key : Extended
+
+  -- the elements of a document or an array in order, up to the end or the fault that ends the list; in an array the keys are not looked at
+  pub data Nodes : Type 0 where
+    ended : Nodes
+    faulty : Error → Nodes
+    then_node : (key : Piece) → (value : Node) → (rest : Nodes) → Nodes
+
+abbrev pub extended_kind : Extended → ElementType
+extended_kind (binary subtype b) = kinds.Binary
+extended_kind undefined = kinds.Undefined
+extended_kind (object_id id) = kinds.ObjectId
+extended_kind (date_time n) = kinds.DateTime
+extended_kind (regular_expression pattern options) = kinds.RegularExpression
+extended_kind (db_pointer namespace id) = kinds.DbPointer
+extended_kind (javascript_code t) = kinds.JavaScriptCode
+extended_kind (symbol t) = kinds.Symbol
+extended_kind (javascript_code_with_scope code scope) = kinds.JavaScriptCodeWithScope
+extended_kind (timestamp time increment) = kinds.Timestamp
+extended_kind (decimal128 b) = kinds.Decimal128
+extended_kind max_key = kinds.MaxKey
+extended_kind min_key = kinds.MinKey
+
+abbrev pub kind_of : Node → ElementType
+kind_of (double bits) = kinds.Double
+kind_of (string t) = kinds.String
+kind_of (document ns) = kinds.EmbeddedDocument
+kind_of (array ns) = kinds.Array
+kind_of (bytes b) = kinds.Binary
+kind_of (boolean b) = kinds.Boolean
+kind_of null = kinds.Null
+kind_of (int32 n) = kinds.Int32
+kind_of (int64 n) = kinds.Int64
+kind_of (extended x ns) = extended_kind x
+kind_of (broken k e) = k
+kind_of (too_deep k) = k
+
+-- ---- the fault of a value
+
+-- the first of two faults
+abbrev pub or_else : Option Error → Option Error → Option Error
+or_else (Some e) o = Some e
+or_else None o = o
+
+-- a text that is not UTF-8 is at fault, where texts are not mended
+abbrev pub text_fault : (lossy : Bool) → Piece → Option Error
+text_fault lossy t = if lossy || is_utf8 t.bytes then None else Some NotUtf8
+
+abbrev mutual
+  pub fault : (lossy : Bool) → Node → Option Error
+  fault lossy (string t) = text_fault lossy t
+  fault lossy (extended x ns) = extended_fault lossy x
+  fault lossy (broken k e) = Some e
+  fault lossy n = None
+
+  pub extended_fault : (lossy : Bool) → Extended → Option Error
+  extended_fault lossy (regular_expression pattern options) = or_else (text_fault lossy pattern) (text_fault lossy options)
+  extended_fault lossy (db_pointer namespace id) = text_fault lossy namespace
+  extended_fault lossy (javascript_code t) = text_fault lossy t
+  extended_fault lossy (symbol t) = text_fault lossy t
+  extended_fault lossy (javascript_code_with_scope code scope) = or_else (text_fault lossy code) (fault lossy scope)
+  extended_fault lossy x = None
+
+-- ---- the documents that extended values are opened to
+
+-- a text that is made
+abbrev pub made_text : Utf8 → Node
+made_text t = string (made t)
+
+-- the pair of a key
+abbrev pub one : Utf8 → Node → Nodes
+one key n = then_node (made key) n ended
+
+-- the pairs of two keys
+abbrev pub two : Utf8 → Node → Utf8 → Node → Nodes
+two key n other m = then_node (made key) n (one other m)
+
+-- Keys, digits, numbers in texts, base64 and the bytes of a decimal are made. Other texts and a scope stay where they are. None of these documents takes a
+-- level.
+abbrev pub opened : Extended → Nodes
+opened (object_id id) = one (codes "$oid") (made_text (digits id.bytes))
+opened (date_time n) = one (codes "$date") (document (one (codes "$numberLong") (made_text (number_text n))))
+opened (binary subtype b) = one (codes "$binary") (document (two (codes "subType") (made_text (digits (subtype ∷ []))) (codes "base64") (made_text (base64_text b.bytes))))
+opened (timestamp time increment) = one (codes "$timestamp") (document (two (codes "t") (int64 (pos time)) (codes "i") (int64 (pos increment))))
+opened (regular_expression pattern options) = one (codes "$regularExpression") (document (two (codes "pattern") (string pattern) (codes "options") (string options)))
+opened (javascript_code t) = one (codes "$code") (string t)
+opened (javascript_code_with_scope code scope) = two (codes "$code") (string code) (codes "$scope") scope
+opened (symbol t) = one (codes "$symbol") (string t)
+opened (db_pointer namespace id) = one (codes "$dbPointer") (document (two (codes "$ref") (string namespace) (codes "$id") (document (one (codes "$oid") (made_text (digits id))))))
+opened (decimal128 b) = one (codes "$numberDecimalBytes") (bytes (made b))
+opened undefined = one (codes "$undefined") (boolean true)
+opened max_key = one (codes "$maxKey") (int32 (pos 1))
+opened min_key = one (codes "$minKey") (int32 (pos 1))
+
+-- a value of an extended kind, with the document that it is opened to
+abbrev pub opens : Extended → Node
+opens x = extended x (opened x)
+
+abbrev pub binary_node : (subtype : ℕ) → Piece → Node
+binary_node zero b = bytes b
+binary_node (suc subtype) b = opens (binary (suc subtype) b)
+
+-- ---- values in bytes
+
+-- what bytes are as a value, or that they are none
+abbrev pub or_broken : {A : Type 0} → ElementType → (A → Node) → Result A Error → Node
+or_broken k f (Ok x) = f x
+or_broken k f (Err e) = broken k e
+
+-- the bytes of a text, between its length and the zero behind it
+abbrev pub text_bytes : Bytes → Result Piece Error
+text_bytes b = if is_closed b then Ok (borrowed (inside b)) else Err TextUnclosed
+
+-- the bytes of two texts (a regular expression that has its extent has both)
+abbrev pub two_bytes : Option (Bytes × Bytes) → Result (Piece × Piece) Error
+two_bytes None = Err BadExtent
+two_bytes (Some texts) = Ok (borrowed texts.0, borrowed texts.1)
+
+-- the bytes of a text, and the twelve bytes of an ObjectId behind it
+abbrev pub db_pointer_bytes : Bytes → Result (Piece × Bytes) Error
+db_pointer_bytes b = result_map (λ namespace. (namespace, drop (length b - 12) b)) (text_bytes (take (length b - 12) b))
+
+-- The bytes of a code whose length is announced as this, and those of the scope behind it. The length counts the zero behind the code, and leaves the scope
+-- five bytes at least; the scope announces all the bytes that are left.
+abbrev pub scoped_bytes : ℤ → Bytes → Result (Piece × Bytes) Error
+scoped_bytes (negsuc n) b = Err ScopeTotal
+scoped_bytes (pos n) b =
+    if nat_lt n 1 || nat_lt (length b) (n + 4 + 5) then Err ScopeTotal
+    else if int_eq (int32_in (drop (n + 4) b)) (pos (length (drop (n + 4) b))) then result_map (λ code. (code, drop (n + 4) b)) (text_bytes (take (n + 4) b))
+    else Err ScopeTotal
+
+-- The value of the kind that has these bytes, which are as many as its extent; the function makes the node of a document, an array and a scope.
+abbrev pub node_with : (ElementType → Bytes → Node) → ElementType → Bytes → Node
+node_with container kinds.Double b = double b
+node_with container kinds.String b = or_broken kinds.String string (text_bytes b)
+node_with container kinds.EmbeddedDocument b = container kinds.EmbeddedDocument b
+node_with container kinds.Array b = container kinds.Array b
+node_with container kinds.Binary b = or_broken kinds.Binary (λ p. binary_node p.0 (borrowed p.1)) (binary_in b)
+node_with container kinds.Undefined b = opens undefined
+node_with container kinds.ObjectId b = opens (object_id (borrowed b))
+node_with container kinds.Boolean b = or_broken kinds.Boolean boolean (boolean_of (get_or b 0 0))
+node_with container kinds.DateTime b = opens (date_time (int64_in b))
+node_with container kinds.Null b = null
+node_with container kinds.RegularExpression b = or_broken kinds.RegularExpression (λ p. opens (regular_expression p.0 p.1)) (two_bytes (two_texts_in b))
+node_with container kinds.DbPointer b = or_broken kinds.DbPointer (λ p. opens (db_pointer p.0 p.1)) (db_pointer_bytes b)
+node_with container kinds.JavaScriptCode b = or_broken kinds.JavaScriptCode (λ t. opens (javascript_code t)) (text_bytes b)
+node_with container kinds.Symbol b = or_broken kinds.Symbol (λ t. opens (symbol t)) (text_bytes b)
+node_with container kinds.JavaScriptCodeWithScope b =
+    or_broken kinds.JavaScriptCodeWithScope (λ p. opens (javascript_code_with_scope p.0 (container kinds.EmbeddedDocument p.1))) (scoped_bytes (int32_in (drop 4 b)) (drop 4 b))
+node_with container kinds.Int32 b = int32 (int32_in b)
+node_with container kinds.Timestamp b = opens (timestamp (uint32_in (drop 4 b)) (uint32_in b))
+node_with container kinds.Int64 b = int64 (int64_in b)
+node_with container kinds.Decimal128 b = opens (decimal128 b)
+node_with container kinds.MaxKey b = opens max_key
+node_with container kinds.MinKey b = opens min_key
+
+-- the elements of a walk, each value made so
+abbrev pub nodes_with : (ElementType → Bytes → Node) → Walk → Nodes
+nodes_with node walks.ended = ended
+nodes_with node (walks.faulty e) = faulty e
+nodes_with node (walks.then_walk e w) = then_node (borrowed e.key) (node e.kind e.value) (nodes_with node w)
+
+-- a document, or an array
+abbrev pub holding : ElementType → Nodes → Node
+holding kinds.EmbeddedDocument ns = document ns
+holding k ns = array ns
+
+-- the node, where the last byte of the document or array is a zero
+abbrev pub closed_node : ElementType → Bytes → Node → Node
+closed_node k b n = if is_closed b then n else broken k ValueUnclosed
+
+-- the value of this kind in these bytes, with so many levels of documents left
+abbrev pub node_in : (levels : ℕ) → ElementType → Bytes → Node
+node_in zero k b = node_with (λ c b. closed_node c b (too_deep c)) k b
+node_in (suc levels) k b = node_with (λ c b. closed_node c b (holding c (nodes_with (node_in levels) (walk b)))) k b
+
+-- ---- values of elements
+
+-- a document, an array or a scope of these bytes, which are closed
+abbrev pub inner_node : (levels : ℕ) → ElementType → Bytes → Node
+inner_node zero k b = too_deep k
+inner_node (suc levels) k b = holding k (nodes_with (node_in levels) (walk b))
+
+-- the node of the value of an element; a document, an array and a scope are made of their bytes so
+abbrev pub value_node : (ElementType → Bytes → Node) → RawValue → Node
+value_node inner (raw.double bits) = double bits
+value_node inner (raw.string t) = string (borrowed t)
+value_node inner (raw.document b) = inner kinds.EmbeddedDocument b
+value_node inner (raw.array b) = inner kinds.Array b
+value_node inner (raw.binary subtype b) = binary_node subtype (borrowed b)
+value_node inner raw.undefined = opens undefined
+value_node inner (raw.object_id id) = opens (object_id (borrowed id))
+value_node inner (raw.boolean b) = boolean b
+value_node inner (raw.date_time n) = opens (date_time n)
+value_node inner raw.null = null
+value_node inner (raw.regular_expression pattern options) = opens (regular_expression (borrowed pattern) (borrowed options))
+value_node inner (raw.db_pointer namespace id) = opens (db_pointer (borrowed namespace) id)
+value_node inner (raw.javascript_code t) = opens (javascript_code (borrowed t))
+value_node inner (raw.symbol t) = opens (symbol (borrowed t))
+value_node inner (raw.javascript_code_with_scope code scope) = opens (javascript_code_with_scope (borrowed code) (inner kinds.EmbeddedDocument scope))
+value_node inner (raw.int32 n) = int32 n
+value_node inner (raw.timestamp time increment) = opens (timestamp time increment)
+value_node inner (raw.int64 n) = int64 n
+value_node inner (raw.decimal128 b) = opens (decimal128 b)
+value_node inner raw.max_key = opens max_key
+value_node inner raw.min_key = opens min_key
+
+-- ---- values of a finished tree
+
+-- a text or byte string of a finished tree, which stands in the input or not
+abbrev pub piece : Bool → Bytes → Piece
+piece in_input b = record { bytes = b; in_input = in_input }
+
+-- a document or an array of these elements takes one of the levels that are left
+abbrev pub one_level : ElementType → (ℕ → Nodes) → (levels : ℕ) → Node
+one_level k ns zero = too_deep k
+one_level k ns (suc levels) = holding k (ns levels)
+
+abbrev mutual
+  -- the value that a tree is, with so many levels of documents left
+  pub tree_node : (in_input : Bool) → Tree → (levels : ℕ) → Node
+  tree_node in_input (trees.double bits) levels = double bits
+  tree_node in_input (trees.string t) levels = string (piece in_input t)
+  tree_node in_input (trees.document ps) levels = one_level kinds.EmbeddedDocument (pair_nodes in_input ps) levels
+  tree_node in_input (trees.array ts) levels = one_level kinds.Array (tree_nodes in_input 0 ts) levels
+  tree_node in_input (trees.binary subtype b) levels = binary_node subtype (piece in_input b)
+  tree_node in_input trees.undefined levels = opens undefined
+  tree_node in_input (trees.object_id id) levels = opens (object_id (piece in_input id))
+  tree_node in_input (trees.boolean b) levels = boolean b
+  tree_node in_input (trees.date_time n) levels = opens (date_time n)
+  tree_node in_input trees.null levels = null
+  tree_node in_input (trees.regular_expression pattern options) levels = opens (regular_expression (piece in_input pattern) (piece in_input options))
+  tree_node in_input (trees.db_pointer namespace id) levels = opens (db_pointer (piece in_input namespace) id)
+  tree_node in_input (trees.javascript_code t) levels = opens (javascript_code (piece in_input t))
+  tree_node in_input (trees.symbol t) levels = opens (symbol (piece in_input t))
+  tree_node in_input (trees.javascript_code_with_scope code scope) levels = opens (javascript_code_with_scope (piece in_input code) (one_level kinds.EmbeddedDocument (pair_nodes in_input scope) levels))
+  tree_node in_input (trees.int32 n) levels = int32 n
+  tree_node in_input (trees.timestamp time increment) levels = opens (timestamp time increment)
+  tree_node in_input (trees.int64 n) levels = int64 n
+  tree_node in_input (trees.decimal128 b) levels = opens (decimal128 b)
+  tree_node in_input trees.max_key levels = opens max_key
+  tree_node in_input trees.min_key levels = opens min_key
+
+  pub pair_nodes : (in_input : Bool) → Pairs → (levels : ℕ) → Nodes
+  pair_nodes in_input no_pairs levels = ended
+  pair_nodes in_input (pair key t ps) levels = then_node (piece in_input key) (tree_node in_input t levels) (pair_nodes in_input ps levels)
+
+  -- the elements of an array have their decimal indexes as keys
+  pub tree_nodes : (in_input : Bool) → (index : ℕ) → Trees → (levels : ℕ) → Nodes
+  tree_nodes in_input i no_trees levels = ended
+  tree_nodes in_input i (tree t ts) levels = then_node (piece in_input (decimal i)) (tree_node in_input t levels) (tree_nodes in_input (suc i) ts levels)

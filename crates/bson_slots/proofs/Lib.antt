@@ -1,0 +1,6 @@
+pub mod Places
+pub mod MarkedFields
+pub mod Finished
+pub mod Elements
+pub mod FieldPlaces
+pub mod Filling

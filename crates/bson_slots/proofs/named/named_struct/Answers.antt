@@ -1,0 +1,13 @@
+use Rattle.std.proofs.Common.{ap, ◌∙◌}
+use Rattle.bson_rawdoc.specs.Piece.{made}
+use Rattle.bson_datum.specs.Value.{structure}
+use Rattle.bson_datum.specs.declared.text.Text.TheVariants.{Owned}
+use Rattle.bson_slots.specs.FieldSlots.{fields_marked}
+use Rattle.bson_slots.proofs.MarkedFields.{marked-Struct}
+use Rattle.bson_slots.proofs.named.named_struct.Goals as goal
+
+pub returns : goal.returns
+returns c = record {
+  marked = marked-Struct (Owned c.in_ok-from_str.field-0) c.args.fields
+      ∙ ap (λ name. structure (made name) (fields_marked c.args.fields.items)) c.in_ok-from_str.ensures.ok;
+}

@@ -1,0 +1,4 @@
+pub mod Place
+pub mod Indexes
+pub mod FieldSlots
+pub mod SlotsView
