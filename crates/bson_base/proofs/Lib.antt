@@ -6,3 +6,9 @@ pub mod Rows
 pub mod Zips
 pub mod Nodes
 pub mod Sames
+pub mod ParsedTexts
+pub mod Orders
+pub mod Base64Texts
+pub mod IntegerTexts
+pub mod SubtypeTexts
+pub mod WrittenTexts

@@ -12,7 +12,8 @@ use Rattle.bson_base.specs.BsonView.{Key, zipped, tree_of, trees_of}
 use Rattle.bson_base.specs.Same.{same, same_trees, same_pairs}
 use Rattle.bson_base.specs.declared.bson.Bson as bson
 use Rattle.bson_base.specs.declared.bson.Bson.{Bson}
-use Rattle.bson_base.specs.declared.bson.Bson.TheViews.{roll-Bson, roll-out-Bson, rolls-Array, outs-Array', rolls-Document, outs-Document'}
+use Rattle.bson_base.specs.declared.bson.Bson.TheViews.{roll-Bson, roll-out-Bson, rolls-Array, outs-Array', rolls-Document, rolls-JavaScriptCodeWithScope, outs-Document', outs-JavaScriptCodeWithScope'}
+use Rattle.bson_base.specs.declared.code_with_scope.JavaScriptCodeWithScope.{JavaScriptCodeWithScope}
 use Rattle.bson_base.specs.declared.document.Document.{Document}
 
 -- what a test that decides a fact answers says of the fact
@@ -68,3 +69,9 @@ pub unlike_document : (d e : Bson) (doc : Document) → d ≡ bson.Document doc 
 unlike_document d (bson.Document' keys shape row) doc is none =
     absurd (none _ (sym (roll-out-Bson (bson.Document' keys shape row)) ∙ ap roll-Bson (outs-Document' keys shape row) ∙ rolls-Document _))
 unlike_document d e doc is none = sym (ap (λ x. same (tree_of x) (tree_of e)) is)
+
+-- code with a scope and a value that is none
+pub unlike_scoped : (d e : Bson) (scoped : JavaScriptCodeWithScope) → d ≡ bson.JavaScriptCodeWithScope scoped → ((other : JavaScriptCodeWithScope) → e ≡ bson.JavaScriptCodeWithScope other → ⊥) → false ≡ same (tree_of d) (tree_of e)
+unlike_scoped d (bson.JavaScriptCodeWithScope' code keys shape row) scoped is none =
+    absurd (none _ (sym (roll-out-Bson (bson.JavaScriptCodeWithScope' code keys shape row)) ∙ ap roll-Bson (outs-JavaScriptCodeWithScope' code keys shape row) ∙ rolls-JavaScriptCodeWithScope _))
+unlike_scoped d e scoped is none = sym (ap (λ x. same (tree_of x) (tree_of e)) is)

@@ -1,14 +1,18 @@
--- What contracts see of the owned values: a `Bson` as a tree, a `Document` as its pairs.
+-- What contracts see of the owned values: a `Bson` as a tree, a `Document` as its pairs, the types of their parts as the trees that they are.
 use Rattle.std.specs.Prelude.{List, [], ◌∷◌, string_bytes}
 use Rattle.std.specs.Global.{Global}
 use Rattle.std.specs.declared.string.String.{String}
 use Rattle.bson_base.specs.Instant.{millis}
-use Rattle.bson_base.specs.Tree.{Tree, double, string, document, array, binary, undefined, object_id, boolean, date_time, null, javascript_code, symbol, int32, timestamp, int64, decimal128, max_key, min_key, Pairs, no_pairs, pair, Trees, no_trees, tree}
+use Rattle.bson_base.specs.Tree.{Tree, double, string, document, array, binary, undefined, object_id, boolean, date_time, null, regular_expression, db_pointer, javascript_code, symbol, javascript_code_with_scope, int32, timestamp, int64, decimal128, max_key, min_key, Pairs, no_pairs, pair, Trees, no_trees, tree}
 use Rattle.bson_base.specs.declared.binary.Binary.{Binary}
 use Rattle.bson_base.specs.declared.bson.Bson as bson
 use Rattle.bson_base.specs.declared.bson.Bson.{Bson, Row_of-Bson, end_of-Bson, more_of-Bson}
+use Rattle.bson_base.specs.RegexView.{RegexTexts}
+use Rattle.bson_base.specs.declared.code_with_scope.JavaScriptCodeWithScope.{JavaScriptCodeWithScope}
+use Rattle.bson_base.specs.declared.db_pointer.DbPointer.{DbPointer}
 use Rattle.bson_base.specs.declared.document.Document.{Document}
 
+-- a binary
 abbrev pub binary_of : Binary → Tree
 binary_of b = binary b.subtype.0 b.bytes.items
 
@@ -16,7 +20,7 @@ binary_of b = binary b.subtype.0 b.bytes.items
 abbrev pub Key : Type 0
 Key = String Global
 
--- each key with the value at its index
+-- each key with the value at its index, as far as both lists go
 abbrev pub zipped : List Key → Trees → Pairs
 zipped [] ts = no_pairs
 zipped (k ∷ ks) no_trees = no_pairs
@@ -30,7 +34,9 @@ abbrev mutual
   tree_of (bson.Document' keys shape row) = document (zipped keys.keys (row_of row))
   tree_of (bson.Boolean b) = boolean b
   tree_of bson.Null = null
+  tree_of (bson.RegularExpression r) = regular_expression r.pattern r.options
   tree_of (bson.JavaScriptCode t) = javascript_code (string_bytes t)
+  tree_of (bson.JavaScriptCodeWithScope' code keys shape row) = javascript_code_with_scope (string_bytes code) (zipped keys.keys (row_of row))
   tree_of (bson.Int32 n) = int32 n
   tree_of (bson.Int64 n) = int64 n
   tree_of (bson.Timestamp t) = timestamp t.time t.increment
@@ -42,6 +48,7 @@ abbrev mutual
   tree_of bson.Undefined = undefined
   tree_of bson.MaxKey = max_key
   tree_of bson.MinKey = min_key
+  tree_of (bson.DbPointer p) = db_pointer (string_bytes p.namespace) p.id.0
 
   pub row_of : {m : _} → Row_of-Bson m → Trees
   row_of end_of-Bson = no_trees
@@ -55,3 +62,15 @@ trees_of (b ∷ bs) = tree (tree_of b) (trees_of bs)
 -- the pairs of a document
 abbrev pub pairs_of : Document → Pairs
 pairs_of d = zipped d.keys.keys (trees_of d.values.items)
+
+-- code with its scope
+abbrev pub scoped_of : JavaScriptCodeWithScope → Tree
+scoped_of c = javascript_code_with_scope (string_bytes c.code) (pairs_of c.scope)
+
+-- a reference to a document
+abbrev pub pointer_of : DbPointer → Tree
+pointer_of p = db_pointer (string_bytes p.namespace) p.id.0
+
+-- a regular expression
+abbrev pub regex_of : RegexTexts → Tree
+regex_of r = regular_expression r.pattern r.options

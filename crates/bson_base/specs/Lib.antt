@@ -6,7 +6,11 @@ pub mod Sound
 pub mod Outcome
 pub mod Instant
 pub mod Made
+pub mod Parsed
+pub mod Sorted
+pub mod RegexView
 pub mod BsonView
+pub mod Opened
 pub mod Pairs
 pub mod Next
 pub mod Same

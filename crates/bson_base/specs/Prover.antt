@@ -2,3 +2,4 @@
 pub mod Stored
 pub mod StoredTree
 pub mod Decided
+pub mod StoredRegex

@@ -3,8 +3,9 @@ ghost use Rattle.bson_base.specs.Tree.{kind};
 ghost use Rattle.bson_base.specs.BsonView.{tree_of, trees_of};
 
 use crate::binary::Binary;
+use crate::code_with_scope::JavaScriptCodeWithScope;
 use crate::document::Document;
-use crate::{DateTime, Decimal128, Double, ElementType, ObjectId, Timestamp};
+use crate::{DateTime, DbPointer, Decimal128, Double, ElementType, ObjectId, Regex, Timestamp};
 use std::alloc::{AllocError, Global};
 
 /// A BSON value.
@@ -25,8 +26,12 @@ pub enum Bson {
     Boolean(bool),
     /// No value.
     Null,
+    /// A pattern and its options.
+    RegularExpression(Regex),
     /// JavaScript code.
     JavaScriptCode(String),
+    /// JavaScript code with a document of its names.
+    JavaScriptCodeWithScope(JavaScriptCodeWithScope),
     /// A signed number of 32 bits.
     Int32(i32),
     /// A signed number of 64 bits.
@@ -49,6 +54,8 @@ pub enum Bson {
     MaxKey,
     /// The value that is less than every other.
     MinKey,
+    /// A reference to a document of a collection.
+    DbPointer(DbPointer),
 }
 
 impl Bson {
@@ -63,7 +70,9 @@ impl Bson {
             Bson::Document(_) => ElementType::EmbeddedDocument,
             Bson::Boolean(_) => ElementType::Boolean,
             Bson::Null => ElementType::Null,
+            Bson::RegularExpression(_) => ElementType::RegularExpression,
             Bson::JavaScriptCode(_) => ElementType::JavaScriptCode,
+            Bson::JavaScriptCodeWithScope(_) => ElementType::JavaScriptCodeWithScope,
             Bson::Int32(_) => ElementType::Int32,
             Bson::Int64(_) => ElementType::Int64,
             Bson::Timestamp(_) => ElementType::Timestamp,
@@ -75,6 +84,7 @@ impl Bson {
             Bson::Undefined => ElementType::Undefined,
             Bson::MaxKey => ElementType::MaxKey,
             Bson::MinKey => ElementType::MinKey,
+            Bson::DbPointer(_) => ElementType::DbPointer,
         }
     }
 
@@ -95,8 +105,14 @@ impl Bson {
             Bson::Document(document) => Bson::Document(document.try_clone(alloc)?),
             Bson::Boolean(truth) => Bson::Boolean(*truth),
             Bson::Null => Bson::Null,
+            Bson::RegularExpression(regex) => Bson::RegularExpression(regex.try_clone(alloc)?),
             Bson::JavaScriptCode(code) => {
                 Bson::JavaScriptCode(String::from_str(alloc, code.as_str())?)
+            }
+            Bson::JavaScriptCodeWithScope(scoped) => {
+                let code = String::from_str(alloc, scoped.code.as_str())?;
+                let scope = scoped.scope.try_clone(alloc)?;
+                Bson::JavaScriptCodeWithScope(JavaScriptCodeWithScope { code, scope })
             }
             Bson::Int32(number) => Bson::Int32(*number),
             Bson::Int64(number) => Bson::Int64(*number),
@@ -112,6 +128,11 @@ impl Bson {
             Bson::Undefined => Bson::Undefined,
             Bson::MaxKey => Bson::MaxKey,
             Bson::MinKey => Bson::MinKey,
+            Bson::DbPointer(pointer) => {
+                let namespace = String::from_str(alloc, pointer.namespace.as_str())?;
+                let id = pointer.id;
+                Bson::DbPointer(DbPointer { namespace, id })
+            }
         };
         Ok(copy)
     }

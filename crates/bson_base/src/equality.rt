@@ -1,10 +1,13 @@
 ghost use Rattle.std.specs.Prelude.{◌≡◌, ◌↔◌, IsTrue};
 ghost use Rattle.bson_base.specs.Same.{same, same_trees, same_pairs};
-ghost use Rattle.bson_base.specs.BsonView.{tree_of, trees_of, binary_of, pairs_of};
+ghost use Rattle.bson_base.specs.BsonView.{tree_of, trees_of, binary_of, regex_of, pointer_of, scoped_of, pairs_of};
 
 use crate::binary::Binary;
 use crate::bson::Bson;
+use crate::code_with_scope::JavaScriptCodeWithScope;
+use crate::db_pointer::DbPointer;
 use crate::document::Document;
+use crate::regex::Regex;
 
 /// Two binaries are equal exactly where their subtypes and their bytes are.
 impl PartialEq for Binary {
@@ -21,6 +24,60 @@ impl PartialEq for Binary {
         ensures equal { IsTrue result ↔ (binary_of self.now ≡ binary_of other.now) }
     {
         self.subtype.0 == other.subtype.0 && self.bytes.as_slice() == other.bytes.as_slice()
+    }
+}
+
+/// Two regular expressions are equal exactly where their patterns and their options are.
+impl PartialEq for Regex {
+    ghost use Rattle.bson_base.specs.BsonView.{regex_of};
+    ghost use Rattle.bson_base.specs.Same.{same};
+    ghost use Rattle.bson_base.specs.Prover.Decided.{regex_laws};
+
+    ghost eq = { λ a b. same (regex_of a) (regex_of b) };
+
+    ghost laws = { regex_laws };
+
+    fn eq(&self, other: &Self) -> bool
+        ensures value { result ≡ same (regex_of self.now) (regex_of other.now) }
+        ensures equal { IsTrue result ↔ (regex_of self.now ≡ regex_of other.now) }
+    {
+        self.pattern() == other.pattern() && self.options() == other.options()
+    }
+}
+
+/// Two references are equal exactly where their namespaces and their ids are.
+impl PartialEq for DbPointer {
+    ghost use Rattle.bson_base.specs.BsonView.{pointer_of};
+    ghost use Rattle.bson_base.specs.Same.{same};
+    ghost use Rattle.bson_base.specs.Prover.Decided.{pointer_laws};
+
+    ghost eq = { λ a b. same (pointer_of a) (pointer_of b) };
+
+    ghost laws = { pointer_laws };
+
+    fn eq(&self, other: &Self) -> bool
+        ensures value { result ≡ same (pointer_of self.now) (pointer_of other.now) }
+        ensures equal { IsTrue result ↔ (pointer_of self.now ≡ pointer_of other.now) }
+    {
+        self.namespace == other.namespace && self.id.0 == other.id.0
+    }
+}
+
+/// Two codes with their scopes are equal exactly where the codes and the scopes are.
+impl PartialEq for JavaScriptCodeWithScope {
+    ghost use Rattle.bson_base.specs.BsonView.{scoped_of};
+    ghost use Rattle.bson_base.specs.Same.{same};
+    ghost use Rattle.bson_base.specs.Prover.Decided.{scoped_laws};
+
+    ghost eq = { λ a b. same (scoped_of a) (scoped_of b) };
+
+    ghost laws = { scoped_laws };
+
+    fn eq(&self, other: &Self) -> bool
+        ensures value { result ≡ same (scoped_of self.now) (scoped_of other.now) }
+        ensures equal { IsTrue result ↔ (scoped_of self.now ≡ scoped_of other.now) }
+    {
+        self.code == other.code && are_same_documents(&self.scope, &other.scope)
     }
 }
 
@@ -62,7 +119,7 @@ impl PartialEq for Document {
 
 // Whether two values are equal.
 #[cycle(same)]
-#[tactic(auto, using(crate::proofs::Rows::row_items, crate::proofs::Sames::unlike_array, crate::proofs::Sames::unlike_document))]
+#[tactic(auto, using(crate::proofs::Rows::row_items, crate::proofs::Sames::unlike_array, crate::proofs::Sames::unlike_document, crate::proofs::Sames::unlike_scoped))]
 fn is_same(a: &Bson, b: &Bson) -> bool
     ensures { result ≡ same (tree_of a.now) (tree_of b.now) }
 {
@@ -79,7 +136,14 @@ fn is_same(a: &Bson, b: &Bson) -> bool
         },
         (Bson::Boolean(truth), Bson::Boolean(other)) => truth == other,
         (Bson::Null, Bson::Null) => true,
+        (Bson::RegularExpression(regex), Bson::RegularExpression(other)) => regex == other,
         (Bson::JavaScriptCode(code), Bson::JavaScriptCode(other)) => code == other,
+        (Bson::JavaScriptCodeWithScope(scoped), _) => match b {
+            Bson::JavaScriptCodeWithScope(other) => {
+                scoped.code == other.code && are_same_documents(&scoped.scope, &other.scope)
+            }
+            _ => false,
+        },
         (Bson::Int32(number), Bson::Int32(other)) => number == other,
         (Bson::Int64(number), Bson::Int64(other)) => number == other,
         (Bson::Timestamp(time), Bson::Timestamp(other)) => {
@@ -95,6 +159,7 @@ fn is_same(a: &Bson, b: &Bson) -> bool
         (Bson::Undefined, Bson::Undefined) => true,
         (Bson::MaxKey, Bson::MaxKey) => true,
         (Bson::MinKey, Bson::MinKey) => true,
+        (Bson::DbPointer(pointer), Bson::DbPointer(other)) => pointer == other,
         _ => false,
     }
 }

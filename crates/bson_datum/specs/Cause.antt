@@ -35,7 +35,9 @@ pub data Cause : Type 0 where
   top_level : ElementType → Cause
   -- a binary of so many bytes, which are more than a binary may have
   binary_too_long : ℕ → Cause
+  -- the newtype of a UUID holds neither its bytes nor, in the readable form, its text
+  bad_uuid : Cause
+  -- the fields of a struct of a reserved name are none of the lists that its name takes
+  bad_step : Cause
   -- the document would have more bytes than a document may
   too_long : Cause
-  -- a value of this kind is not written yet at its place
-  not_built : ElementType → Cause

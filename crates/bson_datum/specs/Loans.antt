@@ -1,4 +1,4 @@
--- Which parts of a datum are lent: its texts and byte strings, by the input or by a value that is written. Source: serde's data model, borrowed and owned strings.
+-- Which parts of a datum are borrowed: its texts and byte strings, by the input or by a value that is written. Source: serde's data model, borrowed and owned strings.
 use Rattle.std.specs.Prelude.{◌≡◌, Bool, true, false, List, [], ◌∷◌, ◌++◌}
 use Rattle.std.specs.List.{flat_map, AllByRecursion}
 use Rattle.bson_datum.specs.declared.text.Text as text
@@ -8,7 +8,7 @@ use Rattle.bson_datum.specs.declared.byte_str.ByteStr.TheVariants as byte_strs
 use Rattle.bson_datum.specs.declared.datum.Entry.{Entry}
 use Rattle.bson_datum.specs.declared.datum.Field.{Field}
 use Rattle.bson_datum.specs.declared.datum.Datum as datum
-use Rattle.bson_datum.specs.declared.datum.Datum.{Datum, Str, Bytes, UnitStruct, UnitVariant, NewtypeStruct', NewtypeVariant', Seq', Tuple', TupleStruct', TupleVariant', Map', Struct', StructVariant', Row_of-Datum, end_of-Datum, more_of-Datum, Row_of-Entry, end_of-Entry, more_of-Entry, Row_of-Field, end_of-Field, more_of-Field}
+use Rattle.bson_datum.specs.declared.datum.Datum.{Datum, Str, Bytes, UnitStruct, UnitVariant, NewtypeStruct', NewtypeVariant', Seq', Tuple', TupleStruct', TupleVariant', Map', Struct', StructVariant', Mode', Row_of-Datum, end_of-Datum, more_of-Datum, Row_of-Entry, end_of-Entry, more_of-Entry, Row_of-Field, end_of-Field, more_of-Field}
 
 abbrev pub text_lent : text.Text → Bool
 text_lent (texts.Borrowed s) = true
@@ -35,6 +35,7 @@ abbrev mutual
   loans (Map' shape rows) = entry_rows_loans rows
   loans (Struct' name shape rows) = text_lent name ∷ rows_loans rows
   loans (StructVariant' variant shape rows) = text_lent variant ∷ rows_loans rows
+  loans (Mode' p r q c) = loans r ++ loans c
   loans d = []
 
   pub item_rows_loans : {m : _} → Row_of-Datum m → List Bool

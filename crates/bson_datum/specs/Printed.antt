@@ -5,7 +5,7 @@ use Rattle.bson_base.specs.Text.{Utf8}
 use Rattle.bson_base.specs.Kind.{name}
 use Rattle.bson_base.specs.Tree.{kind}
 use Rattle.bson_rawdoc.specs.Printed.{printed_fault}
-use Rattle.bson_datum.specs.Cause.{Cause, raw, too_deep, invalid_type, out_of_range, not_one_char, not_utf8, not_borrowed, invalid_length, missing_field, duplicate_field, unknown_variant, contents_wanted, unit_in_document, top_level, binary_too_long, too_long, not_built}
+use Rattle.bson_datum.specs.Cause.{Cause, raw, too_deep, invalid_type, out_of_range, not_one_char, not_utf8, not_borrowed, invalid_length, missing_field, duplicate_field, unknown_variant, contents_wanted, unit_in_document, top_level, binary_too_long, bad_uuid, bad_step, too_long}
 use Rattle.bson_datum.specs.Refusal.{Segment, Path, at_key, at_index, ReadFault, end_of_stream, unreadable, WriteFault, unwritable, invalid_document_key, invalid_cstring, unsigned_exceeds, Failure, no_memory, bare, placed}
 
 -- the segment at a place of a path: a key has a point before it unless it comes first, an index stands in brackets
@@ -26,10 +26,6 @@ abbrev pub printed_path : Path → Utf8
 printed_path [] = 46 ∷ []
 printed_path (s ∷ ss) = printed_segments 0 (s ∷ ss)
 
--- a kind that is not built
-abbrev pub not_built_text : Utf8 → Utf8
-not_built_text k = codes "kind " ++ k ++ codes " is not built yet"
-
 abbrev pub printed_cause : Cause → Utf8
 printed_cause (raw f) = printed_fault f
 printed_cause too_deep = codes "nested deeper than 200 levels"
@@ -46,8 +42,9 @@ printed_cause contents_wanted = codes "expected contents, got a text"
 printed_cause unit_in_document = codes "expected a string enum, got a document instead"
 printed_cause (top_level k) = codes "non-document type at the top level: " ++ name k
 printed_cause (binary_too_long n) = codes "binary length " ++ decimal n ++ codes " exceeded maximum size"
+printed_cause bad_uuid = codes "expected UUID as bytes or text"
+printed_cause bad_step = codes "wrong steps of a reserved struct"
 printed_cause too_long = codes "value exceeds maximum length"
-printed_cause (not_built k) = not_built_text (name k)
 
 abbrev pub printed_read_fault : ReadFault → Utf8
 printed_read_fault end_of_stream = codes "end of stream"

@@ -1,5 +1,5 @@
 -- Values of serde's data model, without f32, i128, u128 and the names of enums.
-use Rattle.std.specs.Prelude.{ℕ, ℤ, pos, neg_ℤ, ◌^◌, ◌-◌, Bool, ◌&&◌, not, int_lt, if◌then◌else◌, Option, Some, None, codes}
+use Rattle.std.specs.Prelude.{ℕ, ℤ, pos, neg_ℤ, ◌^◌, ◌-◌, Bool, false, ◌&&◌, ◌||◌, not, int_lt, if◌then◌else◌, Option, Some, None, codes}
 use Rattle.std.specs.Str.{bytes_eq}
 use Rattle.bson_base.specs.Text.{Bytes, Utf8}
 use Rattle.bson_base.specs.Reserved.{reserved_kind}
@@ -84,6 +84,8 @@ mutual
     map : (entries : EntriesOf T) → ValueOf T
     structure : (name : T) → (fields : FieldsOf T) → ValueOf T
     structure_variant : (variant : T) → (fields : FieldsOf T) → ValueOf T
+    -- a value with two forms: one for formats that people read, and a compact one
+    mode : (readable compact : ValueOf T) → ValueOf T
 
   -- the values of a sequence or a tuple, in order
   pub data ItemsOf (T : Type 0) : Type 0 where
@@ -129,25 +131,38 @@ uuid_newtype = codes "$__bson_private_uuid"
 abbrev pub newtype_kind : (name : Utf8) → (content : ElementType) → ElementType
 newtype_kind name content = if bytes_eq name uuid_newtype then Binary else content
 
--- the kind that a value is written as
+-- the name of the newtype whose content is given in its readable form
+abbrev pub readable_newtype : Utf8
+readable_newtype = codes "$__bson_private_human_readable"
+
+-- whether the content of a newtype of this name is given in its readable form
+abbrev pub readable_inside : Bool → Utf8 → Bool
+readable_inside readable name = readable || bytes_eq name readable_newtype
+
+-- the kind that a value is written as, in its readable form or in its compact one
+abbrev pub kind_as : (readable : Bool) → Value → ElementType
+kind_as readable (boolean b) = Boolean
+kind_as readable (integer type n) = written_as type
+kind_as readable (double bits) = Double
+kind_as readable (character c) = String
+kind_as readable (str t) = String
+kind_as readable (bytes bs) = Binary
+kind_as readable none = Null
+kind_as readable (some v) = kind_as readable v
+kind_as readable unit = Null
+kind_as readable (unit_structure name) = Null
+kind_as readable (unit_variant variant) = String
+kind_as readable (newtype name v) = newtype_kind name (kind_as (readable_inside readable name) v)
+kind_as readable (newtype_variant variant v) = EmbeddedDocument
+kind_as readable (sequence is) = Array
+kind_as readable (tuple is) = Array
+kind_as readable (tuple_structure name is) = Array
+kind_as readable (tuple_variant variant is) = EmbeddedDocument
+kind_as readable (map es) = EmbeddedDocument
+kind_as readable (structure name fs) = struct_kind name
+kind_as readable (structure_variant variant fs) = EmbeddedDocument
+kind_as readable (mode r c) = if readable then kind_as readable r else kind_as readable c
+
+-- the kind that a value is written as, in its compact form
 abbrev pub kind_of : Value → ElementType
-kind_of (boolean b) = Boolean
-kind_of (integer type n) = written_as type
-kind_of (double bits) = Double
-kind_of (character c) = String
-kind_of (str t) = String
-kind_of (bytes bs) = Binary
-kind_of none = Null
-kind_of (some v) = kind_of v
-kind_of unit = Null
-kind_of (unit_structure name) = Null
-kind_of (unit_variant variant) = String
-kind_of (newtype name v) = newtype_kind name (kind_of v)
-kind_of (newtype_variant variant v) = EmbeddedDocument
-kind_of (sequence is) = Array
-kind_of (tuple is) = Array
-kind_of (tuple_structure name is) = Array
-kind_of (tuple_variant variant is) = EmbeddedDocument
-kind_of (map es) = EmbeddedDocument
-kind_of (structure name fs) = struct_kind name
-kind_of (structure_variant variant fs) = EmbeddedDocument
+kind_of v = kind_as false v

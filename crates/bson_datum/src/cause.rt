@@ -35,10 +35,12 @@ pub enum Cause {
     TopLevel(ElementType),
     /// A binary of so many bytes, which are more than 16777216.
     BinaryTooLong(u64),
+    /// The newtype of a UUID holds neither its bytes nor, in the readable form, its text.
+    BadUuid,
+    /// The fields of a struct of a reserved name are none of the lists that its name takes.
+    BadStep,
     /// The document would have more than 2147483647 bytes.
     TooLong,
-    /// A value of this kind is not written yet at its place.
-    NotBuilt(ElementType),
 }
 
 impl fmt::Display for Cause {
@@ -69,8 +71,9 @@ impl fmt::Display for Cause {
             Cause::BinaryTooLong(length) => {
                 write!(f, "binary length {length} exceeded maximum size")
             }
+            Cause::BadUuid => f.write_str("expected UUID as bytes or text"),
+            Cause::BadStep => f.write_str("wrong steps of a reserved struct"),
             Cause::TooLong => f.write_str("value exceeds maximum length"),
-            Cause::NotBuilt(kind) => write!(f, "kind {kind} is not built yet"),
         }
     }
 }

@@ -96,7 +96,7 @@ fn copy<'a>(alloc: Global, datum: &Datum<'a>) -> Result<Datum<'a>, AllocError>
         Datum::Str(text) => Ok(Datum::Str(text.try_clone(alloc)?)),
         Datum::Bytes(bytes) => Ok(Datum::Bytes(bytes.try_clone(alloc)?)),
         Datum::None => Ok(Datum::None),
-        Datum::Some(value) => Ok(Datum::Some(Box::new(alloc, copy(alloc, value)?)?)),
+        Datum::Some(value) => Ok(Datum::Some(copy_box(alloc, value)?)),
         Datum::Unit => Ok(Datum::Unit),
         Datum::UnitStruct { name } => Ok(Datum::UnitStruct {
             name: name.try_clone(alloc)?,
@@ -113,6 +113,10 @@ fn copy<'a>(alloc: Global, datum: &Datum<'a>) -> Result<Datum<'a>, AllocError>
         Datum::Map(entries) => Ok(Datum::Map(copy_entries(alloc, entries)?)),
         Datum::Struct { name, fields } => copy_struct(alloc, name, fields),
         Datum::StructVariant { variant, fields } => copy_struct_variant(alloc, variant, fields),
+        Datum::Mode { readable, compact } => Ok(Datum::Mode {
+            readable: copy_box(alloc, readable)?,
+            compact: copy_box(alloc, compact)?,
+        }),
     }
 }
 
@@ -128,7 +132,7 @@ fn copy_newtype<'a>(
 {
     Ok(Datum::NewtypeStruct {
         name: name.try_clone(alloc)?,
-        value: Box::new(alloc, copy(alloc, value)?)?,
+        value: copy_box(alloc, value)?,
     })
 }
 
@@ -144,7 +148,7 @@ fn copy_newtype_variant<'a>(
 {
     Ok(Datum::NewtypeVariant {
         variant: variant.try_clone(alloc)?,
-        value: Box::new(alloc, copy(alloc, value)?)?,
+        value: copy_box(alloc, value)?,
     })
 }
 
@@ -214,6 +218,16 @@ fn copy_struct_variant<'a>(
         variant: variant.try_clone(alloc)?,
         fields: copy_fields(alloc, fields)?,
     })
+}
+
+// The same datum again, in a box.
+#[cycle(copy)]
+fn copy_box<'a>(alloc: Global, value: &Datum<'a>) -> Result<Box<Datum<'a>>, AllocError>
+    ensures equal { IfOk result (λ b. view b.value ≡ view value.now) }
+    ensures lent { IfOk result (λ b. loans b.value ≡ loans value.now) }
+{
+    let value = copy(alloc, value)?;
+    Ok(Box::new(alloc, value)?)
 }
 
 // The same data again.
@@ -300,6 +314,10 @@ fn owned<'x>(alloc: Global, datum: Datum<'_>) -> Result<Datum<'x>, AllocError>
         Datum::Map(entries) => Ok(Datum::Map(owned_entries(alloc, entries)?)),
         Datum::Struct { name, fields } => owned_struct(alloc, name, fields),
         Datum::StructVariant { variant, fields } => owned_struct_variant(alloc, variant, fields),
+        Datum::Mode { readable, compact } => Ok(Datum::Mode {
+            readable: owned_box(alloc, readable)?,
+            compact: owned_box(alloc, compact)?,
+        }),
     }
 }
 

@@ -1,5 +1,5 @@
 ghost use Rattle.std.specs.Prelude.{◌≡◌};
-ghost use Rattle.bson_datum.specs.Value.{kind_of, newtype_kind, struct_kind};
+ghost use Rattle.bson_datum.specs.Value.{kind_as, kind_of, newtype_kind, readable_inside, struct_kind};
 ghost use Rattle.bson_datum.specs.TextView.{text_view};
 ghost use Rattle.bson_datum.specs.View.{view};
 
@@ -121,12 +121,27 @@ pub enum Datum<'a> {
         /// Its fields, in order.
         fields: Vec<Field<'a>>,
     },
+    /// A value with two forms, of which a reader or writer picks the one of its mode: a value that would ask serde's
+    /// `is_human_readable`.
+    Mode {
+        /// The form for formats that people read.
+        readable: Box<Datum<'a>>,
+        /// The compact form.
+        compact: Box<Datum<'a>>,
+    },
 }
 
 impl Datum<'_> {
-    /// The kind that the value is written as.
+    /// The kind that the value is written as in its compact form.
     pub fn element_type(&self) -> ElementType
         ensures kind { result ≡ kind_of (view self.now) }
+    {
+        self.element_type_as(false)
+    }
+
+    /// The kind that the value is written as: in its readable form, or in its compact one.
+    pub fn element_type_as(&self, readable: bool) -> ElementType
+        ensures kind { result ≡ kind_as readable (view self.now) }
     {
         match self {
             Datum::Bool(_) => ElementType::Boolean,
@@ -138,16 +153,28 @@ impl Datum<'_> {
             Datum::Char(_) | Datum::Str(_) | Datum::UnitVariant { .. } => ElementType::String,
             Datum::Bytes(_) => ElementType::Binary,
             Datum::None | Datum::Unit | Datum::UnitStruct { .. } => ElementType::Null,
-            Datum::Some(content) => content.element_type(),
-            Datum::NewtypeStruct { name, value } => newtype_kind(name, value.element_type()),
+            Datum::Some(content) => content.element_type_as(readable),
+            Datum::NewtypeStruct { name, value } => {
+                let content = value.element_type_as(readable_inside(readable, name));
+                newtype_kind(name, content)
+            }
             Datum::Seq(_) | Datum::Tuple(_) | Datum::TupleStruct { .. } => ElementType::Array,
             Datum::Map(_)
             | Datum::NewtypeVariant { .. }
             | Datum::TupleVariant { .. }
             | Datum::StructVariant { .. } => ElementType::EmbeddedDocument,
             Datum::Struct { name, .. } => struct_kind(name),
+            Datum::Mode { readable: form, .. } if readable => form.element_type_as(readable),
+            Datum::Mode { compact: form, .. } => form.element_type_as(readable),
         }
     }
+}
+
+// Whether the content of a newtype of this name is given in its readable form.
+fn readable_inside(readable: bool, name: &Text<'_>) -> bool
+    ensures { result ≡ readable_inside readable (text_view name.now) }
+{
+    readable || name.as_str() == "$__bson_private_human_readable"
 }
 
 // The kind that a newtype of this name is written as, where its content is written as that kind.

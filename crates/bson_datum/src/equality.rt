@@ -172,6 +172,13 @@ fn is_same(a: &Datum<'_>, b: &Datum<'_>) -> bool
         (Datum::Map(entries), _) => is_map_of(entries, b),
         (Datum::Struct { name, fields }, _) => is_struct_of(name, fields, b),
         (Datum::StructVariant { variant, fields }, _) => is_struct_variant_of(variant, fields, b),
+        (
+            Datum::Mode { readable, compact },
+            Datum::Mode {
+                readable: other_readable,
+                compact: other_compact,
+            },
+        ) => is_same(readable, other_readable) && is_same(compact, other_compact),
         _ => false,
     }
 }

@@ -1,16 +1,15 @@
 -- The loops of the reader, by what is done with each element.
 use Rattle.std.proofs.Common.{◌≡◌, ℕ, suc, List, [], ◌∷◌, ◌++◌, Ok, Err, refl, ap, sym, subst, ◌∙◌, append_assoc, append-nil}
-use Rattle.bson_base.specs.Text.{Bytes, Utf8}
+use Rattle.bson_base.specs.Text.{Bytes}
 use Rattle.bson_base.specs.Outcome.{◌>>=◌, result_map}
 use Rattle.bson_rawdoc.specs.Node.{Node, too_deep, fault, Nodes, ended, faulty, then_node}
 use Rattle.bson_rawdoc.specs.Piece.{Piece}
 use Rattle.bson_rawdoc.specs.declared.raw.Error.{Error}
 use Rattle.bson_datum.specs.Marked.{Marked, MarkedItems, MarkedEntries}
 use Rattle.bson_datum.specs.MarkedView.{marked}
-use Rattle.bson_datum.specs.Refusal.{Segment, at_index, inside, under, under_index}
-use Rattle.bson_datum.specs.Stop.{IsUnder}
+use Rattle.bson_datum.specs.Refusal.{Segment, inside, under, under_index}
 use Rattle.bson_datum.specs.Value as value
-use Rattle.bson_datum.specs.Value.{no_items, item, no_entries, entry}
+use Rattle.bson_datum.specs.Value.{no_items, item, entry}
 use Rattle.bson_datum.specs.declared.de.Fault.{Fault}
 use Rattle.bson_datum.specs.declared.stop.Stop.{Stop}
 use Rattle.bson_datum.specs.declared.datum.Datum.{Datum}
@@ -19,7 +18,7 @@ use Rattle.bson_laws.specs.Judged.{Reading, Mode, plain, judged, faultless, with
 use Rattle.bson_laws.specs.ReadsLeaf.{put_entry, read_any, any_items, any_entries}
 use Rattle.bson_laws.specs.Slots.{Slots, put_at, fill}
 use Rattle.bson_laws.specs.Taken.{reads_bytes}
-use Rattle.bson_met.proofs.Refusals.{StopsAs, stops_bind, stops_inside}
+use Rattle.bson_met.proofs.Refusals.{StopsAs, stops_bind}
 use Rattle.std.specs.Prelude.{Option, Some, None}
 use Rattle.bson_de.specs.Any.{any_at}
 use Rattle.bson_de.specs.Leaves.{byte_at}

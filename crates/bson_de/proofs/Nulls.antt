@@ -1,6 +1,5 @@
 -- A value at an option.
 use Rattle.std.proofs.Common.{◌≡◌, true, Ok, refl}
-use Rattle.bson_base.specs.Outcome.{result_map}
 use Rattle.bson_rawdoc.specs.Node.{Node, null}
 use Rattle.bson_datum.specs.Marked.{Marked}
 use Rattle.bson_datum.specs.Value as value

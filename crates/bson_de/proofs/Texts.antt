@@ -1,5 +1,5 @@
 -- Bytes that are a text, and bytes that are none.
-use Rattle.std.proofs.Common.{◌≡◌, Bool, true, false, cond, Ok, IsUtf8, refl, ap, sym, ◌∙◌}
+use Rattle.std.proofs.Common.{◌≡◌, Bool, true, false, cond, Ok, IsUtf8, refl, ap}
 use Rattle.std.specs.Str.{is_utf8}
 use Rattle.std.proofs.lemmas.Str.{is_utf8-from_IsUtf8, IsUtf8-from_is_utf8}
 use Rattle.bson_rawdoc.specs.Piece.{Piece}

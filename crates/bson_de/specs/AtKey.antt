@@ -5,7 +5,7 @@ use Rattle.bson_datum.specs.Stop.{IsUnderKey}
 use Rattle.bson_datum.specs.declared.de.Fault.{Fault}
 use Rattle.bson_datum.specs.declared.stop.Stop.{Stop}
 
--- the same, seen from the document that has the value at the key; or want of memory
+-- the same, seen from the document that has the value at the key; or out of memory
 abbrev pub IsAtKey : {X : Type 0} → Utf8 → Result X (Stop Fault) → Result X (Stop Fault) → Type 0
 IsAtKey key (Ok x) new = new ≡ Ok x
 IsAtKey key (Err s) (Ok x) = ⊥

@@ -37,7 +37,7 @@ pub(crate) struct Entries<'s, 'de> {
 impl<'s, 'de> Entries<'s, 'de> {
     ghost use Rattle.bson_de.specs.EntriesView.{IsIndexed};
 
-    /// No entries. Their keys are to be read at this form, which is one of texts.
+    /// No entries. Their keys are to be read at this form, which is `str`, `string`, `char` or an enum of unit variants.
     pub(crate) fn new(alloc: Global, key: Form<'s>) -> Entries<'s, 'de>
         requires { is_text_key (form_view key) ≡ true }
         ensures key { result.key ≡ key.entry }

@@ -17,7 +17,7 @@ use bson_met::{Met, Reading, Value, refused};
 use bson_shape::Leaf;
 use std::alloc::Global;
 
-/// The value at a leaf. Those at `str`, `bytes` and `any` are borrowed, all others are copies.
+/// The value at a leaf. At `str` and `bytes` it is borrowed, at `any` what is a part of the input is; all else is copied.
 pub(crate) fn read_leaf<'de>(alloc: Global, leaf: Leaf, value: &Met<'de>) -> Reading<Datum<'de>>
     ensures exact { Reaches marked result (reads (form.leaf leaf) plain value.now) }
 {

@@ -66,7 +66,7 @@ pub(crate) fn read_parts<'de>(
     Ok(values)
 }
 
-/// The value at a shape of the element that is due at this index of an array.
+/// The value at a shape of the next element, which is at this index of an array.
 #[cycle(read)]
 pub(crate) fn read_next<'de>(
     alloc: Global,
@@ -81,7 +81,7 @@ pub(crate) fn read_next<'de>(
     read_item(alloc, shape, index, &value)
 }
 
-/// The element that is due at this index of an array. Where none is left, the fault that ends their list is the refusal, and
+/// The next element of an array, which is at this index. Where none is left, the fault that ends their list is the refusal, and
 /// without a fault that there are too few.
 fn due<'de>(alloc: Global, index: u64, elements: &mut Items<'de>) -> Reading<Met<'de>>
     ensures { IsDue index elements.old result elements.new }

@@ -19,7 +19,7 @@ use std::alloc::Global;
 
 /// The value at a shape.
 ///
-/// What is borrowed is borrowed from the input that the value stands in.
+/// What is borrowed is a part of the input; of a tree nothing is borrowed.
 #[cycle(read)]
 pub fn read_value<'de>(alloc: Global, shape: &Shape, value: &Met<'de>) -> Reading<Datum<'de>>
     ensures exact { Reaches marked result (reads shape.now plain value.now) }

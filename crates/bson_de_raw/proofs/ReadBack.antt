@@ -23,7 +23,7 @@ use Rattle.bson_laws.proofs.Fitted.{views_means}
 use Rattle.bson_laws.proofs.ReadBack.{views_reads}
 use Rattle.bson_de_raw.specs.Gives.{FailsAs, Gives, GivesValue}
 
--- where the answer is a value, want of memory alone fails
+-- where the answer is a value, only out of memory fails
 fails_for_memory : (f : Failure ReadFault) (v : Value) (answer : Result Value (Failure ReadFault)) → answer ≡ Ok v → FailsAs f answer → f ≡ no_memory
 fails_for_memory no_memory v answer is h = refl
 fails_for_memory (bare f) v answer is h = absurd cc

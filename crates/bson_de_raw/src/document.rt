@@ -32,7 +32,8 @@ const MAX_LEVELS: u32 = 200;
 ///   in them taken in the same way.
 /// - A value of a kind that serde's data model lacks is taken as the document that it is opened to, at a struct, a map,
 ///   an enum and `any`: an ObjectId as `{"$oid": ..}` with its hexadecimal digits, a DateTime as
-///   `{"$date": {"$numberLong": ..}}`, and so on for the other kinds, as in MongoDB's extended JSON.
+///   `{"$date": {"$numberLong": ..}}`, and so on for the other kinds, as in MongoDB's extended JSON, but for
+///   `$numberDecimalBytes`, `subType` before `base64`, and the Int64s of `$timestamp`.
 /// - `ignored` takes every value, and is the unit. The value is walked to its end, and so are every
 ///   document, array and scope in it.
 /// - An option is none at a Null, and some value of its shape at every other kind. A newtype takes what its

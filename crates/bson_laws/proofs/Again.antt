@@ -20,7 +20,7 @@ use Rattle.bson_rawdoc.specs.Piece.{Piece, borrowed, made}
 use Rattle.bson_shape.proofs.TextStates.{text-encode}
 use Rattle.bson_base.specs.Reserved.{reserved_kind}
 use Rattle.bson_shape.specs.Form.{Form, leaf, optional, sequence, newtype, unit_structure, map, tuple, tuple_structure, structure, enumeration, Fields, no_fields, field, Parts, no_parts, part, Content, unit_content, newtype_content, tuple_content, struct_content, Variants, no_variants, variant}
-use Rattle.bson_shape.specs.Makers.{IsShape, AreShapes, AreParts, AreVariants, IsContent}
+use Rattle.bson_shape.specs.Makers.{is_reserved_newtype, IsShape, AreShapes, AreParts, AreVariants, IsContent}
 use Rattle.bson_datum.specs.Value as value
 use Rattle.bson_datum.specs.Value.{IntegerType, i8, i16, i32, i64, u8, u16, u32, u64, greatest, in_range, written_as, Value, Items, no_items, item, Entries, no_entries, entry, FieldValues, no_field_values, field_value}
 use Rattle.bson_datum.specs.Marked.{Marked, MarkedItems, MarkedEntries, MarkedFields, contents, item_contents, entry_contents, field_contents}
@@ -36,7 +36,7 @@ use Rattle.bson_laws.specs.ReadsLeaf.{borrows, put_entry, read_any, any_items, a
 use Rattle.bson_laws.specs.Containers.{reads_items, reads_entries, unit_of, reads_key, reads_unit, read_enum}
 use Rattle.bson_laws.specs.Slots.{read_structure}
 use Rattle.bson_laws.specs.Reads.{slots_of, reads, reads_parts, reads_variant, reads_content}
-use Rattle.bson_laws.specs.Spell.{Writing, enclosed_at, struct_at, variant_at, newtype_at, unbuilt_newtype, named, spell_number, spell_key, spell, spell_items, spell_entries, spell_fields}
+use Rattle.bson_laws.specs.Spell.{Writing, enclosed_at, variant_at, named, spell_number, spell_key, spell, spell_items, spell_entries, spell_fields}
 use Rattle.bson_laws.proofs.Coded.{IsName, IsCoded, ArePairsCoded, AreTreesCoded}
 use Rattle.bson_laws.proofs.Entries.{joined, joined_contents, joined_none, joined_one, IsNew, put_last, new_joined}
 use Rattle.bson_laws.proofs.Filled.{Distinct, ArePassed, seen_of, seen_at, seen_fields, fields_seen}
@@ -45,7 +45,8 @@ use Rattle.bson_laws.proofs.Given.{Differs, AreApart, IsGivenAny, AreGivenItems,
 use Rattle.bson_laws.proofs.Judged.{text_whole, by_null}
 use Rattle.bson_laws.proofs.ReadBack.{distinct_from, text_read}
 use Rattle.bson_laws.proofs.Tame.{judged_then}
-use Rattle.bson_laws.proofs.Sizes.{inside_ok, under_ok, named_ok, spell_key_ok, wide_is, bytes_is, newtype_ok}
+use Rattle.bson_laws.proofs.Sizes.{inside_ok, under_ok, named_ok, spell_key_ok, wide_is, binary_is}
+use Rattle.bson_laws.proofs.Free.{free_spelled, free_struct}
 
 -- what is read from the tree is spelled as the tree
 abbrev pub Comes : Form → ℕ → Tree → Type 0
@@ -95,7 +96,7 @@ mutual
   any_comes (value.integer i64 n) levels t g e = subst (AnyComes (value.integer i64 n) levels) (wide_is _ _ n t e) (value.integer i64 n, refl, refl, g)
   any_comes (value.double bits) levels t g e = subst (AnyComes (value.double bits) levels) (ok_is (tree.double bits) t e) (value.double bits, refl, refl, g)
   any_comes (value.str x) levels t g e = subst (AnyComes (value.str x) levels) (ok_is (string x) t e) (text_comes x levels g)
-  any_comes (value.bytes bs) levels t g e = subst (AnyComes (value.bytes bs) levels) (bytes_is _ _ bs t e) (value.bytes (borrowed bs), refl, refl, tt)
+  any_comes (value.bytes bs) levels t g e = subst (AnyComes (value.bytes bs) levels) (binary_is _ _ 0 bs t e) (value.bytes (borrowed bs), refl, refl, tt)
   any_comes value.unit levels t g e = subst (AnyComes value.unit levels) (ok_is null t e) (value.unit, refl, refl, tt)
   any_comes (value.sequence vs) levels t g e =
       within (AnyComes (value.sequence vs)) array levels (spell_items 0 vs) t e
@@ -215,9 +216,9 @@ leaf_comes l texts (value.str x) levels t g e =
     subst (LeafComes l texts levels) (ok_is (string x) t e)
     (h.0, ap (λ o. faultless o (node.string (borrowed x)) >>= read_leaf plain l texts) (text_whole true x g) ∙ h.1, ap (λ w. spell w levels) h.2, tt)
 leaf_comes l byte_strings (value.bytes bs) levels t g e =
-    subst (λ u. spell (value.bytes bs) levels ≡ Ok u → LeafComes l byte_strings levels u) (bytes_is _ _ bs t e) (λ q. (value.bytes (borrowed bs), refl, q, tt)) e
+    subst (λ u. spell (value.bytes bs) levels ≡ Ok u → LeafComes l byte_strings levels u) (binary_is _ _ 0 bs t e) (λ q. (value.bytes (borrowed bs), refl, q, tt)) e
 leaf_comes l byte_buffers (value.bytes bs) levels t g e =
-    subst (λ u. spell (value.bytes bs) levels ≡ Ok u → LeafComes l byte_buffers levels u) (bytes_is _ _ bs t e) (λ q. (value.bytes (made bs), refl, q, tt)) e
+    subst (λ u. spell (value.bytes bs) levels ≡ Ok u → LeafComes l byte_buffers levels u) (binary_is _ _ 0 bs t e) (λ q. (value.bytes (made bs), refl, q, tt)) e
 leaf_comes l units value.unit levels t g e = subst (LeafComes l units levels) (ok_is null t e) (value.unit, refl, refl, tt)
 leaf_comes l k v levels t g e = absurd g
 
@@ -385,9 +386,8 @@ mutual
   again value.none (optional s) levels t p g e = subst (Comes (optional s) levels) (ok_is null t e) (value.none, refl, refl, tt)
   again (value.some v) (optional s) levels t p g e = option_comes s t levels (again v s levels t p.1 g e)
   again (value.newtype m v) (newtype n s) levels t p g e =
-      let u = newtype_ok (unbuilt_newtype m) (spell v levels) t e in
-      let h = again v s levels t p.1 g.1 u.1 in
-      (value.newtype (made n) h.0, ap (result_map (value.newtype (made n))) h.1, ap (λ o. newtype_at o (spell (contents h.0) levels)) (ap unbuilt_newtype (sym g.0) ∙ u.0) ∙ h.2, h.3)
+      let h = again v s levels t p.1 g.1 (sym (free_spelled m v levels (ap is_reserved_newtype g.0 ∙ p.0.free)) ∙ e) in
+      (value.newtype (made n) h.0, ap (result_map (value.newtype (made n))) h.1, free_spelled n (contents h.0) levels p.0.free ∙ h.2, h.3)
   again (value.unit_structure m) (unit_structure n) levels t p g e = subst (Comes (unit_structure n) levels) (ok_is null t e) (value.unit_structure (made n), refl, refl, tt)
   again (value.sequence vs) (sequence s) levels t p g e =
       let h = items_body (reads_items (reads s plain) 0) vs levels t e (λ k ts q. again_items vs s 0 k ts p.1 g q) in
@@ -403,9 +403,9 @@ mutual
       (value.tuple_structure (made n) h.0, built_of (judged plain (tree_node true t levels) >>= array_of) (reads_parts ps plain 0) (value.tuple_structure (made n)) h.0 h.1, h.2, h.3)
   again (value.structure m vs) (structure n fs) levels t p g e =
       let free = ap reserved_kind g.0 ∙ p.0.free in
-      let spelled : enclosed_at document levels (spell_fields vs) ≡ Ok t = ap (λ o. struct_at o levels (spell_fields vs)) (sym free) ∙ e in
+      let spelled : enclosed_at document levels (spell_fields vs) ≡ Ok t = sym (free_struct m vs levels free) ∙ e in
       let h = fields_body fs vs levels t (distinct_from fs p.0.distinct) spelled (λ k ps q. again_fields vs fs k ps p.1 (distinct_from fs p.0.distinct) g.1 q) in
-      (value.structure (made n) h.0, built_of (judged plain (tree_node true t levels)) (read_struct fs) (value.structure (made n)) h.0 h.1, ap (λ o. struct_at o levels (spell_fields (field_contents h.0))) p.0.free ∙ h.2, h.3)
+      (value.structure (made n) h.0, built_of (judged plain (tree_node true t levels)) (read_struct fs) (value.structure (made n)) h.0 h.1, free_struct n (field_contents h.0) levels p.0.free ∙ h.2, h.3)
   again (value.unit_variant name) (enumeration vs) levels t p g e =
       let whole = (variant_shape vs name unit_content p.1 g).0 in
       subst (Comes (enumeration vs) levels) (ok_is (string name) t e) (

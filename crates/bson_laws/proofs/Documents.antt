@@ -31,8 +31,8 @@ use Rattle.bson_laws.specs.Writable.{KeepsDocument, IsWritable}
 use Rattle.bson_laws.proofs.Given.{reads_given}
 use Rattle.bson_laws.proofs.Signed.{document_spelled, given_signed}
 use Rattle.bson_laws.proofs.Rewritten.{written}
-use Rattle.bson_laws.proofs.Sizes.{under_ok, built_kind}
-use Rattle.bson_laws.proofs.Spelled.{built}
+use Rattle.bson_laws.proofs.Sizes.{under_ok}
+use Rattle.bson_laws.proofs.Free.{free_kind}
 use Rattle.bson_laws.proofs.Tame.{IsTame, after_judged}
 use Rattle.bson_laws.proofs.TameBytes.{seen_tame}
 
@@ -110,7 +110,7 @@ top_kind (leaf l) mode n v t p kept e = leaf_top mode (borrows l) (leaf_kind l) 
 top_kind (optional s) mode n v t p kept e = some_top s mode n v t (λ w h. top_kind s mode n w t p.1 kept h) e
 top_kind (newtype name s) mode n v t p kept e =
     let m = map_ok (value.newtype (made name)) (reads s mode n) v e in
-    subst IsMapping m.2 (built_kind name (kind_of (contents m.0)) (built name p.0.free) ∙ top_kind s mode n m.0 t p.1 kept m.1)
+    subst IsMapping m.2 (free_kind name (contents m.0) p.0.free ∙ top_kind s mode n m.0 t p.1 kept m.1)
 top_kind (unit_structure name) mode n v t p kept e =
     let d = bind_ok (judged mode n >>= null_of) (λ _. Ok (value.unit_structure (made name))) v e in absurd (no_null n d.0 t (after_judged mode n null_of d.0 d.1))
 top_kind (sequence s) mode n v t p kept e = absurd (no_parts_there mode n (λ ns. result_map value.sequence (reads_items (reads s mode) 0 ns)) v t e)

@@ -25,7 +25,8 @@ use Rattle.bson_laws.specs.Views.{as_integer, one_character, as_character, views
 use Rattle.bson_laws.specs.Means.{key_text, number_of, some_or_none, under_name, means, means_items, means_entries, means_fields, norm, norm_items, norm_entries, norm_fields}
 use Rattle.bson_laws.specs.Fits.{IsAny, AreAnyItems, AreAnyEntries, FitsLeaf, FitsLeafKey, FitsKey, Fits, ItemsFit, PartsFit, EntriesFit, FieldsFit}
 use Rattle.bson_laws.proofs.Fitting.{fits_leaf}
-use Rattle.bson_laws.proofs.Spelled.{found, tree_is, trees_are, pairs_are, unreserved, free_newtype}
+use Rattle.bson_laws.proofs.Free.{free_means, free_struct_means, free_newtype_name, free_struct_name}
+use Rattle.bson_laws.proofs.Spelled.{found, tree_is, trees_are, pairs_are}
 
 pub bytes_eq-refl : (xs : Utf8) → bytes_eq xs xs ≡ true
 bytes_eq-refl xs = (bytes_eq-Decides xs xs).1 refl
@@ -194,8 +195,8 @@ mutual
   views_means value.none (optional s) t p f e c = ap (views (optional s)) (sym (tree_is null t e))
   views_means (value.some v) (optional s) t p f e c = present s t (norm v) (views_means v s t p f e c) ∙ ap (λ o. Some (some_or_none o (norm v))) (sym e)
   views_means (value.newtype m v) (newtype n s) t p f e c =
-      let u = free_newtype (is_reserved_newtype m) (means v) t e in
-      ap (option_map (value.newtype n)) (views_means v s t p.1 f.1 u.1 c) ∙ ap (λ x. Some (value.newtype x (norm v))) (sym f.0)
+      let u = sym (free_means m v (ap is_reserved_newtype f.0 ∙ free_newtype_name n p.0)) ∙ e in
+      ap (option_map (value.newtype n)) (views_means v s t p.1 f.1 u c) ∙ ap (λ x. Some (value.newtype x (norm v))) (sym f.0)
   views_means (value.unit_structure m) (unit_structure n) t p f e c =
       ap (views (unit_structure n)) (sym (tree_is null t e)) ∙ ap (λ x. Some (value.unit_structure x)) (sym f)
   views_means (value.sequence vs) (sequence s) t p f e c =
@@ -205,8 +206,8 @@ mutual
       let a = some_map document (means_entries es) t e in
       subst (λ x. IsClean x → views (map key s) x ≡ Some (value.map (norm_entries es))) a.2 (λ c'. ap (option_map value.map) (views_means_entries es key s a.0 p f a.1 c')) c
   views_means (value.structure m vs) (structure n fs) t p f e c =
-      let u = unreserved (reserved_kind m) (option_map document (means_fields vs)) t e in
-      let a = some_map document (means_fields vs) t u.1 in
+      let u = sym (free_struct_means m vs (ap reserved_kind f.0 ∙ free_struct_name n p.0)) ∙ e in
+      let a = some_map document (means_fields vs) t u in
       subst (λ x. IsClean x → views (structure n fs) x ≡ Some (value.structure m (norm_fields vs))) a.2
       (λ c'. ap (option_map (value.structure n)) (views_means_fields vs fs a.0 p.1 f.1 a.1 c') ∙ ap (λ x. Some (value.structure x (norm_fields vs))) (sym f.0)) c
   views_means (value.tuple vs) (tuple ps) t p f e c =

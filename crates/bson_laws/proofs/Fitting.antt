@@ -1,7 +1,7 @@
 -- What fits a leaf, of whatever form the value is.
 use Rattle.bson_shape.specs.Form.{leaf}
 use Rattle.bson_shape.specs.declared.leaf.Leaf.{Leaf}
-use Rattle.bson_datum.specs.Value.{Value, boolean, integer, double, character, str, bytes, none, some, unit, unit_structure, newtype, sequence, map, structure, unit_variant, newtype_variant, tuple, tuple_structure, tuple_variant, structure_variant}
+use Rattle.bson_datum.specs.Value.{Value, boolean, integer, double, character, str, bytes, none, some, unit, unit_structure, newtype, sequence, map, structure, unit_variant, newtype_variant, tuple, tuple_structure, tuple_variant, structure_variant, mode}
 use Rattle.bson_laws.specs.Leaves.{leaf_kind}
 use Rattle.bson_laws.specs.Fits.{FitsLeaf, Fits}
 
@@ -27,6 +27,7 @@ fits_leaf (tuple vs) l f = f
 fits_leaf (tuple_structure name vs) l f = f
 fits_leaf (tuple_variant name vs) l f = f
 fits_leaf (structure_variant name fs) l f = f
+fits_leaf (mode v w) l f = f
 
 -- and a value of what a leaf takes fits it
 pub leaf_fits : (v : Value) (l : Leaf) → FitsLeaf (leaf_kind l) v → Fits v (leaf l)
@@ -50,3 +51,4 @@ leaf_fits (tuple vs) l f = f
 leaf_fits (tuple_structure name vs) l f = f
 leaf_fits (tuple_variant name vs) l f = f
 leaf_fits (structure_variant name fs) l f = f
+leaf_fits (mode v w) l f = f

@@ -158,6 +158,7 @@ leaf_given_at l (value.tuple_variant n vs) g = g
 leaf_given_at l (value.map es) g = g
 leaf_given_at l (value.structure n fs) g = g
 leaf_given_at l (value.structure_variant n fs) g = g
+leaf_given_at l (value.mode v w) g = g
 
 pub given_leaf : (v : Value) (l : Leaf) → IsGiven v (leaf l) → IsGivenLeaf (leaf_kind l) v
 given_leaf (value.boolean b) l g = g
@@ -180,6 +181,7 @@ given_leaf (value.tuple_variant n vs) l g = g
 given_leaf (value.map es) l g = g
 given_leaf (value.structure n fs) l g = g
 given_leaf (value.structure_variant n fs) l g = g
+given_leaf (value.mode v w) l g = g
 
 -- ---- texts
 

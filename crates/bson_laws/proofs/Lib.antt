@@ -1,4 +1,7 @@
+pub mod Alike
+pub mod Free
 pub mod Sizes
+pub mod Listed
 pub mod Spelled
 pub mod Fitted
 pub mod Fitting
@@ -30,3 +33,4 @@ pub mod Again
 pub mod ReadAgain
 pub mod Examples
 pub mod Bare
+pub mod DatumSpelled

@@ -45,10 +45,10 @@ document_again s bytes d t p h e q l =
     let top = top_ok (kind_of d) (spell d max_levels) t q in
     let given = reads_given s (node_in max_levels EmbeddedDocument r.0) r.1 r.2 r.3 in
     let k = again (contents r.1) s max_levels t p given (ap (λ v. spell v max_levels) r.4 ∙ top.1) in
-    let is : kind t ≡ EmbeddedDocument = spell_kind d max_levels t top.1 ∙ top.0 in (
+    let is : kind t ≡ EmbeddedDocument = spell_kind false d max_levels t top.1 ∙ top.0 in (
       contents k.0,
       coded_read s t k.0 k.3 is (omega (arith, l)) k.1,
-      ap (λ x. at_top x (spell (contents k.0) max_levels)) (sym (spell_kind (contents k.0) max_levels t k.2) ∙ is) ∙ k.2,
+      ap (λ x. at_top x (spell (contents k.0) max_levels)) (sym (spell_kind false (contents k.0) max_levels t k.2) ∙ is) ∙ k.2,
     )
 
 -- what is read of a finished tree, of which nothing stands in the input, is read from its bytes

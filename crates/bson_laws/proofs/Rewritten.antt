@@ -8,17 +8,17 @@ use Rattle.bson_base.specs.Text.{Utf8, has_zero}
 use Rattle.bson_base.specs.Tree.{document, array}
 use Rattle.bson_base.specs.declared.element_type.ElementType.TheVariants.{Int32, Int64}
 use Rattle.bson_shape.specs.Form.{Form, leaf, optional, sequence, newtype, unit_structure, map, tuple, tuple_structure, structure, enumeration, Fields, no_fields, field, Parts, no_parts, part, Content, newtype_content, tuple_content, struct_content, Variants, no_variants, variant}
-use Rattle.bson_shape.specs.Makers.{IsShape, AreShapes, AreParts, AreVariants, IsContent}
+use Rattle.bson_shape.specs.Makers.{is_reserved_newtype, IsShape, AreShapes, AreParts, AreVariants, IsContent}
 use Rattle.bson_datum.specs.Value as value
 use Rattle.bson_datum.specs.Value.{IntegerType, i8, i16, i32, i64, u8, u16, u32, u64, in_range, written_as, Value, Items, no_items, item, Entries, no_entries, entry, FieldValues, no_field_values, field_value}
 use Rattle.bson_datum.specs.Refusal.{WriteFault, Refusal, at_key, at_index, here, invalid_cstring, under, under_index}
 use Rattle.bson_laws.specs.Leaves.{LeafKind, anything, ignored, booleans, numbers, doubles, characters, texts, byte_strings, byte_buffers, units, leaf_kind}
 use Rattle.bson_laws.specs.Plain.{IsPlainKey}
 use Rattle.bson_laws.specs.Variants.{content_of}
-use Rattle.bson_laws.specs.Spell.{newtype_at, struct_at, unbuilt_newtype, enclosed_at, named, spell_key, spell, spell_items, spell_entries, spell_fields, IsWrittenUnlessLarge}
+use Rattle.bson_laws.specs.Spell.{enclosed_at, named, spell_key, spell, spell_items, spell_entries, spell_fields, IsWrittenUnlessLarge}
 use Rattle.bson_laws.specs.Writable.{HasWritableKeys, FieldsHaveWritableKeys, PartsHaveWritableKeys, VariantsHaveWritableKeys, ContentHasWritableKeys}
 use Rattle.bson_laws.proofs.Given.{IsGivenAny, AreGivenItems, AreGivenEntries, IsGivenLeaf, IsGivenLeafKey, IsGivenKey, IsGiven, ItemsGiven, PartsGiven, EntriesGiven, FieldsGiven, given_leaf}
-use Rattle.bson_laws.proofs.Spelled.{built}
+use Rattle.bson_laws.proofs.Free.{free_spelled, free_struct}
 use Rattle.bson_laws.proofs.Writable.{unless_bind, unless_inside, unless_named, Written, IsSmall, number_written, bytes_written, enclosed_written, variant_written}
 use Rattle.std.specs.Str.{bytes_eq}
 use Rattle.bson_base.proofs.Outcomes.{some_is}
@@ -133,14 +133,14 @@ mutual
   written value.none (optional s) p c g levels = tt
   written (value.some v) (optional s) p c g levels = written v s p.1 c g levels
   written (value.newtype m v) (newtype n s) p c g levels =
-      subst (λ o. IsWrittenUnlessLarge (newtype_at o (spell v levels))) (sym (ap unbuilt_newtype g.0 ∙ built n p.0.free)) (written v s p.1 c g.1 levels)
+      subst IsWrittenUnlessLarge (sym (free_spelled m v levels (ap is_reserved_newtype g.0 ∙ p.0.free))) (written v s p.1 c g.1 levels)
   written (value.unit_structure m) (unit_structure n) p c g levels = tt
   written (value.sequence vs) (sequence s) p c g levels = enclosed_written array (spell_items 0 vs) (items_written vs s 0 p.1 c g) levels
   written (value.map es) (map key s) p c g levels = enclosed_written document (spell_entries es) (entries_written es key s p.3 c.0 c.1 g.1) levels
   written (value.tuple vs) (tuple ps) p c g levels = enclosed_written array (spell_items 0 vs) (parts_written vs ps 0 p.1 c g) levels
   written (value.tuple_structure m vs) (tuple_structure n ps) p c g levels = enclosed_written array (spell_items 0 vs) (parts_written vs ps 0 p.2 c g.1) levels
   written (value.structure m vs) (structure n fs) p c g levels =
-      subst (λ o. IsWrittenUnlessLarge (struct_at o levels (spell_fields vs))) (sym (ap reserved_kind g.0 ∙ p.0.free)) (enclosed_written document (spell_fields vs) (fields_written vs fs p.1 c g.1) levels)
+      subst IsWrittenUnlessLarge (sym (free_struct m vs levels (ap reserved_kind g.0 ∙ p.0.free))) (enclosed_written document (spell_fields vs) (fields_written vs fs p.1 c g.1) levels)
   written (value.unit_variant name) (enumeration vs) p c g levels = tt
   written (value.newtype_variant name v) (enumeration vs) p c g levels =
       let w = content_writable vs name (newtype_content g.0) p.1 c g.1 in variant_written name (spell v) g.3 (written v g.0 w.0 w.1 g.2) levels

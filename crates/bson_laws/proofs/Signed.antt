@@ -1,21 +1,26 @@
 -- What reading gives is never refused for a number that no Int64 holds.
-use Rattle.std.proofs.Common.{◌≡◌, ℕ, ℤ, zero, suc, Bool, true, false, cond, Option, Some, None, Ok, Err}
-use Rattle.std.specs.Prelude.{length, nat_lt}
+use Rattle.std.proofs.Common.{◌≡◌, ℕ, ℤ, zero, suc, List, [], ◌∷◌, Bool, true, false, cond, Option, Some, None, Ok, Err, refl}
+use Rattle.std.specs.Prelude.{length, nat_lt, codes}
+use Rattle.std.specs.Str.{bytes_eq}
 use Rattle.bson_base.specs.Text.{Bytes, Utf8, has_zero}
 use Rattle.bson_base.specs.Outcome.{◌>>=◌, result_map}
 use Rattle.bson_base.specs.Reserved.{reserved_kind}
 use Rattle.bson_base.specs.Sound.{max_binary}
-use Rattle.bson_base.specs.Tree.{Tree, document, array, no_pairs, pair, binary, int64, Pairs}
+use Rattle.bson_base.specs.Tree.{Tree, document, array, no_pairs, pair, binary, regular_expression, int64, Pairs, behind_subtype}
 use Rattle.bson_base.specs.declared.element_type.ElementType.{ElementType}
-use Rattle.bson_base.specs.declared.element_type.ElementType.TheVariants.{Int32, EmbeddedDocument}
+use Rattle.bson_base.specs.declared.element_type.ElementType.TheVariants.{JavaScriptCodeWithScope, Int32, EmbeddedDocument}
 use Rattle.bson_shape.specs.Form.{Form, leaf, optional, sequence, newtype, unit_structure, map, tuple, tuple_structure, structure, enumeration, Fields, no_fields, field, Parts, no_parts, part}
 use Rattle.bson_datum.specs.Value as value
-use Rattle.bson_datum.specs.Value.{i32, i64, written_as, greatest, Value, Items, no_items, item, Entries, no_entries, entry, FieldValues, no_field_values, field_value}
+use Rattle.bson_datum.specs.Value.{i32, i64, written_as, greatest, uuid_newtype, readable_inside, Value, Items, no_items, item, Entries, no_entries, entry, FieldValues, no_field_values, field_value}
 use Rattle.bson_datum.specs.Cause.{binary_too_long}
 use Rattle.bson_datum.specs.Refusal.{Segment, unwritable, here, inside, under, at_key, at_index, under_index, unsigned_exceeds, invalid_cstring}
 use Rattle.bson_laws.specs.Means.{key_text}
 use Rattle.bson_laws.specs.Leaves.{LeafKind, anything, ignored, booleans, numbers, doubles, characters, texts, byte_strings, byte_buffers, units, leaf_kind}
-use Rattle.bson_laws.specs.Spell.{Writing, newtype_at, struct_at, unbuilt_newtype, enclosed_at, variant_at, named, written_key, spell_key, spell_number, spell, spell_items, spell_entries, spell_fields, at_top, HoldsNumbers}
+use Rattle.bson_reserved.specs.Unwrap.{Part, unwrap, scoped_code}
+use Rattle.bson_reserved.specs.UuidBytes.{uuid_bytes}
+use Rattle.bson_reserved.specs.Written.{zero_free, with_scope}
+use Rattle.bson_laws.specs.Spell.{Writing, spell_binary, spell_whole, spell_unwrapped, spell_scoped, spell_uuid, struct_at, reserved_at, enclosed_at, variant_at, named, written_key, spell_key, spell_number, spell_as, spell_items_as, spell_entries_as, spell_fields_as, spell_list, spell_part, spell, at_top, HoldsNumbers}
+use Rattle.bson_laws.proofs.Alike.{AreAlike, Both, SameScope, scopes_alike}
 use Rattle.bson_laws.proofs.Given.{IsGivenAny, AreGivenItems, AreGivenEntries, IsGivenLeaf, IsGiven, ItemsGiven, PartsGiven, EntriesGiven, FieldsGiven, given_leaf}
 use Rattle.bson_laws.proofs.Writable.{IsSmall}
 use Rattle.bson_laws.proofs.Rewritten.{wide_small, short_small}
@@ -28,6 +33,7 @@ abbrev mutual
   AreSigned (value.some v) = AreSigned v
   AreSigned (value.newtype name v) = AreSigned v
   AreSigned (value.newtype_variant name v) = AreSigned v
+  AreSigned (value.mode v w) = AreSigned v × AreSigned w
   AreSigned (value.sequence vs) = ItemsSigned vs
   AreSigned (value.tuple vs) = ItemsSigned vs
   AreSigned (value.tuple_structure name vs) = ItemsSigned vs
@@ -74,9 +80,9 @@ numbered k n e = either _ n e where
   either true n e = absurd cc
   either false n e = tt
 
-counted : (b : Bool) (bs : Bytes) → HoldsNumbers (cond b (Err (here (unwritable (binary_too_long (length bs))))) (Ok (binary 0 bs)))
-counted true bs = λ e. e
-counted false bs = tt
+counted : (b : Bool) (n : ℕ) (t : Tree) → HoldsNumbers (cond b (Err (here (unwritable (binary_too_long n)))) (Ok t))
+counted true n t = λ e. e
+counted false n t = tt
 
 enclosed : {A : Type 0} (container : A → Tree) (parts : ℕ → Writing A) → ((levels : ℕ) → HoldsNumbers (parts levels)) → (levels : ℕ) → HoldsNumbers (enclosed_at container levels parts)
 enclosed container parts w zero = λ e. e
@@ -87,13 +93,44 @@ in_variant name content w =
     enclosed document (λ inner. named name (content inner) >>= λ t. Ok (pair name t no_pairs))
     (λ levels. bound (named name (content levels)) _ (named_one name (has_zero name) (content levels) (w levels)) (λ t. tt))
 
-built_or : (o : Option ElementType) (r : Writing Tree) → HoldsNumbers r → HoldsNumbers (newtype_at o r)
-built_or None r w = w
-built_or (Some k) r w = λ e. e
+bytes_counted : (subtype : ℕ) (bs : Bytes) → HoldsNumbers (spell_binary subtype bs)
+bytes_counted subtype bs = counted (nat_lt (max_binary subtype) (length bs)) (length (behind_subtype subtype bs)) (binary subtype bs)
 
-struct_or : (o : Option ElementType) (parts : ℕ → Writing Pairs) → ((levels : ℕ) → HoldsNumbers (parts levels)) → (levels : ℕ) → HoldsNumbers (struct_at o levels parts)
-struct_or None parts w levels = enclosed document parts w levels
-struct_or (Some k) parts w levels = λ e. e
+uuid_or : (b : Bool) (o : Option Bytes) (r : Writing Tree) → HoldsNumbers r → HoldsNumbers (cond b (spell_uuid o) r)
+uuid_or true None r w = λ e. e
+uuid_or true (Some bs) r w = bytes_counted 4 bs
+uuid_or false o r w = w
+
+zero_or : (b : Bool) (text : Utf8) → HoldsNumbers {A = Utf8} (cond b (Err (here (invalid_cstring text))) (Ok text))
+zero_or true text = λ e. e
+zero_or false text = tt
+
+whole_or : (t : Tree) → HoldsNumbers (spell_whole t)
+whole_or (regular_expression pattern options) =
+    bound (zero_free pattern) _ (zero_or (has_zero pattern) pattern) (λ p. bound (zero_free options) _ (zero_or (has_zero options) options) (λ o. tt))
+whole_or (binary subtype bs) = bytes_counted subtype bs
+whole_or t = tt
+
+unwrapped_or : (o : Option Tree) → HoldsNumbers (spell_unwrapped o)
+unwrapped_or None = λ e. e
+unwrapped_or (Some t) = whole_or t
+
+-- each value that may be a scope is never refused for a number
+abbrev HoldsIn : Value → Writing Tree → Writing Tree → Type 0
+HoldsIn v r s = HoldsNumbers r
+
+scoped_or : (o : Option (Utf8 × Writing Tree)) → Both (SameScope HoldsIn) o o → HoldsNumbers (spell_scoped o)
+scoped_or None h = λ e. e
+scoped_or (Some p) h = mapped (with_scope p.0) (under (codes "$scope") p.1) (placed (at_key (codes "$scope")) p.1 h.1.1)
+
+reserved_or : (k : ElementType) (u : Option Tree) (o : Option (Utf8 × Writing Tree)) → Both (SameScope HoldsIn) o o → HoldsNumbers (reserved_at k u o)
+reserved_or JavaScriptCodeWithScope u o h = scoped_or o h
+reserved_or k u o h = unwrapped_or u
+
+struct_or : (n : Option ElementType) (fs : FieldValues) (parts : ℕ → Writing Pairs) (o : Option (Utf8 × Writing Tree)) → Both (SameScope HoldsIn) o o → ((levels : ℕ) → HoldsNumbers (parts levels)) → (levels : ℕ)
+    → HoldsNumbers (struct_at n levels parts (λ k. reserved_at k (unwrap k fs) o))
+struct_or None fs parts o h w levels = enclosed document parts w levels
+struct_or (Some k) fs parts o h w levels = reserved_or k (unwrap k fs) o h
 
 free_or : (key : Utf8) (b : Bool) → HoldsNumbers {A = Utf8} (cond b (Err (here (invalid_cstring key))) (Ok key))
 free_or key true = λ e. e
@@ -104,47 +141,62 @@ keyed k None = λ e. e
 keyed k (Some key) = free_or key (has_zero key)
 
 mutual
-  spelled : (v : Value) → AreSigned v → (levels : ℕ) → HoldsNumbers (spell v levels)
-  spelled (value.boolean b) g levels = tt
-  spelled (value.double bits) g levels = tt
-  spelled (value.character c) g levels = tt
-  spelled (value.bytes bs) g levels = counted (nat_lt (max_binary 0) (length bs)) bs
-  spelled value.none g levels = tt
-  spelled (value.some v) g levels = spelled v g levels
-  spelled value.unit g levels = tt
-  spelled (value.unit_structure name) g levels = tt
-  spelled (value.newtype name v) g levels = built_or (unbuilt_newtype name) (spell v levels) (spelled v g levels)
-  spelled (value.integer type n) g levels = numbered (written_as type) n g
-  spelled (value.str t) g levels = tt
-  spelled (value.sequence vs) g levels = enclosed array (spell_items 0 vs) (items_spelled 0 vs g) levels
-  spelled (value.map es) g levels = enclosed document (spell_entries es) (entries_spelled es g) levels
-  spelled (value.unit_variant name) g levels = tt
-  spelled (value.newtype_variant name v) g levels = in_variant name (spell v) (spelled v g) levels
-  spelled (value.tuple vs) g levels = enclosed array (spell_items 0 vs) (items_spelled 0 vs g) levels
-  spelled (value.tuple_structure name vs) g levels = enclosed array (spell_items 0 vs) (items_spelled 0 vs g) levels
-  spelled (value.tuple_variant name vs) g levels = in_variant name (λ n. enclosed_at array n (spell_items 0 vs)) (enclosed array (spell_items 0 vs) (items_spelled 0 vs g)) levels
-  spelled (value.structure_variant name fs) g levels = in_variant name (λ n. enclosed_at document n (spell_fields fs)) (enclosed document (spell_fields fs) (fields_spelled fs g)) levels
-  spelled (value.structure name fs) g levels = struct_or (reserved_kind name) (spell_fields fs) (fields_spelled fs g) levels
+  spelled : (r : Bool) (v : Value) → AreSigned v → (levels : ℕ) → HoldsNumbers (spell_as r v levels)
+  spelled r (value.boolean b) g levels = tt
+  spelled r (value.double bits) g levels = tt
+  spelled r (value.character c) g levels = tt
+  spelled r (value.bytes bs) g levels = bytes_counted 0 bs
+  spelled r value.none g levels = tt
+  spelled r (value.some v) g levels = spelled r v g levels
+  spelled r value.unit g levels = tt
+  spelled r (value.unit_structure name) g levels = tt
+  spelled r (value.newtype name v) g levels =
+      uuid_or (bytes_eq name uuid_newtype) (uuid_bytes r v) (spell_as (readable_inside r name) v levels) (spelled (readable_inside r name) v g levels)
+  spelled true (value.mode v w) g levels = spelled true v g.0 levels
+  spelled false (value.mode v w) g levels = spelled false w g.1 levels
+  spelled r (value.integer type n) g levels = numbered (written_as type) n g
+  spelled r (value.str t) g levels = tt
+  spelled r (value.sequence vs) g levels = enclosed array (spell_items_as r 0 vs) (items_spelled r 0 vs g) levels
+  spelled r (value.map es) g levels = enclosed document (spell_entries_as r es) (entries_spelled r es g) levels
+  spelled r (value.unit_variant name) g levels = tt
+  spelled r (value.newtype_variant name v) g levels = in_variant name (spell_as r v) (spelled r v g) levels
+  spelled r (value.tuple vs) g levels = enclosed array (spell_items_as r 0 vs) (items_spelled r 0 vs g) levels
+  spelled r (value.tuple_structure name vs) g levels = enclosed array (spell_items_as r 0 vs) (items_spelled r 0 vs g) levels
+  spelled r (value.tuple_variant name vs) g levels = in_variant name (λ n. enclosed_at array n (spell_items_as r 0 vs)) (enclosed array (spell_items_as r 0 vs) (items_spelled r 0 vs g)) levels
+  spelled r (value.structure_variant name fs) g levels = in_variant name (λ n. enclosed_at document n (spell_fields_as r fs)) (enclosed document (spell_fields_as r fs) (fields_spelled r fs g)) levels
+  spelled r (value.structure name fs) g levels =
+      struct_or (reserved_kind name) fs (spell_fields_as r fs) (scoped_code (spell_list r fs levels []))
+      (scopes_alike HoldsIn (spell_list r fs levels []) (spell_list r fs levels []) (list_holds r fs levels g [] tt)) (fields_spelled r fs g) levels
 
-  items_spelled : (i : ℕ) (vs : Items) → ItemsSigned vs → (levels : ℕ) → HoldsNumbers (spell_items i vs levels)
-  items_spelled i no_items g levels = tt
-  items_spelled i (item v vs) g levels =
-      bound (under_index i (spell v levels)) _ (placed (at_index i) (spell v levels) (spelled v g.0 levels)) (λ t. bound (spell_items (suc i) vs levels) _ (items_spelled (suc i) vs g.1 levels) (λ ts. tt))
+  items_spelled : (r : Bool) (i : ℕ) (vs : Items) → ItemsSigned vs → (levels : ℕ) → HoldsNumbers (spell_items_as r i vs levels)
+  items_spelled r i no_items g levels = tt
+  items_spelled r i (item v vs) g levels =
+      bound (under_index i (spell_as r v levels)) _ (placed (at_index i) (spell_as r v levels) (spelled r v g.0 levels)) (λ t. bound (spell_items_as r (suc i) vs levels) _ (items_spelled r (suc i) vs g.1 levels) (λ ts. tt))
 
-  entries_spelled : (es : Entries) → EntriesSigned es → (levels : ℕ) → HoldsNumbers (spell_entries es levels)
-  entries_spelled no_entries g levels = tt
-  entries_spelled (entry k v es) g levels =
+  entries_spelled : (r : Bool) (es : Entries) → EntriesSigned es → (levels : ℕ) → HoldsNumbers (spell_entries_as r es levels)
+  entries_spelled r no_entries g levels = tt
+  entries_spelled r (entry k v es) g levels =
       bound (spell_key k) _ (keyed k (key_text k))
-      (λ key. bound (under key (spell v levels)) _ (placed (at_key key) (spell v levels) (spelled v g.0 levels)) (λ t. bound (spell_entries es levels) _ (entries_spelled es g.1 levels) (λ ps. tt)))
+      (λ key. bound (under key (spell_as r v levels)) _ (placed (at_key key) (spell_as r v levels) (spelled r v g.0 levels)) (λ t. bound (spell_entries_as r es levels) _ (entries_spelled r es g.1 levels) (λ ps. tt)))
 
-  fields_spelled : (fs : FieldValues) → FieldsSigned fs → (levels : ℕ) → HoldsNumbers (spell_fields fs levels)
-  fields_spelled no_field_values g levels = tt
-  fields_spelled (field_value name v fs) g levels =
-      bound (named name (spell v levels)) _ (named_one name (has_zero name) (spell v levels) (spelled v g.0 levels)) (λ t. bound (spell_fields fs levels) _ (fields_spelled fs g.1 levels) (λ ps. tt))
+  fields_spelled : (r : Bool) (fs : FieldValues) → FieldsSigned fs → (levels : ℕ) → HoldsNumbers (spell_fields_as r fs levels)
+  fields_spelled r no_field_values g levels = tt
+  fields_spelled r (field_value name v fs) g levels =
+      bound (named name (spell_as r v levels)) _ (named_one name (has_zero name) (spell_as r v levels) (spelled r v g.0 levels)) (λ t. bound (spell_fields_as r fs levels) _ (fields_spelled r fs g.1 levels) (λ ps. tt))
+
+  list_holds : (r : Bool) (fs : FieldValues) (levels : ℕ) → FieldsSigned fs → (xs : List (Part (Writing Tree))) → AreAlike HoldsIn xs xs → AreAlike HoldsIn (spell_list r fs levels xs) (spell_list r fs levels xs)
+  list_holds r no_field_values levels g xs h = h
+  list_holds r (field_value name v fs) levels g xs h =
+      (refl, part_holds r v levels g.0 (spell_as r v levels) (spelled r v g.0 levels) (spell_list r fs levels xs) (list_holds r fs levels g.1 xs h))
+
+  part_holds : (r : Bool) (v : Value) (levels : ℕ) → AreSigned v → (s : Writing Tree) → HoldsNumbers s → (xs : List (Part (Writing Tree))) → AreAlike HoldsIn xs xs → AreAlike HoldsIn (spell_part r v levels s xs) (spell_part r v levels s xs)
+  part_holds r (value.structure name fs) levels g s p xs h = list_holds r fs levels g xs h
+  part_holds r (value.mode v w) levels g s p xs h = part_holds r w levels g.1 (spell_as r w levels) (spelled r w g.1 levels) xs h
+  part_holds r v levels g s p xs h = (refl, p, h)
 
 -- nor is a whole document
 pub document_spelled : (k : ElementType) (v : Value) (levels : ℕ) → AreSigned v → HoldsNumbers (at_top k (spell v levels))
-document_spelled EmbeddedDocument v levels g = spelled v g levels
+document_spelled EmbeddedDocument v levels g = spelled false v g levels
 document_spelled k v levels g = λ e. e
 
 -- ---- what reading gives

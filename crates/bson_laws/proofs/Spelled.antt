@@ -1,22 +1,29 @@
 -- What means a clean tree is spelled as it.
-use Rattle.std.proofs.Common.{◌≡◌, ℕ, ℤ, Bool, true, false, zero, suc, ◌≤◌, length, cond, Option, Some, None, Ok, Err, refl, ap, sym, subst, ◌∙◌, arith}
-use Rattle.std.specs.Prelude.{encode_utf8, option_map, option_and_then, is_some, ◌||◌}
+use Rattle.std.proofs.Common.{◌≡◌, ℕ, ℤ, Bool, true, false, zero, suc, ◌≤◌, List, [], ◌∷◌, length, cond, Option, Some, None, Ok, Err, refl, ap, sym, subst, ◌∙◌, arith}
+use Rattle.std.specs.Prelude.{encode_utf8, option_map, option_and_then, codes}
+use Rattle.std.specs.Result.{result_ok}
+use Rattle.std.specs.Str.{bytes_eq}
 use Rattle.std.proofs.lemmas.Bool.{le-ltb}
 use Rattle.bson_base.specs.Text.{Bytes, Utf8, has_zero}
 use Rattle.bson_base.specs.Outcome.{◌>>=◌, result_map}
 use Rattle.bson_base.specs.Reserved.{reserved_kind}
 use Rattle.bson_base.specs.Sound.{max_levels, IsClean, ArePairsClean, AreTreesClean, IsSound, IsDocument}
 use Rattle.bson_base.specs.Tree as tree
-use Rattle.bson_base.specs.Tree.{Tree, string, binary, null, int32, int64, document, array, Pairs, no_pairs, pair, Trees, no_trees, enc, depth, pairs_depth, trees_depth}
+use Rattle.bson_base.specs.Tree.{Tree, string, binary, null, int32, int64, document, array, javascript_code_with_scope, Pairs, no_pairs, pair, Trees, no_trees, kind, enc, depth, pairs_depth, trees_depth}
 use Rattle.bson_base.specs.declared.element_type.ElementType.{ElementType}
-use Rattle.bson_base.specs.declared.element_type.ElementType.TheVariants.{EmbeddedDocument, Binary, Int32}
+use Rattle.bson_base.specs.declared.element_type.ElementType.TheVariants.{EmbeddedDocument, JavaScriptCodeWithScope, Int32}
 use Rattle.bson_base.proofs.Outcomes.{some_map, some_then}
 use Rattle.bson_shape.specs.Makers.{is_reserved_newtype}
-use Rattle.bson_datum.specs.Value.{written_as, Value, boolean, integer, double, character, str, bytes, none, some, unit, unit_structure, newtype, sequence, map, structure, unit_variant, newtype_variant, tuple, tuple_structure, tuple_variant, structure_variant, Items, no_items, item, Entries, no_entries, entry, FieldValues, no_field_values, field_value, kind_of, reserved_or_document}
+use Rattle.bson_datum.specs.Value.{written_as, Value, boolean, integer, double, character, str, bytes, none, some, unit, unit_structure, newtype, sequence, map, structure, unit_variant, newtype_variant, tuple, tuple_structure, tuple_variant, structure_variant, mode, Items, no_items, item, Entries, no_entries, entry, FieldValues, no_field_values, field_value, uuid_newtype, readable_inside}
 use Rattle.bson_datum.specs.Refusal.{WriteFault, Refusal, here, invalid_cstring, under, under_index}
-use Rattle.bson_laws.specs.Means.{under_name, key_text, means_entries, number_of, means, means_items, means_fields}
-use Rattle.bson_laws.specs.Spell.{named, variant_at, written_key, spell_entries, Writing, spell_number, spell_bytes, unbuilt_newtype, newtype_at, enclosed_at, struct_at, spell, spell_items, spell_fields, at_top, spell_document, size}
-use Rattle.bson_laws.proofs.Sizes.{built_kind, length-spell}
+use Rattle.bson_reserved.specs.Unwrap.{Part, unwrap, scoped_code}
+use Rattle.bson_reserved.specs.UuidBytes.{uuid_bytes}
+use Rattle.bson_reserved.specs.Written.{with_scope}
+use Rattle.bson_laws.specs.Means.{under_name, key_text, scoped_means, reserved_means, struct_means, means_entries, number_of, means, means_items, means_fields, means_list, means_part}
+use Rattle.bson_laws.specs.Spell.{named, variant_at, written_key, spell_entries, Writing, spell_number, spell_binary, spell_whole, spell_unwrapped, spell_scoped, spell_uuid, enclosed_at, struct_at, reserved_at, spell_as, spell_list, spell_part, spell, spell_items, spell_fields, at_top, spell_document, size}
+use Rattle.bson_laws.proofs.Alike.{AreAlike, Both, SameScope, scopes_alike}
+use Rattle.bson_laws.proofs.Free.{free_spelled}
+use Rattle.bson_laws.proofs.Sizes.{spell_kind, length-spell}
 
 abbrev pub pairs_found : Pairs → Option Pairs
 pairs_found t = Some t
@@ -38,44 +45,29 @@ number_spelled : (k : ElementType) (n : ℤ) (t : Tree) → number_of k n ≡ So
 number_spelled Int32 n t e = ap Ok (tree_is (int32 n) t e)
 number_spelled k n t e = wide_spelled _ _ n t e
 
-wide_no_document : (b : Bool) (n : ℤ) (t : Tree) → cond b None (found (int64 n)) ≡ Some t → IsDocument t → ⊥
-wide_no_document true n t e doc = absurd cc
-wide_no_document false n t e doc = subst IsDocument (sym (tree_is (int64 n) t e)) doc
-
-number_no_document : (k : ElementType) (n : ℤ) (t : Tree) → number_of k n ≡ Some t → IsDocument t → ⊥
-number_no_document Int32 n t e doc = subst IsDocument (sym (tree_is (int32 n) t e)) doc
-number_no_document k n t e doc = wide_no_document _ n t e doc
-
-pub unreserved : (o : Option ElementType) (r : Option Tree) (t : Tree) → cond (is_some o) None r ≡ Some t → (o ≡ None) × (r ≡ Some t)
-unreserved (Some k) r t e = absurd cc
-unreserved None r t e = (refl, e)
-
-allowed : (b : Bool) (f : Refusal WriteFault) (bs : Bytes) → b ≡ false → cond b (Err f) (Ok (binary 0 bs)) ≡ Ok (binary 0 bs)
-allowed true f bs e = absurd cc
-allowed false f bs e = refl
+allowed : (b : Bool) (f : Refusal WriteFault) (t : Tree) → b ≡ false → cond b (Err f) (Ok t) ≡ Ok t
+allowed true f t e = absurd cc
+allowed false f t e = refl
 
 -- a binary that is clean is written
-bytes_spelled : (bs : Bytes) → IsClean (binary 0 bs) → spell_bytes bs ≡ Ok (binary 0 bs)
-bytes_spelled bs c = allowed _ _ bs (le-ltb _ _ c.fits)
+pub binary_spelled : (subtype : ℕ) (bs : Bytes) → IsClean (binary subtype bs) → spell_binary subtype bs ≡ Ok (binary subtype bs)
+binary_spelled subtype bs c = allowed _ _ (binary subtype bs) (le-ltb _ _ c.fits)
 
--- a newtype that means something has no reserved name
 pub free_newtype : (b : Bool) (r : Option Tree) (t : Tree) → cond b None r ≡ Some t → (b ≡ false) × (r ≡ Some t)
 free_newtype true r t e = absurd cc
 free_newtype false r t e = (refl, e)
 
-abbrev no_kind : Option ElementType
-no_kind = None
-
-none_of : (a b c : Bool) → (a || (b || (c || false))) ≡ false → cond a (Some Binary) (cond b (Some EmbeddedDocument) None) ≡ no_kind
-none_of true b c e = absurd cc
-none_of false true c e = absurd cc
-none_of false false c e = refl
-
-pub built : (name : Utf8) → is_reserved_newtype name ≡ false → unbuilt_newtype name ≡ None
-built name e = none_of _ _ _ e
+-- a newtype that means something is a UUID, or its name is not reserved
+pub newtype_meant : {W : Type 0} (name : Utf8) (v : Value) (t : Tree) → means (newtype name v) ≡ Some t
+    → (bytes_eq name uuid_newtype ≡ true → (bs : Bytes) → uuid_bytes false v ≡ Some bs → binary 4 bs ≡ t → W) → (is_reserved_newtype name ≡ false → means v ≡ Some t → W) → W
+newtype_meant {W = W} name v t e one other = by (bytes_eq name uuid_newtype) refl e
+  where
+    by : (b : Bool) → bytes_eq name uuid_newtype ≡ b → cond b (option_map (binary 4) (uuid_bytes false v)) (cond (is_reserved_newtype name) None (means v)) ≡ Some t → W
+    by true is h = let m = some_map (binary 4) (uuid_bytes false v) t h in one is m.0 m.1 m.2
+    by false is h = let m = free_newtype (is_reserved_newtype name) (means v) t h in other m.0 m.1
 
 -- a container whose parts are written, however many levels are left for them, is written where one more is left
-enclosed : {A : Type 0} (container : A → Tree) (parts : ℕ → Writing A) (ps : A) (inner levels : ℕ) → suc inner ≤ levels → ((n : ℕ) → inner ≤ n → parts n ≡ Ok ps) → enclosed_at container levels parts ≡ Ok (container ps)
+pub enclosed : {A : Type 0} (container : A → Tree) (parts : ℕ → Writing A) (ps : A) (inner levels : ℕ) → suc inner ≤ levels → ((n : ℕ) → inner ≤ n → parts n ≡ Ok ps) → enclosed_at container levels parts ≡ Ok (container ps)
 enclosed container parts ps inner zero d h = absurd (omega arith)
 enclosed container parts ps inner (suc n) d h = ap (result_map container) (h n (omega arith))
 
@@ -96,20 +88,60 @@ trees_found ts = Some ts
 pub trees_are : (ts us : Trees) → trees_found ts ≡ trees_found us → ts ≡ us
 trees_are ts us e = cc
 
+ok_of : (r : Writing Tree) (t : Tree) → result_ok r ≡ Some t → r ≡ Ok t
+ok_of (Ok u) t e = ap Ok (tree_is u t e)
+ok_of (Err f) t e = absurd cc
+
+-- ---- reserved structs
+
+-- what a value means, where it is clean and nests no deeper, is what it is written as
+abbrev IsMeant : ℕ → Value → Option Tree → Writing Tree → Type 0
+IsMeant levels v o r = (o ≡ means v) × ((t : Tree) → o ≡ Some t → IsClean t → depth t ≤ levels → r ≡ Ok t)
+
+scoped_spelled : (levels : ℕ) (o : Option (Utf8 × Option Tree)) (s : Option (Utf8 × Writing Tree)) (t : Tree) → Both (SameScope (IsMeant levels)) o s → scoped_means o ≡ Some t → IsClean t → depth t ≤ levels → spell_scoped s ≡ Ok t
+scoped_spelled levels (Some p) (Some q) t h e c d =
+    let m = some_map (with_scope p.0) p.1 t e in
+    let es = h.1.0 in
+    let w = some_map document (means_entries es) m.0 (sym h.1.1.0 ∙ m.1) in
+    let is : javascript_code_with_scope p.0 w.0 ≡ t = ap (with_scope p.0) w.2 ∙ m.2 in
+    let clean : IsClean m.0 = subst IsClean w.2 (subst IsClean (sym is) c).1 in
+    let deep : depth m.0 ≤ levels = subst (λ x. depth x ≤ levels) w.2 (subst (λ x. depth x ≤ levels) (sym is) d) in
+    ap (λ r. result_map (with_scope q.0) (under (codes "$scope") r)) (h.1.1.1 m.0 m.1 clean deep) ∙ ap Ok (ap (λ x. with_scope x m.0) (sym h.0) ∙ m.2)
+scoped_spelled levels None s t h e c d = absurd cc
+scoped_spelled levels (Some p) None t h e c d = absurd h
+
+reserved_spelled : (levels : ℕ) (k : ElementType) (u : Option Tree) (o : Option (Utf8 × Option Tree)) (s : Option (Utf8 × Writing Tree)) (t : Tree) → Both (SameScope (IsMeant levels)) o s → reserved_means k u o ≡ Some t → IsClean t → depth t ≤ levels
+    → reserved_at k u s ≡ Ok t
+reserved_spelled levels JavaScriptCodeWithScope u o s t h e c d = scoped_spelled levels o s t h e c d
+reserved_spelled levels k u o s t h e c d = let m = some_then (λ x. result_ok (spell_whole x)) u t e in ap spell_unwrapped m.1 ∙ ok_of (spell_whole m.0) t m.2
+
+struct_spelled : (levels : ℕ) (n : Option ElementType) (fs : FieldValues) (o : Option (Utf8 × Option Tree)) (s : Option (Utf8 × Writing Tree)) (t : Tree) → Both (SameScope (IsMeant levels)) o s
+    → ((ps : Pairs) (inner : ℕ) → means_fields fs ≡ Some ps → ArePairsClean ps → pairs_depth ps ≤ inner → spell_fields fs inner ≡ Ok ps)
+    → struct_means n (means_fields fs) (λ k. reserved_means k (unwrap k fs) o) ≡ Some t → IsClean t → depth t ≤ levels
+    → struct_at n levels (spell_fields fs) (λ k. reserved_at k (unwrap k fs) s) ≡ Ok t
+struct_spelled levels None fs o s t h fields e c d =
+    let m = some_map document (means_fields fs) t e in
+    subst (λ x. IsClean x → depth x ≤ levels → enclosed_at document levels (spell_fields fs) ≡ Ok x) m.2
+    (λ c' d'. enclosed document (spell_fields fs) m.0 (pairs_depth m.0) levels d' (λ n le. fields m.0 n m.1 c' le)) c d
+struct_spelled levels (Some k) fs o s t h fields e c d = reserved_spelled levels k (unwrap k fs) o s t h e c d
+
 mutual
   pub spell_is : (v : Value) (t : Tree) (levels : ℕ) → means v ≡ Some t → IsClean t → depth t ≤ levels → spell v levels ≡ Ok t
   spell_is (integer type n) t levels e c d = number_spelled (written_as type) n t e
   spell_is (boolean b) t levels e c d = ap Ok (tree_is (tree.boolean b) t e)
   spell_is (double bits) t levels e c d = ap Ok (tree_is (tree.double bits) t e)
   spell_is (character x) t levels e c d = ap Ok (tree_is (string (encode_utf8 x)) t e)
-  spell_is (bytes bs) t levels e c d = let is = tree_is (binary 0 bs) t e in bytes_spelled bs (subst IsClean (sym is) c) ∙ ap Ok is
+  spell_is (bytes bs) t levels e c d = let is = tree_is (binary 0 bs) t e in binary_spelled 0 bs (subst IsClean (sym is) c) ∙ ap Ok is
   spell_is none t levels e c d = ap Ok (tree_is null t e)
   spell_is (some v) t levels e c d = spell_is v t levels e c d
   spell_is unit t levels e c d = ap Ok (tree_is null t e)
   spell_is (unit_structure name) t levels e c d = ap Ok (tree_is null t e)
   spell_is (newtype name v) t levels e c d =
-      let m = free_newtype (is_reserved_newtype name) (means v) t e in
-      ap (λ o. newtype_at o (spell v levels)) (built name m.0) ∙ spell_is v t levels m.1 c d
+      newtype_meant name v t e
+      (λ is bs u same.
+      ap (λ b. cond b (spell_uuid (uuid_bytes false v)) (spell_as (readable_inside false name) v levels)) is ∙ ap spell_uuid u ∙ binary_spelled 4 bs (subst IsClean (sym same) c) ∙ ap Ok same)
+      (λ free m. free_spelled name v levels free ∙ spell_is v t levels m c d)
+  spell_is (mode v w) t levels e c d = spell_is w t levels e c d
   spell_is (str x) t levels e c d = ap Ok (tree_is (string x) t e)
   spell_is (sequence vs) t levels e c d =
       let m = some_map array (means_items vs) t e in
@@ -143,10 +175,8 @@ mutual
       (λ c' d'. variant_is name levels (λ inner. enclosed_at document inner (spell_fields fs)) (document m.0) c'.0.free.no_zero (omega arith)
       (λ n le. enclosed document (spell_fields fs) m.0 (pairs_depth m.0) n le (λ k le'. spell_fields_are fs m.0 k m.1 c'.2 le'))) c d
   spell_is (structure name fs) t levels e c d =
-      let u = unreserved (reserved_kind name) (option_map document (means_fields fs)) t e in
-      let m = some_map document (means_fields fs) t u.1 in
-      subst (λ x. IsClean x → depth x ≤ levels → spell (structure name fs) levels ≡ Ok x) m.2
-      (λ c' d'. ap (λ o. struct_at o levels (spell_fields fs)) u.0 ∙ enclosed document (spell_fields fs) m.0 (pairs_depth m.0) levels d' (λ n le. spell_fields_are fs m.0 n m.1 c' le)) c d
+      struct_spelled levels (reserved_kind name) fs (scoped_code (means_list fs [])) (scoped_code (spell_list false fs levels [])) t
+      (scopes_alike (IsMeant levels) (means_list fs []) (spell_list false fs levels []) (list_meant fs levels [] [] tt)) (λ ps n h c' le. spell_fields_are fs ps n h c' le) e c d
 
   pub spell_items_are : (i : ℕ) (vs : Items) (ts : Trees) (levels : ℕ) → means_items vs ≡ Some ts → AreTreesClean ts → trees_depth ts ≤ levels → spell_items i vs levels ≡ Ok ts
   spell_items_are i no_items ts levels e c d = ap Ok (trees_are no_trees ts e)
@@ -185,36 +215,23 @@ mutual
       ∙ ap (λ r. r >>= λ qs. Ok (pair name a.0 qs)) (spell_fields_are fs b.0 levels b.1 c'.3 (omega arith)))
       c d
 
-document_only : (v : Value) (t : Tree) → means v ≡ Some t → IsDocument t → spell v max_levels ≡ Ok t → spell_document v ≡ Ok t
-document_only (integer type n) t e doc h = absurd (number_no_document (written_as type) n t e doc)
-document_only (boolean b) t e doc h = absurd (subst IsDocument (sym (tree_is (tree.boolean b) t e)) doc)
-document_only (double bits) t e doc h = absurd (subst IsDocument (sym (tree_is (tree.double bits) t e)) doc)
-document_only (character x) t e doc h = absurd (subst IsDocument (sym (tree_is (string (encode_utf8 x)) t e)) doc)
-document_only (bytes bs) t e doc h = absurd (subst IsDocument (sym (tree_is (binary 0 bs) t e)) doc)
-document_only none t e doc h = absurd (subst IsDocument (sym (tree_is null t e)) doc)
-document_only (some v) t e doc h = document_only v t e doc h
-document_only unit t e doc h = absurd (subst IsDocument (sym (tree_is null t e)) doc)
-document_only (unit_structure name) t e doc h = absurd (subst IsDocument (sym (tree_is null t e)) doc)
-document_only (newtype name v) t e doc h =
-    let m = free_newtype (is_reserved_newtype name) (means v) t e in
-    let none = built name m.0 in
-    let inner = sym (ap (λ o. newtype_at o (spell v max_levels)) none) ∙ h in
-    (λ i. at_top (built_kind name (kind_of v) none i) (newtype_at (none i) (spell v max_levels))) ∙ document_only v t m.1 doc inner
-document_only (str x) t e doc h = absurd (subst IsDocument (sym (tree_is (string x) t e)) doc)
-document_only (sequence vs) t e doc h = let m = some_map array (means_items vs) t e in absurd (subst IsDocument (sym m.2) doc)
-document_only (map es) t e doc h = h
-document_only (unit_variant name) t e doc h = absurd (subst IsDocument (sym (tree_is (string name) t e)) doc)
-document_only (newtype_variant name v) t e doc h = h
-document_only (tuple vs) t e doc h = let m = some_map array (means_items vs) t e in absurd (subst IsDocument (sym m.2) doc)
-document_only (tuple_structure name vs) t e doc h = let m = some_map array (means_items vs) t e in absurd (subst IsDocument (sym m.2) doc)
-document_only (tuple_variant name vs) t e doc h = h
-document_only (structure_variant name fs) t e doc h = h
-document_only (structure name fs) t e doc h =
-    let u = unreserved (reserved_kind name) (option_map document (means_fields fs)) t e in
-    ap (λ o. at_top (reserved_or_document o) (spell (structure name fs) max_levels)) u.0 ∙ h
+  list_meant : (fs : FieldValues) (levels : ℕ) (xs : List (Part (Option Tree))) (ys : List (Part (Writing Tree))) → AreAlike (IsMeant levels) xs ys → AreAlike (IsMeant levels) (means_list fs xs) (spell_list false fs levels ys)
+  list_meant no_field_values levels xs ys h = h
+  list_meant (field_value name v fs) levels xs ys h =
+      (refl, part_meant v levels (means v) (spell v levels) (refl, λ t e c d. spell_is v t levels e c d) (means_list fs xs) (spell_list false fs levels ys) (list_meant fs levels xs ys h))
+
+  part_meant : (v : Value) (levels : ℕ) (o : Option Tree) (r : Writing Tree) → IsMeant levels v o r → (xs : List (Part (Option Tree))) (ys : List (Part (Writing Tree))) → AreAlike (IsMeant levels) xs ys
+      → AreAlike (IsMeant levels) (means_part v o xs) (spell_part false v levels r ys)
+  part_meant (structure name fs) levels o r p xs ys h = list_meant fs levels xs ys h
+  part_meant (mode v w) levels o r p xs ys h = part_meant w levels (means w) (spell w levels) (refl, λ t e c d. spell_is w t levels e c d) xs ys h
+  part_meant v levels o r p xs ys h = (refl, p, h)
+
+document_kind : (t : Tree) → IsDocument t → kind t ≡ EmbeddedDocument
+document_kind (document ps) d = refl
+document_kind t d = absurd d
 
 -- what means a sound tree is spelled as that tree, in as many bytes as its size says
 pub spell_means : (v : Value) (t : Tree) → means v ≡ Some t → IsSound t → (spell_document v ≡ Ok t) × (size v ≡ length (enc t))
 spell_means v t e s =
     let h = spell_is v t max_levels e s.clean s.nests in
-    (document_only v t e s.document h, sym (length-spell v max_levels t h))
+    (ap (λ k. at_top k (spell v max_levels)) (sym (spell_kind false v max_levels t h) ∙ document_kind t s.document) ∙ h, sym (length-spell false v max_levels t h))

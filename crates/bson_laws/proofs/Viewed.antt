@@ -1,6 +1,7 @@
 -- What a clean tree is at a shape fits the shape, and is its own normal form.
-use Rattle.std.proofs.Common.{◌≡◌, ℕ, zero, [], ◌∷◌, List, Bool, true, false, cond, Option, Some, None, Ok, refl, ap, sym, subst, ◌∙◌, arith, ℤ, pos, negsuc}
+use Rattle.std.proofs.Common.{◌≡◌, ℕ, zero, [], ◌∷◌, List, Bool, true, false, cond, Option, Some, None, Ok, Err, refl, ap, sym, subst, ◌∙◌, arith, ℤ, pos, negsuc}
 use Rattle.std.specs.Prelude.{FitsSigned, option_map, option_and_then}
+use Rattle.std.specs.Result.{result_ok}
 use Rattle.std.specs.Int.{w32, w64}
 use Rattle.std.specs.Char.{IsScalar}
 use Rattle.std.specs.Str.{bytes_eq, is_utf8, chars}
@@ -15,10 +16,9 @@ use Rattle.bson_base.specs.Sound.{IsClean, ArePairsClean, AreTreesClean}
 use Rattle.bson_base.specs.Tree as tree
 use Rattle.bson_base.specs.Tree.{Tree, double, string, boolean, binary, null, int32, int64, document, array, Pairs, no_pairs, pair, Trees, no_trees}
 use Rattle.bson_base.specs.declared.element_type.ElementType.{ElementType}
-use Rattle.bson_base.specs.declared.element_type.ElementType.TheVariants.{Int32}
+use Rattle.bson_base.specs.declared.element_type.ElementType.TheVariants.{JavaScriptCodeWithScope, Int32, Null}
 use Rattle.bson_base.proofs.Outcomes.{some_is, some_map, some_then}
 use Rattle.bson_shape.specs.Form.{Form, leaf, optional, sequence, newtype, unit_structure, map, tuple, tuple_structure, structure, enumeration, Fields, no_fields, field, Parts, no_parts, part, Content, unit_content, newtype_content, tuple_content, struct_content, Variants, no_variants, variant}
-use Rattle.bson_shape.specs.Makers.{is_reserved_newtype}
 use Rattle.bson_datum.specs.Value as value
 use Rattle.bson_datum.specs.Value.{IntegerType, i32, i64, in_range, written_as, Value, Items, no_items, item, Entries, no_entries, entry, FieldValues, no_field_values, field_value}
 use Rattle.bson_datum.specs.Cause.{out_of_range}
@@ -26,9 +26,13 @@ use Rattle.bson_laws.specs.Leaves.{LeafKind, anything, ignored, booleans, number
 use Rattle.bson_laws.specs.Judged.{refused}
 use Rattle.bson_laws.specs.Variants.{content_of}
 use Rattle.bson_laws.specs.Views.{one_character, views_any, views_any_items, views_any_entries, views_leaf, views_leaf_key, views_items, views_key, views_entries, absent, views_at, views, views_fields, views_parts, views_variant, views_content}
-use Rattle.bson_laws.specs.Means.{number_of, some_or_none, under_name, means, means_items, means_entries, means_fields, norm, norm_items, norm_entries, norm_fields}
+use Rattle.bson_reserved.specs.Unwrap.{unwrap, scoped_code}
+use Rattle.bson_reserved.specs.Written.{with_scope}
+use Rattle.bson_laws.specs.Spell.{Writing, spell_whole}
+use Rattle.bson_laws.specs.Means.{number_of, some_or_none, under_name, reserved_means, struct_means, means_list, means, means_items, means_entries, means_fields, norm, norm_items, norm_entries, norm_fields}
 use Rattle.bson_laws.specs.Fits.{IsText, IsAny, AreAnyItems, AreAnyEntries, FitsLeaf, FitsLeafKey, FitsKey, Fits, ItemsFit, PartsFit, EntriesFit, FieldsFit}
-use Rattle.bson_laws.proofs.Spelled.{unreserved, free_newtype}
+use Rattle.bson_laws.proofs.Sizes.{unwrap_kind, whole_kind}
+use Rattle.bson_laws.proofs.Spelled.{newtype_meant}
 use Rattle.bson_laws.proofs.Fitting.{leaf_fits}
 use Rattle.bson_laws.proofs.Variants.{unit_is, chosen_holds, FitsContent, FitsVariant, chosen_fits, variant_fits}
 
@@ -321,11 +325,37 @@ field_normal : (s : Form) (o : Option Tree) (v : Value) → ((t : Tree) → view
 field_normal s None v found e = absent_normal s v e
 field_normal s (Some t) v found e = (found t e).0
 
-no_structure : (name : Utf8) (vs : FieldValues) → means (value.structure name vs) ≡ Some null → ⊥
-no_structure name vs e =
-    let u = unreserved (reserved_kind name) (option_map document (means_fields vs)) null e in
-    let m = some_map document (means_fields vs) null u.1 in
+ok_of : (r : Writing Tree) (t : Tree) → result_ok r ≡ Some t → r ≡ Ok t
+ok_of (Ok u) t e = ap Ok (some_is u t e)
+ok_of (Err f) t e = absurd cc
+
+abbrev nothing : Option Tree
+nothing = None
+
+no_tree : (t : Tree) → nothing ≡ Some t → ⊥
+no_tree t h = cc h
+
+-- no reserved name stands for null
+no_reserved : (k : ElementType) (fs : FieldValues) (o : Option (Utf8 × Option Tree)) → reserved_means k (unwrap k fs) o ≡ Some null → ⊥
+no_reserved JavaScriptCodeWithScope fs o e =
+    let a = some_then (λ p. option_map (with_scope p.0) p.1) o null e in
+    let m = some_map (with_scope a.0.0) a.0.1 null a.2 in
     absurd cc
+no_reserved k fs o e =
+    let a = some_then (λ t. result_ok (spell_whole t)) (unwrap k fs) null e in
+    let is : Null ≡ k = whole_kind a.0 null (ok_of (spell_whole a.0) null a.2) ∙ unwrap_kind k fs a.0 a.1 in
+    no_tree a.0 (ap (λ j. unwrap j fs) is ∙ a.1)
+
+no_struct : (o : Option ElementType) (fs : FieldValues) (scoped : Option (Utf8 × Option Tree)) → struct_means o (means_fields fs) (λ k. reserved_means k (unwrap k fs) scoped) ≡ Some null → ⊥
+no_struct None fs scoped e = let m = some_map document (means_fields fs) null e in absurd cc
+no_struct (Some k) fs scoped e = no_reserved k fs scoped e
+
+no_structure : (name : Utf8) (vs : FieldValues) → means (value.structure name vs) ≡ Some null → ⊥
+no_structure name vs e = no_struct (reserved_kind name) vs (scoped_code (means_list vs [])) e
+
+-- a newtype that means null holds what means null
+null_newtype : (name : Utf8) (v : Value) → means (value.newtype name v) ≡ Some null → means v ≡ Some null
+null_newtype name v e = newtype_meant name v null e (λ is bs u same. absurd cc) (λ free m. m)
 
 items_normal : (s : Form) → ((t : Tree) (v : Value) → views s t ≡ Some v → IsNormal t v) → (ts : Trees) (vs : Items) → views_items (views s) ts ≡ Some vs → norm_items vs ≡ vs
 items_normal s each no_trees vs e = subst (λ x. norm_items x ≡ x) (some_is no_items vs e) refl
@@ -366,7 +396,7 @@ mutual
   views_normal (newtype name s) t v e =
       let m = some_map (value.newtype name) (views s t) v e in
       let inner = views_normal s t m.0 m.1 in
-      subst (IsNormal t) m.2 (ap (value.newtype name) inner.0, λ h. inner.1 (free_newtype (is_reserved_newtype name) (means m.0) null h).1)
+      subst (IsNormal t) m.2 (ap (value.newtype name) inner.0, λ h. inner.1 (null_newtype name m.0 h))
   views_normal (unit_structure name) null v e = subst (IsNormal null) (some_is (value.unit_structure name) v e) (refl, λ h. refl)
   views_normal (unit_structure name) t v e = absurd cc
   views_normal (sequence s) (array ts) v e =

@@ -12,3 +12,4 @@ pub mod Containers
 pub mod Slots
 pub mod Reads
 pub mod Spell
+pub mod Datum

@@ -1,13 +1,18 @@
 -- The document that a value means. Source: serde's data model, and the kinds of bsonspec.org.
-use Rattle.std.specs.Prelude.{encode_utf8, ℤ, int_lt, Option, Some, None, is_some, if◌then◌else◌, option_map, option_and_then}
-use Rattle.bson_base.specs.Text.{Utf8}
+use Rattle.std.specs.Prelude.{encode_utf8, ℤ, int_lt, false, List, [], ◌∷◌, Option, Some, None, if◌then◌else◌, option_map, option_and_then}
+use Rattle.std.specs.Result.{result_ok}
+use Rattle.std.specs.Str.{bytes_eq}
+use Rattle.bson_base.specs.Text.{Bytes, Utf8}
 use Rattle.bson_base.specs.Reserved.{reserved_kind}
 use Rattle.bson_base.specs.declared.element_type.ElementType.{ElementType}
-use Rattle.bson_base.specs.declared.element_type.ElementType.TheVariants.{Int32}
+use Rattle.bson_base.specs.declared.element_type.ElementType.TheVariants.{JavaScriptCodeWithScope, Int32}
 use Rattle.bson_base.specs.Tree as tree
 use Rattle.bson_base.specs.Tree.{Tree, string, document, array, binary, null, int32, int64, Pairs, no_pairs, pair, Trees, no_trees}
 use Rattle.bson_shape.specs.Makers.{is_reserved_newtype}
-use Rattle.bson_datum.specs.Value.{i64, greatest, written_as, Value, boolean, integer, double, character, str, bytes, none, some, unit, unit_structure, newtype, sequence, map, structure, unit_variant, newtype_variant, tuple, tuple_structure, tuple_variant, structure_variant, Items, no_items, item, Entries, no_entries, entry, FieldValues, no_field_values, field_value}
+use Rattle.bson_datum.specs.Value.{i64, greatest, written_as, Value, boolean, integer, double, character, str, bytes, none, some, unit, unit_structure, newtype, sequence, map, structure, unit_variant, newtype_variant, tuple, tuple_structure, tuple_variant, structure_variant, mode, uuid_newtype, Items, no_items, item, Entries, no_entries, entry, FieldValues, no_field_values, field_value}
+use Rattle.bson_reserved.specs.Unwrap.{Part, a_key, a_value, unwrap, scoped_code}
+use Rattle.bson_reserved.specs.UuidBytes.{uuid_bytes}
+use Rattle.bson_reserved.specs.Written.{with_scope, spell_whole}
 
 -- a number as a value of a kind; an Int64 is none that is greater than the greatest of `i64`
 abbrev pub number_of : ElementType → ℤ → Option Tree
@@ -20,21 +25,42 @@ some_or_none (Some null) v = none
 some_or_none t v = some v
 
 -- The key that a value is written as in a map: a text as it is, a unit variant as its name, some value and a newtype, whatever its name, as what
--- they hold. Others are no keys.
+-- they hold, a value with two forms as its readable one. Others are no keys.
 abbrev pub key_text : Value → Option Utf8
 key_text (str t) = Some t
 key_text (unit_variant name) = Some name
 key_text (some v) = key_text v
 key_text (newtype name v) = key_text v
+key_text (mode readable compact) = key_text readable
 key_text v = None
 
 -- a variant with contents: the document of one pair, whose key is the name of the variant
 abbrev pub under_name : Utf8 → Tree → Tree
 under_name name t = document (pair name t no_pairs)
 
+-- a newtype: that of a UUID is a binary of subtype 4, another one of a reserved name means nothing
+abbrev pub newtype_means : (name : Utf8) → Option Bytes → Option Tree → Option Tree
+newtype_means name uuid content = if bytes_eq name uuid_newtype then option_map (binary 4) uuid else if is_reserved_newtype name then None else content
+
+-- a reserved struct, by what it is accepted as
+abbrev pub unwrapped_means : Option Tree → Option Tree
+unwrapped_means o = option_and_then (λ t. result_ok (spell_whole t)) o
+
+abbrev pub scoped_means : Option (Utf8 × Option Tree) → Option Tree
+scoped_means o = option_and_then (λ p. option_map (with_scope p.0) p.1) o
+
+abbrev pub reserved_means : ElementType → Option Tree → Option (Utf8 × Option Tree) → Option Tree
+reserved_means JavaScriptCodeWithScope unwrapped scoped = scoped_means scoped
+reserved_means k unwrapped scoped = unwrapped_means unwrapped
+
+-- a struct: a document, or what its reserved name stands for
+abbrev pub struct_means : Option ElementType → Option Pairs → (ElementType → Option Tree) → Option Tree
+struct_means None pairs reserved = option_map document pairs
+struct_means (Some k) pairs reserved = reserved k
+
 abbrev mutual
-  -- The tree that a value is written as, where it is written. A struct or a newtype of a reserved name means none, though one of them,
-  -- `$__bson_private_utf8_lossy`, is written as its content.
+  -- The tree that a value is written as in its compact form, where it is written. The newtype of the readable form and `$__bson_private_utf8_lossy` mean
+  -- none, though they are written.
   pub means : Value → Option Tree
   means (boolean b) = Some (tree.boolean b)
   means (double bits) = Some (tree.double bits)
@@ -44,7 +70,8 @@ abbrev mutual
   means (some v) = means v
   means unit = Some null
   means (unit_structure name) = Some null
-  means (newtype name v) = if is_reserved_newtype name then None else means v
+  means (newtype name v) = newtype_means name (uuid_bytes false v) (means v)
+  means (mode readable compact) = means compact
   means (integer type n) = number_of (written_as type) n
   means (str t) = Some (string t)
   means (sequence vs) = option_map array (means_items vs)
@@ -55,7 +82,7 @@ abbrev mutual
   means (tuple_structure name vs) = option_map array (means_items vs)
   means (tuple_variant name vs) = option_map (λ ts. under_name name (array ts)) (means_items vs)
   means (structure_variant name fs) = option_map (λ ps. under_name name (document ps)) (means_fields fs)
-  means (structure name fs) = if is_some (reserved_kind name) then None else option_map document (means_fields fs)
+  means (structure name fs) = struct_means (reserved_kind name) (means_fields fs) (λ k. reserved_means k (unwrap k fs) (scoped_code (means_list fs [])))
 
   pub means_items : Items → Option Trees
   means_items no_items = Some no_trees
@@ -69,6 +96,16 @@ abbrev mutual
   means_fields no_field_values = Some no_pairs
   means_fields (field_value name v fs) = option_and_then (λ t. option_map (pair name t) (means_fields fs)) (means v)
 
+  -- the list of the fields of a reserved struct, each value with what it means, before what follows
+  pub means_list : FieldValues → List (Part (Option Tree)) → List (Part (Option Tree))
+  means_list no_field_values rest = rest
+  means_list (field_value name v fs) rest = a_key name ∷ means_part v (means v) (means_list fs rest)
+
+  pub means_part : Value → Option Tree → List (Part (Option Tree)) → List (Part (Option Tree))
+  means_part (structure name fs) t rest = means_list fs rest
+  means_part (mode readable compact) t rest = means_part compact (means compact) rest
+  means_part v t rest = a_value v t ∷ rest
+
 abbrev mutual
   -- the value that a value is read back as: null is read as none at an option
   pub norm : Value → Value
@@ -81,6 +118,7 @@ abbrev mutual
   norm unit = unit
   norm (unit_structure name) = unit_structure name
   norm (newtype name v) = newtype name (norm v)
+  norm (mode readable compact) = mode (norm readable) (norm compact)
   norm (integer type n) = integer type n
   norm (str t) = str t
   norm (sequence vs) = sequence (norm_items vs)

@@ -1,6 +1,6 @@
 -- The tree that a value is written as, or why it is not written, and how large it is. Source: serde's data model, and bsonspec.org, version 1.1,
 -- `document`, `e_name` and `cstring`.
-use Rattle.std.specs.Prelude.{encode_utf8, ◌<◌, ℕ, ℤ, int_lt, nat_lt, zero, suc, ◌+◌, length, codes, Option, Some, None, if◌then◌else◌, Result, Ok, Err}
+use Rattle.std.specs.Prelude.{encode_utf8, ◌<◌, ℕ, ℤ, int_lt, zero, suc, ◌+◌, List, [], ◌∷◌, length, Bool, false, Option, Some, None, if◌then◌else◌, Ok, Err}
 use Rattle.std.specs.Fmt.{decimal}
 use Rattle.std.specs.Str.{bytes_eq}
 use Rattle.bson_base.specs.Text.{Bytes, Utf8, has_zero}
@@ -10,25 +10,29 @@ use Rattle.bson_base.specs.Sound.{max_levels, max_binary}
 use Rattle.bson_base.specs.Tree as tree
 use Rattle.bson_base.specs.Tree.{Tree, string, document, array, binary, null, int32, int64, Pairs, no_pairs, pair, Trees, no_trees}
 use Rattle.bson_base.specs.declared.element_type.ElementType.{ElementType}
-use Rattle.bson_base.specs.declared.element_type.ElementType.TheVariants.{EmbeddedDocument, Binary, Int32}
-use Rattle.bson_datum.specs.Value.{i64, greatest, written_as, Value, boolean, integer, double, character, str, bytes, none, some, unit, unit_structure, newtype, sequence, map, structure, unit_variant, newtype_variant, tuple, tuple_structure, tuple_variant, structure_variant, Items, no_items, item, Entries, no_entries, entry, FieldValues, no_field_values, field_value, kind_of}
-use Rattle.bson_datum.specs.Cause.{too_deep, binary_too_long, top_level, not_built}
+use Rattle.bson_base.specs.declared.element_type.ElementType.TheVariants.{EmbeddedDocument, JavaScriptCodeWithScope, Int32}
+use Rattle.bson_datum.specs.Value.{i64, greatest, written_as, Value, boolean, integer, double, character, str, bytes, none, some, unit, unit_structure, newtype, sequence, map, structure, unit_variant, newtype_variant, tuple, tuple_structure, tuple_variant, structure_variant, mode, Items, no_items, item, Entries, no_entries, entry, FieldValues, no_field_values, field_value, kind_of, uuid_newtype, readable_inside}
+use Rattle.bson_datum.specs.Cause.{too_deep, binary_too_long, top_level}
 use Rattle.bson_datum.specs.Refusal.{WriteFault, unwritable, invalid_document_key, invalid_cstring, unsigned_exceeds, Refusal, here, under, under_index}
 use Rattle.bson_laws.specs.Means.{number_of, key_text}
-
--- an answer of writing: something, or a refusal with its path
-abbrev pub Writing : Type 0 → Type 0
-Writing A = Result A (Refusal WriteFault)
+use Rattle.bson_reserved.specs.UuidBytes.{uuid_bytes}
+use Rattle.bson_reserved.specs.Unwrap.{Part, a_key, a_value, unwrap, scoped_code}
+pub use Rattle.bson_reserved.specs.Written.{Writing, spell_binary, spell_whole, spell_unwrapped, spell_scoped, spell_uuid, written_size}
 
 -- a document or an array takes one of the levels that are left, and its parts are written with the others
 abbrev pub enclosed_at : {A : Type 0} → (A → Tree) → ℕ → (ℕ → Writing A) → Writing Tree
 enclosed_at container zero parts = Err (here (unwritable too_deep))
 enclosed_at container (suc levels) parts = result_map container (parts levels)
 
--- a struct of a name: one of a reserved name is not written yet
-abbrev pub struct_at : Option ElementType → ℕ → (ℕ → Writing Pairs) → Writing Tree
-struct_at None levels pairs = enclosed_at document levels pairs
-struct_at (Some k) levels pairs = Err (here (unwritable (not_built k)))
+-- a struct: a document of its fields, or what its reserved name stands for, which takes no level
+abbrev pub struct_at : Option ElementType → ℕ → (ℕ → Writing Pairs) → (ElementType → Writing Tree) → Writing Tree
+struct_at None levels pairs reserved = enclosed_at document levels pairs
+struct_at (Some k) levels pairs reserved = reserved k
+
+-- a struct of a name that is reserved for a kind, by what it is accepted as
+abbrev pub reserved_at : ElementType → Option Tree → Option (Utf8 × Writing Tree) → Writing Tree
+reserved_at JavaScriptCodeWithScope unwrapped scoped = spell_scoped scoped
+reserved_at k unwrapped scoped = spell_unwrapped unwrapped
 
 -- the value of a field, whose name is judged before it
 abbrev pub named : Utf8 → Writing Tree → Writing Tree
@@ -44,30 +48,22 @@ abbrev pub spell_number : ElementType → ℤ → Writing Tree
 spell_number Int32 n = Ok (int32 n)
 spell_number k n = if int_lt (greatest i64) n then Err (here (unsigned_exceeds n)) else Ok (int64 n)
 
--- a binary of subtype 0, which has no more bytes than a binary may
+-- a byte string: a binary of subtype 0
 abbrev pub spell_bytes : Bytes → Writing Tree
-spell_bytes bs = if nat_lt (max_binary 0) (length bs) then Err (here (unwritable (binary_too_long (length bs)))) else Ok (binary 0 bs)
+spell_bytes bs = spell_binary 0 bs
 
 -- a tree, null where there is none
 abbrev pub or_null : Option Tree → Tree
 or_null (Some t) = t
 or_null None = null
 
--- the kind of the newtypes that are not written yet: those of a UUID and of the readable form
-abbrev pub unbuilt_newtype : Utf8 → Option ElementType
-unbuilt_newtype name =
-    if bytes_eq name (codes "$__bson_private_uuid") then Some Binary
-    else if bytes_eq name (codes "$__bson_private_human_readable") then Some EmbeddedDocument
-    else None
-
--- the content of a newtype
-abbrev pub newtype_at : Option ElementType → Writing Tree → Writing Tree
-newtype_at None content = content
-newtype_at (Some k) content = Err (here (unwritable (not_built k)))
+-- a newtype: that of a UUID, or what its content is written as
+abbrev pub newtype_at : (name : Utf8) → (uuid content : Writing Tree) → Writing Tree
+newtype_at name uuid content = if bytes_eq name uuid_newtype then uuid else content
 
 -- What the refusal of a key carries: a scalar as it would be written, null for none, a unit, a unit struct and a number that is not written, an
--- empty array for a sequence, a tuple and a tuple variant, for some value and for a newtype what their content would carry, an empty document for
--- every other value, a tuple struct among them. A text and a unit variant are keys, and never carried.
+-- empty array for a sequence, a tuple and a tuple variant, for some value and for a newtype what their content would carry, for a value with two
+-- forms what its readable one would, an empty document for every other value, a tuple struct among them. A text and a unit variant are keys, and never carried.
 abbrev pub carried : Value → Tree
 carried (boolean b) = tree.boolean b
 carried (integer type n) = or_null (number_of (written_as type) n)
@@ -80,6 +76,7 @@ carried unit = null
 carried (unit_structure name) = null
 carried (some v) = carried v
 carried (newtype name v) = carried v
+carried (mode readable compact) = carried readable
 carried (sequence vs) = array no_trees
 carried (unit_variant name) = string name
 carried (tuple vs) = array no_trees
@@ -100,41 +97,65 @@ abbrev pub spell_key : Value → Writing Utf8
 spell_key k = written_key k (key_text k)
 
 abbrev mutual
-  -- the tree of a value with so many levels left, or the first refusal in document order
-  pub spell : Value → ℕ → Writing Tree
-  spell (boolean b) levels = Ok (tree.boolean b)
-  spell (double bits) levels = Ok (tree.double bits)
-  spell (character c) levels = Ok (string (encode_utf8 c))
-  spell (bytes bs) levels = spell_bytes bs
-  spell none levels = Ok null
-  spell (some v) levels = spell v levels
-  spell unit levels = Ok null
-  spell (unit_structure name) levels = Ok null
-  spell (newtype name v) levels = newtype_at (unbuilt_newtype name) (spell v levels)
-  spell (integer type n) levels = spell_number (written_as type) n
-  spell (str t) levels = Ok (string t)
-  spell (sequence vs) levels = enclosed_at array levels (spell_items 0 vs)
-  spell (map es) levels = enclosed_at document levels (spell_entries es)
-  spell (unit_variant name) levels = Ok (string name)
-  spell (newtype_variant name v) levels = variant_at name levels (spell v)
-  spell (tuple vs) levels = enclosed_at array levels (spell_items 0 vs)
-  spell (tuple_structure name vs) levels = enclosed_at array levels (spell_items 0 vs)
-  spell (tuple_variant name vs) levels = variant_at name levels (λ inside. enclosed_at array inside (spell_items 0 vs))
-  spell (structure_variant name fs) levels = variant_at name levels (λ inside. enclosed_at document inside (spell_fields fs))
-  spell (structure name fs) levels = struct_at (reserved_kind name) levels (spell_fields fs)
+  -- The tree of a value, in its readable form or in its compact one, with so many levels left, or the first refusal in document order.
+  pub spell_as : (readable : Bool) → Value → (levels : ℕ) → Writing Tree
+  spell_as readable (boolean b) levels = Ok (tree.boolean b)
+  spell_as readable (double bits) levels = Ok (tree.double bits)
+  spell_as readable (character c) levels = Ok (string (encode_utf8 c))
+  spell_as readable (bytes bs) levels = spell_bytes bs
+  spell_as readable none levels = Ok null
+  spell_as readable (some v) levels = spell_as readable v levels
+  spell_as readable unit levels = Ok null
+  spell_as readable (unit_structure name) levels = Ok null
+  spell_as readable (newtype name v) levels = newtype_at name (spell_uuid (uuid_bytes readable v)) (spell_as (readable_inside readable name) v levels)
+  spell_as readable (mode v w) levels = if readable then spell_as readable v levels else spell_as readable w levels
+  spell_as readable (integer type n) levels = spell_number (written_as type) n
+  spell_as readable (str t) levels = Ok (string t)
+  spell_as readable (sequence vs) levels = enclosed_at array levels (spell_items_as readable 0 vs)
+  spell_as readable (map es) levels = enclosed_at document levels (spell_entries_as readable es)
+  spell_as readable (unit_variant name) levels = Ok (string name)
+  spell_as readable (newtype_variant name v) levels = variant_at name levels (spell_as readable v)
+  spell_as readable (tuple vs) levels = enclosed_at array levels (spell_items_as readable 0 vs)
+  spell_as readable (tuple_structure name vs) levels = enclosed_at array levels (spell_items_as readable 0 vs)
+  spell_as readable (tuple_variant name vs) levels = variant_at name levels (λ inside. enclosed_at array inside (spell_items_as readable 0 vs))
+  spell_as readable (structure_variant name fs) levels = variant_at name levels (λ inside. enclosed_at document inside (spell_fields_as readable fs))
+  spell_as readable (structure name fs) levels = struct_at (reserved_kind name) levels (spell_fields_as readable fs) (λ k. reserved_at k (unwrap k fs) (scoped_code (spell_list readable fs levels [])))
 
   -- the values of a sequence from this index on
-  pub spell_items : ℕ → Items → ℕ → Writing Trees
-  spell_items i no_items levels = Ok no_trees
-  spell_items i (item v vs) levels = under_index i (spell v levels) >>= λ t. spell_items (suc i) vs levels >>= λ ts. Ok (tree.tree t ts)
+  pub spell_items_as : (readable : Bool) → (index : ℕ) → Items → (levels : ℕ) → Writing Trees
+  spell_items_as readable i no_items levels = Ok no_trees
+  spell_items_as readable i (item v vs) levels = under_index i (spell_as readable v levels) >>= λ t. spell_items_as readable (suc i) vs levels >>= λ ts. Ok (tree.tree t ts)
 
-  pub spell_entries : Entries → ℕ → Writing Pairs
-  spell_entries no_entries levels = Ok no_pairs
-  spell_entries (entry k v es) levels = spell_key k >>= λ key. under key (spell v levels) >>= λ t. spell_entries es levels >>= λ ps. Ok (pair key t ps)
+  pub spell_entries_as : (readable : Bool) → Entries → (levels : ℕ) → Writing Pairs
+  spell_entries_as readable no_entries levels = Ok no_pairs
+  spell_entries_as readable (entry k v es) levels = spell_key k >>= λ key. under key (spell_as readable v levels) >>= λ t. spell_entries_as readable es levels >>= λ ps. Ok (pair key t ps)
 
-  pub spell_fields : FieldValues → ℕ → Writing Pairs
-  spell_fields no_field_values levels = Ok no_pairs
-  spell_fields (field_value name v fs) levels = named name (spell v levels) >>= λ t. spell_fields fs levels >>= λ ps. Ok (pair name t ps)
+  pub spell_fields_as : (readable : Bool) → FieldValues → (levels : ℕ) → Writing Pairs
+  spell_fields_as readable no_field_values levels = Ok no_pairs
+  spell_fields_as readable (field_value name v fs) levels = named name (spell_as readable v levels) >>= λ t. spell_fields_as readable fs levels >>= λ ps. Ok (pair name t ps)
+
+  -- the list of the fields of a reserved struct, each value with what it is written as, before what follows
+  pub spell_list : (readable : Bool) → FieldValues → (levels : ℕ) → List (Part (Writing Tree)) → List (Part (Writing Tree))
+  spell_list readable no_field_values levels rest = rest
+  spell_list readable (field_value name v fs) levels rest = a_key name ∷ spell_part readable v levels (spell_as readable v levels) (spell_list readable fs levels rest)
+
+  pub spell_part : (readable : Bool) → Value → (levels : ℕ) → Writing Tree → List (Part (Writing Tree)) → List (Part (Writing Tree))
+  spell_part readable (structure name fs) levels r rest = spell_list readable fs levels rest
+  spell_part readable (mode v w) levels r rest = spell_part readable w levels (spell_as readable w levels) rest
+  spell_part readable v levels r rest = a_value v r ∷ rest
+
+-- the same in their compact forms
+abbrev pub spell : Value → (levels : ℕ) → Writing Tree
+spell v levels = spell_as false v levels
+
+abbrev pub spell_items : (index : ℕ) → Items → (levels : ℕ) → Writing Trees
+spell_items i vs levels = spell_items_as false i vs levels
+
+abbrev pub spell_entries : Entries → (levels : ℕ) → Writing Pairs
+spell_entries es levels = spell_entries_as false es levels
+
+abbrev pub spell_fields : FieldValues → (levels : ℕ) → Writing Pairs
+spell_fields fs levels = spell_fields_as false fs levels
 
 -- a value that is written as a document goes on; any other is refused at the top level
 abbrev pub at_top : ElementType → Writing Tree → Writing Tree
@@ -159,42 +180,84 @@ key_size None = 0
 abbrev pub variant_size : Utf8 → ℕ → ℕ
 variant_size name content = length name + 2 + content + 5
 
+-- how many bytes a struct takes: a document of its fields, or what its reserved name stands for
+abbrev pub struct_size : Option ElementType → ℕ → (ElementType → ℕ) → ℕ
+struct_size None fields reserved = fields + 5
+struct_size (Some k) fields reserved = reserved k
+
+-- how many bytes a reserved struct takes: those of its value, or its code, a length and its scope; none where it is not accepted
+abbrev pub scoped_size : Option (Utf8 × ℕ) → ℕ
+scoped_size None = 0
+scoped_size (Some p) = length p.0 + 9 + p.1
+
+abbrev pub reserved_size : ElementType → Option Tree → Option (Utf8 × ℕ) → ℕ
+reserved_size JavaScriptCodeWithScope unwrapped scoped = scoped_size scoped
+reserved_size k unwrapped scoped = written_size (spell_unwrapped unwrapped)
+
+-- how many bytes a newtype takes
+abbrev pub newtype_size : (name : Utf8) → (uuid content : ℕ) → ℕ
+newtype_size name uuid content = if bytes_eq name uuid_newtype then uuid else content
+
 abbrev mutual
-  -- how many bytes a value takes; a struct of a reserved name, which is not written yet, counts as any other
-  pub size : Value → ℕ
-  size (boolean b) = 1
-  size (double bits) = length bits
-  size (character c) = length (encode_utf8 c) + 5
-  size (bytes bs) = length bs + 5
-  size none = 0
-  size (some v) = size v
-  size unit = 0
-  size (unit_structure name) = 0
-  size (newtype name v) = size v
-  size (integer type n) = number_size (written_as type)
-  size (str t) = length t + 5
-  size (sequence vs) = size_items 0 vs + 5
-  size (map es) = size_entries es + 5
-  size (unit_variant name) = length name + 5
-  size (newtype_variant name v) = variant_size name (size v)
-  size (tuple vs) = size_items 0 vs + 5
-  size (tuple_structure name vs) = size_items 0 vs + 5
-  size (tuple_variant name vs) = variant_size name (size_items 0 vs + 5)
-  size (structure_variant name fs) = variant_size name (size_fields fs + 5)
-  size (structure name fs) = size_fields fs + 5
+  -- how many bytes a value takes, in its readable form or in its compact one
+  pub size_as : (readable : Bool) → Value → ℕ
+  size_as readable (boolean b) = 1
+  size_as readable (double bits) = length bits
+  size_as readable (character c) = length (encode_utf8 c) + 5
+  size_as readable (bytes bs) = length bs + 5
+  size_as readable none = 0
+  size_as readable (some v) = size_as readable v
+  size_as readable unit = 0
+  size_as readable (unit_structure name) = 0
+  size_as readable (newtype name v) = newtype_size name (written_size (spell_uuid (uuid_bytes readable v))) (size_as (readable_inside readable name) v)
+  size_as readable (mode v w) = if readable then size_as readable v else size_as readable w
+  size_as readable (integer type n) = number_size (written_as type)
+  size_as readable (str t) = length t + 5
+  size_as readable (sequence vs) = size_items_as readable 0 vs + 5
+  size_as readable (map es) = size_entries_as readable es + 5
+  size_as readable (unit_variant name) = length name + 5
+  size_as readable (newtype_variant name v) = variant_size name (size_as readable v)
+  size_as readable (tuple vs) = size_items_as readable 0 vs + 5
+  size_as readable (tuple_structure name vs) = size_items_as readable 0 vs + 5
+  size_as readable (tuple_variant name vs) = variant_size name (size_items_as readable 0 vs + 5)
+  size_as readable (structure_variant name fs) = variant_size name (size_fields_as readable fs + 5)
+  size_as readable (structure name fs) = struct_size (reserved_kind name) (size_fields_as readable fs) (λ k. reserved_size k (unwrap k fs) (scoped_code (size_list readable fs [])))
 
   -- an element takes one byte for its kind, its key and a zero, and its value; the keys of an array are the decimal indexes from this one on
-  pub size_items : ℕ → Items → ℕ
-  size_items i no_items = 0
-  size_items i (item v vs) = length (decimal i) + 2 + size v + size_items (suc i) vs
+  pub size_items_as : (readable : Bool) → (index : ℕ) → Items → ℕ
+  size_items_as readable i no_items = 0
+  size_items_as readable i (item v vs) = length (decimal i) + 2 + size_as readable v + size_items_as readable (suc i) vs
 
-  pub size_entries : Entries → ℕ
-  size_entries no_entries = 0
-  size_entries (entry k v es) = key_size (key_text k) + 2 + size v + size_entries es
+  pub size_entries_as : (readable : Bool) → Entries → ℕ
+  size_entries_as readable no_entries = 0
+  size_entries_as readable (entry k v es) = key_size (key_text k) + 2 + size_as readable v + size_entries_as readable es
 
-  pub size_fields : FieldValues → ℕ
-  size_fields no_field_values = 0
-  size_fields (field_value name v fs) = length name + 2 + size v + size_fields fs
+  pub size_fields_as : (readable : Bool) → FieldValues → ℕ
+  size_fields_as readable no_field_values = 0
+  size_fields_as readable (field_value name v fs) = length name + 2 + size_as readable v + size_fields_as readable fs
+
+  -- the list of the fields of a reserved struct, each value with its size, before what follows
+  pub size_list : (readable : Bool) → FieldValues → List (Part ℕ) → List (Part ℕ)
+  size_list readable no_field_values rest = rest
+  size_list readable (field_value name v fs) rest = a_key name ∷ size_part readable v (size_as readable v) (size_list readable fs rest)
+
+  pub size_part : (readable : Bool) → Value → ℕ → List (Part ℕ) → List (Part ℕ)
+  size_part readable (structure name fs) n rest = size_list readable fs rest
+  size_part readable (mode v w) n rest = size_part readable w (size_as readable w) rest
+  size_part readable v n rest = a_value v n ∷ rest
+
+-- the same in their compact forms
+abbrev pub size : Value → ℕ
+size v = size_as false v
+
+abbrev pub size_items : (index : ℕ) → Items → ℕ
+size_items i vs = size_items_as false i vs
+
+abbrev pub size_entries : Entries → ℕ
+size_entries es = size_entries_as false es
+
+abbrev pub size_fields : FieldValues → ℕ
+size_fields fs = size_fields_as false fs
 
 -- what nests too deep, or a binary that has more bytes than a binary may
 abbrev pub IsTooLarge : WriteFault → Type 0

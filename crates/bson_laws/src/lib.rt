@@ -1,20 +1,21 @@
 //! What documents are at a shape, what values mean, how they are read and written, and the laws between these.
 #![tactic(auto)]
 
-ghost use Rattle.std.specs.Prelude.{◌≡◌, ℕ, ◌≤◌, length, Some, Ok};
-ghost use Rattle.bson_base.specs.Sound.{IsSound, max_bytes};
+ghost use Rattle.std.specs.Prelude.{◌≡◌, ℕ, ◌≤◌, Bool, length, Some, Ok};
+ghost use Rattle.bson_base.specs.Sound.{IsClean, IsSound, HasBytes, max_bytes};
 ghost use Rattle.bson_base.specs.Text.{Bytes, AreBytes};
-ghost use Rattle.bson_base.specs.Tree.{Tree, enc};
+ghost use Rattle.bson_base.specs.Tree.{Tree, binary, enc, kind, depth};
 ghost use Rattle.bson_shape.specs.Form.{Form};
 ghost use Rattle.bson_shape.specs.Makers.{IsShape};
-ghost use Rattle.bson_datum.specs.Value.{Value};
+ghost use Rattle.bson_datum.specs.Value.{Value, kind_as};
 ghost use Rattle.bson_laws.specs.Views.{views};
 ghost use Rattle.bson_laws.specs.Means.{means, norm};
 ghost use Rattle.bson_laws.specs.Fits.{Fits};
 ghost use Rattle.bson_laws.specs.Plain.{IsPlain};
 ghost use Rattle.bson_laws.specs.Writable.{IsWritable};
 ghost use Rattle.bson_laws.specs.Reads.{reads_document};
-ghost use Rattle.bson_laws.specs.Spell.{IsWrittenUnlessLarge, HoldsNumbers, spell, spell_document, size};
+ghost use Rattle.bson_laws.specs.Datum.{datum, uuid_datum, sorted_tree};
+ghost use Rattle.bson_laws.specs.Spell.{IsWrittenUnlessLarge, HoldsNumbers, spell_as, spell_document, size_as};
 
 /// What a sound document is at a plain shape is read from its bytes; it fits the shape, and is its own normal form.
 ///
@@ -35,13 +36,29 @@ pub fn law_views_means()
         → views s t ≡ Some (norm d) }
 {}
 
-/// A value that means a sound document is spelled as that document, and whatever is spelled takes as many bytes as the size of
-/// the value says.
+/// A value that means a sound document is spelled as that document. Whatever is spelled, in the readable form or in the compact one, takes as many
+/// bytes as the size of the value says, and is of the kind that the value is written as.
 ///
 /// It does nothing.
 pub fn law_spell_means()
     ensures spells { (d : Value) (t : Tree) → means d ≡ Some t → IsSound t → spell_document d ≡ Ok t }
-    ensures size { (d : Value) (levels : ℕ) (t : Tree) → spell d levels ≡ Ok t → size d ≡ length (enc t) }
+    ensures size { (readable : Bool) (d : Value) (levels : ℕ) (t : Tree) → spell_as readable d levels ≡ Ok t
+        → size_as readable d ≡ length (enc t) }
+    ensures kind { (readable : Bool) (d : Value) (levels : ℕ) (t : Tree) → spell_as readable d levels ≡ Ok t
+        → kind t ≡ kind_as readable d }
+{}
+
+/// A clean tree, as a value in which each extended value is the struct of a reserved name, is spelled as itself with the options of its regular
+/// expressions in order, in the readable form and in the compact one; and that is what the value means. A UUID as a value is spelled as its binary of
+/// subtype 4: from its text in the readable form, from its bytes in the compact one.
+///
+/// It does nothing.
+pub fn law_datum_spells()
+    ensures spells { (readable : Bool) (t : Tree) (levels : ℕ) → IsClean t → depth t ≤ levels
+        → spell_as readable (datum (λ b. b) t) levels ≡ Ok (sorted_tree t) }
+    ensures means { (t : Tree) → IsClean t → means (datum (λ b. b) t) ≡ Some (sorted_tree t) }
+    ensures uuid { (readable : Bool) (b : Bytes) (levels : ℕ) → HasBytes 16 b
+        → spell_as readable (uuid_datum (λ b. b) b) levels ≡ Ok (binary 4 b) }
 {}
 
 /// The document that a value of a plain shape means is read back, at the shape, as the normal form of the value.

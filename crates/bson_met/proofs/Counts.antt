@@ -3,7 +3,7 @@ use Rattle.std.proofs.Common.{◌≡◌, ℕ, suc, ◌<◌, ◌≤◌, ◌^◌, 
 use Rattle.bson_base.specs.BsonView.{trees_of}
 use Rattle.bson_base.specs.Pairs as pairs
 use Rattle.bson_base.specs.Text.{Bytes}
-use Rattle.bson_base.specs.Tree.{Pairs, no_pairs, pair, Trees}
+use Rattle.bson_base.specs.Tree.{Pairs, no_pairs, pair}
 use Rattle.bson_base.specs.declared.bson.Bson.{Bson}
 use Rattle.bson_base.specs.declared.element_type.ElementType.{ElementType}
 use Rattle.bson_rawdoc.specs.Next as next
@@ -24,13 +24,13 @@ count_walk see ended = refl
 count_walk see (faulty e) = refl
 count_walk see (then_walk e w) = ap suc (count_walk see w)
 
-pub count_pairs : (lent : Bool) (levels : ℕ) (ps : Pairs) → count (pair_nodes lent ps levels) ≡ pairs.count ps
-count_pairs lent levels no_pairs = refl
-count_pairs lent levels (pair key t ps) = ap suc (count_pairs lent levels ps)
+pub count_pairs : (in_input : Bool) (levels : ℕ) (ps : Pairs) → count (pair_nodes in_input ps levels) ≡ pairs.count ps
+count_pairs in_input levels no_pairs = refl
+count_pairs in_input levels (pair key t ps) = ap suc (count_pairs in_input levels ps)
 
-pub count_values : (lent : Bool) (i levels : ℕ) (bs : List Bson) → count (tree_nodes lent i (trees_of bs) levels) ≡ length bs
-count_values lent i levels [] = refl
-count_values lent i levels (b ∷ bs) = ap suc (count_values lent (suc i) levels bs)
+pub count_values : (in_input : Bool) (i levels : ℕ) (bs : List Bson) → count (tree_nodes in_input i (trees_of bs) levels) ≡ length bs
+count_values in_input i levels [] = refl
+count_values in_input i levels (b ∷ bs) = ap suc (count_values in_input (suc i) levels bs)
 
 count_whole : (x : node.Extended) → count (opened x) ≤ 2
 count_whole (node.binary s b) = omega arith

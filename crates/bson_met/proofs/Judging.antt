@@ -1,5 +1,5 @@
--- What judging answers of a value in bytes, by what the element lends.
-use Rattle.std.proofs.Common.{◌≡◌, ℕ, Option, Some, None, Result, Ok, Err, refl, ap, sym, subst, ◌∙◌}
+-- What judging answers of a value in bytes, by what the element gives.
+use Rattle.std.proofs.Common.{◌≡◌, ℕ, Ok, Err, ap, sym, subst, ◌∙◌}
 use Rattle.bson_base.specs.Text.{Bytes}
 use Rattle.bson_base.specs.declared.element_type.ElementType.{ElementType}
 use Rattle.bson_rawdoc.specs.Node.{Node, fault, node_in, inner_node, value_node}
@@ -16,7 +16,7 @@ good levels v n h = ap (λ o. faultless o n) h.1 ∙ ap with_level h.0
 pub seen : (levels : ℕ) (k : ElementType) (b : Bytes) (v : RawValue) → Ok v ≡ value_in k b → node_in levels k b ≡ value_node (inner_node levels) v
 seen levels k b v e = (subst (λ r. Sees (value_node (inner_node levels)) r (node_in levels k b)) (sym e) (element_seen levels k b)).0
 
--- a value that the element lends
+-- a value that the element gives
 pub judged_good : (levels : ℕ) (k : ElementType) (b : Bytes) (v : RawValue) → Ok v ≡ value_in k b → judged plain (node_in levels k b) ≡ with_level (value_node (inner_node levels) v)
 judged_good levels k b v e = good levels v (node_in levels k b) (subst (λ r. Sees (value_node (inner_node levels)) r (node_in levels k b)) (sym e) (element_seen levels k b))
 

@@ -67,7 +67,7 @@ pub kind_inner : (levels : ℕ) (b : Bytes) → kind_of (inner_node levels kinds
 kind_inner zero b = refl
 kind_inner (suc levels) b = refl
 
-document_kind : (ns : ℕ → Nodes) (levels : ℕ) → kind_of (one_level kinds.EmbeddedDocument ns levels) ≡ kinds.EmbeddedDocument
+pub document_kind : (ns : ℕ → Nodes) (levels : ℕ) → kind_of (one_level kinds.EmbeddedDocument ns levels) ≡ kinds.EmbeddedDocument
 document_kind ns zero = refl
 document_kind ns (suc levels) = refl
 
@@ -75,8 +75,8 @@ array_kind : (ns : ℕ → Nodes) (levels : ℕ) → kind_of (one_level kinds.Ar
 array_kind ns zero = refl
 array_kind ns (suc levels) = refl
 
-pub kind_tree : (lent : Bool) (t : Tree) (levels : ℕ) → kind_of (tree_node lent t levels) ≡ trees.kind t
-kind_tree lent (trees.document ps) levels = document_kind _ levels
-kind_tree lent (trees.array ts) levels = array_kind _ levels
-kind_tree lent (trees.binary s b) levels = binary_kind s _
-kind_tree lent t levels = refl
+pub kind_tree : (in_input : Bool) (t : Tree) (levels : ℕ) → kind_of (tree_node in_input t levels) ≡ trees.kind t
+kind_tree in_input (trees.document ps) levels = document_kind _ levels
+kind_tree in_input (trees.array ts) levels = array_kind _ levels
+kind_tree in_input (trees.binary s b) levels = binary_kind s _
+kind_tree in_input t levels = refl

@@ -71,19 +71,19 @@ pub null_inner : (levels : ℕ) (b : Bytes) → is_null (inner_node levels kinds
 null_inner zero b = refl
 null_inner (suc levels) b = refl
 
-document_kind : (ns : ℕ → Nodes) (levels : ℕ) → is_null (one_level kinds.EmbeddedDocument ns levels) ≡ false
-document_kind ns zero = refl
-document_kind ns (suc levels) = refl
+pub null_document : (ns : ℕ → Nodes) (levels : ℕ) → is_null (one_level kinds.EmbeddedDocument ns levels) ≡ false
+null_document ns zero = refl
+null_document ns (suc levels) = refl
 
 array_kind : (ns : ℕ → Nodes) (levels : ℕ) → is_null (one_level kinds.Array ns levels) ≡ false
 array_kind ns zero = refl
 array_kind ns (suc levels) = refl
 
-pub null_tree : (lent : Bool) (t : Tree) (levels : ℕ) → is_null (tree_node lent t levels) ≡ is_null_kind (trees.kind t)
-null_tree lent (trees.document ps) levels = document_kind _ levels
-null_tree lent (trees.array ts) levels = array_kind _ levels
-null_tree lent (trees.binary s b) levels = binary_kind s _
-null_tree lent t levels = refl
+pub null_tree : (in_input : Bool) (t : Tree) (levels : ℕ) → is_null (tree_node in_input t levels) ≡ is_null_kind (trees.kind t)
+null_tree in_input (trees.document ps) levels = null_document _ levels
+null_tree in_input (trees.array ts) levels = array_kind _ levels
+null_tree in_input (trees.binary s b) levels = binary_kind s _
+null_tree in_input t levels = refl
 
 pub null_made : (m : Made) → is_null (made_node m) ≡ false
 null_made (mades.Text t) = refl

@@ -1,13 +1,16 @@
 -- What contracts see of values of kinds that serde's data model lacks, and of what is left of the documents that they are opened to.
-use Rattle.std.specs.Prelude.{pos, true, codes, [], ◌∷◌}
+use Rattle.std.specs.Prelude.{ℕ, pos, true, false, codes, [], ◌∷◌}
+use Rattle.bson_base.specs.BsonView.{pairs_of}
 use Rattle.bson_base.specs.Instant.{millis}
 use Rattle.bson_base.specs.declared.element_type.ElementType.TheVariants.{EmbeddedDocument}
 use Rattle.bson_rawdoc.specs.DocumentView.{document_bytes}
 use Rattle.bson_base.specs.Made.{digits, number_text, base64_text}
 use Rattle.bson_rawdoc.specs.Node as node
-use Rattle.bson_rawdoc.specs.Node.{Node, Nodes, one, two, made_text, opened, inner_node}
+use Rattle.bson_rawdoc.specs.Node.{Node, Nodes, one, two, made_text, opened, inner_node, one_level, pair_nodes}
 use Rattle.bson_rawdoc.specs.Piece.{made}
 use Rattle.bson_met.specs.PieceView.{met_bytes, str_piece, met_text}
+use Rattle.bson_met.specs.declared.opened.Names.{Names}
+use Rattle.bson_met.specs.declared.opened.Names.TheVariants.{Bytes, Pairs}
 use Rattle.bson_met.specs.declared.opened.Scope.{Scope}
 use Rattle.bson_met.specs.declared.opened.Extended.{Extended}
 use Rattle.bson_met.specs.declared.opened.Extended.TheVariants.{Binary, Undefined, ObjectId, DateTime, RegularExpression, DbPointer, JavaScriptCode, Symbol, JavaScriptCodeWithScope, Timestamp, Decimal128, MaxKey, MinKey}
@@ -17,8 +20,13 @@ use Rattle.bson_met.specs.declared.opened.Place.TheVariants as places
 use Rattle.bson_met.specs.declared.opened.Made.{Made}
 use Rattle.bson_met.specs.declared.opened.Made.TheVariants as mades
 
+-- the names of a scope, with so many levels left for them
+abbrev pub names_node : ℕ → Names → Node
+names_node levels (Bytes d) = inner_node levels EmbeddedDocument (document_bytes d)
+names_node levels (Pairs d) = one_level EmbeddedDocument (pair_nodes false (pairs_of d.now)) levels
+
 abbrev pub scope_node : Scope → Node
-scope_node s = inner_node s.levels EmbeddedDocument (document_bytes s.document)
+scope_node s = names_node s.levels s.names
 
 abbrev pub extended_view : Extended → node.Extended
 extended_view (Binary s b) = node.binary s.0 (met_bytes b)

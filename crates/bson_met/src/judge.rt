@@ -1,10 +1,10 @@
 // Values, judged.
 ghost use Rattle.std.specs.Prelude.{◌≡◌, true, false, Ok, string_bytes};
 ghost use Rattle.std.specs.Str.{is_utf8};
-ghost use Rattle.bson_base.specs.BsonView.{tree_of};
+ghost use Rattle.bson_base.specs.BsonView.{tree_of, pairs_of};
 ghost use Rattle.bson_base.specs.declared.element_type.ElementType.TheVariants as kinds;
 ghost use Rattle.bson_rawdoc.specs.DocumentView.{document_bytes};
-ghost use Rattle.bson_rawdoc.specs.Node.{node_in, inner_node, value_node, tree_node};
+ghost use Rattle.bson_rawdoc.specs.Node.{node_in, inner_node, value_node, one_level, pair_nodes, tree_node};
 ghost use Rattle.bson_rawdoc.specs.JsonKinds.{is_of_json};
 ghost use Rattle.bson_rawdoc.specs.Piece.{borrowed, made};
 ghost use Rattle.bson_rawdoc.specs.RawValue.{kind_of, value_in};
@@ -20,11 +20,11 @@ use crate::bytes::MetBytes;
 use crate::elements::Elements;
 use crate::items::Items;
 use crate::met::What;
-use crate::opened::{Extended, Made, Scope};
+use crate::opened::{Extended, Made, Names, Scope};
 use crate::reading::{Reading, refused};
-use crate::text::{MetStr, MetText};
+use crate::text::{MetStr, MetText, known};
 use crate::value::Value;
-use bson_base::Bson;
+use bson_base::{Bson, Document};
 use bson_datum::Cause;
 use bson_rawdoc::{RawBsonRef, RawDocument, RawElement};
 use std::alloc::Global;
@@ -53,6 +53,7 @@ pub(crate) fn judge_beyond<'de>(alloc: Global, levels: u32, what: &What<'de>) ->
         What::Element(element) => Ok(judge_element(alloc, levels, element)?),
         What::Document(document) => Ok(judge_document(alloc, levels, *document)?),
         What::Tree(value) => Ok(judge_tree(alloc, levels, value)?),
+        What::Pairs(document) => Ok(judge_pairs(alloc, levels, document)?),
         What::Made(made) => Ok(judge_made(*made)),
     }
 }
@@ -67,6 +68,15 @@ fn judge_document<'de>(
         (judged plain (inner_node levels kinds.EmbeddedDocument (document_bytes document.entry))) }
 {
     let elements = Elements::in_document(alloc, levels, document)?;
+    Ok(Value::Document(elements))
+}
+
+/// A document of a tree.
+fn judge_pairs<'de>(alloc: Global, levels: u32, document: &'de Document) -> Reading<Value<'de>>
+    ensures { Reaches value_view result
+        (judged plain (one_level kinds.EmbeddedDocument (pair_nodes false (pairs_of document.now)) levels)) }
+{
+    let elements = Elements::in_pairs(alloc, levels, document)?;
     Ok(Value::Document(elements))
 }
 
@@ -141,10 +151,8 @@ fn extended<'de>(levels: u32, element: &RawElement<'de>, value: RawBsonRef<'de>)
         RawBsonRef::JavaScriptCode(code) => Extended::JavaScriptCode(MetStr::input(code)),
         RawBsonRef::Symbol(text) => Extended::Symbol(MetStr::input(text)),
         RawBsonRef::JavaScriptCodeWithScope { code, scope } => {
-            let scope = Scope {
-                levels,
-                document: scope,
-            };
+            let names = Names::Bytes(scope);
+            let scope = Scope { levels, names };
             Extended::JavaScriptCodeWithScope(MetStr::input(code), scope)
         }
         RawBsonRef::Timestamp(time) => Extended::Timestamp(time),
@@ -190,6 +198,23 @@ fn judge_tree<'de>(alloc: Global, levels: u32, value: &'de Bson) -> Reading<Valu
         Bson::Undefined => Ok(Value::Extended(Extended::Undefined)),
         Bson::ObjectId(id) => Ok(Value::Extended(Extended::ObjectId(own_bytes(&id.0)))),
         Bson::DateTime(time) => Ok(Value::Extended(Extended::DateTime(*time))),
+        Bson::RegularExpression(regex) => {
+            let (pattern, options) = (regex.pattern(), regex.options());
+            known(pattern);
+            known(options);
+            let (pattern, options) = (MetStr::elsewhere(pattern), MetStr::elsewhere(options));
+            Ok(Value::Extended(Extended::RegularExpression(pattern, options)))
+        }
+        Bson::DbPointer(pointer) => {
+            let namespace = MetStr::elsewhere(as_text(&pointer.namespace));
+            Ok(Value::Extended(Extended::DbPointer(namespace, pointer.id)))
+        }
+        Bson::JavaScriptCodeWithScope(scoped) => {
+            let code = MetStr::elsewhere(as_text(&scoped.code));
+            let names = Names::Pairs(&scoped.scope);
+            let scope = Scope { levels, names };
+            Ok(Value::Extended(Extended::JavaScriptCodeWithScope(code, scope)))
+        }
         Bson::JavaScriptCode(code) => {
             let code = MetStr::elsewhere(as_text(code));
             Ok(Value::Extended(Extended::JavaScriptCode(code)))

@@ -15,11 +15,11 @@ ghost use Rattle.bson_met.specs.ValueView.{value_view};
 use crate::elements::Elements;
 use crate::items::Items;
 use crate::judge::{judge_beyond, judge_element};
-use crate::opened::{Made, Scope};
+use crate::opened::{Made, Names, Scope};
 use crate::reading::Reading;
 use crate::scalar::{Scalar, scalar_in};
 use crate::value::Value;
-use bson_base::{Bson, ElementType};
+use bson_base::{Bson, Document, ElementType};
 use bson_rawdoc::{RawDocument, RawElement};
 use std::alloc::Global;
 use std::marker::Model;
@@ -40,6 +40,8 @@ pub(crate) enum What<'de> {
     Document(RawDocument<'de>),
     /// A value of a tree.
     Tree(&'de Bson),
+    /// A document of a tree, which is a scope.
+    Pairs(&'de Document),
     /// A value in a document that another value is opened to.
     Made(Made<'de>),
 }
@@ -102,10 +104,12 @@ impl<'de> Met<'de> {
     pub fn of_scope(scope: Scope<'de>) -> Met<'de>
         ensures node { result ≡ scope_node scope.entry }
     {
-        Met {
-            levels: scope.levels,
-            what: What::Document(scope.document),
-        }
+        let what = match scope.names {
+            Names::Bytes(document) => What::Document(document),
+            Names::Pairs(document) => What::Pairs(document),
+        };
+        let levels = scope.levels;
+        Met { levels, what }
     }
 
     /// The element whose value it is, with the levels left for it; `None` where it is no value of an element.
@@ -119,7 +123,8 @@ impl<'de> Met<'de> {
         }
     }
 
-    /// The document of the input that it is, whole or a scope, with the levels left for it; `None` where it is none.
+    /// The whole document or the scope of the input that it is, with the levels left for it; `None` for anything else, also for a document that is
+    /// the value of an element.
     #[inline(always)]
     pub fn raw_document(&self) -> Option<(u32, RawDocument<'de>)>
         ensures document { IfSome result (λ p. self.now ≡ inner_node p.0 kinds.EmbeddedDocument (document_bytes p.1)) }
@@ -131,7 +136,7 @@ impl<'de> Met<'de> {
     }
 
     /// Its kind.
-    #[tactic(auto, using(crate::proofs::NodeKinds::kind_in, crate::proofs::NodeKinds::kind_inner, crate::proofs::NodeKinds::kind_tree))]
+    #[tactic(auto, using(crate::proofs::NodeKinds::kind_in, crate::proofs::NodeKinds::kind_inner, crate::proofs::NodeKinds::document_kind, crate::proofs::NodeKinds::kind_tree))]
     #[inline(always)]
     pub fn kind(&self) -> ElementType
         ensures kind { result ≡ node.kind_of self.now }
@@ -140,12 +145,13 @@ impl<'de> Met<'de> {
             What::Element(element) => element.element_type(),
             What::Document(_) => ElementType::EmbeddedDocument,
             What::Tree(value) => value.element_type(),
+            What::Pairs(_) => ElementType::EmbeddedDocument,
             What::Made(made) => made.kind(),
         }
     }
 
     /// Whether it is null.
-    #[tactic(auto, using(crate::proofs::NodeNulls::null_in, crate::proofs::NodeNulls::null_inner, crate::proofs::NodeNulls::null_tree, crate::proofs::NodeNulls::null_made))]
+    #[tactic(auto, using(crate::proofs::NodeNulls::null_in, crate::proofs::NodeNulls::null_inner, crate::proofs::NodeNulls::null_document, crate::proofs::NodeNulls::null_tree, crate::proofs::NodeNulls::null_made))]
     #[inline(always)]
     pub fn is_null(&self) -> bool
         ensures null { result ≡ is_null self.now }
@@ -154,6 +160,7 @@ impl<'de> Met<'de> {
             What::Element(element) => is_null_kind(element.element_type()),
             What::Document(_) => false,
             What::Tree(value) => is_null_kind(value.element_type()),
+            What::Pairs(_) => false,
             What::Made(_) => false,
         }
     }

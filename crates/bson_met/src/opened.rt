@@ -8,7 +8,7 @@ ghost use Rattle.bson_met.specs.PieceView.{str_piece};
 use crate::bytes::MetBytes;
 use crate::met::Met;
 use crate::text::{MetStr, MetText};
-use bson_base::{BinarySubtype, DateTime, ElementType, ObjectId, Timestamp};
+use bson_base::{BinarySubtype, DateTime, Document, ElementType, ObjectId, Timestamp};
 use bson_rawdoc::RawDocument;
 
 /// A value of a kind that serde's data model lacks.
@@ -46,7 +46,16 @@ pub enum Extended<'de> {
 #[derive(Clone, Copy)]
 pub struct Scope<'de> {
     pub(crate) levels: u32,
-    pub(crate) document: RawDocument<'de>,
+    pub(crate) names: Names<'de>,
+}
+
+/// Where the names of a scope are.
+#[derive(Clone, Copy)]
+pub(crate) enum Names<'de> {
+    /// In a document of the input.
+    Bytes(RawDocument<'de>),
+    /// In a document of a tree.
+    Pairs(&'de Document),
 }
 
 /// What is left of a document that a value is opened to, or of one inside it.

@@ -158,7 +158,7 @@ impl<'de> MetText<'de> {
 
 // A text is UTF-8.
 #[inline(always)]
-fn known(text: &str)
+pub(crate) fn known(text: &str)
     ensures { is_utf8 text.now ≡ true }
 {}
 

@@ -5,7 +5,7 @@ use Rattle.bson_rawdoc.specs.DocumentView.{document_bytes, array_bytes}
 use Rattle.bson_rawdoc.specs.declared.value.RawBsonRef.{RawBsonRef}
 use Rattle.bson_rawdoc.specs.declared.value.RawBsonRef.TheVariants.{Double, String, Array, Document, Boolean, Null, RegularExpression, JavaScriptCode, JavaScriptCodeWithScope, Int32, Int64, Timestamp, Binary, ObjectId, DateTime, Symbol, Decimal128, Undefined, MaxKey, MinKey, DbPointer}
 
--- the value that it lends
+-- the value that it borrows
 abbrev pub raw_value : RawBsonRef → raw.RawValue
 raw_value (Double d) = raw.double d.0
 raw_value (String t) = raw.string t.now

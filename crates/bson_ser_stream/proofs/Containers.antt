@@ -1,6 +1,7 @@
 -- A document or an array: a place for its length, its parts, and its end.
-use Rattle.std.proofs.Common.{◌≡◌, ℕ, zero, suc, ◌+◌, ◌-◌, ◌≤◌, [], ◌∷◌, ◌++◌, length, take, drop, Result, Ok, Err, refl, ap, sym, subst, ◌∙◌, append_assoc, arith}
+use Rattle.std.proofs.Common.{Bool, ◌≡◌, ℕ, zero, suc, ◌+◌, ◌-◌, ◌≤◌, [], ◌∷◌, ◌++◌, length, take, drop, Result, Ok, Err, refl, ap, sym, subst, ◌∙◌, append_assoc, arith}
 use Rattle.std.proofs.lemmas.List.{length-append, take_at, drop_at}
+use Rattle.std.specs.Prelude.{IsOk}
 use Rattle.bson_base.specs.Text.{Bytes}
 use Rattle.bson_base.specs.Outcome.{result_map}
 use Rattle.bson_base.specs.Sound.{max_bytes}
@@ -8,8 +9,9 @@ use Rattle.bson_base.specs.Tree.{Tree, document, array, le32, enc, elements, arr
 use Rattle.bson_base.specs.declared.element_type.ElementType.{ElementType}
 use Rattle.bson_base.proofs.Lengths.{length-le32}
 use Rattle.bson_datum.specs.Value.{Items, Entries, FieldValues}
+use Rattle.bson_datum.specs.Refusal.{Refusal, WriteFault}
 use Rattle.bson_io.specs.Output.{Output, Appended, patched}
-use Rattle.bson_laws.specs.Spell.{Writing, spell_items, spell_entries, spell_fields, enclosed_at, size_items, size_entries, size_fields}
+use Rattle.bson_laws.specs.Spell.{Writing, spell_items_as, spell_entries_as, spell_fields_as, enclosed_at, size_items_as, size_entries_as, size_fields_as}
 use Rattle.bson_laws.proofs.Sizes.{ok_is, length-spell_items, length-spell_entries, length-spell_fields}
 use Rattle.bson_ser_stream.specs.Writing.{with_bytes, with_tree, length_place, level_inside}
 use Rattle.bson_ser_stream.specs.Halting.{Halts, Grows, Puts, Ends, EndHalts}
@@ -18,24 +20,51 @@ use Rattle.bson_ser_stream.proofs.Written.{length-with_bytes}
 use Rattle.bson_ser_stream.proofs.Halted.{unended}
 use Rattle.bson_ser_stream.proofs.Ended.{Grows-container}
 use Rattle.bson_ser_stream.specs.declared.halt.Halt.{Halt}
+use Rattle.bson_datum.specs.declared.stop.Stop.TheVariants.{Refused, NoMemory}
+use Rattle.bson_ser_stream.specs.declared.halt.Halt.TheVariants.{Stopped, TooLong}
 
 -- the parts of a document or an array: their bytes are what it encloses, and as many as their size says
 pub record Parts {A : Type 0} (container : A → Tree) (bytes : A → Bytes) (parts : ℕ → Writing A) (size : ℕ) : Type 0 where
   pub encloses : (x : A) → enc (container x) ≡ enclosed (bytes x)
   pub long : (levels : ℕ) (x : A) → parts levels ≡ Ok x → length (bytes x) ≡ size
 
-pub Parts-fields : (fs : FieldValues) → Parts document elements (spell_fields fs) (size_fields fs)
-Parts-fields fs = record { encloses = λ ps. refl; long = length-spell_fields fs }
+pub Parts-fields : (readable : Bool) (fs : FieldValues) → Parts document elements (spell_fields_as readable fs) (size_fields_as readable fs)
+Parts-fields readable fs = record { encloses = λ ps. refl; long = length-spell_fields readable fs }
 
-pub Parts-entries : (es : Entries) → Parts document elements (spell_entries es) (size_entries es)
-Parts-entries es = record { encloses = λ ps. refl; long = length-spell_entries es }
+pub Parts-entries : (readable : Bool) (es : Entries) → Parts document elements (spell_entries_as readable es) (size_entries_as readable es)
+Parts-entries readable es = record { encloses = λ ps. refl; long = length-spell_entries readable es }
 
-pub Parts-items : (vs : Items) → Parts array (array_elements 0) (spell_items 0 vs) (size_items 0 vs)
-Parts-items vs = record { encloses = λ ts. refl; long = length-spell_items 0 vs }
+pub Parts-items : (readable : Bool) (vs : Items) → Parts array (array_elements 0) (spell_items_as readable 0 vs) (size_items_as readable 0 vs)
+Parts-items readable vs = record { encloses = λ ts. refl; long = length-spell_items readable 0 vs }
 
 inside : {A : Type 0} (container : A → Tree) (parts : ℕ → Writing A) (levels inner : ℕ) → level_inside levels ≡ Ok inner → enclosed_at container levels parts ≡ result_map container (parts inner)
 inside container parts zero inner h = absurd cc
 inside container parts (suc n) inner h = ap (λ k. result_map container (parts k)) (ok_is n inner h)
+
+parts_ok : {A : Type 0} (container : A → Tree) (bytes : A → Bytes) (old begun : Bytes) (r : Writing A) → IsOk (with_tree old (result_map container r)) → IsOk (with_bytes bytes begun r)
+parts_ok container bytes old begun (Ok x) h = refl
+parts_ok container bytes old begun (Err f) h = absurd cc
+
+parts_err : {A : Type 0} (container : A → Tree) (bytes : A → Bytes) (old begun : Bytes) (r : Writing A) (f : Refusal WriteFault) → with_bytes bytes begun r ≡ Err f → with_tree old (result_map container r) ≡ Err f
+parts_err container bytes old begun (Ok x) f e = absurd cc
+parts_err container bytes old begun (Err g) f e = let same : g ≡ f = cc in ap Err same
+
+parts_halt : {A : Type 0} (container : A → Tree) (bytes : A → Bytes) (size : ℕ) (r : Writing A) (h : Halt) (old begun : Output) (before now : ℕ) → Appended old begun length_place before now → Halts size begun.spare (with_bytes bytes begun.bytes r) h → Halts (size + 5) old.spare (with_tree old.bytes (result_map container r)) h
+parts_halt container bytes size r TooLong old begun before now a halts = omega (arith, halts)
+parts_halt container bytes size r (Stopped NoMemory) old begun before now a halts = λ ok. omega (arith, halts (parts_ok container bytes old.bytes begun.bytes r ok), a.spare)
+parts_halt container bytes size r (Stopped (Refused x)) old begun before now a halts = parts_err container bytes old.bytes begun.bytes r _ halts
+
+-- a document or an array whose parts are not written
+pub halts_parts : {A : Type 0} (container : A → Tree) (bytes : A → Bytes) (parts : ℕ → Writing A) (size : ℕ) (old begun new : Output) (levels inner s0 s1 now : ℕ) → level_inside levels ≡ Ok inner → Appended old begun length_place s0 s1
+    → (its : ElementType) (r : Result ElementType Halt) (h : Halt) → r ≡ Err h → Grows begun new s1 now → Halts size begun.spare (with_bytes bytes begun.bytes (parts inner)) h → Puts its (size + 5) (enclosed_at container levels parts) old new s0 now r
+halts_parts container bytes parts size old begun new levels inner s0 s1 now enters begins its r h is more halts =
+    subst (Puts its (size + 5) (enclosed_at container levels parts) old new s0 now) (sym is)
+    (record {
+      kind = tt;
+      bytes = subst (λ d. Halts (size + 5) old.spare (with_tree old.bytes d) h) (sym (inside container parts levels inner enters)) (parts_halt container bytes size (parts inner) h old begun s0 s1 begins halts);
+      fits = tt;
+      grows = Grows-trans old begun new s0 s1 now (Grows-appended old begun length_place s0 s1 begins) more;
+    })
 
 -- the elements behind four bytes, closed, and the length written over the four
 closed : (old b : Bytes) (n : ℕ) → n ≡ length b + 5 → patched ((old ++ length_place) ++ b ++ 0 ∷ []) (length old) (le32 n) ≡ old ++ enclosed b

@@ -1,14 +1,14 @@
 -- An element whose kind is written over its place behind its value.
-use Rattle.std.proofs.Common.{◌≡◌, ℕ, ◌+◌, [], ◌∷◌, ◌++◌, length, take, drop, Ok, refl, ap, sym, ◌∙◌, append_assoc, arith}
+use Rattle.std.proofs.Common.{Bool, ◌≡◌, ℕ, ◌+◌, [], ◌∷◌, ◌++◌, length, take, drop, Ok, refl, ap, sym, ◌∙◌, append_assoc, arith}
 use Rattle.std.proofs.lemmas.List.{length-append, take_at, drop_at}
 use Rattle.bson_base.specs.Text.{Bytes, Utf8}
 use Rattle.bson_base.specs.Kind.{byte}
 use Rattle.bson_base.specs.Tree.{enc, kind, element}
 use Rattle.bson_base.specs.declared.element_type.ElementType.{ElementType}
 use Rattle.bson_base.proofs.Outcomes.{map_ok}
-use Rattle.bson_datum.specs.Value.{Value, kind_of}
+use Rattle.bson_datum.specs.Value.{Value, kind_as}
 use Rattle.bson_io.specs.Output.{Output, Appended, Patched, patched}
-use Rattle.bson_laws.specs.Spell.{spell}
+use Rattle.bson_laws.specs.Spell.{spell_as}
 use Rattle.bson_laws.proofs.Sizes.{spell_kind}
 use Rattle.bson_ser_stream.specs.Writing.{front, with_tree, with_element}
 
@@ -23,10 +23,10 @@ kind_over old key value k =
 
 module _ (old begun mid new : Output) (key : Utf8) (start s0 s1 s2 s3 : ℕ) (k : ElementType) (at : start ≡ length old.bytes) (begins : Appended old begun (front key) s0 s1)
     (patches : Patched mid new start (byte k ∷ []) s2 s3) where
-  pub wrote_element : (v : Value) (levels : ℕ) → k ≡ kind_of v → with_tree begun.bytes (spell v levels) ≡ Ok mid.bytes → with_element old.bytes key (spell v levels) ≡ Ok new.bytes
-  wrote_element v levels is filled =
-      let m = map_ok (λ t. begun.bytes ++ enc t) (spell v levels) mid.bytes filled in
-      let same : kind m.0 ≡ k = spell_kind v levels m.0 m.1 ∙ sym is in
+  pub wrote_element : (readable : Bool) (v : Value) (levels : ℕ) → k ≡ kind_as readable v → with_tree begun.bytes (spell_as readable v levels) ≡ Ok mid.bytes → with_element old.bytes key (spell_as readable v levels) ≡ Ok new.bytes
+  wrote_element readable v levels is filled =
+      let m = map_ok (λ t. begun.bytes ++ enc t) (spell_as readable v levels) mid.bytes filled in
+      let same : kind m.0 ≡ k = spell_kind readable v levels m.0 m.1 ∙ sym is in
       let made : (old.bytes ++ front key) ++ enc m.0 ≡ mid.bytes = ap (λ b. b ++ enc m.0) (sym begins.bytes) ∙ m.2 in
       ap (with_element old.bytes key) m.1
       ∙ ap (λ x. Ok (old.bytes ++ element x key (enc m.0))) same

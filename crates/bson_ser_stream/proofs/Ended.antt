@@ -9,7 +9,7 @@ use Rattle.bson_base.specs.Tree.{le32}
 use Rattle.bson_base.proofs.Lengths.{length-le32}
 use Rattle.bson_io.specs.Output.{Output, Appended, Patched, patched}
 use Rattle.bson_ser_stream.specs.Writing.{length_place}
-use Rattle.bson_ser_stream.specs.Halting.{Ends, Grows}
+use Rattle.bson_ser_stream.specs.Halting.{Ends, Totals, Grows}
 use Rattle.bson_ser_stream.proofs.Growth.{Grows-trans, Grows-appended, Grows-longer}
 
 -- a length in four bytes
@@ -30,12 +30,12 @@ ends old mid new start len before between now a is small p =
     }
 
 -- what is written over a place leaves the bytes before it, and the length of all
-before_patch : (bytes piece : Bytes) (at : ℕ) → at ≤ length bytes → take at (patched bytes at piece) ≡ take at bytes
+pub before_patch : (bytes piece : Bytes) (at : ℕ) → at ≤ length bytes → take at (patched bytes at piece) ≡ take at bytes
 before_patch bytes piece at inside =
     ap (take at) (append_assoc (take at bytes) piece (drop (at + length piece) bytes))
     ∙ take_at (take at bytes) (piece ++ drop (at + length piece) bytes) at (length-take-le at bytes inside)
 
-length-patched : (bytes piece : Bytes) (at : ℕ) → at + length piece ≤ length bytes → length (patched bytes at piece) ≡ length bytes
+pub length-patched : (bytes piece : Bytes) (at : ℕ) → at + length piece ≤ length bytes → length (patched bytes at piece) ≡ length bytes
 length-patched bytes piece at inside =
     omega (arith, length-append (take at bytes ++ piece) (drop (at + length piece) bytes), length-append (take at bytes) piece, length-take-le at bytes (omega arith), length-drop (at + length piece) bytes)
 
@@ -58,4 +58,14 @@ Grows-container old begun mid new start s0 s1 s2 s3 at begins grows ends =
       room = omega (arith, begins.spare, grows.room, ends.spare);
       least = omega (arith, begins.steps, grows.least, ends.steps);
       most = omega (arith, begins.steps, grows.most, ends.steps);
+    }
+
+-- the length of a value that begins with it, written over its place
+pub totals : (old new : Output) (start len before now : ℕ) → len ≡ length old.bytes - start → len ≤ max_bytes → Patched old new start (to_le_bytes w32 (cast_unsigned w32 (cast_signed w32 len))) before now → Totals old new start before now
+totals old new start len before now is small p =
+    record {
+      bytes = p.bytes ∙ ap (patched old.bytes start) (length_bytes len small ∙ ap le32 is);
+      fits = omega (arith, is);
+      spare = p.spare;
+      steps = p.steps;
     }

@@ -1,5 +1,5 @@
 -- Why a part was not written tells why the whole was not.
-use Rattle.std.proofs.Common.{◌≡◌, ℕ, suc, ◌+◌, ◌≤◌, length, Result, Ok, Err, refl, ap, sym, subst, ◌∙◌, arith}
+use Rattle.std.proofs.Common.{Bool, ◌≡◌, ℕ, suc, ◌+◌, ◌≤◌, length, Result, Ok, Err, refl, ap, sym, subst, ◌∙◌, arith}
 use Rattle.std.specs.Prelude.{Some, IsOk, is_ok}
 use Rattle.std.specs.Fmt.{decimal}
 use Rattle.bson_base.specs.Text.{Bytes, Utf8}
@@ -10,7 +10,7 @@ use Rattle.bson_datum.specs.Value.{Value, Items, item, Entries, entry, FieldValu
 use Rattle.bson_datum.specs.Refusal.{Refusal, WriteFault, under, under_index}
 use Rattle.bson_io.specs.Output.{Output}
 use Rattle.bson_laws.specs.Means.{means, key_text}
-use Rattle.bson_laws.specs.Spell.{Writing, named, spell, spell_items, spell_key, spell_entries, spell_fields, spell_document, key_size, size, size_items, size_entries, size_fields}
+use Rattle.bson_laws.specs.Spell.{Writing, named, spell_as, spell_items_as, spell_key, spell_entries_as, spell_fields_as, spell_document, key_size, size, size_as, size_items_as, size_entries_as, size_fields_as}
 use Rattle.bson_laws.proofs.Spelled.{spell_means}
 use Rattle.bson_ser_stream.specs.Writing.{with_bytes, with_tree, with_element, with_entry, with_elements, with_array_elements}
 use Rattle.bson_ser_stream.specs.Halting.{Halts, Gives, Grows, EndHalts}
@@ -67,40 +67,40 @@ rest_halts one due (Stopped NoMemory) first left all before now old mid ok err l
     omega (arith, halts (ok whole.0 whole.1), grows.room, long whole.0 whole.1, longer whole.0 whole.1)
 
 -- the fields behind a field that is not written
-pub field_halts : (h : Halt) (key : Utf8) (v : Value) (rest left all : FieldValues) (levels before now : ℕ) (old mid : Output) → left ≡ field_value key v rest
-    → with_elements mid.bytes (spell_fields left levels) ≡ with_elements old.bytes (spell_fields all levels) → size_fields left ≤ size_fields all → Grows old mid before now → Halts (length key + 2 + size v) mid.spare (with_element mid.bytes key (named key (spell v levels))) h
-    → Halts (size_fields all) old.spare (with_elements old.bytes (spell_fields all levels)) h
-field_halts h key v rest left all levels before now old mid is same less grows halts =
-    let one = named key (spell v levels) in
-    let behind = spell_fields rest levels in
-    let joined = ap (λ l. with_elements mid.bytes (spell_fields l levels)) (sym is) ∙ same in
-    rest_halts (with_element mid.bytes key one) (with_elements old.bytes (spell_fields all levels)) h (length key + 2 + size v) (size_fields left) (size_fields all) before now old mid
+pub field_halts : (readable : Bool) (h : Halt) (key : Utf8) (v : Value) (rest left all : FieldValues) (levels before now : ℕ) (old mid : Output) → left ≡ field_value key v rest
+    → with_elements mid.bytes (spell_fields_as readable left levels) ≡ with_elements old.bytes (spell_fields_as readable all levels) → size_fields_as readable left ≤ size_fields_as readable all → Grows old mid before now → Halts (length key + 2 + size_as readable v) mid.spare (with_element mid.bytes key (named key (spell_as readable v levels))) h
+    → Halts (size_fields_as readable all) old.spare (with_elements old.bytes (spell_fields_as readable all levels)) h
+field_halts readable h key v rest left all levels before now old mid is same less grows halts =
+    let one = named key (spell_as readable v levels) in
+    let behind = spell_fields_as readable rest levels in
+    let joined = ap (λ l. with_elements mid.bytes (spell_fields_as readable l levels)) (sym is) ∙ same in
+    rest_halts (with_element mid.bytes key one) (with_elements old.bytes (spell_fields_as readable all levels)) h (length key + 2 + size_as readable v) (size_fields_as readable left) (size_fields_as readable all) before now old mid
     (λ new e. ok_first elements (pair key) one behind mid.bytes key new (joined ∙ e)) (λ f e. sym joined ∙ err_first elements (pair key) one behind mid.bytes key f e)
-    (λ new e. length-with_elements old.bytes new all levels e) (λ new e. length-with_elements mid.bytes new left levels (same ∙ e)) (omega (arith, ap size_fields is)) less grows halts
+    (λ new e. length-with_elements readable old.bytes new all levels e) (λ new e. length-with_elements readable mid.bytes new left levels (same ∙ e)) (omega (arith, ap (size_fields_as readable) is)) less grows halts
 
 -- the entries behind an entry that is not written
-pub entry_halts : (h : Halt) (k v : Value) (rest left all : Entries) (levels before now : ℕ) (old mid : Output) → left ≡ entry k v rest
-    → with_elements mid.bytes (spell_entries left levels) ≡ with_elements old.bytes (spell_entries all levels) → size_entries left ≤ size_entries all → Grows old mid before now → Halts (key_size (key_text k) + 2 + size v) mid.spare (with_entry mid.bytes (spell_key k) (spell v levels)) h
-    → Halts (size_entries all) old.spare (with_elements old.bytes (spell_entries all levels)) h
-entry_halts h k v rest left all levels before now old mid is same less grows halts =
-    let one = spell v levels in
-    let behind = spell_entries rest levels in
-    let joined = ap (λ l. with_elements mid.bytes (spell_entries l levels)) (sym is) ∙ same in
-    rest_halts (with_entry mid.bytes (spell_key k) one) (with_elements old.bytes (spell_entries all levels)) h (key_size (key_text k) + 2 + size v) (size_entries left) (size_entries all) before now old mid
+pub entry_halts : (readable : Bool) (h : Halt) (k v : Value) (rest left all : Entries) (levels before now : ℕ) (old mid : Output) → left ≡ entry k v rest
+    → with_elements mid.bytes (spell_entries_as readable left levels) ≡ with_elements old.bytes (spell_entries_as readable all levels) → size_entries_as readable left ≤ size_entries_as readable all → Grows old mid before now → Halts (key_size (key_text k) + 2 + size_as readable v) mid.spare (with_entry mid.bytes (spell_key k) (spell_as readable v levels)) h
+    → Halts (size_entries_as readable all) old.spare (with_elements old.bytes (spell_entries_as readable all levels)) h
+entry_halts readable h k v rest left all levels before now old mid is same less grows halts =
+    let one = spell_as readable v levels in
+    let behind = spell_entries_as readable rest levels in
+    let joined = ap (λ l. with_elements mid.bytes (spell_entries_as readable l levels)) (sym is) ∙ same in
+    rest_halts (with_entry mid.bytes (spell_key k) one) (with_elements old.bytes (spell_entries_as readable all levels)) h (key_size (key_text k) + 2 + size_as readable v) (size_entries_as readable left) (size_entries_as readable all) before now old mid
     (λ new e. ok_entry (spell_key k) one behind mid.bytes new (joined ∙ e)) (λ f e. sym joined ∙ err_entry (spell_key k) one behind mid.bytes f e)
-    (λ new e. length-with_entries old.bytes new all levels e) (λ new e. length-with_entries mid.bytes new left levels (same ∙ e)) (omega (arith, ap size_entries is)) less grows halts
+    (λ new e. length-with_entries readable old.bytes new all levels e) (λ new e. length-with_entries readable mid.bytes new left levels (same ∙ e)) (omega (arith, ap (size_entries_as readable) is)) less grows halts
 
 -- the values behind a value of a sequence that is not written
-pub item_halts : (h : Halt) (i : ℕ) (v : Value) (rest left all : Items) (levels before now : ℕ) (old mid : Output) → left ≡ item v rest
-    → with_array_elements mid.bytes i (spell_items i left levels) ≡ with_array_elements old.bytes 0 (spell_items 0 all levels) → size_items i left ≤ size_items 0 all → Grows old mid before now → Halts (length (decimal i) + 2 + size v) mid.spare (with_element mid.bytes (decimal i) (under_index i (spell v levels))) h
-    → Halts (size_items 0 all) old.spare (with_array_elements old.bytes 0 (spell_items 0 all levels)) h
-item_halts h i v rest left all levels before now old mid is same less grows halts =
-    let one = under_index i (spell v levels) in
-    let behind = spell_items (suc i) rest levels in
-    let joined = ap (λ l. with_array_elements mid.bytes i (spell_items i l levels)) (sym is) ∙ same in
-    rest_halts (with_element mid.bytes (decimal i) one) (with_array_elements old.bytes 0 (spell_items 0 all levels)) h (length (decimal i) + 2 + size v) (size_items i left) (size_items 0 all) before now old mid
+pub item_halts : (readable : Bool) (h : Halt) (i : ℕ) (v : Value) (rest left all : Items) (levels before now : ℕ) (old mid : Output) → left ≡ item v rest
+    → with_array_elements mid.bytes i (spell_items_as readable i left levels) ≡ with_array_elements old.bytes 0 (spell_items_as readable 0 all levels) → size_items_as readable i left ≤ size_items_as readable 0 all → Grows old mid before now → Halts (length (decimal i) + 2 + size_as readable v) mid.spare (with_element mid.bytes (decimal i) (under_index i (spell_as readable v levels))) h
+    → Halts (size_items_as readable 0 all) old.spare (with_array_elements old.bytes 0 (spell_items_as readable 0 all levels)) h
+item_halts readable h i v rest left all levels before now old mid is same less grows halts =
+    let one = under_index i (spell_as readable v levels) in
+    let behind = spell_items_as readable (suc i) rest levels in
+    let joined = ap (λ l. with_array_elements mid.bytes i (spell_items_as readable i l levels)) (sym is) ∙ same in
+    rest_halts (with_element mid.bytes (decimal i) one) (with_array_elements old.bytes 0 (spell_items_as readable 0 all levels)) h (length (decimal i) + 2 + size_as readable v) (size_items_as readable i left) (size_items_as readable 0 all) before now old mid
     (λ new e. ok_first (array_elements i) tree one behind mid.bytes (decimal i) new (joined ∙ e)) (λ f e. sym joined ∙ err_first (array_elements i) tree one behind mid.bytes (decimal i) f e)
-    (λ new e. length-with_array_elements old.bytes new 0 all levels e) (λ new e. length-with_array_elements mid.bytes new i left levels (same ∙ e)) (omega (arith, ap (size_items i) is)) less grows halts
+    (λ new e. length-with_array_elements readable old.bytes new 0 all levels e) (λ new e. length-with_array_elements readable mid.bytes new i left levels (same ∙ e)) (omega (arith, ap (size_items_as readable i) is)) less grows halts
 
 -- what means a sound document is written where its room is spare
 pub sound_written : (h : Halt) (v : Value) (t : Tree) (old : Bytes) (spare : ℕ) → means v ≡ Some t → IsSound t → size v ≤ spare → Halts (size v) spare (with_tree old (spell_document v)) h → ⊥

@@ -87,3 +87,15 @@ abbrev pub EndHalts : Output → ℕ → Halt → Type 0
 EndHalts old start (Stopped (Refused r)) = ⊥
 EndHalts old start (Stopped NoMemory) = old.spare < 1
 EndHalts old start TooLong = max_bytes < length old.bytes + 1 - start
+
+-- A value that begins with its length is ended at a place: the length of all behind the place is in the four bytes there.
+pub record Totals (old new : Output) (start before now : ℕ) : Type 0 where
+  pub bytes : new.bytes ≡ patched old.bytes start (le32 (length old.bytes - start))
+  pub fits : length old.bytes - start ≤ max_bytes
+  pub spare : old.spare ≤ new.spare
+  pub steps : now ≡ before + 4
+
+-- why it is not ended: it has too many bytes
+abbrev pub TotalHalts : Output → ℕ → Halt → Type 0
+TotalHalts old start (Stopped s) = ⊥
+TotalHalts old start TooLong = max_bytes < length old.bytes - start

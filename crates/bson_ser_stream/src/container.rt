@@ -1,8 +1,8 @@
-// What a document and an array share: a place for the length, what stands inside, and the end.
-ghost use Rattle.std.specs.Prelude.{◌≡◌, ◌≤◌, ◌+◌, length, OnOk, OnErr, IfOk, IfErr};
+// What a document and an array share: a place for the length, what is inside, and the end; and the length of code with its scope.
+ghost use Rattle.std.specs.Prelude.{◌≡◌, ◌≤◌, ◌+◌, length, Ok, OnOk, OnErr, IfOk, IfErr};
 ghost use Rattle.bson_io.specs.Output.{Appended};
 ghost use Rattle.bson_ser_stream.specs.Writing.{length_place, level_inside};
-ghost use Rattle.bson_ser_stream.specs.Halting.{Gives, Grows, Ends, EndHalts};
+ghost use Rattle.bson_ser_stream.specs.Halting.{Gives, Grows, Ends, EndHalts, Totals, TotalHalts};
 
 use crate::halt::Halt;
 use bson_datum::Cause;
@@ -56,6 +56,40 @@ impl Container {
             return Err(Halt::TooLong);
         }
         out.patch_i32(self.start, len as i32, steps);
+        Ok(())
+    }
+}
+
+/// A value that was begun with a place for its length, and takes no level.
+#[derive(Drop)]
+pub(crate) struct Total {
+    start: usize,
+}
+
+impl Total {
+    /// Begins the value: appends a place for its length.
+    pub(crate) fn begin<L: Ledger>(out: &mut Out, steps: &mut Steps<L>) -> Result<Total, Halt>
+        ensures start { Gives 4 out.old.spare (λ t. t.start) result (Ok (length out.old.bytes)) }
+        ensures ok { OnOk result (Appended out.old out.new length_place steps.old steps.new) }
+        ensures grows { Grows out.old out.new steps.old steps.new }
+    {
+        let start = out.len();
+        out.push_all(&[0; 4], steps)?;
+        Ok(Total { start })
+    }
+
+    /// Ends it: writes the length of it all into its first four bytes.
+    pub(crate) fn end<L: Ledger>(self, out: &mut Out, steps: &mut Steps<L>) -> Result<(), Halt>
+        requires { self.start + 4 ≤ length out.old.bytes }
+        ensures ok { OnOk result (Totals out.old out.new self.start steps.old steps.new) }
+        ensures err { IfErr result (TotalHalts out.old self.start) }
+        ensures grows { OnErr result (Grows out.old out.new steps.old steps.new) }
+    {
+        let total = out.len() - self.start;
+        if total > MAX_BYTES {
+            return Err(Halt::TooLong);
+        }
+        out.patch_i32(self.start, total as i32, steps);
         Ok(())
     }
 }

@@ -34,7 +34,7 @@ fn put_whole<L: Ledger>(
 {
     match value.element_type() {
         ElementType::EmbeddedDocument => {
-            put_value(out, steps, value, MAX_LEVELS)?;
+            put_value(out, steps, value, false, MAX_LEVELS)?;
             Ok(())
         }
         kind => Err(Halt::caused(out.allocator(), Cause::TopLevel(kind))),
@@ -53,6 +53,11 @@ fn put_whole<L: Ledger>(
 /// `NewtypeStruct` are the value in them. `steps` counts one for each byte that is appended, and one for each byte that is
 /// written over the place of a kind or a length.
 ///
+/// A struct whose name is reserved for a kind (`reserved_kind`) is the value of that kind that its fields are accepted as
+/// (`bson_reserved::unwrap`, `bson_reserved::scoped_code`). The options of a regular expression are put in order. The newtype
+/// `$__bson_private_uuid` is a binary of subtype 4 of the bytes that it holds. A `Mode` is its compact form; a key that is one,
+/// and one in the newtype `$__bson_private_human_readable`, is its readable form.
+///
 /// # Errors
 ///
 /// The first refusal in document order, as `WithPath`, or `NoMemory`. A key comes before its value. After any error `out` holds
@@ -61,15 +66,20 @@ fn put_whole<L: Ledger>(
 /// - `SerializationError` with `TopLevel`: the datum is written as a value of this kind, which is no document.
 /// - `SerializationError` with `TooDeep`: a document or an array stands at level 201. The whole document is at level 1. What a
 ///   `TupleVariant` or a `StructVariant` holds is one level further in than the document of its name.
-/// - `SerializationError` with `NotBuilt`: a struct has a reserved name, or a newtype the name `$__bson_private_uuid` (the kind
-///   is `Binary`) or `$__bson_private_human_readable` (`EmbeddedDocument`).
-/// - `SerializationError` with `BinaryTooLong`: a `Bytes` has so many bytes, and a binary has at most 16777216.
+/// - `SerializationError` with `BadStep`: the fields of a struct whose name is reserved are not accepted, or the text of its binary
+///   is not base64. The path is that of the struct.
+/// - `SerializationError` with `BadUuid`: the newtype `$__bson_private_uuid` holds no UUID: bytes, or in a readable form a text of
+///   one.
+/// - `SerializationError` with `BinaryTooLong`: so many bytes would stand behind the subtype of a binary, and at most 16777216 may;
+///   in subtype 2 they begin with a second length of four.
 /// - `UnsignedIntegerExceededRange`: a `U64` is greater than 9223372036854775807, the greatest that an int64 holds.
 /// - `InvalidDocumentKey`: a key of a map is no text. It carries a scalar as it would be written, null for `None`, `Unit`, a
-///   `UnitStruct` and a number that is not written, what a `Some` or a `NewtypeStruct` holds, an empty array for a sequence, a
+///   `UnitStruct` and a number that is not written, what a `Some` or a `NewtypeStruct` holds, the readable form of a `Mode`, an empty array for a sequence, a
 ///   tuple and a `TupleVariant`, and an empty document for every other value. The path is that of the map.
-/// - `InvalidCString`: a zero character stands in the name of a field, in the name of a variant with contents, or in a key of a
-///   map. The path is that of the struct, of the document that the variant is written as, or of the map.
+/// - `InvalidCString`: a zero character is in the name of a field, in the name of a variant with contents, in a key of a map, or
+///   in the pattern or the options of a regular expression, the pattern first. The path is that of the struct, of the document
+///   that the variant is written as, or of the map.
+/// - A refusal of the scope of code, or of a value in it, has the segment `$scope` in its path behind that of the struct.
 /// - `SerializationError` with `TooLong`, with the empty path: the document would have more than 2147483647 bytes. Where it
 ///   would, and a value is refused too, either may come.
 pub fn to_buf<L: Ledger>(value: &Datum<'_>, out: &mut Out, steps: &mut Steps<L>) -> Result<()>

@@ -31,8 +31,8 @@ pub(crate) fn written_key<'a>(alloc: Global, key: &'a Datum<'_>) -> Result<&'a s
     }
 }
 
-// The text that a value is as a key: a text itself, the name of a unit variant, and what some value and a newtype hold. Others
-// are no keys.
+// The text that a value is as a key: a text itself, the name of a unit variant, what some value and a newtype hold, and the readable
+// form of a value with two. Others are no keys.
 #[cycle(text)]
 #[inline(always)]
 fn key_text<'a>(key: &'a Datum<'_>) -> Option<&'a str>
@@ -43,6 +43,7 @@ fn key_text<'a>(key: &'a Datum<'_>) -> Option<&'a str>
         Datum::UnitVariant { variant } => Some(variant.as_str()),
         Datum::Some(content) => inner_key_text(content),
         Datum::NewtypeStruct { value, .. } => inner_key_text(value),
+        Datum::Mode { readable, .. } => inner_key_text(readable),
         Datum::Bool(_)
         | Datum::I8(_)
         | Datum::I16(_)
@@ -69,7 +70,8 @@ fn key_text<'a>(key: &'a Datum<'_>) -> Option<&'a str>
     }
 }
 
-// The text that the content of some value or of a newtype is as a key. It stands apart since `key_text` is compiled into what calls it.
+// The text that what is in some value, a newtype or a value with two forms is as a key. It is a function of its own, since `key_text`
+// is inlined.
 #[cycle(text)]
 #[inline(never)]
 fn inner_key_text<'a>(content: &'a Datum<'_>) -> Option<&'a str>
@@ -89,8 +91,8 @@ fn no_text(alloc: Global, key: &Datum<'_>) -> Halt
 }
 
 // The value that the refusal of a key carries: a scalar as it would be written, null for nothing and for a number that is not
-// written, what it holds for some value and for a newtype, an empty array for a sequence, a tuple and a tuple variant, an empty
-// document for every other value.
+// written, what it holds for some value and for a newtype, the readable form of a value with two, an empty array for a sequence, a
+// tuple and a tuple variant, an empty document for every other value.
 #[tactic(auto, using(bson_base::proofs::Rows::row_items))]
 fn carried(alloc: Global, key: &Datum<'_>) -> Result<Bson, AllocError>
     ensures value { IfOk result (λ value. tree_of value ≡ carried (view key.now)) }
@@ -114,6 +116,7 @@ fn carried(alloc: Global, key: &Datum<'_>) -> Result<Bson, AllocError>
         Datum::None | Datum::Unit | Datum::UnitStruct { .. } => Ok(Bson::Null),
         Datum::Some(content) => carried(alloc, content),
         Datum::NewtypeStruct { value, .. } => carried(alloc, value),
+        Datum::Mode { readable, .. } => carried(alloc, readable),
         Datum::Seq(_) | Datum::Tuple(_) | Datum::TupleVariant { .. } => {
             Ok(Bson::Array(Vec::new(alloc)))
         }

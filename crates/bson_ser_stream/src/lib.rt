@@ -1,12 +1,17 @@
 //! Writing data as the bytes of a document, in one pass.
 #![tactic(auto)]
 
+mod base64_text;
+mod binary;
 mod container;
 mod document;
 mod element;
+mod extended;
 mod halt;
 mod key;
+mod reserved;
 mod scalar;
+mod sorting;
 mod value;
 
 pub use document::{to_buf, to_vec_at, to_vec_counted};

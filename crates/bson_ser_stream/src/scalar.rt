@@ -1,21 +1,19 @@
 // Values in which no other value stands.
-ghost use Rattle.std.specs.Prelude.{◌≤◌, ◌+◌, length, encode_utf8, pos, IsOk, OnOk, Ok};
-ghost use Rattle.bson_base.specs.Sound.{max_bytes, max_binary};
-ghost use Rattle.bson_base.specs.Tree.{boolean, double, string, int32, int64, closed_text, after_length};
+ghost use Rattle.std.specs.Prelude.{◌≤◌, ◌+◌, ◌++◌, length, encode_utf8, pos, IsOk, OnOk, Ok};
+ghost use Rattle.bson_base.specs.Sound.{max_bytes};
+ghost use Rattle.bson_base.specs.Tree.{boolean, double, string, int32, int64, closed_text};
 ghost use Rattle.bson_io.specs.Output.{Appended};
-ghost use Rattle.bson_laws.specs.Spell.{spell_number, spell_bytes};
-ghost use Rattle.bson_ser_stream.specs.Halting.{Puts, Grows};
+ghost use Rattle.bson_reserved.specs.Written.{spell_binary};
+ghost use Rattle.bson_laws.specs.Spell.{spell_number};
+ghost use Rattle.bson_ser_stream.specs.Halting.{Gives, Puts, Grows};
 
+use crate::binary::put_binary;
 use crate::container::MAX_BYTES;
 use crate::halt::Halt;
-use bson_base::{Double, ElementType};
-use bson_datum::Cause;
+use bson_base::{BinarySubtype, Double, ElementType};
 use bson_datum::ser::Fault;
 use bson_io::{Ledger, Out, Steps};
 use std::alloc::AllocError;
-
-// The most bytes of a binary.
-const MAX_BINARY: usize = 16777216;
 
 // The subtype of bytes without a further meaning.
 const GENERIC: u8 = 0;
@@ -89,8 +87,12 @@ pub(crate) fn put_double<L: Ledger>(
     Ok(ElementType::Double)
 }
 
-// Appends a text whose length an Int32 holds: the length with the zero, the text, the zero.
-fn push_text<L: Ledger>(out: &mut Out, steps: &mut Steps<L>, text: &str) -> Result<(), AllocError>
+/// Appends a text whose length an Int32 holds: the length with the zero, the text, the zero.
+pub(crate) fn push_text<L: Ledger>(
+    out: &mut Out,
+    steps: &mut Steps<L>,
+    text: &str,
+) -> Result<(), AllocError>
     requires { length text.now + 5 ≤ max_bytes }
     ensures ok { OnOk result (Appended out.old out.new (closed_text text.now) steps.old steps.new) }
     ensures free { length text.now + 5 ≤ out.old.spare → IsOk result }
@@ -100,6 +102,25 @@ fn push_text<L: Ledger>(out: &mut Out, steps: &mut Steps<L>, text: &str) -> Resu
     out.push_all(&(len as i32).to_le_bytes(), steps)?;
     out.push_all(text.as_bytes(), steps)?;
     out.push(0, steps)?;
+    Ok(())
+}
+
+/// Appends a closed text. One that has more bytes than a document may is refused before anything is written.
+#[inline(always)]
+pub(crate) fn put_closed<L: Ledger>(
+    out: &mut Out,
+    steps: &mut Steps<L>,
+    text: &str,
+) -> Result<(), Halt>
+    ensures bytes { Gives (length text.now + 5) out.old.spare (λ _. out.new.bytes) result
+        (Ok (out.old.bytes ++ closed_text text.now)) }
+    ensures fits { OnOk result (length text.now + 5 ≤ max_bytes) }
+    ensures grows { Grows out.old out.new steps.old steps.new }
+{
+    if text.len() + 5 > MAX_BYTES {
+        return Err(Halt::TooLong);
+    }
+    push_text(out, steps, text)?;
     Ok(())
 }
 
@@ -113,10 +134,7 @@ pub(crate) fn put_text<L: Ledger>(
     ensures { Puts ElementType.String (length text.now + 5) (Ok (string text.now))
         out.old out.new steps.old steps.new result }
 {
-    if text.len() + 5 > MAX_BYTES {
-        return Err(Halt::TooLong);
-    }
-    push_text(out, steps, text)?;
+    put_closed(out, steps, text)?;
     Ok(ElementType::String)
 }
 
@@ -133,23 +151,6 @@ pub(crate) fn put_char<L: Ledger>(
     put_text(out, steps, c.encode_utf8(&mut buffer))
 }
 
-// Appends a binary of subtype 0 whose length an Int32 holds: the length, the subtype, the bytes.
-fn push_binary<L: Ledger>(
-    out: &mut Out,
-    steps: &mut Steps<L>,
-    bytes: &[u8],
-) -> Result<(), AllocError>
-    requires { length bytes.now ≤ max_binary 0 }
-    ensures ok { OnOk result (Appended out.old out.new (after_length 0 bytes.now) steps.old steps.new) }
-    ensures free { length bytes.now + 5 ≤ out.old.spare → IsOk result }
-    ensures grows { Grows out.old out.new steps.old steps.new }
-{
-    out.push_all(&(bytes.len() as i32).to_le_bytes(), steps)?;
-    out.push(GENERIC, steps)?;
-    out.push_all(bytes, steps)?;
-    Ok(())
-}
-
 /// Appends a byte string, as a binary of subtype 0. One that has more bytes than a binary may is refused before anything is
 /// written.
 pub(crate) fn put_bytes<L: Ledger>(
@@ -157,13 +158,8 @@ pub(crate) fn put_bytes<L: Ledger>(
     steps: &mut Steps<L>,
     bytes: &[u8],
 ) -> Result<ElementType, Halt>
-    ensures { Puts ElementType.Binary (length bytes.now + 5) (spell_bytes bytes.now)
+    ensures { Puts ElementType.Binary (length bytes.now + 5) (spell_binary 0 bytes.now)
         out.old out.new steps.old steps.new result }
 {
-    if bytes.len() > MAX_BINARY {
-        let length = bytes.len() as u64;
-        return Err(Halt::caused(out.allocator(), Cause::BinaryTooLong(length)));
-    }
-    push_binary(out, steps, bytes)?;
-    Ok(ElementType::Binary)
+    put_binary(out, steps, BinarySubtype(GENERIC), bytes)
 }

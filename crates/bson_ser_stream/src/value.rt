@@ -1,28 +1,33 @@
-// One pass over a datum. What is known only behind a value is written over its place there: the kind of each element, and the
-// length of each document and array.
-ghost use Rattle.std.specs.Prelude.{◌≡◌, ◌+◌, length};
+// One pass over a datum. What is known only behind a value is written over its place: the kind of each element, and the length of
+// each document, array and code with its scope.
+ghost use Rattle.std.specs.Prelude.{◌≡◌, ◌+◌, [], length, codes};
+ghost use Rattle.std.specs.Str.{bytes_eq};
 ghost use Rattle.std.specs.Fmt.{decimal};
 ghost use Rattle.bson_base.specs.Tree.{document, array};
 ghost use Rattle.bson_datum.specs.Refusal.{under, under_index};
 ghost use Rattle.bson_datum.specs.TextView.{text_view};
-ghost use Rattle.bson_datum.specs.Value.{newtype_kind, kind_of};
+ghost use Rattle.bson_datum.specs.Value.{newtype_kind, uuid_newtype, readable_inside, kind_as};
 ghost use Rattle.bson_datum.specs.View.{view, items_view, entries_view, fields_view};
 ghost use Rattle.bson_laws.specs.Means.{key_text};
-ghost use Rattle.bson_laws.specs.Spell.{unbuilt_newtype, newtype_at, spell, spell_items, spell_key, spell_entries, spell_fields, named, variant_at, enclosed_at, key_size, variant_size, size, size_items, size_entries, size_fields};
+ghost use Rattle.bson_reserved.specs.Unwrap.{unwrap, scoped_code};
+ghost use Rattle.bson_reserved.specs.UuidBytes.{uuid_bytes};
+ghost use Rattle.bson_laws.specs.Spell.{spell_scoped, spell_uuid, written_size, newtype_at, newtype_size, reserved_at, reserved_size, scoped_size, spell_as, spell_items_as, spell_key, spell_entries_as, spell_fields_as, spell_list, named, variant_at, enclosed_at, key_size, variant_size, size_as, size_items_as, size_entries_as, size_fields_as, size_list};
 ghost use Rattle.bson_ser_stream.specs.ContentsView.{contents_view};
-ghost use Rattle.bson_ser_stream.specs.Writing.{with_element, with_entry, with_elements, with_array_elements};
+ghost use Rattle.bson_ser_stream.specs.Writing.{with_tree, with_element, with_entry, with_elements, with_array_elements};
 ghost use Rattle.bson_ser_stream.specs.Halting.{Puts, PutsParts};
 
-use crate::container::Container;
+use crate::container::{Container, Total};
 use crate::element::{begin_element, has_zero, zero_in};
 use crate::halt::Halt;
 use crate::key::written_key;
+use crate::reserved::{put_unwrapped, put_uuid};
 use crate::scalar::{
     put_bool, put_bytes, put_char, put_double, put_i32, put_i64, put_text, put_u64,
 };
 use bson_base::{ElementType, reserved_kind};
 use bson_datum::{Cause, Datum, Entry, Field, Text};
 use bson_io::{Ledger, Out, Steps};
+use bson_reserved::scoped_code;
 
 // What stands under a key: a value, or what a variant holds that is no datum of its own.
 #[derive(Clone, Copy)]
@@ -34,27 +39,32 @@ enum Contents<'a, 'b> {
     Fields(&'a [Field<'b>]),
 }
 
-// The kind of a newtype that is not written yet: one of a reserved name.
-fn unbuilt_newtype(name: &str) -> Option<ElementType>
-    ensures kind { result ≡ unbuilt_newtype name.now }
+// Whether a newtype of this name is that of a UUID.
+fn is_uuid(name: &str) -> bool
+    ensures { result ≡ bytes_eq name.now uuid_newtype }
 {
-    match name {
-        "$__bson_private_uuid" => Some(ElementType::Binary),
-        "$__bson_private_human_readable" => Some(ElementType::EmbeddedDocument),
-        _ => None,
-    }
+    name == "$__bson_private_uuid"
 }
 
-/// Appends a value, with so many levels of documents and arrays left, and answers the kind that it wrote.
+// Whether the content of a newtype of this name is given in its readable form.
+fn readable_inside(readable: bool, name: &str) -> bool
+    ensures { result ≡ readable_inside readable name.now }
+{
+    readable || name == "$__bson_private_human_readable"
+}
+
+/// Appends a value, in its readable form or in its compact one, with so many levels of documents and arrays left, and answers
+/// the kind that it wrote.
 #[cycle(put)]
 #[inline(always)]
 pub(crate) fn put_value<L: Ledger>(
     out: &mut Out,
     steps: &mut Steps<L>,
     value: &Datum<'_>,
+    readable: bool,
     levels: u32,
 ) -> Result<ElementType, Halt>
-    ensures { Puts (kind_of (view value.now)) (size (view value.now)) (spell (view value.now) levels)
+    ensures { Puts (kind_as readable (view value.now)) (size_as readable (view value.now)) (spell_as readable (view value.now) levels)
         out.old out.new steps.old steps.new result }
 {
     match value {
@@ -72,60 +82,156 @@ pub(crate) fn put_value<L: Ledger>(
         Datum::Str(text) => put_text(out, steps, text.as_str()),
         Datum::Bytes(bytes) => put_bytes(out, steps, bytes.as_bytes()),
         Datum::None | Datum::Unit | Datum::UnitStruct { .. } => Ok(ElementType::Null),
-        Datum::Some(content) => put_some(out, steps, content, levels),
-        Datum::NewtypeStruct { name, value } => put_newtype(out, steps, name, value, levels),
+        Datum::Some(content) => put_inner(out, steps, content, readable, levels),
+        Datum::NewtypeStruct { name, value } => put_newtype(
+            out, steps, name, value, readable, levels,
+        ),
         Datum::UnitVariant { variant } => put_text(out, steps, variant.as_str()),
         Datum::NewtypeVariant { variant, value } => {
-            put_variant(out, steps, variant, Contents::Value(value), levels)
+            put_variant(
+                out,
+                steps,
+                variant,
+                Contents::Value(value),
+                readable,
+                levels,
+            )
         }
         Datum::Seq(items) | Datum::Tuple(items) | Datum::TupleStruct { items, .. } => {
-            put_array(out, steps, items, levels)
+            put_array(out, steps, items, readable, levels)
         }
         Datum::TupleVariant { variant, items } => {
-            put_variant(out, steps, variant, Contents::Items(items), levels)
+            put_variant(
+                out,
+                steps,
+                variant,
+                Contents::Items(items),
+                readable,
+                levels,
+            )
         }
-        Datum::Map(entries) => put_map(out, steps, entries, levels),
+        Datum::Map(entries) => put_map(out, steps, entries, readable, levels),
         Datum::Struct { name, fields } => match reserved_kind(name.as_str()) {
-            Some(kind) => Err(Halt::caused(out.allocator(), Cause::NotBuilt(kind))),
-            None => put_document(out, steps, fields, levels),
+            Some(kind) => put_reserved(out, steps, kind, fields, readable, levels),
+            None => put_document(out, steps, fields, readable, levels),
         },
+        Datum::Mode { readable: form, .. } if readable => {
+            put_inner(out, steps, form, readable, levels)
+        }
+        Datum::Mode { compact, .. } => put_inner(out, steps, compact, readable, levels),
         Datum::StructVariant { variant, fields } => {
-            put_variant(out, steps, variant, Contents::Fields(fields), levels)
+            put_variant(
+                out,
+                steps,
+                variant,
+                Contents::Fields(fields),
+                readable,
+                levels,
+            )
         }
     }
 }
 
-// The content of some value. It stands apart since `put_value` is compiled into what calls it.
+// The content of some value, and the form of a value with two. It is a function of its own, since `put_value` is inlined.
 #[cycle(put)]
 #[inline(never)]
-fn put_some<L: Ledger>(
+fn put_inner<L: Ledger>(
     out: &mut Out,
     steps: &mut Steps<L>,
     content: &Datum<'_>,
+    readable: bool,
     levels: u32,
 ) -> Result<ElementType, Halt>
-    ensures { Puts (kind_of (view content.now)) (size (view content.now)) (spell (view content.now) levels)
+    ensures { Puts (kind_as readable (view content.now)) (size_as readable (view content.now)) (spell_as readable (view content.now) levels)
         out.old out.new steps.old steps.new result }
 {
-    put_value(out, steps, content, levels)
+    put_value(out, steps, content, readable, levels)
 }
 
-// The content of a newtype.
+// A newtype: that of a UUID, or its content.
 #[cycle(put)]
 fn put_newtype<L: Ledger>(
     out: &mut Out,
     steps: &mut Steps<L>,
     name: &Text<'_>,
     content: &Datum<'_>,
+    readable: bool,
     levels: u32,
 ) -> Result<ElementType, Halt>
-    ensures { let name = text_view name.now in let value = view content.now in
-        Puts (newtype_kind name (kind_of (view content.now))) (size value) (newtype_at (unbuilt_newtype name) (spell value levels))
+    ensures { let name = text_view name.now in let value = view content.now in let inside = readable_inside readable name in
+        Puts (newtype_kind name (kind_as inside value)) (newtype_size name (written_size (spell_uuid (uuid_bytes readable value))) (size_as inside value))
+        (newtype_at name (spell_uuid (uuid_bytes readable value)) (spell_as inside value levels))
         out.old out.new steps.old steps.new result }
 {
-    match unbuilt_newtype(name.as_str()) {
-        Some(kind) => Err(Halt::caused(out.allocator(), Cause::NotBuilt(kind))),
-        None => put_value(out, steps, content, levels),
+    let name = name.as_str();
+    if is_uuid(name) {
+        return put_uuid(out, steps, content, readable);
+    }
+    put_value(out, steps, content, readable_inside(readable, name), levels)
+}
+
+// A struct of a name that is reserved for a kind. It takes no level.
+#[cycle(put)]
+#[inline(never)]
+fn put_reserved<L: Ledger>(
+    out: &mut Out,
+    steps: &mut Steps<L>,
+    kind: ElementType,
+    fields: &[Field<'_>],
+    readable: bool,
+    levels: u32,
+) -> Result<ElementType, Halt>
+    ensures { let values = fields_view fields.now in
+        Puts kind (reserved_size kind (unwrap kind values) (scoped_code (size_list readable values [])))
+        (reserved_at kind (unwrap kind values) (scoped_code (spell_list readable values levels [])))
+        out.old out.new steps.old steps.new result }
+{
+    match kind {
+        ElementType::JavaScriptCodeWithScope => put_scoped(out, steps, fields, readable, levels),
+        _ => put_unwrapped(out, steps, kind, fields),
+    }
+}
+
+// Code with a scope, which is at the level of a document in its place.
+#[cycle(put)]
+fn put_scoped<L: Ledger>(
+    out: &mut Out,
+    steps: &mut Steps<L>,
+    fields: &[Field<'_>],
+    readable: bool,
+    levels: u32,
+) -> Result<ElementType, Halt>
+    ensures { let values = fields_view fields.now in
+        Puts ElementType.JavaScriptCodeWithScope (scoped_size (scoped_code (size_list readable values [])))
+        (spell_scoped (scoped_code (spell_list readable values levels [])))
+        out.old out.new steps.old steps.new result }
+{
+    let Some((code, scope)) = scoped_code(fields) else {
+        return Err(Halt::caused(out.allocator(), Cause::BadStep));
+    };
+    let total = Total::begin(out, steps)?;
+    put_text(out, steps, code)?;
+    put_scope(out, steps, scope, readable, levels)?;
+    total.end(out, steps)?;
+    Ok(ElementType::JavaScriptCodeWithScope)
+}
+
+// The scope of code. A refusal is seen from the code.
+#[cycle(put)]
+fn put_scope<L: Ledger>(
+    out: &mut Out,
+    steps: &mut Steps<L>,
+    scope: &Datum<'_>,
+    readable: bool,
+    levels: u32,
+) -> Result<(), Halt>
+    ensures { let value = view scope.now in
+        PutsParts (size_as readable value) (with_tree out.old.bytes (under (codes "$scope") (spell_as readable value levels)))
+        out.old out.new steps.old steps.new result }
+{
+    match put_value(out, steps, scope, readable, levels) {
+        Ok(_) => Ok(()),
+        Err(halt) => Err(halt.under_key("$scope")),
     }
 }
 
@@ -136,14 +242,15 @@ fn put_variant<L: Ledger>(
     steps: &mut Steps<L>,
     name: &Text<'_>,
     contents: Contents<'_, '_>,
+    readable: bool,
     levels: u32,
 ) -> Result<ElementType, Halt>
     ensures { let name = text_view name.now in let value = contents_view contents.entry in
-        Puts ElementType.EmbeddedDocument (variant_size name (size value)) (variant_at name levels (spell value))
+        Puts ElementType.EmbeddedDocument (variant_size name (size_as readable value)) (variant_at name levels (spell_as readable value))
         out.old out.new steps.old steps.new result }
 {
     let document = Container::begin(out, steps, levels)?;
-    put_named(out, steps, name, contents, document.levels)?;
+    put_named(out, steps, name, contents, readable, document.levels)?;
     document.end(out, steps)?;
     Ok(ElementType::EmbeddedDocument)
 }
@@ -155,14 +262,15 @@ fn put_document<L: Ledger>(
     out: &mut Out,
     steps: &mut Steps<L>,
     fields: &[Field<'_>],
+    readable: bool,
     levels: u32,
 ) -> Result<ElementType, Halt>
     ensures { let values = fields_view fields.now in
-        Puts ElementType.EmbeddedDocument (size_fields values + 5) (enclosed_at document levels (spell_fields values))
+        Puts ElementType.EmbeddedDocument (size_fields_as readable values + 5) (enclosed_at document levels (spell_fields_as readable values))
         out.old out.new steps.old steps.new result }
 {
     let document = Container::begin(out, steps, levels)?;
-    put_fields(out, steps, fields, document.levels)?;
+    put_fields(out, steps, fields, readable, document.levels)?;
     document.end(out, steps)?;
     Ok(ElementType::EmbeddedDocument)
 }
@@ -173,14 +281,15 @@ fn put_map<L: Ledger>(
     out: &mut Out,
     steps: &mut Steps<L>,
     entries: &[Entry<'_>],
+    readable: bool,
     levels: u32,
 ) -> Result<ElementType, Halt>
     ensures { let values = entries_view entries.now in
-        Puts ElementType.EmbeddedDocument (size_entries values + 5) (enclosed_at document levels (spell_entries values))
+        Puts ElementType.EmbeddedDocument (size_entries_as readable values + 5) (enclosed_at document levels (spell_entries_as readable values))
         out.old out.new steps.old steps.new result }
 {
     let document = Container::begin(out, steps, levels)?;
-    put_entries(out, steps, entries, document.levels)?;
+    put_entries(out, steps, entries, readable, document.levels)?;
     document.end(out, steps)?;
     Ok(ElementType::EmbeddedDocument)
 }
@@ -191,14 +300,15 @@ fn put_array<L: Ledger>(
     out: &mut Out,
     steps: &mut Steps<L>,
     items: &[Datum<'_>],
+    readable: bool,
     levels: u32,
 ) -> Result<ElementType, Halt>
     ensures { let values = items_view items.now in
-        Puts ElementType.Array (size_items 0 values + 5) (enclosed_at array levels (spell_items 0 values))
+        Puts ElementType.Array (size_items_as readable 0 values + 5) (enclosed_at array levels (spell_items_as readable 0 values))
         out.old out.new steps.old steps.new result }
 {
     let array = Container::begin(out, steps, levels)?;
-    put_items(out, steps, items, array.levels)?;
+    put_items(out, steps, items, readable, array.levels)?;
     array.end(out, steps)?;
     Ok(ElementType::Array)
 }
@@ -210,15 +320,16 @@ fn put_fields<L: Ledger>(
     out: &mut Out,
     steps: &mut Steps<L>,
     fields: &[Field<'_>],
+    readable: bool,
     levels: u32,
 ) -> Result<(), Halt>
     ensures { let values = fields_view fields.now in
-        PutsParts (size_fields values) (with_elements out.old.bytes (spell_fields values levels))
+        PutsParts (size_fields_as readable values) (with_elements out.old.bytes (spell_fields_as readable values levels))
         out.old out.new steps.old steps.new result }
 {
     for field in fields {
         let value = Contents::Value(&field.value);
-        put_named(out, steps, &field.name, value, levels)?;
+        put_named(out, steps, &field.name, value, readable, levels)?;
     }
     Ok(())
 }
@@ -229,14 +340,15 @@ fn put_entries<L: Ledger>(
     out: &mut Out,
     steps: &mut Steps<L>,
     entries: &[Entry<'_>],
+    readable: bool,
     levels: u32,
 ) -> Result<(), Halt>
     ensures { let values = entries_view entries.now in
-        PutsParts (size_entries values) (with_elements out.old.bytes (spell_entries values levels))
+        PutsParts (size_entries_as readable values) (with_elements out.old.bytes (spell_entries_as readable values levels))
         out.old out.new steps.old steps.new result }
 {
     for entry in entries {
-        put_entry(out, steps, entry, levels)?;
+        put_entry(out, steps, entry, readable, levels)?;
     }
     Ok(())
 }
@@ -247,14 +359,15 @@ fn put_items<L: Ledger>(
     out: &mut Out,
     steps: &mut Steps<L>,
     items: &[Datum<'_>],
+    readable: bool,
     levels: u32,
 ) -> Result<(), Halt>
     ensures { let values = items_view items.now in
-        PutsParts (size_items 0 values) (with_array_elements out.old.bytes 0 (spell_items 0 values levels))
+        PutsParts (size_items_as readable 0 values) (with_array_elements out.old.bytes 0 (spell_items_as readable 0 values levels))
         out.old out.new steps.old steps.new result }
 {
     for (index, item) in items.iter().enumerate() {
-        put_item(out, steps, index as u64, item, levels)?;
+        put_item(out, steps, index as u64, item, readable, levels)?;
     }
     Ok(())
 }
@@ -266,17 +379,18 @@ fn put_named<L: Ledger>(
     steps: &mut Steps<L>,
     name: &Text<'_>,
     contents: Contents<'_, '_>,
+    readable: bool,
     levels: u32,
 ) -> Result<(), Halt>
     ensures { let name = text_view name.now in let value = contents_view contents.entry in
-        PutsParts (length name + 2 + size value) (with_element out.old.bytes name (named name (spell value levels)))
+        PutsParts (length name + 2 + size_as readable value) (with_element out.old.bytes name (named name (spell_as readable value levels)))
         out.old out.new steps.old steps.new result }
 {
     let key = name.as_str();
     if has_zero(key) {
         return Err(zero_in(out.allocator(), key));
     }
-    put_under_key(out, steps, key, contents, levels)
+    put_under_key(out, steps, key, contents, readable, levels)
 }
 
 // The element of an entry, whose key is judged before its value.
@@ -285,14 +399,22 @@ fn put_entry<L: Ledger>(
     out: &mut Out,
     steps: &mut Steps<L>,
     entry: &Entry<'_>,
+    readable: bool,
     levels: u32,
 ) -> Result<(), Halt>
     ensures { let key = view entry.now.key in let value = view entry.now.value in
-        PutsParts (key_size (key_text key) + 2 + size value) (with_entry out.old.bytes (spell_key key) (spell value levels))
+        PutsParts (key_size (key_text key) + 2 + size_as readable value) (with_entry out.old.bytes (spell_key key) (spell_as readable value levels))
         out.old out.new steps.old steps.new result }
 {
     let key = written_key(out.allocator(), &entry.key)?;
-    put_under_key(out, steps, key, Contents::Value(&entry.value), levels)
+    put_under_key(
+        out,
+        steps,
+        key,
+        Contents::Value(&entry.value),
+        readable,
+        levels,
+    )
 }
 
 // The element of what stands under a key. A refusal is seen from the document.
@@ -303,13 +425,14 @@ fn put_under_key<L: Ledger>(
     steps: &mut Steps<L>,
     key: &str,
     contents: Contents<'_, '_>,
+    readable: bool,
     levels: u32,
 ) -> Result<(), Halt>
     ensures { let value = contents_view contents.entry in
-        PutsParts (length key.now + 2 + size value) (with_element out.old.bytes key.now (under key.now (spell value levels)))
+        PutsParts (length key.now + 2 + size_as readable value) (with_element out.old.bytes key.now (under key.now (spell_as readable value levels)))
         out.old out.new steps.old steps.new result }
 {
-    match put_element(out, steps, key, contents, levels) {
+    match put_element(out, steps, key, contents, readable, levels) {
         Ok(()) => Ok(()),
         Err(halt) => Err(halt.under_key(key)),
     }
@@ -322,15 +445,16 @@ fn put_item<L: Ledger>(
     steps: &mut Steps<L>,
     index: u64,
     item: &Datum<'_>,
+    readable: bool,
     levels: u32,
 ) -> Result<(), Halt>
     ensures { let value = view item.now in
-        PutsParts (length (decimal index) + 2 + size value) (with_element out.old.bytes (decimal index) (under_index index (spell value levels)))
+        PutsParts (length (decimal index) + 2 + size_as readable value) (with_element out.old.bytes (decimal index) (under_index index (spell_as readable value levels)))
         out.old out.new steps.old steps.new result }
 {
     let mut digits = itoa::Buffer::new();
     let value = Contents::Value(item);
-    match put_element(out, steps, digits.format(index), value, levels) {
+    match put_element(out, steps, digits.format(index), value, readable, levels) {
         Ok(()) => Ok(()),
         Err(halt) => Err(halt.under_index(index)),
     }
@@ -344,15 +468,16 @@ fn put_element<L: Ledger>(
     steps: &mut Steps<L>,
     key: &str,
     contents: Contents<'_, '_>,
+    readable: bool,
     levels: u32,
 ) -> Result<(), Halt>
     ensures { let value = contents_view contents.entry in
-        PutsParts (length key.now + 2 + size value) (with_element out.old.bytes key.now (spell value levels))
+        PutsParts (length key.now + 2 + size_as readable value) (with_element out.old.bytes key.now (spell_as readable value levels))
         out.old out.new steps.old steps.new result }
 {
     let start = out.len();
     begin_element(out, steps, key)?;
-    let kind = put_contents(out, steps, contents, levels)?;
+    let kind = put_contents(out, steps, contents, readable, levels)?;
     out.patch_byte(start, kind.byte(), steps);
     Ok(())
 }
@@ -363,15 +488,16 @@ fn put_contents<L: Ledger>(
     out: &mut Out,
     steps: &mut Steps<L>,
     contents: Contents<'_, '_>,
+    readable: bool,
     levels: u32,
 ) -> Result<ElementType, Halt>
     ensures { let value = contents_view contents.entry in
-        Puts (kind_of (contents_view contents.entry)) (size value) (spell value levels)
+        Puts (kind_as readable (contents_view contents.entry)) (size_as readable value) (spell_as readable value levels)
         out.old out.new steps.old steps.new result }
 {
     match contents {
-        Contents::Value(value) => put_value(out, steps, value, levels),
-        Contents::Items(items) => put_array(out, steps, items, levels),
-        Contents::Fields(fields) => put_document(out, steps, fields, levels),
+        Contents::Value(value) => put_value(out, steps, value, readable, levels),
+        Contents::Items(items) => put_array(out, steps, items, readable, levels),
+        Contents::Fields(fields) => put_document(out, steps, fields, readable, levels),
     }
 }

@@ -160,7 +160,7 @@ fn push<'de>(
     Ok(())
 }
 
-/// The value that was read for a field. Where none was read, what stands for a missing one: an option is none.
+/// The value that was read for a field. Where none was read, the default of a missing one: an option is none.
 /// Where nothing does, the struct is refused.
 fn value_or_missing<'de>(
     alloc: Global,

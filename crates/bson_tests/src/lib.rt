@@ -12,9 +12,13 @@ mod faults;
 #[cfg(test)]
 mod reading;
 #[cfg(test)]
+mod reserved;
+#[cfg(test)]
 mod runs;
 #[cfg(test)]
 mod shapes;
+#[cfg(test)]
+mod texts;
 #[cfg(test)]
 mod tree;
 #[cfg(test)]

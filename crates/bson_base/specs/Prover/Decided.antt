@@ -9,9 +9,12 @@ use Rattle.std.proofs.lemmas.Slice.Eq.{bytes_eq-Decides}
 use Rattle.bson_base.specs.Text.{Bytes}
 use Rattle.bson_base.specs.Tree.{Tree, double, string, document, array, binary, undefined, object_id, boolean, date_time, null, regular_expression, db_pointer, javascript_code, symbol, javascript_code_with_scope, int32, timestamp, int64, decimal128, max_key, min_key, Pairs, no_pairs, pair, Trees, no_trees, tree}
 use Rattle.bson_base.specs.Same.{same, same_trees, same_pairs}
-use Rattle.bson_base.specs.BsonView.{tree_of, binary_of, pairs_of}
+use Rattle.bson_base.specs.BsonView.{tree_of, binary_of, regex_of, pointer_of, scoped_of, pairs_of}
+use Rattle.bson_base.specs.RegexView.{RegexTexts}
 use Rattle.bson_base.specs.declared.binary.Binary.{Binary}
 use Rattle.bson_base.specs.declared.bson.Bson.{Bson}
+use Rattle.bson_base.specs.declared.code_with_scope.JavaScriptCodeWithScope.{JavaScriptCodeWithScope}
+use Rattle.bson_base.specs.declared.db_pointer.DbPointer.{DbPointer}
 use Rattle.bson_base.specs.declared.document.Document.{Document}
 
 bytes_alike : (bytes : Bytes) → bytes_eq bytes bytes ≡ true
@@ -109,6 +112,15 @@ same_pairs_decides ps qs = (pairs_are ps qs, λ e. subst (λ rs. same_pairs ps r
 -- the laws of `==`
 pub binary_laws : IsPartialEquivalence (λ (a : Binary) (b : Binary). same (binary_of a) (binary_of b))
 binary_laws = partial_equiv_from_equiv (on_equiv binary_of (decided same same_decides))
+
+pub regex_laws : IsPartialEquivalence (λ (a : RegexTexts) (b : RegexTexts). same (regex_of a) (regex_of b))
+regex_laws = partial_equiv_from_equiv (on_equiv regex_of (decided same same_decides))
+
+pub pointer_laws : IsPartialEquivalence (λ (a : DbPointer) (b : DbPointer). same (pointer_of a) (pointer_of b))
+pointer_laws = partial_equiv_from_equiv (on_equiv pointer_of (decided same same_decides))
+
+pub scoped_laws : IsPartialEquivalence (λ (a : JavaScriptCodeWithScope) (b : JavaScriptCodeWithScope). same (scoped_of a) (scoped_of b))
+scoped_laws = partial_equiv_from_equiv (on_equiv scoped_of (decided same same_decides))
 
 pub bson_laws : IsPartialEquivalence (λ (a : Bson) (b : Bson). same (tree_of a) (tree_of b))
 bson_laws = partial_equiv_from_equiv (on_equiv tree_of (decided same same_decides))

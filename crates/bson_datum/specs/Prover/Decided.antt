@@ -9,7 +9,7 @@ use Rattle.std.specs.Cmp.Lexicographic.{pointwise_decides}
 use Rattle.std.proofs.lemmas.Bool.{and_parts, and_from, false≢true}
 use Rattle.std.proofs.lemmas.Slice.Eq.{bytes_eq-Decides}
 use Rattle.bson_base.specs.Text.{Bytes, Utf8}
-use Rattle.bson_datum.specs.Value.{IntegerType, i8, i16, i32, i64, u8, u16, u32, u64, Value, boolean, integer, double, character, str, bytes, none, some, unit, unit_structure, unit_variant, newtype, newtype_variant, sequence, tuple, tuple_structure, tuple_variant, map, structure, structure_variant, Items, no_items, item, Entries, no_entries, entry, FieldValues, no_field_values, field_value}
+use Rattle.bson_datum.specs.Value.{IntegerType, i8, i16, i32, i64, u8, u16, u32, u64, Value, boolean, integer, double, character, str, bytes, none, some, unit, unit_structure, unit_variant, newtype, newtype_variant, sequence, tuple, tuple_structure, tuple_variant, map, structure, structure_variant, mode, Items, no_items, item, Entries, no_entries, entry, FieldValues, no_field_values, field_value}
 use Rattle.bson_datum.specs.Refusal as refusal
 use Rattle.bson_datum.specs.Refusal.{at_key, at_index}
 use Rattle.bson_datum.specs.Same.{type_number, same_type, same, same_items, same_entries, same_entry, same_fields, same_field, same_segment, same_path}
@@ -83,6 +83,9 @@ mutual
   same_is (structure_variant variant fs) (structure_variant n gs) e =
       let b = and_parts (bytes_eq variant n) (same_fields fs gs) e in
       λ i. structure_variant ((bytes_eq-Decides variant n).0 b.0 i) (fields_are fs gs b.1 i)
+  same_is (mode r c) (mode s d) e =
+      let b = and_parts (same r s) (same c d) e in
+      λ i. mode (same_is r s b.0 i) (same_is c d b.1 i)
   same_is v w e = absurd (false≢true e)
 
   items_are : (is js : Items) → same_items is js ≡ true → is ≡ js
@@ -130,6 +133,7 @@ mutual
   same_itself (map es) = entries_alike es
   same_itself (structure name fs) = and_from _ _ (bytes_alike name) (fields_alike fs)
   same_itself (structure_variant variant fs) = and_from _ _ (bytes_alike variant) (fields_alike fs)
+  same_itself (mode r c) = and_from _ _ (same_itself r) (same_itself c)
 
   items_alike : (is : Items) → same_items is is ≡ true
   items_alike no_items = refl

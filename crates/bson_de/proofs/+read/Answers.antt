@@ -1,4 +1,4 @@
-use Rattle.std.proofs.Common.{rules, ◌≡◌, ℕ, Ok, Some, None, List, refl, string_bytes, ◌+◌, ◌*◌, ◌<◌, ap, sym, subst, ◌∙◌, get_or, map, arith}
+use Rattle.std.proofs.Common.{rules, ◌≡◌, Ok, None, List, refl, string_bytes, ◌+◌, ◌*◌, ◌<◌, ap, sym, subst, ◌∙◌, get_or, map, arith}
 use Rattle.std.specs.Borrow.{Bor}
 use Rattle.bson_base.specs.Outcome.{◌>>=◌, result_map}
 use Rattle.bson_rawdoc.specs.Piece.{made}
@@ -9,16 +9,16 @@ use Rattle.bson_shape.specs.declared.shape.FieldShape.{FieldShape}
 use Rattle.bson_shape.proofs.Names.{field_names_are}
 use Rattle.bson_shape.proofs.Shapes.{field_smaller, part_smaller}
 use Rattle.bson_datum.specs.Cause.{duplicate_field}
-use Rattle.bson_datum.specs.Marked.{Marked, MarkedFields}
+use Rattle.bson_datum.specs.Marked.{Marked}
 use Rattle.bson_datum.specs.MarkedView.{marked}
 use Rattle.bson_datum.specs.Refusal.{at_key, under}
 use Rattle.bson_datum.specs.Value as value
 use Rattle.bson_datum.specs.declared.text.Text.TheVariants.{Owned}
 use Rattle.bson_datum.specs.Value.{no_entries}
-use Rattle.bson_laws.specs.Containers.{reads_items, reads_entries, reads_key, read_enum, read_first, reads_unit}
+use Rattle.bson_laws.specs.Containers.{reads_items, reads_entries, reads_key}
 use Rattle.bson_laws.specs.Judged.{Reading, plain, judged, refused, ignores}
 use Rattle.bson_laws.specs.Reads.{reads, reads_parts, reads_variant, reads_content, slots_of}
-use Rattle.bson_laws.specs.Slots.{Slot, Slots, fill, finish, read_structure, reads_places}
+use Rattle.bson_laws.specs.Slots.{Slot, Slots, read_structure, reads_places}
 use Rattle.bson_met.specs.Gives.{Reaches}
 use Rattle.bson_met.specs.PieceView.{str_piece}
 use Rattle.bson_met.specs.Sizes.{count}
@@ -27,9 +27,7 @@ use Rattle.bson_slots.specs.Place.{place_of}
 use Rattle.bson_slots.specs.SlotsView.{slots_view}
 use Rattle.bson_slots.proofs.Elements.{value_put, value_refused, put_filled, unknown_dropped, unknown_refused}
 use Rattle.bson_de.specs.Enums.{variant_named}
-use Rattle.bson_de.specs.KeyValues.{key_value}
 use Rattle.bson_de.specs.ListsMarked.{items_marked, entries_marked}
-use Rattle.bson_de.specs.Passes.{pass_at}
 use Rattle.bson_de.proofs.Each.{each, step_is, item_is, each_step, each_next, each_stop}
 use Rattle.bson_de.proofs.FieldPlaces.{values_before, places_step, places_stop, places_end, all_left as no_values}
 use Rattle.bson_de.proofs.KeyTexts.{key_valued}
@@ -38,7 +36,7 @@ use Rattle.bson_de.proofs.Mapped.{taken, not_taken}
 use Rattle.bson_de.proofs.Nulls.{option_null}
 use Rattle.bson_de.proofs.MarkedLists.{marked-Seq, marked-Tuple, marked-TupleStruct, marked-TupleVariant, marked-Map}
 use Rattle.bson_de.proofs.Parts.{items_before, parts_step, parts_stop, parts_end, all_left}
-use Rattle.bson_de.proofs.VariantContents.{contents_at_key, other_enum, other_structure}
+use Rattle.bson_de.proofs.VariantContents.{contents_at_key}
 use Rattle.bson_de.proofs.Variants.{first_read, element_read, content_read, named_smaller, named_content}
 use Rattle.bson_de.proofs.+read.Goals as goal
 

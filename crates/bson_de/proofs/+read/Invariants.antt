@@ -7,7 +7,6 @@ use Rattle.bson_laws.specs.Judged.{plain}
 use Rattle.bson_laws.specs.Reads.{reads, reads_parts, slots_of}
 use Rattle.bson_laws.specs.Slots.{fill, reads_places}
 use Rattle.bson_met.specs.Sizes.{count}
-use Rattle.bson_slots.specs.FieldSlots.{fields_marked}
 use Rattle.bson_slots.specs.SlotsView.{slots_view}
 use Rattle.bson_de.specs.EntriesView.{IsIndexed}
 use Rattle.bson_de.specs.ListsMarked.{items_marked, entries_marked}

@@ -1,9 +1,5 @@
-use Rattle.std.proofs.Common.{ap, ◌∙◌, ◌+◌, arith}
-use Rattle.bson_datum.specs.Refusal.{at_index, under_index}
-use Rattle.bson_met.specs.Sizes.{count}
-use Rattle.bson_met.proofs.Refusals.{stops_bind, stops_inside}
-use Rattle.bson_base.specs.Outcome.{◌>>=◌}
-use Rattle.bson_de.proofs.Each.{each, item_is, each_step, each_stop}
+use Rattle.std.proofs.Common.{◌∙◌, arith}
+use Rattle.bson_de.proofs.Each.{each}
 use Rattle.bson_de.proofs.Loops.{bytes_by, bytes_each}
 use Rattle.bson_de.proofs.byte_string.bytes_of_items.Goals as goal
 

@@ -1,5 +1,4 @@
 use Rattle.std.proofs.Common.{rules, refl, ◌≡◌, suc, ◌+◌, ◌*◌, ◌<◌, ap, sym, subst, ◌∙◌, arith}
-use Rattle.bson_base.specs.Outcome.{◌>>=◌}
 use Rattle.bson_datum.specs.Refusal.{at_key, under}
 use Rattle.bson_rawdoc.specs.Node.{opened}
 use Rattle.bson_laws.specs.Judged.{Reading, plain, at_its_key, at_its_index, scope_key, pass_scope}

@@ -1,10 +1,7 @@
-use Rattle.std.proofs.Common.{true, false, rules}
-use Rattle.bson_rawdoc.specs.Piece.{made}
-use Rattle.bson_base.specs.Outcome.{◌>>=◌}
+use Rattle.std.proofs.Common.{false, rules}
 use Rattle.bson_datum.specs.Value as value
 use Rattle.bson_laws.specs.Judged.{judged, plain}
 use Rattle.bson_laws.specs.Taken.{text_of}
-use Rattle.bson_met.specs.Gives.{Reaches}
 use Rattle.bson_de.proofs.Mapped.{taken, not_taken}
 use Rattle.bson_de.proofs.leaf.owned_string.Goals as goal
 

@@ -1,4 +1,4 @@
-use Rattle.std.proofs.Common.{rules, Ok, ap, sym, subst, ◌∙◌}
+use Rattle.std.proofs.Common.{Ok, ap, sym, subst, ◌∙◌}
 use Rattle.bson_base.specs.Outcome.{◌>>=◌}
 use Rattle.bson_rawdoc.specs.Piece.{Piece, borrowed}
 use Rattle.bson_datum.specs.Cause.{not_utf8}

@@ -1,7 +1,7 @@
 -- What was appended so far leaves to come what was to come from the fields, the entries or the values that are left.
 use Rattle.std.proofs.Common.{◌≡◌, ◌+◌, ◌*◌, ◌≤◌, ℕ, drop}
 use Rattle.bson_datum.specs.View.{items_view, entries_view, fields_view}
-use Rattle.bson_laws.specs.Spell.{spell_items, spell_entries, spell_fields, size_items, size_entries, size_fields}
+use Rattle.bson_laws.specs.Spell.{spell_items_as, spell_entries_as, spell_fields_as, size_items_as, size_entries_as, size_fields_as}
 use Rattle.bson_ser_stream.specs.Writing.{with_elements, with_array_elements}
 use Rattle.bson_ser_stream.specs.Halting.{Grows}
 use denote.Param.Weighed.{most}
@@ -14,8 +14,8 @@ abbrev pub invariant-put_fields-loop-field : goal.invariant-put_fields-loop-fiel
 invariant-put_fields-loop-field g l =
     let left = fields_view (drop l.field-index l.fields) in
     record {
-      bytes : with_elements l.out.bytes (spell_fields left l.levels) ≡ with_elements l.initial.out.bytes (spell_fields (fields_view l.fields) l.levels);
-      size : size_fields left ≤ size_fields (fields_view l.fields);
+      bytes : with_elements l.out.bytes (spell_fields_as l.readable left l.levels) ≡ with_elements l.initial.out.bytes (spell_fields_as l.readable (fields_view l.fields) l.levels);
+      size : size_fields_as l.readable left ≤ size_fields_as l.readable (fields_view l.fields);
       grows : Grows l.initial.out l.out l.initial.steps l.steps;
     }
 
@@ -23,8 +23,8 @@ abbrev pub invariant-put_entries-loop-entry : goal.invariant-put_entries-loop-en
 invariant-put_entries-loop-entry g l =
     let left = entries_view (drop l.entry-index l.entries) in
     record {
-      bytes : with_elements l.out.bytes (spell_entries left l.levels) ≡ with_elements l.initial.out.bytes (spell_entries (entries_view l.entries) l.levels);
-      size : size_entries left ≤ size_entries (entries_view l.entries);
+      bytes : with_elements l.out.bytes (spell_entries_as l.readable left l.levels) ≡ with_elements l.initial.out.bytes (spell_entries_as l.readable (entries_view l.entries) l.levels);
+      size : size_entries_as l.readable left ≤ size_entries_as l.readable (entries_view l.entries);
       grows : Grows l.initial.out l.out l.initial.steps l.steps;
     }
 
@@ -32,19 +32,28 @@ abbrev pub invariant-put_items-loop-index : goal.invariant-put_items-loop-index
 invariant-put_items-loop-index g l =
     let left = items_view (drop l.index l.items) in
     record {
-      bytes : with_array_elements l.out.bytes l.index (spell_items l.index left l.levels) ≡ with_array_elements l.initial.out.bytes 0 (spell_items 0 (items_view l.items) l.levels);
-      size : size_items l.index left ≤ size_items 0 (items_view l.items);
+      bytes : with_array_elements l.out.bytes l.index (spell_items_as l.readable l.index left l.levels) ≡ with_array_elements l.initial.out.bytes 0 (spell_items_as l.readable 0 (items_view l.items) l.levels);
+      size : size_items_as l.readable l.index left ≤ size_items_as l.readable 0 (items_view l.items);
       grows : Grows l.initial.out l.out l.initial.steps l.steps;
     }
 
 abbrev pub decreases-put_value : goal.decreases-put_value
 decreases-put_value g l = 16 * goal.size-put_value g l
 
-abbrev pub decreases-put_some : goal.decreases-put_some
-decreases-put_some g l = 16 * goal.size-put_some g l + 1
+abbrev pub decreases-put_inner : goal.decreases-put_inner
+decreases-put_inner g l = 16 * goal.size-put_inner g l + 1
 
 abbrev pub decreases-put_newtype : goal.decreases-put_newtype
 decreases-put_newtype g l = 16 * goal.size-put_newtype g l + 1
+
+abbrev pub decreases-put_reserved : goal.decreases-put_reserved
+decreases-put_reserved g l = 16 * goal.size-put_reserved g l + 8
+
+abbrev pub decreases-put_scoped : goal.decreases-put_scoped
+decreases-put_scoped g l = 16 * goal.size-put_scoped g l + 7
+
+abbrev pub decreases-put_scope : goal.decreases-put_scope
+decreases-put_scope g l = 16 * goal.size-put_scope g l + 1
 
 abbrev pub decreases-put_array : goal.decreases-put_array
 decreases-put_array g l = 16 * goal.size-put_array g l + 7

@@ -1,0 +1,7 @@
+-- What contracts see of a `Regex`.
+use Rattle.bson_base.specs.Text.{Utf8}
+
+-- its two texts (that the options are in order is an invariant of `Regex`)
+pub record RegexTexts : Type 0 where
+  pub pattern : Utf8
+  pub options : Utf8

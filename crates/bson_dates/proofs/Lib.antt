@@ -1,0 +1,2 @@
+pub mod DateTexts
+pub mod Calendar

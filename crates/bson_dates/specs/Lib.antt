@@ -1,0 +1,3 @@
+pub mod DateText
+pub mod DateFront
+pub mod DatePrinted

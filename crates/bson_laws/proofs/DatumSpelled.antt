@@ -1,0 +1,154 @@
+-- The value that a clean tree is means the tree with the options of its regular expressions in order, and is spelled as it.
+use Rattle.std.proofs.Common.{◌≡◌, ℕ, ◌<◌, ◌≤◌, ◌^◌, zero, suc, pos, List, [], ◌∷◌, Bool, true, false, cond, Option, Some, None, Ok, Err, inl, refl, ap, sym, ◌∙◌, arith}
+use Rattle.std.specs.Prelude.{nat_lt, nat_eq, option_map, option_and_then, codes}
+use Rattle.std.specs.Result.{result_ok}
+use Rattle.std.proofs.lemmas.Bool.Decides.{nat_tests}
+use Rattle.uuid.specs.Text.{lower}
+use Rattle.uuid.proofs.RoundTrips.{parses_hyphenated}
+use Rattle.bson_base.specs.Outcome.{◌>>=◌, result_map}
+use Rattle.bson_base.specs.Reserved.{reserved_kind}
+use Rattle.bson_base.specs.Sorted.{sorted}
+use Rattle.bson_base.specs.Sound.{IsClean, ArePairsClean, AreTreesClean, HasBytes, IsZeroFree}
+use Rattle.bson_base.specs.Text.{Bytes, Utf8}
+use Rattle.bson_base.specs.Tree as tree
+use Rattle.bson_base.specs.Tree.{Tree, Pairs, no_pairs, pair, Trees, no_trees, depth, pairs_depth, trees_depth}
+use Rattle.bson_base.specs.declared.element_type.ElementType.{ElementType}
+use Rattle.bson_base.specs.declared.element_type.ElementType.TheVariants.{JavaScriptCodeWithScope}
+use Rattle.bson_base.proofs.WrittenTexts.{digits_read, subtype_read, integer_read, base64_read}
+use Rattle.bson_datum.specs.Value as value
+use Rattle.bson_datum.specs.Value.{i64, Value, FieldValues}
+use Rattle.bson_datum.specs.Refusal.{here, invalid_cstring, unsigned_exceeds, under, under_index}
+use Rattle.bson_reserved.specs.Unwrap.{Part, a_value, next_key, next_unsigned, end_as, unwrap, or_else}
+use Rattle.bson_reserved.specs.Written.{with_scope, zero_free}
+use Rattle.bson_laws.specs.Datum.{datum, pair_data, tree_data, uuid_datum, sorted_tree, sorted_pairs, sorted_trees}
+use Rattle.bson_laws.specs.Means.{unwrapped_means, means, means_items, means_entries}
+use Rattle.bson_laws.specs.Spell.{spell_whole, spell_unwrapped, spell_uuid, spell_as, spell_items_as, spell_entries_as}
+use Rattle.bson_laws.proofs.Rewritten.{wide_small}
+use Rattle.bson_laws.proofs.Spelled.{binary_spelled, enclosed}
+
+-- the texts and byte strings of the value are those of the tree
+abbrev itself : Bytes → Utf8
+itself b = b
+
+-- ---- structs of reserved names
+
+-- a struct of a reserved name, but that of code with a scope, is accepted as the tree
+abbrev IsAcceptedAs : Option ElementType → FieldValues → Tree → Type 0
+IsAcceptedAs None fs t = Unit {0}
+IsAcceptedAs (Some JavaScriptCodeWithScope) fs t = Unit {0}
+IsAcceptedAs (Some k) fs t = unwrap k fs ≡ Some t
+
+abbrev IsAccepted : Value → Tree → Type 0
+IsAccepted (value.structure name fs) t = IsAcceptedAs (reserved_kind name) fs t
+IsAccepted v t = Unit {0}
+
+-- a number that is one of 32 bits without a sign is taken
+unsigned_next : (n : ℕ) (rest : List (Part Value)) → n < 2 ^ 32 → next_unsigned (a_value (value.integer i64 (pos n)) (value.integer i64 (pos n)) ∷ rest) ≡ Some (n, rest)
+unsigned_next n rest h = let small : nat_lt n (2 ^ 32) ≡ true = grind (arith, nat_tests, h) in ap (λ b. cond b (Some (n, rest)) None) small
+
+abbrev timestamp_of : ℕ × ℕ → Tree
+timestamp_of p = tree.timestamp p.0 p.1
+
+-- the increment, and the end of the list, behind a time
+abbrev increment_at : ℕ → Option (ℕ × List (Part Value)) → Option (ℕ × ℕ)
+increment_at time increment = option_and_then (λ p. end_as (time, p.0) p.1) increment
+
+abbrev behind_time : ℕ × List (Part Value) → Option (ℕ × ℕ)
+behind_time time = option_and_then (λ second. increment_at time.0 (next_unsigned second)) (next_key (codes "i") time.1)
+
+-- each text and number in the fields is read back
+accepted : (t : Tree) → IsClean t → IsAccepted (datum itself t) t
+accepted (tree.binary zero b) c = tt
+accepted (tree.binary (suc n) b) c =
+    λ i. option_map (λ (p : ℕ × Bytes). tree.binary p.0 p.1) (or_else (option_and_then (λ s. option_and_then (λ x. Some (s, x)) (base64_read b c.are_bytes i)) (subtype_read (suc n) c.is_byte i)) None)
+accepted (tree.object_id id) c = ap (λ o. option_map tree.object_id (option_and_then Some o)) (digits_read 12 id c.count c.are_bytes)
+accepted (tree.date_time n) c = ap (λ o. option_map tree.date_time (option_and_then Some o)) (integer_read n c)
+accepted (tree.regular_expression pattern options) c = refl
+accepted (tree.db_pointer namespace id) c =
+    ap (λ o. option_map (λ (p : Utf8 × Bytes). tree.db_pointer p.0 p.1) (option_and_then (λ x. Some (namespace, x)) o)) (digits_read 12 id c.1.count c.1.are_bytes)
+accepted (tree.javascript_code t) c = refl
+accepted (tree.symbol t) c = refl
+accepted (tree.timestamp time increment) c =
+    ap (λ o. option_map timestamp_of (option_and_then behind_time o)) (unsigned_next time _ c.0) ∙ ap (λ o. option_map timestamp_of (increment_at time o)) (unsigned_next increment [] c.1)
+accepted (tree.decimal128 b) c = ap (λ n. option_map tree.decimal128 (option_and_then Some (cond (nat_eq n 16) (Some b) None))) c.count
+accepted tree.undefined c = refl
+accepted tree.max_key c = refl
+accepted tree.min_key c = refl
+accepted t c = tt
+
+zero_free_part : (part : Utf8) → IsZeroFree part → zero_free part ≡ Ok part
+zero_free_part part z = ap (λ b. cond b (Err (here (invalid_cstring part))) (Ok part)) z.no_zero
+
+regular_expression_spelled : (pattern options : Utf8) → IsZeroFree pattern → IsZeroFree options → spell_whole (tree.regular_expression pattern options) ≡ Ok (tree.regular_expression pattern (sorted options))
+regular_expression_spelled pattern options p o = λ i. zero_free_part pattern p i >>= λ x. zero_free_part options o i >>= λ y. Ok (tree.regular_expression x (sorted y))
+
+-- ---- what the value is spelled as
+
+mutual
+  pub datum_spelled : (readable : Bool) (t : Tree) (levels : ℕ) → IsClean t → depth t ≤ levels → spell_as readable (datum itself t) levels ≡ Ok (sorted_tree t)
+  datum_spelled r (tree.double bits) levels c d = refl
+  datum_spelled r (tree.string t) levels c d = refl
+  datum_spelled r (tree.document ps) levels c d =
+      enclosed tree.document (spell_entries_as r (pair_data itself ps)) (sorted_pairs ps) (pairs_depth ps) levels d (λ n le. pairs_spelled r ps n c le)
+  datum_spelled r (tree.array ts) levels c d =
+      enclosed tree.array (spell_items_as r 0 (tree_data itself ts)) (sorted_trees ts) (trees_depth ts) levels d (λ n le. trees_spelled r 0 ts n c le)
+  datum_spelled r (tree.binary zero b) levels c d = binary_spelled 0 b c
+  datum_spelled r (tree.binary (suc n) b) levels c d = ap spell_unwrapped (accepted (tree.binary (suc n) b) c) ∙ binary_spelled (suc n) b c
+  datum_spelled r (tree.boolean b) levels c d = refl
+  datum_spelled r tree.null levels c d = refl
+  datum_spelled r (tree.regular_expression pattern options) levels c d = regular_expression_spelled pattern options c.0 c.1
+  datum_spelled r (tree.javascript_code_with_scope code scope) levels c d =
+      ap (λ x. result_map (with_scope code) (under (codes "$scope") x))
+      (enclosed tree.document (spell_entries_as r (pair_data itself scope)) (sorted_pairs scope) (pairs_depth scope) levels d (λ n le. pairs_spelled r scope n c.1 le))
+  datum_spelled r (tree.int32 n) levels c d = refl
+  datum_spelled r (tree.int64 n) levels c d = ap (λ b. cond b (Err (here (unsigned_exceeds n))) (Ok (tree.int64 n))) (wide_small n c)
+  datum_spelled r t levels c d = ap spell_unwrapped (accepted t c)
+
+  pairs_spelled : (readable : Bool) (ps : Pairs) (levels : ℕ) → ArePairsClean ps → pairs_depth ps ≤ levels → spell_entries_as readable (pair_data itself ps) levels ≡ Ok (sorted_pairs ps)
+  pairs_spelled r no_pairs levels c d = refl
+  pairs_spelled r (pair key t ps) levels c d =
+      let first = datum_spelled r t levels c.2 (omega arith) in
+      let rest = pairs_spelled r ps levels c.3 (omega arith) in
+      λ i. cond (c.0.free.no_zero i) (Err (here (invalid_cstring key))) (Ok key) >>= λ k. under k (first i) >>= λ u. rest i >>= λ us. Ok (pair k u us)
+
+  trees_spelled : (readable : Bool) (index : ℕ) (ts : Trees) (levels : ℕ) → AreTreesClean ts → trees_depth ts ≤ levels → spell_items_as readable index (tree_data itself ts) levels ≡ Ok (sorted_trees ts)
+  trees_spelled r i no_trees levels c d = refl
+  trees_spelled r i (tree.tree t ts) levels c d =
+      let first = datum_spelled r t levels c.0 (omega arith) in
+      let rest = trees_spelled r (suc i) ts levels c.1 (omega arith) in
+      λ j. under_index i (first j) >>= λ u. rest j >>= λ us. Ok (tree.tree u us)
+
+-- ---- what the value means
+
+mutual
+  pub datum_meant : (t : Tree) → IsClean t → means (datum itself t) ≡ Some (sorted_tree t)
+  datum_meant (tree.double bits) c = refl
+  datum_meant (tree.string t) c = refl
+  datum_meant (tree.document ps) c = ap (option_map tree.document) (pairs_meant ps c)
+  datum_meant (tree.array ts) c = ap (option_map tree.array) (trees_meant ts c)
+  datum_meant (tree.binary zero b) c = refl
+  datum_meant (tree.binary (suc n) b) c = ap unwrapped_means (accepted (tree.binary (suc n) b) c) ∙ ap result_ok (binary_spelled (suc n) b c)
+  datum_meant (tree.boolean b) c = refl
+  datum_meant tree.null c = refl
+  datum_meant (tree.regular_expression pattern options) c = ap result_ok (regular_expression_spelled pattern options c.0 c.1)
+  datum_meant (tree.javascript_code_with_scope code scope) c = ap (λ o. option_map (with_scope code) (option_map tree.document o)) (pairs_meant scope c.1)
+  datum_meant (tree.int32 n) c = refl
+  datum_meant (tree.int64 n) c = ap (λ b. cond b None (Some (tree.int64 n))) (wide_small n c)
+  datum_meant t c = ap unwrapped_means (accepted t c)
+
+  pairs_meant : (ps : Pairs) → ArePairsClean ps → means_entries (pair_data itself ps) ≡ Some (sorted_pairs ps)
+  pairs_meant no_pairs c = refl
+  pairs_meant (pair key t ps) c = λ i. option_and_then (λ u. option_map (pair key u) (pairs_meant ps c.3 i)) (datum_meant t c.2 i)
+
+  trees_meant : (ts : Trees) → AreTreesClean ts → means_items (tree_data itself ts) ≡ Some (sorted_trees ts)
+  trees_meant no_trees c = refl
+  trees_meant (tree.tree t ts) c = λ i. option_and_then (λ u. option_map (tree.tree u) (trees_meant ts c.1 i)) (datum_meant t c.0 i)
+
+-- ---- UUIDs
+
+sixteen_fit : (b : Bytes) → HasBytes 16 b → IsClean (tree.binary 4 b)
+sixteen_fit b h = record { is_byte = omega arith; are_bytes = h.are_bytes; fits = omega (arith, h.count) }
+
+pub uuid_spelled : (readable : Bool) (b : Bytes) (levels : ℕ) → HasBytes 16 b → spell_as readable (uuid_datum itself b) levels ≡ Ok (tree.binary 4 b)
+uuid_spelled true b levels h = ap spell_uuid (sym (parses_hyphenated lower b (inl refl) h.count h.are_bytes)) ∙ binary_spelled 4 b (sixteen_fit b h)
+uuid_spelled false b levels h = binary_spelled 4 b (sixteen_fit b h)

@@ -1,0 +1,202 @@
+-- Code with a scope: a place for the length of all, the code, the scope, and the length over its place.
+use Rattle.std.proofs.Common.{Bool, ◌≡◌, ℕ, zero, suc, ◌+◌, ◌-◌, ◌<◌, ◌≤◌, [], ◌∷◌, ◌++◌, length, take, drop, Option, Some, Result, Ok, Err, refl, ap, sym, subst, ◌∙◌, append_assoc, arith}
+use Rattle.std.specs.Prelude.{codes, IsOk}
+use Rattle.std.proofs.lemmas.List.{length-append, take_at, drop_at}
+use Rattle.bson_base.specs.Outcome.{result_map}
+use Rattle.bson_base.specs.Sound.{max_bytes}
+use Rattle.bson_base.specs.Text.{Bytes, Utf8}
+use Rattle.bson_base.specs.Tree.{Tree, string, document, Pairs, le32, closed_text, after_total, enc}
+use Rattle.bson_base.specs.declared.element_type.ElementType.{ElementType}
+use Rattle.bson_base.specs.declared.element_type.ElementType.TheVariants.{JavaScriptCodeWithScope}
+use Rattle.bson_base.proofs.Lengths.{length-le32, length-text}
+use Rattle.bson_base.proofs.Outcomes.{map_ok}
+use Rattle.bson_datum.specs.Refusal.{Refusal, WriteFault, under}
+use Rattle.bson_io.specs.Output.{Output, Appended, patched}
+use Rattle.bson_reserved.specs.Written.{with_scope}
+use Rattle.bson_datum.specs.Value.{Value, map, FieldValues}
+use Rattle.bson_reserved.specs.AcceptedView.{IsMap}
+use Rattle.bson_reserved.specs.Unwrap.{listed, scoped_code}
+use Rattle.bson_laws.specs.Spell.{Writing, spell_scoped, scoped_size, enclosed_at, spell_as, spell_entries_as, spell_list, size_as, size_list}
+use Rattle.bson_laws.proofs.Listed.{scope_spelled, scope_sized}
+use Rattle.bson_laws.proofs.Sizes.{ok_is, under_ok, length-spell}
+use Rattle.bson_ser_stream.specs.Writing.{with_tree, length_place}
+use Rattle.bson_ser_stream.specs.Halting.{Halts, Grows, Puts, Totals, TotalHalts}
+use Rattle.bson_ser_stream.proofs.Ended.{before_patch, length-patched}
+use Rattle.bson_ser_stream.proofs.Growth.{Grows-trans, Grows-appended, Grows-longer}
+use Rattle.bson_ser_stream.specs.declared.halt.Halt.{Halt}
+use Rattle.bson_datum.specs.declared.stop.Stop.TheVariants.{Refused, NoMemory}
+use Rattle.bson_ser_stream.specs.declared.halt.Halt.TheVariants.{Stopped, TooLong}
+
+-- bytes behind a place of four, and the length of all written over the place
+totaled : (old b : Bytes) (n : ℕ) → n ≡ length b + 4 → patched ((old ++ length_place) ++ b) (length old) (le32 n) ≡ old ++ after_total b
+totaled old b n is =
+    let front : take (length old) ((old ++ length_place) ++ b) ≡ old = ap (take (length old)) (append_assoc old length_place b) ∙ take_at old (length_place ++ b) (length old) refl in
+    let back : drop (length old + length (le32 n)) ((old ++ length_place) ++ b) ≡ b = drop_at (old ++ length_place) b (length old + length (le32 n)) (omega (arith, length-append old length_place, length-le32 n)) in
+    (λ i. (front i ++ le32 (is i)) ++ back i) ∙ append_assoc old (le32 (length b + 4)) b
+
+-- a map is written as a document
+document_of : (levels : ℕ) (parts : ℕ → Writing Pairs) (u : Tree) → enclosed_at document levels parts ≡ Ok u → (ps : Pairs) × (document ps ≡ u)
+document_of zero parts u e = absurd cc
+document_of (suc levels) parts u e = let m = map_ok document (parts levels) u e in (m.0, m.2)
+
+map_document : (readable : Bool) (v : Value) (levels : ℕ) → IsMap v → (u : Tree) → spell_as readable v levels ≡ Ok u → (ps : Pairs) × (document ps ≡ u)
+map_document readable (map es) levels is u e = document_of levels (spell_entries_as readable es) u e
+map_document readable v levels is u e = absurd is
+
+-- the answer for a code, and the place of a length
+abbrev spelled : Utf8 → Writing Tree
+spelled code = Ok (string code)
+
+abbrev placed : ℕ → Writing ℕ
+placed x = Ok x
+
+module _ (code : Utf8) (r : Writing Tree) (n : ℕ) (is_document : (u : Tree) → r ≡ Ok u → (ps : Pairs) × (document ps ≡ u)) (long : (u : Tree) → r ≡ Ok u → length (enc u) ≡ n) where
+  abbrev due : Writing Tree
+  due = spell_scoped (Some (code, r))
+
+  -- the parts of all that is written of it
+  abbrev parts : Tree → Bytes
+  parts u = closed_text code ++ enc u
+
+  whole : (u : Tree) → r ≡ Ok u → enc (with_scope code u) ≡ after_total (parts u)
+  whole u e = let d = is_document u e in ap (λ x. enc (with_scope code x)) (sym d.1) ∙ ap (λ x. after_total (parts x)) d.1
+
+  due_ok : (old new : Bytes) → with_tree old due ≡ Ok new → IsOk (with_tree old (under (codes "$scope") r))
+  due_ok old new e = let m = map_ok (λ t. old ++ enc t) due new e in let k = map_ok (with_scope code) (under (codes "$scope") r) m.0 m.1 in subst (λ x. IsOk (with_tree old x)) (sym k.1) refl
+
+  ok_new : (w : Writing Bytes) → IsOk w → (b : Bytes) × (w ≡ Ok b)
+  ok_new (Ok b) h = (b, refl)
+  ok_new (Err f) h = absurd cc
+
+  ok_any : (old other : Bytes) → IsOk (with_tree old (under (codes "$scope") r)) → IsOk (with_tree other (under (codes "$scope") r))
+  ok_any old other h = let b = ok_new (with_tree old (under (codes "$scope") r)) h in let m = map_ok (λ t. old ++ enc t) (under (codes "$scope") r) b.0 b.1 in subst (λ x. IsOk (with_tree other x)) (sym m.1) refl
+
+  err_due : (w : Writing Tree) (old other : Bytes) (f : Refusal WriteFault) → with_tree old w ≡ Err f → with_tree other (result_map (with_scope code) w) ≡ Err f
+  err_due (Ok t) old other f e = absurd cc
+  err_due (Err g) old other f e = let same : g ≡ f = cc in ap Err same
+
+  -- no place for the length
+  pub unbegun : (h : Halt) (old : Output) (x : ℕ) → Halts 4 old.spare (placed x) h → Halts (length code + 9 + n) old.spare (with_tree old.bytes due) h
+  unbegun (Stopped NoMemory) old x e = λ _. omega (arith, e refl)
+  unbegun (Stopped (Refused f)) old x e = absurd cc
+  unbegun TooLong old x e = omega (arith, e)
+
+  -- no code
+  pub uncoded : (h : Halt) (old begun : Output) (s0 s1 : ℕ) → Appended old begun length_place s0 s1 → Halts (length code + 5) begun.spare (with_tree begun.bytes (spelled code)) h → Halts (length code + 9 + n) old.spare (with_tree old.bytes due) h
+  uncoded (Stopped NoMemory) old begun s0 s1 a e = λ _. omega (arith, e refl, a.spare)
+  uncoded (Stopped (Refused f)) old begun s0 s1 a e = absurd cc
+  uncoded TooLong old begun s0 s1 a e = omega (arith, e)
+
+  module _ (old begun coded : Output) (start s0 s1 s2 : ℕ) (at : start ≡ length old.bytes) (begins : Appended old begun length_place s0 s1) (grows : Grows begun coded s1 s2) (text : with_tree begun.bytes (spelled code) ≡ Ok coded.bytes) where
+    coded_is : begun.bytes ++ closed_text code ≡ coded.bytes
+    coded_is = ok_is _ coded.bytes text
+
+    coded_long : length coded.bytes ≡ length old.bytes + length code + 9
+    coded_long = omega (arith, ap length coded_is, length-append begun.bytes (closed_text code), length-text code, ap length begins.bytes, length-append old.bytes length_place)
+
+    so_far : Grows old coded s0 s2
+    so_far = Grows-trans old begun coded s0 s1 s2 (Grows-appended old begun length_place s0 s1 begins) grows
+
+    -- no scope
+    pub unscoped : (h : Halt) → Halts n coded.spare (with_tree coded.bytes (under (codes "$scope") r)) h → Halts (length code + 9 + n) old.spare (with_tree old.bytes due) h
+    unscoped (Stopped NoMemory) e = λ ok.
+        let b = ok_new (with_tree old.bytes due) ok in
+        omega (arith, e (ok_any old.bytes coded.bytes (due_ok old.bytes b.0 b.1)), so_far.room, coded_long)
+    unscoped (Stopped (Refused f)) e = err_due (under (codes "$scope") r) coded.bytes old.bytes _ e
+    unscoped TooLong e = omega (arith, e)
+
+    pub Grows-scoped : (filled : Output) (s3 : ℕ) → Grows coded filled s2 s3 → Grows old filled s0 s3
+    Grows-scoped filled s3 more = Grows-trans old coded filled s0 s2 s3 so_far more
+
+    module _ (filled : Output) (s3 : ℕ) (more : Grows coded filled s2 s3) (scope : with_tree coded.bytes (under (codes "$scope") r) ≡ Ok filled.bytes) where
+      tree_there : (u : Tree) × (under (codes "$scope") r ≡ Ok u) × (coded.bytes ++ enc u ≡ filled.bytes)
+      tree_there = map_ok (λ t. coded.bytes ++ enc t) (under (codes "$scope") r) filled.bytes scope
+
+      filled_is : (old.bytes ++ length_place) ++ parts tree_there.0 ≡ filled.bytes
+      filled_is =
+          let u = tree_there.0 in
+          sym (append_assoc (old.bytes ++ length_place) (closed_text code) (enc u)) ∙ ap (λ b. (b ++ closed_text code) ++ enc u) (sym begins.bytes) ∙ ap (λ b. b ++ enc u) coded_is ∙ tree_there.2
+
+      scope_long : length (enc tree_there.0) ≡ n
+      scope_long = long tree_there.0 (under_ok (codes "$scope") r tree_there.0 tree_there.1)
+
+      filled_long : length filled.bytes ≡ start + (length code + 9 + n)
+      filled_long = omega (arith, ap length tree_there.2, length-append coded.bytes (enc tree_there.0), coded_long, scope_long, at)
+
+      pub untotaled : (h : Halt) → TotalHalts filled start h → Halts (length code + 9 + n) old.spare (with_tree old.bytes due) h
+      untotaled (Stopped s) e = absurd e
+      untotaled TooLong e = omega (arith, e, filled_long)
+
+      pub puts_scoped : (new : Output) (s4 : ℕ) → Totals filled new start s3 s4 → Puts JavaScriptCodeWithScope (length code + 9 + n) due old new s0 s4 (Ok JavaScriptCodeWithScope)
+      puts_scoped new s4 total =
+          let u = tree_there.0 in
+          let m : ℕ = length filled.bytes - start in
+          let count : m ≡ length (parts u) + 4 = omega (arith, at, ap length filled_is, length-append (old.bytes ++ length_place) (parts u), length-append old.bytes length_place) in
+          let grown = Grows-scoped filled s3 more in
+          let same : length new.bytes ≡ length filled.bytes = ap length total.bytes ∙ length-patched filled.bytes (le32 m) start (omega (arith, length-le32 m, filled_long)) in
+          record {
+            kind = refl;
+            bytes = ap (λ x. with_tree old.bytes (result_map (with_scope code) x)) tree_there.1
+                ∙ ap (λ b. Ok (old.bytes ++ b)) (whole u (under_ok (codes "$scope") r u tree_there.1))
+                ∙ ap Ok (sym (totaled old.bytes (parts u) m count))
+                ∙ ap (λ b. Ok (patched b (length old.bytes) (le32 m))) filled_is
+                ∙ ap (λ k. Ok (patched filled.bytes k (le32 m))) (sym at)
+                ∙ ap Ok (sym total.bytes);
+            fits = omega (arith, filled_long, total.fits);
+            grows = record {
+              kept = ap (λ k. take k new.bytes) (sym at) ∙ ap (take start) total.bytes ∙ before_patch filled.bytes (le32 m) start (omega (arith, filled_long)) ∙ ap (λ k. take k filled.bytes) at ∙ grown.kept;
+              room = omega (arith, grown.room, total.spare, same);
+              least = omega (arith, grown.least, total.steps, same);
+              most = omega (arith, begins.steps, ap length begins.bytes, length-append old.bytes length_place, grows.most, more.most, total.steps, same);
+            };
+          }
+
+-- the code and the scope that the fields of a struct are accepted as
+module _ (readable : Bool) (fs : FieldValues) (levels : ℕ) (code : Utf8) (v : Value) (is : scoped_code (listed fs []) ≡ Some (code, v)) (is_map : IsMap v) where
+  -- the struct was appended, or there is a reason not to
+  abbrev pub PutsScoped : Output → Output → ℕ → ℕ → Result ElementType Halt → Type 0
+  PutsScoped old new before now r = Puts JavaScriptCodeWithScope (scoped_size (scoped_code (size_list readable fs []))) (spell_scoped (scoped_code (spell_list readable fs levels []))) old new before now r
+
+  abbrev written : Writing Tree
+  written = spell_as readable v levels
+
+  abbrev n : ℕ
+  n = size_as readable v
+
+  found : (old new : Output) (before now : ℕ) (r : Result ElementType Halt) → Puts JavaScriptCodeWithScope (length code + 9 + n) (spell_scoped (Some (code, written))) old new before now r → PutsScoped old new before now r
+  found old new before now r h =
+      subst (λ x. Puts JavaScriptCodeWithScope (scoped_size x) (spell_scoped (scoped_code (spell_list readable fs levels []))) old new before now r) (sym (scope_sized readable fs code v is))
+      (subst (λ x. Puts JavaScriptCodeWithScope (length code + 9 + n) (spell_scoped x) old new before now r) (sym (scope_spelled readable fs levels code v is)) h)
+
+  halted : (old new : Output) (before now : ℕ) (r : Result ElementType Halt) (h : Halt) → r ≡ Err h → Grows old new before now → Halts (length code + 9 + n) old.spare (with_tree old.bytes (spell_scoped (Some (code, written)))) h → PutsScoped old new before now r
+  halted old new before now r h e grows halts = found old new before now r (subst (Puts JavaScriptCodeWithScope (length code + 9 + n) (spell_scoped (Some (code, written))) old new before now) (sym e) (record { kind = tt; bytes = halts; fits = tt; grows = grows }))
+
+  -- no place for the length
+  pub halts_begin : (old new : Output) (before now : ℕ) (r : Result ElementType Halt) (h : Halt) (x : ℕ) → r ≡ Err h → Grows old new before now → Halts 4 old.spare (placed x) h → PutsScoped old new before now r
+  halts_begin old new before now r h x e grows halts = halted old new before now r h e grows (unbegun code written n (map_document readable v levels is_map) (length-spell readable v levels) h old x halts)
+
+  module _ (old begun : Output) (s0 s1 : ℕ) (begins : Appended old begun length_place s0 s1) where
+    -- no code
+    pub halts_code : (new : Output) (now : ℕ) (r : Result ElementType Halt) (h : Halt) → r ≡ Err h → Grows begun new s1 now → Halts (length code + 5) begun.spare (with_tree begun.bytes (spelled code)) h → PutsScoped old new s0 now r
+    halts_code new now r h e grows halts =
+        halted old new s0 now r h e (Grows-trans old begun new s0 s1 now (Grows-appended old begun length_place s0 s1 begins) grows) (uncoded code written n (map_document readable v levels is_map) (length-spell readable v levels) h old begun s0 s1 begins halts)
+
+    module _ (coded : Output) (start s2 : ℕ) (starts : placed (length old.bytes) ≡ Ok start) (text : with_tree begun.bytes (spelled code) ≡ Ok coded.bytes) (grows : Grows begun coded s1 s2) where
+      at : start ≡ length old.bytes
+      at = sym (ok_is (length old.bytes) start starts)
+
+      -- no scope
+      pub halts_scope : (new : Output) (now : ℕ) (r : Result ElementType Halt) (h : Halt) → r ≡ Err h → Grows coded new s2 now → Halts n coded.spare (with_tree coded.bytes (under (codes "$scope") written)) h → PutsScoped old new s0 now r
+      halts_scope new now r h e more halts =
+          halted old new s0 now r h e (Grows-scoped code written n (map_document readable v levels is_map) (length-spell readable v levels) old begun coded start s0 s1 s2 at begins grows text new now more)
+          (unscoped code written n (map_document readable v levels is_map) (length-spell readable v levels) old begun coded start s0 s1 s2 at begins grows text h halts)
+
+      module _ (filled : Output) (s3 : ℕ) (more : Grows coded filled s2 s3) (scope : with_tree coded.bytes (under (codes "$scope") written) ≡ Ok filled.bytes) where
+        -- too many bytes
+        pub halts_total : (new : Output) (now : ℕ) (r : Result ElementType Halt) (h : Halt) → r ≡ Err h → Grows filled new s3 now → TotalHalts filled start h → PutsScoped old new s0 now r
+        halts_total new now r h e last halts =
+            halted old new s0 now r h e (Grows-trans old filled new s0 s3 now (Grows-scoped code written n (map_document readable v levels is_map) (length-spell readable v levels) old begun coded start s0 s1 s2 at begins grows text filled s3 more) last)
+            (untotaled code written n (map_document readable v levels is_map) (length-spell readable v levels) old begun coded start s0 s1 s2 at begins grows text filled s3 more scope h halts)
+
+        pub puts_total : (new : Output) (now : ℕ) → Totals filled new start s3 now → PutsScoped old new s0 now (Ok JavaScriptCodeWithScope)
+        puts_total new now total = found old new s0 now (Ok JavaScriptCodeWithScope) (puts_scoped code written n (map_document readable v levels is_map) (length-spell readable v levels) old begun coded start s0 s1 s2 at begins grows text filled s3 more scope new now total)

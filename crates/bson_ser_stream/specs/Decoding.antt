@@ -1,0 +1,27 @@
+-- What decoding a base64 text into a buffer leaves.
+use Rattle.std.specs.Prelude.{◌≡◌, ℕ, ◌<◌, length, Option, Some, None, Result, Ok, Err}
+use Rattle.bson_base.specs.Text.{Bytes}
+use Rattle.bson_io.specs.Output.{Output, Appended}
+use Rattle.bson_datum.specs.Cause.{bad_step}
+use Rattle.bson_datum.specs.Refusal.{unwritable}
+use Rattle.bson_ser_stream.specs.Halting.{IsOutOfMemory, IsHereOrMemory}
+use Rattle.bson_ser_stream.specs.declared.halt.Halt.{Halt}
+use Rattle.bson_ser_stream.specs.declared.base64_text.Base64Fault.{Base64Fault}
+use Rattle.bson_ser_stream.specs.declared.base64_text.Base64Fault.TheVariants.{NotBase64, NoMemory}
+
+-- The bytes that are due were appended.
+pub record IsDecoded (due : Option Bytes) (old new : Output) (before now : ℕ) : Type 0 where
+  pub bytes : Bytes
+  pub is_due : due ≡ Some bytes
+  pub appended : Appended old new bytes before now
+
+-- the bytes that are due were appended; or none are due; or any that are due take more room than is spare
+abbrev pub Decodes : {T : Type 0} → Result T Base64Fault → Option Bytes → Output → Output → ℕ → ℕ → Type 0
+Decodes (Ok x) due old new before now = IsDecoded due old new before now
+Decodes (Err NotBase64) due old new before now = due ≡ None
+Decodes (Err NoMemory) due old new before now = (bytes : Bytes) → due ≡ Some bytes → old.spare < length bytes
+
+-- the halt is the refusal of a text that is not base64, or memory ran out
+abbrev pub IsFault : Base64Fault → Halt → Type 0
+IsFault NotBase64 h = IsHereOrMemory (unwritable bad_step) h
+IsFault NoMemory h = IsOutOfMemory h
