@@ -208,7 +208,7 @@ two variants of one name | (i32,<A,A>) |  | shape refused at 5: repeated name
 a quoted name without need | {\"i\":i32} |  | shape refused at 3: not a shape";
 
 /// The bytes that hexadecimal digits in groups say.
-fn bytes_of(alloc: Global, groups: &str) -> Result<Vec<u8>, Fail> {
+pub fn bytes_of(alloc: Global, groups: &str) -> Result<Vec<u8>, Fail> {
     let mut bytes = Vec::new(alloc);
     for group in groups.split_whitespace() {
         bytes.extend_from_slice(&hex::decode(alloc, group)?)?;
