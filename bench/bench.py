@@ -11,31 +11,11 @@ It needs valgrind; the ratios to libbson need gcc and libbson's header (Debian: 
 """
 import argparse, itertools, os, pathlib, re, shutil, string as letters, struct, subprocess, sys, tempfile, time
 
+from elements import array, binary, document, element, int32, string, text
+
 HERE = pathlib.Path(__file__).resolve().parent
 PROGRAM = HERE.parent / "crates/bson_recast/out/bson_recast"
 SMALLEST = b"\x05\0\0\0\0"
-
-
-def document(elements):
-    body = b"".join(elements)
-    return struct.pack("<i", len(body) + 5) + body + b"\0"
-
-
-def element(kind, key, value):
-    return bytes([kind]) + key.encode() + b"\0" + value
-
-
-def int32(key, number):
-    return element(0x10, key, struct.pack("<i", number))
-
-
-def string(value):
-    data = value.encode()
-    return struct.pack("<i", len(data) + 1) + data + b"\0"
-
-
-def text(key, value):
-    return element(0x02, key, string(value))
 
 
 def rows(count):
@@ -77,9 +57,8 @@ class Draws:
     def pick(self, choices):
         return choices[self.below(len(choices))]
 
-
-def array(values):
-    return document(element(kind, str(i), value) for i, (kind, value) in enumerate(values))
+    def data(self, length):
+        return bytes(self.below(256) for _ in range(length))
 
 
 KEYS = ["id", "name", "value", "kind", "items", "children", "meta", "created_at", "flags", "x", "y", "description"]
@@ -164,12 +143,26 @@ def texts(count):
 def opened(count):
     """An array of so many documents of an ObjectId, a date and a binary of 16 bytes, which have no shape of their own at `any`."""
     draws = Draws(7)
-    data = lambda length: bytes(draws.below(256) for _ in range(length))
 
     def one():
-        binary = struct.pack("<i", 16) + b"\x04" + data(16)
-        return document([element(7, "_id", data(12)), element(9, "at", struct.pack("<q", draws.below(2**41))), element(5, "user", binary)])
+        user = binary(4, draws.data(16))
+        return document([element(7, "_id", draws.data(12)), element(9, "at", struct.pack("<q", draws.below(2**41))), element(5, "user", user)])
     return "any", document([element(4, "items", array([(3, one()) for _ in range(count)]))])
+
+
+def extended(count):
+    """An array of so many documents of an ObjectId, a date, a UUID, texts, a number and a decimal, each at its own shape."""
+    draws = Draws(11)
+
+    def one():
+        user = binary(4, draws.data(16))
+        tags = array([(2, string(draws.pick(TEXTS))) for _ in range(draws.below(4))])
+        number = struct.pack("<q", draws.below(2**53) - 2**52)
+        price = struct.pack("<QQ", draws.below(10**6), (6176 - 2) << 49)  # hundredths: 6176 is added to the exponent, which is -2
+        return document([element(7, "_id", draws.data(12)), element(9, "at", struct.pack("<q", draws.below(2**41))), element(5, "user", user),
+                         element(4, "tags", tags), element(0x12, "n", number), element(0x13, "price", price)])
+    shape = "{items:[{_id:oid,at:datetime,user:uuid,tags:[string],n:i64,price:decimal}]}"
+    return shape, document([element(4, "items", array([(3, one()) for _ in range(count)]))])
 
 
 WORKLOADS = {
@@ -183,6 +176,8 @@ WORKLOADS = {
     "wide at a map, a tenth": lambda: wide("[str:i32]", 10_000),
     "texts": lambda: texts(3_000),
     "opened": lambda: opened(20_000),
+    "extended": lambda: extended(20_000),
+    "extended, a tenth": lambda: extended(2_000),
     "18,000 fields in order": lambda: fields(18_000, False),
     "9,000 fields in order": lambda: fields(9_000, False),
     "18,000 fields in reverse": lambda: fields(18_000, True),
@@ -222,8 +217,8 @@ def libbson():
     flags = subprocess.run(["pkg-config", "--cflags", "--libs", "libbson-1.0"], capture_output=True, text=True)
     if flags.returncode != 0 or shutil.which("gcc") is None:
         return None
-    target = pathlib.Path(tempfile.mkdtemp()) / "libbson_rows"
-    subprocess.run(["gcc", "-O2", "-o", target, HERE / "libbson_rows.c"] + flags.stdout.split(), check=True)
+    target = pathlib.Path(tempfile.mkdtemp()) / "libbson_recast"
+    subprocess.run(["gcc", "-O2", "-o", target, HERE / "libbson_recast.c"] + flags.stdout.split(), check=True)
     return target
 
 
@@ -254,8 +249,8 @@ def main():
                 continue
             shape, path = made(name, folder)
             ours = measure(name, [options.program, shape], path, [options.program, "{}"], smallest)
-            if other is not None and name == "rows":
-                theirs = measure("rows, over libbson", [str(other)], path, [str(other)], smallest)
+            if other is not None and name in ("rows", "extended"):
+                theirs = measure(f"{name}, over libbson", [str(other), name], path, [str(other), name], smallest)
                 print(f"{name:28} {ours / theirs:.2f} of the instructions of the program over libbson")
 
 

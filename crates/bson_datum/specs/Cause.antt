@@ -3,6 +3,7 @@ use Rattle.std.specs.Prelude.{ℕ, ℤ}
 use Rattle.bson_base.specs.Text.{Utf8}
 use Rattle.bson_base.specs.declared.element_type.ElementType.{ElementType}
 use Rattle.bson_rawdoc.specs.declared.raw.Error as raw_error
+use Rattle.bson_datum.specs.declared.wrapper.Wrapper.{Wrapper}
 
 pub data Cause : Type 0 where
   -- the bytes have this fault
@@ -27,6 +28,14 @@ pub data Cause : Type 0 where
   duplicate_field : Utf8 → Cause
   -- the enum has no variant of this name
   unknown_variant : Utf8 → Cause
+  -- a key other than `$scope` after `$code`, or other than `$code` after `$scope`
+  unknown_field : Utf8 → Cause
+  -- the value of this wrapper key is not valid, or, at `oid` and `uuid`, a text that is no ObjectId or UUID
+  bad_body : Wrapper → Cause
+  -- a value was read as one of this kind, and the shape takes another
+  wrong_kind : ElementType → Cause
+  -- a binary of this subtype, where the shape takes subtype 4
+  subtype : ℕ → Cause
   -- a text names a variant that has contents
   contents_wanted : Cause
   -- a document names a variant that has no contents

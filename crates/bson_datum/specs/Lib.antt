@@ -5,6 +5,7 @@ pub mod Marked
 pub mod View
 pub mod Loans
 pub mod MarkedView
+pub mod Wrapper
 pub mod Cause
 pub mod Refusal
 pub mod PathView

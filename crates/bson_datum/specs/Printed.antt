@@ -5,7 +5,10 @@ use Rattle.bson_base.specs.Text.{Utf8}
 use Rattle.bson_base.specs.Kind.{name}
 use Rattle.bson_base.specs.Tree.{kind}
 use Rattle.bson_rawdoc.specs.Printed.{printed_fault}
-use Rattle.bson_datum.specs.Cause.{Cause, raw, too_deep, invalid_type, out_of_range, not_one_char, not_utf8, not_borrowed, invalid_length, missing_field, duplicate_field, unknown_variant, contents_wanted, unit_in_document, top_level, binary_too_long, bad_uuid, bad_step, too_long}
+use Rattle.bson_datum.specs.Cause.{Cause, raw, too_deep, invalid_type, out_of_range, not_one_char, not_utf8, not_borrowed, invalid_length, missing_field, duplicate_field, unknown_variant, unknown_field, bad_body, wrong_kind, subtype, contents_wanted, unit_in_document, top_level, binary_too_long, bad_uuid, bad_step, too_long}
+use Rattle.bson_datum.specs.Wrapper.{key}
+use Rattle.bson_datum.specs.declared.wrapper.Wrapper.{Wrapper}
+use Rattle.bson_datum.specs.declared.wrapper.Wrapper.TheVariants.{NumberDouble}
 use Rattle.bson_datum.specs.Refusal.{Segment, Path, at_key, at_index, ReadFault, end_of_stream, unreadable, WriteFault, unwritable, invalid_document_key, invalid_cstring, unsigned_exceeds, Failure, no_memory, bare, placed}
 
 -- the segment at a place of a path: a key has a point before it unless it comes first, an index stands in brackets
@@ -26,6 +29,11 @@ abbrev pub printed_path : Path → Utf8
 printed_path [] = 46 ∷ []
 printed_path (s ∷ ss) = printed_segments 0 (s ∷ ss)
 
+-- what is added to the text of a wrapper key whose value is not valid
+abbrev pub what_is_expected : Wrapper → Utf8
+what_is_expected NumberDouble = codes ", expected a double"
+what_is_expected w = []
+
 abbrev pub printed_cause : Cause → Utf8
 printed_cause (raw f) = printed_fault f
 printed_cause too_deep = codes "nested deeper than 200 levels"
@@ -38,6 +46,10 @@ printed_cause (invalid_length n) = codes "invalid length " ++ decimal n
 printed_cause (missing_field t) = codes "missing field " ++ t
 printed_cause (duplicate_field t) = codes "duplicate field " ++ t
 printed_cause (unknown_variant t) = codes "unknown variant " ++ t
+printed_cause (unknown_field t) = codes "unknown field " ++ t
+printed_cause (bad_body w) = codes "bad value for " ++ key w ++ what_is_expected w
+printed_cause (wrong_kind k) = codes "unexpected value: " ++ name k
+printed_cause (subtype n) = codes "unexpected binary subtype " ++ decimal n
 printed_cause contents_wanted = codes "expected contents, got a text"
 printed_cause unit_in_document = codes "expected a string enum, got a document instead"
 printed_cause (top_level k) = codes "non-document type at the top level: " ++ name k

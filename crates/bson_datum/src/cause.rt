@@ -1,3 +1,7 @@
+ghost use Rattle.std.specs.Prelude.{◌≡◌};
+ghost use Rattle.bson_datum.specs.Printed.{what_is_expected};
+
+use crate::wrapper::Wrapper;
 use bson_base::ElementType;
 use bson_rawdoc::raw;
 use std::fmt;
@@ -27,6 +31,14 @@ pub enum Cause {
     DuplicateField(String),
     /// The enum has no variant of this name.
     UnknownVariant(String),
+    /// A key other than `$scope` after `$code`, or other than `$code` after `$scope`.
+    UnknownField(String),
+    /// The value of this wrapper key is not valid, or, at `oid` and `uuid`, a text that is no ObjectId or UUID.
+    BadBody(Wrapper),
+    /// What was read as a tree, of this kind, is not what the shape takes.
+    WrongKind(ElementType),
+    /// A binary of this subtype, where the shape takes subtype 4.
+    Subtype(u8),
     /// A text names a variant that has contents.
     ContentsWanted,
     /// A document names a variant that has no contents.
@@ -63,6 +75,14 @@ impl fmt::Display for Cause {
             Cause::MissingField(name) => write!(f, "missing field {name}"),
             Cause::DuplicateField(name) => write!(f, "duplicate field {name}"),
             Cause::UnknownVariant(name) => write!(f, "unknown variant {name}"),
+            Cause::UnknownField(name) => write!(f, "unknown field {name}"),
+            Cause::BadBody(wrapper) => {
+                let key = wrapper.key();
+                let expected = expected(*wrapper);
+                write!(f, "bad value for {key}{expected}")
+            }
+            Cause::WrongKind(kind) => write!(f, "unexpected value: {kind}"),
+            Cause::Subtype(subtype) => write!(f, "unexpected binary subtype {subtype}"),
             Cause::ContentsWanted => f.write_str("expected contents, got a text"),
             Cause::UnitInDocument => {
                 f.write_str("expected a string enum, got a document instead")
@@ -75,5 +95,15 @@ impl fmt::Display for Cause {
             Cause::BadStep => f.write_str("wrong steps of a reserved struct"),
             Cause::TooLong => f.write_str("value exceeds maximum length"),
         }
+    }
+}
+
+/// What is said behind the wrapper key of what its value should have been.
+fn expected(wrapper: Wrapper) -> &'static str
+    ensures { result.now ≡ what_is_expected wrapper }
+{
+    match wrapper {
+        Wrapper::NumberDouble => ", expected a double",
+        _ => "",
     }
 }

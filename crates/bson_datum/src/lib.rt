@@ -11,6 +11,7 @@ mod path;
 pub mod ser;
 mod stop;
 mod text;
+mod wrapper;
 
 pub use bson_shape::{
     FieldShape, Form, Leaf, Named, ParseError, Shape, ShapeError, VariantContent, VariantShape,
@@ -21,3 +22,4 @@ pub use datum::{Datum, Entry, Field};
 pub use path::{Path, Segment};
 pub use stop::{Refused, Stop};
 pub use text::Text;
+pub use wrapper::Wrapper;

@@ -3,27 +3,21 @@ use Rattle.std.proofs.Common.{◌≡◌, ℕ, suc, ◌+◌, ◌<◌, List, [], �
 use Rattle.std.proofs.Math.Seq.{drop-cons}
 use Rattle.std.proofs.lemmas.List.{drop_all}
 use Rattle.bson_base.specs.Outcome.{◌>>=◌, result_map}
-use Rattle.bson_rawdoc.specs.Node.{Node, Nodes, ended, faulty, then_node}
+use Rattle.bson_rawdoc.specs.Node.{Nodes}
 use Rattle.bson_shape.specs.Form.{Form}
 use Rattle.bson_shape.specs.ShapeView.{parts_of}
-use Rattle.bson_datum.specs.Marked.{Marked, MarkedItems}
+use Rattle.bson_datum.specs.Marked.{MarkedItems}
 use Rattle.bson_datum.specs.MarkedView.{marked}
 use Rattle.bson_datum.specs.Value.{no_items, item}
 use Rattle.bson_datum.specs.declared.datum.Datum.{Datum}
 use Rattle.bson_datum.specs.declared.de.Fault.{Fault}
 use Rattle.bson_datum.specs.declared.stop.Stop.{Stop}
-use Rattle.bson_laws.specs.Containers.{reads_next}
 use Rattle.bson_laws.specs.Judged.{Reading, plain}
 use Rattle.bson_laws.specs.Reads.{reads, reads_parts}
 use Rattle.bson_met.proofs.Refusals.{StopsAs, stops_bind, stops_map}
-use Rattle.bson_de.specs.ListsMarked.{items_marked}
-use Rattle.bson_de.specs.NextValue.{next_value, behind_first}
-
--- what is read with the element that is due is its value, and then what is read from the others
-pub next_parts : {A : Type 0} (i : ℕ) (read : Node → Reading Marked) (others : Marked → Nodes → Reading A) (ns : Nodes) → reads_next i read others ns ≡ (next_value i read ns >>= λ v. others v (behind_first ns))
-next_parts i read others ended = refl
-next_parts i read others (faulty e) = refl
-next_parts i read others (then_node k n ns) = refl
+use Rattle.bson_leaves.specs.ListsMarked.{items_marked}
+use Rattle.bson_wrapped.specs.NextValue.{next_value, behind_first}
+use Rattle.bson_wrapped.proofs.DueNext.{next_parts}
 
 -- these items, and then the rest
 abbrev pub items_before : List Datum → MarkedItems → MarkedItems

@@ -1,13 +1,11 @@
--- What contracts see of the variants of an enum.
-use Rattle.std.specs.Prelude.{List, [], ◌∷◌, if◌then◌else◌, Ok, Err, string_bytes}
-use Rattle.std.specs.Str.{bytes_eq}
+-- What contracts see of enums.
+use Rattle.std.specs.Prelude.{Ok, Err}
 use Rattle.bson_base.specs.Text.{Utf8}
 use Rattle.bson_base.specs.Outcome.{◌>>=◌, result_map}
 use Rattle.bson_rawdoc.specs.Node.{Node, Nodes, ended, faulty, then_node}
 use Rattle.bson_rawdoc.specs.Piece.{Piece, made}
 use Rattle.bson_shape.specs.Form.{Content, unit_content, newtype_content, tuple_content, struct_content}
-use Rattle.bson_shape.specs.declared.shape.VariantShape.{VariantShape}
-use Rattle.bson_datum.specs.Cause.{raw, unknown_variant, unit_in_document}
+use Rattle.bson_datum.specs.Cause.{raw, unit_in_document}
 use Rattle.bson_datum.specs.Marked.{Marked}
 use Rattle.bson_datum.specs.Refusal.{here, end_of_stream}
 use Rattle.bson_datum.specs.Value as value
@@ -17,11 +15,6 @@ use Rattle.bson_laws.specs.Slots.{read_structure}
 use Rattle.bson_met.specs.MetView.{array_at}
 use Rattle.bson_met.specs.PieceView.{str_piece}
 use Rattle.bson_met.specs.declared.elements.Step.{Step}
-
--- the variant that has the name
-abbrev pub variant_named : List VariantShape → Utf8 → Reading VariantShape
-variant_named [] name = refused (unknown_variant name)
-variant_named (v ∷ vs) name = if bytes_eq (string_bytes v.name) name then Ok v else variant_named vs name
 
 -- a value with its key
 pub record Pair : Type 0 where

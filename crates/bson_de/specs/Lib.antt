@@ -1,13 +1,3 @@
-pub mod Any
 pub mod AtKey
-pub mod EntriesView
 pub mod Enums
 pub mod Fields
-pub mod KeyPlaces
-pub mod KeysView
-pub mod KeyValues
-pub mod Leaves
-pub mod ListsMarked
-pub mod Next
-pub mod NextValue
-pub mod Passes

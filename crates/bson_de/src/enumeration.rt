@@ -13,9 +13,9 @@ ghost use Rattle.bson_de.specs.Enums.{first_of, pair_of, reads_contents};
 
 use crate::structure::read_fields;
 use crate::tuple::read_parts;
-use crate::unit::{unit_of, variant_of};
 use crate::value::read_value;
 use bson_datum::{Cause, Datum, Stop, Text, de};
+use bson_leaves::{unit_of, variant_of};
 use bson_met::{Elements, Met, Reading, Step, Value, refused};
 use bson_shape::{FieldShape, Shape, VariantContent, VariantShape};
 use bson_slots::named_struct_variant;

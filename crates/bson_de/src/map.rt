@@ -9,11 +9,11 @@ ghost use Rattle.bson_laws.specs.Judged.{plain};
 ghost use Rattle.bson_laws.specs.Reads.{reads};
 ghost use Rattle.bson_met.specs.Gives.{Reaches};
 ghost use Rattle.bson_met.specs.PieceView.{str_piece};
-ghost use Rattle.bson_de.specs.ListsMarked.{entries_marked};
+ghost use Rattle.bson_leaves.specs.ListsMarked.{entries_marked};
 
-use crate::entries::Entries;
 use crate::value::read_value;
 use bson_datum::{Datum, Entry};
+use bson_leaves::Entries;
 use bson_met::{Elements, Met, Reading, Step};
 use bson_shape::Shape;
 use std::alloc::Global;

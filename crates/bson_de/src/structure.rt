@@ -12,10 +12,10 @@ ghost use Rattle.bson_slots.specs.FieldSlots.{fields_marked};
 ghost use Rattle.bson_slots.specs.SlotsView.{slots_view};
 ghost use Rattle.bson_de.specs.Fields.{fields_at, fields_by_key};
 
-use crate::ignored::ignore;
 use crate::tuple::read_next;
 use crate::value::read_value;
 use bson_datum::{Cause, Datum, Field};
+use bson_leaves::ignore;
 use bson_met::{Elements, Items, Met, Reading, Step, Value, refused};
 use bson_shape::FieldShape;
 use bson_slots::{NameIndex, Slots, named_field, named_struct};

@@ -6,13 +6,14 @@ ghost use Rattle.bson_datum.specs.MarkedView.{marked};
 ghost use Rattle.bson_laws.specs.Judged.{plain};
 ghost use Rattle.bson_laws.specs.Reads.{reads, reads_parts};
 ghost use Rattle.bson_met.specs.Gives.{Reaches};
-ghost use Rattle.bson_de.specs.ListsMarked.{items_marked};
-ghost use Rattle.bson_de.specs.NextValue.{next_value, behind_first, IsDue};
+ghost use Rattle.bson_leaves.specs.ListsMarked.{items_marked};
+ghost use Rattle.bson_wrapped.specs.NextValue.{next_value, behind_first};
 
 use crate::value::read_item;
-use bson_datum::{Cause, Datum, Text};
-use bson_met::{Items, Met, Reading, refused};
+use bson_datum::{Datum, Text};
+use bson_met::{Items, Met, Reading};
 use bson_shape::Shape;
+use bson_wrapped::due;
 use std::alloc::Global;
 
 /// The value at a tuple whose parts have these shapes.
@@ -79,16 +80,4 @@ pub(crate) fn read_next<'de>(
 {
     let value = due(alloc, index, elements)?;
     read_item(alloc, shape, index, &value)
-}
-
-/// The next element of an array, which is at this index. Where none is left, the fault that ends their list is the refusal, and
-/// without a fault that there are too few.
-fn due<'de>(alloc: Global, index: u64, elements: &mut Items<'de>) -> Reading<Met<'de>>
-    ensures { IsDue index elements.old result elements.new }
-{
-    let mut value = elements.start();
-    if elements.advance(alloc, &mut value)? {
-        return Ok(value);
-    }
-    Err(refused(alloc, Cause::InvalidLength(index)))
 }

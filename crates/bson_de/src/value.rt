@@ -5,14 +5,15 @@ ghost use Rattle.bson_laws.specs.Containers.{reads_items};
 ghost use Rattle.bson_laws.specs.Judged.{plain};
 ghost use Rattle.bson_laws.specs.Reads.{reads};
 ghost use Rattle.bson_met.specs.Gives.{Reaches};
-ghost use Rattle.bson_de.specs.ListsMarked.{items_marked};
+ghost use Rattle.bson_leaves.specs.ListsMarked.{items_marked};
 
 use crate::enumeration::read_enum;
-use crate::leaf::{null, read_leaf};
+use crate::leaf::read_leaf_at;
 use crate::map::read_map;
 use crate::structure::read_struct;
 use crate::tuple::{read_tuple, read_tuple_struct};
 use bson_datum::{Datum, Text};
+use bson_leaves::null;
 use bson_met::{Items, Met, Reading};
 use bson_shape::{Form, Shape};
 use std::alloc::Global;
@@ -26,7 +27,7 @@ pub fn read_value<'de>(alloc: Global, shape: &Shape, value: &Met<'de>) -> Readin
 {
     shape.known();
     match shape.form() {
-        Form::Leaf(leaf) => read_leaf(alloc, leaf, value),
+        Form::Leaf(leaf) => read_leaf_at(alloc, leaf, value),
         Form::Option(inner) => read_option(alloc, inner, value),
         Form::Seq(item) => read_sequence(alloc, item, value),
         Form::Map(key, item) => read_map(alloc, key, item, value),

@@ -34,6 +34,11 @@ const MAX_LEVELS: u32 = 200;
 ///   an enum and `any`: an ObjectId as `{"$oid": ..}` with its hexadecimal digits, a DateTime as
 ///   `{"$date": {"$numberLong": ..}}`, and so on for the other kinds, as in MongoDB's extended JSON, but for
 ///   `$numberDecimalBytes`, `subType` before `base64`, and the Int64s of `$timestamp`.
+/// - `oid` takes an ObjectId, a String of 24 hexadecimal digits and a Binary of subtype 0 with twelve bytes;
+///   `uuid` a Binary of subtype 4 with sixteen bytes and a String that is a UUID; `datetime`, `timestamp`,
+///   `binary`, `regex`, `codews`, `decimal` and `dbpointer` the kind that they name; `bson` every value, and
+///   `document` a document. A document with a wrapper key, as `$oid`, is taken there as the value that it
+///   stands for. Each is the datum that `to_vec_at` writes as that value, and is owned.
 /// - `ignored` takes every value, and is the unit. The value is walked to its end, and so are every
 ///   document, array and scope in it.
 /// - An option is none at a Null, and some value of its shape at every other kind. A newtype takes what its
@@ -72,7 +77,8 @@ const MAX_LEVELS: u32 = 200;
 ///   refusal in the order of the bytes is answered, and its cause is one of these.
 ///   - `Raw`: a fault of the bytes, before any shape looks at the value.
 ///   - `TooDeep`: a document, an array or a scope at level 201.
-///   - `InvalidType`: a value of another kind than the shape takes.
+///   - `InvalidType`: a value of another kind than the shape takes; at `document` one that is no document as a tree, and
+///     for code with scope a scope that is none.
 ///   - `OutOfRange`: a number that does not lie in the range of the shape's integer type, or one in an array
 ///     at `bytebuf` that is no byte.
 ///   - `NotOneChar`: at `char` a String or a key of no character or of more than one.
@@ -80,13 +86,20 @@ const MAX_LEVELS: u32 = 200;
 ///   - `NotBorrowed`: at `str` and `bytes` a text, a key or a byte string that does not stand in the input, as the digits
 ///     of an ObjectId that is opened.
 ///   - `InvalidLength`: at a struct, a tuple, a tuple struct and the contents of a tuple or a struct variant an
-///     array of so many elements, which are fewer than its fields or parts.
+///     array of so many elements, which are fewer than its fields or parts; at `oid` a Binary of subtype 0 that has not
+///     twelve bytes, and at `uuid` a Binary of subtype 4 that has not sixteen.
 ///   - `UnknownVariant`: at an enum a String, a key of a map or a first key that is the name of no variant.
 ///   - `ContentsWanted`: at an enum a String that is the name of a variant with contents.
 ///   - `UnitInDocument`: at an enum a first key that is the name of a unit variant.
 ///   - `DuplicateField`: a second element of a field; its value is not looked at.
 ///   - `MissingField`: at the end of a document, the first field in the shape's order that is no option
-///     and has no element.
+///     and has no element; `$code`, at the end of a document whose first wrapper key is `$scope`.
+///   - `BadBody`: the value of a wrapper key, or a String at `oid` or `uuid`, stands for nothing.
+///   - `UnknownField`: behind `$code` or `$scope`, as the first wrapper key of a document, a key that is not the other
+///     of the two.
+///   - `WrongKind`: at the shape of an extended kind, what was read as a tree is of another kind than the shape takes, or,
+///     at `uuid`, a binary that is no UUID.
+///   - `Subtype`: at `uuid` a Binary of this subtype, which is not 4.
 /// - `NoMemory` where memory ran out.
 pub fn from_slice_at<'de>(alloc: Global, shape: &Shape, bytes: &'de [u8]) -> de::Result<Datum<'de>>
     // The value, and which of its texts and byte strings are borrowed.

@@ -26,17 +26,19 @@ use Rattle.bson_datum.specs.Value.{IntegerType, i8, i16, i32, i64, u8, u16, u32,
 use Rattle.bson_datum.specs.Marked.{Marked, MarkedItems, MarkedEntries, MarkedFields, contents, item_contents, entry_contents, field_contents}
 use Rattle.bson_datum.specs.Cause.{out_of_range}
 use Rattle.bson_datum.specs.Refusal.{at_index, here, unsigned_exceeds, under, under_index}
-use Rattle.bson_laws.specs.Leaves.{LeafKind, anything, ignored, booleans, numbers, doubles, characters, texts, byte_strings, byte_buffers, units, leaf_kind}
+use Rattle.bson_laws.specs.Leaves.{LeafKind, anything, ignored, booleans, numbers, doubles, characters, texts, byte_strings, byte_buffers, units, extended_values, leaf_kind}
 use Rattle.bson_laws.specs.Means.{key_text}
 use Rattle.bson_laws.specs.Variants.{content_of}
 use Rattle.bson_laws.specs.Views.{one_character}
 use Rattle.bson_laws.specs.Judged.{Reading, plain, refused, faultless, judged}
 use Rattle.bson_laws.specs.Taken.{array_of, read_integer, read_character}
-use Rattle.bson_laws.specs.ReadsLeaf.{borrows, put_entry, read_any, any_items, any_entries, read_leaf}
+use Rattle.bson_laws.specs.ReadsLeaf.{borrows, put_entry, read_any, any_items, any_entries, no_extended, read_leaf_with}
+use Rattle.bson_laws.specs.ReadsExtended.{read_extended}
 use Rattle.bson_laws.specs.Containers.{reads_items, reads_entries, unit_of, reads_key, reads_unit, read_enum}
 use Rattle.bson_laws.specs.Slots.{read_structure}
-use Rattle.bson_laws.specs.Reads.{slots_of, reads, reads_parts, reads_variant, reads_content}
+use Rattle.bson_laws.specs.Reads.{read_leaf, slots_of, reads, reads_parts, reads_variant, reads_content}
 use Rattle.bson_laws.specs.Spell.{Writing, enclosed_at, variant_at, named, spell_number, spell_key, spell, spell_items, spell_entries, spell_fields}
+use Rattle.bson_laws.proofs.TreesAgain.{extended_comes}
 use Rattle.bson_laws.proofs.Coded.{IsName, IsCoded, ArePairsCoded, AreTreesCoded}
 use Rattle.bson_laws.proofs.Entries.{joined, joined_contents, joined_none, joined_one, IsNew, put_last, new_joined}
 use Rattle.bson_laws.proofs.Filled.{Distinct, ArePassed, seen_of, seen_at, seen_fields, fields_seen}
@@ -220,6 +222,8 @@ leaf_comes l byte_strings (value.bytes bs) levels t g e =
 leaf_comes l byte_buffers (value.bytes bs) levels t g e =
     subst (λ u. spell (value.bytes bs) levels ≡ Ok u → LeafComes l byte_buffers levels u) (binary_is _ _ 0 bs t e) (λ q. (value.bytes (made bs), refl, q, tt)) e
 leaf_comes l units value.unit levels t g e = subst (LeafComes l units levels) (ok_is null t e) (value.unit, refl, refl, tt)
+leaf_comes l (extended_values k) v levels t g e =
+    let h = extended_comes k v levels t g e in (h.0, judged_then plain (tree_node true t levels) (read_extended plain k) h.0 h.1, h.2, h.3)
 leaf_comes l k v levels t g e = absurd g
 
 -- ---- keys
@@ -228,7 +232,7 @@ leaf_comes l k v levels t g e = absurd g
 abbrev KeyComes : (Piece → Reading Marked) → Value → Utf8 → Type 0
 KeyComes read k x = (m : Marked) × (read (borrowed x) ≡ Ok m) × (contents m ≡ k)
 
-leaf_key_comes : (l : Bool) (k : LeafKind) (v : Value) (x : Utf8) → IsGivenLeafKey k v → key_text v ≡ Some x → KeyComes (λ key. read_leaf plain l k (node.string key)) v x
+leaf_key_comes : (l : Bool) (k : LeafKind) (v : Value) (x : Utf8) → IsGivenLeafKey k v → key_text v ≡ Some x → KeyComes (λ key. read_leaf_with no_extended plain l k (node.string key)) v x
 leaf_key_comes l anything (value.str y) x g e = (value.str (borrowed x), refl, ap value.str (sym (some_is y x e)))
 leaf_key_comes l texts (value.str y) x g e = let h = text_read l x (value.str x) refl in (h.0, h.1, h.2 ∙ ap value.str (sym (some_is y x e)))
 leaf_key_comes l characters (value.character c) x g e = absurd cc

@@ -19,15 +19,15 @@ use Rattle.bson_datum.specs.Marked.{Marked, MarkedItems, MarkedEntries, MarkedFi
 use Rattle.bson_datum.specs.Same.{same}
 use Rattle.bson_datum.specs.Cause.{not_utf8, not_borrowed}
 use Rattle.bson_datum.specs.Refusal.{Segment, at_index, inside, under, under_index}
-use Rattle.bson_laws.specs.Leaves.{LeafKind, anything, ignored, booleans, numbers, doubles, characters, texts, byte_strings, byte_buffers, units, leaf_kind}
+use Rattle.bson_laws.specs.Leaves.{LeafKind, anything, ignored, booleans, numbers, doubles, characters, texts, byte_strings, byte_buffers, units, ExtendedLeaf, extended_values, leaf_kind}
 use Rattle.bson_laws.specs.Variants.{content_of}
 use Rattle.bson_laws.specs.Views.{one_character}
 use Rattle.bson_laws.specs.Judged.{Reading, Mode, plain, refused, with_level, faultless, judged, at_its_key, at_its_index, scope_key, passes, pass_scope, pass_nodes, ignores}
 use Rattle.bson_laws.specs.Taken.{boolean_of, integer_of, double_of, character_of, text_of, text_in, bytes_of, null_of, buffer_of, reads_bytes, as_byte, borrow_or_own, as_text, document_of, array_of, read_integer, read_character, unmended}
-use Rattle.bson_laws.specs.ReadsLeaf.{borrows, put_entry, read_any, any_items, any_entries, read_leaf}
+use Rattle.bson_laws.specs.ReadsLeaf.{borrows, put_entry, read_any, any_items, any_entries, no_extended, read_leaf_with}
 use Rattle.bson_laws.specs.Containers.{reads_items, reads_entries, unit_of, reads_unit, reads_key, reads_next, read_enum, reads_option}
 use Rattle.bson_laws.specs.Slots.{Slot, Slots, fill_slot, put_at, fill, value_or, finish, reads_places, read_structure}
-use Rattle.bson_laws.specs.Reads.{slots_of, reads, reads_parts, reads_variant, reads_content}
+use Rattle.bson_laws.specs.Shaped as shaped
 use Rattle.bson_laws.proofs.Judged.{ReadAs}
 use Rattle.bson_laws.proofs.Sizes.{inside_ok, under_ok}
 
@@ -101,13 +101,13 @@ judged_bare : (mode : Mode) (n k : Node) → judged mode (bare n) ≡ Ok k → (
 judged_bare mode n k e = faultless_bare (fault mode.lossy n) n k (ap (λ o. faultless o (bare n)) (sym (fault_bare mode.lossy n)) ∙ e)
 
 -- what is read from the judged value is read from the value, which is judged without its marks too
-read_bare : {A : Type 0} (mode : Mode) (n : Node) (read : Node → Reading A) (x : A) → (judged mode (bare n) >>= read) ≡ Ok x → (judged mode n ≡ Ok n) × (read (bare n) ≡ Ok x)
+pub read_bare : {A : Type 0} (mode : Mode) (n : Node) (read : Node → Reading A) (x : A) → (judged mode (bare n) >>= read) ≡ Ok x → (judged mode n ≡ Ok n) × (read (bare n) ≡ Ok x)
 read_bare mode n read x e =
     let d = bind_ok (judged mode (bare n)) read x e in
     let j = judged_bare mode n d.0 d.1 in
     (j.0, subst (λ k. read k ≡ Ok x) (sym j.1) d.2)
 
-then_bare : {A : Type 0} (mode : Mode) (n : Node) (r : Reading A) (x : A) → (judged mode (bare n) >>= λ _. r) ≡ Ok x → (judged mode n ≡ Ok n) × (r ≡ Ok x)
+pub then_bare : {A : Type 0} (mode : Mode) (n : Node) (r : Reading A) (x : A) → (judged mode (bare n) >>= λ _. r) ≡ Ok x → (judged mode n ≡ Ok n) × (r ≡ Ok x)
 then_bare mode n r x e = read_bare mode n (λ _. r) x e
 
 -- ---- what is dropped
@@ -139,7 +139,7 @@ mutual
 -- ---- pieces
 
 -- the same bytes, whatever their marks
-text_alike : (mode : Mode) (t : Piece) → (text_in mode (made t.bytes)).bytes ≡ (text_in mode t).bytes
+pub text_alike : (mode : Mode) (t : Piece) → (text_in mode (made t.bytes)).bytes ≡ (text_in mode t).bytes
 text_alike mode t = by_case mode.lossy where
   by_case : (b : Bool) → (cond b (made (utf8_lossy t.bytes)) (made t.bytes)).bytes ≡ (cond b (made (utf8_lossy t.bytes)) t).bytes
   by_case true = refl
@@ -186,7 +186,7 @@ binary_bare l x y p un is e =
     let w = whole_bare (is_utf8 b.0.bytes) b.0 p b.2 in
     (made y.bytes, ap (λ q. q >>= as_text) h.0 ∙ ap (λ q. cond q (Ok (made y.bytes)) (refused not_utf8)) (ap is_utf8 (sym h.1) ∙ w.0), sym h.1 ∙ ap bytes_in w.1)
 
-text_bare : (mode : Mode) (l : Bool) (n : Node) (p : Piece) → text_of mode l (bare n) ≡ Ok p → ReadAs bytes_in (text_of mode l n) p.bytes
+pub text_bare : (mode : Mode) (l : Bool) (n : Node) (p : Piece) → text_of mode l (bare n) ≡ Ok p → ReadAs bytes_in (text_of mode l n) p.bytes
 text_bare mode l (string t) p e = let h = own_bare l (text_in mode (made t.bytes)) (text_in mode t) p (text_unborrowed mode t) (text_alike mode t) e in (made (text_in mode t).bytes, h.0, sym h.1)
 text_bare mode l (bytes b) p e = binary_bare l (unmended mode (made b.bytes)) (unmended mode b) p (key_unborrowed mode b) (key_alike mode b) e
 text_bare mode l n p e = absurd cc
@@ -333,28 +333,26 @@ module _ (mode : Mode) where
   character_bare (string t) m e = ap (λ x. read_character (one_character (chars x))) (sym (text_alike mode t)) ∙ e
   character_bare n m e = absurd cc
 
-  leaf_bare : (l : Bool) (k : LeafKind) (n : Node) (m : Marked) → read_leaf mode l k (bare n) ≡ Ok m → ReadAs contents (read_leaf mode l k n) (contents m)
-  leaf_bare l anything n m e = any_bare mode n m e
-  leaf_bare l ignored n m e = let r = map_ok (λ _. value.unit) (passes mode (bare n)) m e in (value.unit, ap (result_map (λ _. value.unit)) (passes_bare mode n r.1), ap contents r.2)
-  leaf_bare l booleans n m e = let r = map_ok value.boolean (boolean_of (bare n)) m e in (value.boolean r.0, ap (result_map value.boolean) (boolean_bare n r.0 r.1), ap contents r.2)
-  leaf_bare l (numbers type) n m e = let b = bind_ok (integer_of (bare n)) (read_integer type) m e in (m, ap (λ q. q >>= read_integer type) (integer_bare n b.0 b.1) ∙ b.2, refl)
-  leaf_bare l doubles n m e = let r = map_ok value.double (double_of (bare n)) m e in (value.double r.0, ap (result_map value.double) (double_bare n r.0 r.1), ap contents r.2)
-  leaf_bare l characters n m e = (m, character_bare n m e, refl)
-  leaf_bare l texts n m e =
-      let r = map_ok value.str (text_of mode l (bare n)) m e in
-      let h = text_bare mode l n r.0 r.1 in
-      (value.str h.0, ap (result_map value.str) h.1, ap value.str h.2 ∙ ap contents r.2)
-  leaf_bare l byte_strings n m e = let r = map_ok value.bytes (bytes_of mode (bare n)) m e in absurd (bytes_bare mode n r.0 r.1)
-  leaf_bare l byte_buffers n m e = let r = map_ok (λ b. value.bytes (made b)) (buffer_of mode (bare n)) m e in (value.bytes (made r.0), ap (result_map (λ b. value.bytes (made b))) (buffer_bare n r.0 r.1), ap contents r.2)
-  leaf_bare l units n m e = let r = map_ok (λ _. value.unit) (null_of (bare n)) m e in (value.unit, ap (result_map (λ _. value.unit)) (null_bare n r.0 r.1), ap contents r.2)
-
 -- ---- keys, items and entries
+
+-- a key at a leaf
+key_leaf_bare : (l : Bool) (k : LeafKind) (key : Piece) (m : Marked) → read_leaf_with no_extended plain l k (string (made key.bytes)) ≡ Ok m → ReadAs contents (read_leaf_with no_extended plain l k (string key)) (contents m)
+key_leaf_bare l anything key m e = any_bare plain (string key) m e
+key_leaf_bare l ignored key m e = (value.unit, refl, ap contents (ok_is value.unit m e))
+key_leaf_bare l characters key m e = (m, e, refl)
+key_leaf_bare l texts key m e =
+    let r = map_ok value.str (text_of plain l (string (made key.bytes))) m e in
+    let h = text_bare plain l (string key) r.0 r.1 in
+    (value.str h.0, ap (result_map value.str) h.1, ap value.str h.2 ∙ ap contents r.2)
+key_leaf_bare l byte_strings key m e = let r = map_ok value.bytes (bytes_of plain (string (made key.bytes))) m e in absurd (bytes_bare plain (string key) r.0 r.1)
+key_leaf_bare l byte_buffers key m e = (value.bytes (made key.bytes), refl, ap contents (ok_is (value.bytes (made key.bytes)) m e))
+key_leaf_bare l k key m e = absurd cc
 
 key_bare : (mode : Mode) (s : Form) (key : Piece) (m : Marked) → reads_key mode s (made key.bytes) ≡ Ok m → ReadAs contents (reads_key mode s key) (contents m)
 key_bare mode (leaf l) key m e = by_case mode.lossy e where
-  by_case : (b : Bool) → read_leaf plain (borrows l) (leaf_kind l) (string (cond b (made key.bytes) (made key.bytes))) ≡ Ok m → ReadAs contents (read_leaf plain (borrows l) (leaf_kind l) (string (cond b (made key.bytes) key))) (contents m)
+  by_case : (b : Bool) → read_leaf_with no_extended plain (borrows l) (leaf_kind l) (string (cond b (made key.bytes) (made key.bytes))) ≡ Ok m → ReadAs contents (read_leaf_with no_extended plain (borrows l) (leaf_kind l) (string (cond b (made key.bytes) key))) (contents m)
   by_case true q = (m, q, refl)
-  by_case false q = leaf_bare plain (borrows l) (leaf_kind l) (string key) m q
+  by_case false q = key_leaf_bare (borrows l) (leaf_kind l) key m q
 key_bare mode (enumeration vs) key m e = (m, e, refl)
 key_bare mode s key m e = absurd cc
 
@@ -519,16 +517,7 @@ module _ (mode : Mode) where
   structure_bare xs ys (extended x ns) vs h e = keyed_bare xs ys ns vs h e
   structure_bare xs ys n vs h e = absurd cc
 
-abbrev read_struct : Mode → Fields → Node → Reading MarkedFields
-read_struct mode fs = read_structure mode (slots_of fs mode)
-
 -- ---- enums and options
-
-enum_bare : (mode : Mode) (vs : Variants) → ((key : Utf8) → EachBare (reads_variant vs mode key)) → (n : Node) (m : Marked) → read_enum mode (reads_unit vs) (reads_variant vs mode) (bare n) ≡ Ok m → ReadAs contents (read_enum mode (reads_unit vs) (reads_variant vs mode) n) (contents m)
-enum_bare mode vs each (string t) m e = (m, ap (λ x. unit_of x (content_of vs x)) (sym (text_alike mode t)) ∙ e, refl)
-enum_bare mode vs each (document (then_node key n ns)) m e = each key.bytes n m e
-enum_bare mode vs each (extended x (then_node key n ns)) m e = each key.bytes n m e
-enum_bare mode vs each n m e = absurd cc
 
 option_bare : (n : Node) (r q : Reading Marked) (m : Marked) → ((w : Marked) → r ≡ Ok w → ReadAs contents q (contents w)) → reads_option (bare n) r ≡ Ok m → ReadAs contents (reads_option n q) (contents m)
 option_bare null r q m inner e = (m, e, refl)
@@ -549,15 +538,6 @@ parts_bare mode f g build parts n m same_built each e =
       same_built h.0 ∙ ap g h.2 ∙ sym (same_built b.0) ∙ ap contents b.2,
     )
 
-built_bare : (mode : Mode) (build : MarkedFields → Marked) (make : value.FieldValues → Value) (fs : Fields) (n : Node) (m : Marked) → ((x : MarkedFields) → contents (build x) ≡ make (field_contents x))
-    → ((vs : MarkedFields) → read_struct mode fs (bare n) ≡ Ok vs → ReadAs field_contents (read_struct mode fs n) (field_contents vs))
-    → (judged mode (bare n) >>= λ k. result_map build (read_struct mode fs k)) ≡ Ok m → ReadAs contents (judged mode n >>= λ k. result_map build (read_struct mode fs k)) (contents m)
-built_bare mode build make fs n m same_built each e =
-    let j = read_bare mode n (λ k. result_map build (read_struct mode fs k)) m e in
-    let b = map_ok build (read_struct mode fs (bare n)) m j.1 in
-    let h = each b.0 b.1 in
-    (build h.0, ap (λ q. q >>= λ k. result_map build (read_struct mode fs k)) j.0 ∙ ap (result_map build) h.1, same_built h.0 ∙ ap make h.2 ∙ sym (same_built b.0) ∙ ap contents b.2)
-
 under_bare : (key : Utf8) (r q : Reading Marked) (m : Marked) → ((r ≡ Ok m) → ReadAs contents q (contents m)) → under key r ≡ Ok m → ReadAs contents (under key q) (contents m)
 under_bare key r q m each e = let h = each (under_ok key r m e) in (h.0, ap (under key) h.1, h.2)
 
@@ -567,75 +547,127 @@ chosen_bare false x y z w m first rest e = rest e
 
 -- ---- all forms
 
-mutual
-  -- what is read of a value of which nothing stands in the input is read of the value too, but for what is borrowed
-  pub reads_bare : (s : Form) (mode : Mode) → EachBare (reads s mode)
-  reads_bare (leaf l) mode n m e =
-      let j = read_bare mode n (read_leaf mode (borrows l) (leaf_kind l)) m e in
-      let h = leaf_bare mode (borrows l) (leaf_kind l) n m j.1 in
-      (h.0, ap (λ q. q >>= read_leaf mode (borrows l) (leaf_kind l)) j.0 ∙ h.1, h.2)
-  reads_bare (optional s) mode n m e = option_bare n (reads s mode (bare n)) (reads s mode n) m (λ w q. reads_bare s mode n w q) e
-  reads_bare (newtype name s) mode n m e =
-      let r = map_ok (value.newtype (made name)) (reads s mode (bare n)) m e in
-      let h = reads_bare s mode n r.0 r.1 in
-      (value.newtype (made name) h.0, ap (result_map (value.newtype (made name))) h.1, ap (value.newtype name) h.2 ∙ ap contents r.2)
-  reads_bare (unit_structure name) mode n m e =
-      let d = bind_ok (judged mode (bare n) >>= null_of) (λ _. Ok (value.unit_structure (made name))) m e in
-      let j = read_bare mode n null_of d.0 d.1 in
-      (m, ap (λ q. q >>= null_of >>= λ _. Ok (value.unit_structure (made name))) j.0 ∙ ap (λ q. q >>= λ _. Ok (value.unit_structure (made name))) (null_bare n d.0 j.1) ∙ d.2, refl)
-  reads_bare (sequence s) mode n m e = parts_bare mode item_contents value.sequence value.sequence (reads_items (reads s mode) 0) n m (λ x. refl) (λ ns x q. items_bare (reads s mode) (reads_bare s mode) 0 ns x q) e
-  reads_bare (map key s) mode n m e =
-      let entries = λ (ns : Nodes). reads_entries (reads_key mode key) (reads s mode) ns no_entries in
-      let d = bind_ok (judged mode (bare n) >>= document_of) (λ ns. result_map value.map (entries ns)) m e in
-      let j = read_bare mode n document_of d.0 d.1 in
-      let a = document_bare n d.0 j.1 in
-      let b = map_ok value.map (entries d.0) m d.2 in
-      let h = entries_bare mode key (reads s mode) (reads_bare s mode) a.0 no_entries no_entries b.0 refl (ap entries a.2 ∙ b.1) in (
-        value.map h.0,
-        ap (λ q. q >>= document_of >>= λ ns. result_map value.map (entries ns)) j.0 ∙ ap (λ q. q >>= λ ns. result_map value.map (entries ns)) a.1 ∙ ap (result_map value.map) h.1,
-        ap value.map h.2 ∙ ap contents b.2,
-      )
-  reads_bare (tuple ps) mode n m e = parts_bare mode item_contents value.tuple value.tuple (reads_parts ps mode 0) n m (λ x. refl) (λ ns x q. reads_parts_bare ps mode 0 ns x q) e
-  reads_bare (tuple_structure name ps) mode n m e =
-      parts_bare mode item_contents (value.tuple_structure name) (value.tuple_structure (made name)) (reads_parts ps mode 0) n m (λ x. refl) (λ ns x q. reads_parts_bare ps mode 0 ns x q) e
-  reads_bare (enumeration vs) mode n m e =
-      let read = read_enum mode (reads_unit vs) (reads_variant vs mode) in
-      let j = read_bare mode n read m e in
-      let h = enum_bare mode vs (λ key k w q. reads_variant_bare vs mode key k w q) n m j.1 in
-      (h.0, ap (λ q. q >>= read) j.0 ∙ h.1, h.2)
-  reads_bare (structure name fs) mode n m e =
-      built_bare mode (value.structure (made name)) (value.structure name) fs n m (λ x. refl) (λ vs q. structure_bare mode (slots_of fs mode) (slots_of fs mode) n vs (slots_bare fs mode) q) e
+-- Where this holds of the leaves of extended kinds, it holds of every form.
+module _ (at_extended : Mode → ExtendedLeaf → Node → Reading Marked)
+    (each_extended : (mode : Mode) (k : ExtendedLeaf) (n : Node) (m : Marked) → at_extended mode k (bare n) ≡ Ok m → ReadAs contents (at_extended mode k n) (contents m)) where
+  abbrev reads : Form → Mode → Node → Reading Marked
+  reads = shaped.reads at_extended
 
-  slots_bare : (fs : Fields) (mode : Mode) → AllAlike (slots_of fs mode) (slots_of fs mode)
-  slots_bare no_fields mode = tt
-  slots_bare (field name s fs) mode = (record { name = refl; missing = refl; each = λ n m e. reads_bare s mode n m e; value = refl }, slots_bare fs mode)
+  abbrev reads_parts : Parts → Mode → ℕ → Nodes → Reading MarkedItems
+  reads_parts = shaped.reads_parts at_extended
 
-  reads_parts_bare : (ps : Parts) (mode : Mode) (i : ℕ) (ns : Nodes) (vs : MarkedItems) → reads_parts ps mode i (bare_nodes ns) ≡ Ok vs → ReadAs item_contents (reads_parts ps mode i ns) (item_contents vs)
-  reads_parts_bare no_parts mode i ns vs e = (vs, e, refl)
-  reads_parts_bare (part s ps) mode i ns vs e =
-      next_bare item_contents i (reads s mode) (λ v rest. result_map (item v) (reads_parts ps mode (suc i) rest)) ns vs (reads_bare s mode)
-      (λ v w ms is q.
-      let b = map_ok (item v) (reads_parts ps mode (suc i) (bare_nodes ms)) vs q in
-      let h = reads_parts_bare ps mode (suc i) ms b.0 b.1 in
-      (item w h.0, ap (result_map (item w)) h.1, (λ j. item (is j) (h.2 j)) ∙ ap item_contents b.2)) e
+  abbrev slots_of : Fields → Mode → Slots
+  slots_of = shaped.slots_of at_extended
 
-  reads_variant_bare : (vs : Variants) (mode : Mode) (key : Utf8) → EachBare (reads_variant vs mode key)
-  reads_variant_bare no_variants mode key n m e = absurd cc
-  reads_variant_bare (variant name c vs) mode key n m e =
-      chosen_bare (bytes_eq name key) (reads_content name c mode (bare n)) (reads_variant vs mode key (bare n)) (reads_content name c mode n) (reads_variant vs mode key n) m
-      (λ q. reads_content_bare name c mode n m q) (λ q. reads_variant_bare vs mode key n m q) e
+  abbrev reads_variant : Variants → Mode → Utf8 → Node → Reading Marked
+  reads_variant = shaped.reads_variant at_extended
 
-  reads_content_bare : (name : Utf8) (c : Content) (mode : Mode) → EachBare (reads_content name c mode)
-  reads_content_bare name unit_content mode n m e = absurd cc
-  reads_content_bare name (newtype_content s) mode n m e =
-      under_bare name (result_map (value.newtype_variant (made name)) (reads s mode (bare n))) (result_map (value.newtype_variant (made name)) (reads s mode n)) m
-      (λ q.
-      let r = map_ok (value.newtype_variant (made name)) (reads s mode (bare n)) m q in
-      let h = reads_bare s mode n r.0 r.1 in
-      (value.newtype_variant (made name) h.0, ap (result_map (value.newtype_variant (made name))) h.1, ap (value.newtype_variant name) h.2 ∙ ap contents r.2)) e
-  reads_content_bare name (tuple_content ps) mode n m e =
-      under_bare name (judged mode (bare n) >>= array_of >>= λ ns. result_map (value.tuple_variant (made name)) (reads_parts ps mode 0 ns)) (judged mode n >>= array_of >>= λ ns. result_map (value.tuple_variant (made name)) (reads_parts ps mode 0 ns)) m
-      (λ q. parts_bare mode item_contents (value.tuple_variant name) (value.tuple_variant (made name)) (reads_parts ps mode 0) n m (λ x. refl) (λ ns x h. reads_parts_bare ps mode 0 ns x h) q) e
-  reads_content_bare name (struct_content fs) mode n m e =
-      under_bare name (judged mode (bare n) >>= λ k. result_map (value.structure_variant (made name)) (read_struct mode fs k)) (judged mode n >>= λ k. result_map (value.structure_variant (made name)) (read_struct mode fs k)) m
-      (λ q. built_bare mode (value.structure_variant (made name)) (value.structure_variant name) fs n m (λ x. refl) (λ vs h. structure_bare mode (slots_of fs mode) (slots_of fs mode) n vs (slots_bare fs mode) h) q) e
+  abbrev reads_content : Utf8 → Content → Mode → Node → Reading Marked
+  reads_content = shaped.reads_content at_extended
+
+  leaf_bare : (mode : Mode) (l : Bool) (k : LeafKind) (n : Node) (m : Marked) → read_leaf_with at_extended mode l k (bare n) ≡ Ok m → ReadAs contents (read_leaf_with at_extended mode l k n) (contents m)
+  leaf_bare mode l anything n m e = any_bare mode n m e
+  leaf_bare mode l ignored n m e = let r = map_ok (λ _. value.unit) (passes mode (bare n)) m e in (value.unit, ap (result_map (λ _. value.unit)) (passes_bare mode n r.1), ap contents r.2)
+  leaf_bare mode l booleans n m e = let r = map_ok value.boolean (boolean_of (bare n)) m e in (value.boolean r.0, ap (result_map value.boolean) (boolean_bare n r.0 r.1), ap contents r.2)
+  leaf_bare mode l (numbers type) n m e = let b = bind_ok (integer_of (bare n)) (read_integer type) m e in (m, ap (λ q. q >>= read_integer type) (integer_bare n b.0 b.1) ∙ b.2, refl)
+  leaf_bare mode l doubles n m e = let r = map_ok value.double (double_of (bare n)) m e in (value.double r.0, ap (result_map value.double) (double_bare n r.0 r.1), ap contents r.2)
+  leaf_bare mode l characters n m e = (m, character_bare mode n m e, refl)
+  leaf_bare mode l texts n m e =
+      let r = map_ok value.str (text_of mode l (bare n)) m e in
+      let h = text_bare mode l n r.0 r.1 in
+      (value.str h.0, ap (result_map value.str) h.1, ap value.str h.2 ∙ ap contents r.2)
+  leaf_bare mode l byte_strings n m e = let r = map_ok value.bytes (bytes_of mode (bare n)) m e in absurd (bytes_bare mode n r.0 r.1)
+  leaf_bare mode l byte_buffers n m e = let r = map_ok (λ b. value.bytes (made b)) (buffer_of mode (bare n)) m e in (value.bytes (made r.0), ap (result_map (λ b. value.bytes (made b))) (buffer_bare mode n r.0 r.1), ap contents r.2)
+  leaf_bare mode l units n m e = let r = map_ok (λ _. value.unit) (null_of (bare n)) m e in (value.unit, ap (result_map (λ _. value.unit)) (null_bare n r.0 r.1), ap contents r.2)
+  leaf_bare mode l (extended_values k) n m e = each_extended mode k n m e
+
+  abbrev read_struct : Mode → Fields → Node → Reading MarkedFields
+  read_struct mode fs = read_structure mode (slots_of fs mode)
+
+  enum_bare : (mode : Mode) (vs : Variants) → ((key : Utf8) → EachBare (reads_variant vs mode key)) → (n : Node) (m : Marked) → read_enum mode (reads_unit vs) (reads_variant vs mode) (bare n) ≡ Ok m → ReadAs contents (read_enum mode (reads_unit vs) (reads_variant vs mode) n) (contents m)
+  enum_bare mode vs each (string t) m e = (m, ap (λ x. unit_of x (content_of vs x)) (sym (text_alike mode t)) ∙ e, refl)
+  enum_bare mode vs each (document (then_node key n ns)) m e = each key.bytes n m e
+  enum_bare mode vs each (extended x (then_node key n ns)) m e = each key.bytes n m e
+  enum_bare mode vs each n m e = absurd cc
+
+  built_bare : (mode : Mode) (build : MarkedFields → Marked) (make : value.FieldValues → Value) (fs : Fields) (n : Node) (m : Marked) → ((x : MarkedFields) → contents (build x) ≡ make (field_contents x))
+      → ((vs : MarkedFields) → read_struct mode fs (bare n) ≡ Ok vs → ReadAs field_contents (read_struct mode fs n) (field_contents vs))
+      → (judged mode (bare n) >>= λ k. result_map build (read_struct mode fs k)) ≡ Ok m → ReadAs contents (judged mode n >>= λ k. result_map build (read_struct mode fs k)) (contents m)
+  built_bare mode build make fs n m same_built each e =
+      let j = read_bare mode n (λ k. result_map build (read_struct mode fs k)) m e in
+      let b = map_ok build (read_struct mode fs (bare n)) m j.1 in
+      let h = each b.0 b.1 in
+      (build h.0, ap (λ q. q >>= λ k. result_map build (read_struct mode fs k)) j.0 ∙ ap (result_map build) h.1, same_built h.0 ∙ ap make h.2 ∙ sym (same_built b.0) ∙ ap contents b.2)
+
+  mutual
+    -- what is read of a value of which nothing stands in the input is read of the value too, but for what is borrowed
+    pub reads_bare : (s : Form) (mode : Mode) → EachBare (reads s mode)
+    reads_bare (leaf l) mode n m e =
+        let j = read_bare mode n (read_leaf_with at_extended mode (borrows l) (leaf_kind l)) m e in
+        let h = leaf_bare mode (borrows l) (leaf_kind l) n m j.1 in
+        (h.0, ap (λ q. q >>= read_leaf_with at_extended mode (borrows l) (leaf_kind l)) j.0 ∙ h.1, h.2)
+    reads_bare (optional s) mode n m e = option_bare n (reads s mode (bare n)) (reads s mode n) m (λ w q. reads_bare s mode n w q) e
+    reads_bare (newtype name s) mode n m e =
+        let r = map_ok (value.newtype (made name)) (reads s mode (bare n)) m e in
+        let h = reads_bare s mode n r.0 r.1 in
+        (value.newtype (made name) h.0, ap (result_map (value.newtype (made name))) h.1, ap (value.newtype name) h.2 ∙ ap contents r.2)
+    reads_bare (unit_structure name) mode n m e =
+        let d = bind_ok (judged mode (bare n) >>= null_of) (λ _. Ok (value.unit_structure (made name))) m e in
+        let j = read_bare mode n null_of d.0 d.1 in
+        (m, ap (λ q. q >>= null_of >>= λ _. Ok (value.unit_structure (made name))) j.0 ∙ ap (λ q. q >>= λ _. Ok (value.unit_structure (made name))) (null_bare n d.0 j.1) ∙ d.2, refl)
+    reads_bare (sequence s) mode n m e = parts_bare mode item_contents value.sequence value.sequence (reads_items (reads s mode) 0) n m (λ x. refl) (λ ns x q. items_bare (reads s mode) (reads_bare s mode) 0 ns x q) e
+    reads_bare (map key s) mode n m e =
+        let entries = λ (ns : Nodes). reads_entries (reads_key mode key) (reads s mode) ns no_entries in
+        let d = bind_ok (judged mode (bare n) >>= document_of) (λ ns. result_map value.map (entries ns)) m e in
+        let j = read_bare mode n document_of d.0 d.1 in
+        let a = document_bare n d.0 j.1 in
+        let b = map_ok value.map (entries d.0) m d.2 in
+        let h = entries_bare mode key (reads s mode) (reads_bare s mode) a.0 no_entries no_entries b.0 refl (ap entries a.2 ∙ b.1) in (
+          value.map h.0,
+          ap (λ q. q >>= document_of >>= λ ns. result_map value.map (entries ns)) j.0 ∙ ap (λ q. q >>= λ ns. result_map value.map (entries ns)) a.1 ∙ ap (result_map value.map) h.1,
+          ap value.map h.2 ∙ ap contents b.2,
+        )
+    reads_bare (tuple ps) mode n m e = parts_bare mode item_contents value.tuple value.tuple (reads_parts ps mode 0) n m (λ x. refl) (λ ns x q. reads_parts_bare ps mode 0 ns x q) e
+    reads_bare (tuple_structure name ps) mode n m e =
+        parts_bare mode item_contents (value.tuple_structure name) (value.tuple_structure (made name)) (reads_parts ps mode 0) n m (λ x. refl) (λ ns x q. reads_parts_bare ps mode 0 ns x q) e
+    reads_bare (enumeration vs) mode n m e =
+        let read = read_enum mode (reads_unit vs) (reads_variant vs mode) in
+        let j = read_bare mode n read m e in
+        let h = enum_bare mode vs (λ key k w q. reads_variant_bare vs mode key k w q) n m j.1 in
+        (h.0, ap (λ q. q >>= read) j.0 ∙ h.1, h.2)
+    reads_bare (structure name fs) mode n m e =
+        built_bare mode (value.structure (made name)) (value.structure name) fs n m (λ x. refl) (λ vs q. structure_bare mode (slots_of fs mode) (slots_of fs mode) n vs (slots_bare fs mode) q) e
+
+    slots_bare : (fs : Fields) (mode : Mode) → AllAlike (slots_of fs mode) (slots_of fs mode)
+    slots_bare no_fields mode = tt
+    slots_bare (field name s fs) mode = (record { name = refl; missing = refl; each = λ n m e. reads_bare s mode n m e; value = refl }, slots_bare fs mode)
+
+    reads_parts_bare : (ps : Parts) (mode : Mode) (i : ℕ) (ns : Nodes) (vs : MarkedItems) → reads_parts ps mode i (bare_nodes ns) ≡ Ok vs → ReadAs item_contents (reads_parts ps mode i ns) (item_contents vs)
+    reads_parts_bare no_parts mode i ns vs e = (vs, e, refl)
+    reads_parts_bare (part s ps) mode i ns vs e =
+        next_bare item_contents i (reads s mode) (λ v rest. result_map (item v) (reads_parts ps mode (suc i) rest)) ns vs (reads_bare s mode)
+        (λ v w ms is q.
+        let b = map_ok (item v) (reads_parts ps mode (suc i) (bare_nodes ms)) vs q in
+        let h = reads_parts_bare ps mode (suc i) ms b.0 b.1 in
+        (item w h.0, ap (result_map (item w)) h.1, (λ j. item (is j) (h.2 j)) ∙ ap item_contents b.2)) e
+
+    reads_variant_bare : (vs : Variants) (mode : Mode) (key : Utf8) → EachBare (reads_variant vs mode key)
+    reads_variant_bare no_variants mode key n m e = absurd cc
+    reads_variant_bare (variant name c vs) mode key n m e =
+        chosen_bare (bytes_eq name key) (reads_content name c mode (bare n)) (reads_variant vs mode key (bare n)) (reads_content name c mode n) (reads_variant vs mode key n) m
+        (λ q. reads_content_bare name c mode n m q) (λ q. reads_variant_bare vs mode key n m q) e
+
+    reads_content_bare : (name : Utf8) (c : Content) (mode : Mode) → EachBare (reads_content name c mode)
+    reads_content_bare name unit_content mode n m e = absurd cc
+    reads_content_bare name (newtype_content s) mode n m e =
+        under_bare name (result_map (value.newtype_variant (made name)) (reads s mode (bare n))) (result_map (value.newtype_variant (made name)) (reads s mode n)) m
+        (λ q.
+        let r = map_ok (value.newtype_variant (made name)) (reads s mode (bare n)) m q in
+        let h = reads_bare s mode n r.0 r.1 in
+        (value.newtype_variant (made name) h.0, ap (result_map (value.newtype_variant (made name))) h.1, ap (value.newtype_variant name) h.2 ∙ ap contents r.2)) e
+    reads_content_bare name (tuple_content ps) mode n m e =
+        under_bare name (judged mode (bare n) >>= array_of >>= λ ns. result_map (value.tuple_variant (made name)) (reads_parts ps mode 0 ns)) (judged mode n >>= array_of >>= λ ns. result_map (value.tuple_variant (made name)) (reads_parts ps mode 0 ns)) m
+        (λ q. parts_bare mode item_contents (value.tuple_variant name) (value.tuple_variant (made name)) (reads_parts ps mode 0) n m (λ x. refl) (λ ns x h. reads_parts_bare ps mode 0 ns x h) q) e
+    reads_content_bare name (struct_content fs) mode n m e =
+        under_bare name (judged mode (bare n) >>= λ k. result_map (value.structure_variant (made name)) (read_struct mode fs k)) (judged mode n >>= λ k. result_map (value.structure_variant (made name)) (read_struct mode fs k)) m
+        (λ q. built_bare mode (value.structure_variant (made name)) (value.structure_variant name) fs n m (λ x. refl) (λ vs h. structure_bare mode (slots_of fs mode) (slots_of fs mode) n vs (slots_bare fs mode) h) q) e

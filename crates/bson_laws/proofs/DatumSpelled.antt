@@ -1,6 +1,7 @@
 -- The value that a clean tree is means the tree with the options of its regular expressions in order, and is spelled as it.
-use Rattle.std.proofs.Common.{◌≡◌, ℕ, ◌<◌, ◌≤◌, ◌^◌, zero, suc, pos, List, [], ◌∷◌, Bool, true, false, cond, Option, Some, None, Ok, Err, inl, refl, ap, sym, ◌∙◌, arith}
-use Rattle.std.specs.Prelude.{nat_lt, nat_eq, option_map, option_and_then, codes}
+use Rattle.std.proofs.Common.{◌≡◌, ℕ, ◌<◌, ◌≤◌, ◌^◌, zero, suc, pos, List, [], ◌∷◌, length, Bool, true, false, cond, Option, Some, None, Ok, Err, inl, refl, ap, sym, ◌∙◌, arith}
+use Rattle.std.specs.Int.{w64}
+use Rattle.std.specs.Prelude.{FitsSigned, nat_lt, nat_eq, option_map, option_and_then, codes}
 use Rattle.std.specs.Result.{result_ok}
 use Rattle.std.proofs.lemmas.Bool.Decides.{nat_tests}
 use Rattle.uuid.specs.Text.{lower}
@@ -9,7 +10,7 @@ use Rattle.bson_base.specs.Outcome.{◌>>=◌, result_map}
 use Rattle.bson_base.specs.Reserved.{reserved_kind}
 use Rattle.bson_base.specs.Sorted.{sorted}
 use Rattle.bson_base.specs.Sound.{IsClean, ArePairsClean, AreTreesClean, HasBytes, IsZeroFree}
-use Rattle.bson_base.specs.Text.{Bytes, Utf8}
+use Rattle.bson_base.specs.Text.{Bytes, Utf8, AreBytes}
 use Rattle.bson_base.specs.Tree as tree
 use Rattle.bson_base.specs.Tree.{Tree, Pairs, no_pairs, pair, Trees, no_trees, depth, pairs_depth, trees_depth}
 use Rattle.bson_base.specs.declared.element_type.ElementType.{ElementType}
@@ -20,15 +21,11 @@ use Rattle.bson_datum.specs.Value.{i64, Value, FieldValues}
 use Rattle.bson_datum.specs.Refusal.{here, invalid_cstring, unsigned_exceeds, under, under_index}
 use Rattle.bson_reserved.specs.Unwrap.{Part, a_value, next_key, next_unsigned, end_as, unwrap, or_else}
 use Rattle.bson_reserved.specs.Written.{with_scope, zero_free}
-use Rattle.bson_laws.specs.Datum.{datum, pair_data, tree_data, uuid_datum, sorted_tree, sorted_pairs, sorted_trees}
+use Rattle.bson_laws.specs.Datum.{itself, datum, pair_data, tree_data, uuid_datum, sorted_tree, sorted_pairs, sorted_trees}
 use Rattle.bson_laws.specs.Means.{unwrapped_means, means, means_items, means_entries}
 use Rattle.bson_laws.specs.Spell.{spell_whole, spell_unwrapped, spell_uuid, spell_as, spell_items_as, spell_entries_as}
-use Rattle.bson_laws.proofs.Rewritten.{wide_small}
+use Rattle.bson_laws.proofs.Writable.{wide_small}
 use Rattle.bson_laws.proofs.Spelled.{binary_spelled, enclosed}
-
--- the texts and byte strings of the value are those of the tree
-abbrev itself : Bytes → Utf8
-itself b = b
 
 -- ---- structs of reserved names
 
@@ -56,21 +53,41 @@ increment_at time increment = option_and_then (λ p. end_as (time, p.0) p.1) inc
 abbrev behind_time : ℕ × List (Part Value) → Option (ℕ × ℕ)
 behind_time time = option_and_then (λ second. increment_at time.0 (next_unsigned second)) (next_key (codes "i") time.1)
 
+-- the parts that are written as digits, as numbers and as bytes are in the ranges of their kinds
+abbrev pub HasSizes : Tree → Type 0
+HasSizes (tree.binary (suc n) b) = (suc n < 256) × AreBytes b
+HasSizes (tree.object_id id) = (length id ≡ 12) × AreBytes id
+HasSizes (tree.date_time n) = FitsSigned w64 n
+HasSizes (tree.db_pointer namespace id) = (length id ≡ 12) × AreBytes id
+HasSizes (tree.timestamp time increment) = (time < 2 ^ 32) × (increment < 2 ^ 32)
+HasSizes (tree.decimal128 b) = length b ≡ 16
+HasSizes t = Unit {0}
+
+clean_sizes : (t : Tree) → IsClean t → HasSizes t
+clean_sizes (tree.binary zero b) c = tt
+clean_sizes (tree.binary (suc n) b) c = (c.is_byte, c.are_bytes)
+clean_sizes (tree.object_id id) c = (c.count, c.are_bytes)
+clean_sizes (tree.date_time n) c = c
+clean_sizes (tree.db_pointer namespace id) c = (c.1.count, c.1.are_bytes)
+clean_sizes (tree.timestamp time increment) c = c
+clean_sizes (tree.decimal128 b) c = c.count
+clean_sizes t c = tt
+
 -- each text and number in the fields is read back
-accepted : (t : Tree) → IsClean t → IsAccepted (datum itself t) t
+pub accepted : (t : Tree) → HasSizes t → IsAccepted (datum itself t) t
 accepted (tree.binary zero b) c = tt
 accepted (tree.binary (suc n) b) c =
-    λ i. option_map (λ (p : ℕ × Bytes). tree.binary p.0 p.1) (or_else (option_and_then (λ s. option_and_then (λ x. Some (s, x)) (base64_read b c.are_bytes i)) (subtype_read (suc n) c.is_byte i)) None)
-accepted (tree.object_id id) c = ap (λ o. option_map tree.object_id (option_and_then Some o)) (digits_read 12 id c.count c.are_bytes)
+    λ i. option_map (λ (p : ℕ × Bytes). tree.binary p.0 p.1) (or_else (option_and_then (λ s. option_and_then (λ x. Some (s, x)) (base64_read b c.1 i)) (subtype_read (suc n) c.0 i)) None)
+accepted (tree.object_id id) c = ap (λ o. option_map tree.object_id (option_and_then Some o)) (digits_read 12 id c.0 c.1)
 accepted (tree.date_time n) c = ap (λ o. option_map tree.date_time (option_and_then Some o)) (integer_read n c)
 accepted (tree.regular_expression pattern options) c = refl
 accepted (tree.db_pointer namespace id) c =
-    ap (λ o. option_map (λ (p : Utf8 × Bytes). tree.db_pointer p.0 p.1) (option_and_then (λ x. Some (namespace, x)) o)) (digits_read 12 id c.1.count c.1.are_bytes)
+    ap (λ o. option_map (λ (p : Utf8 × Bytes). tree.db_pointer p.0 p.1) (option_and_then (λ x. Some (namespace, x)) o)) (digits_read 12 id c.0 c.1)
 accepted (tree.javascript_code t) c = refl
 accepted (tree.symbol t) c = refl
 accepted (tree.timestamp time increment) c =
     ap (λ o. option_map timestamp_of (option_and_then behind_time o)) (unsigned_next time _ c.0) ∙ ap (λ o. option_map timestamp_of (increment_at time o)) (unsigned_next increment [] c.1)
-accepted (tree.decimal128 b) c = ap (λ n. option_map tree.decimal128 (option_and_then Some (cond (nat_eq n 16) (Some b) None))) c.count
+accepted (tree.decimal128 b) c = ap (λ n. option_map tree.decimal128 (option_and_then Some (cond (nat_eq n 16) (Some b) None))) c
 accepted tree.undefined c = refl
 accepted tree.max_key c = refl
 accepted tree.min_key c = refl
@@ -93,7 +110,7 @@ mutual
   datum_spelled r (tree.array ts) levels c d =
       enclosed tree.array (spell_items_as r 0 (tree_data itself ts)) (sorted_trees ts) (trees_depth ts) levels d (λ n le. trees_spelled r 0 ts n c le)
   datum_spelled r (tree.binary zero b) levels c d = binary_spelled 0 b c
-  datum_spelled r (tree.binary (suc n) b) levels c d = ap spell_unwrapped (accepted (tree.binary (suc n) b) c) ∙ binary_spelled (suc n) b c
+  datum_spelled r (tree.binary (suc n) b) levels c d = ap spell_unwrapped (accepted (tree.binary (suc n) b) (clean_sizes (tree.binary (suc n) b) c)) ∙ binary_spelled (suc n) b c
   datum_spelled r (tree.boolean b) levels c d = refl
   datum_spelled r tree.null levels c d = refl
   datum_spelled r (tree.regular_expression pattern options) levels c d = regular_expression_spelled pattern options c.0 c.1
@@ -102,7 +119,7 @@ mutual
       (enclosed tree.document (spell_entries_as r (pair_data itself scope)) (sorted_pairs scope) (pairs_depth scope) levels d (λ n le. pairs_spelled r scope n c.1 le))
   datum_spelled r (tree.int32 n) levels c d = refl
   datum_spelled r (tree.int64 n) levels c d = ap (λ b. cond b (Err (here (unsigned_exceeds n))) (Ok (tree.int64 n))) (wide_small n c)
-  datum_spelled r t levels c d = ap spell_unwrapped (accepted t c)
+  datum_spelled r t levels c d = ap spell_unwrapped (accepted t (clean_sizes t c))
 
   pairs_spelled : (readable : Bool) (ps : Pairs) (levels : ℕ) → ArePairsClean ps → pairs_depth ps ≤ levels → spell_entries_as readable (pair_data itself ps) levels ≡ Ok (sorted_pairs ps)
   pairs_spelled r no_pairs levels c d = refl
@@ -127,14 +144,14 @@ mutual
   datum_meant (tree.document ps) c = ap (option_map tree.document) (pairs_meant ps c)
   datum_meant (tree.array ts) c = ap (option_map tree.array) (trees_meant ts c)
   datum_meant (tree.binary zero b) c = refl
-  datum_meant (tree.binary (suc n) b) c = ap unwrapped_means (accepted (tree.binary (suc n) b) c) ∙ ap result_ok (binary_spelled (suc n) b c)
+  datum_meant (tree.binary (suc n) b) c = ap unwrapped_means (accepted (tree.binary (suc n) b) (clean_sizes (tree.binary (suc n) b) c)) ∙ ap result_ok (binary_spelled (suc n) b c)
   datum_meant (tree.boolean b) c = refl
   datum_meant tree.null c = refl
   datum_meant (tree.regular_expression pattern options) c = ap result_ok (regular_expression_spelled pattern options c.0 c.1)
   datum_meant (tree.javascript_code_with_scope code scope) c = ap (λ o. option_map (with_scope code) (option_map tree.document o)) (pairs_meant scope c.1)
   datum_meant (tree.int32 n) c = refl
   datum_meant (tree.int64 n) c = ap (λ b. cond b None (Some (tree.int64 n))) (wide_small n c)
-  datum_meant t c = ap unwrapped_means (accepted t c)
+  datum_meant t c = ap unwrapped_means (accepted t (clean_sizes t c))
 
   pairs_meant : (ps : Pairs) → ArePairsClean ps → means_entries (pair_data itself ps) ≡ Some (sorted_pairs ps)
   pairs_meant no_pairs c = refl

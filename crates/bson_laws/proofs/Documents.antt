@@ -18,17 +18,19 @@ use Rattle.bson_datum.specs.Value.{Value, no_entries, kind_of, reserved_or_docum
 use Rattle.bson_datum.specs.Marked.{Marked, contents}
 use Rattle.bson_datum.specs.Cause.{raw}
 use Rattle.bson_datum.specs.Refusal.{Failure, ReadFault, bare, unreadable}
-use Rattle.bson_laws.specs.Leaves.{LeafKind, anything, ignored, leaf_kind}
-use Rattle.bson_laws.specs.Plain.{IsKept}
+use Rattle.bson_laws.specs.Leaves.{LeafKind, anything, ignored, extended_values, documents, leaf_kind}
 use Rattle.bson_laws.specs.Judged.{Reading, Mode, plain, judged}
 use Rattle.bson_laws.specs.Taken.{null_of, document_of, array_of}
-use Rattle.bson_laws.specs.ReadsLeaf.{read_leaf, borrows, any_entries}
+use Rattle.bson_laws.specs.ReadsLeaf.{borrows, any_entries}
 use Rattle.bson_laws.specs.Containers.{reads_entries, reads_key, read_enum, reads_unit, reads_items}
 use Rattle.bson_laws.specs.Slots.{read_structure}
-use Rattle.bson_laws.specs.Reads.{slots_of, reads_parts, reads_variant, reads_content, reads, answered, reads_document}
+use Rattle.bson_laws.specs.Reads.{read_leaf, slots_of, reads_parts, reads_variant, reads_content, reads, answered, reads_document}
 use Rattle.bson_laws.specs.Spell.{at_top, spell, spell_document, IsWrittenUnlessLarge, HoldsNumbers}
-use Rattle.bson_laws.specs.Writable.{KeepsDocument, IsWritable}
-use Rattle.bson_laws.proofs.Given.{reads_given}
+use Rattle.bson_laws.specs.Writable.{KeepsDocumentLeaf, KeepsDocument, IsWritable}
+use Rattle.bson_laws.specs.Datum.{datum}
+use Rattle.bson_laws.specs.Trees.{as_tree, pairs_in}
+use Rattle.bson_base.specs.Tree as tree
+use Rattle.bson_laws.proofs.GivenAt.{reads_given}
 use Rattle.bson_laws.proofs.Signed.{document_spelled, given_signed}
 use Rattle.bson_laws.proofs.Rewritten.{written}
 use Rattle.bson_laws.proofs.Sizes.{under_ok}
@@ -46,11 +48,15 @@ IsTop n = ⊥
 abbrev IsMapping : Marked → Type 0
 IsMapping v = kind_of (contents v) ≡ EmbeddedDocument
 
-leaf_top : (mode : Mode) (l : Bool) (k : LeafKind) (n : Node) (v : Marked) → IsTop n → IsKept k → read_leaf mode l k n ≡ Ok v → IsMapping v
+leaf_top : (mode : Mode) (l : Bool) (k : LeafKind) (n : Node) (v : Marked) → IsTop n → KeepsDocumentLeaf k → read_leaf mode l k n ≡ Ok v → IsMapping v
 leaf_top mode l anything (document ns) v t kept e = let m = map_ok value.map (any_entries mode ns no_entries) v e in subst IsMapping m.2 refl
 leaf_top mode l anything (broken k x) v t kept e = absurd cc
 leaf_top mode l anything n v t kept e = absurd t
 leaf_top mode l ignored n v t kept e = absurd kept
+leaf_top mode l (extended_values documents) (document ns) v t kept e = let m = map_ok (λ ps. datum made (tree.document ps)) (as_tree mode (document ns) >>= pairs_in) v e in subst IsMapping m.2 refl
+leaf_top mode l (extended_values documents) (broken k x) v t kept e = absurd cc
+leaf_top mode l (extended_values documents) n v t kept e = absurd t
+leaf_top mode l (extended_values k) n v t kept e = absurd kept
 leaf_top mode l k (document ns) v t kept e = absurd cc
 leaf_top mode l k (broken j x) v t kept e = absurd cc
 leaf_top mode l k n v t kept e = absurd t

@@ -1,6 +1,6 @@
 -- The meaning of a value that fits a shape is viewed at the shape as the normal form of that value.
 use Rattle.std.proofs.Common.{◌≡◌, ℕ, [], ◌∷◌, Bool, true, false, cond, Option, Some, None, refl, ap, sym, subst, ◌∙◌, ℤ, append-nil}
-use Rattle.std.specs.Prelude.{encode_utf8, ◌&&◌, option_map, option_and_then}
+use Rattle.std.specs.Prelude.{encode_utf8, ◌&&◌, nat_eq, option_map, option_and_then}
 use Rattle.std.specs.Char.{IsScalar}
 use Rattle.std.specs.Str.{bytes_eq, chars}
 use Rattle.std.proofs.lemmas.Slice.Eq.{bytes_eq-Decides}
@@ -10,22 +10,27 @@ use Rattle.bson_base.specs.Text.{Utf8}
 use Rattle.bson_base.specs.Reserved.{reserved_kind}
 use Rattle.bson_base.specs.Sound.{IsClean, ArePairsClean, AreTreesClean, Lacks}
 use Rattle.bson_base.specs.declared.element_type.ElementType.{ElementType}
+use Rattle.bson_base.specs.Kind.{byte}
+use Rattle.bson_base.specs.declared.element_type.ElementType.TheVariants as kinds
 use Rattle.bson_base.specs.declared.element_type.ElementType.TheVariants.{Int32}
 use Rattle.bson_base.specs.Tree as tree
-use Rattle.bson_base.specs.Tree.{Tree, string, binary, null, int32, int64, document, array, Pairs, no_pairs, pair, Trees, no_trees}
+use Rattle.bson_base.specs.Tree.{Tree, kind, string, binary, null, int32, int64, document, array, Pairs, no_pairs, pair, Trees, no_trees}
 use Rattle.bson_base.proofs.Outcomes.{some_is, some_map, some_then}
 use Rattle.bson_shape.specs.Form.{Form, leaf, optional, sequence, newtype, unit_structure, map, tuple, tuple_structure, structure, enumeration, Fields, no_fields, field, Parts, no_parts, part, Content, newtype_content, tuple_content, struct_content, Variants, no_variants, variant}
 use Rattle.bson_shape.specs.Makers.{is_reserved_newtype}
 use Rattle.bson_datum.specs.Value as value
 use Rattle.bson_datum.specs.Value.{IntegerType, i32, i64, in_range, written_as, Value, integer, str, Items, no_items, item, Entries, no_entries, entry, FieldValues, no_field_values, field_value}
-use Rattle.bson_laws.specs.Leaves.{LeafKind, anything, booleans, numbers, doubles, characters, texts, byte_strings, byte_buffers, units, leaf_kind}
+use Rattle.bson_laws.specs.Leaves.{LeafKind, anything, booleans, numbers, doubles, characters, texts, byte_strings, byte_buffers, units, ExtendedLeaf, object_ids, uuids, of_kind, trees, documents, extended_values, leaf_kind}
+use Rattle.bson_laws.specs.Datum.{datum, itself, uuid_datum, sorted_tree}
 use Rattle.bson_laws.specs.Variants.{content_of}
 use Rattle.bson_laws.specs.Plain.{IsPlainKey, IsPlain, AreFieldsPlain, ArePartsPlain, AreVariantsPlain, IsContentPlain}
-use Rattle.bson_laws.specs.Views.{as_integer, one_character, as_character, views_any, views_any_items, views_any_entries, views_leaf, views_leaf_key, views_key, views_entries, named_unit, absent, views_at, views, views_items, views_parts, views_variant, views_content, views_fields}
+use Rattle.bson_laws.specs.Views.{views_extended, as_integer, one_character, as_character, views_any, views_any_items, views_any_entries, views_leaf, views_leaf_key, views_key, views_entries, named_unit, absent, views_at, views, views_items, views_parts, views_variant, views_content, views_fields}
 use Rattle.bson_laws.specs.Means.{key_text, number_of, some_or_none, under_name, means, means_items, means_entries, means_fields, norm, norm_items, norm_entries, norm_fields}
-use Rattle.bson_laws.specs.Fits.{IsAny, AreAnyItems, AreAnyEntries, FitsLeaf, FitsLeafKey, FitsKey, Fits, ItemsFit, PartsFit, EntriesFit, FieldsFit}
+use Rattle.bson_laws.specs.Fits.{IsTreeValue, IsValueOfKind, FitsExtended, IsAny, AreAnyItems, AreAnyEntries, FitsLeaf, FitsLeafKey, FitsKey, Fits, ItemsFit, PartsFit, EntriesFit, FieldsFit}
+use Rattle.bson_laws.proofs.DatumContents.{sorted_kind}
+use Rattle.bson_laws.proofs.DatumNormal.{own_kind, tree_sorted_twice, datum_norm, datum_means}
 use Rattle.bson_laws.proofs.Fitting.{fits_leaf}
-use Rattle.bson_laws.proofs.Free.{free_means, free_struct_means, free_newtype_name, free_struct_name}
+use Rattle.bson_laws.proofs.Free.{free_means, free_norm, free_struct_means, free_newtype_name, free_struct_name}
 use Rattle.bson_laws.proofs.Spelled.{found, tree_is, trees_are, pairs_are}
 
 pub bytes_eq-refl : (xs : Utf8) → bytes_eq xs xs ≡ true
@@ -137,6 +142,34 @@ mutual
       ∙ ap (option_map (entry (str key) (norm v))) (any_entries_mean es b.0 f.2 b.1)
   any_entries_mean (entry k v es) ps f e = absurd f.0
 
+-- the value of a tree means the tree with its options sorted, which is read back as its normal form
+tree_value : (v : Value) (t : Tree) (f : IsTreeValue v) → means v ≡ Some t → (t ≡ sorted_tree f.tree) × (datum itself (sorted_tree t) ≡ norm v)
+tree_value v t f e =
+    let is : t ≡ sorted_tree f.tree = datum_means f.tree t f.ranges (ap means f.is_datum ∙ e) in
+    (is, ap (λ u. datum itself (sorted_tree u)) is ∙ ap (datum itself) (tree_sorted_twice f.tree f.ranges) ∙ sym (datum_norm f.tree) ∙ ap norm f.is_datum)
+
+-- and is of the kind of the tree
+value_kind : (k : ElementType) (v : Value) (t : Tree) (f : IsValueOfKind k v) → means v ≡ Some t → kind t ≡ k
+value_kind k v t f e = ap kind (tree_value v t f.of_tree e).0 ∙ sorted_kind f.of_tree.tree ∙ f.has_kind
+
+id_means : (t : Tree) (v : Value) → kind t ≡ kinds.ObjectId → datum itself (sorted_tree t) ≡ norm v → views_extended object_ids t ≡ Some (norm v)
+id_means (tree.object_id id) v is e = ap Some e
+id_means t v is e = absurd cc
+
+document_means : (t : Tree) (v : Value) → kind t ≡ kinds.EmbeddedDocument → datum itself (sorted_tree t) ≡ norm v → views_extended documents t ≡ Some (norm v)
+document_means (document ps) v is e = ap Some e
+document_means t v is e = absurd cc
+
+extended_means : (k : ExtendedLeaf) (v : Value) (t : Tree) → FitsExtended k v → means v ≡ Some t → views_extended k t ≡ Some (norm v)
+extended_means object_ids v t f e = id_means t v (value_kind kinds.ObjectId v t f e) (tree_value v t f.of_tree e).1
+extended_means uuids v t f e =
+    let is : binary 4 f.id ≡ t = tree_is (binary 4 f.id) t (ap means f.is_datum ∙ e) in
+    ap (views_extended uuids) (sym is) ∙ ap (λ n. cond (nat_eq n 16) (Some (uuid_datum itself f.id)) None) f.sixteen.count ∙ ap (λ x. Some (norm x)) f.is_datum
+extended_means (of_kind k) v t f e =
+    ap (λ j. cond (nat_eq (byte j) (byte k)) (Some (datum itself (sorted_tree t))) None) (value_kind k v t f e) ∙ ap (λ b. cond b (Some (datum itself (sorted_tree t))) None) (own_kind k) ∙ ap Some (tree_value v t f.of_tree e).1
+extended_means trees v t f e = ap Some (tree_value v t f e).1
+extended_means documents v t f e = document_means t v (value_kind kinds.EmbeddedDocument v t f e) (tree_value v t f.of_tree e).1
+
 -- what a leaf takes from the tree that a value of the leaf means
 leaf_means : (k : LeafKind) (v : Value) (t : Tree) → FitsLeaf k v → means v ≡ Some t → views_leaf k t ≡ Some (norm v)
 leaf_means anything v t f e = any_means v t f e
@@ -149,6 +182,7 @@ leaf_means texts (str x) t f e = ap (views_leaf texts) (sym (tree_is (string x) 
 leaf_means byte_strings (value.bytes bs) t f e = ap (views_leaf byte_strings) (sym (tree_is (binary 0 bs) t e))
 leaf_means byte_buffers (value.bytes bs) t f e = ap (views_leaf byte_buffers) (sym (tree_is (binary 0 bs) t e))
 leaf_means units value.unit t f e = ap (views_leaf units) (sym (tree_is null t e))
+leaf_means (extended_values k) v t f e = extended_means k v t f e
 leaf_means k v t f e = absurd f
 
 -- ---- variants
@@ -210,6 +244,7 @@ mutual
       let a = some_map document (means_fields vs) t u in
       subst (λ x. IsClean x → views (structure n fs) x ≡ Some (value.structure m (norm_fields vs))) a.2
       (λ c'. ap (option_map (value.structure n)) (views_means_fields vs fs a.0 p.1 f.1 a.1 c') ∙ ap (λ x. Some (value.structure x (norm_fields vs))) (sym f.0)) c
+      ∙ ap Some (sym (free_norm m vs (ap reserved_kind f.0 ∙ free_struct_name n p.0)))
   views_means (value.tuple vs) (tuple ps) t p f e c =
       let a = some_map array (means_items vs) t e in
       subst (λ x. IsClean x → views (tuple ps) x ≡ Some (value.tuple (norm_items vs))) a.2 (λ c'. ap (option_map value.tuple) (views_means_parts vs ps a.0 p f a.1 c')) c

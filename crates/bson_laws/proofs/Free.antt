@@ -1,17 +1,17 @@
 -- Newtypes and structs whose names are not reserved.
-use Rattle.std.proofs.Common.{◌≡◌, ℕ, List, [], ◌∷◌, Bool, true, false, cond, Option, Some, None, refl, ap, sym, ◌∙◌}
+use Rattle.std.proofs.Common.{◌≡◌, ℕ, List, [], ◌∷◌, Bool, true, false, cond, Some, None, refl, ap, sym, ◌∙◌}
 use Rattle.std.specs.Prelude.{◌||◌, option_map}
 use Rattle.std.specs.Str.{bytes_eq}
 use Rattle.std.proofs.lemmas.Slice.Eq.{bytes_eq-Decides}
 use Rattle.bson_base.specs.Reserved.{Reserved, reserved_names, kind_in, reserved_kind}
 use Rattle.bson_base.specs.Text.{Utf8, begins_with_dollar, IsFreeName}
-use Rattle.bson_base.specs.Tree.{Tree, binary, document}
+use Rattle.bson_base.specs.Tree.{binary, document}
 use Rattle.bson_base.specs.declared.element_type.ElementType.TheVariants.{Binary}
 use Rattle.bson_shape.specs.Makers.{reserved_newtypes, is_reserved_newtype}
 use Rattle.bson_datum.specs.Value.{Value, newtype, structure, FieldValues, uuid_newtype, readable_newtype, readable_inside, kind_as, kind_of}
 use Rattle.bson_reserved.specs.Unwrap.{unwrap, scoped_code}
 use Rattle.bson_reserved.specs.UuidBytes.{uuid_bytes}
-use Rattle.bson_laws.specs.Means.{newtype_means, struct_means, reserved_means, means, means_fields, means_list}
+use Rattle.bson_laws.specs.Means.{norm_struct, norm, norm_fields, struct_means, reserved_means, means, means_fields, means_list}
 use Rattle.bson_laws.specs.Spell.{spell_uuid, enclosed_at, struct_at, reserved_at, spell_as, spell_list, spell, spell_fields}
 
 neither : (a b c : Bool) → (a || (b || (c || false))) ≡ false → (a ≡ false) × (b ≡ false)
@@ -45,6 +45,10 @@ free_struct name fs levels e = ap (λ o. struct_at o levels (spell_fields fs) (�
 
 pub free_struct_means : (name : Utf8) (fs : FieldValues) → reserved_kind name ≡ None → means (structure name fs) ≡ option_map document (means_fields fs)
 free_struct_means name fs e = ap (λ o. struct_means o (means_fields fs) (λ k. reserved_means k (unwrap k fs) (scoped_code (means_list fs [])))) e
+
+-- its fields are read back as they are
+pub free_norm : (name : Utf8) (fs : FieldValues) → reserved_kind name ≡ None → norm (structure name fs) ≡ structure name (norm_fields fs)
+free_norm name fs e = ap (λ o. structure name (norm_struct o (norm_fields fs))) e
 
 -- ---- names that do not begin with `$`
 

@@ -21,15 +21,16 @@ use Rattle.bson_datum.specs.Marked.{Marked, MarkedItems, MarkedEntries, MarkedFi
 use Rattle.bson_datum.specs.Same.{same}
 use Rattle.bson_datum.specs.Cause.{out_of_range, not_utf8, not_borrowed}
 use Rattle.bson_datum.specs.Refusal.{at_index, under, under_index}
-use Rattle.bson_laws.specs.Leaves.{LeafKind, anything, ignored, booleans, numbers, doubles, characters, texts, byte_strings, byte_buffers, units, leaf_kind}
+use Rattle.bson_laws.specs.Leaves.{LeafKind, anything, ignored, booleans, numbers, doubles, characters, texts, byte_strings, byte_buffers, units, ExtendedLeaf, extended_values, leaf_kind}
 use Rattle.bson_laws.specs.Variants.{content_of}
 use Rattle.bson_laws.specs.Views.{one_character, absent}
 use Rattle.bson_laws.specs.Judged.{Reading, plain, refused, faultless, judged, passes, ignores, Mode}
 use Rattle.bson_laws.specs.Taken.{boolean_of, integer_of, double_of, character_of, borrow, borrow_or_own, as_text, text_of, bytes_of, buffer_of, null_of, read_integer, read_character, document_of, array_of}
-use Rattle.bson_laws.specs.ReadsLeaf.{borrows, put_entry, read_any, any_items, any_entries, read_leaf}
+use Rattle.bson_laws.specs.ReadsLeaf.{borrows, put_entry, read_any, any_items, any_entries, no_extended, read_leaf_with}
 use Rattle.bson_laws.specs.Containers.{reads_items, reads_entries, unit_of, reads_unit, reads_key, read_enum, reads_option, reads_next}
 use Rattle.bson_laws.specs.Slots.{Slot, Slots, fill_slot, put_at, fill, value_or, finish, reads_places, read_structure}
-use Rattle.bson_laws.specs.Reads.{slots_of, reads, reads_parts, reads_variant, reads_content}
+use Rattle.bson_laws.specs.Shaped as shaped
+use Rattle.bson_laws.proofs.GivenTrees.{IsGivenExtended}
 use Rattle.bson_laws.proofs.Sizes.{inside_ok, under_ok}
 use Rattle.bson_laws.proofs.Coded.{IsName}
 use Rattle.bson_laws.proofs.Tame.{IsTame, AreTame, after_judged, document_tame, array_tame}
@@ -83,6 +84,7 @@ IsGivenLeaf texts (value.str t) = is_utf8 t ≡ true
 IsGivenLeaf byte_strings (value.bytes bs) = Unit {0}
 IsGivenLeaf byte_buffers (value.bytes bs) = Unit {0}
 IsGivenLeaf units value.unit = Unit {0}
+IsGivenLeaf (extended_values k) v = IsGivenExtended k v
 IsGivenLeaf k v = ⊥
 
 -- a key where the keys are what a leaf takes; one that is not a text is not written
@@ -190,7 +192,7 @@ faulty_or true n m e = refl
 faulty_or false n m e = absurd cc
 
 -- a text that is judged without a refusal is UTF-8
-judged_text : (p : Piece) (m : Node) → judged plain (node.string p) ≡ Ok m → is_utf8 p.bytes ≡ true
+pub judged_text : (p : Piece) (m : Node) → judged plain (node.string p) ≡ Ok m → is_utf8 p.bytes ≡ true
 judged_text p m e = faulty_or (is_utf8 p.bytes) (node.string p) m e
 
 whole_binary : (b : Bool) (p q : Piece) → is_utf8 p.bytes ≡ b → cond b (Ok p) (refused not_utf8) ≡ Ok q → is_utf8 q.bytes ≡ true
@@ -205,7 +207,7 @@ borrow_is true t p e = held t.in_input e where
   held false q = absurd cc
 borrow_is false t p e = ap (λ (x : Piece). x.bytes) (sym (ok_is (made t.bytes) p e))
 
-whole_text : (b : Bool) (n m : Node) (p : Piece) → judged plain n ≡ Ok m → text_of plain b n ≡ Ok p → is_utf8 p.bytes ≡ true
+pub whole_text : (b : Bool) (n m : Node) (p : Piece) → judged plain n ≡ Ok m → text_of plain b n ≡ Ok p → is_utf8 p.bytes ≡ true
 whole_text b (node.string t) m p j e = ap is_utf8 (borrow_is b t p e) ∙ judged_text t m j
 whole_text b (node.bytes x) m p j e = let q = bind_ok (borrow_or_own b x) as_text p e in whole_binary (is_utf8 q.0.bytes) q.0 p refl q.2
 whole_text b n m p j e = absurd cc
@@ -262,7 +264,7 @@ mutual
   any_given node.null m v t j e = subst AnyGiven (ok_is value.unit v e) tt
   any_given (node.array ns) m v t j e = let r = map_ok value.sequence (any_items plain 0 ns) v e in subst AnyGiven r.2 (any_items_given 0 ns r.0 t r.1)
   any_given (node.document ns) m v t j e = let r = map_ok value.map (any_entries plain ns no_entries) v e in map_given r.0 v (any_entries_given ns no_entries r.0 t (tt, tt) r.1) r.2
-  any_given (node.extended x ns) m v t j e = let r = map_ok value.map (any_entries plain ns no_entries) v e in map_given r.0 v (any_entries_given ns no_entries r.0 t (tt, tt) r.1) r.2
+  any_given (node.extended x ns) m v t j e = let r = map_ok value.map (any_entries plain ns no_entries) v e in map_given r.0 v (any_entries_given ns no_entries r.0 t.1 (tt, tt) r.1) r.2
   any_given n m v t j e = absurd cc
 
   any_items_given : (i : ℕ) (ns : Nodes) (vs : MarkedItems) → AreTame ns → any_items plain i ns ≡ Ok vs → AreGivenItems (item_contents vs)
@@ -314,24 +316,12 @@ character_read (node.string t) m v j e =
     character_given (chars t.bytes) (one_character (chars t.bytes)) v (λ c is. one_scalar (chars t.bytes) c (scalars-chars t.bytes (IsUtf8-from_is_utf8 t.bytes (judged_text t m j))) is) e
 character_read n m v j e = absurd cc
 
-leaf_given : (l : Bool) (k : LeafKind) (n m : Node) (v : Marked) → IsTame n → judged plain n ≡ Ok m → read_leaf plain l k n ≡ Ok v → LeafGiven k v
-leaf_given l anything n m v t j e = any_given n m v t j e
-leaf_given l ignored n m v t j e = let r = map_ok (λ _. value.unit) (passes plain n) v e in subst (LeafGiven ignored) r.2 tt
-leaf_given l booleans n m v t j e = let r = map_ok value.boolean (boolean_of n) v e in subst (LeafGiven booleans) r.2 tt
-leaf_given l (numbers type) n m v t j e = let b = bind_ok (integer_of n) (read_integer type) v e in number_given type b.0 (in_range type b.0) v (integer_fits n b.0 t b.1) refl b.2
-leaf_given l doubles n m v t j e = let r = map_ok value.double (double_of n) v e in subst (LeafGiven doubles) r.2 (double_sized n r.0 t r.1)
-leaf_given l characters n m v t j e = character_read n m v j e
-leaf_given l texts n m v t j e = let r = map_ok value.str (text_of plain l n) v e in subst (LeafGiven texts) r.2 (whole_text l n m r.0 j r.1)
-leaf_given l byte_strings n m v t j e = let r = map_ok value.bytes (bytes_of plain n) v e in subst (LeafGiven byte_strings) r.2 tt
-leaf_given l byte_buffers n m v t j e = let r = map_ok (λ b. value.bytes (made b)) (buffer_of plain n) v e in subst (LeafGiven byte_buffers) r.2 tt
-leaf_given l units n m v t j e = let r = map_ok (λ _. value.unit) (null_of n) v e in subst (LeafGiven units) r.2 tt
-
 -- ---- keys
 
 abbrev LeafKeyGiven : LeafKind → Marked → Type 0
 LeafKeyGiven k v = IsGivenLeafKey k (contents v)
 
-leaf_key_given : (l : Bool) (k : LeafKind) (key : Piece) (v : Marked) → IsName key.bytes → read_leaf plain l k (node.string key) ≡ Ok v → LeafKeyGiven k v
+leaf_key_given : (l : Bool) (k : LeafKind) (key : Piece) (v : Marked) → IsName key.bytes → read_leaf_with no_extended plain l k (node.string key) ≡ Ok v → LeafKeyGiven k v
 leaf_key_given l anything key v h e = subst (LeafKeyGiven anything) (ok_is (value.str key) v e) h
 leaf_key_given l ignored key v h e = subst (LeafKeyGiven ignored) (ok_is value.unit v e) tt
 leaf_key_given l characters key v h e = by_case (one_character (chars key.bytes)) e where
@@ -374,15 +364,6 @@ items_given read s each i (then_node key n ns) vs t e =
 
 abbrev EntriesSo : Form → Form → MarkedEntries → Type 0
 EntriesSo key s es = AreApart (entry_contents es) × AllSo (IsGivenKey key) (λ v. IsGiven v s) (entry_contents es)
-
-entries_so : (key s : Form) → EachGiven (reads s plain) s → (ns : Nodes) (es out : MarkedEntries) → AreTame ns → EntriesSo key s es → reads_entries (reads_key plain key) (reads s plain) ns es ≡ Ok out → EntriesSo key s out
-entries_so key s each ended es out t h e = subst (EntriesSo key s) (ok_is es out e) h
-entries_so key s each (faulty f) es out t h e = absurd cc
-entries_so key s each (then_node k n ns) es out t h e =
-    let a = bind_ok (reads_key plain key k) (λ x. under k.bytes (reads s plain n) >>= λ v. reads_entries (reads_key plain key) (reads s plain) ns (put_entry x v es)) out e in
-    let b = bind_ok (under k.bytes (reads s plain n)) (λ v. reads_entries (reads_key plain key) (reads s plain) ns (put_entry a.0 v es)) out a.2 in
-    let there = put_so (IsGivenKey key) (λ v. IsGiven v s) a.0 b.0 es (key_given key k a.0 t.0 a.1) (each n b.0 t.1 (under_ok k.bytes (reads s plain n) b.0 b.1)) h.1 in
-    entries_so key s each ns (put_entry a.0 b.0 es) out t.2 (put_apart a.0 b.0 es h.0, there) b.2
 
 entries_given : (key s : Form) (es : Entries) → AllSo (IsGivenKey key) (λ v. IsGiven v s) es → EntriesGiven es key s
 entries_given key s no_entries h = tt
@@ -483,7 +464,7 @@ keyed_given fs slots ns vs t h e = let b = bind_ok (fill plain ns slots) finish 
 structure_given : (fs : Fields) (slots : Slots) (n : Node) (vs : MarkedFields) → IsTame n → AreSlotsOf fs slots → read_structure plain slots n ≡ Ok vs → StructGiven fs vs
 structure_given fs slots (node.array ns) vs t h e = places_given fs slots 0 ns vs t h e
 structure_given fs slots (node.document ns) vs t h e = keyed_given fs slots ns vs t h e
-structure_given fs slots (node.extended x ns) vs t h e = keyed_given fs slots ns vs t h e
+structure_given fs slots (node.extended x ns) vs t h e = keyed_given fs slots ns vs t.1 h e
 structure_given fs slots n vs t h e = absurd cc
 
 -- ---- variants
@@ -508,73 +489,115 @@ variant_given vs name (newtype_content s) v z there f = subst (λ x. IsGiven x (
 variant_given vs name (tuple_content ps) v z there f = subst (λ x. IsGiven x (enumeration vs)) (sym f.1) (ps, there, f.2, z)
 variant_given vs name (struct_content fs) v z there f = subst (λ x. IsGiven x (enumeration vs)) (sym f.1) (fs, there, f.2, z)
 
-enum_given : (vs : Variants) → ((key : Utf8) (n : Node) (v : Marked) → IsTame n → reads_variant vs plain key n ≡ Ok v → VariantGiven (content_of vs key) key v) → (n : Node) (v : Marked) → IsTame n → read_enum plain (reads_unit vs) (reads_variant vs plain) n ≡ Ok v → IsGiven (contents v) (enumeration vs)
-enum_given vs each (node.string p) v t e = unit_given vs p.bytes (content_of vs p.bytes) v refl e
-enum_given vs each (node.document (then_node key n ns)) v t e = let g = each key.bytes n v t.1 e in variant_given vs key.bytes g.0 v t.0.1 g.1 g.2
-enum_given vs each (node.extended x (then_node key n ns)) v t e = let g = each key.bytes n v t.1 e in variant_given vs key.bytes g.0 v t.0.1 g.1 g.2
-enum_given vs each n v t e = absurd cc
-
 option_given : (s : Form) (n : Node) (r : Reading Marked) (v : Marked) → ((w : Marked) → r ≡ Ok w → IsGiven (contents w) s) → reads_option n r ≡ Ok v → IsGiven (contents v) (optional s)
 option_given s node.null r v inner e = subst (λ x. IsGiven (contents x) (optional s)) (ok_is value.none v e) tt
 option_given s n r v inner e = let m = map_ok value.some r v e in subst (λ x. IsGiven (contents x) (optional s)) m.2 (inner m.0 m.1)
 
-mutual
-  pub reads_given : (s : Form) (n : Node) (v : Marked) → IsTame n → reads s plain n ≡ Ok v → IsGiven (contents v) s
-  reads_given (leaf l) n v t e =
-      let b = bind_ok (judged plain n) (read_leaf plain (borrows l) (leaf_kind l)) v e in
-      leaf_given_at l (contents v) (leaf_given (borrows l) (leaf_kind l) n b.0 v t b.1 (after_judged plain n (read_leaf plain (borrows l) (leaf_kind l)) v e))
-  reads_given (optional s) n v t e = option_given s n (reads s plain n) v (λ w h. reads_given s n w t h) e
-  reads_given (newtype name s) n v t e = let m = map_ok (value.newtype (made name)) (reads s plain n) v e in subst (λ x. IsGiven (contents x) (newtype name s)) m.2 (refl, reads_given s n m.0 t m.1)
-  reads_given (unit_structure name) n v t e =
-      let d = bind_ok (judged plain n >>= null_of) (λ _. Ok (value.unit_structure (made name))) v e in
-      subst (λ x. IsGiven (contents x) (unit_structure name)) (ok_is (value.unit_structure (made name)) v d.2) refl
-  reads_given (sequence s) n v t e =
-      let r = array_read plain value.sequence (reads_items (reads s plain) 0) n v t e in
-      subst (λ x. IsGiven (contents x) (sequence s)) r.4 (items_given (reads s plain) s (λ m w q h. reads_given s m w q h) 0 r.0 r.1 r.2 r.3)
-  reads_given (map key s) n v t e =
-      let entries = λ (ns : Nodes). reads_entries (reads_key plain key) (reads s plain) ns no_entries in
-      let d = bind_ok (judged plain n >>= document_of) (λ ns. result_map value.map (entries ns)) v e in
-      let m = map_ok value.map (entries d.0) v d.2 in
-      let tame = document_tame n d.0 t (after_judged plain n document_of d.0 d.1) in
-      let g = entries_so key s (λ k w q h. reads_given s k w q h) d.0 no_entries m.0 tame (tt, tt) m.1 in
-      subst (λ x. IsGiven (contents x) (map key s)) m.2 (g.0, entries_given key s (entry_contents m.0) g.1)
-  reads_given (tuple ps) n v t e =
-      let r = array_read plain value.tuple (reads_parts ps plain 0) n v t e in
-      subst (λ x. IsGiven (contents x) (tuple ps)) r.4 (reads_parts_given ps 0 r.0 r.1 r.2 r.3)
-  reads_given (tuple_structure name ps) n v t e =
-      let r = array_read plain (value.tuple_structure (made name)) (reads_parts ps plain 0) n v t e in
-      subst (λ x. IsGiven (contents x) (tuple_structure name ps)) r.4 (refl, reads_parts_given ps 0 r.0 r.1 r.2 r.3)
-  reads_given (enumeration vs) n v t e = enum_given vs (λ key m w q h. reads_variant_given vs key m w q h) n v t (after_judged plain n (read_enum plain (reads_unit vs) (reads_variant vs plain)) v e)
-  reads_given (structure name fs) n v t e =
-      let read = read_structure plain (slots_of fs plain) in
-      let m = map_ok (value.structure (made name)) (read n) v (after_judged plain n (λ k. result_map (value.structure (made name)) (read k)) v e) in
-      subst (λ x. IsGiven (contents x) (structure name fs)) m.2 (refl, structure_given fs (slots_of fs plain) n m.0 t (slots_given fs) m.1)
+-- ---- at every form
 
-  slots_given : (fs : Fields) → AreSlotsOf fs (slots_of fs plain)
-  slots_given no_fields = tt
-  slots_given (field name s fs) = (record { name_is = refl; missing_is = refl; each = λ n v t e. reads_given s n v t e; value = λ v is. absurd cc }, slots_given fs)
+-- Where what is read at the leaves of extended kinds is given there, what is read at every form is given.
+module _ (at_extended : Mode → ExtendedLeaf → Node → Reading Marked)
+    (each_extended : (k : ExtendedLeaf) (n m : Node) (v : Marked) → IsTame n → judged plain n ≡ Ok m → at_extended plain k n ≡ Ok v → IsGivenExtended k (contents v)) where
+  abbrev reads : Form → Mode → Node → Reading Marked
+  reads = shaped.reads at_extended
 
-  reads_parts_given : (ps : Parts) (i : ℕ) (ns : Nodes) (vs : MarkedItems) → AreTame ns → reads_parts ps plain i ns ≡ Ok vs → PartsGiven (item_contents vs) ps
-  reads_parts_given no_parts i ns vs t e = subst (λ x. PartsGiven (item_contents x) no_parts) (ok_is no_items vs e) tt
-  reads_parts_given (part s ps) i ns vs t e =
-      let r = next_read i (reads s plain) (λ v rest. result_map (item v) (reads_parts ps plain (suc i) rest)) ns vs t e in
-      let m = map_ok (item r.1) (reads_parts ps plain (suc i) r.2) vs r.6 in
-      subst (λ x. PartsGiven (item_contents x) (part s ps)) m.2 (reads_given s r.0 r.1 r.3 r.5, reads_parts_given ps (suc i) r.2 m.0 r.4 m.1)
+  abbrev reads_parts : Parts → Mode → ℕ → Nodes → Reading MarkedItems
+  reads_parts = shaped.reads_parts at_extended
 
-  reads_variant_given : (vs : Variants) (key : Utf8) (n : Node) (v : Marked) → IsTame n → reads_variant vs plain key n ≡ Ok v → VariantGiven (content_of vs key) key v
-  reads_variant_given no_variants key n v t e = absurd cc
-  reads_variant_given (variant name c vs) key n v t e =
-      chosen_given (bytes_eq name key) name key c (content_of vs key) v (reads_content name c plain n) (reads_variant vs plain key n) refl (λ q. reads_content_given name c n v t q) (λ q. reads_variant_given vs key n v t q) e
+  abbrev slots_of : Fields → Mode → Slots
+  slots_of = shaped.slots_of at_extended
 
-  reads_content_given : (name : Utf8) (c : Content) (n : Node) (v : Marked) → IsTame n → reads_content name c plain n ≡ Ok v → ContentGiven name c v
-  reads_content_given name unit_content n v t e = absurd cc
-  reads_content_given name (newtype_content s) n v t e =
-      let m = map_ok (value.newtype_variant (made name)) (reads s plain n) v (under_ok name (result_map (value.newtype_variant (made name)) (reads s plain n)) v e) in
-      (contents m.0, ap contents (sym m.2), reads_given s n m.0 t m.1)
-  reads_content_given name (tuple_content ps) n v t e =
-      let r = array_read plain (value.tuple_variant (made name)) (reads_parts ps plain 0) n v t (under_ok name (judged plain n >>= array_of >>= λ ns. result_map (value.tuple_variant (made name)) (reads_parts ps plain 0 ns)) v e) in
-      (item_contents r.1, ap contents (sym r.4), reads_parts_given ps 0 r.0 r.1 r.2 r.3)
-  reads_content_given name (struct_content fs) n v t e =
-      let read = read_structure plain (slots_of fs plain) in
-      let m = map_ok (value.structure_variant (made name)) (read n) v (after_judged plain n (λ k. result_map (value.structure_variant (made name)) (read k)) v (under_ok name (judged plain n >>= λ k. result_map (value.structure_variant (made name)) (read k)) v e)) in
-      (field_contents m.0, ap contents (sym m.2), structure_given fs (slots_of fs plain) n m.0 t (slots_given fs) m.1)
+  abbrev reads_variant : Variants → Mode → Utf8 → Node → Reading Marked
+  reads_variant = shaped.reads_variant at_extended
+
+  abbrev reads_content : Utf8 → Content → Mode → Node → Reading Marked
+  reads_content = shaped.reads_content at_extended
+
+  leaf_given : (l : Bool) (k : LeafKind) (n m : Node) (v : Marked) → IsTame n → judged plain n ≡ Ok m → read_leaf_with at_extended plain l k n ≡ Ok v → LeafGiven k v
+  leaf_given l anything n m v t j e = any_given n m v t j e
+  leaf_given l ignored n m v t j e = let r = map_ok (λ _. value.unit) (passes plain n) v e in subst (LeafGiven ignored) r.2 tt
+  leaf_given l booleans n m v t j e = let r = map_ok value.boolean (boolean_of n) v e in subst (LeafGiven booleans) r.2 tt
+  leaf_given l (numbers type) n m v t j e = let b = bind_ok (integer_of n) (read_integer type) v e in number_given type b.0 (in_range type b.0) v (integer_fits n b.0 t b.1) refl b.2
+  leaf_given l doubles n m v t j e = let r = map_ok value.double (double_of n) v e in subst (LeafGiven doubles) r.2 (double_sized n r.0 t r.1)
+  leaf_given l characters n m v t j e = character_read n m v j e
+  leaf_given l texts n m v t j e = let r = map_ok value.str (text_of plain l n) v e in subst (LeafGiven texts) r.2 (whole_text l n m r.0 j r.1)
+  leaf_given l byte_strings n m v t j e = let r = map_ok value.bytes (bytes_of plain n) v e in subst (LeafGiven byte_strings) r.2 tt
+  leaf_given l byte_buffers n m v t j e = let r = map_ok (λ b. value.bytes (made b)) (buffer_of plain n) v e in subst (LeafGiven byte_buffers) r.2 tt
+  leaf_given l units n m v t j e = let r = map_ok (λ _. value.unit) (null_of n) v e in subst (LeafGiven units) r.2 tt
+  leaf_given l (extended_values k) n m v t j e = each_extended k n m v t j e
+
+  entries_so : (key s : Form) → EachGiven (reads s plain) s → (ns : Nodes) (es out : MarkedEntries) → AreTame ns → EntriesSo key s es → reads_entries (reads_key plain key) (reads s plain) ns es ≡ Ok out → EntriesSo key s out
+  entries_so key s each ended es out t h e = subst (EntriesSo key s) (ok_is es out e) h
+  entries_so key s each (faulty f) es out t h e = absurd cc
+  entries_so key s each (then_node k n ns) es out t h e =
+      let a = bind_ok (reads_key plain key k) (λ x. under k.bytes (reads s plain n) >>= λ v. reads_entries (reads_key plain key) (reads s plain) ns (put_entry x v es)) out e in
+      let b = bind_ok (under k.bytes (reads s plain n)) (λ v. reads_entries (reads_key plain key) (reads s plain) ns (put_entry a.0 v es)) out a.2 in
+      let there = put_so (IsGivenKey key) (λ v. IsGiven v s) a.0 b.0 es (key_given key k a.0 t.0 a.1) (each n b.0 t.1 (under_ok k.bytes (reads s plain n) b.0 b.1)) h.1 in
+      entries_so key s each ns (put_entry a.0 b.0 es) out t.2 (put_apart a.0 b.0 es h.0, there) b.2
+
+  enum_given : (vs : Variants) → ((key : Utf8) (n : Node) (v : Marked) → IsTame n → reads_variant vs plain key n ≡ Ok v → VariantGiven (content_of vs key) key v) → (n : Node) (v : Marked) → IsTame n → read_enum plain (reads_unit vs) (reads_variant vs plain) n ≡ Ok v → IsGiven (contents v) (enumeration vs)
+  enum_given vs each (node.string p) v t e = unit_given vs p.bytes (content_of vs p.bytes) v refl e
+  enum_given vs each (node.document (then_node key n ns)) v t e = let g = each key.bytes n v t.1 e in variant_given vs key.bytes g.0 v t.0.1 g.1 g.2
+  enum_given vs each (node.extended x (then_node key n ns)) v t e = let g = each key.bytes n v t.1.1 e in variant_given vs key.bytes g.0 v t.1.0.1 g.1 g.2
+  enum_given vs each n v t e = absurd cc
+
+  mutual
+    pub reads_given : (s : Form) (n : Node) (v : Marked) → IsTame n → reads s plain n ≡ Ok v → IsGiven (contents v) s
+    reads_given (leaf l) n v t e =
+        let b = bind_ok (judged plain n) (read_leaf_with at_extended plain (borrows l) (leaf_kind l)) v e in
+        leaf_given_at l (contents v) (leaf_given (borrows l) (leaf_kind l) n b.0 v t b.1 (after_judged plain n (read_leaf_with at_extended plain (borrows l) (leaf_kind l)) v e))
+    reads_given (optional s) n v t e = option_given s n (reads s plain n) v (λ w h. reads_given s n w t h) e
+    reads_given (newtype name s) n v t e = let m = map_ok (value.newtype (made name)) (reads s plain n) v e in subst (λ x. IsGiven (contents x) (newtype name s)) m.2 (refl, reads_given s n m.0 t m.1)
+    reads_given (unit_structure name) n v t e =
+        let d = bind_ok (judged plain n >>= null_of) (λ _. Ok (value.unit_structure (made name))) v e in
+        subst (λ x. IsGiven (contents x) (unit_structure name)) (ok_is (value.unit_structure (made name)) v d.2) refl
+    reads_given (sequence s) n v t e =
+        let r = array_read plain value.sequence (reads_items (reads s plain) 0) n v t e in
+        subst (λ x. IsGiven (contents x) (sequence s)) r.4 (items_given (reads s plain) s (λ m w q h. reads_given s m w q h) 0 r.0 r.1 r.2 r.3)
+    reads_given (map key s) n v t e =
+        let entries = λ (ns : Nodes). reads_entries (reads_key plain key) (reads s plain) ns no_entries in
+        let d = bind_ok (judged plain n >>= document_of) (λ ns. result_map value.map (entries ns)) v e in
+        let m = map_ok value.map (entries d.0) v d.2 in
+        let tame = document_tame n d.0 t (after_judged plain n document_of d.0 d.1) in
+        let g = entries_so key s (λ k w q h. reads_given s k w q h) d.0 no_entries m.0 tame (tt, tt) m.1 in
+        subst (λ x. IsGiven (contents x) (map key s)) m.2 (g.0, entries_given key s (entry_contents m.0) g.1)
+    reads_given (tuple ps) n v t e =
+        let r = array_read plain value.tuple (reads_parts ps plain 0) n v t e in
+        subst (λ x. IsGiven (contents x) (tuple ps)) r.4 (reads_parts_given ps 0 r.0 r.1 r.2 r.3)
+    reads_given (tuple_structure name ps) n v t e =
+        let r = array_read plain (value.tuple_structure (made name)) (reads_parts ps plain 0) n v t e in
+        subst (λ x. IsGiven (contents x) (tuple_structure name ps)) r.4 (refl, reads_parts_given ps 0 r.0 r.1 r.2 r.3)
+    reads_given (enumeration vs) n v t e = enum_given vs (λ key m w q h. reads_variant_given vs key m w q h) n v t (after_judged plain n (read_enum plain (reads_unit vs) (reads_variant vs plain)) v e)
+    reads_given (structure name fs) n v t e =
+        let read = read_structure plain (slots_of fs plain) in
+        let m = map_ok (value.structure (made name)) (read n) v (after_judged plain n (λ k. result_map (value.structure (made name)) (read k)) v e) in
+        subst (λ x. IsGiven (contents x) (structure name fs)) m.2 (refl, structure_given fs (slots_of fs plain) n m.0 t (slots_given fs) m.1)
+
+    slots_given : (fs : Fields) → AreSlotsOf fs (slots_of fs plain)
+    slots_given no_fields = tt
+    slots_given (field name s fs) = (record { name_is = refl; missing_is = refl; each = λ n v t e. reads_given s n v t e; value = λ v is. absurd cc }, slots_given fs)
+
+    reads_parts_given : (ps : Parts) (i : ℕ) (ns : Nodes) (vs : MarkedItems) → AreTame ns → reads_parts ps plain i ns ≡ Ok vs → PartsGiven (item_contents vs) ps
+    reads_parts_given no_parts i ns vs t e = subst (λ x. PartsGiven (item_contents x) no_parts) (ok_is no_items vs e) tt
+    reads_parts_given (part s ps) i ns vs t e =
+        let r = next_read i (reads s plain) (λ v rest. result_map (item v) (reads_parts ps plain (suc i) rest)) ns vs t e in
+        let m = map_ok (item r.1) (reads_parts ps plain (suc i) r.2) vs r.6 in
+        subst (λ x. PartsGiven (item_contents x) (part s ps)) m.2 (reads_given s r.0 r.1 r.3 r.5, reads_parts_given ps (suc i) r.2 m.0 r.4 m.1)
+
+    reads_variant_given : (vs : Variants) (key : Utf8) (n : Node) (v : Marked) → IsTame n → reads_variant vs plain key n ≡ Ok v → VariantGiven (content_of vs key) key v
+    reads_variant_given no_variants key n v t e = absurd cc
+    reads_variant_given (variant name c vs) key n v t e =
+        chosen_given (bytes_eq name key) name key c (content_of vs key) v (reads_content name c plain n) (reads_variant vs plain key n) refl (λ q. reads_content_given name c n v t q) (λ q. reads_variant_given vs key n v t q) e
+
+    reads_content_given : (name : Utf8) (c : Content) (n : Node) (v : Marked) → IsTame n → reads_content name c plain n ≡ Ok v → ContentGiven name c v
+    reads_content_given name unit_content n v t e = absurd cc
+    reads_content_given name (newtype_content s) n v t e =
+        let m = map_ok (value.newtype_variant (made name)) (reads s plain n) v (under_ok name (result_map (value.newtype_variant (made name)) (reads s plain n)) v e) in
+        (contents m.0, ap contents (sym m.2), reads_given s n m.0 t m.1)
+    reads_content_given name (tuple_content ps) n v t e =
+        let r = array_read plain (value.tuple_variant (made name)) (reads_parts ps plain 0) n v t (under_ok name (judged plain n >>= array_of >>= λ ns. result_map (value.tuple_variant (made name)) (reads_parts ps plain 0 ns)) v e) in
+        (item_contents r.1, ap contents (sym r.4), reads_parts_given ps 0 r.0 r.1 r.2 r.3)
+    reads_content_given name (struct_content fs) n v t e =
+        let read = read_structure plain (slots_of fs plain) in
+        let m = map_ok (value.structure_variant (made name)) (read n) v (after_judged plain n (λ k. result_map (value.structure_variant (made name)) (read k)) v (under_ok name (judged plain n >>= λ k. result_map (value.structure_variant (made name)) (read k)) v e)) in
+        (field_contents m.0, ap contents (sym m.2), structure_given fs (slots_of fs plain) n m.0 t (slots_given fs) m.1)

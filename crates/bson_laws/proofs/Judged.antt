@@ -27,11 +27,11 @@ ReadAs {A = A} f r y = (x : A) × (r ≡ Ok x) × (f x ≡ y)
 pub text_whole : (in_input : Bool) (t : Utf8) → is_utf8 t ≡ true → text_fault false (piece in_input t) ≡ None
 text_whole in_input t e = cond-true (is_utf8 t) None (Some NotUtf8) e
 
-both_whole : (o p : Option Error) → o ≡ None → p ≡ None → or_else o p ≡ None
+pub both_whole : (o p : Option Error) → o ≡ None → p ≡ None → or_else o p ≡ None
 both_whole None p e d = d
 both_whole (Some x) p e d = absurd cc
 
-scope_whole : (in_input : Bool) (ps : Pairs) (levels : ℕ) → fault false (one_level EmbeddedDocument (pair_nodes in_input ps) levels) ≡ None
+pub scope_whole : (in_input : Bool) (ps : Pairs) (levels : ℕ) → fault false (one_level EmbeddedDocument (pair_nodes in_input ps) levels) ≡ None
 scope_whole in_input ps zero = refl
 scope_whole in_input ps (suc levels) = refl
 
@@ -51,7 +51,7 @@ whole in_input t levels c = refl
 
 -- ---- levels
 
-level_there : (in_input : Bool) (t : Tree) (levels : ℕ) → depth t ≤ levels → with_level (tree_node in_input t levels) ≡ Ok (tree_node in_input t levels)
+pub level_there : (in_input : Bool) (t : Tree) (levels : ℕ) → depth t ≤ levels → with_level (tree_node in_input t levels) ≡ Ok (tree_node in_input t levels)
 level_there in_input (document ps) zero d = absurd (omega arith)
 level_there in_input (document ps) (suc levels) d = refl
 level_there in_input (array ts) zero d = absurd (omega arith)

@@ -34,3 +34,13 @@ pub mod ReadAgain
 pub mod Examples
 pub mod Bare
 pub mod DatumSpelled
+pub mod DatumContents
+pub mod DatumNormal
+pub mod DateRange
+pub mod ParsedSizes
+pub mod TreesRead
+pub mod GivenTrees
+pub mod GivenExtended
+pub mod GivenAt
+pub mod TreesAgain
+pub mod BareTrees

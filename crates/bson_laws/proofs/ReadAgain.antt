@@ -15,19 +15,24 @@ use Rattle.bson_datum.specs.Refusal.{bare, unreadable}
 use Rattle.bson_datum.specs.Value.{Value, kind_of}
 use Rattle.bson_laws.specs.Judged.{plain}
 use Rattle.bson_laws.specs.Reads.{reads, answered, reads_document}
-use Rattle.bson_laws.specs.Spell.{Writing, at_top, spell, spell_document}
+use Rattle.bson_laws.specs.Spell.{Writing, at_top, spell, spell_document, size}
 use Rattle.bson_laws.proofs.Again.{again}
-use Rattle.bson_laws.proofs.Bare.{tree_bare, reads_bare}
+use Rattle.bson_laws.proofs.Bare.{tree_bare}
+use Rattle.bson_laws.proofs.BareTrees.{reads_bare}
 use Rattle.bson_laws.proofs.Codec.{seen_again}
 use Rattle.bson_laws.proofs.Coded.{IsCoded}
 use Rattle.bson_laws.proofs.Documents.{node_read}
-use Rattle.bson_laws.proofs.Given.{reads_given}
+use Rattle.bson_laws.proofs.GivenAt.{reads_given}
 use Rattle.bson_laws.proofs.ReadBack.{envelope_again}
-use Rattle.bson_laws.proofs.Sizes.{spell_kind}
+use Rattle.bson_laws.proofs.Sizes.{spell_kind, length-spell}
 
 top_ok : (k : ElementType) (r : Writing Tree) (t : Tree) → at_top k r ≡ Ok t → (k ≡ EmbeddedDocument) × (r ≡ Ok t)
 top_ok EmbeddedDocument r t e = (refl, e)
 top_ok k r t e = absurd cc
+
+-- a document takes as many bytes as the size of its value says
+pub document_size : (d : Value) (t : Tree) → spell_document d ≡ Ok t → size d ≡ length (enc t)
+document_size d t e = sym (length-spell false d max_levels t (top_ok (kind_of d) (spell d max_levels) t e).1)
 
 -- a document is read from its bytes as from itself
 coded_read : (s : Form) (t : Tree) (m : Marked) → IsCoded t → kind t ≡ EmbeddedDocument → length (enc t) < 2 ^ 31 → reads s plain (tree_node true t max_levels) ≡ Ok m → reads_document s (enc t) ≡ Ok (contents m)

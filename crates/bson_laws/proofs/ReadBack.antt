@@ -21,7 +21,7 @@ use Rattle.std.specs.Ordering.{int_eq}
 use Rattle.std.proofs.lemmas.Bool.Decides.{Decides-int_eq}
 use Rattle.bson_shape.specs.Form.{Form, leaf, optional, sequence, newtype, unit_structure, map, tuple, tuple_structure, structure, enumeration, Fields, no_fields, field, Parts, no_parts, part, Content, unit_content, newtype_content, tuple_content, struct_content, Variants, no_variants, variant}
 use Rattle.bson_shape.specs.Makers.{has_field, repeats, IsShape, AreShapes, AreParts, AreVariants, IsContent}
-use Rattle.bson_laws.specs.Leaves.{LeafKind, anything, ignored, booleans, numbers, doubles, characters, texts, byte_strings, byte_buffers, units, leaf_kind}
+use Rattle.bson_laws.specs.Leaves.{LeafKind, anything, ignored, booleans, numbers, doubles, characters, texts, byte_strings, byte_buffers, units, extended_values, leaf_kind}
 use Rattle.bson_datum.specs.Value as value
 use Rattle.bson_datum.specs.Value.{IntegerType, in_range, Value, Items, no_items, item, Entries, no_entries, FieldValues, no_field_values, field_value}
 use Rattle.bson_datum.specs.Marked.{Marked, MarkedItems, MarkedFields, contents, item_contents, field_contents}
@@ -30,11 +30,12 @@ use Rattle.bson_datum.specs.Refusal.{under, under_index, bare, unreadable}
 use Rattle.bson_laws.specs.Variants.{content_of}
 use Rattle.bson_laws.specs.Judged.{Reading, plain, refused, judged}
 use Rattle.bson_laws.specs.Taken.{read_character, borrow_or_own, array_of}
-use Rattle.bson_laws.specs.ReadsLeaf.{borrows, read_leaf}
+use Rattle.bson_laws.specs.ReadsLeaf.{borrows, no_extended, read_leaf_with}
 use Rattle.bson_laws.specs.Containers.{reads_items, reads_entries, reads_unit, reads_key, read_enum, reads_option}
 use Rattle.bson_laws.specs.Slots.{Slots, fill, finish, read_structure}
-use Rattle.bson_laws.specs.Reads.{slots_of, reads, reads_parts, reads_variant, reads_content, answered, reads_document}
+use Rattle.bson_laws.specs.Reads.{read_leaf, slots_of, reads, reads_parts, reads_variant, reads_content, answered, reads_document}
 use Rattle.bson_laws.specs.Views.{absent, views_at, one_character, views_leaf, views_leaf_key, views_key, views_items, views_entries, views, views_fields, views_parts, views_variant, views_content}
+use Rattle.bson_laws.proofs.TreesRead.{extended_again}
 use Rattle.bson_laws.proofs.Fitted.{Unnamed, unlike_swap}
 use Rattle.bson_laws.proofs.Numbers.{length_again}
 use Rattle.bson_laws.proofs.Closed.{closed_again}
@@ -93,10 +94,11 @@ leaf_read l byte_buffers (binary zero bs) v levels c d e = (value.bytes (made bs
 leaf_read l byte_buffers t v levels c d e = absurd cc
 leaf_read l units null v levels c d e = (value.unit, refl, some_is value.unit v e)
 leaf_read l units t v levels c d e = absurd cc
+leaf_read l (extended_values k) t v levels c d e = extended_again k t v levels c d e
 
 -- ---- the keys of maps
 
-leaf_key_again : (l : Bool) (k : LeafKind) (key : Utf8) (v : Value) → views_leaf_key k key ≡ Some v → (v ≡ value.str key) × ReadAs contents (read_leaf plain l k (node.string (borrowed key))) (value.str key)
+leaf_key_again : (l : Bool) (k : LeafKind) (key : Utf8) (v : Value) → views_leaf_key k key ≡ Some v → (v ≡ value.str key) × ReadAs contents (read_leaf_with no_extended plain l k (node.string (borrowed key))) (value.str key)
 leaf_key_again l texts key v e = (sym (some_is (value.str key) v e), text_read l key (value.str key) refl)
 leaf_key_again l k key v e = absurd cc
 

@@ -1,25 +1,27 @@
 -- What is given at a shape is written, unless it is too large.
-use Rattle.std.proofs.Common.{◌≡◌, ℕ, ℤ, pos, negsuc, suc, Bool, true, false, cond, Option, Some, Ok, Err, refl, ap, sym, subst, ◌∙◌, arith}
-use Rattle.std.proofs.lemmas.Int.{ints}
-use Rattle.std.specs.Int.{w32, w64}
-use Rattle.std.specs.Prelude.{FitsSigned}
+use Rattle.std.proofs.Common.{◌≡◌, ℕ, zero, suc, Bool, true, false, cond, Option, Some, Ok, Err, ap, sym, subst, ◌∙◌}
 use Rattle.bson_base.specs.Reserved.{reserved_kind}
 use Rattle.bson_base.specs.Text.{Utf8, has_zero}
-use Rattle.bson_base.specs.Tree.{document, array}
+use Rattle.bson_base.specs.Tree as tree
+use Rattle.bson_base.specs.Tree.{Tree, kind, document, array}
 use Rattle.bson_base.specs.declared.element_type.ElementType.TheVariants.{Int32, Int64}
 use Rattle.bson_shape.specs.Form.{Form, leaf, optional, sequence, newtype, unit_structure, map, tuple, tuple_structure, structure, enumeration, Fields, no_fields, field, Parts, no_parts, part, Content, newtype_content, tuple_content, struct_content, Variants, no_variants, variant}
 use Rattle.bson_shape.specs.Makers.{is_reserved_newtype, IsShape, AreShapes, AreParts, AreVariants, IsContent}
 use Rattle.bson_datum.specs.Value as value
 use Rattle.bson_datum.specs.Value.{IntegerType, i8, i16, i32, i64, u8, u16, u32, u64, in_range, written_as, Value, Items, no_items, item, Entries, no_entries, entry, FieldValues, no_field_values, field_value}
 use Rattle.bson_datum.specs.Refusal.{WriteFault, Refusal, at_key, at_index, here, invalid_cstring, under, under_index}
-use Rattle.bson_laws.specs.Leaves.{LeafKind, anything, ignored, booleans, numbers, doubles, characters, texts, byte_strings, byte_buffers, units, leaf_kind}
+use Rattle.bson_laws.specs.Leaves.{LeafKind, anything, ignored, booleans, numbers, doubles, characters, texts, byte_strings, byte_buffers, units, ExtendedLeaf, object_ids, uuids, of_kind, trees, documents, extended_values, leaf_kind}
 use Rattle.bson_laws.specs.Plain.{IsPlainKey}
 use Rattle.bson_laws.specs.Variants.{content_of}
 use Rattle.bson_laws.specs.Spell.{enclosed_at, named, spell_key, spell, spell_items, spell_entries, spell_fields, IsWrittenUnlessLarge}
-use Rattle.bson_laws.specs.Writable.{HasWritableKeys, FieldsHaveWritableKeys, PartsHaveWritableKeys, VariantsHaveWritableKeys, ContentHasWritableKeys}
+use Rattle.bson_laws.specs.Writable.{HoldsNoExpression, IsWritableLeaf, HasWritableKeys, FieldsHaveWritableKeys, PartsHaveWritableKeys, VariantsHaveWritableKeys, ContentHasWritableKeys}
+use Rattle.bson_laws.specs.Datum.{datum, itself}
+use Rattle.bson_laws.proofs.DatumNormal.{same_kind}
+use Rattle.bson_laws.proofs.DatumSpelled.{accepted}
+use Rattle.bson_laws.proofs.GivenTrees.{IsGivenTree, IsGivenExtended}
 use Rattle.bson_laws.proofs.Given.{IsGivenAny, AreGivenItems, AreGivenEntries, IsGivenLeaf, IsGivenLeafKey, IsGivenKey, IsGiven, ItemsGiven, PartsGiven, EntriesGiven, FieldsGiven, given_leaf}
 use Rattle.bson_laws.proofs.Free.{free_spelled, free_struct}
-use Rattle.bson_laws.proofs.Writable.{unless_bind, unless_inside, unless_named, Written, IsSmall, number_written, bytes_written, enclosed_written, variant_written}
+use Rattle.bson_laws.proofs.Writable.{wide_small, short_small, taken, binary_written, unless_bind, unless_inside, unless_named, Written, number_written, bytes_written, enclosed_written, variant_written}
 use Rattle.std.specs.Str.{bytes_eq}
 use Rattle.bson_base.proofs.Outcomes.{some_is}
 
@@ -55,16 +57,6 @@ free_written false f key e = tt
 text_written : (key : Utf8) → has_zero key ≡ false → IsWrittenUnlessLarge (spell_key (value.str key))
 text_written key e = free_written (has_zero key) (here (invalid_cstring key)) key e
 
--- ---- numbers
-
-pub wide_small : (n : ℤ) → FitsSigned w64 n → IsSmall n
-wide_small (pos n) h = grind (arith, ints, h)
-wide_small (negsuc n) h = refl
-
-pub short_small : (n : ℤ) → FitsSigned w32 n → IsSmall n
-short_small (pos n) h = grind (arith, ints, h)
-short_small (negsuc n) h = refl
-
 -- ---- values without a shape
 
 mutual
@@ -91,18 +83,48 @@ mutual
 
 -- ---- leaves and keys
 
-leaf_written : (k : LeafKind) (v : Value) → IsGivenLeaf k v → Written v
-leaf_written anything v g levels = any_written v g levels
-leaf_written ignored value.unit g levels = tt
-leaf_written booleans (value.boolean b) g levels = tt
-leaf_written (numbers type) (value.integer t n) g levels = number_written (written_as t) n (wide_small n g.2)
-leaf_written doubles (value.double bits) g levels = tt
-leaf_written characters (value.character c) g levels = tt
-leaf_written texts (value.str t) g levels = tt
-leaf_written byte_strings (value.bytes bs) g levels = bytes_written bs
-leaf_written byte_buffers (value.bytes bs) g levels = bytes_written bs
-leaf_written units value.unit g levels = tt
-leaf_written k v g levels = absurd g
+-- a tree that is or holds no regular expression
+scalar_written : (t : Tree) → IsGivenTree t → HoldsNoExpression (kind t) → Written (datum itself t)
+scalar_written (tree.double bits) g h levels = tt
+scalar_written (tree.string x) g h levels = tt
+scalar_written (tree.binary zero b) g h levels = bytes_written b
+scalar_written (tree.binary (suc n) b) g h levels = taken (tree.binary (suc n) b) _ (accepted (tree.binary (suc n) b) g) (binary_written (suc n) b)
+scalar_written tree.undefined g h levels = taken tree.undefined _ (accepted tree.undefined tt) tt
+scalar_written (tree.object_id id) g h levels = taken (tree.object_id id) _ (accepted (tree.object_id id) g) tt
+scalar_written (tree.boolean b) g h levels = tt
+scalar_written (tree.date_time n) g h levels = taken (tree.date_time n) _ (accepted (tree.date_time n) g) tt
+scalar_written tree.null g h levels = tt
+scalar_written (tree.db_pointer namespace id) g h levels = taken (tree.db_pointer namespace id) _ (accepted (tree.db_pointer namespace id) (g.1, g.2)) tt
+scalar_written (tree.javascript_code x) g h levels = taken (tree.javascript_code x) _ (accepted (tree.javascript_code x) tt) tt
+scalar_written (tree.symbol x) g h levels = taken (tree.symbol x) _ (accepted (tree.symbol x) tt) tt
+scalar_written (tree.int32 n) g h levels = number_written Int32 n (short_small n g)
+scalar_written (tree.timestamp time increment) g h levels = taken (tree.timestamp time increment) _ (accepted (tree.timestamp time increment) g) tt
+scalar_written (tree.int64 n) g h levels = number_written Int64 n (wide_small n g)
+scalar_written (tree.decimal128 b) g h levels = taken (tree.decimal128 b) _ (accepted (tree.decimal128 b) g) tt
+scalar_written tree.max_key g h levels = taken tree.max_key _ (accepted tree.max_key tt) tt
+scalar_written tree.min_key g h levels = taken tree.min_key _ (accepted tree.min_key tt) tt
+scalar_written t g h levels = absurd h
+
+extended_written : (k : ExtendedLeaf) (v : Value) → IsWritableLeaf (extended_values k) → IsGivenExtended k v → Written v
+extended_written object_ids v c g = subst Written (sym g.2) (scalar_written (tree.object_id g.0) g.1 tt)
+extended_written uuids v c g = subst Written (sym g.2) (λ levels. binary_written 4 g.0)
+extended_written (of_kind k) v c g = subst Written (sym g.3) (scalar_written g.0 g.2 (subst HoldsNoExpression (sym (same_kind (kind g.0) k g.1)) c))
+extended_written trees v c g = absurd c
+extended_written documents v c g = absurd c
+
+leaf_written : (k : LeafKind) (v : Value) → IsWritableLeaf k → IsGivenLeaf k v → Written v
+leaf_written anything v c g levels = any_written v g levels
+leaf_written ignored value.unit c g levels = tt
+leaf_written booleans (value.boolean b) c g levels = tt
+leaf_written (numbers type) (value.integer t n) c g levels = number_written (written_as t) n (wide_small n g.2)
+leaf_written doubles (value.double bits) c g levels = tt
+leaf_written characters (value.character x) c g levels = tt
+leaf_written texts (value.str t) c g levels = tt
+leaf_written byte_strings (value.bytes bs) c g levels = bytes_written bs
+leaf_written byte_buffers (value.bytes bs) c g levels = bytes_written bs
+leaf_written units value.unit c g levels = tt
+leaf_written (extended_values k) v c g levels = extended_written k v c g levels
+leaf_written k v c g levels = absurd g
 
 text_key : (k : Value) → IsGivenLeafKey texts k → IsWrittenUnlessLarge (spell_key k)
 text_key (value.str x) g = text_written x g.1
@@ -129,7 +151,7 @@ content_writable (variant n d vs) name c p w e = chosen_writable (bytes_eq n nam
 
 mutual
   pub written : (v : Value) (s : Form) → IsShape s → HasWritableKeys s → IsGiven v s → Written v
-  written v (leaf l) p c g levels = leaf_written (leaf_kind l) v (given_leaf v l g) levels
+  written v (leaf l) p c g levels = leaf_written (leaf_kind l) v c (given_leaf v l g) levels
   written value.none (optional s) p c g levels = tt
   written (value.some v) (optional s) p c g levels = written v s p.1 c g levels
   written (value.newtype m v) (newtype n s) p c g levels =

@@ -1,12 +1,14 @@
 -- What reading gives is never refused for a number that no Int64 holds.
-use Rattle.std.proofs.Common.{◌≡◌, ℕ, ℤ, zero, suc, List, [], ◌∷◌, Bool, true, false, cond, Option, Some, None, Ok, Err, refl}
+use Rattle.std.proofs.lemmas.Int.{ints}
+use Rattle.std.proofs.Common.{◌≡◌, ℕ, ℤ, pos, zero, suc, ◌<◌, ◌^◌, List, [], Bool, true, false, cond, Option, Some, None, Ok, Err, refl, sym, subst, arith}
 use Rattle.std.specs.Prelude.{length, nat_lt, codes}
 use Rattle.std.specs.Str.{bytes_eq}
 use Rattle.bson_base.specs.Text.{Bytes, Utf8, has_zero}
 use Rattle.bson_base.specs.Outcome.{◌>>=◌, result_map}
 use Rattle.bson_base.specs.Reserved.{reserved_kind}
 use Rattle.bson_base.specs.Sound.{max_binary}
-use Rattle.bson_base.specs.Tree.{Tree, document, array, no_pairs, pair, binary, regular_expression, int64, Pairs, behind_subtype}
+use Rattle.bson_base.specs.Tree as tree
+use Rattle.bson_base.specs.Tree.{Tree, Trees, no_trees, document, array, no_pairs, pair, binary, regular_expression, int64, Pairs, behind_subtype}
 use Rattle.bson_base.specs.declared.element_type.ElementType.{ElementType}
 use Rattle.bson_base.specs.declared.element_type.ElementType.TheVariants.{JavaScriptCodeWithScope, Int32, EmbeddedDocument}
 use Rattle.bson_shape.specs.Form.{Form, leaf, optional, sequence, newtype, unit_structure, map, tuple, tuple_structure, structure, enumeration, Fields, no_fields, field, Parts, no_parts, part}
@@ -15,15 +17,16 @@ use Rattle.bson_datum.specs.Value.{i32, i64, written_as, greatest, uuid_newtype,
 use Rattle.bson_datum.specs.Cause.{binary_too_long}
 use Rattle.bson_datum.specs.Refusal.{Segment, unwritable, here, inside, under, at_key, at_index, under_index, unsigned_exceeds, invalid_cstring}
 use Rattle.bson_laws.specs.Means.{key_text}
-use Rattle.bson_laws.specs.Leaves.{LeafKind, anything, ignored, booleans, numbers, doubles, characters, texts, byte_strings, byte_buffers, units, leaf_kind}
+use Rattle.bson_laws.specs.Leaves.{LeafKind, anything, ignored, booleans, numbers, doubles, characters, texts, byte_strings, byte_buffers, units, ExtendedLeaf, object_ids, uuids, of_kind, trees, documents, extended_values, leaf_kind}
+use Rattle.bson_laws.specs.Datum.{datum, itself, pair_data, tree_data}
 use Rattle.bson_reserved.specs.Unwrap.{Part, unwrap, scoped_code}
 use Rattle.bson_reserved.specs.UuidBytes.{uuid_bytes}
 use Rattle.bson_reserved.specs.Written.{zero_free, with_scope}
 use Rattle.bson_laws.specs.Spell.{Writing, spell_binary, spell_whole, spell_unwrapped, spell_scoped, spell_uuid, struct_at, reserved_at, enclosed_at, variant_at, named, written_key, spell_key, spell_number, spell_as, spell_items_as, spell_entries_as, spell_fields_as, spell_list, spell_part, spell, at_top, HoldsNumbers}
 use Rattle.bson_laws.proofs.Alike.{AreAlike, Both, SameScope, scopes_alike}
 use Rattle.bson_laws.proofs.Given.{IsGivenAny, AreGivenItems, AreGivenEntries, IsGivenLeaf, IsGiven, ItemsGiven, PartsGiven, EntriesGiven, FieldsGiven, given_leaf}
-use Rattle.bson_laws.proofs.Writable.{IsSmall}
-use Rattle.bson_laws.proofs.Rewritten.{wide_small, short_small}
+use Rattle.bson_laws.proofs.GivenTrees.{IsGivenTree, ArePairsGiven, AreTreesGiven, IsGivenExtended}
+use Rattle.bson_laws.proofs.Writable.{IsSmall, wide_small, short_small}
 
 -- ---- values whose numbers an Int64 holds
 
@@ -222,6 +225,49 @@ mutual
   any_entries_signed no_entries g = tt
   any_entries_signed (entry k v es) g = (any_signed v g.1, any_entries_signed es g.2)
 
+word_small : (n : ℕ) → n < 2 ^ 32 → IsSmall (pos n)
+word_small n h = grind (arith, ints, h)
+
+mutual
+  tree_signed : (t : Tree) → IsGivenTree t → AreSigned (datum itself t)
+  tree_signed (tree.double bits) g = tt
+  tree_signed (tree.string x) g = tt
+  tree_signed (tree.document ps) g = pairs_signed ps g
+  tree_signed (tree.array ts) g = trees_signed ts g
+  tree_signed (tree.binary zero b) g = tt
+  tree_signed (tree.binary (suc n) b) g = ((tt, (tt, tt)), tt)
+  tree_signed tree.undefined g = (tt, tt)
+  tree_signed (tree.object_id id) g = (tt, tt)
+  tree_signed (tree.boolean b) g = tt
+  tree_signed (tree.date_time n) g = ((tt, tt), tt)
+  tree_signed tree.null g = tt
+  tree_signed (tree.regular_expression p q) g = ((tt, (tt, tt)), tt)
+  tree_signed (tree.db_pointer namespace id) g = ((tt, ((tt, tt), tt)), tt)
+  tree_signed (tree.javascript_code x) g = (tt, tt)
+  tree_signed (tree.symbol x) g = (tt, tt)
+  tree_signed (tree.javascript_code_with_scope code scope) g = (tt, (pairs_signed scope g.1, tt))
+  tree_signed (tree.int32 n) g = short_small n g
+  tree_signed (tree.timestamp time increment) g = ((word_small time g.0, (word_small increment g.1, tt)), tt)
+  tree_signed (tree.int64 n) g = wide_small n g
+  tree_signed (tree.decimal128 b) g = (tt, tt)
+  tree_signed tree.max_key g = (refl, tt)
+  tree_signed tree.min_key g = (refl, tt)
+
+  pairs_signed : (ps : Pairs) → ArePairsGiven ps → EntriesSigned (pair_data itself ps)
+  pairs_signed no_pairs g = tt
+  pairs_signed (pair key t ps) g = (tree_signed t g.3, pairs_signed ps g.4)
+
+  trees_signed : (ts : Trees) → AreTreesGiven ts → ItemsSigned (tree_data itself ts)
+  trees_signed no_trees g = tt
+  trees_signed (tree.tree t ts) g = (tree_signed t g.0, trees_signed ts g.1)
+
+extended_signed : (k : ExtendedLeaf) (v : Value) → IsGivenExtended k v → AreSigned v
+extended_signed object_ids v g = subst AreSigned (sym g.2) (tree_signed (tree.object_id g.0) g.1)
+extended_signed uuids v g = subst AreSigned (sym g.2) (tt, tt)
+extended_signed (of_kind k) v g = subst AreSigned (sym g.3) (tree_signed g.0 g.2)
+extended_signed trees v g = subst AreSigned (sym g.2) (tree_signed g.0 g.1)
+extended_signed documents v g = subst AreSigned (sym g.2) (tree_signed (tree.document g.0) g.1)
+
 leaf_signed : (k : LeafKind) (v : Value) → IsGivenLeaf k v → AreSigned v
 leaf_signed anything v g = any_signed v g
 leaf_signed ignored value.unit g = tt
@@ -233,6 +279,7 @@ leaf_signed texts (value.str t) g = tt
 leaf_signed byte_strings (value.bytes bs) g = tt
 leaf_signed byte_buffers (value.bytes bs) g = tt
 leaf_signed units value.unit g = tt
+leaf_signed (extended_values k) v g = extended_signed k v g
 leaf_signed k v g = absurd g
 
 mutual

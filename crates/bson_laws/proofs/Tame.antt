@@ -1,10 +1,11 @@
 -- The nodes of which everything that is read can be written: the keys are texts without a zero, and numbers have the size of their kinds.
-use Rattle.std.proofs.Common.{◌≡◌, length, Option, Some, None, Ok, ap, sym, subst, ◌∙◌}
+use Rattle.std.proofs.Common.{◌≡◌, ◌<◌, ◌^◌, length, Option, Some, None, Ok, ap, sym, subst, ◌∙◌}
 use Rattle.std.specs.Int.{w32, w64}
 use Rattle.std.specs.Prelude.{FitsSigned}
 use Rattle.bson_base.specs.Outcome.{◌>>=◌}
+use Rattle.bson_base.specs.Text.{AreBytes}
 use Rattle.bson_base.proofs.Outcomes.{ok_is, bind_ok}
-use Rattle.bson_rawdoc.specs.Node.{Node, double, document, array, int32, int64, extended, too_deep, Nodes, ended, faulty, then_node, fault}
+use Rattle.bson_rawdoc.specs.Node.{Node, double, bytes, binary, document, array, int32, int64, extended, too_deep, Extended, object_id, date_time, db_pointer, javascript_code_with_scope, timestamp, decimal128, Nodes, ended, faulty, then_node, fault}
 use Rattle.bson_rawdoc.specs.declared.raw.Error.{Error}
 use Rattle.bson_laws.specs.Judged.{Reading, Mode, with_level, faultless, judged}
 use Rattle.bson_laws.specs.Taken.{document_of, array_of}
@@ -15,10 +16,22 @@ abbrev mutual
   IsTame (double bits) = length bits ≡ 8
   IsTame (int32 n) = FitsSigned w32 n
   IsTame (int64 n) = FitsSigned w64 n
+  IsTame (bytes b) = AreBytes b.bytes
   IsTame (document ns) = AreTame ns
   IsTame (array ns) = AreTame ns
-  IsTame (extended x ns) = AreTame ns
+  IsTame (extended x ns) = IsTameValue x × AreTame ns
   IsTame n = Unit {0}
+
+  -- the parts of an extended value
+  pub IsTameValue : Extended → Type 0
+  IsTameValue (binary subtype b) = (subtype < 256) × AreBytes b.bytes
+  IsTameValue (object_id id) = (length id.bytes ≡ 12) × AreBytes id.bytes
+  IsTameValue (date_time n) = FitsSigned w64 n
+  IsTameValue (db_pointer namespace id) = (length id ≡ 12) × AreBytes id
+  IsTameValue (javascript_code_with_scope code scope) = IsTame scope
+  IsTameValue (timestamp time increment) = (time < 2 ^ 32) × (increment < 2 ^ 32)
+  IsTameValue (decimal128 b) = (length b ≡ 16) × AreBytes b
+  IsTameValue x = Unit {0}
 
   pub AreTame : Nodes → Type 0
   AreTame ended = Unit {0}
@@ -50,7 +63,7 @@ judged_then mode n read x e = let j = bind_ok (judged mode n) (λ _. read n) x e
 
 pub document_tame : (n : Node) (ns : Nodes) → IsTame n → document_of n ≡ Ok ns → AreTame ns
 document_tame (document ms) ns t e = subst AreTame (ok_is ms ns e) t
-document_tame (extended x ms) ns t e = subst AreTame (ok_is ms ns e) t
+document_tame (extended x ms) ns t e = subst AreTame (ok_is ms ns e) t.1
 document_tame n ns t e = absurd cc
 
 pub array_tame : (n : Node) (ns : Nodes) → IsTame n → array_of n ≡ Ok ns → AreTame ns

@@ -1,20 +1,22 @@
 -- What a clean tree is at a shape fits the shape, and is its own normal form.
 use Rattle.std.proofs.Common.{◌≡◌, ℕ, zero, [], ◌∷◌, List, Bool, true, false, cond, Option, Some, None, Ok, Err, refl, ap, sym, subst, ◌∙◌, arith, ℤ, pos, negsuc}
-use Rattle.std.specs.Prelude.{FitsSigned, option_map, option_and_then}
+use Rattle.std.specs.Prelude.{FitsSigned, ◌&&◌, nat_eq, length, option_map, option_and_then}
 use Rattle.std.specs.Result.{result_ok}
 use Rattle.std.specs.Int.{w32, w64}
 use Rattle.std.specs.Char.{IsScalar}
 use Rattle.std.specs.Str.{bytes_eq, is_utf8, chars}
 use Rattle.std.proofs.Math.Bool.{and-true}
 use Rattle.std.proofs.Math.Utf8.{scalar, scalars}
+use Rattle.std.proofs.lemmas.Bool.Decides.{nat_tests}
 use Rattle.std.proofs.lemmas.Int.{ints}
 use Rattle.std.proofs.lemmas.Str.{scalars-chars, IsUtf8-from_is_utf8}
 use Rattle.bson_base.specs.Reserved.{reserved_kind}
 use Rattle.bson_base.specs.Pairs.{lookup}
-use Rattle.bson_base.specs.Text.{Utf8}
+use Rattle.bson_base.specs.Kind.{byte}
+use Rattle.bson_base.specs.Text.{Bytes, Utf8, AreBytes}
 use Rattle.bson_base.specs.Sound.{IsClean, ArePairsClean, AreTreesClean}
 use Rattle.bson_base.specs.Tree as tree
-use Rattle.bson_base.specs.Tree.{Tree, double, string, boolean, binary, null, int32, int64, document, array, Pairs, no_pairs, pair, Trees, no_trees}
+use Rattle.bson_base.specs.Tree.{Tree, kind, double, string, boolean, binary, null, int32, int64, document, array, Pairs, no_pairs, pair, Trees, no_trees}
 use Rattle.bson_base.specs.declared.element_type.ElementType.{ElementType}
 use Rattle.bson_base.specs.declared.element_type.ElementType.TheVariants.{JavaScriptCodeWithScope, Int32, Null}
 use Rattle.bson_base.proofs.Outcomes.{some_is, some_map, some_then}
@@ -22,17 +24,22 @@ use Rattle.bson_shape.specs.Form.{Form, leaf, optional, sequence, newtype, unit_
 use Rattle.bson_datum.specs.Value as value
 use Rattle.bson_datum.specs.Value.{IntegerType, i32, i64, in_range, written_as, Value, Items, no_items, item, Entries, no_entries, entry, FieldValues, no_field_values, field_value}
 use Rattle.bson_datum.specs.Cause.{out_of_range}
-use Rattle.bson_laws.specs.Leaves.{LeafKind, anything, ignored, booleans, numbers, doubles, characters, texts, byte_strings, byte_buffers, units, leaf_kind}
+use Rattle.bson_laws.specs.Leaves.{LeafKind, anything, ignored, booleans, numbers, doubles, characters, texts, byte_strings, byte_buffers, units, ExtendedLeaf, object_ids, uuids, of_kind, trees, documents, extended_values, leaf_kind}
+use Rattle.bson_laws.specs.Datum.{datum, itself, uuid_datum, sorted_tree}
 use Rattle.bson_laws.specs.Judged.{refused}
 use Rattle.bson_laws.specs.Variants.{content_of}
-use Rattle.bson_laws.specs.Views.{one_character, views_any, views_any_items, views_any_entries, views_leaf, views_leaf_key, views_items, views_key, views_entries, absent, views_at, views, views_fields, views_parts, views_variant, views_content}
+use Rattle.bson_laws.specs.Views.{views_extended, one_character, views_any, views_any_items, views_any_entries, views_leaf, views_leaf_key, views_items, views_key, views_entries, absent, views_at, views, views_fields, views_parts, views_variant, views_content}
 use Rattle.bson_reserved.specs.Unwrap.{unwrap, scoped_code}
 use Rattle.bson_reserved.specs.Written.{with_scope}
 use Rattle.bson_laws.specs.Spell.{Writing, spell_whole}
 use Rattle.bson_laws.specs.Means.{number_of, some_or_none, under_name, reserved_means, struct_means, means_list, means, means_items, means_entries, means_fields, norm, norm_items, norm_entries, norm_fields}
-use Rattle.bson_laws.specs.Fits.{IsText, IsAny, AreAnyItems, AreAnyEntries, FitsLeaf, FitsLeafKey, FitsKey, Fits, ItemsFit, PartsFit, EntriesFit, FieldsFit}
+use Rattle.bson_laws.specs.Fits.{IsTreeValue, IsValueOfKind, IsUuidValue, FitsExtended, IsText, IsAny, AreAnyItems, AreAnyEntries, FitsLeaf, FitsLeafKey, FitsKey, Fits, ItemsFit, PartsFit, EntriesFit, FieldsFit}
 use Rattle.bson_laws.proofs.Sizes.{unwrap_kind, whole_kind}
 use Rattle.bson_laws.proofs.Spelled.{newtype_meant}
+use Rattle.bson_laws.proofs.DatumContents.{sorted_kind}
+use Rattle.bson_laws.proofs.DatumNormal.{same_kind, clean_in_range, sorted_in_range, tree_sorted_twice, datum_norm, datum_means}
+use Rattle.bson_laws.specs.Plain.{IsPlain, AreFieldsPlain, ArePartsPlain, AreVariantsPlain, IsContentPlain}
+use Rattle.bson_laws.proofs.Free.{free_norm, free_struct_name}
 use Rattle.bson_laws.proofs.Fitting.{leaf_fits}
 use Rattle.bson_laws.proofs.Variants.{unit_is, chosen_holds, FitsContent, FitsVariant, chosen_fits, variant_fits}
 
@@ -88,6 +95,29 @@ mutual
 
 -- ---- leaves
 
+-- the value of a clean tree with its options sorted
+abbrev sorted_value : (t : Tree) (v : Value) → IsClean t → Some (datum itself (sorted_tree t)) ≡ Some v → IsTreeValue v
+sorted_value t v c e = record { tree = sorted_tree t; ranges = sorted_in_range t (clean_in_range t c); is_datum = some_is (datum itself (sorted_tree t)) v e }
+
+kind_taken : (b : Bool) (k : ElementType) (t : Tree) (v : Value) → IsClean t → nat_eq (byte (kind t)) (byte k) ≡ b → cond b (Some (datum itself (sorted_tree t))) None ≡ Some v → IsValueOfKind k v
+kind_taken true k t v c is e = record { of_tree = sorted_value t v c e; has_kind = sorted_kind t ∙ same_kind (kind t) k is }
+kind_taken false k t v c is e = absurd cc
+
+uuid_taken : (a b : Bool) (bs : Bytes) (v : Value) → AreBytes bs → nat_eq (length bs) 16 ≡ b → cond (a && b) (Some (uuid_datum itself bs)) None ≡ Some v → IsUuidValue v
+uuid_taken true true bs v h is e = record { id = bs; sixteen = record { are_bytes = h; count = grind (arith, nat_tests, is) }; is_datum = some_is (uuid_datum itself bs) v e }
+uuid_taken true false bs v h is e = absurd cc
+uuid_taken false b bs v h is e = absurd cc
+
+extended_taken : (k : ExtendedLeaf) (t : Tree) (v : Value) → IsClean t → views_extended k t ≡ Some v → FitsExtended k v
+extended_taken object_ids (tree.object_id id) v c e = record { of_tree = sorted_value (tree.object_id id) v c e; has_kind = refl }
+extended_taken object_ids t v c e = absurd cc
+extended_taken uuids (binary n b) v c e = uuid_taken (nat_eq n 4) (nat_eq (length b) 16) b v c.are_bytes refl e
+extended_taken uuids t v c e = absurd cc
+extended_taken (of_kind k) t v c e = kind_taken (nat_eq (byte (kind t)) (byte k)) k t v c refl e
+extended_taken trees t v c e = sorted_value t v c e
+extended_taken documents (document ps) v c e = record { of_tree = sorted_value (document ps) v c e; has_kind = refl }
+extended_taken documents t v c e = absurd cc
+
 leaf_taken : (k : LeafKind) (t : Tree) (v : Value) → IsClean t → views_leaf k t ≡ Some v → FitsLeaf k v
 leaf_taken anything t v c e = any_fits t v c e
 leaf_taken ignored t v c e = absurd cc
@@ -110,6 +140,7 @@ leaf_taken byte_buffers (binary zero bs) v c e = subst (FitsLeaf byte_buffers) (
 leaf_taken byte_buffers t v c e = absurd cc
 leaf_taken units null v c e = subst (FitsLeaf units) (some_is value.unit v e) tt
 leaf_taken units t v c e = absurd cc
+leaf_taken (extended_values k) t v c e = extended_taken k t v c e
 
 -- ---- options and missing fields
 
@@ -284,26 +315,57 @@ mutual
       let b = some_map (entry (value.str key) a.0) (views_any_entries ps) es a.2 in
       subst (λ x. norm_entries x ≡ x) b.2 (λ i. entry (value.str key) ((any_normal t a.0 a.1).0 i) (any_entries_normal ps b.0 b.1 i))
 
-leaf_normal : (k : LeafKind) (t : Tree) (v : Value) → views_leaf k t ≡ Some v → IsNormal t v
-leaf_normal anything t v e = any_normal t v e
-leaf_normal ignored t v e = absurd cc
-leaf_normal booleans (boolean b) v e = subst (IsNormal (boolean b)) (some_is (value.boolean b) v e) (refl, λ h. absurd cc)
-leaf_normal booleans t v e = absurd cc
-leaf_normal (numbers type) (int32 n) v e = number_normal type n (int32 n) v e
-leaf_normal (numbers type) (int64 n) v e = number_normal type n (int64 n) v e
-leaf_normal (numbers type) t v e = absurd cc
-leaf_normal doubles (double bits) v e = subst (IsNormal (double bits)) (some_is (value.double bits) v e) (refl, λ h. absurd cc)
-leaf_normal doubles t v e = absurd cc
-leaf_normal characters (string t) v e = let m = some_map value.character (one_character (chars t)) v e in subst (IsNormal (string t)) m.2 (refl, λ h. absurd cc)
-leaf_normal characters t v e = absurd cc
-leaf_normal texts (string t) v e = subst (IsNormal (string t)) (some_is (value.str t) v e) (refl, λ h. absurd cc)
-leaf_normal texts t v e = absurd cc
-leaf_normal byte_strings (binary zero bs) v e = subst (IsNormal (binary zero bs)) (some_is (value.bytes bs) v e) (refl, λ h. absurd cc)
-leaf_normal byte_strings t v e = absurd cc
-leaf_normal byte_buffers (binary zero bs) v e = subst (IsNormal (binary zero bs)) (some_is (value.bytes bs) v e) (refl, λ h. absurd cc)
-leaf_normal byte_buffers t v e = absurd cc
-leaf_normal units null v e = subst (IsNormal null) (some_is value.unit v e) (refl, λ h. refl)
-leaf_normal units t v e = absurd cc
+-- only null is null once its options are sorted
+null_sorted : (t : Tree) → sorted_tree (sorted_tree t) ≡ null → t ≡ null
+null_sorted null e = refl
+null_sorted t e = absurd (let is : kind t ≡ Null = sym (sorted_kind t) ∙ sym (sorted_kind (sorted_tree t)) ∙ ap kind e in cc)
+
+sorted_normal : (t : Tree) (v : Value) → IsClean t → Some (datum itself (sorted_tree t)) ≡ Some v → IsNormal t v
+sorted_normal t v c e =
+    let r = clean_in_range t c in
+    subst (IsNormal t) (some_is (datum itself (sorted_tree t)) v e)
+    (datum_norm (sorted_tree t) ∙ ap (datum itself) (tree_sorted_twice t r), λ h. null_sorted t (sym (datum_means (sorted_tree t) null (sorted_in_range t r) h)))
+
+kind_normal : (b : Bool) (t : Tree) (v : Value) → IsClean t → cond b (Some (datum itself (sorted_tree t))) None ≡ Some v → IsNormal t v
+kind_normal true t v c e = sorted_normal t v c e
+kind_normal false t v c e = absurd cc
+
+uuid_normal : (a b : Bool) (t : Tree) (bs : Bytes) (v : Value) → cond (a && b) (Some (uuid_datum itself bs)) None ≡ Some v → IsNormal t v
+uuid_normal true true t bs v e = subst (IsNormal t) (some_is (uuid_datum itself bs) v e) (refl, λ h. absurd cc)
+uuid_normal true false t bs v e = absurd cc
+uuid_normal false b t bs v e = absurd cc
+
+extended_normal : (k : ExtendedLeaf) (t : Tree) (v : Value) → IsClean t → views_extended k t ≡ Some v → IsNormal t v
+extended_normal object_ids (tree.object_id id) v c e = sorted_normal (tree.object_id id) v c e
+extended_normal object_ids t v c e = absurd cc
+extended_normal uuids (binary n b) v c e = uuid_normal (nat_eq n 4) (nat_eq (length b) 16) (binary n b) b v e
+extended_normal uuids t v c e = absurd cc
+extended_normal (of_kind k) t v c e = kind_normal (nat_eq (byte (kind t)) (byte k)) t v c e
+extended_normal trees t v c e = sorted_normal t v c e
+extended_normal documents (document ps) v c e = sorted_normal (document ps) v c e
+extended_normal documents t v c e = absurd cc
+
+leaf_normal : (k : LeafKind) (t : Tree) (v : Value) → IsClean t → views_leaf k t ≡ Some v → IsNormal t v
+leaf_normal anything t v c e = any_normal t v e
+leaf_normal ignored t v c e = absurd cc
+leaf_normal booleans (boolean b) v c e = subst (IsNormal (boolean b)) (some_is (value.boolean b) v e) (refl, λ h. absurd cc)
+leaf_normal booleans t v c e = absurd cc
+leaf_normal (numbers type) (int32 n) v c e = number_normal type n (int32 n) v e
+leaf_normal (numbers type) (int64 n) v c e = number_normal type n (int64 n) v e
+leaf_normal (numbers type) t v c e = absurd cc
+leaf_normal doubles (double bits) v c e = subst (IsNormal (double bits)) (some_is (value.double bits) v e) (refl, λ h. absurd cc)
+leaf_normal doubles t v c e = absurd cc
+leaf_normal characters (string t) v c e = let m = some_map value.character (one_character (chars t)) v e in subst (IsNormal (string t)) m.2 (refl, λ h. absurd cc)
+leaf_normal characters t v c e = absurd cc
+leaf_normal texts (string t) v c e = subst (IsNormal (string t)) (some_is (value.str t) v e) (refl, λ h. absurd cc)
+leaf_normal texts t v c e = absurd cc
+leaf_normal byte_strings (binary zero bs) v c e = subst (IsNormal (binary zero bs)) (some_is (value.bytes bs) v e) (refl, λ h. absurd cc)
+leaf_normal byte_strings t v c e = absurd cc
+leaf_normal byte_buffers (binary zero bs) v c e = subst (IsNormal (binary zero bs)) (some_is (value.bytes bs) v e) (refl, λ h. absurd cc)
+leaf_normal byte_buffers t v c e = absurd cc
+leaf_normal units null v c e = subst (IsNormal null) (some_is value.unit v e) (refl, λ h. refl)
+leaf_normal units t v c e = absurd cc
+leaf_normal (extended_values k) t v c e = extended_normal k t v c e
 
 -- some value that does not mean null stays
 stays : (o : Option Tree) (v : Value) → (o ≡ Some null → ⊥) → some_or_none o v ≡ value.some v
@@ -321,9 +383,9 @@ absent_normal : (s : Form) (v : Value) → absent s ≡ Some v → norm v ≡ v
 absent_normal (optional s) v e = subst (λ x. norm x ≡ x) (some_is value.none v e) refl
 absent_normal s v e = absurd cc
 
-field_normal : (s : Form) (o : Option Tree) (v : Value) → ((t : Tree) → views s t ≡ Some v → IsNormal t v) → views_at (views s) (absent s) o ≡ Some v → norm v ≡ v
+field_normal : (s : Form) (o : Option Tree) (v : Value) → ((t : Tree) → o ≡ Some t → views s t ≡ Some v → IsNormal t v) → views_at (views s) (absent s) o ≡ Some v → norm v ≡ v
 field_normal s None v found e = absent_normal s v e
-field_normal s (Some t) v found e = (found t e).0
+field_normal s (Some t) v found e = (found t refl e).0
 
 ok_of : (r : Writing Tree) (t : Tree) → result_ok r ≡ Some t → r ≡ Ok t
 ok_of (Ok u) t e = ap Ok (some_is u t e)
@@ -357,12 +419,12 @@ no_structure name vs e = no_struct (reserved_kind name) vs (scoped_code (means_l
 null_newtype : (name : Utf8) (v : Value) → means (value.newtype name v) ≡ Some null → means v ≡ Some null
 null_newtype name v e = newtype_meant name v null e (λ is bs u same. absurd cc) (λ free m. m)
 
-items_normal : (s : Form) → ((t : Tree) (v : Value) → views s t ≡ Some v → IsNormal t v) → (ts : Trees) (vs : Items) → views_items (views s) ts ≡ Some vs → norm_items vs ≡ vs
-items_normal s each no_trees vs e = subst (λ x. norm_items x ≡ x) (some_is no_items vs e) refl
-items_normal s each (tree.tree t ts) vs e =
+items_normal : (s : Form) → ((t : Tree) (v : Value) → IsClean t → views s t ≡ Some v → IsNormal t v) → (ts : Trees) (vs : Items) → AreTreesClean ts → views_items (views s) ts ≡ Some vs → norm_items vs ≡ vs
+items_normal s each no_trees vs c e = subst (λ x. norm_items x ≡ x) (some_is no_items vs e) refl
+items_normal s each (tree.tree t ts) vs c e =
     let a = some_then (λ v. option_map (item v) (views_items (views s) ts)) (views s t) vs e in
     let b = some_map (item a.0) (views_items (views s) ts) vs a.2 in
-    subst (λ x. norm_items x ≡ x) b.2 (λ i. item ((each t a.0 a.1).0 i) (items_normal s each ts b.0 b.1 i))
+    subst (λ x. norm_items x ≡ x) b.2 (λ i. item ((each t a.0 c.0 a.1).0 i) (items_normal s each ts b.0 c.1 b.1 i))
 
 leaf_key_normal : (k : LeafKind) (key : Utf8) (v : Value) → views_leaf_key k key ≡ Some v → norm v ≡ v
 leaf_key_normal texts key v e = subst (λ x. norm x ≡ x) (some_is (value.str key) v e) refl
@@ -373,13 +435,13 @@ key_normal (leaf l) key v e = leaf_key_normal (leaf_kind l) key v e
 key_normal (enumeration vs) key v e = subst (λ x. norm x ≡ x) (sym (unit_is key (content_of vs key) v e).1) refl
 key_normal s key v e = absurd cc
 
-entries_normal : (key s : Form) → ((t : Tree) (v : Value) → views s t ≡ Some v → IsNormal t v) → (ps : Pairs) (es : Entries) → views_entries (views_key key) (views s) ps ≡ Some es → norm_entries es ≡ es
-entries_normal key s each no_pairs es e = subst (λ x. norm_entries x ≡ x) (some_is no_entries es e) refl
-entries_normal key s each (pair name t ps) es e =
+entries_normal : (key s : Form) → ((t : Tree) (v : Value) → IsClean t → views s t ≡ Some v → IsNormal t v) → (ps : Pairs) (es : Entries) → ArePairsClean ps → views_entries (views_key key) (views s) ps ≡ Some es → norm_entries es ≡ es
+entries_normal key s each no_pairs es c e = subst (λ x. norm_entries x ≡ x) (some_is no_entries es e) refl
+entries_normal key s each (pair name t ps) es c e =
     let a = some_then (λ k. option_and_then (λ v. option_map (entry k v) (views_entries (views_key key) (views s) ps)) (views s t)) (views_key key name) es e in
     let b = some_then (λ v. option_map (entry a.0 v) (views_entries (views_key key) (views s) ps)) (views s t) es a.2 in
     let m = some_map (entry a.0 b.0) (views_entries (views_key key) (views s) ps) es b.2 in
-    subst (λ x. norm_entries x ≡ x) m.2 (λ i. entry (key_normal key name a.0 a.1 i) ((each t b.0 b.1).0 i) (entries_normal key s each ps m.0 m.1 i))
+    subst (λ x. norm_entries x ≡ x) m.2 (λ i. entry (key_normal key name a.0 a.1 i) ((each t b.0 c.2 b.1).0 i) (entries_normal key s each ps m.0 c.3 m.1 i))
 
 -- the value is its own normal form, and does not mean null
 abbrev IsVariantNormal : Value → Type 0
@@ -390,73 +452,73 @@ no_variant : {A : Type 0} (wrap : A → Tree) (name : Utf8) (o : Option A) → o
 no_variant wrap name o e = let m = some_map (λ x. under_name name (wrap x)) o null e in absurd cc
 
 mutual
-  views_normal : (s : Form) (t : Tree) (v : Value) → views s t ≡ Some v → IsNormal t v
-  views_normal (leaf l) t v e = leaf_normal (leaf_kind l) t v e
-  views_normal (optional s) t v e = option_normal s t v (λ w h. views_normal s t w h) e
-  views_normal (newtype name s) t v e =
+  views_normal : (s : Form) (t : Tree) (v : Value) → IsPlain s → IsClean t → views s t ≡ Some v → IsNormal t v
+  views_normal (leaf l) t v p c e = leaf_normal (leaf_kind l) t v c e
+  views_normal (optional s) t v p c e = option_normal s t v (λ w h. views_normal s t w p c h) e
+  views_normal (newtype name s) t v p c e =
       let m = some_map (value.newtype name) (views s t) v e in
-      let inner = views_normal s t m.0 m.1 in
+      let inner = views_normal s t m.0 p.1 c m.1 in
       subst (IsNormal t) m.2 (ap (value.newtype name) inner.0, λ h. inner.1 (null_newtype name m.0 h))
-  views_normal (unit_structure name) null v e = subst (IsNormal null) (some_is (value.unit_structure name) v e) (refl, λ h. refl)
-  views_normal (unit_structure name) t v e = absurd cc
-  views_normal (sequence s) (array ts) v e =
+  views_normal (unit_structure name) null v p c e = subst (IsNormal null) (some_is (value.unit_structure name) v e) (refl, λ h. refl)
+  views_normal (unit_structure name) t v p c e = absurd cc
+  views_normal (sequence s) (array ts) v p c e =
       let b = some_map value.sequence (views_items (views s) ts) v e in
-      subst (IsNormal (array ts)) b.2 (ap value.sequence (items_normal s (λ t w. views_normal s t w) ts b.0 b.1), λ h. absurd (no_sequence b.0 h))
-  views_normal (sequence s) t v e = absurd cc
-  views_normal (map key s) (document ps) v e =
+      subst (IsNormal (array ts)) b.2 (ap value.sequence (items_normal s (λ t w. views_normal s t w p) ts b.0 c b.1), λ h. absurd (no_sequence b.0 h))
+  views_normal (sequence s) t v p c e = absurd cc
+  views_normal (map key s) (document ps) v p c e =
       let b = some_map value.map (views_entries (views_key key) (views s) ps) v e in
-      subst (IsNormal (document ps)) b.2 (ap value.map (entries_normal key s (λ t w. views_normal s t w) ps b.0 b.1), λ h. absurd (no_map b.0 h))
-  views_normal (map key s) t v e = absurd cc
-  views_normal (structure name fs) (document ps) v e =
+      subst (IsNormal (document ps)) b.2 (ap value.map (entries_normal key s (λ t w. views_normal s t w p.2) ps b.0 c b.1), λ h. absurd (no_map b.0 h))
+  views_normal (map key s) t v p c e = absurd cc
+  views_normal (structure name fs) (document ps) v p c e =
       let b = some_map (value.structure name) (views_fields fs ps) v e in
-      subst (IsNormal (document ps)) b.2 (ap (value.structure name) (fields_normal fs ps b.0 b.1), λ h. absurd (no_structure name b.0 h))
-  views_normal (structure name fs) t v e = absurd cc
-  views_normal (tuple ps) (array ts) v e =
+      subst (IsNormal (document ps)) b.2 (free_norm name b.0 (free_struct_name name p.0) ∙ ap (value.structure name) (fields_normal fs ps b.0 p.1 c b.1), λ h. absurd (no_structure name b.0 h))
+  views_normal (structure name fs) t v p c e = absurd cc
+  views_normal (tuple ps) (array ts) v p c e =
       let b = some_map value.tuple (views_parts ps ts) v e in
-      subst (IsNormal (array ts)) b.2 (ap value.tuple (parts_normal ps ts b.0 b.1), λ h. absurd (no_sequence b.0 h))
-  views_normal (tuple ps) t v e = absurd cc
-  views_normal (tuple_structure name ps) (array ts) v e =
+      subst (IsNormal (array ts)) b.2 (ap value.tuple (parts_normal ps ts b.0 p c b.1), λ h. absurd (no_sequence b.0 h))
+  views_normal (tuple ps) t v p c e = absurd cc
+  views_normal (tuple_structure name ps) (array ts) v p c e =
       let b = some_map (value.tuple_structure name) (views_parts ps ts) v e in
-      subst (IsNormal (array ts)) b.2 (ap (value.tuple_structure name) (parts_normal ps ts b.0 b.1), λ h. absurd (no_sequence b.0 h))
-  views_normal (tuple_structure name ps) t v e = absurd cc
-  views_normal (enumeration vs) (string name) v e = subst (IsNormal (string name)) (sym (unit_is name (content_of vs name) v e).1) (refl, λ h. absurd cc)
-  views_normal (enumeration vs) (document (pair name t no_pairs)) v e = let n = variant_normal vs name t v e in (n.0, λ h. absurd (n.1 h))
-  views_normal (enumeration vs) t v e = absurd cc
+      subst (IsNormal (array ts)) b.2 (ap (value.tuple_structure name) (parts_normal ps ts b.0 p c b.1), λ h. absurd (no_sequence b.0 h))
+  views_normal (tuple_structure name ps) t v p c e = absurd cc
+  views_normal (enumeration vs) (string name) v p c e = subst (IsNormal (string name)) (sym (unit_is name (content_of vs name) v e).1) (refl, λ h. absurd cc)
+  views_normal (enumeration vs) (document (pair name t no_pairs)) v p c e = let n = variant_normal vs name t v p c.2 e in (n.0, λ h. absurd (n.1 h))
+  views_normal (enumeration vs) t v p c e = absurd cc
 
-  parts_normal : (ps : Parts) (ts : Trees) (vs : Items) → views_parts ps ts ≡ Some vs → norm_items vs ≡ vs
-  parts_normal no_parts no_trees vs e = subst (λ x. norm_items x ≡ x) (some_is no_items vs e) refl
-  parts_normal (part s ps) (tree.tree t ts) vs e =
+  parts_normal : (ps : Parts) (ts : Trees) (vs : Items) → ArePartsPlain ps → AreTreesClean ts → views_parts ps ts ≡ Some vs → norm_items vs ≡ vs
+  parts_normal no_parts no_trees vs p c e = subst (λ x. norm_items x ≡ x) (some_is no_items vs e) refl
+  parts_normal (part s ps) (tree.tree t ts) vs p c e =
       let a = some_then (λ v. option_map (item v) (views_parts ps ts)) (views s t) vs e in
       let b = some_map (item a.0) (views_parts ps ts) vs a.2 in
-      subst (λ x. norm_items x ≡ x) b.2 (λ i. item ((views_normal s t a.0 a.1).0 i) (parts_normal ps ts b.0 b.1 i))
-  parts_normal ps ts vs e = absurd cc
+      subst (λ x. norm_items x ≡ x) b.2 (λ i. item ((views_normal s t a.0 p.0 c.0 a.1).0 i) (parts_normal ps ts b.0 p.1 c.1 b.1 i))
+  parts_normal ps ts vs p c e = absurd cc
 
-  variant_normal : (vs : Variants) (name : Utf8) (t : Tree) (v : Value) → views_variant vs name t ≡ Some v → IsVariantNormal v
-  variant_normal no_variants name t v e = absurd cc
-  variant_normal (variant n d vs) name t v e =
-      chosen_holds {P = IsVariantNormal v} (bytes_eq n name) (views_content n d t) (views_variant vs name t) v e (λ h. content_normal d n t v h) (λ h. variant_normal vs name t v h)
+  variant_normal : (vs : Variants) (name : Utf8) (t : Tree) (v : Value) → AreVariantsPlain vs → IsClean t → views_variant vs name t ≡ Some v → IsVariantNormal v
+  variant_normal no_variants name t v p c e = absurd cc
+  variant_normal (variant n d vs) name t v p c e =
+      chosen_holds {P = IsVariantNormal v} (bytes_eq n name) (views_content n d t) (views_variant vs name t) v e (λ h. content_normal d n t v p.1 c h) (λ h. variant_normal vs name t v p.2 c h)
 
-  content_normal : (d : Content) (name : Utf8) (t : Tree) (v : Value) → views_content name d t ≡ Some v → IsVariantNormal v
-  content_normal unit_content name t v e = absurd cc
-  content_normal (newtype_content s) name t v e =
+  content_normal : (d : Content) (name : Utf8) (t : Tree) (v : Value) → IsContentPlain d → IsClean t → views_content name d t ≡ Some v → IsVariantNormal v
+  content_normal unit_content name t v p c e = absurd cc
+  content_normal (newtype_content s) name t v p c e =
       let m = some_map (value.newtype_variant name) (views s t) v e in
-      subst IsVariantNormal m.2 (ap (value.newtype_variant name) (views_normal s t m.0 m.1).0, λ h. no_variant (λ x. x) name (means m.0) h)
-  content_normal (tuple_content ps) name (array ts) v e =
+      subst IsVariantNormal m.2 (ap (value.newtype_variant name) (views_normal s t m.0 p c m.1).0, λ h. no_variant (λ x. x) name (means m.0) h)
+  content_normal (tuple_content ps) name (array ts) v p c e =
       let m = some_map (value.tuple_variant name) (views_parts ps ts) v e in
-      subst IsVariantNormal m.2 (ap (value.tuple_variant name) (parts_normal ps ts m.0 m.1), λ h. no_variant array name (means_items m.0) h)
-  content_normal (tuple_content ps) name t v e = absurd cc
-  content_normal (struct_content fs) name (document ps) v e =
+      subst IsVariantNormal m.2 (ap (value.tuple_variant name) (parts_normal ps ts m.0 p c m.1), λ h. no_variant array name (means_items m.0) h)
+  content_normal (tuple_content ps) name t v p c e = absurd cc
+  content_normal (struct_content fs) name (document ps) v p c e =
       let m = some_map (value.structure_variant name) (views_fields fs ps) v e in
-      subst IsVariantNormal m.2 (ap (value.structure_variant name) (fields_normal fs ps m.0 m.1), λ h. no_variant document name (means_fields m.0) h)
-  content_normal (struct_content fs) name t v e = absurd cc
+      subst IsVariantNormal m.2 (ap (value.structure_variant name) (fields_normal fs ps m.0 p c m.1), λ h. no_variant document name (means_fields m.0) h)
+  content_normal (struct_content fs) name t v p c e = absurd cc
 
-  fields_normal : (fs : Fields) (ps : Pairs) (vs : FieldValues) → views_fields fs ps ≡ Some vs → norm_fields vs ≡ vs
-  fields_normal no_fields ps vs e = subst (λ x. norm_fields x ≡ x) (some_is no_field_values vs e) refl
-  fields_normal (field n s fs) ps vs e =
+  fields_normal : (fs : Fields) (ps : Pairs) (vs : FieldValues) → AreFieldsPlain fs → ArePairsClean ps → views_fields fs ps ≡ Some vs → norm_fields vs ≡ vs
+  fields_normal no_fields ps vs p c e = subst (λ x. norm_fields x ≡ x) (some_is no_field_values vs e) refl
+  fields_normal (field n s fs) ps vs p c e =
       let a = some_then (λ v. option_map (field_value n v) (views_fields fs ps)) (views_at (views s) (absent s) (lookup n ps)) vs e in
       let b = some_map (field_value n a.0) (views_fields fs ps) vs a.2 in
-      let first = field_normal s (lookup n ps) a.0 (λ t is. views_normal s t a.0 is) a.1 in
-      subst (λ x. norm_fields x ≡ x) b.2 (λ i. field_value n (first i) (fields_normal fs ps b.0 b.1 i))
+      let first = field_normal s (lookup n ps) a.0 (λ t at is. views_normal s t a.0 p.1 (lookup_clean n ps t c at) is) a.1 in
+      subst (λ x. norm_fields x ≡ x) b.2 (λ i. field_value n (first i) (fields_normal fs ps b.0 p.2 c b.1 i))
 
-pub norm_same : (s : Form) (t : Tree) (v : Value) → views s t ≡ Some v → norm v ≡ v
-norm_same s t v e = (views_normal s t v e).0
+pub norm_same : (s : Form) (t : Tree) (v : Value) → IsPlain s → IsClean t → views s t ≡ Some v → norm v ≡ v
+norm_same s t v p c e = (views_normal s t v p c e).0

@@ -15,7 +15,7 @@ use Rattle.bson_laws.specs.Leaves.{leaf_kind}
 use Rattle.bson_laws.specs.Variants.{content_of}
 use Rattle.bson_laws.specs.Judged.{Mode, Reading, refused, plain}
 use Rattle.bson_laws.specs.Taken.{text_in, unmended, document_of}
-use Rattle.bson_laws.specs.ReadsLeaf.{put_entry, borrows, read_leaf}
+use Rattle.bson_laws.specs.ReadsLeaf.{put_entry, borrows, no_extended, read_leaf_with}
 
 -- ---- options
 
@@ -66,7 +66,7 @@ read_enum mode unit contents n = document_of n >>= read_first contents
 -- the key of a map, read at the shape of keys as the text of an element would be; it is never replaced, and its refusal is that of the map. The makers of maps
 -- let through `str`, `string`, `char` and enums of unit variants; no other shape of keys occurs
 abbrev pub reads_key : Mode → Form → Piece → Reading Marked
-reads_key mode (leaf l) key = read_leaf plain (borrows l) (leaf_kind l) (string (unmended mode key))
+reads_key mode (leaf l) key = read_leaf_with no_extended plain (borrows l) (leaf_kind l) (string (unmended mode key))
 reads_key mode (enumeration vs) key = reads_unit vs key
 reads_key mode s key = refused (invalid_type String)
 

@@ -61,9 +61,13 @@ module _ {T : Type 0} (text : Bytes → T) where
     tree_data no_trees = no_items
     tree_data (tree.tree t ts) = item (datum t) (tree_data ts)
 
-  -- the value that a UUID is: its text where people read, its bytes elsewhere
+  -- the value that a UUID is: its text in the readable form, its bytes in the compact one
   abbrev pub uuid_datum : Bytes → ValueOf T
   uuid_datum b = newtype (text uuid_newtype) (mode (str (text (hyphenated_text lower b))) (bytes (text b)))
+
+-- texts, names and byte strings as they are
+abbrev pub itself : Bytes → Utf8
+itself b = b
 
 abbrev mutual
   -- the tree with the options of its regular expressions in order, in scopes too

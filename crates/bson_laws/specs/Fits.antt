@@ -2,11 +2,16 @@
 use Rattle.std.specs.Prelude.{◌≡◌, true, Some}
 use Rattle.std.specs.Char.{IsScalar}
 use Rattle.std.specs.Str.{is_utf8}
+use Rattle.bson_laws.specs.InRange.{IsInRange}
 use Rattle.bson_base.specs.Sound.{HasBytes}
-use Rattle.bson_base.specs.Text.{AreBytes}
+use Rattle.bson_base.specs.Tree.{Tree, kind}
+use Rattle.bson_base.specs.declared.element_type.ElementType.{ElementType}
+use Rattle.bson_base.specs.declared.element_type.ElementType.TheVariants as kinds
+use Rattle.bson_base.specs.Text.{Bytes, AreBytes}
 use Rattle.bson_shape.specs.Form.{Form, leaf, optional, sequence, newtype, unit_structure, map, tuple, tuple_structure, structure, enumeration, Fields, no_fields, field, Parts, no_parts, part, unit_content, newtype_content, tuple_content, struct_content}
 use Rattle.bson_laws.specs.Variants.{content_of}
-use Rattle.bson_laws.specs.Leaves.{LeafKind, anything, booleans, numbers, doubles, characters, texts, byte_strings, byte_buffers, units, leaf_kind}
+use Rattle.bson_laws.specs.Leaves.{LeafKind, anything, booleans, numbers, doubles, characters, texts, byte_strings, byte_buffers, units, extended_values, ExtendedLeaf, object_ids, uuids, of_kind, trees, documents, leaf_kind}
+use Rattle.bson_laws.specs.Datum.{datum, uuid_datum, itself}
 use Rattle.bson_datum.specs.Value as value
 use Rattle.bson_datum.specs.Value.{i32, i64, in_range, Value, boolean, integer, double, character, str, bytes, none, some, unit, Items, no_items, item, Entries, no_entries, entry, FieldValues, no_field_values, field_value}
 
@@ -37,6 +42,31 @@ abbrev mutual
   AreAnyEntries no_entries = Unit {0}
   AreAnyEntries (entry k v es) = IsText k × IsAny v × AreAnyEntries es
 
+-- the value is that of a tree, each number, byte and text of which is in its range
+pub record IsTreeValue (v : Value) : Type 0 where
+  pub tree : Tree
+  pub ranges : IsInRange tree
+  pub is_datum : datum itself tree ≡ v
+
+-- the value is that of such a tree of this kind
+pub record IsValueOfKind (k : ElementType) (v : Value) : Type 0 where
+  pub of_tree : IsTreeValue v
+  pub has_kind : kind of_tree.tree ≡ k
+
+-- the value is that of a UUID
+pub record IsUuidValue (v : Value) : Type 0 where
+  pub id : Bytes
+  pub sixteen : HasBytes 16 id
+  pub is_datum : uuid_datum itself id ≡ v
+
+-- a value of what an extended leaf takes
+abbrev pub FitsExtended : ExtendedLeaf → Value → Type 0
+FitsExtended object_ids v = IsValueOfKind kinds.ObjectId v
+FitsExtended uuids v = IsUuidValue v
+FitsExtended (of_kind k) v = IsValueOfKind k v
+FitsExtended trees v = IsTreeValue v
+FitsExtended documents v = IsValueOfKind kinds.EmbeddedDocument v
+
 -- a value of what a leaf takes, in its range
 abbrev pub FitsLeaf : LeafKind → Value → Type 0
 FitsLeaf anything v = IsAny v
@@ -48,6 +78,7 @@ FitsLeaf texts v = IsText v
 FitsLeaf byte_strings (bytes bs) = AreBytes bs
 FitsLeaf byte_buffers (bytes bs) = AreBytes bs
 FitsLeaf units unit = Unit {0}
+FitsLeaf (extended_values k) v = FitsExtended k v
 FitsLeaf k v = ⊥
 
 -- a key where the keys are what a leaf takes

@@ -1,7 +1,9 @@
 pub mod Leaves
 pub mod Variants
+pub mod Datum
 pub mod Views
 pub mod Means
+pub mod InRange
 pub mod Fits
 pub mod Plain
 pub mod Writable
@@ -10,6 +12,9 @@ pub mod Taken
 pub mod ReadsLeaf
 pub mod Containers
 pub mod Slots
+pub mod Shaped
+pub mod Wrapped
+pub mod Trees
+pub mod ReadsExtended
 pub mod Reads
 pub mod Spell
-pub mod Datum

@@ -4,8 +4,9 @@ use Rattle.std.specs.Result.{result_ok}
 use Rattle.std.specs.Str.{bytes_eq}
 use Rattle.bson_base.specs.Text.{Bytes, Utf8}
 use Rattle.bson_base.specs.Reserved.{reserved_kind}
+use Rattle.bson_base.specs.Sorted.{sorted}
 use Rattle.bson_base.specs.declared.element_type.ElementType.{ElementType}
-use Rattle.bson_base.specs.declared.element_type.ElementType.TheVariants.{JavaScriptCodeWithScope, Int32}
+use Rattle.bson_base.specs.declared.element_type.ElementType.TheVariants.{JavaScriptCodeWithScope, RegularExpression, Int32}
 use Rattle.bson_base.specs.Tree as tree
 use Rattle.bson_base.specs.Tree.{Tree, string, document, array, binary, null, int32, int64, Pairs, no_pairs, pair, Trees, no_trees}
 use Rattle.bson_shape.specs.Makers.{is_reserved_newtype}
@@ -52,6 +53,17 @@ scoped_means o = option_and_then (λ p. option_map (with_scope p.0) p.1) o
 abbrev pub reserved_means : ElementType → Option Tree → Option (Utf8 × Option Tree) → Option Tree
 reserved_means JavaScriptCodeWithScope unwrapped scoped = scoped_means scoped
 reserved_means k unwrapped scoped = unwrapped_means unwrapped
+
+-- the fields of a regular expression, of the form that `datum` gives, with its options sorted by character
+abbrev pub with_sorted_options : FieldValues → FieldValues
+with_sorted_options (field_value key (structure name (field_value p pattern (field_value o (str options) rest))) others) =
+    field_value key (structure name (field_value p pattern (field_value o (str (sorted options)) rest))) others
+with_sorted_options fs = fs
+
+-- the fields of a struct as they are read back, by the kind that its name is reserved for
+abbrev pub norm_struct : Option ElementType → FieldValues → FieldValues
+norm_struct (Some RegularExpression) fs = with_sorted_options fs
+norm_struct k fs = fs
 
 -- a struct: a document, or what its reserved name stands for
 abbrev pub struct_means : Option ElementType → Option Pairs → (ElementType → Option Tree) → Option Tree
@@ -107,7 +119,7 @@ abbrev mutual
   means_part v t rest = a_value v t ∷ rest
 
 abbrev mutual
-  -- the value that a value is read back as: null is read as none at an option
+  -- the value that a value is read back as: null is read as none at an option, and the options of a regular expression are sorted by character
   pub norm : Value → Value
   norm (boolean b) = boolean b
   norm (double bits) = double bits
@@ -129,7 +141,7 @@ abbrev mutual
   norm (tuple_structure name vs) = tuple_structure name (norm_items vs)
   norm (tuple_variant name vs) = tuple_variant name (norm_items vs)
   norm (structure_variant name fs) = structure_variant name (norm_fields fs)
-  norm (structure name fs) = structure name (norm_fields fs)
+  norm (structure name fs) = structure name (norm_struct (reserved_kind name) (norm_fields fs))
 
   pub norm_items : Items → Items
   norm_items no_items = no_items

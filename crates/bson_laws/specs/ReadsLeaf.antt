@@ -1,7 +1,7 @@
--- Reading a judged value without a shape, and at a leaf. Source: serde's data model, over the node that the value is.
+-- Reading a judged value without a shape, and at a leaf of serde's data model. Source: serde's data model, over the node that the value is.
 use Rattle.std.specs.Prelude.{ℕ, suc, Bool, true, false, if◌then◌else◌, Ok}
 use Rattle.bson_base.specs.Outcome.{◌>>=◌, result_map}
-use Rattle.bson_rawdoc.specs.Node.{Node, double, string, document, array, bytes, boolean, int32, int64, extended, Nodes, ended, faulty, then_node}
+use Rattle.bson_rawdoc.specs.Node.{Node, double, string, document, array, bytes, boolean, int32, int64, extended, Nodes, ended, faulty, then_node, kind_of}
 use Rattle.bson_rawdoc.specs.Piece.{made}
 use Rattle.bson_shape.specs.declared.leaf.Leaf.{Leaf}
 use Rattle.bson_shape.specs.declared.leaf.Leaf.TheVariants as leaf_words
@@ -9,9 +9,9 @@ use Rattle.bson_datum.specs.Value as value
 use Rattle.bson_datum.specs.Value.{i32, i64, no_items, item, no_entries, entry}
 use Rattle.bson_datum.specs.Marked.{Marked, MarkedItems, MarkedEntries, contents}
 use Rattle.bson_datum.specs.Same.{same}
-use Rattle.bson_datum.specs.Cause.{raw}
+use Rattle.bson_datum.specs.Cause.{raw, invalid_type}
 use Rattle.bson_datum.specs.Refusal.{under, under_index}
-use Rattle.bson_laws.specs.Leaves.{LeafKind, anything, ignored, booleans, numbers, doubles, characters, texts, byte_strings, byte_buffers, units}
+use Rattle.bson_laws.specs.Leaves.{LeafKind, anything, ignored, booleans, numbers, doubles, characters, texts, byte_strings, byte_buffers, units, ExtendedLeaf, extended_values}
 use Rattle.bson_laws.specs.Judged.{Mode, Reading, refused, judged, passes}
 use Rattle.bson_laws.specs.Taken.{boolean_of, integer_of, double_of, null_of, text_in, unmended, text_of, bytes_of, read_integer, character_of, buffer_of}
 
@@ -54,15 +54,20 @@ borrows leaf_words.Str = true
 borrows leaf_words.Bytes = true
 borrows l = false
 
--- a judged value at a leaf of this kind, which borrows its text or not
-abbrev pub read_leaf : Mode → (is_borrowing : Bool) → LeafKind → Node → Reading Marked
-read_leaf mode b anything n = read_any mode n
-read_leaf mode b ignored n = result_map (λ _. value.unit) (passes mode n)
-read_leaf mode b booleans n = result_map value.boolean (boolean_of n)
-read_leaf mode b (numbers type) n = integer_of n >>= read_integer type
-read_leaf mode b doubles n = result_map value.double (double_of n)
-read_leaf mode b characters n = character_of mode n
-read_leaf mode b texts n = result_map value.str (text_of mode b n)
-read_leaf mode b byte_strings n = result_map value.bytes (bytes_of mode n)
-read_leaf mode b byte_buffers n = result_map (λ bs. value.bytes (made bs)) (buffer_of mode n)
-read_leaf mode b units n = result_map (λ _. value.unit) (null_of n)
+-- at an extended leaf, where none occurs: in the keys of maps, and in the bodies of wrapper keys
+abbrev pub no_extended : Mode → ExtendedLeaf → Node → Reading Marked
+no_extended mode k n = refused (invalid_type (kind_of n))
+
+-- A judged value at a leaf of this kind, which borrows its text or not. How it is read at an extended leaf is given.
+abbrev pub read_leaf_with : (Mode → ExtendedLeaf → Node → Reading Marked) → Mode → (is_borrowing : Bool) → LeafKind → Node → Reading Marked
+read_leaf_with read mode b anything n = read_any mode n
+read_leaf_with read mode b ignored n = result_map (λ _. value.unit) (passes mode n)
+read_leaf_with read mode b booleans n = result_map value.boolean (boolean_of n)
+read_leaf_with read mode b (numbers type) n = integer_of n >>= read_integer type
+read_leaf_with read mode b doubles n = result_map value.double (double_of n)
+read_leaf_with read mode b characters n = character_of mode n
+read_leaf_with read mode b texts n = result_map value.str (text_of mode b n)
+read_leaf_with read mode b byte_strings n = result_map value.bytes (bytes_of mode n)
+read_leaf_with read mode b byte_buffers n = result_map (λ bs. value.bytes (made bs)) (buffer_of mode n)
+read_leaf_with read mode b units n = result_map (λ _. value.unit) (null_of n)
+read_leaf_with read mode b (extended_values k) n = read mode k n

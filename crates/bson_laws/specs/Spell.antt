@@ -13,7 +13,7 @@ use Rattle.bson_base.specs.declared.element_type.ElementType.{ElementType}
 use Rattle.bson_base.specs.declared.element_type.ElementType.TheVariants.{EmbeddedDocument, JavaScriptCodeWithScope, Int32}
 use Rattle.bson_datum.specs.Value.{i64, greatest, written_as, Value, boolean, integer, double, character, str, bytes, none, some, unit, unit_structure, newtype, sequence, map, structure, unit_variant, newtype_variant, tuple, tuple_structure, tuple_variant, structure_variant, mode, Items, no_items, item, Entries, no_entries, entry, FieldValues, no_field_values, field_value, kind_of, uuid_newtype, readable_inside}
 use Rattle.bson_datum.specs.Cause.{too_deep, binary_too_long, top_level}
-use Rattle.bson_datum.specs.Refusal.{WriteFault, unwritable, invalid_document_key, invalid_cstring, unsigned_exceeds, Refusal, here, under, under_index}
+use Rattle.bson_datum.specs.Refusal.{WriteFault, unwritable, invalid_document_key, invalid_cstring, unsigned_exceeds, here, under, under_index}
 use Rattle.bson_laws.specs.Means.{number_of, key_text}
 use Rattle.bson_reserved.specs.UuidBytes.{uuid_bytes}
 use Rattle.bson_reserved.specs.Unwrap.{Part, a_key, a_value, unwrap, scoped_code}

@@ -1,12 +1,14 @@
 -- The value that a tree is at a shape. Source: serde's data model.
-use Rattle.std.specs.Prelude.{ℕ, [], ◌∷◌, List, zero, if◌then◌else◌, ℤ, Option, Some, None, option_map, option_and_then}
+use Rattle.std.specs.Prelude.{ℕ, ◌&&◌, nat_eq, length, [], ◌∷◌, List, zero, if◌then◌else◌, ℤ, Option, Some, None, option_map, option_and_then}
 use Rattle.std.specs.Str.{bytes_eq, chars}
 use Rattle.bson_base.specs.Text.{Utf8}
 use Rattle.bson_base.specs.Pairs.{lookup}
-use Rattle.bson_base.specs.Tree.{Tree, double, string, document, array, binary, boolean, null, int32, int64, Pairs, no_pairs, pair, Trees, no_trees, tree}
+use Rattle.bson_base.specs.Kind.{byte}
+use Rattle.bson_base.specs.Tree.{Tree, kind, object_id, double, string, document, array, binary, boolean, null, int32, int64, Pairs, no_pairs, pair, Trees, no_trees, tree}
 use Rattle.bson_shape.specs.Form.{Form, leaf, optional, sequence, newtype, unit_structure, map, tuple, tuple_structure, structure, enumeration, Fields, no_fields, field, Parts, no_parts, part, Content, unit_content, newtype_content, tuple_content, struct_content, Variants, no_variants, variant}
 use Rattle.bson_laws.specs.Variants.{content_of}
-use Rattle.bson_laws.specs.Leaves.{LeafKind, anything, booleans, numbers, doubles, characters, texts, byte_strings, byte_buffers, units, leaf_kind}
+use Rattle.bson_laws.specs.Leaves.{LeafKind, anything, booleans, numbers, doubles, characters, texts, byte_strings, byte_buffers, units, extended_values, ExtendedLeaf, object_ids, uuids, of_kind, trees, documents, leaf_kind}
+use Rattle.bson_laws.specs.Datum.{datum, uuid_datum, itself, sorted_tree}
 use Rattle.bson_datum.specs.Value as value
 use Rattle.bson_datum.specs.Value.{IntegerType, i32, i64, in_range, ValueOf, Value, integer, Items, no_items, item, Entries, no_entries, entry, FieldValues, no_field_values, field_value}
 
@@ -47,6 +49,16 @@ abbrev mutual
   views_any_entries no_pairs = Some no_entries
   views_any_entries (pair key t ps) = option_and_then (λ v. option_map (entry (value.str key) v) (views_any_entries ps)) (views_any t)
 
+-- An extended value as the struct of its reserved name, a UUID as its newtype; at `bson` and `document` the value that the tree is. The options of
+-- regular expressions are sorted by character.
+abbrev pub views_extended : ExtendedLeaf → Tree → Option Value
+views_extended object_ids (object_id id) = Some (datum itself (object_id id))
+views_extended uuids (binary subtype b) = if nat_eq subtype 4 && nat_eq (length b) 16 then Some (uuid_datum itself b) else None
+views_extended (of_kind k) t = if nat_eq (byte (kind t)) (byte k) then Some (datum itself (sorted_tree t)) else None
+views_extended trees t = Some (datum itself (sorted_tree t))
+views_extended documents (document ps) = Some (datum itself (sorted_tree (document ps)))
+views_extended k t = None
+
 abbrev pub views_leaf : LeafKind → Tree → Option Value
 views_leaf anything t = views_any t
 views_leaf booleans (boolean b) = Some (value.boolean b)
@@ -58,6 +70,7 @@ views_leaf texts (string t) = Some (value.str t)
 views_leaf byte_strings (binary zero bytes) = Some (value.bytes bytes)
 views_leaf byte_buffers (binary zero bytes) = Some (value.bytes bytes)
 views_leaf units null = Some value.unit
+views_leaf (extended_values k) t = views_extended k t
 views_leaf k t = None
 
 -- a key where the keys are what a leaf takes

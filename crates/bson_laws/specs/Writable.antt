@@ -2,14 +2,32 @@
 use Rattle.std.specs.Prelude.{◌≡◌, false}
 use Rattle.bson_base.specs.Text.{has_zero}
 use Rattle.bson_shape.specs.Form.{Form, leaf, optional, sequence, newtype, unit_structure, map, tuple, tuple_structure, structure, enumeration, Fields, no_fields, field, Parts, no_parts, part, Content, unit_content, newtype_content, tuple_content, struct_content, Variants, no_variants, variant}
-use Rattle.bson_laws.specs.Leaves.{leaf_kind}
-use Rattle.bson_laws.specs.Plain.{IsKept, IsPlainKey}
+use Rattle.bson_base.specs.declared.element_type.ElementType.TheVariants.{RegularExpression, JavaScriptCodeWithScope, EmbeddedDocument, Array}
+use Rattle.bson_base.specs.declared.element_type.ElementType.{ElementType}
+use Rattle.bson_laws.specs.Leaves.{LeafKind, ignored, extended_values, of_kind, trees, documents, leaf_kind}
+use Rattle.bson_laws.specs.Plain.{IsPlainKey}
+
+-- no value of the kind is or holds a regular expression
+abbrev pub HoldsNoExpression : ElementType → Type 0
+HoldsNoExpression RegularExpression = ⊥
+HoldsNoExpression JavaScriptCodeWithScope = ⊥
+HoldsNoExpression EmbeddedDocument = ⊥
+HoldsNoExpression Array = ⊥
+HoldsNoExpression k = Unit {0}
+
+-- What is read at the leaf is written, unless it is too large. A regular expression that is given as texts in a document may hold a zero character, and then
+-- it is not written.
+abbrev pub IsWritableLeaf : LeafKind → Type 0
+IsWritableLeaf (extended_values (of_kind k)) = HoldsNoExpression k
+IsWritableLeaf (extended_values trees) = ⊥
+IsWritableLeaf (extended_values documents) = ⊥
+IsWritableLeaf k = Unit {0}
 
 abbrev mutual
   -- Each field's name is a cstring, which holds no zero character, and each map has texts or unit variants as its keys. The name of a
   -- variant needs no such condition: as a key it was read from a key, which holds no zero character, and elsewhere it is written as a text.
   pub HasWritableKeys : Form → Type 0
-  HasWritableKeys (leaf l) = Unit {0}
+  HasWritableKeys (leaf l) = IsWritableLeaf (leaf_kind l)
   HasWritableKeys (optional s) = HasWritableKeys s
   HasWritableKeys (sequence s) = HasWritableKeys s
   HasWritableKeys (newtype name s) = HasWritableKeys s
@@ -38,9 +56,16 @@ abbrev mutual
   ContentHasWritableKeys (tuple_content ps) = PartsHaveWritableKeys ps
   ContentHasWritableKeys (struct_content fs) = FieldsHaveWritableKeys fs
 
--- what is read from a document is a document again, not the unit that an ignored value leaves
+-- what a leaf reads from a document is a document: not the unit that an ignored value leaves, nor an extended value that a document stands for
+abbrev pub KeepsDocumentLeaf : LeafKind → Type 0
+KeepsDocumentLeaf ignored = ⊥
+KeepsDocumentLeaf (extended_values documents) = Unit {0}
+KeepsDocumentLeaf (extended_values k) = ⊥
+KeepsDocumentLeaf k = Unit {0}
+
+-- what is read from a document is a document again
 abbrev pub KeepsDocument : Form → Type 0
-KeepsDocument (leaf l) = IsKept (leaf_kind l)
+KeepsDocument (leaf l) = KeepsDocumentLeaf (leaf_kind l)
 KeepsDocument (optional s) = KeepsDocument s
 KeepsDocument (newtype name s) = KeepsDocument s
 KeepsDocument s = Unit {0}

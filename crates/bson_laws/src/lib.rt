@@ -14,7 +14,7 @@ ghost use Rattle.bson_laws.specs.Fits.{Fits};
 ghost use Rattle.bson_laws.specs.Plain.{IsPlain};
 ghost use Rattle.bson_laws.specs.Writable.{IsWritable};
 ghost use Rattle.bson_laws.specs.Reads.{reads_document};
-ghost use Rattle.bson_laws.specs.Datum.{datum, uuid_datum, sorted_tree};
+ghost use Rattle.bson_laws.specs.Datum.{datum, uuid_datum, itself, sorted_tree};
 ghost use Rattle.bson_laws.specs.Spell.{IsWrittenUnlessLarge, HoldsNumbers, spell_as, spell_document, size_as};
 
 /// What a sound document is at a plain shape is read from its bytes; it fits the shape, and is its own normal form.
@@ -55,10 +55,10 @@ pub fn law_spell_means()
 /// It does nothing.
 pub fn law_datum_spells()
     ensures spells { (readable : Bool) (t : Tree) (levels : ℕ) → IsClean t → depth t ≤ levels
-        → spell_as readable (datum (λ b. b) t) levels ≡ Ok (sorted_tree t) }
-    ensures means { (t : Tree) → IsClean t → means (datum (λ b. b) t) ≡ Some (sorted_tree t) }
+        → spell_as readable (datum itself t) levels ≡ Ok (sorted_tree t) }
+    ensures means { (t : Tree) → IsClean t → means (datum itself t) ≡ Some (sorted_tree t) }
     ensures uuid { (readable : Bool) (b : Bytes) (levels : ℕ) → HasBytes 16 b
-        → spell_as readable (uuid_datum (λ b. b) b) levels ≡ Ok (binary 4 b) }
+        → spell_as readable (uuid_datum itself b) levels ≡ Ok (binary 4 b) }
 {}
 
 /// The document that a value of a plain shape means is read back, at the shape, as the normal form of the value.
@@ -73,9 +73,10 @@ pub fn law_read_back()
 ///
 /// The document that an extended value is opened to takes no level when it is read, and one when it is written: so what was read may nest too deep.
 ///
-/// No name of a field may hold a zero character, since an option's field that no pair has is read as none, and a struct takes the
-/// values of an array by their places: each is written under its name; the keys of maps are `str`, `string` or unit variants; and the
-/// document is not ignored. The call does nothing.
+/// The shape can be written (`IsWritable`). No name of a field holds a zero character, since an option's field that no pair has is read as none, and
+/// a struct takes the values of an array by their places: each is written under its name. The keys of maps are `str`, `string` or unit variants. No
+/// leaf is `regex`, `codews`, `bson` or `document`, since a regular expression that is given as texts in a document may hold a zero character. The
+/// document is read neither at `ignored` nor at an extended leaf, so that it is a document again. The call does nothing.
 pub fn law_reads_spell()
     ensures spells { (s : Form) (bytes : Bytes) (d : Value) → IsShape s → IsWritable s → AreBytes bytes → reads_document s bytes ≡ Ok d
         → IsWrittenUnlessLarge (spell_document d) }
@@ -92,7 +93,7 @@ pub fn law_reads_numbers()
 /// What is read at a shape from bytes, and written, is read at the shape from what was written, and written as the same again.
 ///
 /// This holds at every shape and for every byte string, sound or not: a migration may be run again without harm. The call does nothing.
-pub fn law_read_again()
+pub fn law_fixed_point()
     ensures again { (s : Form) (bytes : Bytes) (d : Value) (t : Tree) → IsShape s → AreBytes bytes → reads_document s bytes ≡ Ok d → spell_document d ≡ Ok t
         → length (enc t) ≤ max_bytes → (v : Value) × (reads_document s (enc t) ≡ Ok v) × (spell_document v ≡ Ok t) }
 {}

@@ -10,4 +10,5 @@ pub mod DocumentView
 pub mod ValueView
 pub mod Printed
 pub mod Next
+pub mod Cut
 pub mod Prover

@@ -3,6 +3,7 @@
 
 mod array;
 mod document;
+mod documents;
 mod element;
 mod extent;
 mod iter;
@@ -18,6 +19,7 @@ pub use bson_io::{
     SteadySource, Steps, Tally, WriteAdapter,
 };
 pub use document::RawDocument;
+pub use documents::RawDocuments;
 pub use element::RawElement;
 pub use iter::RawIter;
 pub use value::RawBsonRef;

@@ -1,9 +1,9 @@
 -- What is written under the headline's conditions.
-use Rattle.std.proofs.Common.{◌≡◌, List, [], ◌∷◌, ◌++◌, Bool, true, false, cond, Option, Some, None, refl, ap, sym, subst, ◌∙◌, inl, inr, append-nil}
+use Rattle.std.proofs.Common.{◌≡◌, ◌≤◌, List, [], ◌∷◌, ◌++◌, length, Bool, true, false, cond, Option, Some, None, refl, ap, sym, subst, ◌∙◌, inl, inr, append-nil}
 use Rattle.std.specs.Prelude.{◌⊎◌, ◌&&◌, ℕ, IfSome, nat_eq}
 use Rattle.std.specs.Io.KnownBytes.{Keeps, Appends}
 use Rattle.std.proofs.lemmas.Bool.{eqb-true}
-use Rattle.bson_base.specs.Sound.{IsSound}
+use Rattle.bson_base.specs.Sound.{IsSound, max_bytes}
 use Rattle.bson_base.specs.Text.{Bytes, Utf8}
 use Rattle.bson_base.specs.Tree.{Tree, enc}
 use Rattle.bson_shape.specs.Form.{Form, leaf, optional, newtype, unit_structure, sequence, map, tuple, tuple_structure, structure, enumeration}
@@ -81,24 +81,21 @@ keeps_from None b h = tt
 keeps_from (Some x) None h = absurd h
 keeps_from (Some x) (Some y) h = h ∙ append-nil x
 
-module _ (s : Form) (t u : Tree) (d : Value) (r : Run) (shape : IsShape s) (sound : IsSound t) (view : views s t ≡ Some d) (mean : means d ≡ Some u) (clean : IsSound u) (asked : request r.words ≡ recast_at s) (told : r.input.before ≡ Some (enc t)) where
-  recast_is : recast_of s (enc t) ≡ writes (enc u)
-  recast_is = recasts_it s (enc t) t u d shape sound view mean clean refl
+module _ (s : Form) (doc out : Bytes) (r : Run) (small : length doc ≤ max_bytes) (recast_is : recast_of s doc ≡ writes out) (asked : request r.words ≡ recast_at s) (told : r.input.before ≡ Some doc) where
+  is_done : status_due r.words doc ≡ statuses.Done
+  is_done = status_read r.words s doc asked small ∙ ap recast_status recast_is
 
-  is_done : status_due r.words (enc t) ≡ statuses.Done
-  is_done = status_read r.words s (enc t) asked sound.fits ∙ ap recast_status recast_is
-
-  exactly : r.status ≡ statuses.Done → Told r → Appends r.out.before r.out.after (enc u) × Appends r.err.before r.err.after []
+  exactly : r.status ≡ statuses.Done → Told r → Appends r.out.before r.out.after out × Appends r.err.before r.err.after []
   exactly done h =
       let row : DoneRow r.words r.input h.bytes h.line = subst (λ x. IsDue r.words r.input x h.bytes h.line) done h.due in
       let given = row.given in
       let is_shape : given.shape ≡ s = same_shape (request r.words) given.shape s given.for_shape.asked asked in
-      let is_input : given.bytes ≡ enc t = whole r.input.before r.input.after given.bytes (enc t) given.read.taken given.read.ended told in
-      let both : writes h.bytes ≡ writes (enc u) = sym row.answer ∙ (λ i. recast_of (is_shape i) (is_input i)) ∙ recast_is in
-      let made : h.bytes ≡ enc u = cc in
+      let is_input : given.bytes ≡ doc = whole r.input.before r.input.after given.bytes doc given.read.taken given.read.ended told in
+      let both : writes h.bytes ≡ writes out = sym row.answer ∙ (λ i. recast_of (is_shape i) (is_input i)) ∙ recast_is in
+      let made : h.bytes ≡ out = cc in
       (subst (Appends r.out.before r.out.after) made h.out_grew, subst (Appends r.err.before r.err.after) row.no_line h.err_grew)
 
-  pub writes_exactly : IsAnswered r → (r.status ≡ status_due r.words (enc t)) ⊎ (r.status ≡ statuses.NoMemory) → WritesExactly r (enc u)
+  writes_exactly : IsAnswered r → (r.status ≡ status_due r.words doc) ⊎ (r.status ≡ statuses.NoMemory) → WritesExactly r out
   writes_exactly answers (inl is) =
       let now : r.status ≡ statuses.Done = is ∙ is_done in
       let e = exactly now (answers.done now) in
@@ -108,7 +105,12 @@ module _ (s : Form) (t u : Tree) (d : Value) (r : Run) (shape : IsShape s) (soun
 completed : (o : Option Bytes) (doc : Bytes) (r : Run) → o ≡ Some doc → IfSome o (λ bytes. (r.status ≡ status_due r.words bytes) ⊎ (r.status ≡ statuses.NoMemory)) → (r.status ≡ status_due r.words doc) ⊎ (r.status ≡ statuses.NoMemory)
 completed o doc r is h = subst (λ p. IfSome p (λ bytes. (r.status ≡ status_due r.words bytes) ⊎ (r.status ≡ statuses.NoMemory))) is h
 
+-- Asked for a recast of this input at a shape, where the recast writes `out`, exactly that is written, or nothing.
+pub writes_recast : (s : Form) (doc out : Bytes) (r : Run) → IsAnswered r → length doc ≤ max_bytes → recast_of s doc ≡ writes out → request r.words ≡ recast_at s → r.input.before ≡ Some doc → AllQuiet r → WritesExactly r out
+writes_recast s doc out r answers small recast_is asked told quiet =
+    writes_exactly s doc out r small recast_is asked told answers (completed r.input.before doc r told (answers.complete quiet))
+
 -- Given the notation of a shape and the bytes of a sound document, whose value at the shape means a sound document, exactly that document is written, or nothing.
 pub headline : (s : Form) (t u : Tree) (d : Value) (r : Run) → IsAnswered r → IsShape s → IsSound t → views s t ≡ Some d → means d ≡ Some u → IsSound u → r.words ≡ text s ∷ [] → r.input.before ≡ Some (enc t) → AllQuiet r → WritesExactly r (enc u)
 headline s t u d r answers shape sound view mean clean words told quiet =
-    writes_exactly s t u d r shape sound view mean clean (requested s r.words shape words) told answers (completed r.input.before (enc t) r told (answers.complete quiet))
+    writes_recast s (enc t) (enc u) r answers sound.fits (recasts_it s (enc t) t u d shape sound view mean clean refl) (requested s r.words shape words) told quiet

@@ -6,3 +6,4 @@ pub mod Statuses
 pub mod Headline
 pub mod Words
 pub mod Answered
+pub mod Again

@@ -6,5 +6,5 @@ mod running;
 mod status;
 
 pub use recasting::{RecastError, recast};
-pub use running::run;
+pub use running::{law_run_again, run};
 pub use status::Status;

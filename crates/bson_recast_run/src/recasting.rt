@@ -1,4 +1,4 @@
-ghost use Rattle.std.specs.Prelude.{◌≡◌, Some};
+ghost use Rattle.std.specs.Prelude.{◌≡◌, Some, IfOk};
 ghost use Rattle.bson_base.specs.Sound.{IsSound};
 ghost use Rattle.bson_base.specs.Tree.{Tree, enc};
 ghost use Rattle.bson_datum.specs.Value.{Value};
@@ -9,7 +9,7 @@ ghost use Rattle.bson_laws.specs.Plain.{IsPlain};
 ghost use Rattle.bson_laws.specs.Reads.{reads_document};
 ghost use Rattle.bson_laws.specs.Writable.{IsWritable};
 ghost use Rattle.bson_de_raw.specs.Gives.{Gives};
-ghost use Rattle.bson_recast_run.specs.Recasting.{recast_of, IsRecast, GivesBytes, IsForSize, IsForNoNumber, IfUnwritten, IsReadError, IsWriteError};
+ghost use Rattle.bson_recast_run.specs.Recasting.{recast_of, writes, IsRecast, GivesBytes, IsForSize, IsForNoNumber, IfUnwritten, IsReadError, IsWriteError};
 
 use bson_datum::{Datum, Shape, de, ser};
 use bson_de_raw::from_slice_at;
@@ -34,18 +34,25 @@ pub enum RecastError {
 /// `Read` exactly where `from_slice_at` refuses the bytes at the shape, `Write` exactly where it reads a value that
 /// `to_vec_at` refuses, each with that call's error; `NoMemory` where memory ran out.
 ///
-/// What was read is refused by the writer for its size alone, where no field of the shape has a zero character in its name, the
-/// keys of its maps are `str`, `string` or unit variants, and the document itself is not read at `ignored`: a number may take more bytes when it
-/// is written than it took before, a text that is read as a byte string is written as a binary, which may have no more than
-/// 16777216 bytes, and the document that a value is opened to takes a level when it is written. At every shape it is never refused as
-/// `UnsignedIntegerExceededRange`.
+/// A recast of the bytes that it gives, at the same shape, gives the same bytes, or memory runs out: a migration may be run again without harm.
+/// This holds at every shape and for every byte string.
+///
+/// What was read is refused by the writer for its size alone, where no field of the shape has a zero character in its
+/// name, the keys of its maps are `str`, `string` or unit variants, none of its leaves is `regex`, `codews`, `bson` or
+/// `document`, and the document itself is read neither at `ignored` nor at an extended leaf: a number may take more bytes
+/// when it is written than it took before, a text that is read as a byte string, and the base64 of a binary, are written
+/// as a binary, which may have no more than 16777216 bytes, and the document that a value is opened to takes a level when
+/// it is written. At every shape it is never refused as `UnsignedIntegerExceededRange`.
 pub fn recast(alloc: Global, shape: &Shape, bytes: &[u8]) -> Result<Vec<u8>, RecastError>
     // What is read at the shape is written.
     ensures exact { IsRecast (recast_of shape.now bytes.now) result }
     // A sound document, whose value at a plain shape means a sound document, becomes that document.
     ensures migrates { (t u : Tree) (d : Value) → IsPlain shape.now → IsSound t → views shape.now t ≡ Some d → means d ≡ Some u → IsSound u
         → bytes.now ≡ enc t → GivesBytes (enc u) result }
-    // What was read at a shape whose keys can be written, and which keeps the document, is refused by the writer for its size alone.
+    // What was written is written as the same bytes when it is recast at the shape again.
+    ensures again { IfOk result (λ v. recast_of shape.now v.items ≡ writes v.items) }
+    // What was read at a shape whose keys can be written, which reads no regular expression, and which keeps the document, is refused by the
+    // writer for its size alone.
     ensures too_large { IsWritable shape.now → IfUnwritten (IsForSize shape.now bytes.now) result }
     // At no shape is what was read refused for a number that no Int64 holds.
     ensures numbers { IfUnwritten IsForNoNumber result }

@@ -2,6 +2,7 @@
 ghost use Rattle.std.specs.Prelude.{◌≡◌, ◌≤◌, ◌⊎◌, [], ◌∷◌, map, string_bytes, IfOk, IsOk, OnOk, OnErr, Some, false};
 ghost use Rattle.std.specs.Io.KnownBytes.{Appends};
 ghost use Rattle.bson_base.specs.Sound.{IsSound};
+ghost use Rattle.bson_base.specs.Text.{Bytes, AreBytes};
 ghost use Rattle.bson_base.specs.Tree.{Tree, enc};
 ghost use Rattle.bson_io.specs.Ends.{RoseOrLast, AppendsPrefix, FitsIn};
 ghost use Rattle.bson_shape.specs.Form.{Form};
@@ -14,7 +15,8 @@ ghost use Rattle.bson_laws.specs.Plain.{IsPlain};
 ghost use Rattle.bson_recast_run.specs.Asked.{Asks};
 ghost use Rattle.bson_recast_run.specs.Due.{is_option, line_at, line_for};
 ghost use Rattle.bson_recast_run.specs.Ends.{source_change, sink_change};
-ghost use Rattle.bson_recast_run.specs.Run.{run_of, AllQuiet};
+ghost use Rattle.bson_recast_run.specs.Run.{Run, run_of, AllQuiet};
+ghost use Rattle.bson_recast_run.specs.declared.status.Status.TheVariants as statuses;
 ghost use Rattle.bson_recast_run.specs.Rows.{IsDue, IsAnswered};
 ghost use Rattle.bson_recast_run.specs.Complete.{WritesExactly};
 ghost use Rattle.bson_recast_run.specs.Prepared.{Answers, Reports};
@@ -177,6 +179,16 @@ fn carry_out<I: Source, O: Sink, E: Sink>(
         Err(_) => Status::SinkFault,
     }
 }
+
+/// What a run wrote, given to a run with the same words, is written again as the same bytes, or memory runs out.
+///
+/// The first run ended as `Done`, its input was `given`, and its output, which was empty, holds `out` now. It says so of the table of answers that each
+/// `run` meets (*answers*). The call does nothing.
+pub fn law_run_again()
+    ensures again { (first second : Run) (given out : Bytes) → IsAnswered first → first.status ≡ statuses.Done → AreBytes given → first.input.before ≡ Some given
+        → first.out.before ≡ Some [] → first.out.after ≡ Some out → IsAnswered second → second.words ≡ first.words → second.input.before ≡ Some out
+        → AllQuiet second → WritesExactly second out }
+{}
 
 /// Judges the words, reads the input to its end, recasts it, and writes what is due.
 ///

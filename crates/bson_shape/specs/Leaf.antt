@@ -3,7 +3,7 @@ use Rattle.std.specs.Prelude.{Bool as Test, true, false, List, [], ◌∷◌, if
 use Rattle.std.specs.Str.{bytes_eq}
 use Rattle.bson_base.specs.Text.{Utf8}
 use Rattle.bson_shape.specs.declared.leaf.Leaf.{Leaf}
-use Rattle.bson_shape.specs.declared.leaf.Leaf.TheVariants.{Any, Ignored, Bool, I8, I16, I32, I64, U8, U16, U32, U64, Double, Char, Str, String, Bytes, ByteBuf, Unit}
+use Rattle.bson_shape.specs.declared.leaf.Leaf.TheVariants.{Any, Ignored, Bool, I8, I16, I32, I64, U8, U16, U32, U64, Double, Char, Str, String, Bytes, ByteBuf, Unit, ObjectId, DateTime, Binary, Timestamp, Regex, CodeWithScope, Decimal128, DbPointer, Uuid, Bson, Document}
 
 abbrev pub word : Leaf → Utf8
 word Any = codes "any"
@@ -24,6 +24,17 @@ word String = codes "string"
 word Bytes = codes "bytes"
 word ByteBuf = codes "bytebuf"
 word Unit = codes "unit"
+word ObjectId = codes "oid"
+word DateTime = codes "datetime"
+word Binary = codes "binary"
+word Timestamp = codes "timestamp"
+word Regex = codes "regex"
+word CodeWithScope = codes "codews"
+word Decimal128 = codes "decimal"
+word DbPointer = codes "dbpointer"
+word Uuid = codes "uuid"
+word Bson = codes "bson"
+word Document = codes "document"
 
 -- a text
 abbrev pub is_text : Leaf → Test
@@ -34,7 +45,7 @@ is_text l = false
 
 -- all leaves
 abbrev pub leaves : List Leaf
-leaves = Any ∷ Ignored ∷ Bool ∷ I8 ∷ I16 ∷ I32 ∷ I64 ∷ U8 ∷ U16 ∷ U32 ∷ U64 ∷ Double ∷ Char ∷ Str ∷ String ∷ Bytes ∷ ByteBuf ∷ Unit ∷ []
+leaves = Any ∷ Ignored ∷ Bool ∷ I8 ∷ I16 ∷ I32 ∷ I64 ∷ U8 ∷ U16 ∷ U32 ∷ U64 ∷ Double ∷ Char ∷ Str ∷ String ∷ Bytes ∷ ByteBuf ∷ Unit ∷ ObjectId ∷ DateTime ∷ Binary ∷ Timestamp ∷ Regex ∷ CodeWithScope ∷ Decimal128 ∷ DbPointer ∷ Uuid ∷ Bson ∷ Document ∷ []
 
 -- the one of these leaves that has the word
 abbrev pub with_word : Utf8 → List Leaf → Option Leaf

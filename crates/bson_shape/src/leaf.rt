@@ -40,6 +40,28 @@ pub enum Leaf {
     ByteBuf,
     /// No value: null.
     Unit,
+    /// An ObjectId.
+    ObjectId,
+    /// A time in milliseconds since the start of 1970.
+    DateTime,
+    /// A byte string with its subtype.
+    Binary,
+    /// A time in seconds and an increment.
+    Timestamp,
+    /// A regular expression: a pattern and its options.
+    Regex,
+    /// JavaScript code with a document of its names.
+    CodeWithScope,
+    /// A decimal floating point number of 128 bits.
+    Decimal128,
+    /// A namespace and an ObjectId.
+    DbPointer,
+    /// A UUID: a byte string of subtype 4.
+    Uuid,
+    /// Any value, as a tree.
+    Bson,
+    /// A document, as a tree.
+    Document,
 }
 
 impl Leaf {
@@ -66,6 +88,17 @@ impl Leaf {
             Leaf::Bytes => "bytes",
             Leaf::ByteBuf => "bytebuf",
             Leaf::Unit => "unit",
+            Leaf::ObjectId => "oid",
+            Leaf::DateTime => "datetime",
+            Leaf::Binary => "binary",
+            Leaf::Timestamp => "timestamp",
+            Leaf::Regex => "regex",
+            Leaf::CodeWithScope => "codews",
+            Leaf::Decimal128 => "decimal",
+            Leaf::DbPointer => "dbpointer",
+            Leaf::Uuid => "uuid",
+            Leaf::Bson => "bson",
+            Leaf::Document => "document",
         }
     }
 
@@ -100,6 +133,17 @@ impl Leaf {
             "bytes" => Leaf::Bytes,
             "bytebuf" => Leaf::ByteBuf,
             "unit" => Leaf::Unit,
+            "oid" => Leaf::ObjectId,
+            "datetime" => Leaf::DateTime,
+            "binary" => Leaf::Binary,
+            "timestamp" => Leaf::Timestamp,
+            "regex" => Leaf::Regex,
+            "codews" => Leaf::CodeWithScope,
+            "decimal" => Leaf::Decimal128,
+            "dbpointer" => Leaf::DbPointer,
+            "uuid" => Leaf::Uuid,
+            "bson" => Leaf::Bson,
+            "document" => Leaf::Document,
             _ => return None,
         };
         Some(leaf)

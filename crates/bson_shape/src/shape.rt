@@ -225,6 +225,83 @@ impl Shape {
         Shape::leaf(Leaf::Unit)
     }
 
+    /// An ObjectId.
+    pub fn object_id() -> Shape
+        ensures form { result ≡ form.leaf Leaf.ObjectId }
+    {
+        Shape::leaf(Leaf::ObjectId)
+    }
+
+    /// A time in milliseconds since the start of 1970.
+    pub fn date_time() -> Shape
+        ensures form { result ≡ form.leaf Leaf.DateTime }
+    {
+        Shape::leaf(Leaf::DateTime)
+    }
+
+    /// A byte string with its subtype.
+    pub fn binary() -> Shape
+        ensures form { result ≡ form.leaf Leaf.Binary }
+    {
+        Shape::leaf(Leaf::Binary)
+    }
+
+    /// A time in seconds and an increment.
+    pub fn timestamp() -> Shape
+        ensures form { result ≡ form.leaf Leaf.Timestamp }
+    {
+        Shape::leaf(Leaf::Timestamp)
+    }
+
+    /// A regular expression: a pattern and its options.
+    pub fn regex() -> Shape
+        ensures form { result ≡ form.leaf Leaf.Regex }
+    {
+        Shape::leaf(Leaf::Regex)
+    }
+
+    /// JavaScript code with a document of its names.
+    pub fn code_with_scope() -> Shape
+        ensures form { result ≡ form.leaf Leaf.CodeWithScope }
+    {
+        Shape::leaf(Leaf::CodeWithScope)
+    }
+
+    /// A decimal floating point number of 128 bits.
+    pub fn decimal128() -> Shape
+        ensures form { result ≡ form.leaf Leaf.Decimal128 }
+    {
+        Shape::leaf(Leaf::Decimal128)
+    }
+
+    /// A namespace and an ObjectId.
+    pub fn db_pointer() -> Shape
+        ensures form { result ≡ form.leaf Leaf.DbPointer }
+    {
+        Shape::leaf(Leaf::DbPointer)
+    }
+
+    /// A UUID: a byte string of subtype 4.
+    pub fn uuid() -> Shape
+        ensures form { result ≡ form.leaf Leaf.Uuid }
+    {
+        Shape::leaf(Leaf::Uuid)
+    }
+
+    /// Any value, as a tree.
+    pub fn bson() -> Shape
+        ensures form { result ≡ form.leaf Leaf.Bson }
+    {
+        Shape::leaf(Leaf::Bson)
+    }
+
+    /// A document, as a tree.
+    pub fn document() -> Shape
+        ensures form { result ≡ form.leaf Leaf.Document }
+    {
+        Shape::leaf(Leaf::Document)
+    }
+
     /// A shape without inner shapes.
     pub fn leaf(leaf: Leaf) -> Shape
         ensures form { result ≡ form.leaf leaf }

@@ -8,6 +8,8 @@ mod debug;
 #[cfg(test)]
 mod ends;
 #[cfg(test)]
+mod extended;
+#[cfg(test)]
 mod faults;
 #[cfg(test)]
 mod reading;

@@ -235,8 +235,13 @@ fn check(
     Ok(())
 }
 
-/// Runs the program at each row of a table, which all end with this status.
-fn check_table(rt: &impl Abort, alloc: Global, table: &str, status: Status) -> Result<(), Fail> {
+/// Runs the program at each row of a table, which all end with this status; and again on what a row writes, which is written as the same bytes.
+pub fn check_table(
+    rt: &impl Abort,
+    alloc: Global,
+    table: &str,
+    status: Status,
+) -> Result<(), Fail> {
     for row in table.lines() {
         let mut cells = row.split(" | ");
         let (Some(shows), Some(shape)) = (cells.next(), cells.next()) else {
@@ -253,6 +258,8 @@ fn check_table(rt: &impl Abort, alloc: Global, table: &str, status: Status) -> R
                 digits => bytes_of(alloc, digits)?,
             };
             check(rt, alloc, &words, input, (status, &written, ""), shows)?;
+            let again = written.clone()?;
+            check(rt, alloc, &words, again, (status, &written, ""), shows)?;
         } else {
             let line = format!(in alloc; "{answer}\n")?;
             check(
@@ -320,30 +327,27 @@ fn nested(alloc: Global, levels: u8) -> Result<Vec<u8>, Fail> {
 #[test]
 fn documents_of_many_levels(rt: HostRuntime) -> Result<(), Fail> {
     let alloc = rt.alloc();
-    let any = vec![in alloc; String::from_str(alloc, "any")?]?;
-    let deepest = nested(alloc, 200)?;
-    assert_eq!(rt; deepest.len(), 1597);
-    let want = deepest.clone()?;
-    check(
-        &rt,
-        alloc,
-        &any,
-        deepest,
-        (Status::Done, &want, ""),
-        "200 levels",
-    )?;
-    let deeper = nested(alloc, 201)?;
-    assert_eq!(rt; deeper.len(), 1605);
-    let path = "a.".repeat(alloc, 199)?;
-    let line = format!(in alloc;
-        "read refused: error at {path}a: nested deeper than 200 levels\n"
-    )?;
-    check(
-        &rt,
-        alloc,
-        &any,
-        deeper,
-        (Status::ReadRefused, &[], line.as_str()),
-        "201 levels",
-    )
+    for shape in ["any", "bson"] {
+        let words = vec![in alloc; String::from_str(alloc, shape)?]?;
+        let deepest = nested(alloc, 200)?;
+        assert_eq!(rt; deepest.len(), 1597);
+        let want = deepest.clone()?;
+        check(
+            &rt,
+            alloc,
+            &words,
+            deepest,
+            (Status::Done, &want, ""),
+            shape,
+        )?;
+        let deeper = nested(alloc, 201)?;
+        assert_eq!(rt; deeper.len(), 1605);
+        let path = "a.".repeat(alloc, 199)?;
+        let line = format!(in alloc;
+            "read refused: error at {path}a: nested deeper than 200 levels\n"
+        )?;
+        let answer = (Status::ReadRefused, b"".as_slice(), line.as_str());
+        check(&rt, alloc, &words, deeper, answer, shape)?;
+    }
+    Ok(())
 }

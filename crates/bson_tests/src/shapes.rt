@@ -47,6 +47,8 @@ fn notations_are_read_and_printed(rt: HostRuntime) -> Result<(), Fail> {
         "\"\"={a:?N=[\"a b\"!],b:M={}}",
         "\"$oid\"=\"$__bson_private_uuid\"!",
         "{a:bool,b:double,c:char,d:str,e:bytes,f:bytebuf,g:unit,h:i8,i:i16,j:i64,k:u16,l:u32,m:u64}",
+        "{a:oid,b:datetime,c:binary,d:timestamp,e:regex,f:codews,g:decimal,h:dbpointer,i:uuid,j:bson}",
+        "(document,<N=oid>)",
         "Point{x:i32,y:{z:i32},\"\":i32,\"é\\\"\\\\\":i32}",
     ] {
         let shape = Shape::parse(alloc, text)?;

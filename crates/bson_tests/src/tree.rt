@@ -7,41 +7,70 @@ use bson_shape::Shape;
 use std::alloc::{AllocError, Global};
 use std::test::Fail;
 
+/// Puts a value under a key.
+fn put(alloc: Global, document: &mut Document, key: &str, value: Bson) -> Result<(), AllocError> {
+    document.insert(String::from_str(alloc, key)?, value)?;
+    Ok(())
+}
+
+/// The regular expression `/a/ix`.
+fn regex(alloc: Global) -> Result<Bson, AllocError> {
+    let pattern = String::from_str(alloc, "a")?;
+    let options = String::from_str(alloc, "xi")?;
+    Ok(Bson::RegularExpression(Regex::new(alloc, pattern, options)?))
+}
+
+/// The code `f` with the scope `{x: null}`.
+fn scoped(alloc: Global) -> Result<Bson, AllocError> {
+    let mut scope = Document::new(alloc);
+    put(alloc, &mut scope, "x", Bson::Null)?;
+    let code = String::from_str(alloc, "f")?;
+    Ok(Bson::JavaScriptCodeWithScope(JavaScriptCodeWithScope { code, scope }))
+}
+
 /// The document `{n: 1, id: ObjectId, r: /a/ix, c: f with the scope {x: null}, a: [null]}`.
 fn tree(alloc: Global) -> Result<Bson, AllocError> {
-    let text = |text: &str| String::from_str(alloc, text);
-    let mut scope = Document::new(alloc);
-    scope.insert(text("x")?, Bson::Null)?;
-    let code = text("f")?;
-    let scoped = JavaScriptCodeWithScope { code, scope };
-    let mut items = Vec::new(alloc);
-    items.push(Bson::Null)?;
     let mut document = Document::new(alloc);
-    document.insert(text("n")?, Bson::Int32(1))?;
-    document.insert(text("id")?, Bson::ObjectId(ObjectId(*b"abcdefghijkl")))?;
-    let regex = Regex::new(alloc, text("a")?, text("xi")?)?;
-    document.insert(text("r")?, Bson::RegularExpression(regex))?;
-    document.insert(text("c")?, Bson::JavaScriptCodeWithScope(scoped))?;
-    document.insert(text("a")?, Bson::Array(items))?;
+    put(alloc, &mut document, "n", Bson::Int32(1))?;
+    let id = ObjectId(*b"abcdefghijkl");
+    put(alloc, &mut document, "id", Bson::ObjectId(id))?;
+    put(alloc, &mut document, "r", regex(alloc)?)?;
+    put(alloc, &mut document, "c", scoped(alloc)?)?;
+    let items = vec![in alloc; Bson::Null]?;
+    put(alloc, &mut document, "a", Bson::Array(items))?;
     Ok(Bson::Document(document))
 }
 
-/// The same document with the number as an Int64 and the values opened that JSON lacks, in the bytes of the public format.
-const BYTES: &[u8] = b"\xac\0\0\0\
+/// The same document in the bytes of the public format, with the number as an Int64 and the values opened that JSON lacks.
+const OPENED: &[u8] = b"\xac\0\0\0\
     \x12n\0\x01\0\0\0\0\0\0\0\
     \x03id\0(\0\0\0\x02$oid\0\x19\0\0\06162636465666768696a6b6c\0\0\
     \x03r\0=\0\0\0\x03$regularExpression\0$\0\0\0\x02pattern\0\x02\0\0\0a\0\x02options\0\x03\0\0\0ix\0\0\0\
     \x03c\0\x22\0\0\0\x02$code\0\x02\0\0\0f\0\x03$scope\0\x08\0\0\0\x0ax\0\0\0\
     \x04a\0\x08\0\0\0\x0a0\0\0\0";
 
+/// The same document in the bytes of the public format.
+const BYTES: &[u8] = b"\x44\0\0\0\
+    \x10n\0\x01\0\0\0\
+    \x07id\0abcdefghijkl\
+    \x0br\0a\0ix\0\
+    \x0fc\0\x12\0\0\0\x02\0\0\0f\0\x08\0\0\0\x0ax\0\0\
+    \x04a\0\x08\0\0\0\x0a0\0\0\0";
+
 #[test]
 fn a_tree_is_read(rt: HostRuntime) -> Result<(), Fail> {
     let alloc = rt.alloc();
     let tree = tree(alloc)?;
-    let shape = Shape::parse(alloc, "{n:i64,id:any,r:any,c:any,a:[?bool]}")?;
-    let Ok(datum) = read_value(alloc, &shape, &Met::of_tree(200, &tree)) else {
-        return Err(Fail::from("not read"));
-    };
-    assert_eq!(rt; to_vec_at(alloc, &datum)?.as_slice(), BYTES);
+    for (shape, bytes) in [
+        ("{n:i64,id:any,r:any,c:any,a:[?bool]}", OPENED),
+        ("{n:i32,id:oid,r:regex,c:codews,a:bson}", BYTES),
+        ("bson", BYTES),
+    ] {
+        let shape = Shape::parse(alloc, shape)?;
+        let Ok(datum) = read_value(alloc, &shape, &Met::of_tree(200, &tree)) else {
+            return Err(Fail::from("not read"));
+        };
+        assert_eq!(rt; to_vec_at(alloc, &datum)?.as_slice(), bytes);
+    }
     Ok(())
 }

@@ -26,15 +26,17 @@ use Rattle.bson_met.proofs.Refusals.{StopsAs, stops_inside}
 use Rattle.bson_slots.specs.Place.{place_of}
 use Rattle.bson_slots.specs.SlotsView.{slots_view}
 use Rattle.bson_slots.proofs.Elements.{value_put, value_refused, put_filled, unknown_dropped, unknown_refused}
-use Rattle.bson_de.specs.Enums.{variant_named}
-use Rattle.bson_de.specs.ListsMarked.{items_marked, entries_marked}
-use Rattle.bson_de.proofs.Each.{each, step_is, item_is, each_step, each_next, each_stop}
+use Rattle.bson_leaves.specs.EntriesView.{key_form, entries_of}
+use Rattle.bson_leaves.specs.Named.{variant_named}
+use Rattle.bson_leaves.specs.ListsMarked.{items_marked, entries_marked}
+use Rattle.bson_leaves.proofs.Each.{each, step_is, item_is, each_step, each_next, each_stop}
 use Rattle.bson_de.proofs.FieldPlaces.{values_before, places_step, places_stop, places_end, all_left as no_values}
-use Rattle.bson_de.proofs.KeyTexts.{key_valued}
-use Rattle.bson_de.proofs.Loops.{items_by, items_each, items_push, item_done, item_stops, entries_by, entries_each, entry_done, key_stops, entry_stops, slots_by, fill_each, ignored_at}
-use Rattle.bson_de.proofs.Mapped.{taken, not_taken}
+use Rattle.bson_leaves.proofs.KeyTexts.{key_valued}
+use Rattle.bson_leaves.proofs.Loops.{items_by, items_each, items_push, item_done, item_stops, entries_by, entries_each, entry_done, key_stops, entry_stops, ignored_at}
+use Rattle.bson_leaves.proofs.Mapped.{taken, not_taken}
+use Rattle.bson_wrapped.proofs.Filled.{slots_by, fill_each}
 use Rattle.bson_de.proofs.Nulls.{option_null}
-use Rattle.bson_de.proofs.MarkedLists.{marked-Seq, marked-Tuple, marked-TupleStruct, marked-TupleVariant, marked-Map}
+use Rattle.bson_leaves.proofs.MarkedLists.{marked-Seq, marked-Tuple, marked-TupleStruct, marked-TupleVariant, marked-Map}
 use Rattle.bson_de.proofs.Parts.{items_before, parts_step, parts_stop, parts_end, all_left}
 use Rattle.bson_de.proofs.VariantContents.{contents_at_key}
 use Rattle.bson_de.proofs.Variants.{first_read, element_read, content_read, named_smaller, named_content}
@@ -171,7 +173,7 @@ map::read_entries-put-requires t c =
     let s = c.advance.new.step in
     record {
       indexed = c.step.invariant.0;
-      key = key_valued (form_view c.step.entries.key) (str_piece s.key) (marked c.in_ok-key.key) c.step.invariant.0.text c.in_ok-key.ensures.exact;
+      key = key_valued (form_view (key_form c.step.entries)) (str_piece s.key) (marked c.in_ok-key.key) c.step.invariant.0.text c.in_ok-key.ensures.exact;
     }
 
 pub map::read_entries-step-preserved : goal.map::read_entries-step-preserved
@@ -180,7 +182,7 @@ map::read_entries-step-preserved t c =
     let read = reads c.args.item.now plain in
     let s = c.advance.new.step in
     let k = str_piece s.key in
-    let old = entries_marked c.step.entries.entries.items in
+    let old = entries_marked (entries_of c.step.entries) in
     let put = c.in_ok-put.ensures in
     let first = step_is _ _ c.in_ok-advance.field-0 s c.in_ok-advance.ensures.advanced c.if-branch.true in
     let named : read_key k ≡ Ok (marked c.in_ok-key.key) = ap (λ f. reads_key plain f k) (sym c.step.invariant.1) ∙ c.in_ok-key.ensures.exact in (
@@ -197,7 +199,7 @@ map::read_entries-returns-in_err-key t c =
     let read = reads c.args.item.now plain in
     let s = c.advance.new.step in
     let k = str_piece s.key in
-    let old = entries_marked c.step.entries.entries.items in
+    let old = entries_marked (entries_of c.step.entries) in
     let stop = c.in_err-key.field-0.0 in
     let first = step_is _ _ c.in_ok-advance.field-0 s c.in_ok-advance.ensures.advanced c.if-branch.true in
     let refused_key = subst (λ f. StopsAs stop (reads_key plain f k)) c.step.invariant.1 c.in_err-key.ensures.exact in
@@ -210,7 +212,7 @@ map::read_entries-returns-in_err-value t c =
     let read = reads c.args.item.now plain in
     let s = c.advance.new.step in
     let k = str_piece s.key in
-    let old = entries_marked c.step.entries.entries.items in
+    let old = entries_marked (entries_of c.step.entries) in
     let stop = c.in_err-value.field-0.0 in
     let first = step_is _ _ c.in_ok-advance.field-0 s c.in_ok-advance.ensures.advanced c.if-branch.true in
     let named : read_key k ≡ Ok (marked c.in_ok-key.key) = ap (λ f. reads_key plain f k) (sym c.step.invariant.1) ∙ c.in_ok-key.ensures.exact in

@@ -8,11 +8,12 @@ use Rattle.bson_laws.specs.Reads.{reads, reads_parts, slots_of}
 use Rattle.bson_laws.specs.Slots.{fill, reads_places}
 use Rattle.bson_met.specs.Sizes.{count}
 use Rattle.bson_slots.specs.SlotsView.{slots_view}
-use Rattle.bson_de.specs.EntriesView.{IsIndexed}
-use Rattle.bson_de.specs.ListsMarked.{items_marked, entries_marked}
-use Rattle.bson_de.proofs.Each.{each}
+use Rattle.bson_leaves.specs.EntriesView.{IsIndexed, key_form, entries_of}
+use Rattle.bson_leaves.specs.ListsMarked.{items_marked, entries_marked}
+use Rattle.bson_leaves.proofs.Each.{each}
+use Rattle.bson_wrapped.proofs.Filled.{slots_by}
 use Rattle.bson_de.proofs.FieldPlaces.{values_before}
-use Rattle.bson_de.proofs.Loops.{items_by, entries_by, slots_by}
+use Rattle.bson_leaves.proofs.Loops.{items_by, entries_by}
 use Rattle.bson_de.proofs.Parts.{items_before}
 use Rattle.bson_de.proofs.+read.Given as goal
 
@@ -72,8 +73,8 @@ decreases-map::read_map l = 8 * nodes l.item.now + 3
 -- what is left of the document, put to the entries so far, is all that is in it
 abbrev pub invariant-map::read_entries-step : goal.invariant-map::read_entries-step
 invariant-map::read_entries-step l =
-    IsIndexed l.entries × (form_view l.entries.key ≡ l.fn.key)
-    × (each (entries_by (reads_key plain l.fn.key) (reads l.item plain)) 0 l.elements (entries_marked l.entries.entries.items) ≡ reads_entries (reads_key plain l.fn.key) (reads l.item plain) l.fn.elements no_entries)
+    IsIndexed l.entries × (form_view (key_form l.entries) ≡ l.fn.key)
+    × (each (entries_by (reads_key plain l.fn.key) (reads l.item plain)) 0 l.elements (entries_marked (entries_of l.entries)) ≡ reads_entries (reads_key plain l.fn.key) (reads l.item plain) l.fn.elements no_entries)
 
 abbrev pub decreases-map::read_entries-step : goal.decreases-map::read_entries-step
 decreases-map::read_entries-step l = count l.elements

@@ -6,5 +6,5 @@ pub returns : goal.returns
 returns c = record {
   reads = λ s t d shape plain sound is. views_reads s t d shape sound is;
   fits = λ s t d shape plain sound is. views_fit s t d sound.clean is;
-  normal = λ s t d shape plain sound is. norm_same s t d is;
+  normal = λ s t d shape plain sound is. norm_same s t d plain sound.clean is;
 }

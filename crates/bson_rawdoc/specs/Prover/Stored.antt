@@ -1,12 +1,13 @@
--- How the logic stores an element and a walk.
-use Rattle.std.specs.Prelude.{◌≡◌, ℕ, List, refl}
-use Rattle.std.specs.Coded.{Coded, coded_ℕ, coded_list, coded×, code_by}
+-- How the logic stores an element, a walk and a cut.
+use Rattle.std.specs.Prelude.{◌≡◌, ℕ, List, Option, refl}
+use Rattle.std.specs.Coded.{Coded, coded_ℕ, coded_list, coded_option, coded×, code_by}
 use Rattle.std.proofs.Common.{ap, arith}
 use base.Stored.{Gv, gnil, gnum, gcons}
 use Rattle.bson_base.specs.Prover.Stored.{head, tail, num}
 use Rattle.bson_base.specs.declared.element_type.ElementType.{ElementType}
 use Rattle.bson_base.specs.contracts.element_type.ElementType as kinds
 use Rattle.bson_rawdoc.specs.contracts.raw.Error as faults
+use Rattle.bson_rawdoc.specs.Cut.{Cut}
 use Rattle.bson_rawdoc.specs.Walk.{Element, Walk, ended, faulty, then_walk}
 
 abbrev pub coded_element : Coded Element
@@ -27,3 +28,8 @@ walk_inj x y p = absurd (omega (arith, ap (λ g. num (head g)) p))
 
 abbrev pub coded_walk : Coded Walk
 coded_walk = record { code = walk_code; inj = walk_inj }
+
+abbrev pub coded_cut : Coded Cut
+coded_cut =
+    code_by (List (List ℕ) × Option ℕ) (coded× (coded_list (coded_list coded_ℕ)) (coded_option coded_ℕ))
+    (λ c. (c.pieces, c.broken)) (λ p. record { pieces = p.0; broken = p.1 }) (λ _. refl)

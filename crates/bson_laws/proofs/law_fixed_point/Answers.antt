@@ -1,0 +1,5 @@
+use Rattle.bson_laws.proofs.ReadAgain.{document_again}
+use Rattle.bson_laws.proofs.law_fixed_point.Goals as goal
+
+pub returns : goal.returns
+returns c = record { again = document_again }

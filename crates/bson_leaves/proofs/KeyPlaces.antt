@@ -1,0 +1,62 @@
+-- The places of texts among keys.
+use Rattle.std.proofs.Common.{◌≡◌, ℕ, suc, ◌+◌, ◌-◌, ◌<◌, ◌≤◌, List, [], ◌∷◌, ◌++◌, length, get_or, set, take, map, Bool, true, false, cond, Option, Some, None, refl, ap, sym, ◌∙◌, arith}
+use Rattle.std.specs.Borrow.{Bor}
+use Rattle.std.specs.HashMap.{HashMap}
+use Rattle.std.specs.Str.{bytes_eq}
+use Rattle.std.proofs.lemmas.List.{take_more, take_more_set, map-append, length-map, length-take, take_all}
+use Rattle.bson_base.specs.Text.{Utf8}
+use Rattle.bson_leaves.specs.KeyPlaces.{further_or_first, place_among}
+use Rattle.bson_leaves.specs.KeysView.{place_found}
+
+-- the texts of keys
+abbrev pub texts_of : List (Bor Utf8) → List Utf8
+texts_of keys = map (λ k. k.now) keys
+
+further_again : (b : Bool) (n : ℕ) (o first : Option ℕ) → further_or_first (cond b (Some n) o) first ≡ cond b (Some (suc n)) (further_or_first o first)
+further_again true n o first = refl
+further_again false n o first = refl
+
+-- a key behind all others
+pub place_behind : (keys : List Utf8) (key text : Utf8) → place_among (keys ++ key ∷ []) text ≡ cond (bytes_eq key text) (Some (length keys)) (place_among keys text)
+place_behind [] key text = refl
+place_behind (k ∷ keys) key text =
+    ap (λ o. further_or_first o (cond (bytes_eq k text) (Some 0) None)) (place_behind keys key text) ∙ further_again (bytes_eq key text) (length keys) (place_among keys text) (cond (bytes_eq k text) (Some 0) None)
+
+-- a key behind those so far
+pub place_append : (done : List (Bor Utf8)) (key : Bor Utf8) (place : ℕ) (text : Utf8) → length done ≡ place → place_among (texts_of (done ++ key ∷ [])) text ≡ cond (bytes_eq key.now text) (Some place) (place_among (texts_of done) text)
+place_append done key place text many =
+    ap (λ ks. place_among ks text) (map-append (λ (k : Bor Utf8). k.now) done (key ∷ []))
+    ∙ place_behind (texts_of done) key.now text
+    ∙ ap (λ n. cond (bytes_eq key.now text) (Some n) (place_among (texts_of done) text)) (length-map done (λ k. k.now) ∙ many)
+
+-- one more of the keys that a loop has gone over
+pub place_more : (keys : List (Bor Utf8)) (i : ℕ) (key : Bor Utf8) (text : Utf8) → i < length keys → place_among (texts_of (take (i + 1) keys)) text ≡ cond (bytes_eq (get_or keys i key).now text) (Some i) (place_among (texts_of (take i keys)) text)
+place_more keys i key text lt =
+    ap (λ ks. place_among (texts_of ks) text) (take_more keys i key lt) ∙ place_append (take i keys) (get_or keys i key) i text (omega (arith, length-take i keys))
+
+-- while there is no map one more key goes behind the others
+pub few_more : {S : Type 0} (m : Option (HashMap (Bor Utf8) ℕ S)) (first : List (Bor Utf8)) (count place : ℕ) (key : Bor Utf8) (text : Utf8) → m ≡ None → place ≡ count → count < length first
+    → place_found m (texts_of (take (count + 1) (set first count key))) text ≡ cond (bytes_eq key.now text) (Some place) (place_found m (texts_of (take count first)) text)
+few_more m first count place key text none next lt =
+    ap (λ o. place_found o (texts_of (take (count + 1) (set first count key))) text) none
+    ∙ ap (λ ks. place_among (texts_of ks) text) (take_more_set first count key lt)
+    ∙ place_append (take count first) key place text (omega (arith, next, length-take count first))
+    ∙ ap (λ o. cond (bytes_eq key.now text) (Some place) (place_found o (texts_of (take count first)) text)) (sym none)
+
+-- where they fill all the room there is
+pub few_all : {S : Type 0} (m : Option (HashMap (Bor Utf8) ℕ S)) (first : List (Bor Utf8)) (count : ℕ) (text : Utf8) → m ≡ None → length first ≤ count → place_among (texts_of first) text ≡ place_found m (texts_of (take count first)) text
+few_all m first count text none all =
+    ap (λ ks. place_among (texts_of ks) text) (sym (take_all count first all)) ∙ ap (λ o. place_found o (texts_of (take count first)) text) (sym none)
+
+-- a scan from the last key comes to one more
+module _ (keys : List (Bor Utf8)) (place : ℕ) (key : Bor Utf8) (text : Utf8) (some : 0 < place) (within : place ≤ length keys) where
+  scan_more : place_among (texts_of (take place keys)) text ≡ cond (bytes_eq (get_or keys (place - 1) key).now text) (Some (place - 1)) (place_among (texts_of (take (place - 1) keys)) text)
+  scan_more =
+      let back : place ≡ (place - 1) + 1 = omega arith in
+      ap (λ n. place_among (texts_of (take n keys)) text) back ∙ place_more keys (place - 1) key text (omega arith)
+
+  pub scan_found : bytes_eq (get_or keys (place - 1) key).now text ≡ true → place_among (texts_of (take place keys)) text ≡ Some (place - 1)
+  scan_found is = scan_more ∙ ap (λ b. cond b (Some (place - 1)) (place_among (texts_of (take (place - 1) keys)) text)) is
+
+  pub scan_next : bytes_eq (get_or keys (place - 1) key).now text ≡ false → place_among (texts_of (take place keys)) text ≡ place_among (texts_of (take (place - 1) keys)) text
+  scan_next other = scan_more ∙ ap (λ b. cond b (Some (place - 1)) (place_among (texts_of (take (place - 1) keys)) text)) other

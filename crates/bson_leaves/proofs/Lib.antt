@@ -1,0 +1,12 @@
+pub mod AnyRead
+pub mod Characters
+pub mod Each
+pub mod KeyedEntries
+pub mod KeyPlaces
+pub mod KeyTexts
+pub mod Loops
+pub mod Mapped
+pub mod MarkedLists
+pub mod NumberLeaves
+pub mod Texts
+pub mod Variants

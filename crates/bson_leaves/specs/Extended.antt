@@ -1,0 +1,18 @@
+-- The extended leaves: those whose values serde's data model lacks.
+use Rattle.std.specs.Prelude.{Bool, true, false}
+use Rattle.bson_shape.specs.declared.leaf.Leaf.{Leaf}
+use Rattle.bson_shape.specs.declared.leaf.Leaf.TheVariants.{ObjectId, DateTime, Binary, Timestamp, Regex, CodeWithScope, Decimal128, DbPointer, Uuid, Bson, Document}
+
+abbrev pub is_extended : Leaf → Bool
+is_extended ObjectId = true
+is_extended DateTime = true
+is_extended Binary = true
+is_extended Timestamp = true
+is_extended Regex = true
+is_extended CodeWithScope = true
+is_extended Decimal128 = true
+is_extended DbPointer = true
+is_extended Uuid = true
+is_extended Bson = true
+is_extended Document = true
+is_extended l = false

@@ -1,0 +1,11 @@
+pub mod Any
+pub mod EntriesView
+pub mod Extended
+pub mod KeyPlaces
+pub mod KeysView
+pub mod KeyValues
+pub mod Leaves
+pub mod ListsMarked
+pub mod Named
+pub mod Next
+pub mod Passes

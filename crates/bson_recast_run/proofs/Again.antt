@@ -1,0 +1,82 @@
+-- What was recast is recast again as the same bytes.
+use Rattle.std.proofs.Common.{◌≡◌, ◌≤◌, List, [], ◌∷◌, length, Bool, true, false, Result, Ok, Err, Option, Some, refl, ap, sym, subst, ◌∙◌, inl, inr, arith}
+use Rattle.std.specs.Prelude.{◌⊎◌, ℕ, nat_lt, IfOk}
+use Rattle.std.specs.Global.{Vec}
+use Rattle.std.specs.Io.KnownBytes.{Appends}
+use Rattle.std.proofs.lemmas.Bool.{le-ltb, ltb-false}
+use Rattle.bson_base.specs.Sound.{max_bytes}
+use Rattle.bson_base.specs.Text.{Bytes, AreBytes}
+use Rattle.bson_base.specs.Tree.{Tree, enc}
+use Rattle.bson_shape.specs.Form.{Form}
+use Rattle.bson_shape.specs.Makers.{IsShape}
+use Rattle.bson_datum.specs.Refusal.{ReadFault, Failure}
+use Rattle.bson_datum.specs.Value.{Value}
+use Rattle.bson_laws.specs.Reads.{reads_document}
+use Rattle.bson_laws.specs.Spell.{Writing, spell_document, size}
+use Rattle.bson_laws.proofs.ReadAgain.{document_again, document_size}
+use Rattle.bson_recast_run.specs.declared.recasting.RecastError.{RecastError}
+use Rattle.bson_recast_run.specs.declared.status.Status.TheVariants as statuses
+use Rattle.bson_recast_run.specs.Complete.{recast_status, status_due, WritesExactly}
+use Rattle.bson_recast_run.specs.Due.{recast_at, request}
+use Rattle.bson_recast_run.specs.Recasting.{Recast, writes, written, recast_read, recast_of, IsRecast}
+use Rattle.bson_recast_run.specs.Rows.{IsDue, DoneRow, Told, IsAnswered}
+use Rattle.bson_recast_run.specs.Run.{Run, AllQuiet}
+use Rattle.bson_recast_run.proofs.Headline.{writes_recast}
+use Rattle.bson_recast_run.proofs.Inputs.{whole}
+
+-- a value that was read, and the document that it is written as
+pub record IsWrittenAs (s : Form) (bytes out : Bytes) : Type 0 where
+  pub value : Value
+  pub tree : Tree
+  pub read : reads_document s bytes ≡ Ok value
+  pub spelled : spell_document value ≡ Ok tree
+  pub fits : size value ≤ max_bytes
+  pub is : out ≡ enc tree
+
+value_written : (s : Form) (bytes out : Bytes) (d : Value) (long : Bool) (w : Writing Tree) → reads_document s bytes ≡ Ok d → nat_lt max_bytes (size d) ≡ long → spell_document d ≡ w → written long w ≡ writes out → IsWrittenAs s bytes out
+value_written s bytes out d long (Err r) read fits spelled e = absurd cc
+value_written s bytes out d true (Ok t) read fits spelled e = absurd cc
+value_written s bytes out d false (Ok t) read fits spelled e = record { value = d; tree = t; read = read; spelled = spelled; fits = ltb-false _ _ fits; is = cc }
+
+written_as : (s : Form) (bytes out : Bytes) (answer : Result Value (Failure ReadFault)) → reads_document s bytes ≡ answer → recast_read answer ≡ writes out → IsWrittenAs s bytes out
+written_as s bytes out (Err f) is e = absurd cc
+written_as s bytes out (Ok d) is e = value_written s bytes out d (nat_lt max_bytes (size d)) (spell_document d) is refl refl e
+
+-- what is read as a value that is written as a document of few enough bytes is recast as the document
+recast_as : (s : Form) (bytes : Bytes) (d : Value) (t : Tree) → reads_document s bytes ≡ Ok d → spell_document d ≡ Ok t → length (enc t) ≤ max_bytes → recast_of s bytes ≡ writes (enc t)
+recast_as s bytes d t read spelled fits =
+    ap recast_read read ∙ ap (written (nat_lt max_bytes (size d))) spelled ∙ ap (λ b. written b (Ok t)) (le-ltb _ _ (omega (arith, document_size d t spelled, fits)))
+
+pub recast_again : (s : Form) (bytes out : Bytes) → IsShape s → AreBytes bytes → recast_of s bytes ≡ writes out → recast_of s out ≡ writes out
+recast_again s bytes out shape are e =
+    let w = written_as s bytes out (reads_document s bytes) refl e in
+    let fits : length (enc w.tree) ≤ max_bytes = omega (arith, w.fits, document_size w.value w.tree w.spelled) in
+    let next = document_again s bytes w.value w.tree shape are w.read w.spelled fits in
+    subst (λ b. recast_of s b ≡ writes b) (sym w.is) (recast_as s (enc w.tree) next.0 w.tree next.1 next.2 fits)
+
+pub given_back : (s : Form) (bytes : Bytes) → IsShape s → AreBytes bytes → (r : Result (Vec ℕ) RecastError) → IsRecast (recast_of s bytes) r → IfOk r (λ v. recast_of s v.items ≡ writes v.items)
+given_back s bytes shape are (Ok v) h = recast_again s bytes v.items shape are h
+given_back s bytes shape are (Err e) h = tt
+
+-- ---- two runs
+
+-- what an empty output holds after bytes were appended
+grown : (before after : Option Bytes) (bytes out : Bytes) → before ≡ Some [] → after ≡ Some out → Appends before after bytes → bytes ≡ out
+grown before after bytes out empty holds grew =
+    let both : Appends (Some []) (Some out) bytes = subst (λ a. Appends (Some []) a bytes) holds (subst (λ b. Appends b after bytes) empty grew) in
+    sym both
+
+-- A run that ended well on an input of bytes wrote `out` to an empty output: a run with the same words on `out` writes exactly it, or nothing.
+pub run_again : (first second : Run) (given out : Bytes) → IsAnswered first → first.status ≡ statuses.Done → AreBytes given → first.input.before ≡ Some given
+    → first.out.before ≡ Some [] → first.out.after ≡ Some out → IsAnswered second → second.words ≡ first.words → second.input.before ≡ Some out → AllQuiet second
+    → WritesExactly second out
+run_again first second given out answers done are told empty holds again words input quiet =
+    let h : Told first = answers.done done in
+    let row : DoneRow first.words first.input h.bytes h.line = subst (λ x. IsDue first.words first.input x h.bytes h.line) done h.due in
+    let asked = row.given in
+    let is_input : asked.bytes ≡ given = whole first.input.before first.input.after asked.bytes given asked.read.taken asked.read.ended told in
+    let is_out : h.bytes ≡ out = grown first.out.before first.out.after h.bytes out empty holds h.out_grew in
+    let once : recast_of asked.shape given ≡ writes out = subst (λ b. recast_of asked.shape b ≡ writes out) is_input (row.answer ∙ ap writes is_out) in
+    let w = written_as asked.shape given out (reads_document asked.shape given) refl once in
+    let small : length out ≤ max_bytes = omega (arith, w.fits, document_size w.value w.tree w.spelled, ap length w.is) in
+    writes_recast asked.shape out out second again small (recast_again asked.shape given out asked.for_shape.made are once) (ap request words ∙ asked.for_shape.asked) input quiet

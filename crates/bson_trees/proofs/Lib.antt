@@ -1,0 +1,3 @@
+pub mod ExtendedLeaves
+pub mod TreeData
+pub mod WrappedKinds

@@ -1,0 +1,20 @@
+use Rattle.std.proofs.Common.{sym, subst, rules}
+use Rattle.bson_base.proofs.Outcomes.{map_ok}
+use Rattle.bson_rawdoc.specs.Piece.{made}
+use Rattle.bson_datum.specs.Marked.{Marked}
+use Rattle.bson_datum.specs.MarkedView.{marked}
+use Rattle.bson_laws.specs.Datum.{datum}
+use Rattle.bson_laws.specs.Judged.{Reading, plain}
+use Rattle.bson_laws.specs.Trees.{read_tree}
+use Rattle.bson_met.specs.Gives.{Reaches}
+use Rattle.bson_trees.proofs.ExtendedLeaves.{kind_read, kind_stops}
+use Rattle.bson_trees.proofs.extended.of_kind.Goals as goal
+
+pub returns-in_err-value : goal.returns-in_err-value
+returns-in_err-value c = let here = kind_stops c.args.kind c.args.value.now c.in_err-value.field-0.0 c.in_err-value.ensures.exact in record { exact = search (rules, here) }
+
+pub returns : goal.returns
+returns c =
+    let n = c.args.value.now in
+    let m = map_ok (datum made) (read_tree plain n) (marked c.in_ok-value.value) c.in_ok-value.ensures.exact in
+    record { exact = subst (λ (r : Reading Marked). Reaches marked c.with_kind.result r) (sym (kind_read c.args.kind n m.0 m.1)) (c.with_kind.ensures.exact m.0 m.2) }

@@ -1,0 +1,84 @@
+-- What contracts see of values that are read as trees: data.
+use Rattle.std.specs.Prelude.{Bool, true, false}
+use Rattle.bson_base.specs.Outcome.{◌>>=◌, result_map}
+use Rattle.bson_base.specs.Sorted.{sorted}
+use Rattle.bson_base.specs.Text.{Utf8}
+use Rattle.bson_base.specs.Tree as tree
+use Rattle.bson_base.specs.Tree.{Tree, Pairs}
+use Rattle.bson_rawdoc.specs.Node.{Node, Nodes, Extended, binary, undefined, object_id, date_time, regular_expression, db_pointer, javascript_code, symbol, javascript_code_with_scope, timestamp, decimal128, max_key, min_key}
+use Rattle.bson_rawdoc.specs.Piece.{made}
+use Rattle.bson_datum.specs.Marked.{Marked, MarkedItems, MarkedEntries}
+use Rattle.bson_datum.specs.Refusal.{under}
+use Rattle.bson_datum.specs.Value as value
+use Rattle.bson_datum.specs.declared.wrapper.Wrapper.{Wrapper}
+use Rattle.bson_laws.specs.Datum.{datum, pair_data, tree_data}
+use Rattle.bson_laws.specs.Judged.{Reading, plain}
+use Rattle.bson_laws.specs.Trees.{read_tree, extended_tree, array_trees, document_tree, after_code, after_scope, by_meaning, pairs_in}
+use Rattle.bson_laws.specs.Wrapped.{meaning}
+
+-- a value as a tree, seen as data
+abbrev pub tree_at : Node → Reading Marked
+tree_at n = result_map (datum made) (read_tree plain n)
+
+-- the value at a key
+abbrev pub tree_under : Utf8 → Node → Reading Marked
+tree_under key n = under key (tree_at n)
+
+-- the values of an array
+abbrev pub items_from : Nodes → Reading MarkedItems
+items_from ns = result_map (tree_data made) (array_trees plain 0 ns)
+
+-- the elements of a document, after the pairs of those before them
+abbrev pub elements_from : Nodes → Pairs → Reading Marked
+elements_from ns ps = result_map (datum made) (document_tree plain ns ps)
+
+-- a document from a wrapper key on: the key, its value, and the elements behind it
+abbrev pub wrapped_tree : Wrapper → Utf8 → Node → Nodes → Reading Tree
+wrapped_tree w key n ns = by_meaning w (meaning w) key plain n (read_tree plain n) (λ t. after_code plain t ns) (λ ps. after_scope plain ps ns)
+
+abbrev pub wrapped_at : Wrapper → Utf8 → Node → Nodes → Reading Marked
+wrapped_at w key n ns = result_map (datum made) (wrapped_tree w key n ns)
+
+-- a code and a scope, from what comes after them
+abbrev pub code_from : Utf8 → Nodes → Reading Marked
+code_from t ns = result_map (datum made) (after_code plain t ns)
+
+abbrev pub scope_from : Pairs → Nodes → Reading Marked
+scope_from ps ns = result_map (datum made) (after_scope plain ps ns)
+
+-- the entries of the document that a value is as a tree, and of one at a key
+abbrev pub entries_at : Node → Reading MarkedEntries
+entries_at n = result_map (pair_data made) (read_tree plain n >>= pairs_in)
+
+abbrev pub scope_at : Utf8 → Node → Reading MarkedEntries
+scope_at key n = under key (entries_at n)
+
+abbrev pub is_map : Marked → Bool
+is_map (value.map es) = true
+is_map v = false
+
+-- an extended value
+abbrev pub extended_at : Extended → Reading Marked
+extended_at x = result_map (datum made) (extended_tree plain x)
+
+-- ---- extended values without values in them
+
+abbrev pub is_scalar : Extended → Bool
+is_scalar (javascript_code_with_scope code scope) = false
+is_scalar x = true
+
+-- the data that one is; of a code with a scope nothing is said
+abbrev pub scalar_at : Extended → Marked
+scalar_at (binary subtype b) = datum made (tree.binary subtype b.bytes)
+scalar_at undefined = datum made tree.undefined
+scalar_at (object_id id) = datum made (tree.object_id id.bytes)
+scalar_at (date_time n) = datum made (tree.date_time n)
+scalar_at (regular_expression pattern options) = datum made (tree.regular_expression pattern.bytes (sorted options.bytes))
+scalar_at (db_pointer namespace id) = datum made (tree.db_pointer namespace.bytes id)
+scalar_at (javascript_code t) = datum made (tree.javascript_code t.bytes)
+scalar_at (symbol t) = datum made (tree.symbol t.bytes)
+scalar_at (javascript_code_with_scope code scope) = value.unit
+scalar_at (timestamp time increment) = datum made (tree.timestamp time increment)
+scalar_at (decimal128 b) = datum made (tree.decimal128 b)
+scalar_at max_key = datum made tree.max_key
+scalar_at min_key = datum made tree.min_key

@@ -1,0 +1,46 @@
+// Data that are maps.
+ghost use Rattle.std.specs.Prelude.{◌≡◌, true};
+ghost use Rattle.bson_base.specs.Outcome.{result_map};
+ghost use Rattle.bson_base.specs.Tree.{Tree};
+ghost use Rattle.bson_rawdoc.specs.Piece.{made};
+ghost use Rattle.bson_datum.specs.MarkedView.{marked};
+ghost use Rattle.bson_datum.specs.Value as values;
+ghost use Rattle.bson_laws.specs.Datum.{datum, pair_data};
+ghost use Rattle.bson_laws.specs.Trees.{pairs_in};
+ghost use Rattle.bson_met.specs.Gives.{Reaches};
+ghost use Rattle.bson_leaves.specs.ListsMarked.{entries_marked};
+ghost use Rattle.bson_trees.specs.Trees.{is_map};
+
+use bson_datum::{Cause, Datum, Entry};
+use bson_met::{Reading, refused};
+use std::alloc::Global;
+
+/// The entries of a value that was read as a tree, where it is a document.
+pub(crate) fn entries_of<'de>(alloc: Global, value: Datum<'de>) -> Reading<Vec<Entry<'de>>>
+    ensures exact { (t : Tree) → datum made t ≡ marked value.entry
+        → Reaches (λ v. entries_marked v.items) result (result_map (pair_data made) (pairs_in t)) }
+{
+    if is_map(&value) {
+        return Ok(entries_in(value));
+    }
+    Err(refused(alloc, Cause::InvalidType(value.element_type())))
+}
+
+/// Whether the value is a map.
+fn is_map(value: &Datum<'_>) -> bool
+    ensures { result ≡ is_map (marked value.now) }
+{
+    matches!(value, Datum::Map(_))
+}
+
+/// The entries of a map.
+#[tactic(auto, using(bson_leaves::proofs::MarkedLists::row_entries))]
+fn entries_in<'de>(value: Datum<'de>) -> Vec<Entry<'de>>
+    requires map { is_map (marked value) ≡ true }
+    ensures { values.map (entries_marked result.items) ≡ marked value.entry }
+{
+    match value {
+        Datum::Map(entries) => entries,
+        _ => unreachable!(),
+    }
+}

@@ -1,0 +1,11 @@
+-- What contracts see of JavaScript code with the entries of its scope.
+use Rattle.std.specs.Prelude.{codes}
+use Rattle.bson_base.specs.Text.{Utf8}
+use Rattle.bson_rawdoc.specs.Piece.{made}
+use Rattle.bson_datum.specs.Marked.{Marked, MarkedEntries}
+use Rattle.bson_datum.specs.Value.{str, map, structure}
+use Rattle.bson_laws.specs.Datum.{two}
+
+-- the struct of the code and a map of the entries
+abbrev pub scoped_datum : Utf8 → MarkedEntries → Marked
+scoped_datum code es = structure (made (codes "$codeWithScope")) (two made (codes "$code") (str (made code)) (codes "$scope") (map es))

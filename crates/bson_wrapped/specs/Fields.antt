@@ -1,0 +1,34 @@
+-- What contracts see of the fields of a struct that are read.
+use Rattle.std.specs.Prelude.{[], ◌∷◌, Option, None}
+use Rattle.bson_base.specs.Outcome.{◌>>=◌}
+use Rattle.bson_base.specs.Text.{Utf8}
+use Rattle.bson_rawdoc.specs.Node.{Node, Nodes}
+use Rattle.bson_shape.specs.Form.{Form}
+use Rattle.bson_datum.specs.Marked.{Marked, MarkedFields}
+use Rattle.bson_datum.specs.Refusal.{under}
+use Rattle.bson_laws.specs.Judged.{Reading, judged, ignores, plain}
+use Rattle.bson_laws.specs.ReadsLeaf.{no_extended}
+use Rattle.bson_laws.specs.Shaped.{reads}
+use Rattle.bson_laws.specs.Slots.{Slot, Slots, fill, finish, read_structure}
+
+-- the slot of a field of this shape and name, with what was read for it
+abbrev pub field_slot : Form → Utf8 → Option Marked → Slot
+field_slot s name v = record { name = name; missing = None; read = reads no_extended s plain; value = v }
+
+-- the value at a key, dropped
+abbrev pub drop_at : Utf8 → Node → Reading (Unit {0})
+drop_at key n = under key (ignores plain n)
+
+-- the slots of one field and of two, for which no value has been read yet
+abbrev pub one_slot : Form → Utf8 → Slots
+one_slot s name = field_slot s name None ∷ []
+
+abbrev pub two_slots : Form → Utf8 → Form → Utf8 → Slots
+two_slots s name r other = field_slot s name None ∷ field_slot r other None ∷ []
+
+-- the fields of a value, and those from the elements of a document
+abbrev pub fields_read : Slots → Node → Reading MarkedFields
+fields_read slots n = judged plain n >>= read_structure plain slots
+
+abbrev pub fields_by_key : Slots → Nodes → Reading MarkedFields
+fields_by_key slots ns = fill plain ns slots >>= finish

@@ -1,0 +1,4 @@
+pub mod Bodies
+pub mod Data
+pub mod Fields
+pub mod NextValue

@@ -1,0 +1,239 @@
+// Extended values as data: the structs of their reserved names. All texts, names and byte strings in them are owned.
+ghost use Rattle.std.specs.Prelude.{◌≡◌, true, string_bytes, IfOk};
+ghost use Rattle.bson_base.specs.Instant.{millis};
+ghost use Rattle.bson_base.specs.Sorted.{sorted};
+ghost use Rattle.bson_base.specs.Tree as tree;
+ghost use Rattle.bson_rawdoc.specs.Piece.{made};
+ghost use Rattle.bson_datum.specs.MarkedView.{marked};
+ghost use Rattle.bson_datum.specs.Value as values;
+ghost use Rattle.bson_laws.specs.Datum.{datum, uuid_datum, one, two, wrapped};
+ghost use Rattle.bson_met.specs.PieceView.{met_text};
+ghost use Rattle.bson_wrapped.specs.Data.{scoped_datum};
+ghost use Rattle.bson_leaves.specs.ListsMarked.{entries_marked};
+
+use bson_base::{BinarySubtype, DateTime, Decimal128, ObjectId, Regex, Timestamp, Uuid};
+use bson_datum::{ByteStr, Datum, Entry, Field, Text};
+use bson_met::{MetBytes, MetText};
+use bson_slots::{named_field, named_struct};
+use std::alloc::{AllocError, Global};
+
+/// A text.
+fn text<'de>(text: String) -> Datum<'de>
+    ensures { marked result ≡ values.str (made (string_bytes text)) }
+{
+    Datum::Str(Text::Owned(text))
+}
+
+/// A copy of a text that is met.
+fn text_of<'de>(alloc: Global, text: MetText<'_>) -> Result<Datum<'de>, AllocError>
+    ensures { IfOk result (λ d. marked d ≡ values.str (made (met_text text.entry).bytes)) }
+{
+    Ok(Datum::Str(Text::Owned(text.to_string(alloc)?)))
+}
+
+/// A copy of bytes.
+pub fn bytes<'de>(alloc: Global, bytes: &[u8]) -> Result<Datum<'de>, AllocError>
+    ensures { IfOk result (λ d. marked d ≡ values.bytes (made bytes.now)) }
+{
+    Ok(Datum::Bytes(ByteStr::Owned(bytes.to_vec(alloc)?)))
+}
+
+/// Bytes that do not stand in the input.
+fn elsewhere(bytes: &[u8]) -> MetBytes<'_>
+    ensures { result.bytes.now ≡ bytes.now }
+{
+    MetBytes {
+        bytes,
+        in_input: false,
+    }
+}
+
+/// The struct of this name with one field.
+fn struct_of_one<'de>(
+    alloc: Global,
+    name: &str,
+    key: &str,
+    value: Datum<'de>,
+) -> Result<Datum<'de>, AllocError>
+    ensures { IfOk result (λ d. marked d ≡ values.structure (made name.now) (one made key.now (marked value.entry))) }
+{
+    let fields = vec![in alloc; named_field(alloc, key, value)?]?;
+    named_struct(alloc, name, fields)
+}
+
+/// The struct of this name with two fields.
+fn struct_of_two<'de>(
+    alloc: Global,
+    name: &str,
+    first: (&str, Datum<'de>),
+    second: (&str, Datum<'de>),
+) -> Result<Datum<'de>, AllocError>
+    ensures { IfOk result (λ d. marked d ≡ values.structure (made name.now)
+        (two made first.entry.0.now (marked first.entry.1) second.entry.0.now (marked second.entry.1))) }
+{
+    let first = named_field(alloc, first.0, first.1)?;
+    let second = named_field(alloc, second.0, second.1)?;
+    let fields = vec![in alloc; first, second]?;
+    named_struct(alloc, name, fields)
+}
+
+/// The struct of a reserved name whose one field has the same name.
+fn wrap<'de>(alloc: Global, name: &str, value: Datum<'de>) -> Result<Datum<'de>, AllocError>
+    ensures { IfOk result (λ d. marked d ≡ wrapped made name.now (marked value.entry)) }
+{
+    struct_of_one(alloc, name, name, value)
+}
+
+/// An ObjectId of these bytes.
+pub fn object_id<'de>(alloc: Global, id: &[u8]) -> Result<Datum<'de>, AllocError>
+    ensures { IfOk result (λ d. marked d ≡ datum made (tree.object_id id.now)) }
+{
+    let digits = text_of(alloc, MetText::Digits(elsewhere(id)))?;
+    wrap(alloc, "$oid", digits)
+}
+
+/// A time.
+pub fn date_time<'de>(alloc: Global, time: DateTime) -> Result<Datum<'de>, AllocError>
+    ensures { IfOk result (λ d. marked d ≡ datum made (tree.date_time (millis time))) }
+{
+    let number = text_of(alloc, MetText::Number(time))?;
+    let body = struct_of_one(alloc, "", "$numberLong", number)?;
+    wrap(alloc, "$date", body)
+}
+
+/// A binary: bytes where its subtype is 0, and else a struct.
+pub fn binary<'de>(
+    alloc: Global,
+    subtype: BinarySubtype,
+    content: &[u8],
+) -> Result<Datum<'de>, AllocError>
+    ensures { IfOk result (λ d. marked d ≡ datum made (tree.binary subtype.0 content.now)) }
+{
+    if subtype.0 == 0 {
+        return bytes(alloc, content);
+    }
+    let base64 = text_of(alloc, MetText::Base64(elsewhere(content)))?;
+    let digits = text_of(alloc, MetText::Subtype(subtype))?;
+    let body = struct_of_two(alloc, "", ("base64", base64), ("subType", digits))?;
+    wrap(alloc, "$binary", body)
+}
+
+/// A binary whose bytes are owned.
+pub fn owned_binary<'de>(
+    alloc: Global,
+    subtype: BinarySubtype,
+    content: Vec<u8>,
+) -> Result<Datum<'de>, AllocError>
+    ensures { IfOk result (λ d. marked d ≡ datum made (tree.binary subtype.0 content.items)) }
+{
+    if subtype.0 == 0 {
+        return Ok(Datum::Bytes(ByteStr::Owned(content)));
+    }
+    binary(alloc, subtype, &content)
+}
+
+/// A timestamp.
+pub fn timestamp<'de>(alloc: Global, time: Timestamp) -> Result<Datum<'de>, AllocError>
+    ensures { IfOk result (λ d. marked d ≡ datum made (tree.timestamp time.time time.increment)) }
+{
+    let first = ("t", Datum::I64(i64::from(time.time)));
+    let second = ("i", Datum::I64(i64::from(time.increment)));
+    let body = struct_of_two(alloc, "", first, second)?;
+    wrap(alloc, "$timestamp", body)
+}
+
+/// A regular expression. Its options are sorted by character.
+pub fn regular_expression<'de>(
+    alloc: Global,
+    pattern: String,
+    options: String,
+) -> Result<Datum<'de>, AllocError>
+    ensures { IfOk result (λ d. marked d ≡ datum made (tree.regular_expression (string_bytes pattern) (sorted (string_bytes options)))) }
+{
+    let sorted = Regex::new(alloc, String::new(alloc), options)?;
+    let options = text(String::from_str(alloc, sorted.options())?);
+    let body = struct_of_two(alloc, "", ("pattern", text(pattern)), ("options", options))?;
+    wrap(alloc, "$regularExpression", body)
+}
+
+/// A DbPointer.
+pub fn db_pointer<'de>(
+    alloc: Global,
+    namespace: String,
+    id: ObjectId,
+) -> Result<Datum<'de>, AllocError>
+    ensures { IfOk result (λ d. marked d ≡ datum made (tree.db_pointer (string_bytes namespace) id.0)) }
+{
+    let digits = text_of(alloc, MetText::Id(id))?;
+    let id = struct_of_one(alloc, "", "$oid", digits)?;
+    let body = struct_of_two(alloc, "", ("$ref", text(namespace)), ("$id", id))?;
+    wrap(alloc, "$dbPointer", body)
+}
+
+/// JavaScript code.
+pub fn code<'de>(alloc: Global, code: String) -> Result<Datum<'de>, AllocError>
+    ensures { IfOk result (λ d. marked d ≡ datum made (tree.javascript_code (string_bytes code))) }
+{
+    wrap(alloc, "$code", text(code))
+}
+
+/// JavaScript code with the entries of its scope.
+#[tactic(auto, using(bson_leaves::proofs::MarkedLists::row_entries))]
+pub fn scoped_code<'de>(
+    alloc: Global,
+    code: String,
+    scope: Vec<Entry<'de>>,
+) -> Result<Datum<'de>, AllocError>
+    ensures { IfOk result (λ d. marked d ≡ scoped_datum (string_bytes code) (entries_marked scope.entry.items)) }
+{
+    let code = ("$code", text(code));
+    let scope = ("$scope", Datum::Map(scope));
+    struct_of_two(alloc, "$codeWithScope", code, scope)
+}
+
+/// A Symbol.
+pub fn symbol<'de>(alloc: Global, symbol: String) -> Result<Datum<'de>, AllocError>
+    ensures { IfOk result (λ d. marked d ≡ datum made (tree.symbol (string_bytes symbol))) }
+{
+    wrap(alloc, "$symbol", text(symbol))
+}
+
+/// A Decimal128 of these bytes.
+pub fn decimal128<'de>(alloc: Global, bits: Vec<u8>) -> Result<Datum<'de>, AllocError>
+    ensures { IfOk result (λ d. marked d ≡ datum made (tree.decimal128 bits.items)) }
+{
+    let bits = Datum::Bytes(ByteStr::Owned(bits));
+    struct_of_one(alloc, "$numberDecimal", "$numberDecimalBytes", bits)
+}
+
+/// The deprecated kind without a value.
+pub fn undefined<'de>(alloc: Global) -> Result<Datum<'de>, AllocError>
+    ensures { IfOk result (λ d. marked d ≡ datum made tree.undefined) }
+{
+    wrap(alloc, "$undefined", Datum::Bool(true))
+}
+
+/// The value that is greater than every other.
+pub fn max_key<'de>(alloc: Global) -> Result<Datum<'de>, AllocError>
+    ensures { IfOk result (λ d. marked d ≡ datum made tree.max_key) }
+{
+    wrap(alloc, "$maxKey", Datum::I32(1))
+}
+
+/// The value that is less than every other.
+pub fn min_key<'de>(alloc: Global) -> Result<Datum<'de>, AllocError>
+    ensures { IfOk result (λ d. marked d ≡ datum made tree.min_key) }
+{
+    wrap(alloc, "$minKey", Datum::I32(1))
+}
+
+/// A UUID: its newtype around its text and its bytes.
+pub fn uuid<'de>(alloc: Global, id: Uuid) -> Result<Datum<'de>, AllocError>
+    ensures { IfOk result (λ d. marked d ≡ uuid_datum made id.0) }
+{
+    let readable = Box::new(alloc, text(id.to_hyphenated(alloc)?))?;
+    let compact = Box::new(alloc, bytes(alloc, &id.0)?)?;
+    let value = Box::new(alloc, Datum::Mode { readable, compact })?;
+    let name = Text::Owned(String::from_str(alloc, "$__bson_private_uuid")?);
+    Ok(Datum::NewtypeStruct { name, value })
+}
