@@ -2,9 +2,9 @@
 """Measures the built program on inputs that it makes itself, beside a program over libbson.
 
 For each workload: seconds and bytes a second, instructions for each byte of input, and peak memory. Instructions are counted by
-valgrind's cachegrind, less those of the same program on the smallest document, so they tell the same on every run.
+valgrind's cachegrind, less those of the same program on the smallest input, so they tell the same on every run.
 
-    python3 bench/bench.py                  # all workloads, with crates/bson_recast/out/bson_recast
+    python3 bench/bench.py                  # all workloads, with crates/bson_recast/out/bson_recast and bson_migrate's
     python3 bench/bench.py --only rows      # one of them
 
 It needs valgrind; the ratios to libbson need gcc and libbson's header (Debian: libbson-dev), and are left out without them.
@@ -14,7 +14,8 @@ import argparse, itertools, os, pathlib, re, shutil, string as letters, struct, 
 from elements import array, binary, document, element, int32, string, text
 
 HERE = pathlib.Path(__file__).resolve().parent
-PROGRAM = HERE.parent / "crates/bson_recast/out/bson_recast"
+RECAST = HERE.parent / "crates/bson_recast/out/bson_recast"
+MIGRATE = HERE.parent / "crates/bson_migrate/out/bson_migrate"
 SMALLEST = b"\x05\0\0\0\0"
 
 
@@ -165,6 +166,36 @@ def extended(count):
     return shape, document([element(4, "items", array([(3, one()) for _ in range(count)]))])
 
 
+PEOPLE = ["Ada", "Grace Hopper", "Zo\u00eb", "Jos\u00e9 Garc\u00eda", "Bj\u00f6rn", "Edsger W. Dijkstra", "\u041b\u0435\u0432", "\u674e\u96f7"]
+TAGS = ["a", "admin", "beta", "eu-west", "caf\u00e9", "longer-tag-name", "\u65b0"]
+CITIES = ["X", "Berlin", "Z\u00fcrich", "S\u00e3o Paulo", "Oslo", "\u6771\u4eac", "New York"]
+
+
+def people(count):
+    """So many documents of persons. One in five has a key that no field takes; three in twenty have no address, three a null."""
+    draws = Draws(3)
+
+    def one():
+        elements = [element(7, "_id", draws.data(12)), text("name", draws.pick(PEOPLE)),
+                    element(4, "tags", array([(2, string(draws.pick(TAGS))) for _ in range(draws.below(4))])),
+                    element(9, "created", struct.pack("<q", draws.below(2**41)))]
+        if draws.below(5) == 0:
+            elements.append(int32("v", draws.below(100)))
+        kind = draws.below(20)
+        if kind < 14:
+            elements.append(element(3, "address", document([text("city", draws.pick(CITIES))])))
+        elif kind < 17:
+            elements.append(element(10, "address", b""))
+        return document(elements)
+    return "{_id:oid,name:string,tags:[string],created:datetime,address:?{city:string}}", [one() for _ in range(count)]
+
+
+def file(count):
+    """A file of documents of persons, one behind another."""
+    shape, documents = people(count)
+    return shape, b"".join(documents)
+
+
 WORKLOADS = {
     "rows": lambda: rows(100_000),
     "rows, a tenth": lambda: rows(10_000),
@@ -178,6 +209,8 @@ WORKLOADS = {
     "opened": lambda: opened(20_000),
     "extended": lambda: extended(20_000),
     "extended, a tenth": lambda: extended(2_000),
+    "file": lambda: file(10_000),
+    "file, a tenth": lambda: file(1_000),
     "18,000 fields in order": lambda: fields(18_000, False),
     "9,000 fields in order": lambda: fields(9_000, False),
     "18,000 fields in reverse": lambda: fields(18_000, True),
@@ -231,7 +264,8 @@ def made(name, folder):
 
 def main():
     parser = argparse.ArgumentParser(description=__doc__, formatter_class=argparse.RawDescriptionHelpFormatter)
-    parser.add_argument("--program", default=str(PROGRAM), help="the built bson_recast")
+    parser.add_argument("--program", default=str(RECAST), help="the built bson_recast")
+    parser.add_argument("--migrate", default=str(MIGRATE), help="the built bson_migrate, which takes the files of documents")
     parser.add_argument("--only", help="one workload")
     parser.add_argument("--make", nargs=2, metavar=("NAME", "FILE"), help="write the input of a workload to FILE, its shape to FILE.shape")
     options = parser.parse_args()
@@ -244,13 +278,17 @@ def main():
     with tempfile.TemporaryDirectory() as folder:
         smallest = pathlib.Path(folder, "smallest")
         smallest.write_bytes(SMALLEST)
+        nothing = pathlib.Path(folder, "nothing")
+        nothing.write_bytes(b"")
         for name in WORKLOADS:
             if options.only not in (None, name):
                 continue
             shape, path = made(name, folder)
-            ours = measure(name, [options.program, shape], path, [options.program, "{}"], smallest)
-            if other is not None and name in ("rows", "extended"):
-                theirs = measure(f"{name}, over libbson", [str(other), name], path, [str(other), name], smallest)
+            is_file = name.startswith("file")
+            program, least = (options.migrate, nothing) if is_file else (options.program, smallest)
+            ours = measure(name, [program, shape], path, [program, "{}"], least)
+            if other is not None and name in ("rows", "extended", "file"):
+                theirs = measure(f"{name}, over libbson", [str(other), name], path, [str(other), name], least)
                 print(f"{name:28} {ours / theirs:.2f} of the instructions of the program over libbson")
 
 

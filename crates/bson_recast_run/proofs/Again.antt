@@ -1,26 +1,36 @@
 -- What was recast is recast again as the same bytes.
-use Rattle.std.proofs.Common.{◌≡◌, ◌≤◌, List, [], ◌∷◌, length, Bool, true, false, Result, Ok, Err, Option, Some, refl, ap, sym, subst, ◌∙◌, inl, inr, arith}
-use Rattle.std.specs.Prelude.{◌⊎◌, ℕ, nat_lt, IfOk}
+use Rattle.std.proofs.Common.{◌≡◌, ◌≤◌, [], length, Bool, true, false, Result, Ok, Err, Option, Some, refl, ap, sym, subst, ◌∙◌, arith}
+use Rattle.std.specs.Prelude.{ℕ, nat_lt, IfOk}
 use Rattle.std.specs.Global.{Vec}
 use Rattle.std.specs.Io.KnownBytes.{Appends}
 use Rattle.std.proofs.lemmas.Bool.{le-ltb, ltb-false}
-use Rattle.bson_base.specs.Sound.{max_bytes}
+use Rattle.bson_base.specs.Outcome.{result_map}
+use Rattle.bson_base.specs.Sound.{max_bytes, max_levels}
 use Rattle.bson_base.specs.Text.{Bytes, AreBytes}
 use Rattle.bson_base.specs.Tree.{Tree, enc}
+use Rattle.bson_base.specs.declared.element_type.ElementType.TheVariants.{EmbeddedDocument}
+use Rattle.bson_rawdoc.specs.Envelope.{envelope}
+use Rattle.bson_rawdoc.specs.Node.{node_in}
+use Rattle.bson_rawdoc.specs.declared.raw.Error.{Error}
 use Rattle.bson_shape.specs.Form.{Form}
 use Rattle.bson_shape.specs.Makers.{IsShape}
-use Rattle.bson_datum.specs.Refusal.{ReadFault, Failure}
+use Rattle.bson_datum.specs.Cause.{raw}
+use Rattle.bson_datum.specs.Marked.{contents}
+use Rattle.bson_datum.specs.Refusal.{ReadFault, Failure, bare, unreadable}
 use Rattle.bson_datum.specs.Value.{Value}
-use Rattle.bson_laws.specs.Reads.{reads_document}
+use Rattle.bson_laws.specs.Judged.{plain}
+use Rattle.bson_laws.specs.Reads.{reads, answered, reads_document}
 use Rattle.bson_laws.specs.Spell.{Writing, spell_document, size}
 use Rattle.bson_laws.proofs.ReadAgain.{document_again, document_size}
 use Rattle.bson_recast_run.specs.declared.recasting.RecastError.{RecastError}
+use Rattle.bson_recast_run.specs.declared.status.Status.{Status}
 use Rattle.bson_recast_run.specs.declared.status.Status.TheVariants as statuses
-use Rattle.bson_recast_run.specs.Complete.{recast_status, status_due, WritesExactly}
-use Rattle.bson_recast_run.specs.Due.{recast_at, request}
-use Rattle.bson_recast_run.specs.Recasting.{Recast, writes, written, recast_read, recast_of, IsRecast}
-use Rattle.bson_recast_run.specs.Rows.{IsDue, DoneRow, Told, IsAnswered}
-use Rattle.bson_recast_run.specs.Run.{Run, AllQuiet}
+use Rattle.bson_recast_run.specs.Complete.{WritesExactly}
+use Rattle.bson_recast_run.specs.Due.{recast_usage}
+use Rattle.bson_recast_run.specs.Words.{request}
+use Rattle.bson_recast_run.specs.Recasting.{writes, written, recast_read, recast_of, IsRecast}
+use Rattle.bson_recast_run.specs.Rows.{IsDue, DoneRow, IsAnswered}
+use Rattle.bson_recast_run.specs.Run.{Run, AllQuiet, Told}
 use Rattle.bson_recast_run.proofs.Headline.{writes_recast}
 use Rattle.bson_recast_run.proofs.Inputs.{whole}
 
@@ -67,11 +77,11 @@ grown before after bytes out empty holds grew =
     sym both
 
 -- A run that ended well on an input of bytes wrote `out` to an empty output: a run with the same words on `out` writes exactly it, or nothing.
-pub run_again : (first second : Run) (given out : Bytes) → IsAnswered first → first.status ≡ statuses.Done → AreBytes given → first.input.before ≡ Some given
+pub run_again : (first second : Run Status) (given out : Bytes) → IsAnswered first → first.status ≡ statuses.Done → AreBytes given → first.input.before ≡ Some given
     → first.out.before ≡ Some [] → first.out.after ≡ Some out → IsAnswered second → second.words ≡ first.words → second.input.before ≡ Some out → AllQuiet second
     → WritesExactly second out
 run_again first second given out answers done are told empty holds again words input quiet =
-    let h : Told first = answers.done done in
+    let h : Told (IsDue first.words first.input) first = answers.done done in
     let row : DoneRow first.words first.input h.bytes h.line = subst (λ x. IsDue first.words first.input x h.bytes h.line) done h.due in
     let asked = row.given in
     let is_input : asked.bytes ≡ given = whole first.input.before first.input.after asked.bytes given asked.read.taken asked.read.ended told in
@@ -79,4 +89,18 @@ run_again first second given out answers done are told empty holds again words i
     let once : recast_of asked.shape given ≡ writes out = subst (λ b. recast_of asked.shape b ≡ writes out) is_input (row.answer ∙ ap writes is_out) in
     let w = written_as asked.shape given out (reads_document asked.shape given) refl once in
     let small : length out ≤ max_bytes = omega (arith, w.fits, document_size w.value w.tree w.spelled, ap length w.is) in
-    writes_recast asked.shape out out second again small (recast_again asked.shape given out asked.for_shape.made are once) (ap request words ∙ asked.for_shape.asked) input quiet
+    writes_recast asked.shape out out second again small (recast_again asked.shape given out asked.for_shape.made are once) (ap (request recast_usage) words ∙ asked.for_shape.asked) input quiet
+
+-- ---- the frame
+
+-- bytes that are read are framed as a document
+read_framed : (s : Form) (bytes : Bytes) (d : Value) (r : Result Bytes Error) → envelope bytes ≡ r
+    → result_map contents (elim r [ Ok b ↦ answered (reads s plain (node_in max_levels EmbeddedDocument b)) | Err f ↦ Err (bare (unreadable (raw f))) ]) ≡ Ok d → (b : Bytes) × (envelope bytes ≡ Ok b)
+read_framed s bytes d (Ok b) is h = (b, is)
+read_framed s bytes d (Err f) is h = absurd cc
+
+-- bytes that are recast are framed as a document
+pub recast_framed : (s : Form) (bytes out : Bytes) → recast_of s bytes ≡ writes out → (b : Bytes) × (envelope bytes ≡ Ok b)
+recast_framed s bytes out e =
+    let w = written_as s bytes out (reads_document s bytes) refl e in
+    read_framed s bytes w.value (envelope bytes) refl w.read

@@ -2,14 +2,15 @@
 use Rattle.std.proofs.Common.{◌≤◌, refl, subst}
 use Rattle.std.specs.Io.KnownBytes.{Appends}
 use Rattle.bson_base.specs.Text.{Bytes}
-use Rattle.bson_recast_run.specs.Run.{Run}
-use Rattle.bson_recast_run.specs.Rows.{IsDue, Told, IsAnswered}
+use Rattle.bson_recast_run.specs.declared.status.Status.{Status}
+use Rattle.bson_recast_run.specs.Run.{Run, Told}
+use Rattle.bson_recast_run.specs.Rows.{IsDue, IsAnswered}
 use Rattle.bson_recast_run.proofs.Statuses.{complete}
 
-pub answered : (r : Run) (bytes line : Bytes) → IsDue r.words r.input r.status bytes line → Appends r.out.before r.out.after bytes → Appends r.err.before r.err.after line
+pub answered : (r : Run Status) (bytes line : Bytes) → IsDue r.words r.input r.status bytes line → Appends r.out.before r.out.after bytes → Appends r.err.before r.err.after line
     → r.input.faults_before ≤ r.input.faults_after → r.out.faults_before ≤ r.out.faults_after → r.err.faults_before ≤ r.err.faults_after → IsAnswered r
 answered r bytes line due out err input_later out_later err_later =
-    let told : Told r = record { bytes = bytes; line = line; due = due; out_grew = out; err_grew = err } in
+    let told : Told (IsDue r.words r.input) r = record { bytes = bytes; line = line; due = due; out_grew = out; err_grew = err } in
     record {
       done = λ is. told;
       usage = λ is. told;

@@ -1,6 +1,6 @@
 -- A sound document, whose value at a shape means a sound document, is recast as that document; and what is read is refused for its size alone.
 use Rattle.std.proofs.Common.{◌≡◌, Bool, true, false, Result, Ok, Err, refl, ap, sym, subst, ◌∙◌, inl, inr, arith}
-use Rattle.std.specs.Prelude.{◌⊎◌, ◌<◌, ◌≤◌, ℕ, nat_lt, length, Some}
+use Rattle.std.specs.Prelude.{◌⊎◌, ◌<◌, ◌≤◌, ℕ, nat_lt, Some}
 use Rattle.std.specs.Global.{Vec}
 use Rattle.std.proofs.lemmas.Bool.{le-ltb, ltb-true}
 use Rattle.bson_base.specs.Text.{Bytes, AreBytes}
@@ -23,7 +23,7 @@ use Rattle.bson_laws.proofs.Spelled.{spell_means}
 use Rattle.bson_ser_stream.specs.Writing.{IsDue, too_long_failure}
 use Rattle.bson_recast_run.specs.declared.recasting.RecastError.{RecastError}
 use Rattle.bson_recast_run.specs.declared.recasting.RecastError.TheVariants.{Read, Write, NoMemory}
-use Rattle.bson_recast_run.specs.Recasting.{Recast, writes, unread, written, recast_read, recast_of, Unwritten, IsRecast, GivesBytes, IsForSize, IsForNoNumber, IfUnwritten}
+use Rattle.bson_recast_run.specs.Recasting.{writes, unread, written, recast_read, recast_of, Unwritten, IsRecast, GivesBytes, IsForSize, IsForNoNumber, IfUnwritten}
 
 module _ (s : Form) (bytes : Bytes) (t u : Tree) (d : Value) (shape : IsShape s) (sound : IsSound t) (view : views s t ≡ Some d) (mean : means d ≡ Some u) (clean : IsSound u) (is : bytes ≡ enc t) where
   reads_it : reads_document s bytes ≡ Ok d

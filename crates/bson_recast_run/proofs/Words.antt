@@ -12,14 +12,14 @@ use Rattle.bson_shape.specs.declared.error.ParseError.{ParseError}
 use Rattle.bson_shape.specs.declared.error.ParseError.TheVariants as errors
 use Rattle.bson_shape.specs.declared.error.ShapeError.{ShapeError}
 use Rattle.bson_recast_run.specs.Asked.{AsksFor, RefusesWords}
-use Rattle.bson_recast_run.specs.Due.{Request, refused_with, usage_line, is_option, line_at, line_for, at_shape, request}
+use Rattle.bson_recast_run.specs.Words.{Usage, Request, refused_with, line_at, line_for, at_shape, request}
 
-chosen : (b : Bool) (r : Request) → b ≡ false → cond b (refused_with usage_line) r ≡ r
-chosen true r e = absurd cc
-chosen false r e = refl
+chosen : (usage : Utf8) (b : Bool) (r : Request) → b ≡ false → cond b (refused_with usage) r ≡ r
+chosen usage true r e = absurd cc
+chosen usage false r e = refl
 
-one_word : (word : Utf8) → is_option word ≡ false → request (word ∷ []) ≡ at_shape (parsed word)
-one_word word e = chosen (is_option word) (at_shape (parsed word)) e
+pub one_word : (usage : Usage) (word : Utf8) → usage.is_option word ≡ false → request usage (word ∷ []) ≡ at_shape (parsed word)
+one_word usage word e = chosen usage.line (usage.is_option word) (at_shape (parsed word)) e
 
 line_not_notation : (read : Result Form Refusal) (place : ℕ) → error_of read ≡ Some (errors.NotNotation place) → at_shape read ≡ refused_with (line_at place (errors.NotNotation place))
 line_not_notation (Ok s) place e = absurd cc
@@ -32,19 +32,19 @@ line_refused (Err (Not_notation p)) place x e = absurd cc
 line_refused (Err (Refused r)) place x e = let at : r.place ≡ place = cc in let why : r.cause ≡ x = cc in λ i. refused_with (line_at (at i) (errors.Refused (at i) (why i)))
 
 -- a word that is read asks for its shape
-pub asks_for : (word : Utf8) (s : Form) → is_option word ≡ false → text s ≡ word → IsShape s → parsed word ≡ Ok s → AsksFor (word ∷ []) s
-asks_for word s plain is shape read = record { notation = ap (λ w. w ∷ []) (sym is); made = shape; asked = one_word word plain ∙ ap at_shape read }
+pub asks_for : (usage : Usage) (word : Utf8) (s : Form) → usage.is_option word ≡ false → text s ≡ word → IsShape s → parsed word ≡ Ok s → AsksFor usage (word ∷ []) s
+asks_for usage word s plain is shape read = record { notation = ap (λ w. w ∷ []) (sym is); made = shape; asked = one_word usage word plain ∙ ap at_shape read }
 
 abbrev told : Utf8 → Option Utf8
 told l = Some l
 
 -- a word that is refused asks for none
-pub refuses : (word : Utf8) (e : ParseError) (line : Utf8) → is_option word ≡ false → line_for e ≡ Some line → Fails e (parsed word)
-    → ((p : ℕ) → e ≡ errors.NotNotation p → IsNotNotationAt word p) → ((p : ℕ) (x : ShapeError) → e ≡ errors.Refused p x → IsRefusedAt word p x) → RefusesWords (word ∷ []) line
-refuses word errors.NoMemory line plain says fails stops forms = absurd cc
-refuses word (errors.NotNotation p) line plain says fails stops forms =
+pub refuses : (usage : Usage) (word : Utf8) (e : ParseError) (line : Utf8) → usage.is_option word ≡ false → line_for e ≡ Some line → Fails e (parsed word)
+    → ((p : ℕ) → e ≡ errors.NotNotation p → IsNotNotationAt word p) → ((p : ℕ) (x : ShapeError) → e ≡ errors.Refused p x → IsRefusedAt word p x) → RefusesWords usage (word ∷ []) line
+refuses usage word errors.NoMemory line plain says fails stops forms = absurd cc
+refuses usage word (errors.NotNotation p) line plain says fails stops forms =
     let is : line ≡ line_at p (errors.NotNotation p) = cc in
-    record { why = inr (inl (record { word = word; one = refl; place = p; stops = stops p refl; says = is })); asked = one_word word plain ∙ line_not_notation (parsed word) p fails ∙ ap refused_with (sym is) }
-refuses word (errors.Refused p x) line plain says fails stops forms =
+    record { why = inr (inl (record { word = word; one = refl; place = p; stops = stops p refl; says = is })); asked = one_word usage word plain ∙ line_not_notation (parsed word) p fails ∙ ap refused_with (sym is) }
+refuses usage word (errors.Refused p x) line plain says fails stops forms =
     let is : line ≡ line_at p (errors.Refused p x) = cc in
-    record { why = inr (inr (record { word = word; one = refl; place = p; cause = x; refuses = forms p x refl; says = is })); asked = one_word word plain ∙ line_refused (parsed word) p x fails ∙ ap refused_with (sym is) }
+    record { why = inr (inr (record { word = word; one = refl; place = p; cause = x; refuses = forms p x refl; says = is })); asked = one_word usage word plain ∙ line_refused (parsed word) p x fails ∙ ap refused_with (sym is) }

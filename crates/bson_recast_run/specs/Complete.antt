@@ -5,7 +5,8 @@ use Rattle.bson_base.specs.Sound.{max_bytes}
 use Rattle.bson_base.specs.Text.{Bytes, Utf8}
 use Rattle.bson_recast_run.specs.declared.status.Status.{Status}
 use Rattle.bson_recast_run.specs.declared.status.Status.TheVariants as statuses
-use Rattle.bson_recast_run.specs.Due.{Request, recast_at, refused_with, request}
+use Rattle.bson_recast_run.specs.Due.{recast_usage}
+use Rattle.bson_recast_run.specs.Words.{Request, shape_requested, refused_with, request}
 use Rattle.bson_recast_run.specs.Recasting.{Recast, writes, unread, unwritten, recast_of}
 use Rattle.bson_recast_run.specs.Run.{Run, Silent}
 
@@ -16,16 +17,16 @@ recast_status (unread f) = statuses.ReadRefused
 recast_status (unwritten due too_long) = statuses.WriteRefused
 
 -- the status for what the words ask for
-abbrev pub asked_status : Request → Bytes → Status
-asked_status (refused_with line) bytes = statuses.Usage
-asked_status (recast_at s) bytes = if nat_lt max_bytes (length bytes) then statuses.ReadRefused else recast_status (recast_of s bytes)
+abbrev pub requested_status : Request → Bytes → Status
+requested_status (refused_with line) bytes = statuses.Usage
+requested_status (shape_requested s) bytes = if nat_lt max_bytes (length bytes) then statuses.ReadRefused else recast_status (recast_of s bytes)
 
 -- the status whose row holds, for these words on this input
 abbrev pub status_due : List Utf8 → Bytes → Status
-status_due words bytes = asked_status (request words) bytes
+status_due words bytes = requested_status (request recast_usage words) bytes
 
 -- Exactly these bytes were written and nothing else; or out of memory is reported, and nothing was written.
-abbrev pub WritesExactly : Run → Bytes → Type 0
+abbrev pub WritesExactly : Run Status → Bytes → Type 0
 WritesExactly r bytes =
     ((r.status ≡ statuses.Done) × Appends r.out.before r.out.after bytes × Keeps r.err.before r.err.after)
     ⊎ ((r.status ≡ statuses.NoMemory) × Silent r)

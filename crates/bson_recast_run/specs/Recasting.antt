@@ -1,5 +1,5 @@
 -- What recasting a document's bytes at a shape comes to.
-use Rattle.std.specs.Prelude.{◌≡◌, ◌≢◌, ◌⊎◌, ℕ, ◌<◌, Bool, true, false, nat_lt, Option, Some, None, Result, Ok, Err}
+use Rattle.std.specs.Prelude.{◌≡◌, ◌≢◌, ◌⊎◌, ◌++◌, ℕ, ◌<◌, Bool, true, false, nat_lt, Option, Some, None, Result, Ok, Err}
 use Rattle.std.specs.Global.{Vec}
 use Rattle.bson_base.specs.Text.{Bytes}
 use Rattle.bson_base.specs.Sound.{max_bytes}
@@ -51,12 +51,21 @@ Unwritten (writes bytes) f = ⊥
 Unwritten (unread e) f = ⊥
 Unwritten (unwritten due too_long) f = Is due f ⊎ ((too_long ≡ true) × (f ≡ too_long_failure))
 
--- the answer of a recast; out of memory is free
+-- the error of a recast; out of memory is free
+abbrev pub IsRefusal : Recast → RecastError → Type 0
+IsRefusal r (Read e) = r ≡ unread (read_failure e)
+IsRefusal r (Write e) = Unwritten r (write_failure e)
+IsRefusal r NoMemory = Unit {0}
+
+-- the answer of a recast
 abbrev pub IsRecast : Recast → Result (Vec ℕ) RecastError → Type 0
 IsRecast r (Ok v) = r ≡ writes v.items
-IsRecast r (Err (Read e)) = r ≡ unread (read_failure e)
-IsRecast r (Err (Write e)) = Unwritten r (write_failure e)
-IsRecast r (Err NoMemory) = Unit {0}
+IsRecast r (Err e) = IsRefusal r e
+
+-- the answer of a recast that appends to a buffer with these bytes, which has the new ones then
+abbrev pub IsAppended : Recast → (old new : Bytes) → Result (Unit {0}) RecastError → Type 0
+IsAppended r old new (Ok u) = (bytes : Bytes) × (r ≡ writes bytes) × (new ≡ old ++ bytes)
+IsAppended r old new (Err e) = IsRefusal r e × (new ≡ old)
 
 -- these bytes, or out of memory
 abbrev pub GivesBytes : Bytes → Result (Vec ℕ) RecastError → Type 0

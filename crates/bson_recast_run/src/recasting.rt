@@ -9,11 +9,12 @@ ghost use Rattle.bson_laws.specs.Plain.{IsPlain};
 ghost use Rattle.bson_laws.specs.Reads.{reads_document};
 ghost use Rattle.bson_laws.specs.Writable.{IsWritable};
 ghost use Rattle.bson_de_raw.specs.Gives.{Gives};
-ghost use Rattle.bson_recast_run.specs.Recasting.{recast_of, writes, IsRecast, GivesBytes, IsForSize, IsForNoNumber, IfUnwritten, IsReadError, IsWriteError};
+ghost use Rattle.bson_recast_run.specs.Recasting.{recast_of, writes, IsRecast, IsAppended, GivesBytes, IsForSize, IsForNoNumber, IfUnwritten, IsReadError, IsWriteError};
 
 use bson_datum::{Datum, Shape, de, ser};
 use bson_de_raw::from_slice_at;
-use bson_ser_stream::to_vec_at;
+use bson_io::{Out, Steps, Tally};
+use bson_ser_stream::to_buf;
 use std::alloc::Global;
 
 /// Why a document is not recast.
@@ -68,18 +69,37 @@ fn read<'de>(alloc: Global, shape: &Shape, bytes: &'de [u8]) -> de::Result<Datum
     from_slice_at(alloc, shape, bytes)
 }
 
-// `recast`, but for its other promises.
-fn through(alloc: Global, shape: &Shape, bytes: &[u8]) -> Result<Vec<u8>, RecastError>
-    ensures { IsRecast (recast_of shape.now bytes.now) result }
+/// Reads the bytes of a document at a shape, and appends the bytes of what was read to an output buffer.
+///
+/// # Errors
+///
+/// Those of [`recast`]. After any error the buffer holds the bytes that it had.
+pub fn recast_to_buf(
+    alloc: Global,
+    shape: &Shape,
+    bytes: &[u8],
+    out: &mut Out,
+) -> Result<(), RecastError>
+    ensures exact { IsAppended (recast_of shape.now bytes.now) out.old.bytes out.new.bytes result }
 {
     let datum = match read(alloc, shape, bytes) {
         Ok(datum) => datum,
         Err(e) => return Err(unread(e)),
     };
-    match to_vec_at(alloc, &datum) {
-        Ok(written) => Ok(written),
+    let mut steps = Steps::<Tally>::new();
+    match to_buf(&datum, out, &mut steps) {
+        Ok(()) => Ok(()),
         Err(e) => Err(unwritten(e)),
     }
+}
+
+// `recast`, but for its other promises.
+fn through(alloc: Global, shape: &Shape, bytes: &[u8]) -> Result<Vec<u8>, RecastError>
+    ensures { IsRecast (recast_of shape.now bytes.now) result }
+{
+    let mut out = Out::new(alloc);
+    recast_to_buf(alloc, shape, bytes, &mut out)?;
+    Ok(out.into_vec())
 }
 
 // The error of a recast for one of reading.

@@ -1,10 +1,8 @@
 // The run: the words are judged, the input is read to its end, the recast runs, and all is written.
-ghost use Rattle.std.specs.Prelude.{◌≡◌, ◌≤◌, ◌⊎◌, [], ◌∷◌, map, string_bytes, IfOk, IsOk, OnOk, OnErr, Some, false};
-ghost use Rattle.std.specs.Io.KnownBytes.{Appends};
+ghost use Rattle.std.specs.Prelude.{◌≡◌, ◌≤◌, [], ◌∷◌, map, string_bytes, IfOk, Some};
 ghost use Rattle.bson_base.specs.Sound.{IsSound};
 ghost use Rattle.bson_base.specs.Text.{Bytes, AreBytes};
 ghost use Rattle.bson_base.specs.Tree.{Tree, enc};
-ghost use Rattle.bson_io.specs.Ends.{RoseOrLast, AppendsPrefix, FitsIn};
 ghost use Rattle.bson_shape.specs.Form.{Form};
 ghost use Rattle.bson_shape.specs.Makers.{IsShape};
 ghost use Rattle.bson_shape.specs.Notation.{text};
@@ -13,19 +11,25 @@ ghost use Rattle.bson_laws.specs.Views.{views};
 ghost use Rattle.bson_laws.specs.Means.{means};
 ghost use Rattle.bson_laws.specs.Plain.{IsPlain};
 ghost use Rattle.bson_recast_run.specs.Asked.{Asks};
-ghost use Rattle.bson_recast_run.specs.Due.{is_option, line_at, line_for};
+ghost use Rattle.bson_recast_run.specs.Due.{recast_usage};
 ghost use Rattle.bson_recast_run.specs.Ends.{source_change, sink_change};
 ghost use Rattle.bson_recast_run.specs.Run.{Run, run_of, AllQuiet};
+ghost use Rattle.bson_recast_run.specs.declared.status.Status.{Status};
 ghost use Rattle.bson_recast_run.specs.declared.status.Status.TheVariants as statuses;
 ghost use Rattle.bson_recast_run.specs.Rows.{IsDue, IsAnswered};
 ghost use Rattle.bson_recast_run.specs.Complete.{WritesExactly};
 ghost use Rattle.bson_recast_run.specs.Prepared.{Answers, Reports};
 
+use crate::delivery::deliver;
 use crate::recasting::{RecastError, recast};
+use crate::shape_word::shape_of_word;
 use crate::status::Status;
-use bson_datum::{ParseError, Shape};
-use bson_io::{Failed, ReadFault, Sink, Source, read_to_end, write_due};
+use bson_datum::Shape;
+use bson_io::{ReadFault, Sink, Source, read_to_end};
 use std::alloc::{AllocError, Global};
+
+/// The line for words that ask for no recast.
+const USAGE: &str = "usage: bson_recast [OPTIONS] SHAPE\n";
 
 /// A status, with what is due to the two sinks.
 #[derive(Drop)]
@@ -48,44 +52,13 @@ fn refuse(alloc: Global, status: Status, line: String) -> Answer
     }
 }
 
-// The line for a shape word that is refused at a place.
-fn line_at(alloc: Global, place: usize, e: &ParseError) -> Result<String, AllocError>
-    ensures { IfOk result (λ l. string_bytes l ≡ line_at place e.now) }
-{
-    format!(in alloc; "shape refused at {place}: {e}\n")
-}
-
-// The line for a shape word that is refused. Out of memory has none.
-fn line_of(alloc: Global, e: &ParseError) -> Result<String, AllocError>
-    ensures { IfOk result (λ l. line_for e.now ≡ Some (string_bytes l)) }
-{
-    match e {
-        ParseError::NoMemory => Err(AllocError),
-        ParseError::NotNotation(place) | ParseError::Refused(place, _) => line_at(alloc, *place, e),
-    }
-}
-
-// The shape that a word is the notation of, or the line that refuses it. The outer error means out of memory.
-fn shape_of(alloc: Global, word: &str) -> Result<Result<Shape, String>, AllocError>
-    requires { is_option word.now ≡ false }
-    ensures { IfOk result (λ r. Asks (word.now ∷ []) r) }
-{
-    match Shape::parse(alloc, word) {
-        Ok(shape) => {
-            shape.known();
-            Ok(Ok(shape))
-        }
-        Err(e) => Ok(Err(line_of(alloc, &e)?)),
-    }
-}
-
 // The shape that the words ask for, or the line that refuses them. The outer error means out of memory.
 fn asked(alloc: Global, words: &[String]) -> Result<Result<Shape, String>, AllocError>
-    ensures { IfOk result (λ r. Asks (map string_bytes words.now) r) }
+    ensures { IfOk result (λ r. Asks recast_usage (map string_bytes words.now) r) }
 {
     match words {
-        [word] if !word.as_str().starts_with("--") => shape_of(alloc, word.as_str()),
-        _ => Ok(Err(String::from_str(alloc, "usage: bson_recast [OPTIONS] SHAPE\n")?)),
+        [word] if !word.as_str().starts_with("--") => shape_of_word(alloc, word.as_str()),
+        _ => Ok(Err(String::from_str(alloc, USAGE)?)),
     }
 }
 
@@ -144,21 +117,6 @@ fn prepare<I: Source>(alloc: Global, words: &[String], input: &mut I) -> Result<
     }
 }
 
-// Writes what is due, and says whether all of it was written.
-fn deliver<O: Sink, E: Sink>(answer: &Answer, out: &mut O, err: &mut E) -> Result<(), Failed>
-    ensures out_all { OnOk result (Appends (O.written out.old) (O.written out.new) answer.now.bytes.items) }
-    ensures err_all { OnOk result (Appends (E.written err.old) (E.written err.new) (string_bytes answer.now.line)) }
-    ensures out_part { AppendsPrefix (O.written out.old) (O.written out.new) answer.now.bytes.items }
-    ensures err_part { AppendsPrefix (E.written err.old) (E.written err.new) (string_bytes answer.now.line) }
-    ensures out_later { O.faults out.old ≤ O.faults out.new }
-    ensures err_later { E.faults err.old ≤ E.faults err.new }
-    ensures room { FitsIn (O.room out.old) answer.now.bytes.items → FitsIn (E.room err.old) (string_bytes answer.now.line) → IsOk result }
-    ensures cause { OnErr result (RoseOrLast (O.faults out.old) (O.faults out.new) ⊎ RoseOrLast (E.faults err.old) (E.faults err.new)) }
-{
-    write_due(out, &answer.bytes)?;
-    write_due(err, answer.line.as_bytes())
-}
-
 // `run`, but for the headline.
 fn carry_out<I: Source, O: Sink, E: Sink>(
     alloc: Global,
@@ -174,7 +132,7 @@ fn carry_out<I: Source, O: Sink, E: Sink>(
         Ok(answer) => answer,
         Err(_) => return Status::NoMemory,
     };
-    match deliver(&answer, out, err) {
+    match deliver(&answer.bytes, answer.line.as_str(), out, err) {
         Ok(()) => answer.status,
         Err(_) => Status::SinkFault,
     }
@@ -185,7 +143,7 @@ fn carry_out<I: Source, O: Sink, E: Sink>(
 /// The first run ended as `Done`, its input was `given`, and its output, which was empty, holds `out` now. It says so of the table of answers that each
 /// `run` meets (*answers*). The call does nothing.
 pub fn law_run_again()
-    ensures again { (first second : Run) (given out : Bytes) → IsAnswered first → first.status ≡ statuses.Done → AreBytes given → first.input.before ≡ Some given
+    ensures again { (first second : Run Status) (given out : Bytes) → IsAnswered first → first.status ≡ statuses.Done → AreBytes given → first.input.before ≡ Some given
         → first.out.before ≡ Some [] → first.out.after ≡ Some out → IsAnswered second → second.words ≡ first.words → second.input.before ≡ Some out
         → AllQuiet second → WritesExactly second out }
 {}
@@ -216,8 +174,8 @@ pub fn run<I: Source, O: Sink, E: Sink>(
         (s : Form) (t u : Tree) (d : Value) → IsShape s → IsPlain s → IsSound t → views s t ≡ Some d → means d ≡ Some u → IsSound u
         → r.words ≡ text s ∷ [] → r.input.before ≡ Some (enc t) → AllQuiet r → WritesExactly r (enc u) }
 
-    // The table of answers: each status only where its row holds, with exactly what the row says on the two sinks; and where no
-    // count rose, the status whose row holds.
+    // The table of answers: each status only where its row holds, with exactly what the row says on the two sinks; and where the input tells its
+    // bytes, no count rose and no sink's count is at its last value, the status whose row holds, or out of memory.
     ensures answers { IsAnswered (run_of (map string_bytes words.now) (source_change I.left I.faults input.old input.new)
         (sink_change O.written O.room O.faults out.old out.new) (sink_change E.written E.room E.faults err.old err.new) result) }
 {

@@ -12,6 +12,8 @@ mod extended;
 #[cfg(test)]
 mod faults;
 #[cfg(test)]
+mod migrations;
+#[cfg(test)]
 mod reading;
 #[cfg(test)]
 mod reserved;

@@ -1,0 +1,62 @@
+-- The status and the lines of a migration that was done.
+use Rattle.std.proofs.Common.{◌≡◌, ℕ, List, [], ◌∷◌, ◌++◌, codes, Ok, refl, ap, subst, sym, ◌∙◌}
+use Rattle.std.specs.Prelude.{◌≢◌}
+use Rattle.std.specs.Fmt.{decimal}
+use Rattle.std.proofs.lemmas.List.{append_assoc}
+use Rattle.bson_base.specs.Text.{Bytes, Utf8}
+use Rattle.bson_datum.specs.ErrorView.{read_failure, write_failure}
+use Rattle.bson_datum.specs.Printed.{printed_failure, printed_read_fault, printed_write_fault}
+use Rattle.bson_datum.specs.Refusal.{ReadFault, Failure}
+use Rattle.bson_shape.specs.Form.{Form}
+use Rattle.bson_recast_run.specs.declared.recasting.RecastError.{RecastError}
+use Rattle.bson_recast_run.specs.declared.recasting.RecastError.TheVariants.{Read, Write, NoMemory}
+use Rattle.bson_recast_run.specs.Due.{read_refused_line}
+use Rattle.bson_recast_run.specs.Recasting.{Recast, writes, unread, unwritten, IsRefusal}
+use Rattle.bson_recast_run.specs.Words.{newline}
+use Rattle.bson_migrate_run.specs.declared.migrating.Migration.{Migration}
+use Rattle.bson_migrate_run.specs.declared.migrating.Refused.{Refused}
+use Rattle.bson_migrate_run.specs.Lines.{of_document, refused_text_of, refused_text, refused_lines, IsLine, AreLines}
+use Rattle.bson_migrate_run.specs.Migrating.{NotRecast, Migrating, broken, migrated, migration_of, IsListed, AreListed, IsMigration}
+use Rattle.bson_migrate_run.specs.Prepared.{listed_status, Answers}
+use Rattle.bson_migrate_run.proofs.Listing.{no_refusal}
+
+text_ended : (n : ℕ) (said : Utf8) → of_document n said ++ newline ≡ of_document n (said ++ newline)
+text_ended n said =
+    append_assoc (codes "document ") (decimal n ++ (codes ": " ++ said)) newline
+    ∙ ap (λ t. codes "document " ++ t) (append_assoc (decimal n) (codes ": " ++ said) newline ∙ ap (λ t. decimal n ++ t) (append_assoc (codes ": ") said newline))
+
+same_failure : (f g : Failure ReadFault) → unread f ≡ unread g → g ≡ f
+same_failure f g e = cc
+
+line_by : (n : ℕ) (r : Recast) (e : RecastError) → IsRefusal r e → e ≢ NoMemory → IsLine n r (refused_text_of n e ++ newline)
+line_by n (writes b) e h some = absurd (no_refusal b e h some)
+line_by n (unread f) (Read e) h some =
+    text_ended n (codes "read refused: " ++ printed_failure printed_read_fault (read_failure e)) ∙ ap (λ g. of_document n (read_refused_line g)) (same_failure f (read_failure e) h)
+line_by n (unread f) (Write e) h some = absurd h
+line_by n (unread f) NoMemory h some = absurd (some refl)
+line_by n (unwritten due long) (Read e) h some = absurd cc
+line_by n (unwritten due long) (Write e) h some = (write_failure e, h, text_ended n (codes "write refused: " ++ printed_failure printed_write_fault (write_failure e)))
+line_by n (unwritten due long) NoMemory h some = absurd (some refl)
+
+line_is : (d : NotRecast) (x : Refused) → IsListed d x → IsLine d.number d.recast (refused_text x ++ newline)
+line_is d x h = subst (λ n. IsLine d.number d.recast (refused_text_of n x.error ++ newline)) (sym h.number) (line_by d.number d.recast x.error h.refusal h.cause)
+
+-- the lines of the refused documents are those that are due
+lines_are : (ds : List NotRecast) (xs : List Refused) → AreListed ds xs → AreLines ds (refused_lines xs)
+lines_are [] [] h = refl
+lines_are [] (x ∷ xs) h = absurd h
+lines_are (d ∷ ds) [] h = absurd h
+lines_are (d ∷ ds) (x ∷ xs) h = (refused_text x ++ newline, refused_lines xs, line_is d x h.0, refl, lines_are ds xs h.1)
+
+of_list : (s : Form) (bytes out : Bytes) (ds : List NotRecast) (xs : List Refused) → migration_of s bytes ≡ migrated out ds → AreListed ds xs → Answers s bytes (listed_status xs) out (refused_lines xs)
+of_list s bytes out [] [] is h = (is, refl)
+of_list s bytes out [] (x ∷ xs) is h = absurd h
+of_list s bytes out (d ∷ ds) [] is h = absurd h
+of_list s bytes out (d ∷ ds) (x ∷ xs) is h = (d, ds, is, lines_are (d ∷ ds) (x ∷ xs) h)
+
+by_answer : (s : Form) (bytes : Bytes) (m : Migration) (r : Migrating) → migration_of s bytes ≡ r → IsMigration r (Ok m) → Answers s bytes (listed_status m.refused.items) m.output.items (refused_lines m.refused.items)
+by_answer s bytes m (broken place) is h = absurd h
+by_answer s bytes m (migrated out ds) is h = of_list s bytes m.output.items ds m.refused.items (is ∙ ap (λ o. migrated o ds) (sym h.0)) h.1
+
+pub answers_of : (s : Form) (bytes : Bytes) (m : Migration) → IsMigration (migration_of s bytes) (Ok m) → Answers s bytes (listed_status m.refused.items) m.output.items (refused_lines m.refused.items)
+answers_of s bytes m h = by_answer s bytes m (migration_of s bytes) refl h

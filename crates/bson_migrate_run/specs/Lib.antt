@@ -1,0 +1,6 @@
+pub mod Number
+pub mod Migrating
+pub mod Step
+pub mod Lines
+pub mod Rows
+pub mod Prepared

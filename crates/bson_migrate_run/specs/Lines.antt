@@ -1,0 +1,53 @@
+-- The lines that are printed.
+use Rattle.std.specs.Prelude.{◌≡◌, ℕ, List, [], ◌∷◌, ◌++◌, false, codes}
+use Rattle.std.specs.Fmt.{decimal}
+use Rattle.bson_base.specs.Text.{Utf8}
+use Rattle.bson_datum.specs.ErrorView.{read_failure, write_failure}
+use Rattle.bson_datum.specs.Printed.{printed_failure, printed_read_fault, printed_write_fault}
+use Rattle.bson_datum.specs.Refusal.{WriteFault, Failure}
+use Rattle.bson_recast_run.specs.declared.recasting.RecastError.{RecastError}
+use Rattle.bson_recast_run.specs.declared.recasting.RecastError.TheVariants.{Read, Write, NoMemory}
+use Rattle.bson_recast_run.specs.Due.{read_refused_line, write_refused_line}
+use Rattle.bson_recast_run.specs.Words.{Usage, newline}
+use Rattle.bson_recast_run.specs.Recasting.{Recast, writes, unread, unwritten, Unwritten}
+use Rattle.bson_migrate_run.specs.declared.migrating.Refused.{Refused}
+use Rattle.bson_migrate_run.specs.Migrating.{NotRecast}
+
+-- The migration has no options.
+abbrev pub migrate_usage : Usage
+migrate_usage = record { line = codes "usage: bson_migrate SHAPE\n"; is_option = λ word. false }
+
+abbrev pub too_long_line : Utf8
+too_long_line = codes "input too long\n"
+
+abbrev pub broken_line : (place : ℕ) → Utf8
+broken_line place = codes "broken at " ++ (decimal place ++ newline)
+
+-- what is said of the document of a number
+abbrev pub of_document : (number : ℕ) → Utf8 → Utf8
+of_document number said = codes "document " ++ (decimal number ++ (codes ": " ++ said))
+
+-- what is said of a refused document, without the end of the line
+abbrev pub refused_text_of : (number : ℕ) → RecastError → Utf8
+refused_text_of number (Read e) = of_document number (codes "read refused: " ++ printed_failure printed_read_fault (read_failure e))
+refused_text_of number (Write e) = of_document number (codes "write refused: " ++ printed_failure printed_write_fault (write_failure e))
+refused_text_of number NoMemory = of_document number (codes "out of memory")
+
+abbrev pub refused_text : Refused → Utf8
+refused_text x = refused_text_of x.number x.error
+
+-- the lines of a list of refused documents
+abbrev pub refused_lines : List Refused → Utf8
+refused_lines [] = []
+refused_lines (x ∷ xs) = (refused_text x ++ newline) ++ refused_lines xs
+
+-- the line for a document that is not recast; where its value is refused and is too long, it is either's
+abbrev pub IsLine : (number : ℕ) → Recast → Utf8 → Type 0
+IsLine number (writes bytes) line = ⊥
+IsLine number (unread f) line = line ≡ of_document number (read_refused_line f)
+IsLine number (unwritten due too_long) line = (f : Failure WriteFault) × Unwritten (unwritten due too_long) f × (line ≡ of_document number (write_refused_line f))
+
+-- a line for each document that is not recast
+abbrev pub AreLines : List NotRecast → Utf8 → Type 0
+AreLines [] text = text ≡ []
+AreLines (d ∷ ds) text = (line : Utf8) × (rest : Utf8) × IsLine d.number d.recast line × (text ≡ line ++ rest) × AreLines ds rest

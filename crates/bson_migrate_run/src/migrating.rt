@@ -1,0 +1,117 @@
+// A file of documents, each read at a shape and written anew.
+ghost use Rattle.std.specs.Prelude.{◌≡◌, [], IfOk};
+ghost use Rattle.bson_recast_run.specs.Recasting.{recast_of};
+ghost use Rattle.bson_migrate_run.specs.Migrating.{migration_of, migrated, IsMigration};
+ghost use Rattle.bson_migrate_run.specs.Step.{IsOneMigrated};
+
+use bson_datum::Shape;
+use bson_io::Out;
+use bson_rawdoc::RawDocuments;
+use bson_recast_run::{RecastError, recast_to_buf};
+use std::alloc::{AllocError, Global};
+use std::fmt;
+
+/// A refused document of a file.
+#[derive(Debug, Drop)]
+pub struct Refused {
+    /// The number of the document, counted from 0.
+    pub number: u64,
+    /// Why it is not recast. It is never `NoMemory`.
+    pub error: RecastError,
+}
+
+impl fmt::Display for Refused {
+    ghost use Rattle.std.specs.Prelude.{Some};
+    ghost use Rattle.bson_migrate_run.specs.Lines.{refused_text};
+
+    ghost output = { λ x. Some (refused_text x) };
+
+    fn fmt<W: fmt::Write>(&self, f: &mut fmt::Formatter<W>) -> fmt::Result {
+        let number = self.number;
+        match &self.error {
+            RecastError::Read(e) => write!(f, "document {number}: read refused: {e}"),
+            RecastError::Write(e) => write!(f, "document {number}: write refused: {e}"),
+            RecastError::NoMemory => write!(f, "document {number}: out of memory"),
+        }
+    }
+}
+
+/// What migrating a file gave.
+#[derive(Debug, Drop)]
+pub struct Migration {
+    /// The documents that were recast, one after another, in the order of the file.
+    pub output: Vec<u8>,
+    /// Each of the others, in the order of the file.
+    pub refused: Vec<Refused>,
+}
+
+/// Why a file is not migrated.
+#[derive(Debug, Drop)]
+pub enum MigrateError {
+    /// At this place of the file no document begins: the bytes that are left are fewer than four, or announce a length of less than five,
+    /// or of more bytes than are left.
+    Broken(usize),
+    /// Memory ran out.
+    NoMemory,
+}
+
+/// Recasts each document of a file, which has them one after another, at a shape.
+///
+/// A document that is refused is left out of the output and listed. The others are written to one buffer, one after another.
+///
+/// # Errors
+///
+/// `Broken` exactly where the file cannot be cut into documents (`RawDocuments`), with the place; `NoMemory` where memory ran out.
+pub fn migrate(alloc: Global, shape: &Shape, file: &[u8]) -> Result<Migration, MigrateError>
+    // The documents are recast, and those that are refused are listed; or the file is broken.
+    ensures exact { IsMigration (migration_of shape.now file.now) result }
+    // It follows from *exact*: migrated again at the shape, the output is given back, and no document is refused.
+    ensures again { IfOk result (λ m. migration_of shape.now m.output.items ≡ migrated m.output.items []) }
+{
+    shape.known();
+    migrate_each(alloc, shape, file)
+}
+
+// `migrate`, but for its other promise.
+fn migrate_each(alloc: Global, shape: &Shape, file: &[u8]) -> Result<Migration, MigrateError>
+    ensures { IsMigration (migration_of shape.now file.now) result }
+{
+    let mut out = Out::new(alloc);
+    let mut refused = Vec::new(alloc);
+    let mut number = 0;
+    for piece in RawDocuments::new(file) {
+        let bytes = match piece {
+            Ok(bytes) => bytes,
+            Err(place) => return Err(MigrateError::Broken(place)),
+        };
+        match migrate_one(alloc, shape, bytes, number, &mut out, &mut refused) {
+            Ok(()) => number += 1,
+            Err(_) => return Err(MigrateError::NoMemory),
+        }
+    }
+    Ok(Migration {
+        output: out.into_vec(),
+        refused,
+    })
+}
+
+// One document: it is written behind the others, or listed with its number. An error means out of memory.
+fn migrate_one(
+    alloc: Global,
+    shape: &Shape,
+    bytes: &[u8],
+    number: u64,
+    out: &mut Out,
+    refused: &mut Vec<Refused>,
+) -> Result<(), AllocError>
+    ensures { IfOk result (λ _. IsOneMigrated number (recast_of shape.now bytes.now) out.old.bytes out.new.bytes refused.old.items refused.new.items) }
+{
+    match recast_to_buf(alloc, shape, bytes, out) {
+        Ok(()) => Ok(()),
+        Err(RecastError::NoMemory) => Err(AllocError),
+        Err(error) => {
+            refused.push(Refused { number, error })?;
+            Ok(())
+        }
+    }
+}

@@ -1,9 +1,0 @@
-use Rattle.std.proofs.Common.{ap, ◌∙◌}
-use Rattle.std.specs.Prelude.{Err}
-use Rattle.bson_recast_run.proofs.Words.{refuses}
-use Rattle.bson_recast_run.proofs.running.shape_of.Goals as goal
-
-pub returns-in_ok-line_of-in-Err : goal.returns-in_ok-line_of-in-Err
-returns-in_ok-line_of-in-Err c =
-    refuses c.args.word.now c.in-Err.e _ c.requires c.in_ok-line_of-in-Err.ensures c.in-Err.ensures.exact
-    (λ p is. c.parse.ensures.not_notation p (c.in-Err.is ∙ ap Err is)) (λ p x is. c.parse.ensures.refused p x (c.in-Err.is ∙ ap Err is))

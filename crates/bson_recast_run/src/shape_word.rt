@@ -1,0 +1,42 @@
+// The shape that a word of a command line asks for.
+ghost use Rattle.std.specs.Prelude.{◌≡◌, [], ◌∷◌, string_bytes, IfOk, Some, false};
+ghost use Rattle.bson_recast_run.specs.Asked.{Asks};
+ghost use Rattle.bson_recast_run.specs.Words.{Usage, line_at, line_for};
+
+use bson_datum::{ParseError, Shape};
+use std::alloc::{AllocError, Global};
+
+// The line for a shape word that is refused at a place.
+fn line_at(alloc: Global, place: usize, e: &ParseError) -> Result<String, AllocError>
+    ensures { IfOk result (λ l. string_bytes l ≡ line_at place e.now) }
+{
+    format!(in alloc; "shape refused at {place}: {e}\n")
+}
+
+// The line for a shape word that is refused. Out of memory has none.
+fn line_of(alloc: Global, e: &ParseError) -> Result<String, AllocError>
+    ensures { IfOk result (λ l. line_for e.now ≡ Some (string_bytes l)) }
+{
+    match e {
+        ParseError::NoMemory => Err(AllocError),
+        ParseError::NotNotation(place) | ParseError::Refused(place, _) => line_at(alloc, *place, e),
+    }
+}
+
+/// The shape that a word of a command line is the notation of, or the line that refuses the word: with the place and the refusal.
+///
+/// # Errors
+///
+/// The outer error means out of memory.
+pub fn shape_of_word(alloc: Global, word: &str) -> Result<Result<Shape, String>, AllocError>
+    // Where the word is alone and no option, the shape is asked for, or the line is due.
+    ensures asks { (usage : Usage) → usage.is_option word.now ≡ false → IfOk result (λ r. Asks usage (word.now ∷ []) r) }
+{
+    match Shape::parse(alloc, word) {
+        Ok(shape) => {
+            shape.known();
+            Ok(Ok(shape))
+        }
+        Err(e) => Ok(Err(line_of(alloc, &e)?)),
+    }
+}
