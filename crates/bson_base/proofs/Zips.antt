@@ -1,6 +1,6 @@
 -- Keys beside values, as pairs.
 use Rattle.std.proofs.Common.{◌≡◌, ℕ, zero, suc, ◌+◌, ◌<◌, min, List, [], ◌∷◌, ◌++◌, length, get_or, take, Bool, true, false, ◌||◌, Option, Some, None, Bor, refl, ap, sym, ◌∙◌, string_bytes, arith}
-use Rattle.std.specs.Prelude.{if◌then◌else◌, is_some, IfSome, slice_get, slice_set, nat_lt}
+use Rattle.std.specs.Prelude.{map, if◌then◌else◌, is_some, IfSome, slice_get, slice_set, nat_lt}
 use Rattle.std.specs.Option.{option_map}
 use Rattle.std.proofs.lemmas.List.Quantifiers.{position-Some}
 use Rattle.std.specs.List.{list_any, position, IsDistinct, AllByRecursion, AllZip}
@@ -13,7 +13,7 @@ use Rattle.bson_base.specs.Text.{Utf8}
 use Rattle.bson_base.specs.Tree.{Tree, Trees, no_trees, tree, no_pairs, pair}
 use Rattle.bson_base.specs.BsonView.{Key, zipped, tree_of, trees_of}
 use Rattle.bson_base.specs.Sound.{Lacks}
-use Rattle.bson_base.specs.Pairs.{lookup, put, count, AreDistinct}
+use Rattle.bson_base.specs.Pairs.{lookup, put, count, keys_of, AreDistinct}
 use Rattle.bson_base.specs.declared.bson.Bson.{Bson}
 
 -- whether a document holds the key as this one
@@ -24,6 +24,12 @@ pub count-zipped : (ks : List Key) (vs : List Bson) → count (zipped ks (trees_
 count-zipped [] vs = omega arith
 count-zipped (k ∷ ks) [] = omega arith
 count-zipped (k ∷ ks) (v ∷ vs) = omega (arith, count-zipped ks vs)
+
+-- the keys of as many keys as values
+pub keys-zipped : (ks : List Key) (vs : List Bson) → length ks ≡ length vs → map string_bytes ks ≡ keys_of (zipped ks (trees_of vs))
+keys-zipped [] vs e = refl
+keys-zipped (k ∷ ks) [] e = absurd (omega (arith, e))
+keys-zipped (k ∷ ks) (v ∷ vs) e = ap (λ l. string_bytes k ∷ l) (keys-zipped ks vs (omega (arith, e)))
 
 lacks : (k : Key) (ks : List Key) (ts : Trees) → AllByRecursion (λ y. string_eq k y ≡ false) ks → Lacks (string_bytes k) (zipped ks ts)
 lacks k [] ts h = tt

@@ -1,5 +1,5 @@
 -- The pairs of a document as an ordered map.
-use Rattle.std.specs.Prelude.{ℕ, suc, if◌then◌else◌, Option, None, Some}
+use Rattle.std.specs.Prelude.{ℕ, suc, List, [], ◌∷◌, if◌then◌else◌, Option, None, Some}
 use Rattle.std.specs.Str.{bytes_eq}
 use Rattle.bson_base.specs.Text.{Utf8}
 use Rattle.bson_base.specs.Tree.{Tree, Pairs, no_pairs, pair}
@@ -19,6 +19,11 @@ put key value (pair k t ps) = if bytes_eq key k then pair k value ps else pair k
 abbrev pub count : Pairs → ℕ
 count no_pairs = 0
 count (pair k t ps) = suc (count ps)
+
+-- the keys, in order
+abbrev pub keys_of : Pairs → List Utf8
+keys_of no_pairs = []
+keys_of (pair k t ps) = k ∷ keys_of ps
 
 -- no key stands twice
 abbrev pub AreDistinct : Pairs → Type 0

@@ -1,7 +1,7 @@
-ghost use Rattle.std.specs.Prelude.{◌≡◌, ◌==◌, length, string_bytes, IfOk, OnOk, OnErr};
+ghost use Rattle.std.specs.Prelude.{◌≡◌, ◌==◌, length, map, is_some, string_bytes, IfOk, OnOk, OnErr};
 ghost use Rattle.std.specs.Option.{option_map};
 ghost use Rattle.bson_base.specs.Tree.{no_pairs};
-ghost use Rattle.bson_base.specs.Pairs.{lookup, put, count, AreDistinct};
+ghost use Rattle.bson_base.specs.Pairs.{lookup, put, count, keys_of, AreDistinct};
 ghost use Rattle.bson_base.specs.BsonView.{tree_of, trees_of, zipped, pairs_of};
 
 use crate::bson::{Bson, copies_of};
@@ -54,6 +54,21 @@ impl Document {
     {
         let index = self.keys.get_index_of(key)?;
         self.values.get(index)
+    }
+
+    /// Whether a key is there. It takes no memory.
+    pub fn contains_key(&self, key: &str) -> bool
+        ensures value { result ≡ is_some (lookup key.now (pairs_of self.now)) }
+    {
+        self.get(key).is_some()
+    }
+
+    /// The keys, in order. It takes no memory.
+    pub fn keys(&self) -> &[String]
+        ensures keys { map string_bytes result.now ≡ keys_of (pairs_of self.now) }
+    {
+        let (keys, _) = self.parts();
+        keys
     }
 
     /// Puts a value at a key, and hands back the value that stood there; `None` where the key is new.

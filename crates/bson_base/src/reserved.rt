@@ -9,6 +9,9 @@ use crate::ElementType;
 pub fn reserved_kind(name: &str) -> Option<ElementType>
     ensures kind { result ≡ reserved.reserved_kind name.now }
 {
+    if !name.starts_with('$') {
+        return None;
+    }
     let kind = match name {
         "$oid" => ElementType::ObjectId,
         "$date" => ElementType::DateTime,

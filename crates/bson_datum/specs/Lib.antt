@@ -13,4 +13,5 @@ pub mod Stop
 pub mod ErrorView
 pub mod Printed
 pub mod Same
+pub mod Access
 pub mod Prover

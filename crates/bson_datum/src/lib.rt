@@ -1,6 +1,7 @@
 //! Values of serde's data model, paths, and the errors of readers and writers with their printed texts.
 #![tactic(auto)]
 
+mod access;
 mod byte_str;
 mod cause;
 mod clone;

@@ -10,5 +10,6 @@ pub mod DocumentView
 pub mod ValueView
 pub mod Printed
 pub mod Next
+pub mod Get
 pub mod Cut
 pub mod Prover

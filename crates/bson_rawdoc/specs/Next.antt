@@ -22,3 +22,9 @@ abbrev pub count : Walk → ℕ
 count ended = 0
 count (faulty e) = 0
 count (then_walk e w) = suc (count w)
+
+-- how many steps an iterator has left: the elements, and the fault
+abbrev pub steps : Walk → ℕ
+steps ended = 0
+steps (faulty e) = 1
+steps (then_walk e w) = suc (steps w)

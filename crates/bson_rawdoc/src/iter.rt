@@ -1,6 +1,7 @@
 ghost use Rattle.std.specs.Prelude.{◌≡◌, ◌≤◌, length};
+ghost use Rattle.std.specs.Iterator.{at_most};
 ghost use Rattle.bson_rawdoc.specs.Walk.{walk};
-ghost use Rattle.bson_rawdoc.specs.Next.{IsNext, IsStep};
+ghost use Rattle.bson_rawdoc.specs.Next.{IsNext, IsStep, steps};
 
 use crate::element::{RawElement, element_at};
 use crate::raw::Error;
@@ -8,6 +9,9 @@ use crate::reading::inside;
 use std::marker::Model;
 
 /// The elements of a document, one after another. Contracts see it as what is left of the walk.
+///
+/// Each item is an element, or, once and last, the fault that ends the list. Nothing is copied, and no memory is taken. The values are not
+/// looked at: see `RawElement::value`.
 #[derive(Debug, Drop)]
 pub struct RawIter<'a> {
     rest: &'a [u8],
@@ -37,14 +41,17 @@ impl<'a> RawIter<'a> {
             over: false,
         }
     }
+}
 
-    /// The next element; or the fault that ends the list, once; or `None`, for good.
-    ///
-    /// It takes no memory.
+impl<'a> Iterator for RawIter<'a> {
+    type Item = Result<RawElement<'a>, Error>;
+
+    ghost next_gives = { IsNext };
+
+    ghost remaining = { λ w. at_most (steps w) };
+
     #[inline(always)]
-    pub fn next(&mut self) -> Option<Result<RawElement<'a>, Error>>
-        ensures next { IsNext self.old result self.new }
-    {
+    fn next(&mut self) -> Option<Result<RawElement<'a>, Error>> {
         if self.over {
             return None;
         }

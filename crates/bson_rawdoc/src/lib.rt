@@ -6,6 +6,7 @@ mod document;
 mod documents;
 mod element;
 mod extent;
+mod get;
 mod iter;
 mod parts;
 pub mod raw;

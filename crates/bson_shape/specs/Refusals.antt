@@ -1,5 +1,5 @@
 -- What the refusals of a shape print.
-use Rattle.std.specs.Prelude.{codes}
+use Rattle.std.specs.Prelude.{codes, ℕ, Option, Some, None}
 use Rattle.bson_base.specs.Text.{Utf8}
 use Rattle.bson_shape.specs.declared.error.ShapeError.{ShapeError}
 use Rattle.bson_shape.specs.declared.error.ShapeError.TheVariants as causes
@@ -19,3 +19,9 @@ abbrev pub refusal_text : ParseError → Utf8
 refusal_text (errors.NotNotation place) = codes "not a shape"
 refusal_text (errors.Refused place e) = shape_error_text e
 refusal_text errors.NoMemory = codes "out of memory"
+
+-- the place that a refusal tells
+abbrev pub place_of : ParseError → Option ℕ
+place_of (errors.NotNotation place) = Some place
+place_of (errors.Refused place cause) = Some place
+place_of errors.NoMemory = None

@@ -1,3 +1,6 @@
+ghost use Rattle.std.specs.Prelude.{◌≡◌};
+ghost use Rattle.bson_shape.specs.Refusals.{place_of};
+
 use std::alloc::{AllocError, AllocFailed};
 use std::fmt;
 
@@ -53,6 +56,18 @@ pub enum ParseError {
     Refused(usize, ShapeError),
     /// The memory that the call asked for was refused.
     NoMemory,
+}
+
+impl ParseError {
+    /// The place in the text, counted in bytes from 0; `None` where memory ran out.
+    pub fn place(&self) -> Option<usize>
+        ensures place { result ≡ place_of self.now }
+    {
+        match self {
+            ParseError::NotNotation(place) | ParseError::Refused(place, _) => Some(*place),
+            ParseError::NoMemory => None,
+        }
+    }
 }
 
 impl fmt::Display for ParseError {
