@@ -7,3 +7,4 @@ pub mod Headline
 pub mod Words
 pub mod Answered
 pub mod Again
+mod AtOnce

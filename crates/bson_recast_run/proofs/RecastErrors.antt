@@ -23,7 +23,7 @@ use Rattle.bson_recast_run.specs.Recasting.{writes, written, recast_read, recast
 -- ---- from the halves to the whole
 
 -- a value that is written within the limit
-within : (b : Bool) (w : Writing Tree) (bytes : Bytes) → b ≡ false → result_map enc w ≡ Ok bytes → written b w ≡ writes bytes
+pub within : (b : Bool) (w : Writing Tree) (bytes : Bytes) → b ≡ false → result_map enc w ≡ Ok bytes → written b w ≡ writes bytes
 within true w bytes e is = absurd cc
 within false (Ok t) bytes e is = let same : enc t ≡ bytes = cc in ap writes same
 within false (Err r) bytes e is = absurd cc

@@ -14,6 +14,7 @@ ghost use Rattle.bson_recast_run.specs.Recasting.{recast_of, writes, IsRecast, I
 use bson_datum::{Datum, Shape, de, ser};
 use bson_de_raw::from_slice_at;
 use bson_io::{Out, Steps, Tally};
+use bson_one_pass::recast_at_once;
 use bson_ser_stream::to_buf;
 use std::alloc::Global;
 
@@ -82,6 +83,32 @@ pub fn recast_to_buf(
 ) -> Result<(), RecastError>
     ensures exact { IsAppended (recast_of shape.now bytes.now) out.old.bytes out.new.bytes result }
 {
+    match recast_at_once(alloc, shape, bytes) {
+        Some(made) => append(out, &made),
+        None => recast_in_two(alloc, shape, bytes, out),
+    }
+}
+
+// Appends what was made in one pass.
+fn append(out: &mut Out, made: &[u8]) -> Result<(), RecastError>
+    ensures { IsAppended (writes made.now) out.old.bytes out.new.bytes result }
+{
+    let mut steps = Steps::<Tally>::new();
+    match out.push_all(made, &mut steps) {
+        Ok(()) => Ok(()),
+        Err(_) => Err(RecastError::NoMemory),
+    }
+}
+
+// The same in two steps: the value is read, and then it is written.
+fn recast_in_two(
+    alloc: Global,
+    shape: &Shape,
+    bytes: &[u8],
+    out: &mut Out,
+) -> Result<(), RecastError>
+    ensures exact { IsAppended (recast_of shape.now bytes.now) out.old.bytes out.new.bytes result }
+{
     let datum = match read(alloc, shape, bytes) {
         Ok(datum) => datum,
         Err(e) => return Err(unread(e)),
@@ -97,8 +124,11 @@ pub fn recast_to_buf(
 fn through(alloc: Global, shape: &Shape, bytes: &[u8]) -> Result<Vec<u8>, RecastError>
     ensures { IsRecast (recast_of shape.now bytes.now) result }
 {
+    if let Some(made) = recast_at_once(alloc, shape, bytes) {
+        return Ok(made);
+    }
     let mut out = Out::new(alloc);
-    recast_to_buf(alloc, shape, bytes, &mut out)?;
+    recast_in_two(alloc, shape, bytes, &mut out)?;
     Ok(out.into_vec())
 }
 

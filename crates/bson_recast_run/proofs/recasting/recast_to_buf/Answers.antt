@@ -1,7 +1,9 @@
-use Rattle.bson_recast_run.proofs.RecastErrors.{write_error}
+use Rattle.std.proofs.Common.{ap, sym, subst, ◌∙◌}
+use Rattle.bson_recast_run.specs.Recasting.{Recast, writes, IsAppended}
+use Rattle.bson_recast_run.proofs.AtOnce.{at_once}
 use Rattle.bson_recast_run.proofs.recasting.recast_to_buf.Goals as goal
 
-pub returns : goal.returns
-returns c = record {
-  exact = (write_error c.args.shape.now c.args.bytes.now _ c.in-Err-to_buf.e c.unwritten.result c.in-Ok.ensures.exact c.in-Err-to_buf.ensures.refused c.unwritten.ensures, c.in-Err-to_buf.ensures.kept);
-}
+pub returns-in-Some : goal.returns-in-Some
+returns-in-Some c =
+    let given = ap writes c.deref.ensures.value ∙ sym (at_once c.args.shape.now c.args.bytes.now c.in-Some.made.items c.in-Some.ensures.recast) in
+    record { exact = subst (λ (r : Recast). IsAppended r c.args.out.now.bytes c.append.new.out.bytes c.append.result) given c.append.ensures }

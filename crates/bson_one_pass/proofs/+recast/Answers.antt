@@ -1,0 +1,112 @@
+use Rattle.std.proofs.Common.{◌≡◌, suc, ◌+◌, ◌-◌, ◌*◌, ◌<◌, ◌++◌, [], ◌∷◌, length, get_or, take, drop, ap, sym, ◌∙◌, arith, rules}
+use Rattle.std.specs.Str.{bytes_eq}
+use Rattle.bson_base.specs.Tree.{enclosed}
+use Rattle.bson_rawdoc.specs.DocumentView.{array_bytes}
+use Rattle.bson_rawdoc.specs.Node.{node_in, nodes_with}
+use Rattle.bson_rawdoc.specs.Walk.{walk}
+use Rattle.bson_shape.specs.ShapeView.{fields_of, nodes, fields_nodes}
+use Rattle.bson_shape.specs.declared.shape.FieldShape.{FieldShape}
+use Rattle.bson_shape.proofs.Shapes.{field_smaller}
+use Rattle.bson_laws.specs.Judged.{plain}
+use Rattle.bson_laws.specs.Reads.{slots_of}
+use Rattle.bson_one_pass.specs.Recast.{recast_node, recast_items, recast_fields}
+use Rattle.bson_one_pass.proofs.Containers.{array_put}
+use Rattle.bson_one_pass.proofs.Items.{item_step, left_none}
+use Rattle.bson_one_pass.proofs.Pieces.{enclosed_put, item_put}
+use Rattle.bson_one_pass.proofs.Places.{due_step, dropped_step, missing_step, places_end}
+use Rattle.bson_one_pass.proofs.+recast.Goals as goal
+
+pub array::recast_item-returns : goal.array::recast_item-returns
+array::recast_item-returns t c =
+    let s = c.args.shape.now in
+    let levels = c.args.levels in
+    let old = c.args.made.now.items in
+    item_put _ (recast_node s levels (node_in levels c.args.element.now.kind c.args.element.now.value)) c.args.key.now c.in_ok-kind.kind c.len-place.result old c.put_front.new.made.items c.recast_value.new.made.items c.set_kind.new.made.items
+    (ap (recast_node s levels) c.in_ok-value.ensures) (search rules) (c.in_ok-put_front.ensures ∙ ap (λ b. old ++ (0 ∷ (b ++ 0 ∷ []))) c.as_bytes.ensures.value) c.in_ok-kind.ensures.put c.set_kind.ensures
+
+pub array::recast_items-loop-element-preserved : goal.array::recast_items-loop-element-preserved
+array::recast_items-loop-element-preserved t c =
+    let s = c.args.item.now in
+    let levels = c.args.levels in
+    let i = c.loop-element.index in
+    let step = rw c.in-Ok.is at c.in-Some.ensures.steps in
+    let next : c.in_ok-index.index ≡ suc i = omega (arith, c.in_ok-index.ensures) in (
+      tt,
+      tt,
+      rw next
+          (item_step s levels i c.loop-element.element-iterator c.next.new.self c.in-Ok.element (recast_items s levels 0 (nodes_with (node_in levels) c.args.elements)) c.format.result.now c.args.made.now.items c.loop-element.made.items
+          c.recast_item.new.made.items step c.format.ensures.text c.loop-element.invariant.2 c.in_ok-recast_item.ensures),
+    )
+
+pub array::recast_items-returns : goal.array::recast_items-returns
+array::recast_items-returns t c =
+    left_none (recast_items c.args.item.now c.args.levels 0 (nodes_with (node_in c.args.levels) c.args.elements)) c.loop-element.index c.args.made.now.items c.loop-element.made.items (rw c.in-None.ensures.steps.0 at c.loop-element.invariant.2)
+
+pub array::recast_array-returns : goal.array::recast_array-returns
+array::recast_array-returns t c =
+    let m = c.args.levels - 1 in
+    let old = c.args.made.now.items in
+    let begun = c.put.new.made.items in
+    let made = c.recast_items.new.made.items in
+    let new = c.close.new.made.items in
+    let at : c.len-start.result ≡ length old = search rules in
+    let walked : c.iter_elements.result ≡ walk (array_bytes c.args.array) = c.iter_elements.ensures.walk ∙ ap walk c.as_doc.ensures.bytes in
+    let ends : new ≡ take (length old) made ++ enclosed (drop (length old + 4) made) = c.in_ok-close.ensures ∙ ap (λ n. take n made ++ enclosed (drop (n + 4) made)) at in
+    array_put c.args.item.now c.args.levels m (array_bytes c.args.array) old begun made new (omega (arith, c.if-levels-eq0.false)) (λ b fills. enclosed_put old begun made new b c.in_ok-put.ensures fills ends)
+    (rw walked at c.in_ok-recast_items.ensures)
+
+pub structure::recast_fields-recast_field-requires : goal.structure::recast_fields-recast_field-requires
+structure::recast_fields-recast_field-requires t c =
+    let fs = c.args.fields.now in
+    let f = c.in-Some-get.field.now in
+    let found = c.in-Some-get.ensures.lookup in
+    let smaller = field_smaller fs c.loop-element.place f found.3.0 in
+    let same : nodes (get_or fs c.loop-element.place f).shape ≡ nodes f.shape = ap (λ (g : FieldShape). nodes g.shape) (sym found.1) in
+    let less : 8 * nodes f.shape + 2 < 8 * fields_nodes (fields_of fs) + 3 = omega (arith, smaller, same) in
+    search rules
+
+pub structure::recast_fields-loop-element-preserved-then-eq : goal.structure::recast_fields-loop-element-preserved-then-eq
+structure::recast_fields-loop-element-preserved-then-eq t c =
+    let fs = c.args.fields.now in
+    let levels = c.args.levels in
+    let e = c.in-Ok.element in
+    let found = c.in-Some-get.ensures.lookup in
+    let step = rw c.in-Ok.is at c.in-Some.ensures.steps in
+    let written = c.in_ok-recast_field-in-Some-get.ensures in
+    let same = ap (λ x. bytes_eq x e.key) (sym c.as_str.ensures.value) ∙ ap (λ k. bytes_eq c.as_str.result.now k) (sym c.key.ensures.key) ∙ sym c.eq.ensures ∙ c.if-eq.true in (
+      tt,
+      tt,
+      omega (arith, found.3.0),
+      due_step fs levels (recast_fields (slots_of (fields_of fs) plain) levels (nodes_with (node_in levels) c.args.elements)) c.loop-element.place c.args.made.now.items c.loop-element.made.items c.loop-element.element-iterator c.next.new.self e
+          c.in-Some-get.field.now c.recast_field.new.made.items c.loop-element.invariant.3 step found.3.0 found.1 same c.requires.distinct written.name written.put,
+    )
+
+pub structure::recast_fields-loop-element-preserved : goal.structure::recast_fields-loop-element-preserved
+structure::recast_fields-loop-element-preserved t c =
+    let fs = c.args.fields.now in
+    let levels = c.args.levels in
+    let dropped = c.in_ok-drop_element-in_default-get.ensures in
+    let step = rw c.in-Ok.is at c.in-Some.ensures.steps in (
+      tt,
+      tt,
+      c.loop-element.invariant.2,
+      dropped_step fs levels (recast_fields (slots_of (fields_of fs) plain) levels (nodes_with (node_in levels) c.args.elements)) c.loop-element.place c.args.made.now.items c.loop-element.made.items c.loop-element.element-iterator c.next.new.self
+          c.in-Ok.element c.loop-element.invariant.3 step dropped.free dropped.ignored,
+    )
+
+pub structure::recast_fields-loop-field-preserved : goal.structure::recast_fields-loop-field-preserved
+structure::recast_fields-loop-field-preserved t c =
+    let fs = c.args.fields.now in
+    let levels = c.args.levels in
+    let found = c.in-Some-get-2.ensures.lookup in
+    let put = c.in_ok-put_missing.ensures in (
+      omega (arith, found.3.0),
+      missing_step fs levels (recast_fields (slots_of (fields_of fs) plain) levels (nodes_with (node_in levels) c.args.elements)) c.loop-field.place c.args.made.now.items c.loop-field.made.items c.in-Some-get-2.field.now
+          c.put_missing.new.made.items c.loop-field.invariant.1 found.3.0 found.1 put.name put.absent put.put,
+    )
+
+pub structure::recast_fields-returns : goal.structure::recast_fields-returns
+structure::recast_fields-returns t c =
+    let fs = c.args.fields.now in
+    let levels = c.args.levels in
+    places_end fs levels (recast_fields (slots_of (fields_of fs) plain) levels (nodes_with (node_in levels) c.args.elements)) c.loop-field.place c.args.made.now.items c.loop-field.made.items c.loop-field.invariant.1 (search rules)

@@ -1,0 +1,67 @@
+-- The tree that a node is recast as: what it is read as at a shape, and what that is written as.
+use Rattle.std.specs.Prelude.{◌≡◌, ℕ, ◌≤◌, ◌++◌, length, Option, Some, None, Ok, Err}
+use Rattle.bson_base.specs.Outcome.{◌>>=◌}
+use Rattle.bson_base.specs.Sound.{max_bytes}
+use Rattle.bson_base.specs.Text.{Bytes, Utf8}
+use Rattle.bson_base.specs.Tree.{Tree, Trees, Pairs, enc, elements, array_elements, element, kind}
+use Rattle.bson_base.specs.declared.element_type.ElementType.{ElementType}
+use Rattle.bson_rawdoc.specs.Node.{Node, Nodes}
+use Rattle.bson_shape.specs.Form.{Form}
+use Rattle.bson_datum.specs.Marked.{contents, item_contents, field_contents}
+use Rattle.bson_datum.specs.Value.{Value}
+use Rattle.bson_laws.specs.Containers.{reads_items}
+use Rattle.bson_laws.specs.Judged.{Reading, plain}
+use Rattle.bson_laws.specs.Reads.{reads, reads_document}
+use Rattle.bson_laws.specs.Slots.{Slots, fill, finish}
+use Rattle.bson_laws.specs.Spell.{Writing, spell, spell_items, spell_fields, spell_document}
+
+-- what is written, where it is
+abbrev pub of_writing : {A : Type 0} → Writing A → Option A
+of_writing (Ok x) = Some x
+of_writing (Err r) = None
+
+-- what is written of what is read, where it is read and written
+abbrev pub recast_of : {A B : Type 0} → (A → Writing B) → Reading A → Option B
+recast_of write (Ok x) = of_writing (write x)
+recast_of write (Err r) = None
+
+-- the tree of a value, with so many levels left
+abbrev pub recast_node : Form → (levels : ℕ) → Node → Option Tree
+recast_node s levels n = recast_of (λ v. spell (contents v) levels) (reads s plain n)
+
+-- the trees of the elements of an array from this index on
+abbrev pub recast_items : Form → (levels index : ℕ) → Nodes → Option Trees
+recast_items s levels i ns = recast_of (λ vs. spell_items i (item_contents vs) levels) (reads_items (reads s plain) i ns)
+
+-- the pairs of the fields of a struct from the elements of a document, put to what the slots have
+abbrev pub recast_fields : Slots → (levels : ℕ) → Nodes → Option Pairs
+recast_fields slots levels ns = recast_of (λ vs. spell_fields (field_contents vs) levels) (fill plain ns slots >>= finish)
+
+-- a tree of this kind was appended
+abbrev pub IsPut : Option Tree → (old new : Bytes) → ElementType → Type 0
+IsPut None old new k = ⊥
+IsPut (Some t) old new k = (kind t ≡ k) × (new ≡ old ++ enc t)
+
+-- an element of this key with the tree was appended
+abbrev pub IsElementPut : Option Tree → Utf8 → (old new : Bytes) → Type 0
+IsElementPut None key old new = ⊥
+IsElementPut (Some t) key old new = new ≡ old ++ element (kind t) key (enc t)
+
+-- the elements of an array from this index on were appended
+abbrev pub AreItemsPut : Option Trees → (index : ℕ) → (old new : Bytes) → Type 0
+AreItemsPut None i old new = ⊥
+AreItemsPut (Some ts) i old new = new ≡ old ++ array_elements i ts
+
+-- the elements of a document were appended
+abbrev pub ArePairsPut : Option Pairs → (old new : Bytes) → Type 0
+ArePairsPut None old new = ⊥
+ArePairsPut (Some ps) old new = new ≡ old ++ elements ps
+
+-- The document's bytes are read at the shape as a value that is written as these bytes.
+pub record IsRecastAs (s : Form) (bytes made : Bytes) : Type 0 where
+  pub value : Value
+  pub tree : Tree
+  pub read : reads_document s bytes ≡ Ok value
+  pub spelled : spell_document value ≡ Ok tree
+  pub encoded : enc tree ≡ made
+  pub fits : length made ≤ max_bytes

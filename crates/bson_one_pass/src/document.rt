@@ -1,0 +1,38 @@
+// A whole document.
+ghost use Rattle.std.specs.Prelude.{IfSome};
+ghost use Rattle.bson_one_pass.specs.Recast.{IsRecastAs};
+
+use crate::bytes::MAX_BYTES;
+use crate::value::recast_value;
+use bson_base::ElementType;
+use bson_rawdoc::{RawBsonRef, RawDocument};
+use bson_shape::Shape;
+use std::alloc::Global;
+
+// The most levels of documents and arrays.
+const MAX_LEVELS: u32 = 200;
+
+/// Reads the bytes of a document at a shape, and gives the bytes of what was read, in one pass.
+///
+/// `None` says nothing of the document: it is for the shapes and documents that the pass does not take, for those that are refused, and where memory runs
+/// out. It takes structs whose fields the document has in the shape's order, options, sequences, and the leaves `bool`, `double`, `unit`, `str`, `string`,
+/// `oid`, `datetime` and those of integers, where the value is of the kind of the leaf.
+pub fn recast_at_once(alloc: Global, shape: &Shape, bytes: &[u8]) -> Option<Vec<u8>>
+    ensures recast { IfSome result (λ v. IsRecastAs shape.now bytes.now v.items) }
+{
+    let Ok(document) = RawDocument::from_bytes(bytes) else {
+        return None;
+    };
+    let Ok(mut made) = Vec::with_capacity(alloc, bytes.len()) else {
+        return None;
+    };
+    match recast_value(
+        &mut made,
+        shape,
+        MAX_LEVELS,
+        &RawBsonRef::Document(document),
+    )? {
+        ElementType::EmbeddedDocument if made.len() <= MAX_BYTES => Some(made),
+        _ => None,
+    }
+}

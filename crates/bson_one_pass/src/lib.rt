@@ -1,0 +1,13 @@
+//! Recasting in one pass: each value is judged and written anew before the next one is looked at, and no datum is made.
+//!
+//! It takes the shapes and documents that are common. For any other it gives up, and the caller reads and writes in two steps.
+#![tactic(auto)]
+
+mod array;
+mod bytes;
+mod document;
+mod leaf;
+mod structure;
+mod value;
+
+pub use document::recast_at_once;
