@@ -6,5 +6,5 @@ mod running;
 mod status;
 
 pub use migrating::{MigrateError, Migration, Refused, migrate};
-pub use running::run_migrate;
+pub use running::{lines_of, run_migrate};
 pub use status::MigrateStatus;
