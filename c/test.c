@@ -1,0 +1,254 @@
+/*
+ * Tests of the built library. The bytes that are expected come from the BSON format (bsonspec.org), and the texts from the pages of the
+ * repository.
+ */
+#include "tbson.h"
+
+#include <stdio.h>
+#include <stdlib.h>
+#include <string.h>
+
+/* Stops at a condition that does not hold. */
+#define CHECK(condition) check((condition), #condition, __LINE__)
+
+static void check(int holds, const char *condition, int line)
+{
+    if (!holds) {
+        fprintf(stderr, "test.c:%d: %s does not hold\n", line, condition);
+        exit(1);
+    }
+}
+
+/* A text as the two arguments that a slice is. */
+#define TEXT(text) (const uint8_t *)(text), strlen(text)
+
+/* An array of bytes as the two arguments that a slice is. */
+#define BYTES(bytes) bytes, sizeof bytes
+
+/* {n: 7}: an Int32 has the type 16 and four bytes. */
+static const uint8_t seven[] = {12, 0, 0, 0, 16, 'n', 0, 7, 0, 0, 0, 0};
+
+/* The same as an Int64, which has the type 18 and eight bytes. */
+static const uint8_t wide_seven[] = {16, 0, 0, 0, 18, 'n', 0, 7, 0, 0, 0, 0, 0, 0, 0, 0};
+
+/* {n: 7}, {}, {n: 7}. */
+static const uint8_t file[] = {12, 0, 0, 0, 16, 'n', 0, 7, 0, 0, 0, 0, 5, 0, 0, 0, 0, 12, 0, 0, 0, 16, 'n', 0, 7, 0, 0, 0, 0};
+
+/* Whether a room begins with bytes, and has the filling byte behind them to its end. */
+static int holds(const uint8_t *room, size_t room_len, const uint8_t *bytes, size_t len)
+{
+    size_t i;
+
+    if (memcmp(room, bytes, len) != 0) {
+        return 0;
+    }
+    for (i = len; i < room_len; i++) {
+        if (room[i] != 0xaa) {
+            return 0;
+        }
+    }
+    return 1;
+}
+
+/* Whether an answer has these numbers. */
+static int is(tbson_answer a, uint32_t status, size_t place, size_t written, size_t needed, size_t text_written, size_t text_needed)
+{
+    return a.status == status && a.place == place && a.written == written && a.needed == needed && a.text_written == text_written &&
+           a.text_needed == text_needed;
+}
+
+static void test_shapes(void)
+{
+    static const uint8_t broken_text[] = {'"', 'a', 0xc3, '"', '!'};
+    uint8_t text[32];
+
+    memset(text, 0xaa, sizeof text);
+    CHECK(is(tbson_check_shape(TEXT("{name:string,age:i64}"), BYTES(text)), TBSON_DONE, 0, 0, 0, 0, 0));
+    CHECK(holds(text, sizeof text, TEXT("")));
+    /* No bytes at all begin every shape, and are none. */
+    CHECK(is(tbson_check_shape(NULL, 0, BYTES(text)), TBSON_SHAPE_REFUSED, 0, 0, 0, 11, 11));
+    CHECK(holds(text, sizeof text, TEXT("not a shape")));
+    /* {age:i33 goes on as {age:i33!}, where i33 is a name, and {age:i33} does not go on. */
+    CHECK(is(tbson_check_shape(TEXT("{age:i33}"), BYTES(text)), TBSON_SHAPE_REFUSED, 8, 0, 0, 11, 11));
+    /* The struct that begins at the sixth byte repeats a name. */
+    CHECK(is(tbson_check_shape(TEXT("(i32,{a:i32,a:bool})"), BYTES(text)), TBSON_SHAPE_REFUSED, 5, 0, 0, 13, 13));
+    CHECK(holds(text, sizeof text, TEXT("repeated name")));
+    /* As much of a text as fits. */
+    memset(text, 0xaa, sizeof text);
+    CHECK(is(tbson_check_shape(TEXT("i33"), text, 3), TBSON_SHAPE_REFUSED, 3, 0, 0, 3, 11));
+    CHECK(holds(text, sizeof text, TEXT("not")));
+    CHECK(is(tbson_check_shape(TEXT("i33"), NULL, 0), TBSON_SHAPE_REFUSED, 3, 0, 0, 0, 11));
+    /* 0xc3 begins a character of two bytes, and '"' is not the second. */
+    memset(text, 0xaa, sizeof text);
+    CHECK(is(tbson_check_shape(BYTES(broken_text), BYTES(text)), TBSON_SHAPE_REFUSED, 2, 0, 0, 9, 9));
+    CHECK(holds(text, sizeof text, TEXT("not UTF-8")));
+}
+
+static void test_recast(void)
+{
+    uint8_t output[20], text[64];
+
+    memset(output, 0xaa, sizeof output);
+    memset(text, 0xaa, sizeof text);
+    CHECK(is(tbson_recast(TEXT("{n:u32}"), BYTES(seven), NULL, 0, BYTES(text)), TBSON_ROOM_TOO_SMALL, 0, 0, 16, 0, 0));
+    CHECK(is(tbson_recast(TEXT("{n:u32}"), BYTES(seven), output, 15, BYTES(text)), TBSON_ROOM_TOO_SMALL, 0, 0, 16, 0, 0));
+    CHECK(holds(output, sizeof output, TEXT("")));
+    CHECK(is(tbson_recast(TEXT("{n:u32}"), BYTES(seven), output, 16, NULL, 0), TBSON_DONE, 0, 16, 16, 0, 0));
+    CHECK(holds(output, sizeof output, BYTES(wide_seven)));
+    CHECK(holds(text, sizeof text, TEXT("")));
+    /* What was written is written again. */
+    memset(output, 0xaa, sizeof output);
+    CHECK(is(tbson_recast(TEXT("{n:u32}"), BYTES(wide_seven), BYTES(output), BYTES(text)), TBSON_DONE, 0, 16, 16, 0, 0));
+    CHECK(holds(output, sizeof output, BYTES(wide_seven)));
+}
+
+static void test_refused_recast(void)
+{
+    static const uint8_t ada[] = {19, 0, 0, 0, 2, 'n', 'a', 'm', 'e', 0, 4, 0, 0, 0, 'A', 'd', 'a', 0, 0};
+    static const uint8_t unended[] = {5, 0, 0, 0, 1};
+    uint8_t output[32], text[64];
+
+    memset(output, 0xaa, sizeof output);
+    memset(text, 0xaa, sizeof text);
+    CHECK(is(tbson_recast(TEXT("{name:u8}"), BYTES(ada), BYTES(output), BYTES(text)), TBSON_READ_REFUSED, 0, 0, 0, 35, 35));
+    CHECK(holds(text, sizeof text, TEXT("error at name: invalid type: String")));
+    memset(text, 0xaa, sizeof text);
+    CHECK(is(tbson_recast(TEXT("{name:u8}"), BYTES(ada), BYTES(output), text, 8), TBSON_READ_REFUSED, 0, 0, 0, 8, 35));
+    CHECK(holds(text, sizeof text, TEXT("error at")));
+    memset(text, 0xaa, sizeof text);
+    CHECK(is(tbson_recast(TEXT("{}"), BYTES(unended), BYTES(output), BYTES(text)), TBSON_READ_REFUSED, 0, 0, 0, 23, 23));
+    CHECK(holds(text, sizeof text, TEXT("document not terminated")));
+    /* A map whose keys are char is read, but not written. */
+    memset(text, 0xaa, sizeof text);
+    CHECK(is(tbson_recast(TEXT("[char:i32]"), BYTES(seven), BYTES(output), BYTES(text)), TBSON_WRITE_REFUSED, 0, 0, 0, 40, 40));
+    CHECK(holds(text, sizeof text, TEXT("error at .: invalid map key type: String")));
+    memset(text, 0xaa, sizeof text);
+    CHECK(is(tbson_recast(TEXT("{age:i33}"), BYTES(ada), BYTES(output), BYTES(text)), TBSON_SHAPE_REFUSED, 8, 0, 0, 11, 11));
+    CHECK(holds(text, sizeof text, TEXT("not a shape")));
+    CHECK(holds(output, sizeof output, TEXT("")));
+}
+
+static void test_next_document(void)
+{
+    static const size_t lengths[] = {12, 5, 12};
+    tbson_document next;
+    size_t place = 0, i = 0;
+
+    while ((next = tbson_next_document(BYTES(file), place)).status == TBSON_DONE) {
+        CHECK(i < 3 && next.length == lengths[i]);
+        place += next.length;
+        i++;
+    }
+    CHECK(i == 3 && place == sizeof file && next.status == TBSON_END && next.length == 0);
+    next = tbson_next_document(BYTES(file), SIZE_MAX);
+    CHECK(next.status == TBSON_END && next.length == 0);
+    next = tbson_next_document(NULL, 0, 0);
+    CHECK(next.status == TBSON_END && next.length == 0);
+    /* One byte of the last document is not there. */
+    next = tbson_next_document(file, sizeof file - 1, 17);
+    CHECK(next.status == TBSON_BROKEN && next.length == 0);
+    /* 16, 'n', 0, 7 announces more bytes than are there. */
+    next = tbson_next_document(BYTES(file), 4);
+    CHECK(next.status == TBSON_BROKEN && next.length == 0);
+}
+
+static void test_migrate(void)
+{
+    static const char line[] = "document 1: read refused: error at .: missing field n\n";
+    uint8_t output[36], text[64], both[32];
+
+    memcpy(both, wide_seven, 16);
+    memcpy(both + 16, wide_seven, 16);
+    memset(output, 0xaa, sizeof output);
+    memset(text, 0xaa, sizeof text);
+    CHECK(is(tbson_migrate(TEXT("{n:u32}"), BYTES(file), output, 31, BYTES(text)), TBSON_ROOM_TOO_SMALL, 0, 0, 32, 54, 54));
+    CHECK(holds(output, sizeof output, TEXT("")));
+    CHECK(holds(text, sizeof text, TEXT(line)));
+    memset(text, 0xaa, sizeof text);
+    CHECK(is(tbson_migrate(TEXT("{n:u32}"), BYTES(file), output, 32, text, 10), TBSON_SOME_REFUSED, 0, 32, 32, 10, 54));
+    CHECK(holds(output, sizeof output, BYTES(both)));
+    CHECK(holds(text, sizeof text, TEXT("document 1")));
+    memset(output, 0xaa, sizeof output);
+    memset(text, 0xaa, sizeof text);
+    CHECK(is(tbson_migrate(TEXT("{n:u32}"), file, 12, BYTES(output), BYTES(text)), TBSON_DONE, 0, 16, 16, 0, 0));
+    CHECK(holds(output, sizeof output, BYTES(wide_seven)));
+    /* A file without documents. */
+    CHECK(is(tbson_migrate(TEXT("{n:u32}"), NULL, 0, NULL, 0, NULL, 0), TBSON_DONE, 0, 0, 0, 0, 0));
+    memset(output, 0xaa, sizeof output);
+    CHECK(is(tbson_migrate(TEXT("{n:u32}"), file, 18, BYTES(output), BYTES(text)), TBSON_BROKEN, 17, 0, 0, 0, 0));
+    CHECK(is(tbson_migrate(TEXT("{n:u33}"), BYTES(file), BYTES(output), BYTES(text)), TBSON_SHAPE_REFUSED, 6, 0, 0, 11, 11));
+    CHECK(holds(output, sizeof output, TEXT("")));
+}
+
+/* malloc, realloc and free of the library, which the linker's --wrap leads here: the one that is counted down to fails. */
+static size_t until_failure = 0;
+static long blocks = 0;
+
+void *__real_malloc(size_t size);
+void *__real_realloc(void *block, size_t size);
+void __real_free(void *block);
+void *__wrap_malloc(size_t size);
+void *__wrap_realloc(void *block, size_t size);
+void __wrap_free(void *block);
+
+static int fails(void)
+{
+    return until_failure != 0 && --until_failure == 0;
+}
+
+void *__wrap_malloc(size_t size)
+{
+    void *block = fails() ? NULL : __real_malloc(size);
+
+    blocks += block != NULL;
+    return block;
+}
+
+void *__wrap_realloc(void *block, size_t size)
+{
+    void *grown = fails() ? NULL : __real_realloc(block, size);
+
+    blocks += block == NULL && grown != NULL;
+    return grown;
+}
+
+void __wrap_free(void *block)
+{
+    blocks -= block != NULL;
+    __real_free(block);
+}
+
+/* Each time that memory is taken fails in turn: both rooms stay as they were, and all memory is given back. */
+static void test_no_memory(void)
+{
+    uint8_t output[36], text[64];
+    tbson_answer answer;
+    size_t n = 0;
+
+    do {
+        memset(output, 0xaa, sizeof output);
+        memset(text, 0xaa, sizeof text);
+        until_failure = ++n;
+        answer = tbson_migrate(TEXT("{n:u32}"), BYTES(file), BYTES(output), BYTES(text));
+        until_failure = 0;
+        CHECK(blocks == 0);
+        if (answer.status == TBSON_NO_MEMORY) {
+            CHECK(is(answer, TBSON_NO_MEMORY, 0, 0, 0, 0, 0));
+            CHECK(holds(output, sizeof output, TEXT("")) && holds(text, sizeof text, TEXT("")));
+        }
+    } while (answer.status == TBSON_NO_MEMORY);
+    CHECK(n > 2 && is(answer, TBSON_SOME_REFUSED, 0, 32, 32, 54, 54));
+}
+
+int main(void)
+{
+    CHECK(tbson_version() == TBSON_VERSION);
+    test_shapes();
+    test_recast();
+    test_refused_recast();
+    test_next_document();
+    test_migrate();
+    test_no_memory();
+    puts("test.c: all holds");
+    return 0;
+}

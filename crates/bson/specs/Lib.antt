@@ -1,0 +1,94 @@
+-- The definitions that public contracts cite, passed on from the crates below, so that a contract over `bson` needs no other crate. Where two crates have a
+-- file of one name, that of a subject is first in the name here.
+pub use Rattle.bson_dates.specs.DatePrinted
+pub use Rattle.bson_dates.specs.DateText
+pub use Rattle.bson_base.specs.BsonView
+pub use Rattle.bson_base.specs.Instant
+pub use Rattle.bson_base.specs.Kind
+pub use Rattle.bson_base.specs.Made
+pub use Rattle.bson_base.specs.Next as TreeNext
+pub use Rattle.bson_base.specs.Opened
+pub use Rattle.bson_base.specs.Outcome
+pub use Rattle.bson_base.specs.Pairs
+pub use Rattle.bson_base.specs.Parsed
+pub use Rattle.bson_base.specs.RegexView
+pub use Rattle.bson_base.specs.Reserved
+pub use Rattle.bson_base.specs.Same as TreeSame
+pub use Rattle.bson_base.specs.Sorted
+pub use Rattle.bson_base.specs.Sound
+pub use Rattle.bson_base.specs.Text
+pub use Rattle.bson_base.specs.Tree
+pub use Rattle.bson_io.specs.Adapters
+pub use Rattle.bson_io.specs.Ends
+pub use Rattle.bson_io.specs.Memory
+pub use Rattle.bson_io.specs.Output
+pub use Rattle.bson_io.specs.SteadySink
+pub use Rattle.bson_io.specs.SteadySource
+pub use Rattle.bson_shape.specs.Answers
+pub use Rattle.bson_shape.specs.FirstRefusal
+pub use Rattle.bson_shape.specs.Form
+pub use Rattle.bson_shape.specs.Fronts
+pub use Rattle.bson_shape.specs.Leaf
+pub use Rattle.bson_shape.specs.Levels
+pub use Rattle.bson_shape.specs.Machine
+pub use Rattle.bson_shape.specs.Makers
+pub use Rattle.bson_shape.specs.Notation
+pub use Rattle.bson_shape.specs.Refusals
+pub use Rattle.bson_shape.specs.Same as ShapeSame
+pub use Rattle.bson_shape.specs.ShapeView
+pub use Rattle.bson_rawdoc.specs.Cut
+pub use Rattle.bson_rawdoc.specs.DocumentView
+pub use Rattle.bson_rawdoc.specs.Envelope
+pub use Rattle.bson_rawdoc.specs.Extent
+pub use Rattle.bson_rawdoc.specs.Get
+pub use Rattle.bson_rawdoc.specs.Next as RawNext
+pub use Rattle.bson_rawdoc.specs.Node
+pub use Rattle.bson_rawdoc.specs.Piece
+pub use Rattle.bson_rawdoc.specs.Printed as RawPrinted
+pub use Rattle.bson_rawdoc.specs.RawValue
+pub use Rattle.bson_rawdoc.specs.ValueView
+pub use Rattle.bson_rawdoc.specs.Walk
+pub use Rattle.bson_datum.specs.Access
+pub use Rattle.bson_datum.specs.ByteStrView
+pub use Rattle.bson_datum.specs.Cause
+pub use Rattle.bson_datum.specs.ErrorView
+pub use Rattle.bson_datum.specs.Loans
+pub use Rattle.bson_datum.specs.Marked
+pub use Rattle.bson_datum.specs.MarkedView
+pub use Rattle.bson_datum.specs.PathView
+pub use Rattle.bson_datum.specs.Printed
+pub use Rattle.bson_datum.specs.Refusal
+pub use Rattle.bson_datum.specs.Same
+pub use Rattle.bson_datum.specs.Stop
+pub use Rattle.bson_datum.specs.TextView
+pub use Rattle.bson_datum.specs.Value
+pub use Rattle.bson_datum.specs.View
+pub use Rattle.bson_datum.specs.Wrapper
+pub use Rattle.bson_reserved.specs.AcceptedView
+pub use Rattle.bson_reserved.specs.Unwrap
+pub use Rattle.bson_reserved.specs.UuidBytes
+pub use Rattle.bson_laws.specs.Datum
+pub use Rattle.bson_laws.specs.Fits
+pub use Rattle.bson_laws.specs.Judged
+pub use Rattle.bson_laws.specs.Means
+pub use Rattle.bson_laws.specs.Plain
+pub use Rattle.bson_laws.specs.Reads
+pub use Rattle.bson_laws.specs.Spell
+pub use Rattle.bson_laws.specs.Views
+pub use Rattle.bson_laws.specs.Writable
+pub use Rattle.bson_met.specs.Gives as MetGives
+pub use Rattle.bson_met.specs.MetView
+pub use Rattle.bson_de_raw.specs.Gives
+pub use Rattle.bson_ser_stream.specs.Writing
+pub use Rattle.bson_recast_run.specs.Asked
+pub use Rattle.bson_recast_run.specs.Complete
+pub use Rattle.bson_recast_run.specs.Ends as RunEnds
+pub use Rattle.bson_recast_run.specs.Number as RunNumber
+pub use Rattle.bson_recast_run.specs.Recasting
+pub use Rattle.bson_recast_run.specs.Rows as RunRows
+pub use Rattle.bson_recast_run.specs.Run
+pub use Rattle.bson_recast_run.specs.Words
+pub use Rattle.bson_migrate_run.specs.Lines
+pub use Rattle.bson_migrate_run.specs.Migrating
+pub use Rattle.bson_migrate_run.specs.Number as MigrateNumber
+pub use Rattle.bson_migrate_run.specs.Rows as MigrateRows

@@ -1,0 +1,393 @@
+//! Typed BSON: the bytes of a document are read at a *shape* as a value of serde's data model, and such a value is written as the bytes of a document.
+//!
+//! This crate re-exports the public names of the crates below it, so that a program imports all it needs from here; docs/USING.md has a whole program. Each
+//! function that needs memory takes an allocator, and returns an error when it is out of memory. Every function returns, on every input that its contract allows.
+//!
+//! | subject | names |
+//! |---|---|
+//! | shapes | `Shape`; `FieldShape`, `VariantShape` and `VariantContent` to make one without its notation; `Form`, `Leaf` and `Named` to look at one |
+//! | reading and writing | `from_slice_at`; `to_vec_at`, `to_buf`, `to_vec_counted`; `Datum` and its parts `Field`, `Entry`, `Text`, `ByteStr`, `Double` |
+//! | both at once | `recast`, `recast_to_buf` |
+//! | trees | `Bson`, `Document` with `Iter` and `IntoIter`, and the types of values, such as `ObjectId`, `DateTime` and `Binary`; `read_value` and `Met` to read from one |
+//! | documents in their bytes | `RawDocument`, `RawArray`, `RawElement`, `RawIter`, `RawBsonRef` |
+//! | files of documents | `RawDocuments`; `migrate`, `Migration`, `Refused`, `lines_of` |
+//! | values of kinds that serde's data model lacks | `data` to make them, `reserved` to look at them, `reserved_kind` |
+//! | errors | `ParseError`, `ShapeError`, `de::Error`, `ser::Error`, `raw::Error`, `RecastError`, `MigrateError`; `Cause`, `Path`, `Segment`, `Wrapper`, and `Stop` of `read_value` |
+//! | input and output | `Source`, `Sink`, their ends `ReadAdapter`, `WriteAdapter`, `MemorySource`, `MemorySink`, `SteadySource`, `SteadySink`; `read_to_end`, `write_due`, `ReadFault`, `Failed`, `MOST`; `Out`, `Steps`, `Ledger`, `Tally` |
+//! | whole programs | `run` and `Status`, `run_migrate` and `MigrateStatus`, `shape_of_word`, `deliver` |
+//! | texts | `date_text`, `date_of_text`, `integer_of_text`, `subtype_of_text`; `DateError`, `NotDate`, `NotHex`, `NotUuid` |
+//! | contracts | `laws`; the definitions that contracts name, as `Rattle.bson.specs.Tree` |
+//!
+//! The examples are the functions of the crate `bson_examples`, where each is proved and tested. An example without a clause is proved too: it is safe, and it
+//! returns.
+//!
+//! # Shapes and their notation
+//!
+//! A shape says which values are read, and what they become. The README's table has every form of its notation. Makers such as `Shape::seq` and
+//! `Shape::structure` make the same shapes without a text.
+//!
+//! `bson_examples/src/shapes.rt`:
+//!
+//! ```rust
+//! ghost use Rattle.std.specs.Prelude.{◌≡◌, IfOk, codes};
+//! ghost use Rattle.bson.specs.Notation.{text};
+//!
+//! use bson::{ParseError, Shape};
+//! use std::alloc::Global;
+//!
+//! /// The shape of a person: a name, an age, and an address that may be missing.
+//! pub fn person_shape(alloc: Global) -> Result<Shape, ParseError>
+//!     ensures notation { IfOk result (λ shape. text shape ≡ codes "{name:string,age:u8,email:?string}") }
+//! {
+//!     Shape::parse(alloc, "{name:string,age:u8,email:?string}")
+//! }
+//! ```
+//!
+//! # Reading
+//!
+//! What is read is a `Datum`. At `str` and `bytes` its texts and byte strings are borrowed from the input, at `string` and `bytebuf` they are owned.
+//! `Datum::into_owned` makes a value that borrows nothing.
+//!
+//! `bson_examples/src/reading.rt`:
+//!
+//! ```rust
+//! ghost use Rattle.std.specs.Prelude.{IsOk, OnOk};
+//! ghost use Rattle.bson.specs.Reads.{reads_document};
+//!
+//! use bson::{Shape, de, from_slice_at};
+//! use std::alloc::Global;
+//!
+//! /// The age of the person in the bytes of a document such as `{name: "Ada", age: 36}`.
+//! pub fn age(alloc: Global, shape: &Shape, bytes: &[u8]) -> de::Result<Option<i64>>
+//!     ensures read { OnOk result (IsOk (reads_document shape.now bytes.now)) }
+//! {
+//!     let person = from_slice_at(alloc, shape, bytes)?;
+//!     Ok(person.field("age").and_then(|age| age.as_i64()))
+//! }
+//! ```
+//!
+//! # What a value holds
+//!
+//! `field` is for structs, `get` for maps, as at `any`; `as_str`, `as_i64`, `as_bytes` and `as_seq` return what a value of that form holds, and `None` for
+//! every other. For all other forms, and for an option, match on the `Datum`.
+//!
+//! `bson_examples/src/accessors.rt`:
+//!
+//! ```rust
+//! ghost use Rattle.std.specs.Prelude.{◌≡◌, codes, option_and_then};
+//! ghost use Rattle.bson.specs.Access.{as_i64, field};
+//! ghost use Rattle.bson.specs.View.{view};
+//!
+//! use bson::Datum;
+//!
+//! /// The age of a person.
+//! pub fn age_of(person: &Datum<'_>) -> Option<i64>
+//!     ensures age { result ≡ option_and_then as_i64 (field (codes "age") (view person.now)) }
+//! {
+//!     person.field("age")?.as_i64()
+//! }
+//!
+//! /// The city of a person's first address, as `London` in `{addresses: [{city: "London"}, {city: "Paris"}]}`.
+//! pub fn first_city<'d>(person: &'d Datum<'_>) -> Option<&'d str> {
+//!     let addresses = person.field("addresses")?.as_seq()?;
+//!     addresses.first()?.field("city")?.as_str()
+//! }
+//! ```
+//!
+//! # Writing
+//!
+//! A struct or a map is written as a document. The type of a number says its kind: `U8` is written as an Int32, `I64` as an Int64.
+//!
+//! `bson_examples/src/writing.rt`:
+//!
+//! ```rust
+//! use bson::{Datum, Field, Text, ser, to_vec_at};
+//! use std::alloc::{AllocError, Global};
+//!
+//! /// A person, as a value of a struct. The name is borrowed.
+//! pub fn person<'a>(alloc: Global, name: &'a str, age: u8) -> Result<Datum<'a>, AllocError> {
+//!     let name = Field {
+//!         name: Text::Borrowed("name"),
+//!         value: Datum::Str(Text::Borrowed(name)),
+//!     };
+//!     let age = Field {
+//!         name: Text::Borrowed("age"),
+//!         value: Datum::U8(age),
+//!     };
+//!     let fields = vec![in alloc; name, age]?;
+//!     Ok(Datum::Struct {
+//!         name: Text::Borrowed("Person"),
+//!         fields,
+//!     })
+//! }
+//!
+//! /// The bytes of the document that a person is written as.
+//! pub fn person_bytes(alloc: Global, name: &str, age: u8) -> ser::Result<Vec<u8>> {
+//!     match person(alloc, name, age) {
+//!         Ok(person) => to_vec_at(alloc, &person),
+//!         Err(_) => Err(ser::Error::NoMemory),
+//!     }
+//! }
+//! ```
+//!
+//! # Reading and writing at once
+//!
+//! `recast` reads a document at a shape and writes it again: fields that the shape lacks are left out, and numbers get the kinds that the shape asks for. What it
+//! returns is returned as it is when it is recast at the same shape again.
+//!
+//! `bson_examples/src/recasting.rt`:
+//!
+//! ```rust
+//! ghost use Rattle.std.specs.Prelude.{◌≡◌, IfOk};
+//! ghost use Rattle.bson.specs.Recasting.{recast_of, writes};
+//! ghost use Rattle.bson.specs.Text.{Bytes};
+//!
+//! use bson::{RecastError, Shape, recast};
+//! use std::alloc::{AllocError, Global};
+//!
+//! /// A document as it is written at a new shape, or as it was where it is refused there.
+//! pub fn upgraded(alloc: Global, shape: &Shape, bytes: &[u8]) -> Result<Vec<u8>, AllocError>
+//!     ensures written { (out : Bytes) → recast_of shape.now bytes.now ≡ writes out → IfOk result (λ v. v.items ≡ out) }
+//! {
+//!     match recast(alloc, shape, bytes) {
+//!         Ok(written) => Ok(written),
+//!         Err(RecastError::NoMemory) => Err(AllocError),
+//!         Err(RecastError::Read(_)) | Err(RecastError::Write(_)) => bytes.to_vec(alloc),
+//!     }
+//! }
+//! ```
+//!
+//! # Trees
+//!
+//! A `Bson` is a value of any kind and owns what it holds; a `Document` is a list of pairs in order, in which each key appears once. No call takes the bytes of a
+//! document to a tree yet. A tree is written by way of a `Datum`, which `read_value` reads from it at the shape `document`, or at any other.
+//!
+//! `bson_examples/src/trees.rt`:
+//!
+//! ```rust
+//! ghost use Rattle.std.specs.Prelude.{◌≡◌, IfOk, codes, pos};
+//! ghost use Rattle.bson.specs.BsonView.{pairs_of};
+//! ghost use Rattle.bson.specs.Tree.{int32, no_pairs, pair, string};
+//!
+//! use bson::{Bson, Document, Met, RecastError, Shape, de, read_value, to_vec_at};
+//! use std::alloc::{AllocError, Global};
+//!
+//! /// The document `{name: "Ada", age: 36}`.
+//! pub fn ada(alloc: Global) -> Result<Document, AllocError>
+//!     ensures pairs { IfOk result (λ d. pairs_of d ≡
+//!         pair (codes "name") (string (codes "Ada")) (pair (codes "age") (int32 (pos 36)) no_pairs)) }
+//! {
+//!     let mut ada = Document::new(alloc);
+//!     let name = Bson::String(String::from_str(alloc, "Ada")?);
+//!     ada.insert(String::from_str(alloc, "name")?, name)?;
+//!     ada.insert(String::from_str(alloc, "age")?, Bson::Int32(36))?;
+//!     Ok(ada)
+//! }
+//!
+//! /// The first key whose value is null.
+//! pub fn first_null(document: &Document) -> Option<&str> {
+//!     for (key, value) in document.iter() {
+//!         if let Bson::Null = value {
+//!             return Some(key.as_str());
+//!         }
+//!     }
+//!     None
+//! }
+//!
+//! /// The bytes of a document.
+//! pub fn document_bytes(alloc: Global, document: Document) -> Result<Vec<u8>, RecastError> {
+//!     let tree = Bson::Document(document);
+//!     let datum = match read_value(alloc, &Shape::document(), &Met::of_tree(200, &tree)) {
+//!         Ok(datum) => datum,
+//!         Err(stop) => return Err(RecastError::Read(de::Error::from_stop(alloc, stop))),
+//!     };
+//!     to_vec_at(alloc, &datum).map_err(RecastError::Write)
+//! }
+//! ```
+//!
+//! # Documents in their bytes
+//!
+//! A `RawDocument` borrows the bytes of a document. Its elements are looked at one after another, without a copy, and a fault is found where it is reached.
+//! `document.get("milk")` looks for one key.
+//!
+//! `bson_examples/src/raw_documents.rt`:
+//!
+//! ```rust
+//! ghost use Rattle.std.specs.Prelude.{IsOk, OnOk};
+//! ghost use Rattle.bson.specs.Envelope.{envelope};
+//!
+//! use bson::{RawBsonRef, RawDocument, raw};
+//!
+//! /// The sum of the prices in the bytes of a document such as `{bread: 3, milk: 2}`.
+//! pub fn total(bytes: &[u8]) -> Result<i64, raw::Error>
+//!     ensures document { OnOk result (IsOk (envelope bytes.now)) }
+//! {
+//!     let document = RawDocument::from_bytes(bytes)?;
+//!     let mut total: i64 = 0;
+//!     for element in document.iter_elements() {
+//!         match element?.value()? {
+//!             RawBsonRef::Int32(price) => total = total.saturating_add(i64::from(price)),
+//!             RawBsonRef::Int64(price) => total = total.saturating_add(price),
+//!             _ => {}
+//!         }
+//!     }
+//!     Ok(total)
+//! }
+//! ```
+//!
+//! # Files of documents
+//!
+//! `mongodump` writes files that have documents one after another. `RawDocuments` cuts such a file into documents; `migrate` recasts each of them, and lists those
+//! that are refused.
+//!
+//! `bson_examples/src/files.rt`:
+//!
+//! ```rust
+//! ghost use Rattle.std.specs.Prelude.{◌≡◌, [], IfOk};
+//! ghost use Rattle.bson.specs.Migrating.{migrated, migration_of};
+//!
+//! use bson::{MigrateError, RawDocuments, Shape, lines_of, migrate};
+//! use std::alloc::Global;
+//!
+//! /// The bytes of the longest document of a file. An error is the place where the file is broken.
+//! pub fn longest(file: &[u8]) -> Result<&[u8], usize> {
+//!     let mut longest = b"".as_slice();
+//!     for piece in RawDocuments::new(file) {
+//!         let document = piece?;
+//!         if document.len() > longest.len() {
+//!             longest = document;
+//!         }
+//!     }
+//!     Ok(longest)
+//! }
+//!
+//! /// The documents of a file at a shape, and a line for each document that is refused there.
+//! pub fn at_shape(
+//!     alloc: Global,
+//!     shape: &Shape,
+//!     file: &[u8],
+//! ) -> Result<(Vec<u8>, String), MigrateError>
+//!     ensures again { IfOk result (λ r. migration_of shape.now r.0.items ≡ migrated r.0.items []) }
+//! {
+//!     let migration = migrate(alloc, shape, file)?;
+//!     match lines_of(alloc, &migration.refused) {
+//!         Ok(lines) => Ok((migration.output, lines)),
+//!         Err(_) => Err(MigrateError::NoMemory),
+//!     }
+//! }
+//! ```
+//!
+//! # ObjectIds, dates and other values that serde's data model lacks
+//!
+//! They are structs of reserved names, such as `$oid` and `$date`, in reading and in writing. The functions of `data` make them, and `reserved::unwrap` returns
+//! the value that one holds.
+//!
+//! `bson_examples/src/extended.rt`:
+//!
+//! ```rust
+//! use bson::reserved::{Accepted, unwrap};
+//! use bson::{DateTime, Datum, ElementType, Field, ObjectId, Text, data};
+//! use std::alloc::{AllocError, Global};
+//!
+//! /// The value of the document `{_id: ObjectId, at: DateTime}`.
+//! pub fn event<'a>(alloc: Global, id: ObjectId, at: DateTime) -> Result<Datum<'a>, AllocError> {
+//!     let id = Field {
+//!         name: Text::Borrowed("_id"),
+//!         value: data::object_id(alloc, &id.0)?,
+//!     };
+//!     let at = Field {
+//!         name: Text::Borrowed("at"),
+//!         value: data::date_time(alloc, at)?,
+//!     };
+//!     let fields = vec![in alloc; id, at]?;
+//!     Ok(Datum::Struct {
+//!         name: Text::Borrowed("Event"),
+//!         fields,
+//!     })
+//! }
+//!
+//! /// The ObjectId of a value that was read at a shape such as `{_id:oid}`.
+//! pub fn id_of(event: &Datum<'_>) -> Option<ObjectId> {
+//!     let Datum::Struct { fields, .. } = event.field("_id")? else {
+//!         return None;
+//!     };
+//!     match unwrap(ElementType::ObjectId, fields)? {
+//!         Accepted::ObjectId(id) => Some(id),
+//!         _ => None,
+//!     }
+//! }
+//! ```
+//!
+//! # Errors and places
+//!
+//! A notation is refused at a byte of its text, a document at the path of a value. Printed, an error of a document has its path and its cause: `error at
+//! people[1].age: invalid type: String`. Out of memory is a variant of its own, `NoMemory`, and has no place.
+//!
+//! `bson_examples/src/places.rt`:
+//!
+//! ```rust
+//! use bson::{Segment, Shape, de, from_slice_at};
+//! use std::alloc::{AllocError, Global};
+//!
+//! /// What is wrong with the notation of a shape or with a document, in one line; `None` where the document is read.
+//! pub fn refusal(alloc: Global, notation: &str, bytes: &[u8]) -> Result<Option<String>, AllocError> {
+//!     let shape = match Shape::parse(alloc, notation) {
+//!         Ok(shape) => shape,
+//!         Err(error) => {
+//!             let Some(place) = error.place() else {
+//!                 return Err(AllocError);
+//!             };
+//!             return Ok(Some(format!(in alloc; "byte {place}: {error}")?));
+//!         }
+//!     };
+//!     match from_slice_at(alloc, &shape, bytes) {
+//!         Ok(_) => Ok(None),
+//!         Err(de::Error::NoMemory) => Err(AllocError),
+//!         Err(error) => Ok(Some(format!(in alloc; "{error}")?)),
+//!     }
+//! }
+//!
+//! /// The first key on the way to a value that is refused, as `people` where the error prints `error at people[1].age: ..`.
+//! pub fn refused_key(error: &de::Error) -> Option<&str> {
+//!     let de::Error::WithPath { path, .. } = error else {
+//!         return None;
+//!     };
+//!     match path.segments().first()? {
+//!         Segment::Key(key) => Some(key.as_str()),
+//!         Segment::Index(_) => None,
+//!     }
+//! }
+//! ```
+#![tactic(auto)]
+
+pub mod laws;
+
+pub use bson_base::{
+    Binary, BinarySubtype, Bson, DateError, DateTime, DbPointer, Decimal128, Document, Double,
+    ElementType, IntoIter, Iter, JavaScriptCodeWithScope, NotDate, NotHex, NotUuid, ObjectId,
+    Regex, Timestamp, Uuid, integer_of_text, reserved_kind, subtype_of_text,
+};
+pub use bson_dates::{date_of_text, date_text};
+pub use bson_datum::{
+    ByteStr, Cause, Datum, Entry, Field, Path, Segment, Stop, Text, Wrapper, de, ser,
+};
+pub use bson_de::read_value;
+pub use bson_de_raw::from_slice_at;
+pub use bson_io::{
+    Failed, Ledger, MOST, MemorySink, MemorySource, Out, ReadAdapter, ReadFault, Sink, Source,
+    SteadySink, SteadySource, Steps, Tally, WriteAdapter, read_to_end, write_due,
+};
+pub use bson_met::Met;
+pub use bson_migrate_run::{
+    MigrateError, MigrateStatus, Migration, Refused, lines_of, migrate, run_migrate,
+};
+pub use bson_rawdoc::{RawArray, RawBsonRef, RawDocument, RawDocuments, RawElement, RawIter, raw};
+pub use bson_recast_run::{
+    RecastError, Status, deliver, recast, recast_to_buf, run, shape_of_word,
+};
+pub use bson_reserved as reserved;
+pub use bson_ser_stream::{to_buf, to_vec_at, to_vec_counted};
+pub use bson_shape::{
+    FieldShape, Form, Leaf, Named, ParseError, Shape, ShapeError, VariantContent, VariantShape,
+};
+pub use bson_wrapped::data;

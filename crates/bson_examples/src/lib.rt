@@ -1,0 +1,26 @@
+//! The examples of the tour of the crate `bson`: each file is one block of its docstring.
+#![tactic(auto)]
+
+mod accessors;
+mod extended;
+mod files;
+mod places;
+mod raw_documents;
+mod reading;
+mod recasting;
+mod shapes;
+#[cfg(test)]
+mod tests;
+mod trees;
+mod writing;
+
+pub use accessors::{age_of, first_city};
+pub use extended::{event, id_of};
+pub use files::{at_shape, longest};
+pub use places::{refusal, refused_key};
+pub use raw_documents::total;
+pub use reading::age;
+pub use recasting::upgraded;
+pub use shapes::person_shape;
+pub use trees::{ada, document_bytes, first_null};
+pub use writing::{person, person_bytes};

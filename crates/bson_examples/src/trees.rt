@@ -1,0 +1,38 @@
+ghost use Rattle.std.specs.Prelude.{◌≡◌, IfOk, codes, pos};
+ghost use Rattle.bson.specs.BsonView.{pairs_of};
+ghost use Rattle.bson.specs.Tree.{int32, no_pairs, pair, string};
+
+use bson::{Bson, Document, Met, RecastError, Shape, de, read_value, to_vec_at};
+use std::alloc::{AllocError, Global};
+
+/// The document `{name: "Ada", age: 36}`.
+pub fn ada(alloc: Global) -> Result<Document, AllocError>
+    ensures pairs { IfOk result (λ d. pairs_of d ≡
+        pair (codes "name") (string (codes "Ada")) (pair (codes "age") (int32 (pos 36)) no_pairs)) }
+{
+    let mut ada = Document::new(alloc);
+    let name = Bson::String(String::from_str(alloc, "Ada")?);
+    ada.insert(String::from_str(alloc, "name")?, name)?;
+    ada.insert(String::from_str(alloc, "age")?, Bson::Int32(36))?;
+    Ok(ada)
+}
+
+/// The first key whose value is null.
+pub fn first_null(document: &Document) -> Option<&str> {
+    for (key, value) in document.iter() {
+        if let Bson::Null = value {
+            return Some(key.as_str());
+        }
+    }
+    None
+}
+
+/// The bytes of a document.
+pub fn document_bytes(alloc: Global, document: Document) -> Result<Vec<u8>, RecastError> {
+    let tree = Bson::Document(document);
+    let datum = match read_value(alloc, &Shape::document(), &Met::of_tree(200, &tree)) {
+        Ok(datum) => datum,
+        Err(stop) => return Err(RecastError::Read(de::Error::from_stop(alloc, stop))),
+    };
+    to_vec_at(alloc, &datum).map_err(RecastError::Write)
+}

@@ -1,0 +1,31 @@
+#!/usr/bin/env python3
+"""Keeps the tour of the crate bson, its docstring, in step with the examples: behind each line that names a file of bson_examples, the block is that file.
+
+Run at the top of the repository. It writes crates/bson/src/lib.rt anew; with --check it writes nothing, and ends with status 1 where a block differs.
+"""
+import re
+import sys
+
+TOUR = "crates/bson/src/lib.rt"
+BLOCK = re.compile(r"(//! `bson_examples/src/(\w+\.rt)`:\n//!\n//! ```rust\n)(?:(?!//! ```).*\n)*(//! ```\n)")
+
+
+def block(found):
+    with open(f"crates/bson_examples/src/{found[2]}", encoding="utf-8") as file:
+        lines = [f"//! {line}".rstrip() for line in file.read().splitlines()]
+    return found[1] + "\n".join(lines) + "\n" + found[3]
+
+
+def main():
+    with open(TOUR, encoding="utf-8") as file:
+        old = file.read()
+    new = BLOCK.sub(block, old)
+    if "--check" in sys.argv[1:]:
+        return int(new != old)
+    with open(TOUR, "w", encoding="utf-8") as file:
+        file.write(new)
+    return 0
+
+
+if __name__ == "__main__":
+    sys.exit(main())
