@@ -8,7 +8,7 @@
  *
  * - The output room gets all of the output, or nothing. The bytes behind the output stay as they were.
  * - The text room gets as many first bytes of the text as fit, and the bytes behind them stay as they were. The text is UTF-8 with no zero
- *   byte at its end; one that is cut may end inside a character. Names of fields stand in it as they are, line breaks and zeros included.
+ *   byte at its end; one that is cut may end inside a character. Names of fields are in it as they are, line breaks and zeros included.
  *
  * What the caller owes. Each pointer with its length names so many bytes that may be read, and of a room written; with the length 0 the
  * pointer may be NULL. A room overlaps no other argument of its call. Each length is at most PTRDIFF_MAX.
