@@ -52,7 +52,7 @@ pub use Rattle.bson_datum.specs.Access
 pub use Rattle.bson_datum.specs.ByteStrView
 pub use Rattle.bson_datum.specs.Cause
 pub use Rattle.bson_datum.specs.ErrorView
-pub use Rattle.bson_datum.specs.Loans
+pub use Rattle.bson_datum.specs.Borrowed
 pub use Rattle.bson_datum.specs.Marked
 pub use Rattle.bson_datum.specs.MarkedView
 pub use Rattle.bson_datum.specs.PathView

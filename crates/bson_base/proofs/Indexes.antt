@@ -1,4 +1,4 @@
--- The decimal indexes of an array's values may stand as keys.
+-- The decimal indexes of an array's values may be keys.
 use Rattle.std.proofs.Common.{◌≡◌, ℕ, zero, suc, ◌≤◌, ◌<◌, [], ◌∷◌, Bool, true, false, cond, eqb, refl, ap, ◌∙◌, arith}
 use Rattle.std.specs.Prelude.{◌/◌, ◌%◌, ◌||◌}
 use Rattle.std.specs.Fmt.{decimal, digits, digits_onto, digit_glyph}

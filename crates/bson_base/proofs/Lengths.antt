@@ -59,7 +59,7 @@ length-javascript_code_with_scope code scope =
     let parts = enc (string code) ++ enclosed (elements scope) in
     omega (arith, length-append (le32 (length parts + 4)) parts, length-le32 (length parts + 4), length-append (enc (string code)) (enclosed (elements scope)), length-text code, length-enclosed (elements scope))
 
--- what stands between the length and the zero is no longer than all
+-- what is between the length and the zero is no longer than all
 pub enclosed_size : (bs : Bytes) → length bs ≤ length (enclosed bs)
 enclosed_size bs = omega (arith, length-enclosed bs)
 

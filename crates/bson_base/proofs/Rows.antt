@@ -1,4 +1,4 @@
--- A value whose values stand in a `Vec`.
+-- A value whose values are in a `Vec`.
 use Rattle.std.proofs.Common.{◌≡◌, refl, ap, ◌∙◌}
 use Rattle.std.specs.Global.{Vec}
 use Rattle.bson_base.specs.Tree.{tree}

@@ -14,7 +14,7 @@ use Rattle.bson_base.specs.Text.{Bytes}
 abbrev first_of : Result Bytes FromHexError → Option ℕ
 first_of r = option_and_then first_byte (result_ok r)
 
--- what stands behind the first byte says only whether there is one
+-- what is behind the first byte says only whether there is one
 pair_first : (p : Result ℕ FromHexError) (d : Result Bytes FromHexError) (more : Bytes) → d ≡ Ok more
     → first_of (p >>= (λ byte. d >>= (λ bytes. Ok (byte ∷ bytes)))) ≡ first_of (p >>= (λ byte. Ok (byte ∷ [])))
 pair_first (Ok byte) d more e = rw e refl
@@ -29,7 +29,7 @@ front_by high low rest even all =
     let two = decode_sized-twice (high ∷ low ∷ []) 1 refl ∙ decode_of-even (high ∷ low ∷ []) refl in
     ap first_of whole ∙ pair_first (pair_value high low 0) (decode_pairs 2 rest) more.0 more.1 ∙ sym (ap first_of two)
 
--- the first two digits say it, where digits in pairs stand behind them
+-- the first two digits say it, where digits in pairs are behind them
 subtype_front : (text : List ℕ) → 2 ≤ length text → (length text % 2 ≡ 0) × AllPass is_hex_digit text → subtype_of_text text ≡ first_of (decode_sized (take 2 text) 1)
 subtype_front [] long pairs = absurd (omega arith)
 subtype_front (high ∷ []) long pairs = absurd (omega arith)
@@ -64,7 +64,7 @@ result_cases : (r : Result Bytes FromHexError) → ((b : Bytes) × (r ≡ Ok b))
 result_cases (Ok b) = inl (b, refl)
 result_cases (Err e) = inr (e, refl)
 
--- the digits are not in pairs, or something else stands among them
+-- the digits are not in pairs, or something else is among them
 pub no_subtype : (text : List ℕ) → ((length text % 2 ≡ 0) × AllPass is_hex_digit text → ⊥) → None ≡ subtype_of_text text
 no_subtype text bad = elim (result_cases (decode_of text)) [
   | inl ok ↦

@@ -1,6 +1,6 @@
 -- Keys beside values, as pairs.
 use Rattle.std.proofs.Common.{◌≡◌, ℕ, zero, suc, ◌+◌, ◌<◌, min, List, [], ◌∷◌, ◌++◌, length, get_or, take, Bool, true, false, ◌||◌, Option, Some, None, Bor, refl, ap, sym, ◌∙◌, string_bytes, arith}
-use Rattle.std.specs.Prelude.{map, if◌then◌else◌, is_some, IfSome, slice_get, slice_set, nat_lt}
+use Rattle.std.specs.Prelude.{map, if◌then◌else◌, is_some, IfSome, slice_get, slice_set, remove, nat_lt}
 use Rattle.std.specs.Option.{option_map}
 use Rattle.std.proofs.lemmas.List.Quantifiers.{position-Some}
 use Rattle.std.specs.List.{list_any, position, IsDistinct, AllByRecursion, AllZip}
@@ -13,7 +13,7 @@ use Rattle.bson_base.specs.Text.{Utf8}
 use Rattle.bson_base.specs.Tree.{Tree, Trees, no_trees, tree, no_pairs, pair}
 use Rattle.bson_base.specs.BsonView.{Key, zipped, tree_of, trees_of}
 use Rattle.bson_base.specs.Sound.{Lacks}
-use Rattle.bson_base.specs.Pairs.{lookup, put, count, keys_of, AreDistinct}
+use Rattle.bson_base.specs.Pairs.{lookup, put, without, count, keys_of, AreDistinct}
 use Rattle.bson_base.specs.declared.bson.Bson.{Bson}
 
 -- whether a document holds the key as this one
@@ -56,7 +56,7 @@ zipped-take (k ∷ ks) (v ∷ vs) (suc n) h = ap (pair (string_bytes k) (tree_of
 pub length-takes : (ks : List Key) (vs : List Bson) (n : ℕ) → n ≡ min (length ks) (length vs) → length (take n ks) ≡ length (take n vs)
 length-takes ks vs n h = grind (arith, common_steps)
 
--- the key stands first at i
+-- the key is first at i
 abbrev pub IsFirst : Utf8 → List Key → ℕ → Key → Type 0
 IsFirst key ks i d = (i < length ks) × (is_key key (get_or ks i d) ≡ true) × ((k : ℕ) → k < i → is_key key (get_or ks k d) ≡ false)
 
@@ -78,6 +78,15 @@ put_first key (k ∷ ks) (v ∷ vs) w (suc i) d lt h =
     ap (pair (string_bytes k) (tree_of v)) (put_first key ks vs w i d (omega arith) (omega (arith, h.0), h.1, λ j lt. h.2 (suc j) (omega arith)))
     ∙ ap (λ b. if b then pair (string_bytes k) (tree_of w) (zipped ks (trees_of vs)) else pair (string_bytes k) (tree_of v) (put key (tree_of w) (zipped ks (trees_of vs)))) (sym (h.2 0 (omega arith)))
 
+-- a key and its value removed there
+pub without_first : (key : Utf8) (ks : List Key) (vs : List Bson) (i : ℕ) (d : Key) → i < length vs → IsFirst key ks i d → zipped (remove ks i) (trees_of (remove vs i)) ≡ without key (zipped ks (trees_of vs))
+without_first key [] vs i d lt h = absurd (omega (arith, h.0))
+without_first key (k ∷ ks) [] i d lt h = absurd (omega arith)
+without_first key (k ∷ ks) (v ∷ vs) zero d lt h = ap (λ b. if b then zipped ks (trees_of vs) else pair (string_bytes k) (tree_of v) (without key (zipped ks (trees_of vs)))) (sym h.1)
+without_first key (k ∷ ks) (v ∷ vs) (suc i) d lt h =
+    ap (pair (string_bytes k) (tree_of v)) (without_first key ks vs i d (omega arith) (omega (arith, h.0), h.1, λ j lt. h.2 (suc j) (omega arith)))
+    ∙ ap (λ b. if b then zipped ks (trees_of vs) else pair (string_bytes k) (tree_of v) (without key (zipped ks (trees_of vs)))) (sym (h.2 0 (omega arith)))
+
 -- the same where `position` finds it
 pub lookup_position : (key : Utf8) (ks : List Key) (vs : List Bson) (i : ℕ) → Some i ≡ position (is_key key) ks → option_map tree_of (slice_get vs i) ≡ lookup key (zipped ks (trees_of vs))
 lookup_position key [] vs i h = absurd cc
@@ -86,6 +95,10 @@ lookup_position key (k ∷ ks) vs i h = lookup_first key (k ∷ ks) vs i k (posi
 pub put_position : (key : Utf8) (ks : List Key) (vs : List Bson) (w : Bson) (i : ℕ) → i < length vs → Some i ≡ position (is_key key) ks → zipped ks (trees_of (slice_set vs i w)) ≡ put key (tree_of w) (zipped ks (trees_of vs))
 put_position key [] vs w i lt h = absurd cc
 put_position key (k ∷ ks) vs w i lt h = put_first key (k ∷ ks) vs w i k lt (position-Some (is_key key) (k ∷ ks) i k (sym h))
+
+pub without_position : (key : Utf8) (ks : List Key) (vs : List Bson) (i : ℕ) → i < length vs → Some i ≡ position (is_key key) ks → zipped (remove ks i) (trees_of (remove vs i)) ≡ without key (zipped ks (trees_of vs))
+without_position key [] vs i lt h = absurd cc
+without_position key (k ∷ ks) vs i lt h = without_first key (k ∷ ks) vs i k lt (position-Some (is_key key) (k ∷ ks) i k (sym h))
 
 neither : (b c : Bool) → false ≡ (b || c) → (b ≡ false) × (c ≡ false)
 neither true c e = absurd cc
@@ -98,6 +111,14 @@ lookup_new key (k ∷ ks) no_trees h = refl
 lookup_new key (k ∷ ks) (tree t ts) h =
     let n = neither (is_key key k) (list_any (is_key key) ks) h in
     lookup_new key ks ts (sym n.1) ∙ ap (λ b. if b then Some t else lookup key (zipped ks ts)) (sym n.0)
+
+-- and nothing is removed
+pub without_new : (key : Utf8) (ks : List Key) (ts : Trees) → false ≡ list_any (is_key key) ks → zipped ks ts ≡ without key (zipped ks ts)
+without_new key [] ts h = refl
+without_new key (k ∷ ks) no_trees h = refl
+without_new key (k ∷ ks) (tree t ts) h =
+    let n = neither (is_key key k) (list_any (is_key key) ks) h in
+    ap (pair (string_bytes k) t) (without_new key ks ts (sym n.1)) ∙ ap (λ b. if b then zipped ks ts else pair (string_bytes k) t (without key (zipped ks ts))) (sym n.0)
 
 -- a new key and its value at the end
 pub put_new : (new : Key) (ks : List Key) (vs : List Bson) (w : Bson) → length ks ≡ length vs → false ≡ list_any (is_key (string_bytes new)) ks
@@ -114,7 +135,7 @@ put_new new (k ∷ ks) (v ∷ vs) w l h =
 pub insert_new : (new : Key) (ks : List Key) → false ≡ list_any (is_key (string_bytes new)) ks → (if list_any (is_key (string_bytes new)) ks then ks else ks ++ new ∷ []) ≡ ks ++ new ∷ []
 insert_new new ks h = ap (λ b. if b then ks else ks ++ new ∷ []) (sym h)
 
--- what `get` of a slice lends
+-- what `get` of a slice borrows
 pub get_is : (r : Option (Bor Bson)) (vs : List Bson) (i : ℕ) → is_some r ≡ nat_lt i (length vs) → IfSome r (λ x. x.now ≡ get_or vs i x.now) → option_map (λ b. tree_of b.now) r ≡ option_map tree_of (slice_get vs i)
 get_is None vs i e h = ap (option_map tree_of) (sym (slice_get_past vs i (grind (arith, common_steps, e))))
 get_is (Some x) vs i e h = ap (λ y. Some (tree_of y)) h ∙ ap (option_map tree_of) (sym (slice_get-get_or vs i x.now (grind (arith, common_steps, e))))

@@ -7,12 +7,12 @@ use Rattle.bson_base.specs.Tree.{Pairs, no_pairs, pair}
 use Rattle.bson_base.specs.BsonView.{tree_of}
 use Rattle.bson_base.specs.declared.bson.Bson.{Bson}
 
--- what was left begins with the pair that is lent, and the rest of it is left now
+-- what was left begins with the pair that is borrowed, and the rest of it is left now
 abbrev pub IsNext : Pairs → Option (Bor (String Global) × Bor Bson) → Pairs → Type 0
 IsNext old None new = (old ≡ no_pairs) × (new ≡ no_pairs)
 IsNext old (Some p) new = old ≡ pair (string_bytes p.0.now) (tree_of p.1.now) new
 
--- the same, for pairs that are handed over
+-- the same, for pairs that are owned
 abbrev pub IsTaken : Pairs → Option (String Global × Bson) → Pairs → Type 0
 IsTaken old None new = (old ≡ no_pairs) × (new ≡ no_pairs)
 IsTaken old (Some p) new = old ≡ pair (string_bytes p.0) (tree_of p.1) new

@@ -15,6 +15,11 @@ abbrev pub put : Utf8 → Tree → Pairs → Pairs
 put key value no_pairs = pair key value no_pairs
 put key value (pair k t ps) = if bytes_eq key k then pair k value ps else pair k t (put key value ps)
 
+-- the pairs without a key; the others keep their order
+abbrev pub without : Utf8 → Pairs → Pairs
+without key no_pairs = no_pairs
+without key (pair k t ps) = if bytes_eq key k then ps else pair k t (without key ps)
+
 -- how many pairs there are
 abbrev pub count : Pairs → ℕ
 count no_pairs = 0
@@ -25,7 +30,7 @@ abbrev pub keys_of : Pairs → List Utf8
 keys_of no_pairs = []
 keys_of (pair k t ps) = k ∷ keys_of ps
 
--- no key stands twice
+-- no key occurs twice
 abbrev pub AreDistinct : Pairs → Type 0
 AreDistinct no_pairs = Unit {0}
 AreDistinct (pair k t ps) = Lacks k ps × AreDistinct ps

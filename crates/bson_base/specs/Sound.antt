@@ -39,7 +39,7 @@ Lacks key no_pairs = Unit {0}
 Lacks key (pair k t ps) = (bytes_eq key k ≡ false) × Lacks key ps
 
 abbrev mutual
-  -- each text is UTF-8, each number and byte lies in the range of its kind, and each key is a plain name that stands once in its
+  -- each text is UTF-8, each number and byte lies in the range of its kind, and each key is a plain name that occurs once in its
   -- document or scope
   pub IsClean : Tree → Type 0
   IsClean (double bytes) = HasBytes 8 bytes

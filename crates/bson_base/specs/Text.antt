@@ -14,7 +14,7 @@ AreBytes = All (λ b. b < 256)
 abbrev pub Utf8 : Type 0
 Utf8 = List ℕ
 
--- a zero character stands in the text (its UTF-8 form is the zero byte, and no other character has that byte)
+-- a zero character is in the text (its UTF-8 form is the zero byte, and no other character has that byte)
 abbrev pub has_zero : Utf8 → Bool
 has_zero [] = false
 has_zero (c ∷ cs) = eqb c 0 || has_zero cs
@@ -29,7 +29,7 @@ pub record IsFreeName (name : Utf8) : Type 0 where
   pub no_zero : has_zero name ≡ false
   pub no_dollar : begins_with_dollar name ≡ false
 
--- A name that may stand as a key in every document: a text that does not begin with `$` and holds no zero character.
+-- A name that may be a key in every document: a text that does not begin with `$` and holds no zero character.
 pub record IsPlainName (name : Utf8) : Type 0 where
   pub text : is_utf8 name ≡ true
   pub free : IsFreeName name

@@ -77,11 +77,11 @@ le64 n = to_le_bytes w64 n
 abbrev pub closed_text : Utf8 → Bytes
 closed_text t = le32 (length t + 1) ++ (t ++ 0 ∷ [])
 
--- the bytes of a binary behind its subtype: in the old subtype 2 a second length stands before them
+-- the bytes of a binary behind its subtype: in the old subtype 2 a second length is before them
 abbrev pub behind_subtype : ℕ → Bytes → Bytes
 behind_subtype subtype bytes = if nat_eq subtype 2 then le32 (length bytes) ++ bytes else bytes
 
--- a binary: the length of what stands behind its subtype, the subtype, and that
+-- a binary: the length of what is behind its subtype, the subtype, and that
 abbrev pub after_length : ℕ → Bytes → Bytes
 after_length subtype behind = le32 (length behind) ++ (subtype ∷ behind)
 
@@ -133,7 +133,7 @@ abbrev mutual
   array_elements i (tree t ts) = element (kind t) (decimal i) (enc t) ++ array_elements (suc i) ts
 
 abbrev mutual
-  -- how many documents and arrays stand inside one another, where a scope is a document
+  -- how many documents and arrays are inside one another, where a scope is a document
   pub depth : Tree → ℕ
   depth (document ps) = suc (pairs_depth ps)
   depth (array ts) = suc (trees_depth ts)

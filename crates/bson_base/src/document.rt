@@ -1,7 +1,7 @@
 ghost use Rattle.std.specs.Prelude.{◌≡◌, ◌==◌, length, map, is_some, string_bytes, IfOk, OnOk, OnErr};
 ghost use Rattle.std.specs.Option.{option_map};
 ghost use Rattle.bson_base.specs.Tree.{no_pairs};
-ghost use Rattle.bson_base.specs.Pairs.{lookup, put, count, keys_of, AreDistinct};
+ghost use Rattle.bson_base.specs.Pairs.{lookup, put, without, count, keys_of, AreDistinct};
 ghost use Rattle.bson_base.specs.BsonView.{tree_of, trees_of, zipped, pairs_of};
 
 use crate::bson::{Bson, copies_of};
@@ -10,14 +10,14 @@ use indexmap::IndexSet;
 use std::alloc::{AllocError, Global};
 use std::mem;
 
-/// A document: pairs of a key and a value, in order, where no key stands twice.
+/// A document: pairs of a key and a value, in order, where no key is there twice.
 ///
 /// Source: bsonspec.org, version 1.1, `document`.
 #[cycle(bson)]
 #[derive(Debug, Drop)]
 pub struct Document {
-    // Each value stands at the index of its key, so there are as many keys as values. A type that holds itself has no
-    // place to state that, so each method goes by the indexes that have both.
+    // Each value is at the index of its key, so there are as many keys as values. A type that holds itself has no place
+    // to state that, so each method goes by the indexes that have both.
     keys: IndexSet<String>,
     values: Vec<Bson>,
 }
@@ -71,7 +71,7 @@ impl Document {
         keys
     }
 
-    /// Puts a value at a key, and hands back the value that stood there; `None` where the key is new.
+    /// Puts a value at a key, and returns the value that was there; `None` where the key is new.
     ///
     /// A new key goes last, and a key that is there keeps its place.
     ///
@@ -92,6 +92,19 @@ impl Document {
         self.keys.insert(key)?;
         self.values.push(value)?;
         Ok(None)
+    }
+
+    /// Removes a key and returns its value; `None` where the key is not there, and the document is then unchanged.
+    ///
+    /// The pairs after it move down by one place. It takes no memory.
+    pub fn remove(&mut self, key: &str) -> Option<Bson>
+        ensures value { option_map tree_of result ≡ lookup key.now (pairs_of self.old) }
+        ensures rest { pairs_of self.new ≡ without key.now (pairs_of self.old) }
+    {
+        self.even_out();
+        let index = self.keys.get_index_of(key)?;
+        let _ = self.keys.shift_remove_index(index);
+        Some(self.values.remove(index))
     }
 
     /// The pairs in order, borrowed. It takes no memory.
@@ -126,7 +139,7 @@ impl Document {
         (&self.keys.as_slice()[..len], &self.values[..len])
     }
 
-    // Lets go of a key without a value, and of a value without a key.
+    // Drops a key without a value, and a value without a key.
     fn even_out(&mut self)
         ensures same { pairs_of self.new ≡ pairs_of self.old }
         ensures even { length self.new.keys.keys ≡ length self.new.values.items }
@@ -144,7 +157,7 @@ impl IntoIterator for Document {
 
     ghost into_iter_gives = { λ document pairs. pairs ≡ pairs_of document };
 
-    /// The pairs in order, handed over. It takes no memory.
+    /// The pairs in order, owned. It takes no memory.
     fn into_iter(self) -> IntoIter {
         let Document { keys, values } = self;
         IntoIter::over(keys, values)

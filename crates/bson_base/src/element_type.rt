@@ -3,7 +3,7 @@ ghost use Rattle.bson_base.specs.Kind as kind;
 
 use std::fmt;
 
-/// The kind of a BSON value: the byte that stands before an element's key.
+/// The kind of a BSON value: the byte that is before an element's key.
 ///
 /// Source: bsonspec.org, version 1.1, `element`.
 #[derive(Clone, Copy, Debug, PartialEq, Eq)]

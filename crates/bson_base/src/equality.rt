@@ -164,7 +164,7 @@ fn is_same(a: &Bson, b: &Bson) -> bool
     }
 }
 
-// Whether as many values stand in both, equal one by one.
+// Whether as many values are in both, equal one by one.
 #[cycle(same)]
 fn are_same_values(a: &[Bson], b: &[Bson]) -> bool
     ensures { result ≡ same_trees (trees_of a.now) (trees_of b.now) }

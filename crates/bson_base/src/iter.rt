@@ -53,7 +53,7 @@ impl<'a> Iterator for Iter<'a> {
     }
 }
 
-/// The pairs of a document, handed over one after another. Contracts see it as the pairs that are left.
+/// The pairs of a document, owned, one after another. Contracts see it as the pairs that are left.
 #[derive(Drop)]
 pub struct IntoIter {
     keys: set::IntoIter<String>,

@@ -38,7 +38,7 @@ impl Answer {
     }
 }
 
-/// What stands at a place of a file.
+/// What is at a place of a file.
 #[repr(C)]
 #[derive(Clone, Copy, Debug, PartialEq, Eq)]
 pub struct NextDocument {

@@ -69,9 +69,9 @@ same_parts f cs xs e = flat_map-map f cs ∙ ap joined e ∙ sym (flat_map-map f
 pub seen_all : {X A : Type 0} (f : X → A) (seen : List A) (xs : List X) (i : ℕ) → length xs ≤ i → seen ≡ map f (take i xs) → seen ≡ map f xs
 seen_all f seen xs i le e = e ∙ ap (map f) (take_all i xs le)
 
--- a result that is told of the parts of a datum, as they are lent, is told of the datum
+-- a result that is told of the parts of a datum, as they are borrowed, is told of the datum
 pub told_of : {A V E : Type 0} (g : Datum → V) (f : List A → V) (d e : Datum) (xs ys : List A) (r : Result Datum E) → d ≡ e → xs ≡ ys → g e ≡ f ys → IfOk r (λ x. g x ≡ f xs) → IfOk r (λ x. g x ≡ g d)
-told_of g f d e xs ys r is lent told ok = subst (λ v. IfOk r (λ x. g x ≡ v)) (ap f lent ∙ sym (ap g is ∙ told)) ok
+told_of g f d e xs ys r is borrowed told ok = subst (λ v. IfOk r (λ x. g x ≡ v)) (ap f borrowed ∙ sym (ap g is ∙ told)) ok
 
 -- the items that a `for` over a `Vec` has yielded when none is left
 pub all_yielded : {A : Type 0} (xs ys : List A) (s t u : IntoIter A Global) (r : Option A) → into_iter_items s ≡ xs → into_iter_len s ≡ length xs → Yields into_iter_steps s ys t → r ≡ None → into_iter_steps t r u → ys ≡ xs

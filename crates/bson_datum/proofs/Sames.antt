@@ -17,7 +17,7 @@ use Rattle.bson_datum.specs.declared.datum.Field.{Field}
 use Rattle.bson_datum.specs.declared.datum.Datum.{Datum, NewtypeStruct, NewtypeStruct', NewtypeVariant, NewtypeVariant', Seq, Seq', Tuple, Tuple', TupleStruct, TupleStruct', TupleVariant, TupleVariant', Map, Map', Struct, Struct', StructVariant, StructVariant'}
 use Rattle.bson_datum.specs.declared.datum.Datum.TheViews.{roll-Datum, roll-out-Datum, rolls-NewtypeStruct, outs-NewtypeStruct', rolls-NewtypeVariant, outs-NewtypeVariant', rolls-Seq, outs-Seq', rolls-Tuple, outs-Tuple', rolls-TupleStruct, outs-TupleStruct', rolls-TupleVariant, outs-TupleVariant', rolls-Map, outs-Map', rolls-Struct, outs-Struct', rolls-StructVariant, outs-StructVariant'}
 
--- the segments of two paths, compared as they stand in the code
+-- the segments of two paths, compared as they are in the code
 pub same_segments : (ss ts : List Segment) → pointwise (λ s t. same_segment (segment_view s) (segment_view t)) ss ts ≡ same_path (map segment_view ss) (map segment_view ts)
 same_segments [] [] = refl
 same_segments [] (t ∷ ts) = refl
@@ -99,16 +99,16 @@ pub unlike_struct_variant : (n : Utf8) (fs : FieldValues) (d : Datum) → ((m : 
 unlike_struct_variant n fs (StructVariant' m shape rows) none = absurd (none m _ (sym (roll-out-Datum (StructVariant' m shape rows)) ∙ ap roll-Datum (outs-StructVariant' m shape rows) ∙ rolls-StructVariant m _))
 unlike_struct_variant n fs d none = refl
 
--- the value of a datum, whose parts are lent
-seen_lent : {A : Type 0} (f : List A → Value) (d e : Datum) (xs ys : List A) → d ≡ e → xs ≡ ys → view e ≡ f ys → f xs ≡ view d
-seen_lent f d e xs ys is lent seen = ap f lent ∙ sym (ap view is ∙ seen)
+-- the value of a datum, whose parts are borrowed
+seen_borrowed : {A : Type 0} (f : List A → Value) (d e : Datum) (xs ys : List A) → d ≡ e → xs ≡ ys → view e ≡ f ys → f xs ≡ view d
+seen_borrowed f d e xs ys is borrowed seen = ap f borrowed ∙ sym (ap view is ∙ seen)
 
--- a test of a value against a datum, whose parts are lent
-pub same_of_lent : {A : Type 0} (f : List A → Value) (d e : Datum) (xs ys : List A) (w : Value) (r : Bool) → d ≡ e → xs ≡ ys → view e ≡ f ys → r ≡ same (f xs) w → r ≡ same (view d) w
-same_of_lent f d e xs ys w r is lent seen test = test ∙ ap (λ v. same v w) (seen_lent f d e xs ys is lent seen)
+-- a test of a value against a datum, whose parts are borrowed
+pub same_of_borrowed : {A : Type 0} (f : List A → Value) (d e : Datum) (xs ys : List A) (w : Value) (r : Bool) → d ≡ e → xs ≡ ys → view e ≡ f ys → r ≡ same (f xs) w → r ≡ same (view d) w
+same_of_borrowed f d e xs ys w r is borrowed seen test = test ∙ ap (λ v. same v w) (seen_borrowed f d e xs ys is borrowed seen)
 
-pub same_with_lent : {A : Type 0} (v : Value) (f : List A → Value) (d e : Datum) (xs ys : List A) (r : Bool) → d ≡ e → xs ≡ ys → view e ≡ f ys → r ≡ same v (f xs) → r ≡ same v (view d)
-same_with_lent v f d e xs ys r is lent seen test = test ∙ ap (same v) (seen_lent f d e xs ys is lent seen)
+pub same_with_borrowed : {A : Type 0} (v : Value) (f : List A → Value) (d e : Datum) (xs ys : List A) (r : Bool) → d ≡ e → xs ≡ ys → view e ≡ f ys → r ≡ same v (f xs) → r ≡ same v (view d)
+same_with_borrowed v f d e xs ys r is borrowed seen test = test ∙ ap (same v) (seen_borrowed f d e xs ys is borrowed seen)
 
 -- two values of one name are equal where their other parts are
 pub same_of_one_name : (named parts r : Bool) → named ≡ true → r ≡ parts → r ≡ named && parts

@@ -1,4 +1,4 @@
--- The value of a datum whose values, entries or fields stand in a `Vec`.
+-- The value of a datum whose values, entries or fields are in a `Vec`.
 use Rattle.std.proofs.Common.{◌≡◌, refl, ap, ◌∙◌}
 use Rattle.std.specs.Global.{Vec}
 use Rattle.bson_datum.specs.TextView.{text_view}

@@ -8,9 +8,9 @@ use Rattle.bson_datum.specs.declared.wrapper.Wrapper.{Wrapper}
 pub data Cause : Type 0 where
   -- the bytes have this fault
   raw : raw_error.Error → Cause
-  -- a container stands at level 201
+  -- a container is at level 201
   too_deep : Cause
-  -- a value of this kind stands where the shape takes another
+  -- the value has this kind, and the shape takes another
   invalid_type : ElementType → Cause
   -- the number does not fit the shape's type
   out_of_range : ℤ → Cause

@@ -3,7 +3,7 @@ pub mod TextView
 pub mod ByteStrView
 pub mod Marked
 pub mod View
-pub mod Loans
+pub mod Borrowed
 pub mod MarkedView
 pub mod Wrapper
 pub mod Cause

@@ -11,7 +11,7 @@ use Rattle.bson_datum.specs.declared.wrapper.Wrapper.{Wrapper}
 use Rattle.bson_datum.specs.declared.wrapper.Wrapper.TheVariants.{NumberDouble}
 use Rattle.bson_datum.specs.Refusal.{Segment, Path, at_key, at_index, ReadFault, end_of_stream, unreadable, WriteFault, unwritable, invalid_document_key, invalid_cstring, unsigned_exceeds, Failure, no_memory, bare, placed}
 
--- the segment at a place of a path: a key has a point before it unless it comes first, an index stands in brackets
+-- the segment at a place of a path: a key has a point before it unless it comes first, an index is in brackets
 abbrev pub point_before : ℕ → Utf8
 point_before zero = []
 point_before (suc i) = codes "."

@@ -1,4 +1,4 @@
--- What is wrong with a value, and where it stands. Source: serde's data model.
+-- What is wrong with a value, and where it is. Source: serde's data model.
 use Rattle.std.specs.Prelude.{ℕ, ℤ, List, [], ◌∷◌, Result, Ok, Err}
 use Rattle.bson_base.specs.Text.{Utf8}
 use Rattle.bson_base.specs.Tree.{Tree}
@@ -9,13 +9,13 @@ pub data Segment : Type 0 where
   at_key : Utf8 → Segment
   at_index : ℕ → Segment
 
--- where a value stands: the segments to it, the outermost first
+-- where a value is: the segments to it, the outermost first
 abbrev pub Path : Type 0
 Path = List Segment
 
 -- what reading refuses for
 pub data ReadFault : Type 0 where
-  -- an empty document stands where the name of a variant is due
+  -- an empty document, where the name of a variant is due
   end_of_stream : ReadFault
   unreadable : Cause → ReadFault
 
@@ -38,11 +38,11 @@ pub record Refusal (F : Type 0) : Type 0 where
 abbrev pub here : {F : Type 0} → F → Refusal F
 here f = record { path = []; fault = f }
 
--- a refusal of the value at a segment, seen from the value that it stands in
+-- a refusal of the value at a segment, seen from the value that it is in
 abbrev pub in_segment : {F : Type 0} → Segment → Refusal F → Refusal F
 in_segment s r = record { path = s ∷ r.path; fault = r.fault }
 
--- an answer for the value at a segment, seen from the value that it stands in
+-- an answer for the value at a segment, seen from the value that it is in
 abbrev pub inside : {A F : Type 0} → Segment → Result A (Refusal F) → Result A (Refusal F)
 inside s (Ok x) = Ok x
 inside s (Err r) = Err (in_segment s r)
@@ -55,7 +55,7 @@ in_key key = in_segment (at_key key)
 abbrev pub under : {A F : Type 0} → Utf8 → Result A (Refusal F) → Result A (Refusal F)
 under key = inside (at_key key)
 
--- an answer for the value at an index, seen from the array that it stands in
+-- an answer for the value at an index, seen from the array that it is in
 abbrev pub under_index : {A F : Type 0} → ℕ → Result A (Refusal F) → Result A (Refusal F)
 under_index i = inside (at_index i)
 

@@ -11,9 +11,9 @@ use std::fmt;
 pub enum Cause {
     /// The bytes have this fault.
     Raw(raw::Error),
-    /// A container stands at level 201.
+    /// A container is at level 201.
     TooDeep,
-    /// A value of this kind stands where the shape takes another.
+    /// The value has this kind, and the shape takes another.
     InvalidType(ElementType),
     /// The number does not fit the shape's type.
     OutOfRange(i64),
@@ -43,7 +43,7 @@ pub enum Cause {
     ContentsWanted,
     /// A document names a variant that has no contents.
     UnitInDocument,
-    /// A value of this kind stands where a document is due.
+    /// The value has this kind, where a document is due.
     TopLevel(ElementType),
     /// A binary of so many bytes, which are more than 16777216.
     BinaryTooLong(u64),

@@ -3,7 +3,7 @@ ghost use Rattle.bson_datum.specs.TextView.{text_view};
 ghost use Rattle.bson_datum.specs.ByteStrView.{bytes_view};
 ghost use Rattle.bson_datum.specs.Value.{newtype, newtype_variant, tuple_structure, tuple_variant, structure, structure_variant};
 ghost use Rattle.bson_datum.specs.View.{view, items_view, entries_view, fields_view};
-ghost use Rattle.bson_datum.specs.Loans.{text_lent, bytes_lent, loans, items_loans, entries_loans, fields_loans, NoneLent, IsOwned};
+ghost use Rattle.bson_datum.specs.Borrowed.{text_borrowed, bytes_borrowed, borrowed_parts, items_borrowed, entries_borrowed, fields_borrowed, NoneBorrowed, IsOwned};
 
 use crate::{ByteStr, Datum, Entry, Field, Text};
 use std::alloc::{AllocError, Global};
@@ -12,7 +12,7 @@ impl<'a> Text<'a> {
     /// An equal text: borrowed where this one is, else a copy.
     pub fn try_clone(&self, alloc: Global) -> Result<Text<'a>, AllocError>
         ensures equal { IfOk result (λ t. text_view t ≡ text_view self.now) }
-        ensures lent { IfOk result (λ t. text_lent t ≡ text_lent self.now) }
+        ensures borrowed { IfOk result (λ t. text_borrowed t ≡ text_borrowed self.now) }
     {
         match self {
             Text::Borrowed(text) => Ok(Text::Borrowed(text)),
@@ -23,7 +23,7 @@ impl<'a> Text<'a> {
     /// An equal text that is owned: a copy where this one is borrowed.
     pub fn into_owned<'x>(self, alloc: Global) -> Result<Text<'x>, AllocError>
         ensures equal { IfOk result (λ t. text_view t ≡ text_view self.entry) }
-        ensures owned { IfOk result (λ t. text_lent t ≡ false) }
+        ensures owned { IfOk result (λ t. text_borrowed t ≡ false) }
     {
         match self {
             Text::Borrowed(text) => Ok(Text::Owned(String::from_str(alloc, text)?)),
@@ -36,7 +36,7 @@ impl<'a> ByteStr<'a> {
     /// An equal byte string: borrowed where this one is, else a copy.
     pub fn try_clone(&self, alloc: Global) -> Result<ByteStr<'a>, AllocError>
         ensures equal { IfOk result (λ b. bytes_view b ≡ bytes_view self.now) }
-        ensures lent { IfOk result (λ b. bytes_lent b ≡ bytes_lent self.now) }
+        ensures borrowed { IfOk result (λ b. bytes_borrowed b ≡ bytes_borrowed self.now) }
     {
         match self {
             ByteStr::Borrowed(bytes) => Ok(ByteStr::Borrowed(bytes)),
@@ -47,7 +47,7 @@ impl<'a> ByteStr<'a> {
     /// An equal byte string that is owned: a copy where this one is borrowed.
     pub fn into_owned<'x>(self, alloc: Global) -> Result<ByteStr<'x>, AllocError>
         ensures equal { IfOk result (λ b. bytes_view b ≡ bytes_view self.entry) }
-        ensures owned { IfOk result (λ b. bytes_lent b ≡ false) }
+        ensures owned { IfOk result (λ b. bytes_borrowed b ≡ false) }
     {
         match self {
             ByteStr::Borrowed(bytes) => Ok(ByteStr::Owned(bytes.to_vec(alloc)?)),
@@ -60,12 +60,12 @@ impl<'a> Datum<'a> {
     /// An equal datum. Its parts are borrowed where those of this one are, else copies.
     pub fn try_clone(&self, alloc: Global) -> Result<Datum<'a>, AllocError>
         ensures equal { IfOk result (λ d. view d ≡ view self.now) }
-        ensures lent { IfOk result (λ d. loans d ≡ loans self.now) }
+        ensures borrowed { IfOk result (λ d. borrowed_parts d ≡ borrowed_parts self.now) }
     {
         copy(alloc, self)
     }
 
-    /// An equal datum in which nothing is borrowed: a copy stands where a part of this one is borrowed.
+    /// An equal datum in which nothing is borrowed: each borrowed part is copied.
     pub fn into_owned<'x>(self, alloc: Global) -> Result<Datum<'x>, AllocError>
         ensures equal { IfOk result (λ d. view d ≡ view self.entry) }
         ensures owned { IfOk result IsOwned }
@@ -76,10 +76,10 @@ impl<'a> Datum<'a> {
 
 // The same datum again.
 #[cycle(copy)]
-#[tactic(auto, using(crate::proofs::Views::item_rows_items, crate::proofs::Views::entry_rows_items, crate::proofs::Views::rows_items, crate::proofs::Lent::item_rows_lent, crate::proofs::Lent::entry_rows_lent, crate::proofs::Lent::rows_lent))]
+#[tactic(auto, using(crate::proofs::Views::item_rows_items, crate::proofs::Views::entry_rows_items, crate::proofs::Views::rows_items, crate::proofs::BorrowedRows::item_rows_are_borrowed, crate::proofs::BorrowedRows::entry_rows_are_borrowed, crate::proofs::BorrowedRows::rows_are_borrowed))]
 fn copy<'a>(alloc: Global, datum: &Datum<'a>) -> Result<Datum<'a>, AllocError>
     ensures equal { IfOk result (λ d. view d ≡ view datum.now) }
-    ensures lent { IfOk result (λ d. loans d ≡ loans datum.now) }
+    ensures borrowed { IfOk result (λ d. borrowed_parts d ≡ borrowed_parts datum.now) }
 {
     match datum {
         Datum::Bool(truth) => Ok(Datum::Bool(*truth)),
@@ -128,7 +128,7 @@ fn copy_newtype<'a>(
     value: &Datum<'a>,
 ) -> Result<Datum<'a>, AllocError>
     ensures equal { IfOk result (λ d. view d ≡ newtype (text_view name.now) (view value.now)) }
-    ensures lent { IfOk result (λ d. loans d ≡ text_lent name.now ∷ loans value.now) }
+    ensures borrowed { IfOk result (λ d. borrowed_parts d ≡ text_borrowed name.now ∷ borrowed_parts value.now) }
 {
     Ok(Datum::NewtypeStruct {
         name: name.try_clone(alloc)?,
@@ -144,7 +144,7 @@ fn copy_newtype_variant<'a>(
     value: &Datum<'a>,
 ) -> Result<Datum<'a>, AllocError>
     ensures equal { IfOk result (λ d. view d ≡ newtype_variant (text_view variant.now) (view value.now)) }
-    ensures lent { IfOk result (λ d. loans d ≡ text_lent variant.now ∷ loans value.now) }
+    ensures borrowed { IfOk result (λ d. borrowed_parts d ≡ text_borrowed variant.now ∷ borrowed_parts value.now) }
 {
     Ok(Datum::NewtypeVariant {
         variant: variant.try_clone(alloc)?,
@@ -154,14 +154,14 @@ fn copy_newtype_variant<'a>(
 
 // The same tuple struct again.
 #[cycle(copy)]
-#[tactic(auto, using(crate::proofs::Views::item_rows_items, crate::proofs::Lent::item_rows_lent))]
+#[tactic(auto, using(crate::proofs::Views::item_rows_items, crate::proofs::BorrowedRows::item_rows_are_borrowed))]
 fn copy_tuple_struct<'a>(
     alloc: Global,
     name: &Text<'a>,
     items: &[Datum<'a>],
 ) -> Result<Datum<'a>, AllocError>
     ensures equal { IfOk result (λ d. view d ≡ tuple_structure (text_view name.now) (items_view items.now)) }
-    ensures lent { IfOk result (λ d. loans d ≡ text_lent name.now ∷ items_loans items.now) }
+    ensures borrowed { IfOk result (λ d. borrowed_parts d ≡ text_borrowed name.now ∷ items_borrowed items.now) }
 {
     Ok(Datum::TupleStruct {
         name: name.try_clone(alloc)?,
@@ -171,14 +171,14 @@ fn copy_tuple_struct<'a>(
 
 // The same variant with values again.
 #[cycle(copy)]
-#[tactic(auto, using(crate::proofs::Views::item_rows_items, crate::proofs::Lent::item_rows_lent))]
+#[tactic(auto, using(crate::proofs::Views::item_rows_items, crate::proofs::BorrowedRows::item_rows_are_borrowed))]
 fn copy_tuple_variant<'a>(
     alloc: Global,
     variant: &Text<'a>,
     items: &[Datum<'a>],
 ) -> Result<Datum<'a>, AllocError>
     ensures equal { IfOk result (λ d. view d ≡ tuple_variant (text_view variant.now) (items_view items.now)) }
-    ensures lent { IfOk result (λ d. loans d ≡ text_lent variant.now ∷ items_loans items.now) }
+    ensures borrowed { IfOk result (λ d. borrowed_parts d ≡ text_borrowed variant.now ∷ items_borrowed items.now) }
 {
     Ok(Datum::TupleVariant {
         variant: variant.try_clone(alloc)?,
@@ -188,14 +188,14 @@ fn copy_tuple_variant<'a>(
 
 // The same struct again.
 #[cycle(copy)]
-#[tactic(auto, using(crate::proofs::Views::rows_items, crate::proofs::Lent::rows_lent))]
+#[tactic(auto, using(crate::proofs::Views::rows_items, crate::proofs::BorrowedRows::rows_are_borrowed))]
 fn copy_struct<'a>(
     alloc: Global,
     name: &Text<'a>,
     fields: &[Field<'a>],
 ) -> Result<Datum<'a>, AllocError>
     ensures equal { IfOk result (λ d. view d ≡ structure (text_view name.now) (fields_view fields.now)) }
-    ensures lent { IfOk result (λ d. loans d ≡ text_lent name.now ∷ fields_loans fields.now) }
+    ensures borrowed { IfOk result (λ d. borrowed_parts d ≡ text_borrowed name.now ∷ fields_borrowed fields.now) }
 {
     Ok(Datum::Struct {
         name: name.try_clone(alloc)?,
@@ -205,14 +205,14 @@ fn copy_struct<'a>(
 
 // The same variant with fields again.
 #[cycle(copy)]
-#[tactic(auto, using(crate::proofs::Views::rows_items, crate::proofs::Lent::rows_lent))]
+#[tactic(auto, using(crate::proofs::Views::rows_items, crate::proofs::BorrowedRows::rows_are_borrowed))]
 fn copy_struct_variant<'a>(
     alloc: Global,
     variant: &Text<'a>,
     fields: &[Field<'a>],
 ) -> Result<Datum<'a>, AllocError>
     ensures equal { IfOk result (λ d. view d ≡ structure_variant (text_view variant.now) (fields_view fields.now)) }
-    ensures lent { IfOk result (λ d. loans d ≡ text_lent variant.now ∷ fields_loans fields.now) }
+    ensures borrowed { IfOk result (λ d. borrowed_parts d ≡ text_borrowed variant.now ∷ fields_borrowed fields.now) }
 {
     Ok(Datum::StructVariant {
         variant: variant.try_clone(alloc)?,
@@ -224,7 +224,7 @@ fn copy_struct_variant<'a>(
 #[cycle(copy)]
 fn copy_box<'a>(alloc: Global, value: &Datum<'a>) -> Result<Box<Datum<'a>>, AllocError>
     ensures equal { IfOk result (λ b. view b.value ≡ view value.now) }
-    ensures lent { IfOk result (λ b. loans b.value ≡ loans value.now) }
+    ensures borrowed { IfOk result (λ b. borrowed_parts b.value ≡ borrowed_parts value.now) }
 {
     let value = copy(alloc, value)?;
     Ok(Box::new(alloc, value)?)
@@ -234,7 +234,7 @@ fn copy_box<'a>(alloc: Global, value: &Datum<'a>) -> Result<Box<Datum<'a>>, Allo
 #[cycle(copy)]
 fn copy_items<'a>(alloc: Global, items: &[Datum<'a>]) -> Result<Vec<Datum<'a>>, AllocError>
     ensures equal { IfOk result (λ v. items_view v.items ≡ items_view items.now) }
-    ensures lent { IfOk result (λ v. items_loans v.items ≡ items_loans items.now) }
+    ensures borrowed { IfOk result (λ v. items_borrowed v.items ≡ items_borrowed items.now) }
 {
     let mut copies = Vec::with_capacity(alloc, items.len())?;
     for item in items {
@@ -247,7 +247,7 @@ fn copy_items<'a>(alloc: Global, items: &[Datum<'a>]) -> Result<Vec<Datum<'a>>, 
 #[cycle(copy)]
 fn copy_entries<'a>(alloc: Global, entries: &[Entry<'a>]) -> Result<Vec<Entry<'a>>, AllocError>
     ensures equal { IfOk result (λ v. entries_view v.items ≡ entries_view entries.now) }
-    ensures lent { IfOk result (λ v. entries_loans v.items ≡ entries_loans entries.now) }
+    ensures borrowed { IfOk result (λ v. entries_borrowed v.items ≡ entries_borrowed entries.now) }
 {
     let mut copies = Vec::with_capacity(alloc, entries.len())?;
     for entry in entries {
@@ -263,7 +263,7 @@ fn copy_entries<'a>(alloc: Global, entries: &[Entry<'a>]) -> Result<Vec<Entry<'a
 #[cycle(copy)]
 fn copy_fields<'a>(alloc: Global, fields: &[Field<'a>]) -> Result<Vec<Field<'a>>, AllocError>
     ensures equal { IfOk result (λ v. fields_view v.items ≡ fields_view fields.now) }
-    ensures lent { IfOk result (λ v. fields_loans v.items ≡ fields_loans fields.now) }
+    ensures borrowed { IfOk result (λ v. fields_borrowed v.items ≡ fields_borrowed fields.now) }
 {
     let mut copies = Vec::with_capacity(alloc, fields.len())?;
     for field in fields {
@@ -277,7 +277,7 @@ fn copy_fields<'a>(alloc: Global, fields: &[Field<'a>]) -> Result<Vec<Field<'a>>
 
 // The same datum, with nothing borrowed in it.
 #[cycle(owned)]
-#[tactic(auto, using(crate::proofs::Views::item_rows_items, crate::proofs::Views::entry_rows_items, crate::proofs::Views::rows_items, crate::proofs::Lent::item_rows_lent, crate::proofs::Lent::entry_rows_lent, crate::proofs::Lent::rows_lent))]
+#[tactic(auto, using(crate::proofs::Views::item_rows_items, crate::proofs::Views::entry_rows_items, crate::proofs::Views::rows_items, crate::proofs::BorrowedRows::item_rows_are_borrowed, crate::proofs::BorrowedRows::entry_rows_are_borrowed, crate::proofs::BorrowedRows::rows_are_borrowed))]
 fn owned<'x>(alloc: Global, datum: Datum<'_>) -> Result<Datum<'x>, AllocError>
     ensures equal { IfOk result (λ d. view d ≡ view datum.entry) }
     ensures owned { IfOk result IsOwned }
@@ -355,7 +355,7 @@ fn owned_newtype_variant<'x>(
 
 // The same tuple struct, with nothing borrowed in it.
 #[cycle(owned)]
-#[tactic(auto, using(crate::proofs::Views::item_rows_items, crate::proofs::Lent::item_rows_lent))]
+#[tactic(auto, using(crate::proofs::Views::item_rows_items, crate::proofs::BorrowedRows::item_rows_are_borrowed))]
 fn owned_tuple_struct<'x>(
     alloc: Global,
     name: Text<'_>,
@@ -372,7 +372,7 @@ fn owned_tuple_struct<'x>(
 
 // The same variant with values, with nothing borrowed in it.
 #[cycle(owned)]
-#[tactic(auto, using(crate::proofs::Views::item_rows_items, crate::proofs::Lent::item_rows_lent))]
+#[tactic(auto, using(crate::proofs::Views::item_rows_items, crate::proofs::BorrowedRows::item_rows_are_borrowed))]
 fn owned_tuple_variant<'x>(
     alloc: Global,
     variant: Text<'_>,
@@ -389,7 +389,7 @@ fn owned_tuple_variant<'x>(
 
 // The same struct, with nothing borrowed in it.
 #[cycle(owned)]
-#[tactic(auto, using(crate::proofs::Views::rows_items, crate::proofs::Lent::rows_lent))]
+#[tactic(auto, using(crate::proofs::Views::rows_items, crate::proofs::BorrowedRows::rows_are_borrowed))]
 fn owned_struct<'x>(
     alloc: Global,
     name: Text<'_>,
@@ -406,7 +406,7 @@ fn owned_struct<'x>(
 
 // The same variant with fields, with nothing borrowed in it.
 #[cycle(owned)]
-#[tactic(auto, using(crate::proofs::Views::rows_items, crate::proofs::Lent::rows_lent))]
+#[tactic(auto, using(crate::proofs::Views::rows_items, crate::proofs::BorrowedRows::rows_are_borrowed))]
 fn owned_struct_variant<'x>(
     alloc: Global,
     variant: Text<'_>,
@@ -435,7 +435,7 @@ fn owned_box<'x>(alloc: Global, value: Box<Datum<'_>>) -> Result<Box<Datum<'x>>,
 #[cycle(owned)]
 fn owned_items<'x>(alloc: Global, items: Vec<Datum<'_>>) -> Result<Vec<Datum<'x>>, AllocError>
     ensures equal { IfOk result (λ v. items_view v.items ≡ items_view items.entry.items) }
-    ensures owned { IfOk result (λ v. NoneLent (items_loans v.items)) }
+    ensures owned { IfOk result (λ v. NoneBorrowed (items_borrowed v.items)) }
 {
     let mut copies = Vec::with_capacity(alloc, items.len())?;
     for item in items {
@@ -448,7 +448,7 @@ fn owned_items<'x>(alloc: Global, items: Vec<Datum<'_>>) -> Result<Vec<Datum<'x>
 #[cycle(owned)]
 fn owned_entries<'x>(alloc: Global, entries: Vec<Entry<'_>>) -> Result<Vec<Entry<'x>>, AllocError>
     ensures equal { IfOk result (λ v. entries_view v.items ≡ entries_view entries.entry.items) }
-    ensures owned { IfOk result (λ v. NoneLent (entries_loans v.items)) }
+    ensures owned { IfOk result (λ v. NoneBorrowed (entries_borrowed v.items)) }
 {
     let mut copies = Vec::with_capacity(alloc, entries.len())?;
     for entry in entries {
@@ -464,7 +464,7 @@ fn owned_entries<'x>(alloc: Global, entries: Vec<Entry<'_>>) -> Result<Vec<Entry
 #[cycle(owned)]
 fn owned_fields<'x>(alloc: Global, fields: Vec<Field<'_>>) -> Result<Vec<Field<'x>>, AllocError>
     ensures equal { IfOk result (λ v. fields_view v.items ≡ fields_view fields.entry.items) }
-    ensures owned { IfOk result (λ v. NoneLent (fields_loans v.items)) }
+    ensures owned { IfOk result (λ v. NoneBorrowed (fields_borrowed v.items)) }
 {
     let mut copies = Vec::with_capacity(alloc, fields.len())?;
     for field in fields {

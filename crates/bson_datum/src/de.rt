@@ -15,7 +15,7 @@ use std::fmt;
 /// What a value is refused for, without its path.
 #[derive(Debug, Drop)]
 pub enum Fault {
-    /// An empty document stands where the name of a variant is due.
+    /// An empty document, where the name of a variant is due.
     EndOfStream,
     /// A value is refused for this cause.
     Cause(Cause),
@@ -24,7 +24,7 @@ pub enum Fault {
 /// Why a document is not read.
 #[derive(Debug, Drop)]
 pub enum Error {
-    /// An empty document stands where the name of a variant is due.
+    /// An empty document, where the name of a variant is due.
     EndOfStream,
     /// A value is refused for this cause.
     DeserializationError {
@@ -33,7 +33,7 @@ pub enum Error {
     },
     /// An error, with the path of the value that it is about.
     WithPath {
-        /// Where the value stands.
+        /// Where the value is.
         path: Path,
         /// What is wrong with it.
         source: Box<Error>,

@@ -309,7 +309,7 @@ fn is_struct_variant_of(variant: &Text<'_>, fields: &[Field<'_>], datum: &Datum<
     }
 }
 
-// Whether as many data stand in both, equal one by one.
+// Whether as many data are in both, equal one by one.
 #[cycle(same)]
 fn are_same_items(a: &[Datum<'_>], b: &[Datum<'_>]) -> bool
     ensures { result ≡ same_items (items_view a.now) (items_view b.now) }
@@ -325,7 +325,7 @@ fn are_same_items(a: &[Datum<'_>], b: &[Datum<'_>]) -> bool
     true
 }
 
-// Whether as many entries stand in both, equal one by one.
+// Whether as many entries are in both, equal one by one.
 #[cycle(same)]
 fn are_same_entries(a: &[Entry<'_>], b: &[Entry<'_>]) -> bool
     ensures { result ≡ same_entries (entries_view a.now) (entries_view b.now) }
@@ -349,7 +349,7 @@ fn is_same_entry(a: &Entry<'_>, b: &Entry<'_>) -> bool
     is_same(&a.key, &b.key) && is_same(&a.value, &b.value)
 }
 
-// Whether as many fields stand in both, equal one by one.
+// Whether as many fields are in both, equal one by one.
 #[cycle(same)]
 fn are_same_fields(a: &[Field<'_>], b: &[Field<'_>]) -> bool
     ensures { result ≡ same_fields (fields_view a.now) (fields_view b.now) }

@@ -12,7 +12,7 @@ pub enum Segment {
     Index(u64),
 }
 
-/// Where a value stands: the segments from the whole document to it.
+/// Where a value is: the segments from the whole document to it.
 ///
 /// It prints keys joined by points and indexes in brackets, as `a.b[2]`; the empty path prints `.`.
 #[derive(Debug, Drop)]

@@ -18,7 +18,7 @@ pub enum Fault {
     /// A map has a key that is no text. This is what is told of the key: a scalar itself, an empty array or document for
     /// what holds values.
     InvalidDocumentKey(Bson),
-    /// A zero character stands in this name, which is written as a key.
+    /// A zero character is in this name, which is written as a key.
     InvalidCString(String),
     /// This number is greater than 9223372036854775807, the greatest that an Int64 holds.
     UnsignedIntegerExceededRange(u64),
@@ -32,7 +32,7 @@ pub enum Error {
     /// A map has a key that is no text. This is what is told of the key: a scalar itself, an empty array or document for
     /// what holds values.
     InvalidDocumentKey(Bson),
-    /// A zero character stands in this name, which is written as a key.
+    /// A zero character is in this name, which is written as a key.
     InvalidCString(String),
     /// This number is greater than 9223372036854775807, the greatest that an Int64 holds.
     UnsignedIntegerExceededRange(u64),
@@ -43,7 +43,7 @@ pub enum Error {
     },
     /// An error, with the path of the value that it is about.
     WithPath {
-        /// Where the value stands.
+        /// Where the value is.
         path: Path,
         /// What is wrong with it.
         source: Box<Error>,

@@ -7,7 +7,7 @@ ghost use Rattle.bson_datum.specs.declared.stop.Stop.TheVariants as stops;
 use crate::path::Segment;
 use std::alloc::{AllocError, AllocFailed, Global};
 
-/// A fault on its way out of the values that it stands in.
+/// A fault on its way out of the values that it is in.
 #[derive(Debug, Drop)]
 pub struct Refused<F> {
     /// What is wrong.
@@ -16,7 +16,7 @@ pub struct Refused<F> {
     pub segments: Vec<Segment>,
 }
 
-/// Why a reader or a writer stopped inside a document. A refusal stands in a box, so that an answer takes few bytes wherever
+/// Why a reader or a writer stopped inside a document. A refusal is in a box, so that an answer takes few bytes wherever
 /// nothing is refused.
 #[derive(Debug, Drop)]
 pub enum Stop<F> {

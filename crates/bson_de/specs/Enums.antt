@@ -30,7 +30,7 @@ first_of ended = Err (here end_of_stream)
 first_of (faulty e) = refused (raw e)
 first_of (then_node k n ns) = Ok (record { key = k; value = n })
 
--- the variant of a name with its contents, read from the value that stands at the name
+-- the variant of a name with its contents, read from the value that is at the name
 abbrev pub reads_contents : Utf8 → Content → Node → Reading Marked
 reads_contents name unit_content n = refused unit_in_document
 reads_contents name (newtype_content s) n = result_map (value.newtype_variant (made name)) (reads s plain n)

@@ -49,7 +49,7 @@ const MAX_LEVELS: u32 = 200;
 ///   variant with contents. The value under that key is its contents: at its shape for a newtype variant, as at a
 ///   tuple for a tuple variant, as at a struct for a struct variant. Further elements stay unread.
 /// - A map takes the elements of a document. A key is taken as a String of its text would be. The entries
-///   stand in the order in which their keys came first; of a repeated key the last value stays.
+///   are in the order in which their keys came first; of a repeated key the last value stays.
 /// - A struct takes each of its fields from the element of a document that has the field's name as its key,
 ///   in any order. A field that no element has is none where its shape is an option. Elements of other
 ///   keys are walked to their ends, those of every document, array and scope in them too, and dropped.
@@ -57,7 +57,7 @@ const MAX_LEVELS: u32 = 200;
 ///   stay unread.
 ///
 /// The texts at `str` and the byte strings at `bytes` are borrowed from the input, and so are all texts and byte
-/// strings at `any` that stand there, the keys of its maps included, and the keys of a map whose key is `str`. All
+/// strings at `any` that are there, the keys of its maps included, and the keys of a map whose key is `str`. All
 /// others are owned, and so are the names of structs, fields and variants, which are those in the shape.
 ///
 /// Keys in the shape's order are found at once. The first other key of a struct with sixteen or more
@@ -83,7 +83,7 @@ const MAX_LEVELS: u32 = 200;
 ///     at `bytebuf` that is no byte.
 ///   - `NotOneChar`: at `char` a String or a key of no character or of more than one.
 ///   - `NotUtf8`: at `str` and `string` a Binary of subtype 0 whose bytes are not UTF-8.
-///   - `NotBorrowed`: at `str` and `bytes` a text, a key or a byte string that does not stand in the input, as the digits
+///   - `NotBorrowed`: at `str` and `bytes` a text, a key or a byte string that is not in the input, as the digits
 ///     of an ObjectId that is opened.
 ///   - `InvalidLength`: at a struct, a tuple, a tuple struct and the contents of a tuple or a struct variant an
 ///     array of so many elements, which are fewer than its fields or parts; at `oid` a Binary of subtype 0 that has not

@@ -19,7 +19,7 @@ pub fits_less : (E : Type 0) (old new : Option ℕ) (at n : ℕ) (due : List ℕ
 fits_less E None new at n due fits used = absurd fits
 fits_less E (Some r) new at n due fits used = rw used (omega (arith, fits, length-drop at due, length-drop (at + n) due))
 
--- Some bytes were taken, and then n more, which stand at the front of a buffer.
+-- Some bytes were taken, and then n more, which are at the front of a buffer.
 pub takes_more : (a b c : Option (List ℕ)) (bs buf : List ℕ) (n : ℕ) → Consumes a b bs → Consumes b c (take n buf) → Takes a c
 takes_more a b c bs buf n before step = record { bytes = bs ++ take n buf; taken = Consumes-trans a b c bs (take n buf) before step }
 

@@ -12,7 +12,7 @@ last_count = 2 ^ 64 - 1
 abbrev pub Rose : ℕ → ℕ → Type 0
 Rose before now = before < now
 
--- The count rose, or stands at its last value.
+-- The count rose, or is at its last value.
 abbrev pub RoseOrLast : ℕ → ℕ → Type 0
 RoseOrLast before now = min (before + 1) last_count ≤ now
 
@@ -21,7 +21,7 @@ pub record HasCause {T E : Type 0} (before now : ℕ) (result : Result T E) : Ty
   pub later : before ≤ now
   pub failed : OnErr result (Rose before now)
 
--- A sink's count never falls, and it rose or stands at its last value where the call failed.
+-- A sink's count never falls, and it rose or is at its last value where the call failed.
 pub record HasSinkCause {T E : Type 0} (before now : ℕ) (result : Result T E) : Type 0 where
   pub later : before ≤ now
   pub failed : OnErr result (RoseOrLast before now)

@@ -6,7 +6,7 @@ pub record Output : Type 0 where
   pub bytes : List ℕ
   pub spare : ℕ
 
--- bytes in which a piece stands from a place on, in place of as many that stood there
+-- bytes with a piece from a place on, in place of as many that were there
 abbrev pub patched : List ℕ → ℕ → List ℕ → List ℕ
 patched bytes at piece = take at bytes ++ piece ++ drop (at + length piece) bytes
 

@@ -9,7 +9,7 @@ ghost use Rattle.bson_io.specs.Adapters.{read_faults, write_faults, reader_of, w
 use crate::{Failed, Sink, Source};
 use std::io::{Read, Write};
 
-/// A reader of std. Each error counts as a fault. Once the count stands at the last value of a
+/// A reader of std. Each error counts as a fault. Once the count is at the last value of a
 /// `u64` it makes no further call and answers `Ok(0)`.
 #[derive(Drop)]
 pub struct ReadAdapter<R> {
@@ -39,7 +39,7 @@ impl<R: Read> Source for ReadAdapter<R> {
         ensures empty { buf.old ≡ [] →
             IsIdle None None (read_faults self.old) (read_faults self.new) result }
 
-        // Each failure counts as one. Until the count stands at its last value the bytes are the reader's.
+        // Each failure counts as one. Until the count is at its last value the bytes are the reader's.
         ensures counted { OnErr result (read_faults self.new ≡ read_faults self.old + 1) }
         ensures kept { OnOk result (read_faults self.new ≡ read_faults self.old) }
         ensures last { read_faults self.old ≡ last_count → result ≡ Ok 0 }

@@ -41,7 +41,7 @@ pub trait Sink {
     ghost faults: { Self → ℕ };
 
     /// Appends some first bytes of the piece, at least one of a piece that is not empty, and answers
-    /// how many. It fails only where the count of faults rises or stands at its last value, and then
+    /// how many. It fails only where the count of faults rises or is at its last value, and then
     /// nothing is written. On an empty piece it answers `Ok(0)` and changes nothing.
     fn write(&mut self, piece: &[u8]) -> Result<usize, Failed>
         ensures bound { WritesAtMost result piece.now }

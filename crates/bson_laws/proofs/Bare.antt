@@ -1,4 +1,4 @@
--- What is read where nothing stands in the input is read from the input too: marks say only what is borrowed.
+-- What is read where nothing is in the input is read from the input too: marks say only what is borrowed.
 use Rattle.std.proofs.Common.{◌≡◌, ℕ, ℤ, zero, suc, [], ◌∷◌, Bool, true, false, cond, Option, Some, None, Ok, refl, ap, sym, subst, ◌∙◌}
 use Rattle.std.specs.Prelude.{option_map}
 use Rattle.std.specs.Str.{bytes_eq, is_utf8, chars}
@@ -32,7 +32,7 @@ use Rattle.bson_laws.proofs.Judged.{ReadAs}
 use Rattle.bson_laws.proofs.Sizes.{inside_ok, under_ok}
 
 abbrev mutual
-  -- the same value, of which nothing stands in the input
+  -- the same value, of which nothing is in the input
   pub bare : Node → Node
   bare (string t) = string (made t.bytes)
   bare (bytes b) = bytes (made b.bytes)
@@ -600,7 +600,7 @@ module _ (at_extended : Mode → ExtendedLeaf → Node → Reading Marked)
       (build h.0, ap (λ q. q >>= λ k. result_map build (read_struct mode fs k)) j.0 ∙ ap (result_map build) h.1, same_built h.0 ∙ ap make h.2 ∙ sym (same_built b.0) ∙ ap contents b.2)
 
   mutual
-    -- what is read of a value of which nothing stands in the input is read of the value too, but for what is borrowed
+    -- what is read of a value of which nothing is in the input is read of the value too, but for what is borrowed
     pub reads_bare : (s : Form) (mode : Mode) → EachBare (reads s mode)
     reads_bare (leaf l) mode n m e =
         let j = read_bare mode n (read_leaf_with at_extended mode (borrows l) (leaf_kind l)) m e in

@@ -1,4 +1,4 @@
--- What is read as a tree where nothing stands in the input is read from the input too.
+-- What is read as a tree where nothing is in the input is read from the input too.
 use Rattle.std.proofs.Common.{◌≡◌, ℕ, suc, Bool, true, false, cond, Option, Some, None, Ok, refl, ap, sym, ◌∙◌}
 use Rattle.std.specs.Prelude.{unsigned_abs, codes, option_map, option_and_then}
 use Rattle.std.specs.Str.{bytes_eq}
@@ -100,7 +100,7 @@ wrapper_bare wrappers.Undefined = at_bare (leaf leaves.Bool) (a_boolean (λ b. t
 wrapper_bare wrappers.NumberDecimal = text_body_bare (λ t. None)
 wrapper_bare wrappers.NumberDecimalBytes = at_bare (leaf leaves.ByteBuf) (some_bytes (of_length 16 tree.decimal128))
 
--- ---- what stands behind a scope
+-- ---- what is behind a scope
 
 scope_code : (mode : Mode) (key : Utf8) (b : Bool) (n : Node) (ps : Pairs) (t : Tree)
     → cond b (result_map (λ x. tree.javascript_code_with_scope x ps) (under key (text_at mode (bare n)))) (refused (unknown_field key)) ≡ Ok t

@@ -13,7 +13,7 @@ use Rattle.bson_dates.specs.DateText.{Utf8, Part, part, with_part, character, is
 abbrev Has : {X : Type 0} → (X → Type 0) → Part X → Type 0
 Has P (part n rest) = P n
 
--- what a step gives has the property, whatever stands in front
+-- what a step gives has the property, whatever is in front
 behind : {X Y : Type 0} (P : X → Type 0) (Q : Y → Type 0) (o : Option (Part X)) (next : X → Utf8 → Option Y) → IfSome o (Has P) → ((n : X) (s : Utf8) → P n → IfSome (next n s) Q)
     → IfSome (with_part o next) Q
 behind P Q None next h k = tt

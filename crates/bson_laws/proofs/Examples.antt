@@ -100,7 +100,7 @@ other_dropped = refl
 other_broken : (e : Error) → reads one_field plain (document (then_node (borrowed (codes "b")) (broken Boolean e) ended)) ≡ Err (record { path = at_key (codes "b") ∷ []; fault = unreadable (raw e) })
 other_broken e = refl
 
--- an array gives the fields by their places; what stands behind the last is not looked at
+-- an array gives the fields by their places; what is behind the last is not looked at
 by_place : (ns : Nodes) (k : Utf8) → reads one_field plain (array (then_node (borrowed k) (int32 (pos 5)) ns)) ≡ Ok (value.structure (made (codes "T")) (field_value (made (codes "a")) (value.integer i32 (pos 5)) no_field_values))
 by_place ns k = refl
 

@@ -38,7 +38,7 @@ seen levels s t = ok_of (reads s plain (tree_node true t levels))
 pub seen_of : (levels : ℕ) (s : Form) (t : Tree) (v : Marked) → reads s plain (tree_node true t levels) ≡ Ok v → seen levels s t ≡ Some v
 seen_of levels s t v e = ap ok_of e
 
--- a field's value: what stands at its key is read, and what is missing has a value where the shape is an option
+-- a field's value: what is at its key is read, and what is missing has a value where the shape is an option
 abbrev pub seen_at : ℕ → Form → Option Tree → Option Marked
 seen_at levels s None = absent s
 seen_at levels s (Some t) = seen levels s t
@@ -86,7 +86,7 @@ still_there n k t u ps l e = by_case (bytes_eq n k) refl where
 module _ (levels : ℕ) where
   -- ---- slots after pairs
 
-  -- the value of a slot after what stands at its key
+  -- the value of a slot after what is at its key
   abbrev value_after : Slot → Option Tree → Option Marked
   value_after slot None = slot.value
   value_after slot (Some t) = ok_of (slot.read (tree_node true t levels))
@@ -98,7 +98,7 @@ module _ (levels : ℕ) where
   all_after ps [] = []
   all_after ps (slot ∷ slots) = after ps slot ∷ all_after ps slots
 
-  -- what stands at the key of a slot finds it free, and is read
+  -- what is at the key of a slot finds it free, and is read
   abbrev IsReady : Pairs → Slot → Type 0
   IsReady ps slot = (t : Tree) → lookup slot.name ps ≡ Some t → (slot.value ≡ None) × ((v : Marked) × (slot.read (tree_node true t levels) ≡ Ok v))
 
@@ -162,7 +162,7 @@ module _ (levels : ℕ) where
 
   -- ---- all elements
 
-  -- no key stands twice, and what no field takes is passed
+  -- no key occurs twice, and what no field takes is passed
   abbrev pub ArePassed : Fields → Pairs → Type 0
   ArePassed fs no_pairs = Unit {0}
   ArePassed fs (pair k t ps) = Lacks k ps × (Unnamed k fs → ignores plain (tree_node true t levels) ≡ Ok tt) × ArePassed fs ps
@@ -173,7 +173,7 @@ module _ (levels : ℕ) where
       let p = put_ready k t ps slots c.0 d r (λ none. c.1 (unnamed_from fs k (subst (IsNone k) is none))) in
       ap (λ q. q >>= fill plain (pair_nodes true ps levels)) p.put ∙ fill_again fs ps p.out (p.names ∙ is) (subst AreApart (sym p.names) d) c.2 p.ready ∙ ap Ok p.after
 
-  -- what a field is at what stands at its key, or at nothing, is its value in the end
+  -- what a field is at what is at its key, or at nothing, is its value in the end
   one_seen : (n : Utf8) (s : Form) (o : Option Tree) (v : Marked) → seen_at levels s o ≡ Some v → value_or n (absent s) (value_after (record { name = n; missing = absent s; read = reads s plain; value = None }) o) ≡ Ok v
   one_seen n s None v e = ap (λ m. value_or n m None) e
   one_seen n s (Some t) v e = ap (value_or n (absent s)) e

@@ -21,7 +21,7 @@ use Rattle.bson_laws.proofs.Fitted.{unlike_swap}
 use Rattle.bson_laws.proofs.TreesRead.{IsReadable, ArePairsReadable, AreTreesReadable}
 
 abbrev mutual
-  -- each part has the size of its kind, texts are UTF-8, options are in order, no key is a wrapper key, and none stands twice
+  -- each part has the size of its kind, texts are UTF-8, options are in order, no key is a wrapper key, and none occurs twice
   pub IsGivenTree : Tree → Type 0
   IsGivenTree (tree.double bits) = length bits ≡ 8
   IsGivenTree (tree.string t) = is_utf8 t ≡ true

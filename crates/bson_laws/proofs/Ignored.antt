@@ -8,7 +8,7 @@ use Rattle.bson_datum.specs.Refusal.{under, under_index}
 use Rattle.bson_laws.specs.Judged.{plain, at_its_key, at_its_index, scope_key, passes, pass_nodes, ignores}
 use Rattle.bson_laws.proofs.Judged.{judged_again}
 
--- a value is dropped where what stands inside it is
+-- a value is dropped as what is inside it is dropped
 dropped : (in_input : Bool) (t : Tree) (levels : ℕ) → IsClean t → depth t ≤ levels → passes plain (tree_node in_input t levels) ≡ Ok tt → ignores plain (tree_node in_input t levels) ≡ Ok tt
 dropped in_input t levels c d e = ap (λ r. r >>= λ _. passes plain (tree_node in_input t levels)) (judged_again in_input t levels c d) ∙ e
 

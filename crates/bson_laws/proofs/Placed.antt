@@ -24,7 +24,7 @@ abbrev pub IsNone : Utf8 → List Utf8 → Type 0
 IsNone key [] = Unit {0}
 IsNone key (name ∷ names) = (bytes_eq name key ≡ false) × IsNone key names
 
--- the first of the names that is this one stands at a place
+-- the first of the names that is this one is at a place
 abbrev pub IsFirst : Utf8 → List Utf8 → ℕ → Type 0
 IsFirst key [] i = ⊥
 IsFirst key (name ∷ names) zero = bytes_eq name key ≡ true

@@ -56,7 +56,7 @@ document_again s bytes d t p h e q l =
       ap (λ x. at_top x (spell (contents k.0) max_levels)) (sym (spell_kind false (contents k.0) max_levels t k.2) ∙ is) ∙ k.2,
     )
 
--- what is read of a finished tree, of which nothing stands in the input, is read from its bytes
+-- what is read of a finished tree, of which nothing is in the input, is read from its bytes
 pub tree_read : (s : Form) (t : Tree) (m : Marked) → IsCoded t → kind t ≡ EmbeddedDocument → length (enc t) < 2 ^ 31 → reads s plain (tree_node false t max_levels) ≡ Ok m → reads_document s (enc t) ≡ Ok (contents m)
 tree_read s t m c k small e =
     let h = reads_bare s plain (tree_node true t max_levels) m (ap (reads s plain) (tree_bare t max_levels) ∙ e) in

@@ -69,7 +69,7 @@ number_read : (type : IntegerType) (n : ℤ) (b : Bool) (v : Value) → cond b (
 number_read type n true v e = (value.integer type n, refl, some_is (value.integer type n) v e)
 number_read type n false v e = absurd cc
 
--- what stands in the input is borrowed, or owned
+-- what is in the input is borrowed, or owned
 pub text_read : (b : Bool) (t : Bytes) (v : Value) → value.str t ≡ v → ReadAs contents (result_map value.str (borrow_or_own b (borrowed t))) v
 text_read true t v e = (value.str (borrowed t), refl, e)
 text_read false t v e = (value.str (made t), refl, e)
@@ -182,7 +182,7 @@ fields_again f g fs ps v levels same distinct each c d e =
       same h.0 ∙ ap f h.2 ∙ m.2,
     )
 
--- what stands at a key
+-- what is at a key
 at_either : (P : Tree → Type 0) (b : Bool) (t u : Tree) (o : Option Tree) → P t → (o ≡ Some u → P u) → cond b (Some t) o ≡ Some u → P u
 at_either P true t u o h g e = subst P (some_is t u e) h
 at_either P false t u o h g e = g e

@@ -55,7 +55,7 @@ no_wrapper key e = none_in wrappers key refl e
 -- ---- trees that are read
 
 abbrev mutual
-  -- the texts are UTF-8, no key is a wrapper key, and none stands twice
+  -- the texts are UTF-8, no key is a wrapper key, and none occurs twice
   pub IsReadable : Tree → Type 0
   IsReadable (tree.string t) = is_utf8 t ≡ true
   IsReadable (tree.document ps) = ArePairsReadable ps

@@ -38,26 +38,26 @@ faultless (Some e) n = refused (raw e)
 abbrev pub judged : Mode → Node → Reading Node
 judged mode n = faultless (fault mode.lossy n) n
 
--- bytes, read as they stand
+-- bytes, read as they are
 abbrev pub plain : Mode
 plain = record { lossy = false; readable = false; tree = false }
 
 -- ---- what is dropped
 
--- where an element stands in its document: at its key
+-- where an element is in its document: at its key
 abbrev pub at_its_key : ℕ → Piece → Segment
 at_its_key i key = at_key key.bytes
 
--- where an element stands in its array: at its index
+-- where an element is in its array: at its index
 abbrev pub at_its_index : ℕ → Piece → Segment
 at_its_index i key = at_index i
 
--- the key at which a refusal stands that comes from a scope
+-- the key of a refusal that comes from a scope
 abbrev pub scope_key : Utf8
 scope_key = codes "$scope"
 
 abbrev mutual
-  -- what stands inside a judged value, walked to its end and dropped: the elements of a document, those of an array, those of a scope
+  -- what is inside a judged value, walked to its end and dropped: the elements of a document, those of an array, those of a scope
   pub passes : Mode → Node → Reading (Unit {0})
   passes mode (document ns) = pass_nodes mode at_its_key 0 ns
   passes mode (array ns) = pass_nodes mode at_its_index 0 ns

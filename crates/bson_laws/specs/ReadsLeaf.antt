@@ -22,7 +22,7 @@ put_entry k v (entry key old es) = if same (contents k) (contents key) then entr
 
 abbrev mutual
   -- A judged value without a shape: an array as a sequence, a document and an extended value as a map whose keys are texts. Texts and byte
-  -- strings are borrowed where they stand in the input and texts are not mended.
+  -- strings are borrowed where they are in the input and texts are not mended.
   pub read_any : Mode → Node → Reading Marked
   read_any mode (boolean b) = Ok (value.boolean b)
   read_any mode (int32 n) = Ok (value.integer i32 n)

@@ -109,7 +109,7 @@ abbrev pub absent : {T : Type 0} → Form → Option (ValueOf T)
 absent (optional s) = Some value.none
 absent s = None
 
--- the value of a field at what stands at its key
+-- the value of a field at what is at its key
 abbrev pub views_at : (Tree → Option Value) → Option Value → Option Tree → Option Value
 views_at views missing None = missing
 views_at views missing (Some t) = views t

@@ -89,7 +89,7 @@ walk_first see old new e first = ap (nodes_with see) first
 pub walk_faulty : (see : ElementType → Bytes → Node) (old : Walk) (s : Stop Fault) → EndsFaulty old s → IsFaulty (nodes_with see old) s
 walk_faulty see old s h = record { fault = h.fault; first = ap (nodes_with see) h.first; refused = h.refused }
 
--- what stands in a document is smaller than it
+-- what is in a document is smaller than it
 document_of_smaller : (m : Node) (ns : Nodes) → document_of m ≡ Ok ns → sizes ns < size m
 document_of_smaller (document ms) ns e = let same : ms ≡ ns = cc in omega (arith, ap sizes same)
 document_of_smaller (extended x ms) ns e = let same : ms ≡ ns = cc in omega (arith, ap sizes same)

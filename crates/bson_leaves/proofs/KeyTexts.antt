@@ -56,7 +56,7 @@ key_same (enumeration vs) t u k text a b e f =
     cc
 key_same s t u k text a b e f = absurd (false≢true text)
 
--- ---- the key that a text is, wherever it stands
+-- ---- the key that a text is, wherever it is
 
 borrowed_str : (b : Bool) (p : Piece) (k : Marked) → result_map value.str (cond b (Ok p) (refused not_borrowed)) ≡ Ok k → ◌≡◌ {A = Reading Value} (Ok (value.str p.bytes)) (Ok (contents k))
 borrowed_str true p k e = let same : value.str p ≡ k = cc in ap (λ v. Ok (contents v)) same

@@ -33,7 +33,7 @@ first_or None other = other
 abbrev first_of : Bool → Option ℕ → Option ℕ
 first_of b o = cond b (Some 0) (option_map suc o)
 
--- where an entry stands that goes behind all others
+-- where an entry is that goes behind all others
 abbrev at_end : Bool → ℕ → Option ℕ
 at_end b n = cond b (Some n) None
 
@@ -71,7 +71,7 @@ place_within [] k i e = absurd cc
 place_within (x ∷ es) k zero e = omega arith
 place_within (x ∷ es) k (suc i) e = omega (arith, place_within es k i (further (same k (contents (marked x.key))) (entry_place k (entries_marked es)) i e).1)
 
--- where a value was put in the place of another, the keys stand where they stood
+-- where a value was put in the place of another, the keys are where they were
 pub place_set : (es : List Entry) (i : ℕ) (d e : Entry) (k : Value) → marked e.key ≡ marked (get_or es i d).key → entry_place k (entries_marked (set es i e)) ≡ entry_place k (entries_marked es)
 place_set [] i d e k same_key = refl
 place_set (x ∷ es) zero d e k same_key = ap (λ v. first_of (same k (contents v)) (entry_place k (entries_marked es))) same_key
@@ -109,7 +109,7 @@ at_last : (n : ℕ) → first_or None (at_end true n) ≡ Some n
 unfolding first_or
 at_last n = refl
 
--- Behind the others stands an entry with a new key, which was read from a text: each text has the place that it had, and that text the last.
+-- Behind the others is an entry with a new key, which was read from a text: each text has the place that it had, and that text the last.
 pub place_more : (s : Form) (es : List Entry) (e : Entry) (text t : Utf8) (k : Value) → is_text_key s ≡ true → IsUtf8 text → IsUtf8 t → key_value s text ≡ Ok (contents (marked e.key)) → key_value s t ≡ Ok k
     → entry_place (contents (marked e.key)) (entries_marked es) ≡ None → cond (bytes_eq text t) (Some (length es)) (entry_place k (entries_marked es)) ≡ entry_place k (entries_marked (es ++ e ∷ []))
 place_more s es e text t k is_key utf8 utf8t reads reads_t new = by_text (bytes_eq text t) refl ∙ sym (place_behind es e k)

@@ -1,4 +1,4 @@
--- Data whose values or entries stand in a `Vec`.
+-- Data whose values or entries are in a `Vec`.
 use Rattle.std.proofs.Common.{◌≡◌, refl, ap, ◌∙◌}
 use Rattle.std.specs.Global.{Vec}
 use Rattle.bson_datum.specs.MarkedView.{marked, marked_items, marked_entries, text_piece}

@@ -35,7 +35,7 @@ one_at true o v d vs r i others e = let first : 0 ≡ i = cc in ap (λ n. Ok (ge
 one_at false (Some j) v d vs r i others e = let behind : suc j ≡ i = cc in others j refl ∙ ap (λ n. Ok (get_or (v ∷ vs) n d)) behind
 one_at false None v d vs r i others e = absurd cc
 
--- it stands at the place of the name
+-- it is at the place of the name
 pub named_at : (vs : List VariantShape) (name : Utf8) (i : ℕ) (d : VariantShape) → place_of (map named vs) name ≡ Some i → variant_named vs name ≡ Ok (get_or vs i d)
 named_at [] name i d e = absurd cc
 named_at (v ∷ vs) name i d e = one_at (bytes_eq (named v) name) (place_of (map named vs) name) v d vs (variant_named vs name) i (λ j f. named_at vs name j d f) e

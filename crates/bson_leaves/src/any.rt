@@ -30,7 +30,7 @@ pub(crate) fn any_leaf<'de>(alloc: Global, value: &Met<'de>) -> Reading<Datum<'d
     read_any(alloc, value)
 }
 
-/// A value without a shape. What stands in the input has functions of its own, which go from element to element: most values do.
+/// A value without a shape. What is in the input has functions of its own, which go from element to element: most values do.
 #[cycle(any)]
 #[inline(never)]
 fn read_any<'de>(alloc: Global, value: &Met<'de>) -> Reading<Datum<'de>>
@@ -86,7 +86,7 @@ fn any_items<'de>(alloc: Global, mut elements: Items<'de>) -> Reading<Vec<Datum<
     Ok(items)
 }
 
-/// The entries of a document, or of the document that a value is opened to. Their keys are borrowed where they stand in the input.
+/// The entries of a document, or of the document that a value is opened to. Their keys are borrowed where they are in the input.
 #[cycle(any)]
 #[inline(never)]
 fn any_entries<'de>(alloc: Global, mut elements: Elements<'de>) -> Reading<Vec<Entry<'de>>>

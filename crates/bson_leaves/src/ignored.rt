@@ -8,7 +8,7 @@ ghost use Rattle.bson_met.specs.OpenedView.{extended_view};
 use bson_met::{Elements, Extended, Items, Met, Reading, Scalar, Value};
 use std::alloc::Global;
 
-/// The key at which a refusal stands that comes from a scope.
+/// The key of a refusal that comes from a scope.
 const SCOPE_KEY: &str = "$scope";
 
 /// Walks a value to its end, each value in it too, and drops it.

@@ -14,12 +14,12 @@ use std::alloc::{AllocError, Global};
 pub struct MetBytes<'de> {
     /// The bytes.
     pub bytes: &'de [u8],
-    /// Whether they stand in the input, so that they can be borrowed.
+    /// Whether they are in the input, so that they can be borrowed.
     pub in_input: bool,
 }
 
 impl<'de> MetBytes<'de> {
-    /// The bytes, borrowed where they stand in the input.
+    /// The bytes, borrowed where they are in the input.
     #[inline(always)]
     pub fn to_byte_str(self, alloc: Global) -> Result<ByteStr<'de>, AllocError>
         ensures piece { IfOk result (λ b. bytes_piece b ≡ met_bytes self.entry) }

@@ -122,7 +122,7 @@ impl<'de> Elements<'de> {
         }
     }
 
-    /// A step that stands before the first element. There are fewer elements than 2 ^ 64.
+    /// A step that is before the first element. There are fewer elements than 2 ^ 64.
     #[inline(always)]
     pub fn start(&self) -> Step<'de>
         ensures few { count self.now < 2 ^ 64 }

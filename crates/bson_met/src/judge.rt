@@ -241,7 +241,7 @@ fn input_bytes<'de>(bytes: &'de [u8]) -> MetBytes<'de>
     }
 }
 
-/// Bytes that do not stand in the input.
+/// Bytes that are not in the input.
 fn own_bytes<'de>(bytes: &'de [u8]) -> MetBytes<'de>
     ensures piece { met_bytes result ≡ made bytes.now }
     ensures bytes { result.bytes.now ≡ bytes.now }

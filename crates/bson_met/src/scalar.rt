@@ -28,7 +28,7 @@ pub enum Scalar<'de> {
     Int32(i32),
     /// A signed number of 64 bits.
     Int64(i64),
-    /// Something else, or a value that does not stand in the input.
+    /// Something else, or a value that is not in the input.
     Other,
 }
 

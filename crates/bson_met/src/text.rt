@@ -15,12 +15,12 @@ use bson_base::{BinarySubtype, DateTime, ObjectId};
 use bson_datum::{Cause, Text};
 use std::alloc::{AllocError, Global};
 
-/// A text that stands somewhere whole, as a key does.
+/// A text that is whole somewhere, as a key is.
 #[derive(Clone, Copy)]
 pub struct MetStr<'de> {
     /// The text.
     pub text: &'de str,
-    /// Whether it stands in the input, so that it can be borrowed.
+    /// Whether it is in the input, so that it can be borrowed.
     pub in_input: bool,
 }
 
@@ -36,7 +36,7 @@ impl<'de> MetStr<'de> {
         }
     }
 
-    /// A text that does not stand in the input.
+    /// A text that is not in the input.
     #[inline(always)]
     pub(crate) fn elsewhere(text: &'de str) -> MetStr<'de>
         ensures piece { str_piece result ≡ made text.now }
@@ -47,7 +47,7 @@ impl<'de> MetStr<'de> {
         }
     }
 
-    /// The text, borrowed where it stands in the input.
+    /// The text, borrowed where it is in the input.
     #[inline(always)]
     pub fn to_text(self, alloc: Global) -> Result<Text<'de>, AllocError>
         ensures piece { IfOk result (λ t. text_piece t ≡ str_piece self.entry) }
@@ -73,7 +73,7 @@ impl<'de> MetStr<'de> {
 /// A text that a reader meets as a value.
 #[derive(Clone, Copy)]
 pub enum MetText<'de> {
-    /// It stands somewhere whole.
+    /// It is whole somewhere.
     Whole(MetStr<'de>),
     /// The hexadecimal digits of these bytes.
     Digits(MetBytes<'de>),
@@ -88,7 +88,7 @@ pub enum MetText<'de> {
 }
 
 impl<'de> MetText<'de> {
-    /// The text, borrowed from the input where it stands there. A text that no bytes hold is made.
+    /// The text, borrowed from the input where it is there. A text that no bytes hold is made.
     #[inline(always)]
     pub fn to_text(self, alloc: Global) -> Result<Text<'de>, AllocError>
         ensures piece { IfOk result (λ t. text_piece t ≡ met_text self.entry) }

@@ -64,7 +64,7 @@ front_take b bs p m (Some q) again e =
     let is = cut_is (suc b ∷ q.0, q.1) p e in
     rw (sym is) (let n : suc (length q.0) + 1 + m ≡ suc (length q.0 + 1 + m) = omega arith in rw n (ap (in_front (suc b)) (again q refl)))
 
--- what stands behind the zero may be cut short
+-- what is behind the zero may be cut short
 pub cut_take : (bs : Bytes) (p : Bytes × Bytes) (m : ℕ) → cut_at_zero bs ≡ Some p → cut_at_zero (take (length p.0 + 1 + m) bs) ≡ Some (p.0, take m p.1)
 cut_take [] p m e = absurd cc
 cut_take (zero ∷ bs) p m e = let is = cut_is ([], bs) p e in rw (sym is) (let n : 0 + 1 + m ≡ suc m = omega arith in rw n refl)

@@ -19,6 +19,6 @@ envelope bytes =
     else if not (is_closed bytes) then Err NoTerminator
     else Ok bytes
 
--- what stands between the length and the last byte
+-- what is between the length and the last byte
 unfoldable pub inside : Bytes → Bytes
 inside bytes = take (length bytes - 5) (drop 4 bytes)

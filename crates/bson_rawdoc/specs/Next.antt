@@ -11,7 +11,7 @@ IsNext old None new = (old ≡ ended) × (new ≡ ended)
 IsNext old (Some (Err e)) new = (old ≡ faulty e) × (new ≡ ended)
 IsNext old (Some (Ok e)) new = old ≡ then_walk e new
 
--- the same, for the bytes that elements stand in
+-- the same, for the bytes that elements are in
 abbrev pub IsStep : Bytes → Option (Result (Element × Bor Bytes) Error) → Type 0
 IsStep bytes None = walk_elements bytes ≡ ended
 IsStep bytes (Some (Err e)) = walk_elements bytes ≡ faulty e

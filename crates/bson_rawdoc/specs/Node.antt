@@ -268,7 +268,7 @@ value_node inner raw.min_key = opens min_key
 
 -- ---- values of a finished tree
 
--- a text or byte string of a finished tree, which stands in the input or not
+-- a text or byte string of a finished tree, which is in the input or not
 abbrev pub piece : Bool → Bytes → Piece
 piece in_input b = record { bytes = b; in_input = in_input }
 

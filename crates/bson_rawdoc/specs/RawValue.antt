@@ -74,7 +74,7 @@ closed_in bytes = if is_closed bytes then Ok bytes else Err ValueUnclosed
 abbrev pub boolean_of : ℕ → Result Bool Error
 boolean_of b = if eqb b 0 then Ok false else if eqb b 1 then Ok true else Err (BadBoolean b)
 
--- the bytes of the old subtype 2: a second length stands before them, which the first one counts too
+-- the bytes of the old subtype 2: a second length is before them, which the first one counts too
 abbrev pub old_binary_in : Bytes → Result Bytes Error
 old_binary_in counted =
     if nat_lt (length counted) 4 then Err InnerLength

@@ -10,7 +10,7 @@ use crate::reading::{int32_in, is_closed};
 
 /// The bytes of one document, which pass the test of their envelope.
 ///
-/// It borrows the bytes that it was made from. What stands inside is looked at when it is asked for.
+/// It borrows the bytes that it was made from. What is inside is looked at when it is asked for.
 #[derive(Clone, Copy, Debug)]
 pub struct RawDocument<'a> {
     bytes: &'a [u8],

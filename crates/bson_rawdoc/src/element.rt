@@ -85,7 +85,7 @@ impl<'a> RawElement<'a> {
     /// - Of a text, a code, a symbol and a DbPointer: `TextUnclosed` where the text's last byte is not zero, then `NotUtf8`
     ///   where it is not UTF-8.
     /// - Of a document and an array: `ValueUnclosed` where the last byte is not zero.
-    /// - Of a binary of subtype 2: `InnerLength` where no second length stands before its bytes, or one that is not their count.
+    /// - Of a binary of subtype 2: `InnerLength` where no second length is before its bytes, or one that is not their count.
     /// - Of a boolean: `BadBoolean` where its byte is neither 0 nor 1.
     /// - Of a regular expression: `NotUtf8` where its pattern or its options are not UTF-8.
     /// - Of a code with scope: `ScopeTotal` where the code's length is under 1 or leaves the scope less than five bytes, or the
@@ -110,7 +110,7 @@ impl<'a> RawElement<'a> {
     }
 }
 
-// The value of a kind that JSON lacks. It stands apart so that those of JSON's kinds pay for none of its locals.
+// The value of a kind that JSON lacks. It is separate so that those of JSON's kinds pay for none of its locals.
 #[inline(never)]
 fn value_beyond_json(kind: ElementType, bytes: &[u8]) -> Result<RawBsonRef<'_>, Error>
     requires other { is_of_json kind ≡ false }

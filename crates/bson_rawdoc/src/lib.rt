@@ -1,4 +1,4 @@
-//! Documents as they stand in their bytes: the test of their envelope, their elements and values, without a copy.
+//! Documents as they are in their bytes: the test of their envelope, their elements and values, without a copy.
 #![tactic(auto)]
 
 mod array;

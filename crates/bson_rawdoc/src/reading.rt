@@ -54,7 +54,7 @@ pub(crate) fn is_closed(bytes: &[u8]) -> bool
     }
 }
 
-// What stands between the first four bytes and the last.
+// What is between the first four bytes and the last.
 #[tactic(auto, unfolding(crate::specs::Envelope::inside))]
 pub(crate) fn inside(bytes: &[u8]) -> &[u8]
     requires { 5 ≤ length bytes.now }
@@ -63,7 +63,7 @@ pub(crate) fn inside(bytes: &[u8]) -> &[u8]
     &bytes[4..bytes.len() - 1]
 }
 
-// What stands before the first zero byte, and behind it.
+// What is before the first zero byte, and behind it.
 pub(crate) fn cut_at_zero(bytes: &[u8]) -> Option<(&[u8], &[u8])>
     ensures cut { option_map (λ p. (p.0.now, p.1.now)) result ≡ extents.cut_at_zero bytes.now }
     ensures parts { IfSome result (λ p. length p.0.now + 1 + length p.1.now ≡ length bytes.now) }

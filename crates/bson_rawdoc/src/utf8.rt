@@ -1,4 +1,4 @@
-// Texts and keys among bytes. Most are short and ASCII, so that is tested first; the test for other characters stands apart.
+// Texts and keys among bytes. Most are short and ASCII, so that is tested first; the test for other characters is separate.
 ghost use Rattle.std.specs.Prelude.{◌≡◌, ◌+◌, ◌<◌, ℕ, Some, Err, length, take, drop, IsTrue, IfOk, IfErr};
 ghost use Rattle.std.specs.Str.{IsAscii, IsUtf8, is_utf8};
 ghost use Rattle.bson_rawdoc.specs.Extent.{cut_at_zero};

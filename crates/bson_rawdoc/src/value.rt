@@ -6,7 +6,7 @@ use crate::array::RawArray;
 use crate::document::RawDocument;
 use bson_base::{BinarySubtype, DateTime, Decimal128, Double, ElementType, ObjectId, Timestamp};
 
-/// A value as it stands in the bytes of its document.
+/// A value as it is in the bytes of its document.
 #[derive(Clone, Copy, Debug)]
 pub enum RawBsonRef<'a> {
     /// A floating point number of 64 bits.
@@ -25,7 +25,7 @@ pub enum RawBsonRef<'a> {
     RegularExpression {
         /// The pattern.
         pattern: &'a str,
-        /// The options, as they stand.
+        /// The options, as they are.
         options: &'a str,
     },
     /// JavaScript code, borrowed from the document.
@@ -47,7 +47,7 @@ pub enum RawBsonRef<'a> {
     Binary {
         /// What the bytes are.
         subtype: BinarySubtype,
-        /// The bytes. Those of subtype 2 stand behind its second length.
+        /// The bytes. Those of subtype 2 are behind its second length.
         bytes: &'a [u8],
     },
     /// Twelve bytes that name a document.

@@ -49,7 +49,7 @@ pub record IsAnswered (r : Run Status) : Type 0 where
   pub usage : r.status ≡ statuses.Usage → Told (IsDue r.words r.input) r
   pub read_refused : r.status ≡ statuses.ReadRefused → Told (IsDue r.words r.input) r
   pub write_refused : r.status ≡ statuses.WriteRefused → Told (IsDue r.words r.input) r
-  -- a fault only where a count rose, or for a sink stands at its last value
+  -- a fault only where a count rose, or for a sink is at its last value
   pub source_fault : r.status ≡ statuses.SourceFault → Told (IsDue r.words r.input) r
   pub sink_fault : r.status ≡ statuses.SinkFault → CutShort (IsDue r.words r.input) r
   pub no_memory : r.status ≡ statuses.NoMemory → Silent r

@@ -16,7 +16,7 @@ pub record Run (Status : Type 0) : Type 0 where
 abbrev pub run_of : {Status : Type 0} → List Utf8 → SourceChange → SinkChange → SinkChange → Status → Run Status
 run_of words input out err status = record { words = words; input = input; out = out; err = err; status = status }
 
--- No count rose, and no sink's count stands at its last value.
+-- No count rose, and no sink's count is at its last value.
 pub record AllQuiet {Status : Type 0} (r : Run Status) : Type 0 where
   pub source : r.input.faults_after ≡ r.input.faults_before
   pub out : r.out.faults_after ≡ r.out.faults_before
@@ -37,7 +37,7 @@ pub record Told {Status : Type 0} (IsDue : Status → (out lines : Bytes) → Ty
   pub out_grew : Appends r.out.before r.out.after bytes
   pub err_grew : Appends r.err.before r.err.after line
 
--- Some status was due; a sink's count rose or stands at its last value; each sink grew by a first part of what was due; and
+-- Some status was due; a sink's count rose or is at its last value; each sink grew by a first part of what was due; and
 -- there was not room for all of it that a sink told of.
 pub record CutShort {Status : Type 0} (IsDue : Status → (out lines : Bytes) → Type 0) (r : Run Status) : Type 0 where
   pub status : Status

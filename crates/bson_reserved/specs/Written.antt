@@ -12,7 +12,7 @@ use Rattle.bson_datum.specs.Refusal.{WriteFault, unwritable, invalid_cstring, Re
 abbrev pub Writing : Type 0 → Type 0
 Writing A = Result A (Refusal WriteFault)
 
--- a binary, which has no more bytes than one of its subtype may; a refusal tells how many bytes would stand behind the subtype
+-- a binary, which has no more bytes than one of its subtype may; a refusal tells how many bytes would be behind the subtype
 abbrev pub spell_binary : (subtype : ℕ) → Bytes → Writing Tree
 spell_binary subtype bs = if nat_lt (max_binary subtype) (length bs) then Err (here (unwritable (binary_too_long (length (behind_subtype subtype bs))))) else Ok (binary subtype bs)
 

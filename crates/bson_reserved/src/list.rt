@@ -19,7 +19,7 @@ pub(crate) enum Part<'a, 'b> {
     Value(&'a Datum<'b>),
 }
 
-// What stands where a list has room left.
+// What is where a list has room left.
 impl<'a, 'b> Default for Part<'a, 'b> {
     fn default() -> Part<'a, 'b> {
         Part::Key("")

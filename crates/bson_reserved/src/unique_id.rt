@@ -16,7 +16,7 @@ pub enum UuidBytes<'a> {
     Bytes(&'a [u8]),
 }
 
-/// The bytes that the newtype of a UUID holds, where `value` is what stands in it: the bytes of a byte string, or in the readable form those that a
+/// The bytes that the newtype of a UUID holds, where `value` is what is in it: the bytes of a byte string, or in the readable form those that a
 /// text stands for; some value, newtypes of no reserved name and values with two forms may be around them. `None` where it holds none.
 ///
 /// Source: the newtype names of MongoDB's crate `bson`, version 2, and serde's `is_human_readable`.

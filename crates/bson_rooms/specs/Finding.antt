@@ -9,7 +9,7 @@ use Rattle.bson_rooms.specs.declared.finding.Found.TheVariants.{Document, End, B
 abbrev pub left_at : (file : Bytes) → (place : ℕ) → Cut
 left_at file place = cut_from place (drop place file)
 
--- At the place a document of so many bytes stands, which is the first of what is left; behind it what is left goes on.
+-- At the place there is a document of so many bytes, the first of what is left; behind it what is left goes on.
 pub record IsDocument (file : Bytes) (place size : ℕ) : Type 0 where
   pub least : 5 ≤ size
   pub within : place + size ≤ length file

@@ -29,7 +29,7 @@ call_of a room_before room_after text_before text_after = record {
   text = record { before = text_before; after = text_after };
 }
 
--- The output fits in its room and stands at the front of it; the bytes behind it are as they were.
+-- The output fits in its room and is at the front of it; the bytes behind it are as they were.
 pub record Writes (c : Call) (output : Bytes) : Type 0 where
   pub fits : length output ≤ length c.room.before
   pub put : c.room.after ≡ output ++ drop (length output) c.room.before
@@ -43,7 +43,7 @@ pub record LacksRoom (c : Call) (output : Bytes) : Type 0 where
   pub written : c.written ≡ 0
   pub needed : c.needed ≡ length output
 
--- As many first bytes of what is said as fit stand at the front of the room for the text; the bytes behind them are as they were.
+-- As many first bytes of what is said as fit are at the front of the room for the text; the bytes behind them are as they were.
 pub record Tells (c : Call) (said : Utf8) : Type 0 where
   pub put : c.text.after ≡ take (length c.text.before) said ++ drop (length said) c.text.before
   pub written : c.text_written ≡ min (length said) (length c.text.before)

@@ -3,7 +3,7 @@ ghost use Rattle.bson_rooms.specs.Finding.{IsFound};
 
 use bson_rawdoc::RawDocuments;
 
-/// What stands at a place of a file of documents.
+/// What is at a place of a file of documents.
 #[derive(Clone, Copy, Debug, PartialEq, Eq)]
 pub enum Found {
     /// A document of so many bytes.

@@ -1,4 +1,4 @@
--- A datum whose values, entries or fields stand in a `Vec` is written as the value that it is.
+-- A datum whose values, entries or fields are in a `Vec` is written as the value that it is.
 use Rattle.std.proofs.Common.{◌≡◌, ℕ, ◌+◌, ◌⊎◌, inl, inr, List, [], Bool, true, false, cond, Option, Some, None, Result, refl, ap, sym, subst, ◌∙◌}
 use Rattle.std.specs.Str.{bytes_eq}
 use Rattle.std.specs.Global.{Vec}
@@ -36,7 +36,7 @@ module _ (readable : Bool) (levels : ℕ) (old new : Output) (before now : ℕ) 
   abbrev pub PutsNewtype : Utf8 → Value → Type 0
   PutsNewtype name v = puts_either name v (bytes_eq name uuid_newtype)
 
-  -- a datum that is the value of a list that stands in its `Vec`
+  -- a datum that is the value of a list that is in its `Vec`
   pub puts_as : {X : Type 0} (d e : Datum) (f : List X → Value) (xs ys : List X) → d ≡ e → xs ≡ ys → view e ≡ f ys → PutsValue (f xs) → PutsValue (view d)
   puts_as d e f xs ys is same seen h = subst PutsValue (ap f same ∙ sym (ap view is ∙ seen)) h
 

@@ -80,7 +80,7 @@ length-behind subtype bs = by (eqb subtype 2)
     by true = omega (arith, length-append (le32 (length bs)) bs, length-le32 (length bs))
     by false = refl
 
--- bytes are judged by how many stand behind the subtype
+-- bytes are judged by how many are behind the subtype
 judged : (subtype n : ℕ) → ltb (max_binary subtype) n ≡ ltb 16777216 (behind_length subtype n)
 judged subtype n = by (eqb subtype 2)
   where

@@ -4,7 +4,7 @@ use Rattle.bson_base.specs.Text.{Bytes}
 use Rattle.bson_base.specs.Tree.{le32}
 use Rattle.bson_io.specs.Output.{Output}
 
--- how many bytes stand behind the subtype of a binary of n bytes: in the old subtype 2 a second length stands before them
+-- how many bytes are behind the subtype of a binary of n bytes: in the old subtype 2 a second length is before them
 abbrev pub behind_length : (subtype : ℕ) → ℕ → ℕ
 behind_length subtype n = if nat_eq subtype 2 then n + 4 else n
 
@@ -12,7 +12,7 @@ behind_length subtype n = if nat_eq subtype 2 then n + 4 else n
 abbrev pub second_length : (subtype : ℕ) → ℕ → Bytes
 second_length subtype n = if nat_eq subtype 2 then le32 n else []
 
--- what stands before the bytes of a binary of n bytes: the length of what stands behind its subtype, the subtype, and the second length
+-- what is before the bytes of a binary of n bytes: the length of what is behind its subtype, the subtype, and the second length
 abbrev pub binary_front : (subtype : ℕ) → ℕ → Bytes
 binary_front subtype n = le32 (behind_length subtype n) ++ (subtype ∷ second_length subtype n)
 

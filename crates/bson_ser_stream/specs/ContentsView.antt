@@ -1,4 +1,4 @@
--- The value that stands under a key. Source: serde's data model.
+-- The value that is under a key. Source: serde's data model.
 use Rattle.std.specs.Prelude.{[]}
 use Rattle.bson_datum.specs.Value.{Value, tuple, structure}
 use Rattle.bson_datum.specs.View.{view, items_view, fields_view}

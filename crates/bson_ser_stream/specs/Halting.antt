@@ -75,7 +75,7 @@ pub record PutsParts (size : ℕ) (due : Writing Bytes) (old new : Output) (befo
   pub bytes : Gives size old.spare (λ _. new.bytes) result due
   pub grows : Grows old new before now
 
--- A document or an array that begins at a place is ended: a zero stands behind it, and its length in its first four bytes.
+-- A document or an array that begins at a place is ended: a zero is behind it, and its length in its first four bytes.
 pub record Ends (old new : Output) (start before now : ℕ) : Type 0 where
   pub bytes : new.bytes ≡ patched (old.bytes ++ 0 ∷ []) start (le32 (length old.bytes + 1 - start))
   pub fits : length old.bytes + 1 - start ≤ max_bytes

@@ -27,7 +27,7 @@ front key = 0 ∷ (key ++ 0 ∷ [])
 abbrev pub with_element : Bytes → Utf8 → Writing Tree → Writing Bytes
 with_element old key = with_bytes (λ t. element (kind t) key (enc t)) old
 
--- the bytes so far, with the element of an entry behind them: its key is judged before its value, which stands under it
+-- the bytes so far, with the element of an entry behind them: its key is judged before its value, which is under it
 abbrev pub with_entry : Bytes → Writing Utf8 → Writing Tree → Writing Bytes
 with_entry old key r = key >>= λ k. with_element old k (under k r)
 
@@ -43,7 +43,7 @@ with_array_elements old i = with_bytes (array_elements i) old
 abbrev pub length_place : Bytes
 length_place = 0 ∷ 0 ∷ 0 ∷ 0 ∷ []
 
--- how many levels are left for what stands in a document or an array, which takes one of those that are left
+-- how many levels are left for what is in a document or an array, which takes one of those that are left
 abbrev pub level_inside : ℕ → Writing ℕ
 level_inside zero = Err (here (unwritable too_deep))
 level_inside (suc levels) = Ok levels

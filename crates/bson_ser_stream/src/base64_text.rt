@@ -27,7 +27,7 @@ impl From<AllocError> for Base64Fault {
     }
 }
 
-/// Appends the bytes of a base64 text, at one step each. Where as many are spare it takes no memory. After an error some of them may stand there.
+/// Appends the bytes of a base64 text, at one step each. Where as many are spare it takes no memory. After an error some of them may be there.
 ///
 /// Source: RFC 4648, section 4.
 pub(crate) fn push_base64<L: Ledger>(

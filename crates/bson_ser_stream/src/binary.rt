@@ -18,16 +18,16 @@ use std::alloc::{AllocError, Global};
 // The most bytes behind the subtype of a binary.
 const MAX_BINARY: usize = 16777216;
 
-// The old subtype of bytes without a further meaning, in which a second length stands before them.
+// The old subtype of bytes without a further meaning, in which a second length is before them.
 const OLD_GENERIC: u8 = 2;
 
 // The bytes of a length.
 const LENGTH_BYTES: usize = 4;
 
-// Where the second length of the old subtype stands in a binary: behind the first and the subtype.
+// Where the second length of the old subtype is in a binary: behind the first and the subtype.
 const SECOND_LENGTH: usize = 5;
 
-// How many bytes stand behind the subtype of a binary of so many bytes.
+// How many bytes are behind the subtype of a binary of so many bytes.
 #[inline(always)]
 fn behind_length(subtype: BinarySubtype, count: usize) -> usize
     requires { count < 2 ^ 63 }
@@ -40,7 +40,7 @@ fn behind_length(subtype: BinarySubtype, count: usize) -> usize
     }
 }
 
-// Appends what stands before the bytes of a binary of so many bytes.
+// Appends what is before the bytes of a binary of so many bytes.
 #[inline(always)]
 fn push_front<L: Ledger>(
     out: &mut Out,
@@ -113,7 +113,7 @@ fn base64_halt(alloc: Global, fault: Base64Fault) -> Halt
 }
 
 /// Appends the bytes of a base64 text, with a subtype. A text that is not base64, and more bytes than a binary may have, are
-/// refused; then some bytes may stand there.
+/// refused; then some bytes may be there.
 pub(crate) fn put_base64<L: Ledger>(
     out: &mut Out,
     steps: &mut Steps<L>,

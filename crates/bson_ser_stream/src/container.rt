@@ -15,7 +15,7 @@ pub(crate) const MAX_BYTES: usize = 2147483647;
 #[derive(Drop)]
 pub(crate) struct Container {
     start: usize,
-    /// How many levels are left for what stands in it.
+    /// How many levels are left for what is in it.
     pub(crate) levels: u32,
 }
 

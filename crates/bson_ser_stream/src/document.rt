@@ -46,7 +46,7 @@ fn put_whole<L: Ledger>(
 /// A struct is a document of its fields, in order. A map is a document of its entries, in order, whose keys are texts: a `Str`,
 /// the name of a `UnitVariant`, or what a `Some` or a `NewtypeStruct` of any name holds. A sequence, a tuple and a tuple struct
 /// are an array of their values, in order, whose keys are their indexes from 0 in decimal digits. A variant with contents is a
-/// document of one pair: under the name of the variant stands the value of a `NewtypeVariant`, an array of the values of a
+/// document of one pair: under the name of the variant is the value of a `NewtypeVariant`, an array of the values of a
 /// `TupleVariant`, or a document of the fields of a `StructVariant`. `Bool` is a boolean, `I8`, `I16`, `I32`, `U8` and `U16` are
 /// an int32, `I64`, `U32` and `U64` an int64, `Double` is a double, `Str`, `Char` and the name of a `UnitVariant` are a string,
 /// and `Bytes` is a binary of subtype 0 (bsonspec.org, version 1.1). `None`, `Unit` and `UnitStruct` are null. `Some` and
@@ -64,13 +64,13 @@ fn put_whole<L: Ledger>(
 /// the bytes that it had.
 ///
 /// - `SerializationError` with `TopLevel`: the datum is written as a value of this kind, which is no document.
-/// - `SerializationError` with `TooDeep`: a document or an array stands at level 201. The whole document is at level 1. What a
+/// - `SerializationError` with `TooDeep`: a document or an array is at level 201. The whole document is at level 1. What a
 ///   `TupleVariant` or a `StructVariant` holds is one level further in than the document of its name.
 /// - `SerializationError` with `BadStep`: the fields of a struct whose name is reserved are not accepted, or the text of its binary
 ///   is not base64. The path is that of the struct.
 /// - `SerializationError` with `BadUuid`: the newtype `$__bson_private_uuid` holds no UUID: bytes, or in a readable form a text of
 ///   one.
-/// - `SerializationError` with `BinaryTooLong`: so many bytes would stand behind the subtype of a binary, and at most 16777216 may;
+/// - `SerializationError` with `BinaryTooLong`: so many bytes would be behind the subtype of a binary, and at most 16777216 may;
 ///   in subtype 2 they begin with a second length of four.
 /// - `UnsignedIntegerExceededRange`: a `U64` is greater than 9223372036854775807, the greatest that an int64 holds.
 /// - `InvalidDocumentKey`: a key of a map is no text. It carries a scalar as it would be written, null for `None`, `Unit`, a

@@ -14,7 +14,7 @@ use std::alloc::{AllocError, Global};
 // The byte that holds the place of a kind until the value was written.
 const KIND_PLACE: u8 = 0;
 
-/// Whether a zero character stands in the text.
+/// Whether a zero character is in the text.
 pub(crate) fn has_zero(text: &str) -> bool
     ensures { result ≡ has_zero text.now }
 {

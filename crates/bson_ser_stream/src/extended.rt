@@ -114,7 +114,7 @@ pub(crate) fn put_db_pointer<L: Ledger>(
 }
 
 /// Appends a regular expression: its pattern and its options, closed by a zero each, with the characters of the options in order.
-/// One in which a zero stands, or that has more bytes than a document may, is refused before anything is written.
+/// One with a zero in it, or that has more bytes than a document may, is refused before anything is written.
 pub(crate) fn put_regular_expression<L: Ledger>(
     out: &mut Out,
     steps: &mut Steps<L>,

@@ -1,4 +1,4 @@
-// Values in which no other value stands.
+// Values without other values in them.
 ghost use Rattle.std.specs.Prelude.{◌≤◌, ◌+◌, ◌++◌, length, encode_utf8, pos, IsOk, OnOk, Ok};
 ghost use Rattle.bson_base.specs.Sound.{max_bytes};
 ghost use Rattle.bson_base.specs.Tree.{boolean, double, string, int32, int64, closed_text};

@@ -29,7 +29,7 @@ use bson_datum::{Cause, Datum, Entry, Field, Text};
 use bson_io::{Ledger, Out, Steps};
 use bson_reserved::scoped_code;
 
-// What stands under a key: a value, or what a variant holds that is no datum of its own.
+// What is under a key: a value, or what a variant holds that is no datum of its own.
 #[derive(Clone, Copy)]
 enum Contents<'a, 'b> {
     Value(&'a Datum<'b>),
@@ -417,7 +417,7 @@ fn put_entry<L: Ledger>(
     )
 }
 
-// The element of what stands under a key. A refusal is seen from the document.
+// The element of what is under a key. A refusal is seen from the document.
 #[cycle(put)]
 #[inline(always)]
 fn put_under_key<L: Ledger>(
@@ -460,7 +460,7 @@ fn put_item<L: Ledger>(
     }
 }
 
-// An element: its key and what stands under it, whose kind is known behind it. A refusal is seen from the value.
+// An element: its key and what is under it, whose kind is known behind it. A refusal is seen from the value.
 #[cycle(put)]
 #[inline(always)]
 fn put_element<L: Ledger>(
@@ -482,7 +482,7 @@ fn put_element<L: Ledger>(
     Ok(())
 }
 
-// What stands under a key, and the kind that it is written as.
+// What is under a key, and the kind that it is written as.
 #[cycle(put)]
 fn put_contents<L: Ledger>(
     out: &mut Out,

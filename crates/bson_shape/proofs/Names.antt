@@ -54,7 +54,7 @@ module _ {X : Type 0} (named : X → Utf8) where
   names_apart : (xs : List X) (i : ℕ) → map named xs ≡ map named (take i xs) ++ map named (drop i xs)
   names_apart xs i = ap (map named) (sym (take-append-drop i xs)) ∙ map-append named (take i xs) (drop i xs)
 
-  -- what stands among the first names stands among all
+  -- what is among the first names is among all
   has_name_early : (name : Utf8) (xs : List X) (i : ℕ) → has_name name (map named (take i xs)) ≡ true → has_name name (map named xs) ≡ true
   has_name_early name xs i e = ap (has_name name) (names_apart xs i) ∙ list_any-append (bytes_eq name) (map named (take i xs)) (map named (drop i xs)) ∙ or_left _ _ e
 
@@ -77,7 +77,7 @@ module _ {X : Type 0} (named : X → Utf8) where
   pub has_name_missed : (name : Utf8) (xs : List X) (i : ℕ) (x : X) → i < length xs → x ≡ get_or xs i x → has_name name (map named (take i xs)) ≡ false → bytes_eq name (named x) ≡ false → has_name name (map named (take (i + 1) xs)) ≡ false
   has_name_missed name xs i x h e before other = has_name_more name xs i x h e ∙ or_from _ _ before other
 
-  -- it comes to a name that stands before, or to another
+  -- it comes to a name that is before, or to another
   pub repeat_found : (xs : List X) (i : ℕ) (x : X) → i < length xs → x ≡ get_or xs i x → has_name (named x) (map named (take i xs)) ≡ true → has_repeat (map named xs) ≡ true
   repeat_found xs i x h e before = has_repeat_early xs (i + 1) (has_repeat_more xs i x h e ∙ or_right _ _ before)
 

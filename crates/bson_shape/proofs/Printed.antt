@@ -83,7 +83,7 @@ pub variants_shown : (vs : List VariantShape) → map variant_shown vs ≡ varia
 variants_shown [] = refl
 variants_shown (v ∷ vs) = ap (λ xs. variant_shown v ∷ xs) (variants_shown vs)
 
--- a comma where one is due, what stands before the form, and the form
+-- a comma where one is due, what is before the form, and the form
 pub field_printed : (out next last comma name t : Utf8) → next ≡ out ++ (comma ++ (name ++ 58 ∷ [])) → last ≡ next ++ t → last ≡ out ++ (comma ++ (name ++ 58 ∷ t))
 field_printed out next last comma name t named ended = ended ∙ ap (λ y. y ++ t) named ∙ regrouped
   where

@@ -17,7 +17,7 @@ enum_text e = 60 ∷ listed (variant_texts e.variants)
 abbrev pub variant_text : OpenEnum → Utf8 → Utf8
 variant_text e n = (enum_text e ++ sep (variant_texts e.variants)) ++ name_text n
 
--- what stands before a brace
+-- what is before a brace
 abbrev pub braces_text : Braces → Utf8
 braces_text (Struct_at place n) = struct_name_text n
 braces_text (Struct_variant e n) = variant_text e n
@@ -25,7 +25,7 @@ braces_text (Struct_variant e n) = variant_text e n
 abbrev pub open_text : Open → Utf8
 open_text o = braces_text o.holder ++ 123 ∷ listed (field_texts o.fields)
 
--- what stands before a parenthesis
+-- what is before a parenthesis
 abbrev pub parens_text : Parens → Utf8
 parens_text (Tuple_at place) = []
 parens_text (Tuple_struct_at place n) = name_text n
@@ -34,7 +34,7 @@ parens_text (Tuple_variant e n) = variant_text e n
 abbrev pub tuple_text : OpenTuple → Utf8
 tuple_text o = parens_text o.holder ++ 40 ∷ listed (part_texts o.parts)
 
--- what stands before the name
+-- what is before the name
 abbrev pub owner_text : Owner → Utf8
 owner_text (Form_at place) = []
 owner_text (Field_of o) = open_text o ++ sep (field_texts o.fields)

@@ -1,4 +1,4 @@
--- How many forms stand inside one another in a shape. Source: serde's data model.
+-- How many forms are inside one another in a shape. Source: serde's data model.
 use Rattle.std.specs.Prelude.{ℕ, suc, max}
 use Rattle.bson_shape.specs.Form.{Form, leaf, optional, sequence, map, tuple, tuple_structure, newtype, unit_structure, structure, enumeration, Fields, no_fields, field, Parts, no_parts, part, Variants, no_variants, variant, Content, unit_content, newtype_content, tuple_content, struct_content}
 

@@ -307,7 +307,7 @@ word_ended at (Variant_of e) name st b = named at (Variant_of e) name st b
 unfoldable pub bare_name : ℕ → Owner → Utf8 → List Level → ℕ → Result State Refusal
 bare_name at owner name st b = if in_bare b then Ok (Bare owner (name ++ b ∷ []), st) else word_ended at owner name st b
 
--- a closing quote: a bare name does not stand between quotes
+-- a closing quote: a bare name is not between quotes
 unfoldable pub name_closed : ℕ → Owner → Utf8 → List Level → Result State Refusal
 name_closed at owner name st = if bare name then Err (Not_notation at) else Ok (Named owner name, st)
 
@@ -346,7 +346,7 @@ abbrev pub no_more_behind : ℕ → Option Leaf → List Level → Result State 
 no_more_behind at None st = Err (Not_notation at)
 no_more_behind at (Some l) st = no_more at (leaf l) st
 
--- the bytes of a character that is not ASCII: it stands between quotes alone
+-- the bytes of a character that is not ASCII: it is between quotes alone
 unfoldable pub other_character : ℕ → Mode → List Level → Utf8 → Result State Refusal
 other_character at (Quoted owner name) st bytes = Ok (Quoted owner (name ++ bytes), st)
 other_character at (Bare (Form_at place) name) st bytes = no_more_behind at (of_word name) st

@@ -97,7 +97,7 @@ escaped (b ∷ bs) = if is_escaped b then backslash ∷ b ∷ escaped bs else b 
 abbrev pub quoted : Utf8 → Utf8
 quoted name = quote ∷ (escaped name ++ quote ∷ [])
 
--- a bare name stands as it is, every other one between quotes
+-- a bare name is as it is, every other one between quotes
 abbrev pub name_text : Utf8 → Utf8
 name_text name = if bare name then name else quoted name
 

@@ -3,8 +3,8 @@ use Rattle.std.specs.Prelude.{ℕ, ◌+◌, List, [], ◌∷◌, string_bytes}
 use Rattle.bson_shape.specs.Form.{Form, leaf, optional, sequence, map, tuple, tuple_structure, newtype, unit_structure, structure, enumeration, Fields, no_fields, field, Parts, no_parts, part, Variants, no_variants, variant, Content, unit_content, newtype_content, tuple_content, struct_content}
 use Rattle.bson_shape.specs.declared.shape.Node.{Node}
 use Rattle.bson_shape.specs.declared.shape.Node.TheVariants as node
-use Rattle.bson_shape.specs.declared.form.Form.{Form as Lent}
-use Rattle.bson_shape.specs.declared.form.Form.TheVariants as lent
+use Rattle.bson_shape.specs.declared.form.Form.{Form as BorrowedRows}
+use Rattle.bson_shape.specs.declared.form.Form.TheVariants as forms
 use Rattle.bson_shape.specs.declared.shape.FieldShape.{FieldShape}
 use Rattle.bson_shape.specs.declared.shape.VariantShape.{VariantShape}
 use Rattle.bson_shape.specs.declared.shape.VariantContent.{VariantContent}
@@ -40,17 +40,17 @@ node_view (node.UnitStruct name) = unit_structure (string_bytes name)
 node_view (node.Struct name fs) = structure (string_bytes name) (fields_of fs.items)
 node_view (node.Enum vs) = enumeration (variants_of vs.items)
 
-abbrev pub form_view : Lent → Form
-form_view (lent.Leaf l) = leaf l
-form_view (lent.Option inner) = optional inner.now
-form_view (lent.Seq item) = sequence item.now
-form_view (lent.Map key value) = map key.now value.now
-form_view (lent.Tuple items) = tuple (parts_of items.now)
-form_view (lent.TupleStruct name items) = tuple_structure name.now (parts_of items.now)
-form_view (lent.Newtype name inner) = newtype name.now inner.now
-form_view (lent.UnitStruct name) = unit_structure name.now
-form_view (lent.Struct name fs) = structure name.now (fields_of fs.now)
-form_view (lent.Enum vs) = enumeration (variants_of vs.now)
+abbrev pub form_view : BorrowedRows → Form
+form_view (forms.Leaf l) = leaf l
+form_view (forms.Option inner) = optional inner.now
+form_view (forms.Seq item) = sequence item.now
+form_view (forms.Map key value) = map key.now value.now
+form_view (forms.Tuple items) = tuple (parts_of items.now)
+form_view (forms.TupleStruct name items) = tuple_structure name.now (parts_of items.now)
+form_view (forms.Newtype name inner) = newtype name.now inner.now
+form_view (forms.UnitStruct name) = unit_structure name.now
+form_view (forms.Struct name fs) = structure name.now (fields_of fs.now)
+form_view (forms.Enum vs) = enumeration (variants_of vs.now)
 
 abbrev mutual
   -- how many forms, fields, parts and variants a form is made of

@@ -1,4 +1,4 @@
-// Which names stand in a notation as they are, and which no newtype may have.
+// Which names are in a notation as they are, and which no newtype may have.
 ghost use Rattle.std.specs.Prelude.{◌≡◌};
 ghost use Rattle.std.specs.List.{list_all};
 ghost use Rattle.bson_shape.specs.Notation as notation;

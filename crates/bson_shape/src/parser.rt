@@ -16,7 +16,7 @@ use crate::name::{begins_bare, in_bare, is_bare};
 use crate::{Leaf, ParseError, Shape, ShapeError, VariantContent};
 use std::alloc::{AllocError, Global};
 
-/// The most forms that may stand around a form.
+/// The most forms that may be around a form.
 const MAX_AROUND: usize = 512;
 
 /// Appends an ASCII character.

@@ -32,7 +32,7 @@ fn put_escaped_character(out: &mut String, c: char) -> Result<(), AllocError>
     Ok(())
 }
 
-/// Appends a name: a bare one as it stands, every other one between quotes.
+/// Appends a name: a bare one as it is, every other one between quotes.
 fn put_name(out: &mut String, name: &str) -> Result<(), AllocError>
     ensures { OnOk result (string_bytes out.new ≡ string_bytes out.old ++ notation.name_text name.now) }
 {

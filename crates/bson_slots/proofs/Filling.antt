@@ -1,4 +1,4 @@
--- What one element does to the slots of a struct, in the words of the calls on them: the place of its key, the field that stands there, and
+-- What one element does to the slots of a struct, in the words of the calls on them: the place of its key, the field that is there, and
 -- what was read.
 use Rattle.std.proofs.Common.{◌≡◌, ℕ, List, get_or, map, true, false, Option, Some, None, Ok, ap, sym, subst, ◌∙◌, string_bytes}
 use Rattle.std.specs.Prelude.{is_some}

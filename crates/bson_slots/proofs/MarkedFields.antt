@@ -1,4 +1,4 @@
--- The fields of a datum, which stand in a `Vec`.
+-- The fields of a datum, which are in a `Vec`.
 use Rattle.std.proofs.Common.{◌≡◌, refl, ap, ◌∙◌}
 use Rattle.std.specs.Global.{Vec}
 use Rattle.bson_datum.specs.MarkedView.{marked, marked_fields, text_piece}

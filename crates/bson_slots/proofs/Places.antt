@@ -32,7 +32,7 @@ first_within false None n h = tt
 first_within false (Some i) n h = omega arith
 
 module _ {X : Type 0} (named : X → Utf8) where
-  -- it stands at the first place whose name is the key
+  -- it is at the first place whose name is the key
   pub place_found : (xs : List X) (key : Utf8) (i : ℕ) (d : X) → i < length xs → ((k : ℕ) (e : X) → k < i → bytes_eq (named (get_or xs k e)) key ≡ false) → bytes_eq (named (get_or xs i d)) key ≡ true
       → place_of (map named xs) key ≡ Some i
   place_found [] key i d lt before is = absurd (omega arith)
@@ -50,7 +50,7 @@ module _ {X : Type 0} (named : X → Utf8) where
   has_at (x ∷ xs) name zero d lt e = or_left _ _ ((bytes_eq-Decides name (named x)).1 e)
   has_at (x ∷ xs) name (suc i) d lt e = or_right _ _ (has_at xs name i d (omega arith) e)
 
-  -- where the names are distinct it stands at each place whose name is the key, wherever one looked first
+  -- where the names are distinct it is at each place whose name is the key, wherever one looked first
   pub place_distinct : (xs : List X) (key : Utf8) (i : ℕ) (d : X) → has_repeat (map named xs) ≡ false → i < length xs → bytes_eq (named (get_or xs i d)) key ≡ true → place_of (map named xs) key ≡ Some i
   place_distinct [] key i d distinct lt is = absurd (omega arith)
   place_distinct (x ∷ xs) key zero d distinct lt is = ap (λ b. first_or b (place_of (map named xs) key)) is

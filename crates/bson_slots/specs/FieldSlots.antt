@@ -2,7 +2,7 @@
 use Rattle.std.specs.Prelude.{◌≡◌, ℕ, zero, suc, List, [], ◌∷◌, Option, Some, None, false, option_map, string_bytes}
 use Rattle.std.specs.Coded.{Coded-set, coded_ℕ, coded_bool, coded_list, ×_prop, Unit-prop}
 use Rattle.bson_shape.specs.declared.shape.FieldShape.{FieldShape}
-use Rattle.bson_datum.specs.Loans.{text_lent}
+use Rattle.bson_datum.specs.Borrowed.{text_borrowed}
 use Rattle.bson_datum.specs.Marked.{Marked, MarkedFields}
 use Rattle.bson_datum.specs.MarkedView.{marked, text_piece}
 use Rattle.bson_datum.specs.TextView.{text_view}
@@ -43,7 +43,7 @@ field_slots (f ∷ fs) [] [] = slot_of f None ∷ field_slots fs [] []
 
 -- it is the field, under an owned name
 abbrev pub IsNamed : FieldShape → Field → Type 0
-IsNamed f x = (text_view x.name ≡ string_bytes f.name) × (text_lent x.name ≡ false)
+IsNamed f x = (text_view x.name ≡ string_bytes f.name) × (text_borrowed x.name ≡ false)
 
 -- these are the first of the fields
 abbrev pub AreFirst : List FieldShape → List Field → Type 0
@@ -54,7 +54,7 @@ AreFirst (f ∷ fs) (x ∷ first) = IsNamed f x × AreFirst fs first
 pub AreFirst-prop : (fs : List FieldShape) (first : List Field) → IsProp (AreFirst fs first)
 AreFirst-prop fs [] = Unit-prop
 AreFirst-prop [] (x ∷ first) = λ a b. absurd a
-AreFirst-prop (f ∷ fs) (x ∷ first) = ×_prop (×_prop (Coded-set (coded_list coded_ℕ) (text_view x.name) (string_bytes f.name)) (Coded-set coded_bool (text_lent x.name) false)) (AreFirst-prop fs first)
+AreFirst-prop (f ∷ fs) (x ∷ first) = ×_prop (×_prop (Coded-set (coded_list coded_ℕ) (text_view x.name) (string_bytes f.name)) (Coded-set coded_bool (text_borrowed x.name) false)) (AreFirst-prop fs first)
 
 -- the fields of a struct, with their marks
 abbrev pub fields_marked : List Field → MarkedFields

@@ -69,7 +69,7 @@ impl<'s, T: Named> NameIndex<'s, T> {
         }
     }
 
-    /// The place of the one that has the name, wherever it stands.
+    /// The place of the one that has the name, wherever it is.
     fn find(&mut self, alloc: Global, name: &str) -> Option<usize>
         ensures place { result ≡ place_of (map T.named self.old.items.now) name.now }
         ensures within { IfSome result (λ i. i < length self.old.items.now) }

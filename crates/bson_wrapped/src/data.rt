@@ -38,7 +38,7 @@ pub fn bytes<'de>(alloc: Global, bytes: &[u8]) -> Result<Datum<'de>, AllocError>
     Ok(Datum::Bytes(ByteStr::Owned(bytes.to_vec(alloc)?)))
 }
 
-/// Bytes that do not stand in the input.
+/// Bytes that are not in the input.
 fn elsewhere(bytes: &[u8]) -> MetBytes<'_>
     ensures { result.bytes.now ≡ bytes.now }
 {

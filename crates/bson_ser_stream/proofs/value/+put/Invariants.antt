@@ -79,7 +79,7 @@ decreases-put_entry g l = 16 * goal.size-put_entry g l + 5
 abbrev pub decreases-put_item : goal.decreases-put_item
 decreases-put_item g l = 16 * goal.size-put_item g l + 5
 
--- how deep what stands under a key goes
+-- how deep what is under a key goes
 abbrev pub contents_depth : Contents → ℕ
 contents_depth (contents.Value d) = 16 * size-Datum d.now
 contents_depth (contents.Items ds) = 16 * most size-Datum ds.now + 8
