@@ -18,8 +18,8 @@
 //! | texts | `date_text`, `date_of_text`, `integer_of_text`, `subtype_of_text`; `DateError`, `NotDate`, `NotHex`, `NotUuid` |
 //! | contracts | `laws`; the definitions that contracts name, as `Rattle.bson.specs.Tree` |
 //!
-//! The examples are the functions of the crate `bson_examples`, where each is proved and tested. An example without a clause is proved too: it is safe, and it
-//! returns.
+//! The examples are the functions of the crate `bson_examples`, where each is proved; the program `bson_tour` runs each once. An example without a clause is
+//! proved too: it is safe, and it returns.
 //!
 //! # Shapes and their notation
 //!

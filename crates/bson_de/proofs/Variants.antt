@@ -1,7 +1,6 @@
 -- The variant that has a name, and its contents.
-use Rattle.std.proofs.Common.{◌≡◌, ◌<◌, List, [], ◌∷◌, Bool, true, false, Ok, refl, ap, sym, subst, ◌∙◌, arith}
+use Rattle.std.proofs.Common.{◌≡◌, ◌<◌, List, [], ◌∷◌, Bool, true, false, Ok, refl, subst, arith}
 use Rattle.std.specs.Str.{bytes_eq}
-use Rattle.std.proofs.lemmas.Slice.Eq.{bytes_eq-Decides}
 use Rattle.bson_base.specs.Text.{Utf8}
 use Rattle.bson_base.specs.Outcome.{◌>>=◌}
 use Rattle.bson_rawdoc.specs.Node.{Node, Nodes, ended, faulty, then_node}
@@ -42,15 +41,6 @@ pub named_content : (vs : List VariantShape) (name : Utf8) (w : VariantShape) �
 named_content [] name w shapes e = absurd cc
 named_content (v ∷ vs) name w shapes e =
     found (λ u. IsContent (shape_view.content_of u.content)) (bytes_eq (named v) name) v w (variant_named vs name) e shapes.1 (named_content vs name w shapes.2)
-
-one_named : (b : Bool) (v w : VariantShape) (name : Utf8) (q : Reading VariantShape) → bytes_eq (named v) name ≡ b → this_or b v q ≡ Ok w → (q ≡ Ok w → named w ≡ name) → named w ≡ name
-one_named true v w name q is e others = let same : v ≡ w = cc in ap named (sym same) ∙ (bytes_eq-Decides (named v) name).0 is
-one_named false v w name q is e others = others e
-
--- its name is the one that was asked for
-pub named_is : (vs : List VariantShape) (name : Utf8) (w : VariantShape) → variant_named vs name ≡ Ok w → named w ≡ name
-named_is [] name w e = absurd cc
-named_is (v ∷ vs) name w e = one_named (bytes_eq (named v) name) v w name (variant_named vs name) refl e (named_is vs name w)
 
 -- the first element of a document is the one that is read
 pub first_read : (contents : Utf8 → Node → Reading Marked) (ns : Nodes) → read_first contents ns ≡ (first_of ns >>= λ (p : Pair). contents p.key.bytes p.value)

@@ -1,53 +1,13 @@
--- A whole document as a reader meets it.
-use Rattle.std.proofs.Common.{◌≡◌, Bool, true, false, cond, Option, Some, None, Result, Ok, Err, refl, ap, sym, subst, ◌∙◌, pos, length}
-use Rattle.std.specs.Prelude.{not, nat_lt}
-use Rattle.std.specs.Ordering.{int_eq}
-use Rattle.bson_base.specs.Text.{Bytes}
-use Rattle.bson_base.specs.Sound.{max_levels}
-use Rattle.bson_base.specs.declared.element_type.ElementType.TheVariants.{EmbeddedDocument}
-use Rattle.bson_rawdoc.specs.Envelope.{is_closed, envelope}
-use Rattle.bson_rawdoc.specs.Node.{Node, document, broken, nodes_with, node_in, inner_node}
-use Rattle.bson_rawdoc.specs.Numbers.{int32_in}
-use Rattle.bson_rawdoc.specs.Walk.{walk}
-use Rattle.bson_rawdoc.specs.declared.raw.Error.{Error}
-use Rattle.bson_rawdoc.specs.declared.raw.Error.TheVariants.{TooShort, LengthDiffers, NoTerminator, ValueUnclosed}
-use Rattle.bson_shape.specs.Form.{Form}
-use Rattle.bson_datum.specs.Cause.{raw}
+-- The failure of a whole document.
+use Rattle.std.proofs.Common.{Option, Some, None, ap, sym, subst, ◌∙◌}
+use Rattle.std.specs.Prelude.{Err}
 use Rattle.bson_datum.specs.Marked.{Marked}
-use Rattle.bson_datum.specs.Refusal.{ReadFault, unreadable, Refusal, Failure, no_memory, bare, placed}
+use Rattle.bson_datum.specs.Refusal.{ReadFault, Refusal, Failure, no_memory, bare, placed}
 use Rattle.bson_datum.specs.Stop.{IsPlaced}
-use Rattle.bson_laws.specs.Judged.{Reading, plain}
-use Rattle.bson_laws.specs.Reads.{reads, answered, reads_marked}
+use Rattle.bson_laws.specs.Judged.{Reading}
+use Rattle.bson_laws.specs.Reads.{answered}
 use Rattle.bson_met.specs.Gives.{RefusesAs}
 use Rattle.bson_de_raw.specs.Gives.{FailsAs}
-
--- bytes that are framed as a document are closed
-framed : (p q r : Bool) (b d : Bytes) → cond p (Err TooShort) (cond (not q) (Err LengthDiffers) (cond (not r) (Err NoTerminator) (Ok b))) ≡ Ok d → (b ≡ d) × (r ≡ true)
-framed true q r b d e = absurd cc
-framed false false r b d e = absurd cc
-framed false true false b d e = absurd cc
-framed false true true b d e = (cc, refl)
-
-frame : (b d : Bytes) → envelope b ≡ Ok d → (b ≡ d) × (is_closed b ≡ true)
-frame b d e = framed (nat_lt (length b) 5) (int_eq (int32_in b) (pos (length b))) (is_closed b) b d e
-
-closed_is : (b : Bytes) → is_closed b ≡ true → node_in max_levels EmbeddedDocument b ≡ inner_node max_levels EmbeddedDocument b
-closed_is b e = ap (λ c. cond c (document (nodes_with (node_in 199) (walk b))) (broken EmbeddedDocument ValueUnclosed)) e
-
--- the bytes of an envelope, or its fault
-abbrev reads_enveloped : Form → Result Bytes Error → Result Marked (Failure ReadFault)
-reads_enveloped s (Ok d) = answered (reads s plain (node_in max_levels EmbeddedDocument d))
-reads_enveloped s (Err e) = Err (bare (unreadable (raw e)))
-
-enveloped : (s : Form) (b : Bytes) (r : Result Bytes Error) → envelope b ≡ r → reads_marked s b ≡ reads_enveloped s r
-enveloped s b (Ok d) e = ap (λ r. elim r [ Ok d ↦ answered (reads s plain (node_in max_levels EmbeddedDocument d)) | Err e ↦ Err (bare (unreadable (raw e))) ]) e
-enveloped s b (Err f) e = ap (λ r. elim r [ Ok d ↦ answered (reads s plain (node_in max_levels EmbeddedDocument d)) | Err e ↦ Err (bare (unreadable (raw e))) ]) e
-
--- a document that passes the test of its envelope
-pub document_read : (s : Form) (b d : Bytes) → envelope b ≡ Ok d → reads_marked s b ≡ answered (reads s plain (inner_node max_levels EmbeddedDocument d))
-document_read s b d e =
-    let f = frame b d e in
-    enveloped s b (Ok d) e ∙ ap (λ n. answered (reads s plain n)) (subst (λ x. node_in max_levels EmbeddedDocument x ≡ inner_node max_levels EmbeddedDocument x) f.0 (closed_is b f.1))
 
 pub placed_as : (o : Option (Refusal ReadFault)) (f : Failure ReadFault) (r : Reading Marked) → IsPlaced o f → RefusesAs o r → FailsAs f (answered r)
 placed_as None f r p h = subst (λ g. FailsAs g (answered r)) (sym p) tt

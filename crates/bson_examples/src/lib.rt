@@ -9,8 +9,6 @@ mod raw_documents;
 mod reading;
 mod recasting;
 mod shapes;
-#[cfg(test)]
-mod tests;
 mod trees;
 mod writing;
 

@@ -28,6 +28,7 @@ pub mod Judged
 pub mod Tame
 pub mod TameBytes
 pub mod Documents
+pub mod Enveloped
 pub mod Given
 pub mod Again
 pub mod ReadAgain

@@ -18,7 +18,7 @@ use Rattle.bson_laws.specs.Judged.{Reading, plain}
 use Rattle.bson_laws.specs.Reads.{reads, slots_of}
 use Rattle.bson_laws.specs.Slots.{fill, finish}
 use Rattle.bson_laws.specs.Spell.{Writing, spell, spell_items, spell_fields}
-use Rattle.bson_one_pass.specs.Recast.{of_writing, recast_of, recast_node, recast_items, recast_fields, IsPut, AreItemsPut, ArePairsPut}
+use Rattle.bson_one_pass.specs.Recast.{of_writing, recast_by, recast_node, recast_items, recast_fields, IsPut, AreItemsPut, ArePairsPut}
 
 mapped : {A B : Type 0} (f : A → B) (w : Writing A) → of_writing (result_map f w) ≡ option_map f (of_writing w)
 mapped f (Ok x) = refl
@@ -26,7 +26,7 @@ mapped f (Err r) = refl
 
 -- ---- arrays
 
-array_of : (m : ℕ) (r : Reading MarkedItems) → recast_of (λ v. spell (contents v) (suc m)) (result_map value.sequence r) ≡ option_map tree.array (recast_of (λ vs. spell_items 0 (item_contents vs) m) r)
+array_of : (m : ℕ) (r : Reading MarkedItems) → recast_by (λ v. spell (contents v) (suc m)) (result_map value.sequence r) ≡ option_map tree.array (recast_by (λ vs. spell_items 0 (item_contents vs) m) r)
 array_of m (Err e) = refl
 array_of m (Ok vs) = mapped tree.array (spell_items 0 (item_contents vs) m)
 
@@ -45,7 +45,7 @@ array_put s levels m b old begun filled ended e wraps h =
 
 -- ---- structs
 
-fields_of_struct : (m : ℕ) (name : Utf8) (r : Reading MarkedFields) → reserved_kind name ≡ None → recast_of (λ v. spell (contents v) (suc m)) (result_map (value.structure (made name)) r) ≡ option_map tree.document (recast_of (λ vs. spell_fields (field_contents vs) m) r)
+fields_of_struct : (m : ℕ) (name : Utf8) (r : Reading MarkedFields) → reserved_kind name ≡ None → recast_by (λ v. spell (contents v) (suc m)) (result_map (value.structure (made name)) r) ≡ option_map tree.document (recast_by (λ vs. spell_fields (field_contents vs) m) r)
 fields_of_struct m name (Err e) free = refl
 fields_of_struct m name (Ok vs) free = rw free (mapped tree.document (spell_fields (field_contents vs) m))
 

@@ -17,15 +17,15 @@ use Rattle.bson_laws.specs.Containers.{reads_items}
 use Rattle.bson_laws.specs.Judged.{Reading, plain}
 use Rattle.bson_laws.specs.Reads.{reads}
 use Rattle.bson_laws.specs.Spell.{Writing, spell, spell_items}
-use Rattle.bson_one_pass.specs.Recast.{of_writing, recast_of, recast_node, recast_items, IsElementPut, AreItemsPut}
+use Rattle.bson_one_pass.specs.Recast.{of_writing, recast_by, recast_node, recast_items, IsElementPut, AreItemsPut}
 
 spelled_by : (i : ℕ) (w : Writing Tree) (ws : Writing Trees) (t : Tree) → of_writing w ≡ Some t → of_writing (under_index i w >>= λ u. ws >>= λ us. Ok (tree u us)) ≡ option_map (tree t) (of_writing ws)
 spelled_by i (Err e) ws t h = absurd cc
 spelled_by i (Ok u) (Err e) t h = refl
 spelled_by i (Ok u) (Ok us) t h = let same : u ≡ t = cc in ap (λ x. Some (tree x us)) same
 
-items_by : (levels i : ℕ) (r : Reading Marked) (rest : Reading MarkedItems) (t : Tree) → recast_of (λ v. spell (contents v) levels) r ≡ Some t
-    → recast_of (λ vs. spell_items i (item_contents vs) levels) (under_index i r >>= λ v. result_map (item v) rest) ≡ option_map (tree t) (recast_of (λ vs. spell_items (suc i) (item_contents vs) levels) rest)
+items_by : (levels i : ℕ) (r : Reading Marked) (rest : Reading MarkedItems) (t : Tree) → recast_by (λ v. spell (contents v) levels) r ≡ Some t
+    → recast_by (λ vs. spell_items i (item_contents vs) levels) (under_index i r >>= λ v. result_map (item v) rest) ≡ option_map (tree t) (recast_by (λ vs. spell_items (suc i) (item_contents vs) levels) rest)
 items_by levels i (Err e) rest t h = absurd cc
 items_by levels i (Ok v) (Err e) t h = refl
 items_by levels i (Ok v) (Ok vs) t h = spelled_by i (spell (contents v) levels) (spell_items (suc i) (item_contents vs) levels) t h

@@ -1,8 +1,10 @@
 -- Values at leaves.
-use Rattle.std.proofs.Common.{◌≡◌, ℕ, ℤ, w64, FitsSigned, ◌≤◌, ◌++◌, false, true, Option, Some, Ok, refl, ap, sym, subst, ◌∙◌, arith}
+use Rattle.std.proofs.Common.{◌≡◌, ℕ, ℤ, zero, suc, w64, FitsSigned, ◌≤◌, ◌<◌, ◌^◌, ◌++◌, length, false, true, cond, Option, Some, Ok, refl, ap, sym, subst, ◌∙◌, arith}
+use Rattle.std.specs.Prelude.{nat_eq}
 use Rattle.std.specs.Int.{cast_unsigned}
 use Rattle.std.specs.Str.{is_utf8}
-use Rattle.bson_base.specs.Sound.{IsClean, HasBytes}
+use Rattle.bson_base.specs.Sound.{IsClean, HasBytes, IsBinary}
+use Rattle.bson_base.specs.Outcome.{result_map}
 use Rattle.bson_base.specs.Text.{Bytes, Utf8}
 use Rattle.bson_base.specs.Tree as tree
 use Rattle.bson_base.specs.Tree.{Tree, depth}
@@ -12,19 +14,51 @@ use Rattle.bson_rawdoc.specs.Node.{opens}
 use Rattle.bson_rawdoc.specs.Piece.{borrowed, made}
 use Rattle.bson_shape.specs.Form.{leaf}
 use Rattle.bson_shape.specs.declared.leaf.Leaf.TheVariants as leaves
+use Rattle.bson_datum.specs.Cause.{invalid_length}
 use Rattle.bson_datum.specs.Marked.{contents}
-use Rattle.bson_laws.specs.Datum.{datum, sorted_tree}
+use Rattle.bson_laws.specs.Datum.{datum, uuid_datum, sorted_tree}
+use Rattle.bson_laws.specs.Judged.{refused}
 use Rattle.bson_laws.specs.Spell.{spell}
 use Rattle.bson_laws.proofs.DatumContents.{datum_contents}
-use Rattle.bson_laws.proofs.DatumSpelled.{datum_spelled}
-use Rattle.bson_one_pass.specs.Recast.{of_writing, recast_of, recast_node, IsPut}
+use Rattle.bson_laws.proofs.DatumSpelled.{datum_spelled, uuid_spelled}
+use Rattle.bson_laws.proofs.Spelled.{binary_spelled}
+use Rattle.bson_one_pass.specs.Recast.{of_writing, recast_by, recast_node, IsPut}
 
 -- the data of a tree are written as the tree
-tree_written : (t : Tree) (levels : ℕ) → IsClean t → depth t ≤ levels → recast_of (λ v. spell (contents v) levels) (Ok (datum made t)) ≡ Some (sorted_tree t)
+tree_written : (t : Tree) (levels : ℕ) → IsClean t → depth t ≤ levels → recast_by (λ v. spell (contents v) levels) (Ok (datum made t)) ≡ Some (sorted_tree t)
 tree_written t levels clean deep = ap of_writing (ap (λ d. spell d levels) (datum_contents t) ∙ datum_spelled false t levels clean deep)
 
 pub id_put : (id old new : Bytes) (levels : ℕ) → HasBytes 12 id → new ≡ old ++ id → IsPut (recast_node (leaf leaves.ObjectId) levels (opens (node.object_id (borrowed id)))) old new kinds.ObjectId
 id_put id old new levels clean put = subst (λ (o : Option Tree). IsPut o old new kinds.ObjectId) (sym (tree_written (tree.object_id id) levels clean (omega arith))) (refl, put)
+
+pub decimal_put : (bytes old new : Bytes) (levels : ℕ) → HasBytes 16 bytes → new ≡ old ++ bytes → IsPut (recast_node (leaf leaves.Decimal128) levels (opens (node.decimal128 bytes))) old new kinds.Decimal128
+decimal_put bytes old new levels clean put = subst (λ (o : Option Tree). IsPut o old new kinds.Decimal128) (sym (tree_written (tree.decimal128 bytes) levels clean (omega arith))) (refl, put)
+
+pub timestamp_put : (time increment : ℕ) (old new : Bytes) (levels : ℕ) → time < 2 ^ 32 → increment < 2 ^ 32 → new ≡ old ++ (tree.le32 increment ++ tree.le32 time)
+    → IsPut (recast_node (leaf leaves.Timestamp) levels (opens (node.timestamp time increment))) old new kinds.Timestamp
+timestamp_put time increment old new levels t i put = subst (λ (o : Option Tree). IsPut o old new kinds.Timestamp) (sym (tree_written (tree.timestamp time increment) levels (t, i) (omega arith))) (refl, put)
+
+-- ---- binaries
+
+-- a binary of any subtype but the old one
+pub binary_is : (subtype : ℕ) (bytes old new : Bytes) → nat_eq subtype 2 ≡ false → new ≡ old ++ tree.after_length subtype bytes → new ≡ old ++ tree.enc (tree.binary subtype bytes)
+binary_is subtype bytes old new other put = put ∙ ap (λ c. old ++ tree.after_length subtype (cond c (tree.le32 (length bytes) ++ bytes) bytes)) (sym other)
+
+pub binary_read : (subtype : ℕ) (bytes : Bytes) (levels : ℕ) → IsBinary subtype bytes → recast_node (leaf leaves.Binary) levels (node.binary_node subtype (borrowed bytes)) ≡ Some (tree.binary subtype bytes)
+binary_read zero bytes levels clean = tree_written (tree.binary 0 bytes) levels clean (omega arith)
+binary_read (suc n) bytes levels clean = tree_written (tree.binary (suc n) bytes) levels clean (omega arith)
+
+pub bytes_read : (bytes : Bytes) (levels : ℕ) → IsBinary 0 bytes → recast_node (leaf leaves.Bytes) levels (node.bytes (borrowed bytes)) ≡ Some (tree.binary 0 bytes)
+bytes_read bytes levels clean = ap of_writing (binary_spelled 0 bytes clean)
+
+pub buffer_read : (bytes : Bytes) (levels : ℕ) → IsBinary 0 bytes → recast_node (leaf leaves.ByteBuf) levels (node.bytes (borrowed bytes)) ≡ Some (tree.binary 0 bytes)
+buffer_read bytes levels clean = ap of_writing (binary_spelled 0 bytes clean)
+
+pub uuid_read : (bytes : Bytes) (levels : ℕ) → HasBytes 16 bytes → recast_node (leaf leaves.Uuid) levels (node.binary_node 4 (borrowed bytes)) ≡ Some (tree.binary 4 bytes)
+uuid_read bytes levels h =
+    ap (λ n. recast_by (λ v. spell (contents v) levels) (result_map (uuid_datum made) (cond (nat_eq n 16) (Ok bytes) (refused (invalid_length n))))) h.count ∙ ap of_writing (uuid_spelled false bytes levels h)
+
+-- ---- texts
 
 pub text_read : (t : Utf8) (levels : ℕ) → is_utf8 t ≡ true → recast_node (leaf leaves.Str) levels (node.string (borrowed t)) ≡ Some (tree.string t)
 text_read t levels h = rw h refl

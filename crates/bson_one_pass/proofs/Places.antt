@@ -23,7 +23,7 @@ use Rattle.bson_laws.specs.Slots.{Slot, Slots, value_or}
 use Rattle.bson_laws.specs.Spell.{Writing, spell}
 use Rattle.bson_laws.specs.Views.{absent}
 use Rattle.bson_one_pass.specs.Free.{is_free}
-use Rattle.bson_one_pass.specs.Recast.{of_writing, recast_of, recast_node, recast_fields, IsElementPut, ArePairsPut}
+use Rattle.bson_one_pass.specs.Recast.{of_writing, recast_by, recast_node, recast_fields, IsElementPut, ArePairsPut}
 use Rattle.bson_one_pass.proofs.Fields.{names, LacksName, filled, put_dropped, put_due, AreWritten, written_more, fields_end, fields_step}
 
 -- the name of a field
@@ -95,7 +95,7 @@ written_by key made new (Err r) h = absurd h
 written_by key made new (Ok t) h = (t, refl, h)
 
 -- the value, its tree, and the element
-read_by : (levels : ℕ) (key : Utf8) (made new : Bytes) (r : Reading Marked) → IsElementPut (recast_of (λ v. spell (contents v) levels) r) key made new
+read_by : (levels : ℕ) (key : Utf8) (made new : Bytes) (r : Reading Marked) → IsElementPut (recast_by (λ v. spell (contents v) levels) r) key made new
     → (v : Marked) × (t : Tree) × (r ≡ Ok v) × (spell (contents v) levels ≡ Ok t) × (new ≡ made ++ element (kind t) key (enc t))
 read_by levels key made new (Err r) h = absurd h
 read_by levels key made new (Ok v) h = let p = written_by key made new (spell (contents v) levels) h in (v, p.0, refl, p.1, p.2)

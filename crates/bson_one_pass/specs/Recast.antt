@@ -21,21 +21,21 @@ of_writing (Ok x) = Some x
 of_writing (Err r) = None
 
 -- what is written of what is read, where it is read and written
-abbrev pub recast_of : {A B : Type 0} → (A → Writing B) → Reading A → Option B
-recast_of write (Ok x) = of_writing (write x)
-recast_of write (Err r) = None
+abbrev pub recast_by : {A B : Type 0} → (A → Writing B) → Reading A → Option B
+recast_by write (Ok x) = of_writing (write x)
+recast_by write (Err r) = None
 
 -- the tree of a value, with so many levels left
 abbrev pub recast_node : Form → (levels : ℕ) → Node → Option Tree
-recast_node s levels n = recast_of (λ v. spell (contents v) levels) (reads s plain n)
+recast_node s levels n = recast_by (λ v. spell (contents v) levels) (reads s plain n)
 
 -- the trees of the elements of an array from this index on
 abbrev pub recast_items : Form → (levels index : ℕ) → Nodes → Option Trees
-recast_items s levels i ns = recast_of (λ vs. spell_items i (item_contents vs) levels) (reads_items (reads s plain) i ns)
+recast_items s levels i ns = recast_by (λ vs. spell_items i (item_contents vs) levels) (reads_items (reads s plain) i ns)
 
 -- the pairs of the fields of a struct from the elements of a document, put to what the slots have
 abbrev pub recast_fields : Slots → (levels : ℕ) → Nodes → Option Pairs
-recast_fields slots levels ns = recast_of (λ vs. spell_fields (field_contents vs) levels) (fill plain ns slots >>= finish)
+recast_fields slots levels ns = recast_by (λ vs. spell_fields (field_contents vs) levels) (fill plain ns slots >>= finish)
 
 -- a tree of this kind was appended
 abbrev pub IsPut : Option Tree → (old new : Bytes) → ElementType → Type 0

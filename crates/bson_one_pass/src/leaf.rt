@@ -1,18 +1,18 @@
 // Values at leaves: those of the kinds that a leaf takes as they are, and numbers.
 ghost use Rattle.std.specs.Prelude.{◌≡◌, ◌++◌, IfSome, Some};
 ghost use Rattle.std.specs.Int.{w64, cast_unsigned};
-ghost use Rattle.bson_base.specs.Sound.{HasBytes};
-ghost use Rattle.bson_base.specs.Text.{AreBytes};
 ghost use Rattle.bson_base.specs.Tree.{string, int32, int64, le64};
 ghost use Rattle.bson_rawdoc.specs.Node as nodes;
-ghost use Rattle.bson_rawdoc.specs.Node.{value_node, inner_node, opens};
+ghost use Rattle.bson_rawdoc.specs.Node.{value_node, inner_node};
 ghost use Rattle.bson_rawdoc.specs.Piece.{borrowed};
 ghost use Rattle.bson_rawdoc.specs.ValueView.{raw_value};
 ghost use Rattle.bson_shape.specs.Form as form;
 ghost use Rattle.bson_one_pass.specs.Recast.{recast_node, IsPut};
 
+use crate::binary::recast_binary;
 use crate::bytes::put;
-use bson_base::{ElementType, ObjectId};
+use crate::extended::{recast_decimal, recast_object_id, recast_time, recast_timestamp};
+use bson_base::ElementType;
 use bson_rawdoc::RawBsonRef;
 use bson_shape::Leaf;
 
@@ -32,6 +32,11 @@ pub(crate) fn recast_leaf(
         RawBsonRef::String(text) => recast_text(made, leaf, levels, text),
         RawBsonRef::ObjectId(id) => recast_object_id(made, leaf, levels, *id),
         RawBsonRef::DateTime(time) => recast_time(made, leaf, levels, time.timestamp_millis()),
+        RawBsonRef::Decimal128(decimal) => recast_decimal(made, leaf, levels, *decimal),
+        RawBsonRef::Timestamp(stamp) => recast_timestamp(made, leaf, levels, *stamp),
+        RawBsonRef::Binary { subtype, bytes } => {
+            recast_binary(made, leaf, levels, *subtype, bytes)
+        }
         RawBsonRef::Boolean(truth) => match leaf {
             Leaf::Bool => {
                 put(made, &[u8::from(*truth)])?;
@@ -77,55 +82,6 @@ fn put_text(made: &mut Vec<u8>, text: &str) -> Option<ElementType>
     Some(ElementType::String)
 }
 
-/// An ObjectId at its leaf: its twelve bytes.
-fn recast_object_id(
-    made: &mut Vec<u8>,
-    leaf: Leaf,
-    levels: u32,
-    id: ObjectId,
-) -> Option<ElementType>
-    ensures { IfSome result (IsPut (recast_node (form.leaf leaf) levels (opens (nodes.object_id (borrowed id.0)))) made.old.items made.new.items) }
-{
-    match leaf {
-        Leaf::ObjectId => {
-            known(&id.0);
-            put(made, &id.0)?;
-            Some(ElementType::ObjectId)
-        }
-        _ => None,
-    }
-}
-
-// An ObjectId has twelve bytes.
-fn known(id: &[u8; 12])
-    ensures { HasBytes 12 id.now }
-{
-    known_bytes(id);
-}
-
-// Bytes are bytes.
-fn known_bytes(bytes: &[u8])
-    ensures { AreBytes bytes.now }
-{}
-
-/// A time at its leaf: its milliseconds in eight bytes.
-fn recast_time(
-    made: &mut Vec<u8>,
-    leaf: Leaf,
-    levels: u32,
-    milliseconds: i64,
-) -> Option<ElementType>
-    ensures { IfSome result (IsPut (recast_node (form.leaf leaf) levels (opens (nodes.date_time milliseconds))) made.old.items made.new.items) }
-{
-    match leaf {
-        Leaf::DateTime => {
-            put_eight(made, milliseconds)?;
-            Some(ElementType::DateTime)
-        }
-        _ => None,
-    }
-}
-
 /// A number at a leaf that takes numbers of an integer type.
 fn recast_number(made: &mut Vec<u8>, leaf: Leaf, levels: u32, number: i64) -> Option<ElementType>
     ensures in_four { IfSome result (IsPut (recast_node (form.leaf leaf) levels (nodes.int32 number)) made.old.items made.new.items) }
@@ -163,7 +119,7 @@ fn put_int64(made: &mut Vec<u8>, number: i64) -> Option<ElementType>
 
 /// The eight bytes of a number.
 #[tactic(auto, unfolding(bson_base::specs::Tree::le64))]
-fn put_eight(made: &mut Vec<u8>, number: i64) -> Option<()>
+pub(crate) fn put_eight(made: &mut Vec<u8>, number: i64) -> Option<()>
     ensures { IfSome result (λ _. made.new.items ≡ made.old.items ++ le64 (cast_unsigned w64 number)) }
 {
     put(made, &number.to_le_bytes())

@@ -4,8 +4,10 @@
 #![tactic(auto)]
 
 mod array;
+mod binary;
 mod bytes;
 mod document;
+mod extended;
 mod leaf;
 mod structure;
 mod value;

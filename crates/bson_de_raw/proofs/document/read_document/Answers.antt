@@ -7,7 +7,8 @@ use Rattle.bson_laws.specs.Judged.{plain}
 use Rattle.bson_laws.specs.Reads.{reads, answered, reads_marked}
 use Rattle.bson_rawdoc.specs.DocumentView.{document_bytes}
 use Rattle.bson_de_raw.specs.Gives.{FailsAs}
-use Rattle.bson_de_raw.proofs.Documents.{document_read, placed_as}
+use Rattle.bson_laws.proofs.Enveloped.{document_read}
+use Rattle.bson_de_raw.proofs.Documents.{placed_as}
 use Rattle.bson_de_raw.proofs.document.read_document.Goals as goal
 
 pub returns-in-Ok : goal.returns-in-Ok
