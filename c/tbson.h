@@ -123,7 +123,7 @@ tbson_answer tbson_recast(const uint8_t *shape, size_t shape_len, const uint8_t 
 tbson_answer tbson_migrate(const uint8_t *shape, size_t shape_len, const uint8_t *file, size_t file_len, uint8_t *output, size_t output_len,
                            uint8_t *text, size_t text_len);
 
-/* What stands at a place of a file of documents. */
+/* What is at a place of a file of documents. */
 typedef struct tbson_document {
     /* One of enum tbson_status. */
     uint32_t status;

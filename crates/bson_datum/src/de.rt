@@ -9,7 +9,7 @@ use crate::cause::Cause;
 use crate::path::Path;
 use crate::stop::Stop;
 use bson_rawdoc::raw;
-use std::alloc::Global;
+use std::alloc::{AllocError, Global};
 use std::fmt;
 
 /// What a value is refused for, without its path.
@@ -86,7 +86,19 @@ impl From<raw::Error> for Error {
     }
 }
 
-/// What a reader answers.
+impl From<AllocError> for Error {
+    ghost use Rattle.bson_datum.specs.declared.de.Error.TheVariants.{NoMemory as NoMemoryError};
+
+    ghost from_gives = { λ _ e. e ≡ NoMemoryError };
+
+    fn from(_error: AllocError) -> Error {
+        Error::NoMemory
+    }
+}
+
+impl std::error::Error for Error {}
+
+/// The result of a reader.
 pub type Result<T> = std::result::Result<T, Error>;
 
 impl fmt::Display for Error {

@@ -9,7 +9,7 @@ use crate::cause::Cause;
 use crate::path::Path;
 use crate::stop::Stop;
 use bson_base::Bson;
-use std::alloc::Global;
+use std::alloc::{AllocError, Global};
 use std::fmt;
 
 /// What a datum is refused for, without its path.
@@ -85,7 +85,19 @@ impl Error {
     }
 }
 
-/// What a writer answers.
+impl From<AllocError> for Error {
+    ghost use Rattle.bson_datum.specs.declared.ser.Error.TheVariants.{NoMemory as NoMemoryError};
+
+    ghost from_gives = { λ _ e. e ≡ NoMemoryError };
+
+    fn from(_error: AllocError) -> Error {
+        Error::NoMemory
+    }
+}
+
+impl std::error::Error for Error {}
+
+/// The result of a writer.
 pub type Result<T> = std::result::Result<T, Error>;
 
 impl fmt::Display for Error {

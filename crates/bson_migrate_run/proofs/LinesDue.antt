@@ -11,11 +11,12 @@ use Rattle.bson_shape.specs.Form.{Form}
 use Rattle.bson_recast_run.specs.declared.recasting.RecastError.{RecastError}
 use Rattle.bson_recast_run.specs.declared.recasting.RecastError.TheVariants.{Read, Write, NoMemory}
 use Rattle.bson_recast_run.specs.Due.{read_refused_line}
+use Rattle.bson_recast_run.specs.Printed.{recast_error_text}
 use Rattle.bson_recast_run.specs.Recasting.{Recast, writes, unread, unwritten, IsRefusal}
 use Rattle.bson_recast_run.specs.Words.{newline}
 use Rattle.bson_migrate_run.specs.declared.migrating.Migration.{Migration}
 use Rattle.bson_migrate_run.specs.declared.migrating.Refused.{Refused}
-use Rattle.bson_migrate_run.specs.Lines.{of_document, refused_text_of, refused_text, refused_lines, IsLine, AreLines}
+use Rattle.bson_migrate_run.specs.Lines.{of_document, refused_text, refused_lines, IsLine, AreLines}
 use Rattle.bson_migrate_run.specs.Migrating.{NotRecast, Migrating, broken, migrated, migration_of, IsListed, AreListed, IsMigration}
 use Rattle.bson_migrate_run.specs.Prepared.{listed_status, Answers}
 use Rattle.bson_migrate_run.proofs.Listing.{no_refusal}
@@ -28,7 +29,7 @@ text_ended n said =
 same_failure : (f g : Failure ReadFault) → unread f ≡ unread g → g ≡ f
 same_failure f g e = cc
 
-line_by : (n : ℕ) (r : Recast) (e : RecastError) → IsRefusal r e → e ≢ NoMemory → IsLine n r (refused_text_of n e ++ newline)
+line_by : (n : ℕ) (r : Recast) (e : RecastError) → IsRefusal r e → e ≢ NoMemory → IsLine n r (of_document n (recast_error_text e) ++ newline)
 line_by n (writes b) e h some = absurd (no_refusal b e h some)
 line_by n (unread f) (Read e) h some =
     text_ended n (codes "read refused: " ++ printed_failure printed_read_fault (read_failure e)) ∙ ap (λ g. of_document n (read_refused_line g)) (same_failure f (read_failure e) h)
@@ -39,7 +40,7 @@ line_by n (unwritten due long) (Write e) h some = (write_failure e, h, text_ende
 line_by n (unwritten due long) NoMemory h some = absurd (some refl)
 
 line_is : (d : NotRecast) (x : Refused) → IsListed d x → IsLine d.number d.recast (refused_text x ++ newline)
-line_is d x h = subst (λ n. IsLine d.number d.recast (refused_text_of n x.error ++ newline)) (sym h.number) (line_by d.number d.recast x.error h.refusal h.cause)
+line_is d x h = subst (λ n. IsLine d.number d.recast (of_document n (recast_error_text x.error) ++ newline)) (sym h.number) (line_by d.number d.recast x.error h.refusal h.cause)
 
 -- the lines of the refused documents are those that are due
 lines_are : (ds : List NotRecast) (xs : List Refused) → AreListed ds xs → AreLines ds (refused_lines xs)

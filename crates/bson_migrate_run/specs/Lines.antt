@@ -2,14 +2,13 @@
 use Rattle.std.specs.Prelude.{◌≡◌, ℕ, List, [], ◌∷◌, ◌++◌, false, codes}
 use Rattle.std.specs.Fmt.{decimal}
 use Rattle.bson_base.specs.Text.{Utf8}
-use Rattle.bson_datum.specs.ErrorView.{read_failure, write_failure}
-use Rattle.bson_datum.specs.Printed.{printed_failure, printed_read_fault, printed_write_fault}
 use Rattle.bson_datum.specs.Refusal.{WriteFault, Failure}
-use Rattle.bson_recast_run.specs.declared.recasting.RecastError.{RecastError}
-use Rattle.bson_recast_run.specs.declared.recasting.RecastError.TheVariants.{Read, Write, NoMemory}
 use Rattle.bson_recast_run.specs.Due.{read_refused_line, write_refused_line}
+use Rattle.bson_recast_run.specs.Printed.{recast_error_text}
 use Rattle.bson_recast_run.specs.Words.{Usage, newline}
 use Rattle.bson_recast_run.specs.Recasting.{Recast, writes, unread, unwritten, Unwritten}
+use Rattle.bson_migrate_run.specs.declared.migrating.MigrateError.{MigrateError}
+use Rattle.bson_migrate_run.specs.declared.migrating.MigrateError.TheVariants.{Broken, NoMemory}
 use Rattle.bson_migrate_run.specs.declared.migrating.Refused.{Refused}
 use Rattle.bson_migrate_run.specs.Migrating.{NotRecast}
 
@@ -28,13 +27,13 @@ abbrev pub of_document : (number : ℕ) → Utf8 → Utf8
 of_document number said = codes "document " ++ (decimal number ++ (codes ": " ++ said))
 
 -- what is said of a refused document, without the end of the line
-abbrev pub refused_text_of : (number : ℕ) → RecastError → Utf8
-refused_text_of number (Read e) = of_document number (codes "read refused: " ++ printed_failure printed_read_fault (read_failure e))
-refused_text_of number (Write e) = of_document number (codes "write refused: " ++ printed_failure printed_write_fault (write_failure e))
-refused_text_of number NoMemory = of_document number (codes "out of memory")
-
 abbrev pub refused_text : Refused → Utf8
-refused_text x = refused_text_of x.number x.error
+refused_text x = of_document x.number (recast_error_text x.error)
+
+-- the text of an error of a migration
+abbrev pub migrate_error_text : MigrateError → Utf8
+migrate_error_text (Broken place) = codes "broken at " ++ decimal place
+migrate_error_text NoMemory = codes "out of memory"
 
 -- the lines of a list of refused documents
 abbrev pub refused_lines : List Refused → Utf8

@@ -9,6 +9,7 @@ use bson_io::Out;
 use bson_rawdoc::RawDocuments;
 use bson_recast_run::{RecastError, recast_to_buf};
 use std::alloc::{AllocError, Global};
+use std::error::Error;
 use std::fmt;
 
 /// A refused document of a file.
@@ -27,12 +28,7 @@ impl fmt::Display for Refused {
     ghost output = { λ x. Some (refused_text x) };
 
     fn fmt<W: fmt::Write>(&self, f: &mut fmt::Formatter<W>) -> fmt::Result {
-        let number = self.number;
-        match &self.error {
-            RecastError::Read(e) => write!(f, "document {number}: read refused: {e}"),
-            RecastError::Write(e) => write!(f, "document {number}: write refused: {e}"),
-            RecastError::NoMemory => write!(f, "document {number}: out of memory"),
-        }
+        write!(f, "document {}: {}", self.number, self.error)
     }
 }
 
@@ -53,6 +49,32 @@ pub enum MigrateError {
     Broken(usize),
     /// Memory ran out.
     NoMemory,
+}
+
+impl fmt::Display for MigrateError {
+    ghost use Rattle.std.specs.Prelude.{Some};
+    ghost use Rattle.bson_migrate_run.specs.Lines.{migrate_error_text};
+
+    ghost output = { λ e. Some (migrate_error_text e) };
+
+    fn fmt<W: fmt::Write>(&self, f: &mut fmt::Formatter<W>) -> fmt::Result {
+        match self {
+            MigrateError::Broken(place) => write!(f, "broken at {place}"),
+            MigrateError::NoMemory => f.write_str("out of memory"),
+        }
+    }
+}
+
+impl Error for MigrateError {}
+
+impl From<AllocError> for MigrateError {
+    ghost use Rattle.bson_migrate_run.specs.declared.migrating.MigrateError.TheVariants.{NoMemory as NoMemoryError};
+
+    ghost from_gives = { λ _ e. e ≡ NoMemoryError };
+
+    fn from(_error: AllocError) -> MigrateError {
+        MigrateError::NoMemory
+    }
 }
 
 /// Recasts each document of a file, which has them one after another, at a shape.

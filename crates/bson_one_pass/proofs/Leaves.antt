@@ -17,7 +17,7 @@ use Rattle.bson_shape.specs.declared.leaf.Leaf.TheVariants as leaves
 use Rattle.bson_datum.specs.Cause.{invalid_length}
 use Rattle.bson_datum.specs.Marked.{contents}
 use Rattle.bson_laws.specs.Datum.{datum, uuid_datum, sorted_tree}
-use Rattle.bson_laws.specs.Judged.{refused}
+use Rattle.bson_laws.specs.Judged.{refused, plain, ignores}
 use Rattle.bson_laws.specs.Spell.{spell}
 use Rattle.bson_laws.proofs.DatumContents.{datum_contents}
 use Rattle.bson_laws.proofs.DatumSpelled.{datum_spelled, uuid_spelled}
@@ -57,6 +57,11 @@ buffer_read bytes levels clean = ap of_writing (binary_spelled 0 bytes clean)
 pub uuid_read : (bytes : Bytes) (levels : ℕ) → HasBytes 16 bytes → recast_node (leaf leaves.Uuid) levels (node.binary_node 4 (borrowed bytes)) ≡ Some (tree.binary 4 bytes)
 uuid_read bytes levels h =
     ap (λ n. recast_by (λ v. spell (contents v) levels) (result_map (uuid_datum made) (cond (nat_eq n 16) (Ok bytes) (refused (invalid_length n))))) h.count ∙ ap of_writing (uuid_spelled false bytes levels h)
+
+-- a binary that no field takes
+pub binary_passed : (subtype : ℕ) (bytes : Bytes) → ignores plain (node.binary_node subtype (borrowed bytes)) ≡ Ok tt
+binary_passed zero bytes = refl
+binary_passed (suc n) bytes = refl
 
 -- ---- texts
 

@@ -6,8 +6,8 @@ ghost use Rattle.bson_base.specs.Tree.{element};
 ghost use Rattle.bson_base.specs.Reserved.{reserved_kind};
 ghost use Rattle.bson_base.specs.declared.element_type.ElementType.TheVariants as kinds;
 ghost use Rattle.bson_rawdoc.specs.DocumentView.{document_bytes};
-ghost use Rattle.bson_rawdoc.specs.Node.{inner_node, node_in, nodes_with, value_node};
-ghost use Rattle.bson_rawdoc.specs.Piece.{Piece};
+ghost use Rattle.bson_rawdoc.specs.Node.{binary_node, inner_node, node_in, nodes_with, value_node};
+ghost use Rattle.bson_rawdoc.specs.Piece.{Piece, borrowed};
 ghost use Rattle.bson_rawdoc.specs.ValueView.{raw_value};
 ghost use Rattle.bson_shape.specs.Form.{structure};
 ghost use Rattle.bson_shape.specs.Makers.{AreDistinct};
@@ -21,7 +21,7 @@ ghost use Rattle.bson_one_pass.specs.Recast.{recast_node, recast_fields, IsPut, 
 
 use crate::array::{recast_item, value_of};
 use crate::bytes::{close, put, put_front, set_kind};
-use bson_base::ElementType;
+use bson_base::{BinarySubtype, ElementType};
 use bson_rawdoc::{RawBsonRef, RawDocument, RawElement, RawIter};
 use bson_shape::{FieldShape, Form};
 
@@ -138,7 +138,13 @@ fn is_passed(value: &RawBsonRef<'_>, levels: u32) -> bool
         | RawBsonRef::Int32(_)
         | RawBsonRef::Int64(_)
         | RawBsonRef::ObjectId(_)
-        | RawBsonRef::DateTime(_) => true,
+        | RawBsonRef::DateTime(_)
+        | RawBsonRef::Timestamp(_)
+        | RawBsonRef::Decimal128(_)
+        | RawBsonRef::Undefined
+        | RawBsonRef::MaxKey
+        | RawBsonRef::MinKey => true,
+        RawBsonRef::Binary { subtype, bytes } => is_binary(*subtype, bytes),
         RawBsonRef::String(text) => is_text(text),
         _ => false,
     }
@@ -147,6 +153,13 @@ fn is_passed(value: &RawBsonRef<'_>, levels: u32) -> bool
 // A text is UTF-8.
 fn is_text(text: &str) -> bool
     ensures { is_utf8 text.now ≡ true }
+{
+    true
+}
+
+// Nothing in a binary is at fault.
+fn is_binary(subtype: BinarySubtype, bytes: &[u8]) -> bool
+    ensures { ignores plain (binary_node subtype.0 (borrowed bytes.now)) ≡ Ok tt }
 {
     true
 }

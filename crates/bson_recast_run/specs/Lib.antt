@@ -1,5 +1,6 @@
 pub mod Number
 pub mod Recasting
+pub mod Printed
 pub mod Words
 pub mod Due
 pub mod Asked

@@ -16,7 +16,9 @@ use bson_de_raw::from_slice_at;
 use bson_io::{Out, Steps, Tally};
 use bson_one_pass::recast_at_once;
 use bson_ser_stream::to_buf;
-use std::alloc::Global;
+use std::alloc::{AllocError, Global};
+use std::error::Error;
+use std::fmt;
 
 /// Why a document is not recast.
 #[derive(Debug, Drop)]
@@ -27,6 +29,33 @@ pub enum RecastError {
     Write(ser::Error),
     /// Memory ran out.
     NoMemory,
+}
+
+impl fmt::Display for RecastError {
+    ghost use Rattle.std.specs.Prelude.{Some};
+    ghost use Rattle.bson_recast_run.specs.Printed.{recast_error_text};
+
+    ghost output = { λ e. Some (recast_error_text e) };
+
+    fn fmt<W: fmt::Write>(&self, f: &mut fmt::Formatter<W>) -> fmt::Result {
+        match self {
+            RecastError::Read(e) => write!(f, "read refused: {e}"),
+            RecastError::Write(e) => write!(f, "write refused: {e}"),
+            RecastError::NoMemory => f.write_str("out of memory"),
+        }
+    }
+}
+
+impl Error for RecastError {}
+
+impl From<AllocError> for RecastError {
+    ghost use Rattle.bson_recast_run.specs.declared.recasting.RecastError.TheVariants.{NoMemory as NoMemoryError};
+
+    ghost from_gives = { λ _ e. e ≡ NoMemoryError };
+
+    fn from(_error: AllocError) -> RecastError {
+        RecastError::NoMemory
+    }
 }
 
 /// Reads the bytes of a document at a shape, and gives the bytes of what was read.

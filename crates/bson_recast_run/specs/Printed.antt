@@ -1,0 +1,12 @@
+-- The text of an error of a recast.
+use Rattle.std.specs.Prelude.{◌++◌, codes}
+use Rattle.bson_base.specs.Text.{Utf8}
+use Rattle.bson_datum.specs.ErrorView.{read_failure, write_failure}
+use Rattle.bson_datum.specs.Printed.{printed_failure, printed_read_fault, printed_write_fault}
+use Rattle.bson_recast_run.specs.declared.recasting.RecastError.{RecastError}
+use Rattle.bson_recast_run.specs.declared.recasting.RecastError.TheVariants.{Read, Write, NoMemory}
+
+abbrev pub recast_error_text : RecastError → Utf8
+recast_error_text (Read e) = codes "read refused: " ++ printed_failure printed_read_fault (read_failure e)
+recast_error_text (Write e) = codes "write refused: " ++ printed_failure printed_write_fault (write_failure e)
+recast_error_text NoMemory = codes "out of memory"
