@@ -4,7 +4,7 @@ use Rattle.std.specs.Str.{IsUtf8}
 use Rattle.bson_base.specs.Text.{Utf8}
 use Rattle.bson_shape.specs.Makers.{is_text_key}
 use Rattle.bson_shape.specs.ShapeView.{form_view}
-use Rattle.bson_shape.specs.declared.form.Form.{Form as BorrowedRows}
+use Rattle.bson_shape.specs.declared.form.Form.{Form as BorrowedForm}
 use Rattle.bson_datum.specs.Same.{same}
 use Rattle.bson_datum.specs.Marked.{MarkedEntries, contents}
 use Rattle.bson_datum.specs.Value.{Value, no_entries, entry}
@@ -15,7 +15,7 @@ use Rattle.bson_leaves.specs.KeysView.{key_place, HasPlacesBelow}
 use Rattle.bson_leaves.specs.declared.entries.Entries as code
 
 -- the form of the keys
-abbrev pub key_form : code.Entries → BorrowedRows
+abbrev pub key_form : code.Entries → BorrowedForm
 key_form e = e.key
 
 -- the entries so far

@@ -3,7 +3,7 @@ use Rattle.std.specs.Prelude.{ℕ, ◌+◌, List, [], ◌∷◌, string_bytes}
 use Rattle.bson_shape.specs.Form.{Form, leaf, optional, sequence, map, tuple, tuple_structure, newtype, unit_structure, structure, enumeration, Fields, no_fields, field, Parts, no_parts, part, Variants, no_variants, variant, Content, unit_content, newtype_content, tuple_content, struct_content}
 use Rattle.bson_shape.specs.declared.shape.Node.{Node}
 use Rattle.bson_shape.specs.declared.shape.Node.TheVariants as node
-use Rattle.bson_shape.specs.declared.form.Form.{Form as BorrowedRows}
+use Rattle.bson_shape.specs.declared.form.Form.{Form as BorrowedForm}
 use Rattle.bson_shape.specs.declared.form.Form.TheVariants as forms
 use Rattle.bson_shape.specs.declared.shape.FieldShape.{FieldShape}
 use Rattle.bson_shape.specs.declared.shape.VariantShape.{VariantShape}
@@ -40,7 +40,7 @@ node_view (node.UnitStruct name) = unit_structure (string_bytes name)
 node_view (node.Struct name fs) = structure (string_bytes name) (fields_of fs.items)
 node_view (node.Enum vs) = enumeration (variants_of vs.items)
 
-abbrev pub form_view : BorrowedRows → Form
+abbrev pub form_view : BorrowedForm → Form
 form_view (forms.Leaf l) = leaf l
 form_view (forms.Option inner) = optional inner.now
 form_view (forms.Seq item) = sequence item.now

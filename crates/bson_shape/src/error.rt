@@ -2,6 +2,7 @@ ghost use Rattle.std.specs.Prelude.{◌≡◌};
 ghost use Rattle.bson_shape.specs.Refusals.{place_of};
 
 use std::alloc::{AllocError, AllocFailed};
+use std::error::Error;
 use std::fmt;
 
 /// Why a maker refuses a shape.
@@ -33,6 +34,19 @@ impl fmt::Display for ShapeError {
             ShapeError::TooDeep => "shape deeper than 512 levels",
             ShapeError::NoMemory => "out of memory",
         })
+    }
+}
+
+impl Error for ShapeError {}
+
+impl From<AllocError> for ShapeError {
+    ghost use Rattle.std.specs.Prelude.{◌≡◌};
+    ghost use Rattle.bson_shape.specs.declared.error.ShapeError.TheVariants.{NoMemory};
+
+    ghost from_gives = { λ _ e. e ≡ NoMemory };
+
+    fn from(_error: AllocError) -> ShapeError {
+        ShapeError::NoMemory
     }
 }
 
@@ -84,6 +98,8 @@ impl fmt::Display for ParseError {
         }
     }
 }
+
+impl Error for ParseError {}
 
 impl From<AllocError> for ParseError {
     ghost use Rattle.std.specs.Prelude.{◌≡◌};
