@@ -20,7 +20,7 @@ use Rattle.bson_laws.specs.Slots.{fill, finish}
 use Rattle.bson_laws.specs.Spell.{Writing, spell, spell_items, spell_fields}
 use Rattle.bson_one_pass.specs.Recast.{of_writing, recast_by, recast_node, recast_items, recast_fields, IsPut, AreItemsPut, ArePairsPut}
 
-mapped : {A B : Type 0} (f : A → B) (w : Writing A) → of_writing (result_map f w) ≡ option_map f (of_writing w)
+pub mapped : {A B : Type 0} (f : A → B) (w : Writing A) → of_writing (result_map f w) ≡ option_map f (of_writing w)
 mapped f (Ok x) = refl
 mapped f (Err r) = refl
 
@@ -37,11 +37,16 @@ array_made : (o : Option Trees) (old begun filled ended : Bytes) → ((b : Bytes
 array_made None old begun filled ended wraps h = absurd h
 array_made (Some ts) old begun filled ended wraps h = (refl, wraps (array_elements 0 ts) h)
 
+-- an array that was closed behind these elements
+pub elements_put : (s : Form) (o : Option Trees) (levels m : ℕ) (b old begun filled ended : Bytes) → recast_node s (suc m) (inner_node (suc m) kinds.Array b) ≡ option_map tree.array o → levels ≡ suc m
+    → ((b : Bytes) → filled ≡ begun ++ b → ended ≡ old ++ enclosed b) → AreItemsPut o 0 begun filled → IsPut (recast_node s levels (inner_node levels kinds.Array b)) old ended kinds.Array
+elements_put s o levels m b old begun filled ended is e wraps h =
+    subst (λ n. IsPut (recast_node s n (inner_node n kinds.Array b)) old ended kinds.Array) (sym e)
+    (subst (λ (p : Option Tree). IsPut p old ended kinds.Array) (sym is) (array_made o old begun filled ended wraps h))
+
 pub array_put : (s : Form) (levels m : ℕ) (b old begun filled ended : Bytes) → levels ≡ suc m → ((b : Bytes) → filled ≡ begun ++ b → ended ≡ old ++ enclosed b) → AreItemsPut (recast_items s m 0 (nodes_with (node_in m) (walk b))) 0 begun filled
     → IsPut (recast_node (sequence s) levels (inner_node levels kinds.Array b)) old ended kinds.Array
-array_put s levels m b old begun filled ended e wraps h =
-    subst (λ n. IsPut (recast_node (sequence s) n (inner_node n kinds.Array b)) old ended kinds.Array) (sym e)
-    (subst (λ (o : Option Tree). IsPut o old ended kinds.Array) (sym (array_is s m b)) (array_made (recast_items s m 0 (nodes_with (node_in m) (walk b))) old begun filled ended wraps h))
+array_put s levels m b old begun filled ended e wraps h = elements_put (sequence s) (recast_items s m 0 (nodes_with (node_in m) (walk b))) levels m b old begun filled ended (array_is s m b) e wraps h
 
 -- ---- structs
 
@@ -57,8 +62,13 @@ struct_made : (o : Option Pairs) (old begun filled ended : Bytes) → ((b : Byte
 struct_made None old begun filled ended wraps h = absurd h
 struct_made (Some ps) old begun filled ended wraps h = (refl, wraps (elements ps) h)
 
+-- a document that was closed behind these elements
+pub pairs_put : (s : Form) (o : Option Pairs) (levels m : ℕ) (b old begun filled ended : Bytes) → recast_node s (suc m) (inner_node (suc m) kinds.EmbeddedDocument b) ≡ option_map tree.document o → levels ≡ suc m
+    → ((b : Bytes) → filled ≡ begun ++ b → ended ≡ old ++ enclosed b) → ArePairsPut o begun filled → IsPut (recast_node s levels (inner_node levels kinds.EmbeddedDocument b)) old ended kinds.EmbeddedDocument
+pairs_put s o levels m b old begun filled ended is e wraps h =
+    subst (λ n. IsPut (recast_node s n (inner_node n kinds.EmbeddedDocument b)) old ended kinds.EmbeddedDocument) (sym e)
+    (subst (λ (p : Option Tree). IsPut p old ended kinds.EmbeddedDocument) (sym is) (struct_made o old begun filled ended wraps h))
+
 pub struct_put : (name : Utf8) (fs : Fields) (levels m : ℕ) (b old begun filled ended : Bytes) → reserved_kind name ≡ None → levels ≡ suc m → ((b : Bytes) → filled ≡ begun ++ b → ended ≡ old ++ enclosed b)
     → ArePairsPut (recast_fields (slots_of fs plain) m (nodes_with (node_in m) (walk b))) begun filled → IsPut (recast_node (structure name fs) levels (inner_node levels kinds.EmbeddedDocument b)) old ended kinds.EmbeddedDocument
-struct_put name fs levels m b old begun filled ended free e wraps h =
-    subst (λ n. IsPut (recast_node (structure name fs) n (inner_node n kinds.EmbeddedDocument b)) old ended kinds.EmbeddedDocument) (sym e)
-    (subst (λ (o : Option Tree). IsPut o old ended kinds.EmbeddedDocument) (sym (struct_is name fs m b free)) (struct_made (recast_fields (slots_of fs plain) m (nodes_with (node_in m) (walk b))) old begun filled ended wraps h))
+struct_put name fs levels m b old begun filled ended free e wraps h = pairs_put (structure name fs) (recast_fields (slots_of fs plain) m (nodes_with (node_in m) (walk b))) levels m b old begun filled ended (struct_is name fs m b free) e wraps h

@@ -24,7 +24,7 @@ spelled_by i (Err e) ws t h = absurd cc
 spelled_by i (Ok u) (Err e) t h = refl
 spelled_by i (Ok u) (Ok us) t h = let same : u ≡ t = cc in ap (λ x. Some (tree x us)) same
 
-items_by : (levels i : ℕ) (r : Reading Marked) (rest : Reading MarkedItems) (t : Tree) → recast_by (λ v. spell (contents v) levels) r ≡ Some t
+pub items_by : (levels i : ℕ) (r : Reading Marked) (rest : Reading MarkedItems) (t : Tree) → recast_by (λ v. spell (contents v) levels) r ≡ Some t
     → recast_by (λ vs. spell_items i (item_contents vs) levels) (under_index i r >>= λ v. result_map (item v) rest) ≡ option_map (tree t) (recast_by (λ vs. spell_items (suc i) (item_contents vs) levels) rest)
 items_by levels i (Err e) rest t h = absurd cc
 items_by levels i (Ok v) (Err e) t h = refl

@@ -1,6 +1,6 @@
 -- Values at leaves.
-use Rattle.std.proofs.Common.{◌≡◌, ℕ, ℤ, zero, suc, w64, FitsSigned, ◌≤◌, ◌<◌, ◌^◌, ◌++◌, length, false, true, cond, Option, Some, Ok, refl, ap, sym, subst, ◌∙◌, arith}
-use Rattle.std.specs.Prelude.{nat_eq}
+use Rattle.std.proofs.Common.{◌≡◌, ℕ, ℤ, zero, suc, w64, FitsSigned, ◌≤◌, ◌<◌, ◌^◌, ◌++◌, length, false, true, cond, Option, Some, None, Ok, refl, ap, sym, subst, ◌∙◌, arith}
+use Rattle.std.specs.Prelude.{nat_eq, IfSome}
 use Rattle.std.specs.Int.{cast_unsigned}
 use Rattle.std.specs.Str.{is_utf8}
 use Rattle.bson_base.specs.Sound.{IsClean, HasBytes, IsBinary}
@@ -8,6 +8,7 @@ use Rattle.bson_base.specs.Outcome.{result_map}
 use Rattle.bson_base.specs.Text.{Bytes, Utf8}
 use Rattle.bson_base.specs.Tree as tree
 use Rattle.bson_base.specs.Tree.{Tree, depth}
+use Rattle.bson_base.specs.declared.element_type.ElementType.{ElementType}
 use Rattle.bson_base.specs.declared.element_type.ElementType.TheVariants as kinds
 use Rattle.bson_rawdoc.specs.Node as node
 use Rattle.bson_rawdoc.specs.Node.{opens}
@@ -43,6 +44,11 @@ timestamp_put time increment old new levels t i put = subst (λ (o : Option Tree
 -- a binary of any subtype but the old one
 pub binary_is : (subtype : ℕ) (bytes old new : Bytes) → nat_eq subtype 2 ≡ false → new ≡ old ++ tree.after_length subtype bytes → new ≡ old ++ tree.enc (tree.binary subtype bytes)
 binary_is subtype bytes old new other put = put ∙ ap (λ c. old ++ tree.after_length subtype (cond c (tree.le32 (length bytes) ++ bytes) bytes)) (sym other)
+
+-- what was put is what the node is recast as, where the bytes are as they have to be
+pub if_put : {P : Type 0} (r : Option ElementType) (o : Option Tree) (t : Tree) (old new : Bytes) → (P → o ≡ Some t) → IfSome r (IsPut (Some t) old new) → IfSome r (λ _. P) → IfSome r (IsPut o old new)
+if_put None o t old new reads put clean = tt
+if_put (Some k) o t old new reads put clean = subst (λ p. IsPut p old new k) (sym (reads clean)) put
 
 pub binary_read : (subtype : ℕ) (bytes : Bytes) (levels : ℕ) → IsBinary subtype bytes → recast_node (leaf leaves.Binary) levels (node.binary_node subtype (borrowed bytes)) ≡ Some (tree.binary subtype bytes)
 binary_read zero bytes levels clean = tree_written (tree.binary 0 bytes) levels clean (omega arith)

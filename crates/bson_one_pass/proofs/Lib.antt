@@ -4,5 +4,8 @@ mod Places
 mod Pieces
 mod Values
 mod Leaves
+mod Forms
 mod Containers
+mod Tuples
+mod Entries
 mod Whole

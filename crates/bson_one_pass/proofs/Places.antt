@@ -95,7 +95,7 @@ written_by key made new (Err r) h = absurd h
 written_by key made new (Ok t) h = (t, refl, h)
 
 -- the value, its tree, and the element
-read_by : (levels : ℕ) (key : Utf8) (made new : Bytes) (r : Reading Marked) → IsElementPut (recast_by (λ v. spell (contents v) levels) r) key made new
+pub read_by : (levels : ℕ) (key : Utf8) (made new : Bytes) (r : Reading Marked) → IsElementPut (recast_by (λ v. spell (contents v) levels) r) key made new
     → (v : Marked) × (t : Tree) × (r ≡ Ok v) × (spell (contents v) levels ≡ Ok t) × (new ≡ made ++ element (kind t) key (enc t))
 read_by levels key made new (Err r) h = absurd h
 read_by levels key made new (Ok v) h = let p = written_by key made new (spell (contents v) levels) h in (v, p.0, refl, p.1, p.2)

@@ -1,5 +1,5 @@
 -- A whole document.
-use Rattle.std.proofs.Common.{◌≡◌, ◌≤◌, [], length, Ok, Err, refl, ap, sym, ◌∙◌}
+use Rattle.std.proofs.Common.{◌≡◌, ◌≤◌, [], length, false, Ok, Err, refl, ap, sym, ◌∙◌}
 use Rattle.bson_base.specs.Outcome.{result_map}
 use Rattle.bson_base.specs.Sound.{max_bytes, max_levels}
 use Rattle.bson_base.specs.Text.{Bytes}

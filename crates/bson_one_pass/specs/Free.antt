@@ -1,10 +1,32 @@
--- A key that no field has.
+-- A key that no field has, a text that names a unit variant, and keys of maps.
 use Rattle.std.specs.Prelude.{List, [], ◌∷◌, Bool, false, true, if◌then◌else◌, string_bytes}
 use Rattle.std.specs.Str.{bytes_eq}
+use Rattle.std.specs.Borrow.{Bor}
 use Rattle.bson_base.specs.Text.{Utf8}
+use Rattle.bson_shape.specs.Makers.{is_unit}
+use Rattle.bson_shape.specs.ShapeView.{content_of}
+use Rattle.bson_shape.specs.declared.leaf.Leaf.{Leaf}
+use Rattle.bson_shape.specs.declared.leaf.Leaf.TheVariants as leaves
 use Rattle.bson_shape.specs.declared.shape.FieldShape.{FieldShape}
+use Rattle.bson_shape.specs.declared.shape.VariantShape.{VariantShape}
 
 -- the key is the name of none of these fields
 abbrev pub is_free : Utf8 → List FieldShape → Bool
 is_free key [] = true
 is_free key (f ∷ fs) = if bytes_eq (string_bytes f.name) key then false else is_free key fs
+
+-- the variant of the name has its name alone
+abbrev pub names_unit : Utf8 → List VariantShape → Bool
+names_unit name [] = false
+names_unit name (v ∷ vs) = if bytes_eq (string_bytes v.name) name then is_unit (content_of v.content) else names_unit name vs
+
+-- a leaf that takes every key as it is
+abbrev pub takes_keys : Leaf → Bool
+takes_keys leaves.Str = true
+takes_keys leaves.String = true
+takes_keys l = false
+
+-- the key is none of these
+abbrev pub is_new : Utf8 → List (Bor Utf8) → Bool
+is_new key [] = true
+is_new key (k ∷ ks) = if bytes_eq key k.now then false else is_new key ks

@@ -6,14 +6,15 @@ use Rattle.bson_base.specs.Text.{Bytes, Utf8}
 use Rattle.bson_base.specs.Tree.{Tree, Trees, Pairs, enc, elements, array_elements, element, kind}
 use Rattle.bson_base.specs.declared.element_type.ElementType.{ElementType}
 use Rattle.bson_rawdoc.specs.Node.{Node, Nodes}
-use Rattle.bson_shape.specs.Form.{Form}
-use Rattle.bson_datum.specs.Marked.{contents, item_contents, field_contents}
+use Rattle.bson_shape.specs.Form.{Form, leaf, Parts}
+use Rattle.bson_shape.specs.declared.leaf.Leaf.{Leaf}
+use Rattle.bson_datum.specs.Marked.{MarkedEntries, contents, item_contents, entry_contents, field_contents}
 use Rattle.bson_datum.specs.Value.{Value}
-use Rattle.bson_laws.specs.Containers.{reads_items}
+use Rattle.bson_laws.specs.Containers.{reads_items, reads_key, reads_entries}
 use Rattle.bson_laws.specs.Judged.{Reading, plain}
-use Rattle.bson_laws.specs.Reads.{reads, reads_document}
+use Rattle.bson_laws.specs.Reads.{reads, reads_parts, reads_document}
 use Rattle.bson_laws.specs.Slots.{Slots, fill, finish}
-use Rattle.bson_laws.specs.Spell.{Writing, spell, spell_items, spell_fields, spell_document}
+use Rattle.bson_laws.specs.Spell.{Writing, spell, spell_items, spell_entries, spell_fields, spell_document}
 
 -- what is written, where it is
 abbrev pub of_writing : {A : Type 0} → Writing A → Option A
@@ -33,9 +34,17 @@ recast_node s levels n = recast_by (λ v. spell (contents v) levels) (reads s pl
 abbrev pub recast_items : Form → (levels index : ℕ) → Nodes → Option Trees
 recast_items s levels i ns = recast_by (λ vs. spell_items i (item_contents vs) levels) (reads_items (reads s plain) i ns)
 
+-- the trees of the parts of a tuple from the elements of an array from this index on
+abbrev pub recast_parts : Parts → (levels index : ℕ) → Nodes → Option Trees
+recast_parts ps levels i ns = recast_by (λ vs. spell_items i (item_contents vs) levels) (reads_parts ps plain i ns)
+
 -- the pairs of the fields of a struct from the elements of a document, put to what the slots have
 abbrev pub recast_fields : Slots → (levels : ℕ) → Nodes → Option Pairs
 recast_fields slots levels ns = recast_by (λ vs. spell_fields (field_contents vs) levels) (fill plain ns slots >>= finish)
+
+-- the pairs of the entries of a map from the elements of a document, put to those before them
+abbrev pub recast_entries : Leaf → Form → MarkedEntries → (levels : ℕ) → Nodes → Option Pairs
+recast_entries key s before levels ns = recast_by (λ es. spell_entries (entry_contents es) levels) (reads_entries (reads_key plain (leaf key)) (reads s plain) ns before)
 
 -- a tree of this kind was appended
 abbrev pub IsPut : Option Tree → (old new : Bytes) → ElementType → Type 0

@@ -1,5 +1,5 @@
 // Extended values at their leaves.
-ghost use Rattle.std.specs.Prelude.{◌≡◌, ◌++◌, IfSome};
+ghost use Rattle.std.specs.Prelude.{◌≡◌, ◌++◌, ◌<◌, ◌^◌, IfSome};
 ghost use Rattle.bson_base.specs.Sound.{HasBytes};
 ghost use Rattle.bson_base.specs.Text.{AreBytes};
 ghost use Rattle.bson_base.specs.Tree.{le32};
@@ -100,12 +100,18 @@ pub(crate) fn recast_timestamp(
 {
     match leaf {
         Leaf::Timestamp => {
+            known_numbers(stamp.time, stamp.increment);
             put_timestamp(made, stamp)?;
             Some(ElementType::Timestamp)
         }
         _ => None,
     }
 }
+
+// Numbers of four bytes are no greater.
+fn known_numbers(time: u32, increment: u32)
+    ensures { (time < 2 ^ 32) × (increment < 2 ^ 32) }
+{}
 
 /// The eight bytes of a timestamp.
 #[tactic(auto, unfolding(bson_base::specs::Tree::le32))]

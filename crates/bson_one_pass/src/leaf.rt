@@ -72,7 +72,7 @@ fn recast_text(made: &mut Vec<u8>, leaf: Leaf, levels: u32, text: &str) -> Optio
 
 /// A text: its length with the zero behind it, the text, the zero.
 #[tactic(auto, unfolding(bson_base::specs::Tree::le32))]
-fn put_text(made: &mut Vec<u8>, text: &str) -> Option<ElementType>
+pub(crate) fn put_text(made: &mut Vec<u8>, text: &str) -> Option<ElementType>
     ensures { IfSome result (IsPut (Some (string text.now)) made.old.items made.new.items) }
 {
     let length = u32::try_from(text.len() + 1).ok()?;

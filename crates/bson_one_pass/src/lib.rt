@@ -9,7 +9,10 @@ mod bytes;
 mod document;
 mod extended;
 mod leaf;
+mod map;
 mod structure;
+mod tuple;
 mod value;
+mod variant;
 
 pub use document::recast_at_once;

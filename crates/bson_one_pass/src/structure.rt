@@ -185,7 +185,7 @@ fn put_missing(made: &mut Vec<u8>, field: &FieldShape) -> Option<()>
 }
 
 /// Whether a zero character is in the text.
-fn has_zero(text: &str) -> bool
+pub(crate) fn has_zero(text: &str) -> bool
     ensures { result ≡ has_zero text.now }
 {
     let mut rest = text.as_bytes();

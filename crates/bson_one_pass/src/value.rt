@@ -1,13 +1,17 @@
 // A value at a shape.
-ghost use Rattle.std.specs.Prelude.{IfSome};
+ghost use Rattle.std.specs.Prelude.{◌≡◌, false, IfSome};
 ghost use Rattle.bson_rawdoc.specs.Node.{value_node, inner_node};
 ghost use Rattle.bson_rawdoc.specs.ValueView.{raw_value};
-ghost use Rattle.bson_shape.specs.Form.{optional};
+ghost use Rattle.bson_shape.specs.Form.{optional, newtype};
+ghost use Rattle.bson_shape.specs.Makers.{is_reserved_newtype};
 ghost use Rattle.bson_one_pass.specs.Recast.{recast_node, IsPut};
 
 use crate::array::recast_array;
 use crate::leaf::recast_leaf;
+use crate::map::recast_map;
 use crate::structure::recast_struct;
+use crate::tuple::recast_tuple;
+use crate::variant::recast_variant;
 use bson_base::ElementType;
 use bson_rawdoc::RawBsonRef;
 use bson_shape::{Form, Shape};
@@ -31,12 +35,53 @@ pub(crate) fn recast_value(
             RawBsonRef::Array(array) => recast_array(made, item, levels, *array),
             _ => None,
         },
+        Form::Tuple(parts) => match value {
+            RawBsonRef::Array(array) => recast_tuple(made, parts, levels, *array),
+            _ => None,
+        },
+        Form::TupleStruct(_, parts) => match value {
+            RawBsonRef::Array(array) => recast_tuple(made, parts, levels, *array),
+            _ => None,
+        },
         Form::Struct(name, fields) => match value {
             RawBsonRef::Document(document) => recast_struct(made, name, fields, levels, *document),
             _ => None,
         },
-        _ => None,
+        Form::Map(key, inner) => match key.form() {
+            Form::Leaf(key) => match value {
+                RawBsonRef::Document(document) => {
+                    recast_map(made, key, inner, levels, *document)
+                }
+                _ => None,
+            },
+            _ => None,
+        },
+        Form::Newtype(name, inner) => recast_newtype(made, name, inner, levels, value),
+        Form::UnitStruct(_) => match value {
+            RawBsonRef::Null => Some(ElementType::Null),
+            _ => None,
+        },
+        Form::Enum(variants) => match value {
+            RawBsonRef::String(name) => recast_variant(made, variants, levels, name),
+            _ => None,
+        },
     }
+}
+
+/// The value at a newtype whose value has this shape: it is written as that value.
+#[cycle(recast)]
+fn recast_newtype(
+    made: &mut Vec<u8>,
+    name: &str,
+    inner: &Shape,
+    levels: u32,
+    value: &RawBsonRef<'_>,
+) -> Option<ElementType>
+    requires free { is_reserved_newtype name.now ≡ false }
+    ensures { IfSome result (IsPut (recast_node (newtype name.now inner.now) levels (value_node (inner_node levels) (raw_value value.now)))
+        made.old.items made.new.items) }
+{
+    recast_value(made, inner, levels, value)
 }
 
 /// The value at an option whose value has this shape.

@@ -1,20 +1,30 @@
-use Rattle.std.proofs.Common.{◌≡◌, suc, ◌+◌, ◌-◌, ◌*◌, ◌<◌, ◌++◌, [], ◌∷◌, length, get_or, take, drop, ap, sym, ◌∙◌, arith, rules}
+use Rattle.std.proofs.Common.{◌≡◌, suc, ◌+◌, ◌-◌, ◌*◌, ◌<◌, ◌++◌, [], ◌∷◌, length, get_or, take, drop, map, ap, sym, ◌∙◌, arith, rules}
+use Rattle.std.specs.Fmt.{decimal}
 use Rattle.std.specs.Str.{bytes_eq}
 use Rattle.bson_base.specs.Tree.{enclosed}
-use Rattle.bson_rawdoc.specs.DocumentView.{array_bytes}
-use Rattle.bson_rawdoc.specs.Node.{node_in, nodes_with}
+use Rattle.bson_rawdoc.specs.DocumentView.{array_bytes, document_bytes}
+use Rattle.bson_rawdoc.specs.Node.{inner_node, node_in, nodes_with, value_node}
+use Rattle.bson_rawdoc.specs.ValueView.{raw_value}
 use Rattle.bson_rawdoc.specs.Walk.{walk}
-use Rattle.bson_shape.specs.ShapeView.{fields_of, nodes, fields_nodes}
+use Rattle.bson_shape.specs.ShapeView.{fields_of, parts_of, nodes, fields_nodes}
 use Rattle.bson_shape.specs.declared.shape.FieldShape.{FieldShape}
-use Rattle.bson_shape.proofs.Shapes.{field_smaller}
+use Rattle.bson_shape.proofs.Shapes.{field_smaller, part_smaller}
+use Rattle.bson_datum.specs.Value.{no_entries}
 use Rattle.bson_laws.specs.Judged.{plain}
 use Rattle.bson_laws.specs.Reads.{slots_of}
-use Rattle.bson_one_pass.specs.Recast.{recast_node, recast_items, recast_fields}
+use Rattle.bson_one_pass.specs.Recast.{recast_node, recast_items, recast_parts, recast_entries, recast_fields}
 use Rattle.bson_one_pass.proofs.Containers.{array_put}
+use Rattle.bson_one_pass.proofs.Entries.{text_of, entry_step, entries_end, map_put}
+use Rattle.bson_one_pass.proofs.Forms.{newtype_is}
 use Rattle.bson_one_pass.proofs.Items.{item_step, left_none}
 use Rattle.bson_one_pass.proofs.Pieces.{enclosed_put, item_put}
 use Rattle.bson_one_pass.proofs.Places.{due_step, dropped_step, missing_step, places_end}
+use Rattle.bson_one_pass.proofs.Tuples.{part_at_put, parts_put, tuple_put, tuple_structure_put}
 use Rattle.bson_one_pass.proofs.+recast.Goals as goal
+
+pub value::recast_newtype-returns : goal.value::recast_newtype-returns
+value::recast_newtype-returns t c =
+    rw (newtype_is c.args.name.now c.args.inner.now c.args.levels (value_node (inner_node c.args.levels) (raw_value c.args.value.now)) c.requires.1.1) c.recast_value.ensures.put
 
 pub array::recast_item-returns : goal.array::recast_item-returns
 array::recast_item-returns t c =
@@ -110,3 +120,72 @@ structure::recast_fields-returns t c =
     let fs = c.args.fields.now in
     let levels = c.args.levels in
     places_end fs levels (recast_fields (slots_of (fields_of fs) plain) levels (nodes_with (node_in levels) c.args.elements)) c.loop-field.place c.args.made.now.items c.loop-field.made.items c.loop-field.invariant.1 (search rules)
+
+pub tuple::recast_parts-recast_item-requires : goal.tuple::recast_parts-recast_item-requires
+tuple::recast_parts-recast_item-requires t c =
+    let smaller = part_smaller c.args.parts.now c.loop-part.part-index c.part-item.result c.loop-part-test.true in
+    omega (arith, smaller, ap nodes c.part-item.is)
+
+pub tuple::recast_parts-loop-part-preserved : goal.tuple::recast_parts-loop-part-preserved
+tuple::recast_parts-loop-part-preserved t c =
+    let levels = c.args.levels in
+    let i = c.loop-part.part-index in
+    let step = rw c.in-Ok.is at c.in-Some.ensures.steps in
+    let key_is = c.format.ensures.text ∙ ap decimal c.loop-part.invariant.0 in (
+      omega (arith, c.in_ok-index.ensures, c.loop-part.invariant.0),
+      part_at_put c.args.parts.now c.part-item.result levels i c.loop-part.elements c.next.new.self c.in-Ok.element (recast_parts (parts_of c.args.parts.now) levels 0 (nodes_with (node_in levels) c.args.elements)) c.format.result.now c.args.made.now.items
+          c.loop-part.made.items c.recast_item.new.made.items c.loop-part-test.true c.part-item.is step key_is c.loop-part.invariant.1 c.in_ok-recast_item.ensures,
+    )
+
+pub tuple::recast_parts-returns : goal.tuple::recast_parts-returns
+tuple::recast_parts-returns t c =
+    parts_put c.args.parts.now c.args.levels c.loop-part.part-index c.loop-part.elements (recast_parts (parts_of c.args.parts.now) c.args.levels 0 (nodes_with (node_in c.args.levels) c.args.elements)) c.args.made.now.items c.loop-part.made.items
+    c.loop-part-test.false c.loop-part.invariant.1
+
+pub tuple::recast_tuple-returns : goal.tuple::recast_tuple-returns
+tuple::recast_tuple-returns t c =
+    let ps = parts_of c.args.parts.now in
+    let b = array_bytes c.args.array in
+    let m = c.args.levels - 1 in
+    let old = c.args.made.now.items in
+    let begun = c.put.new.made.items in
+    let made = c.recast_parts.new.made.items in
+    let new = c.close.new.made.items in
+    let at : c.len-start.result ≡ length old = search rules in
+    let walked : c.iter_elements.result ≡ walk b = c.iter_elements.ensures.walk ∙ ap walk c.as_doc.ensures.bytes in
+    let ends : new ≡ take (length old) made ++ enclosed (drop (length old + 4) made) = c.in_ok-close.ensures ∙ ap (λ n. take n made ++ enclosed (drop (n + 4) made)) at in
+    let above : c.args.levels ≡ suc m = omega (arith, c.if-levels-eq0.false) in
+    let filled = rw walked at c.in_ok-recast_parts.ensures in
+    record {
+      nameless = tuple_put ps c.args.levels m b old begun made new above (λ e fills. enclosed_put old begun made new e c.in_ok-put.ensures fills ends) filled;
+      named = λ name. tuple_structure_put name ps c.args.levels m b old begun made new above (λ e fills. enclosed_put old begun made new e c.in_ok-put.ensures fills ends) filled;
+    }
+
+pub map::recast_entries-loop-element-preserved : goal.map::recast_entries-loop-element-preserved
+map::recast_entries-loop-element-preserved t c =
+    let s = c.args.shape.now in
+    let levels = c.args.levels in
+    let step = rw c.in-Ok.is at c.in-Some.ensures.steps in (
+      tt,
+      tt,
+      rw c.push.ensures.items
+          (entry_step c.args.key s levels (recast_entries c.args.key s no_entries levels (nodes_with (node_in levels) c.args.elements)) c.loop-element.names.items c.key-name.result c.loop-element.element-iterator c.next.new.self c.in-Ok.element
+          c.args.made.now.items c.loop-element.made.items c.recast_item.new.made.items c.requires.keys step c.loop-element.invariant.2 c.key-name.ensures.key (search rules) (search rules) c.in_ok-recast_item.ensures),
+    )
+
+pub map::recast_entries-returns : goal.map::recast_entries-returns
+map::recast_entries-returns t c =
+    let whole = recast_entries c.args.key c.args.shape.now no_entries c.args.levels (nodes_with (node_in c.args.levels) c.args.elements) in
+    entries_end c.args.key c.args.shape.now c.args.levels whole (map text_of c.loop-element.names.items) c.args.made.now.items c.loop-element.made.items (rw c.in-None.ensures.steps.0 at c.loop-element.invariant.2)
+
+pub map::recast_map-returns : goal.map::recast_map-returns
+map::recast_map-returns t c =
+    let b = document_bytes c.args.document in
+    let m = c.args.levels - 1 in
+    let old = c.args.made.now.items in
+    let begun = c.put.new.made.items in
+    let made = c.recast_entries.new.made.items in
+    let new = c.close.new.made.items in
+    let at : c.len-start.result ≡ length old = search rules in
+    let ends : new ≡ take (length old) made ++ enclosed (drop (length old + 4) made) = c.in_ok-close.ensures ∙ ap (λ n. take n made ++ enclosed (drop (n + 4) made)) at in
+    map_put c.args.key c.args.shape.now c.args.levels m b old begun made new (search rules) (λ e fills. enclosed_put old begun made new e c.in_ok-put.ensures fills ends) (rw c.iter_elements.ensures.walk at c.in_ok-recast_entries.ensures)

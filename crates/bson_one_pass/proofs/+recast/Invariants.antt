@@ -1,11 +1,13 @@
-use Rattle.std.proofs.Common.{◌+◌, ◌*◌, ◌-◌, ◌≤◌, length}
+use Rattle.std.proofs.Common.{◌≡◌, ◌+◌, ◌*◌, ◌-◌, ◌≤◌, length, drop, map}
 use Rattle.bson_rawdoc.specs.Node.{ended, node_in, nodes_with}
-use Rattle.bson_shape.specs.ShapeView.{fields_of, nodes, fields_nodes}
+use Rattle.bson_shape.specs.ShapeView.{fields_of, parts_of, nodes, fields_nodes, parts_nodes}
+use Rattle.bson_datum.specs.Value.{no_entries}
 use Rattle.bson_laws.specs.Judged.{plain}
 use Rattle.bson_laws.specs.Reads.{slots_of}
-use Rattle.bson_one_pass.specs.Recast.{recast_items, recast_fields}
+use Rattle.bson_one_pass.specs.Recast.{recast_items, recast_parts, recast_entries, recast_fields}
 use Rattle.bson_one_pass.proofs.Places.{AreUnderWay}
 use Rattle.bson_one_pass.proofs.Items.{AreLeft}
+use Rattle.bson_one_pass.proofs.Entries.{AreEntriesPut, text_of}
 use Rattle.bson_one_pass.proofs.+recast.Given as goal
 
 abbrev pub decreases-value::recast_value : goal.decreases-value::recast_value
@@ -13,6 +15,9 @@ decreases-value::recast_value l = 8 * nodes l.shape.now
 
 abbrev pub decreases-value::recast_option : goal.decreases-value::recast_option
 decreases-value::recast_option l = 8 * nodes l.inner.now + 1
+
+abbrev pub decreases-value::recast_newtype : goal.decreases-value::recast_newtype
+decreases-value::recast_newtype l = 8 * nodes l.inner.now + 1
 
 abbrev pub decreases-array::recast_item : goal.decreases-array::recast_item
 decreases-array::recast_item l = 8 * nodes l.shape.now + 1
@@ -22,6 +27,18 @@ decreases-array::recast_items l = 8 * nodes l.item.now + 2
 
 abbrev pub decreases-array::recast_array : goal.decreases-array::recast_array
 decreases-array::recast_array l = 8 * nodes l.item.now + 3
+
+abbrev pub decreases-map::recast_entries : goal.decreases-map::recast_entries
+decreases-map::recast_entries l = 8 * nodes l.shape.now + 2
+
+abbrev pub decreases-map::recast_map : goal.decreases-map::recast_map
+decreases-map::recast_map l = 8 * nodes l.shape.now + 3
+
+abbrev pub decreases-tuple::recast_parts : goal.decreases-tuple::recast_parts
+decreases-tuple::recast_parts l = 8 * parts_nodes (parts_of l.parts.now) + 3
+
+abbrev pub decreases-tuple::recast_tuple : goal.decreases-tuple::recast_tuple
+decreases-tuple::recast_tuple l = 8 * parts_nodes (parts_of l.parts.now) + 4
 
 abbrev pub decreases-structure::recast_field : goal.decreases-structure::recast_field
 decreases-structure::recast_field l = 8 * nodes l.field.now.shape + 2
@@ -48,3 +65,13 @@ invariant-structure::recast_fields-loop-field l =
 
 abbrev pub decreases-structure::recast_fields-loop-field : goal.decreases-structure::recast_fields-loop-field
 decreases-structure::recast_fields-loop-field l = length l.fields - l.place
+
+abbrev pub invariant-tuple::recast_parts-loop-part : goal.invariant-tuple::recast_parts-loop-part
+invariant-tuple::recast_parts-loop-part l =
+    (l.index ≡ l.part-index)
+    × AreLeft (recast_parts (parts_of l.parts) l.levels 0 (nodes_with (node_in l.levels) l.fn.elements)) (recast_parts (parts_of (drop l.part-index l.parts)) l.levels l.part-index (nodes_with (node_in l.levels) l.elements)) l.part-index l.initial.made.items l.made.items
+
+abbrev pub invariant-map::recast_entries-loop-element : goal.invariant-map::recast_entries-loop-element
+invariant-map::recast_entries-loop-element l =
+    (goal.iterator-map::recast_entries-loop-element).can_next l.element-iterator × (goal.iterator-map::recast_entries-loop-element).is_finite l.element-iterator
+    × AreEntriesPut l.fn.key l.shape l.levels (recast_entries l.fn.key l.shape no_entries l.levels (nodes_with (node_in l.levels) l.fn.elements)) (nodes_with (node_in l.levels) l.element-iterator) (map text_of l.names.items) l.initial.made.items l.made.items
