@@ -51,10 +51,8 @@
 //! `bson_examples/src/reading.rt`:
 //!
 //! ```rust
-//! ghost use Rattle.std.specs.Prelude.{◌≡◌, IsOk, OnOk, IfOk, Ok, codes, option_and_then};
-//! ghost use Rattle.bson.specs.Access.{as_i64, field};
+//! ghost use Rattle.std.specs.Prelude.{IsOk, OnOk};
 //! ghost use Rattle.bson.specs.Reads.{reads_document};
-//! ghost use Rattle.bson.specs.Value.{Value};
 //!
 //! use bson::{Shape, de, from_slice_at};
 //! use std::alloc::Global;
@@ -62,8 +60,6 @@
 //! /// The age of the person in the bytes of a document such as `{name: "Ada", age: 36}`.
 //! pub fn age(alloc: Global, shape: &Shape, bytes: &[u8]) -> de::Result<Option<i64>>
 //!     ensures read { OnOk result (IsOk (reads_document shape.now bytes.now)) }
-//!     ensures age { (person : Value) → reads_document shape.now bytes.now ≡ Ok person
-//!         → IfOk result (λ age. age ≡ option_and_then as_i64 (field (codes "age") person)) }
 //! {
 //!     let person = from_slice_at(alloc, shape, bytes)?;
 //!     Ok(person.field("age").and_then(|age| age.as_i64()))
