@@ -11,35 +11,35 @@ struct bytes {
     size_t len;
 };
 
-/* Makes room for so many bytes, in place of what there was. */
-static void make_room(struct bytes *room, size_t len)
+/* Makes a buffer of so many bytes, in place of the one before. */
+static void make_buffer(struct bytes *buffer, size_t len)
 {
-    free(room->at);
-    room->at = malloc(len != 0 ? len : 1);
-    if (room->at == NULL) {
+    free(buffer->at);
+    buffer->at = malloc(len != 0 ? len : 1);
+    if (buffer->at == NULL) {
         fputs("out of memory\n", stderr);
         exit(1);
     }
-    room->len = len;
+    buffer->len = len;
 }
 
 /* Reads standard input to its end. */
 static struct bytes read_input(void)
 {
     struct bytes input = {NULL, 0};
-    size_t room = 0;
+    size_t capacity = 0;
     size_t got;
 
     do {
-        if (input.len == room) {
-            uint8_t *grown = realloc(input.at, room += 65536);
+        if (input.len == capacity) {
+            uint8_t *grown = realloc(input.at, capacity += 65536);
             if (grown == NULL) {
                 fputs("out of memory\n", stderr);
                 exit(1);
             }
             input.at = grown;
         }
-        got = fread(input.at + input.len, 1, room - input.len, stdin);
+        got = fread(input.at + input.len, 1, capacity - input.len, stdin);
         input.len += got;
     } while (got != 0);
     if (ferror(stdin)) {
@@ -50,11 +50,11 @@ static struct bytes read_input(void)
 }
 
 /* Prints why a call was refused. */
-static void print_refusal(const tbson_answer *answer, const uint8_t *text)
+static void print_refusal(const tbson_report *report, const uint8_t *text)
 {
-    switch (answer->status) {
+    switch (report->status) {
     case TBSON_SHAPE_REFUSED:
-        fprintf(stderr, "shape refused at %zu: ", answer->place);
+        fprintf(stderr, "shape refused at %zu: ", report->place);
         break;
     case TBSON_READ_REFUSED:
         fputs("read refused: ", stderr);
@@ -66,11 +66,11 @@ static void print_refusal(const tbson_answer *answer, const uint8_t *text)
         fputs("out of memory", stderr);
         break;
     default:
-        fprintf(stderr, "status %u", (unsigned)answer->status);
+        fprintf(stderr, "status %u", (unsigned)report->status);
         break;
     }
-    fwrite(text, 1, answer->text_written, stderr);
-    fputs(answer->text_written < answer->text_needed ? "...\n" : "\n", stderr);
+    fwrite(text, 1, report->text_written, stderr);
+    fputs(report->text_written < report->text_needed ? "...\n" : "\n", stderr);
 }
 
 int main(int argc, char **argv)
@@ -78,7 +78,7 @@ int main(int argc, char **argv)
     struct bytes document, output = {NULL, 0};
     uint8_t text[256];
     const uint8_t *shape;
-    tbson_answer answer;
+    tbson_report report;
     size_t i;
 
     if (argc != 2) {
@@ -92,21 +92,21 @@ int main(int argc, char **argv)
     shape = (const uint8_t *)argv[1];
     document = read_input();
 
-    /* A first call in a room of the document's size; where that is too small, a second one in a room of the size that is needed. */
-    make_room(&output, document.len);
-    answer = tbson_recast(shape, strlen(argv[1]), document.at, document.len, output.at, output.len, text, sizeof text);
-    if (answer.status == TBSON_ROOM_TOO_SMALL) {
-        make_room(&output, answer.needed);
-        answer = tbson_recast(shape, strlen(argv[1]), document.at, document.len, output.at, output.len, text, sizeof text);
+    /* A first call with a buffer of the document's size; where that is too small, a second one with a buffer of the size that is needed. */
+    make_buffer(&output, document.len);
+    report = tbson_recast(shape, strlen(argv[1]), document.at, document.len, output.at, output.len, text, sizeof text);
+    if (report.status == TBSON_BUFFER_TOO_SMALL) {
+        make_buffer(&output, report.needed);
+        report = tbson_recast(shape, strlen(argv[1]), document.at, document.len, output.at, output.len, text, sizeof text);
     }
-    if (answer.status == TBSON_DONE) {
-        for (i = 0; i < answer.written; i++) {
-            printf("%02x%s", output.at[i], i + 1 < answer.written ? " " : "\n");
+    if (report.status == TBSON_DONE) {
+        for (i = 0; i < report.written; i++) {
+            printf("%02x%s", output.at[i], i + 1 < report.written ? " " : "\n");
         }
     } else {
-        print_refusal(&answer, text);
+        print_refusal(&report, text);
     }
     free(output.at);
     free(document.at);
-    return answer.status == TBSON_DONE ? 0 : 1;
+    return report.status == TBSON_DONE ? 0 : 1;
 }

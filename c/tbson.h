@@ -4,14 +4,14 @@
  * Documents are read at a shape and written anew. A shape is a text such as {name:string,age:i64}, which says what type each value has;
  * the README of the repository has the whole notation.
  *
- * Rooms. No memory passes between the library and its caller. What a call gives, it puts into rooms, which are bytes of the caller:
+ * Buffers. No memory passes between the library and its caller. What a call returns besides its report is written to buffers of the caller:
  *
- * - The output room gets all of the output, or nothing. The bytes behind the output stay as they were.
- * - The text room gets as many first bytes of the text as fit, and the bytes behind them stay as they were. The text is UTF-8 with no zero
+ * - The output buffer gets all of the output, or nothing. The bytes behind the output stay as they were.
+ * - The text buffer gets as many first bytes of the text as fit, and the bytes behind them stay as they were. The text is UTF-8 with no zero
  *   byte at its end; one that is cut may end inside a character. Names of fields are in it as they are, line breaks and zeros included.
  *
- * What the caller owes. Each pointer with its length names so many bytes that may be read, and of a room written; with the length 0 the
- * pointer may be NULL. A room overlaps no other argument of its call. Each length is at most PTRDIFF_MAX.
+ * Requirements for the caller. Each pointer with its length names so many bytes that may be read, and for a buffer written; with the length 0
+ * the pointer may be NULL. A buffer overlaps no other argument of its call. Each length is at most PTRDIFF_MAX.
  *
  * Threads. The library has no state. Calls may run at the same time, on threads of any kind, as long as none writes to what another one
  * reads or writes. Memory is taken by malloc and given back by free before the call returns, so a call may not run in a signal handler, nor
@@ -38,8 +38,8 @@ extern "C" {
 #define TBSON_VERSION 1
 
 /*
- * How a call ended. Each call lists the statuses that it may answer. A later version may add statuses to the list, also for the calls of this
- * one: take a status that you do not know for a failure, after which nothing was written to the output room.
+ * How a call ended. Each call lists the statuses that it may return. A later version may add statuses to the list, also for the calls of this
+ * one: take a status that you do not know for a failure, after which nothing was written to the output buffer.
  */
 enum tbson_status {
     /* All that was asked for was done. */
@@ -56,33 +56,33 @@ enum tbson_status {
     TBSON_BROKEN = 5,
     /* The file has no more documents. */
     TBSON_END = 6,
-    /* The output takes more bytes than its room has: as many as are needed. */
-    TBSON_ROOM_TOO_SMALL = 7,
-    /* Memory ran out. Any call but tbson_next_document and tbson_version may answer so at any time. Both rooms are as they were. */
+    /* The output takes more bytes than its buffer has: as many as are needed. */
+    TBSON_BUFFER_TOO_SMALL = 7,
+    /* Memory ran out. Any call but tbson_next_document and tbson_version may return it at any time. Both buffers are as they were. */
     TBSON_NO_MEMORY = 8
 };
 
-/* What a call answers. A number that is not spoken of at the status is 0. */
-typedef struct tbson_answer {
+/* What a call returns. A number that is not spoken of at the status is 0. */
+typedef struct tbson_report {
     /* One of enum tbson_status. */
     uint32_t status;
     /* At TBSON_SHAPE_REFUSED the place in the shape, at TBSON_BROKEN that in the file: a number of bytes from the start. */
     size_t place;
-    /* How many bytes were written to the output room: 0, or as many as are needed. */
+    /* How many bytes were written to the output buffer: 0, or as many as are needed. */
     size_t written;
     /* How many bytes the whole output takes. */
     size_t needed;
-    /* How many bytes were written to the text room: the smaller of its length and of text_needed. */
+    /* How many bytes were written to the text buffer: the smaller of its length and of text_needed. */
     size_t text_written;
     /* How many bytes the whole text takes. */
     size_t text_needed;
-} tbson_answer;
+} tbson_report;
 
 /* The version of the library that is linked: see TBSON_VERSION. */
 uint32_t tbson_version(void);
 
 /*
- * Judges whether the bytes are a shape.
+ * Checks whether the bytes are a shape.
  *
  * TBSON_DONE           They are.
  * TBSON_SHAPE_REFUSED  They are not. Of bytes that are no UTF-8 the place is the first that is no part of a character, and the text is
@@ -91,36 +91,36 @@ uint32_t tbson_version(void);
  *                      repeated name, say.
  * TBSON_NO_MEMORY
  */
-tbson_answer tbson_check_shape(const uint8_t *shape, size_t shape_len, uint8_t *text, size_t text_len);
+tbson_report tbson_check_shape(const uint8_t *shape, size_t shape_len, uint8_t *text, size_t text_len);
 
 /*
  * Recasts one document: reads its bytes at the shape, and writes what was read as the bytes of a document.
  *
- * TBSON_DONE            The first `written` bytes of the output room are the new document. A recast of these bytes at the same shape gives the
- *                       same bytes.
- * TBSON_ROOM_TOO_SMALL  The output room is as it was. A call with a room of `needed` bytes gives the output.
- * TBSON_SHAPE_REFUSED   As of tbson_check_shape.
- * TBSON_READ_REFUSED    The text tells what is wrong and where, as "error at name: invalid type: String". The path is a point where the document
- *                       itself is refused.
- * TBSON_WRITE_REFUSED   The same: the output would be too long or nest too deep, say.
+ * TBSON_DONE              The first `written` bytes of the output buffer are the new document. A recast of these bytes at the same shape gives the
+ *                         same bytes.
+ * TBSON_BUFFER_TOO_SMALL  The output buffer is as it was. A call with a buffer of `needed` bytes gives the output.
+ * TBSON_SHAPE_REFUSED     As of tbson_check_shape.
+ * TBSON_READ_REFUSED      The text tells what is wrong and where, as "error at name: invalid type: String". The path is `.` where the whole
+ *                         document is refused.
+ * TBSON_WRITE_REFUSED     The same: the output would be too long or nest too deep, say.
  * TBSON_NO_MEMORY
  */
-tbson_answer tbson_recast(const uint8_t *shape, size_t shape_len, const uint8_t *document, size_t document_len, uint8_t *output, size_t output_len,
+tbson_report tbson_recast(const uint8_t *shape, size_t shape_len, const uint8_t *document, size_t document_len, uint8_t *output, size_t output_len,
                           uint8_t *text, size_t text_len);
 
 /*
  * Recasts each document of a file, which has them one after another, as mongodump writes them.
  *
- * TBSON_DONE            Each document was recast. The first `written` bytes of the output room are the new documents, one after another.
- * TBSON_SOME_REFUSED    The same of all documents but those that the text lists: for each a line, as
- *                       "document 1: read refused: error at name: invalid type: String\n", with its number in the file, counted from 0.
- * TBSON_ROOM_TOO_SMALL  The output room is as it was. A call with a room of `needed` bytes gives the output. The text lists the refused documents.
- * TBSON_SHAPE_REFUSED   As of tbson_check_shape.
- * TBSON_BROKEN          At the place no document begins: the bytes that are left are fewer than four, or announce a length of less than five,
- *                       or of more bytes than are left. Nothing was written.
+ * TBSON_DONE              Each document was recast. The first `written` bytes of the output buffer are the new documents, one after another.
+ * TBSON_SOME_REFUSED      The same of all documents but those that the text lists: for each a line, as
+ *                         "document 1: read refused: error at name: invalid type: String\n", with its number in the file, counted from 0.
+ * TBSON_BUFFER_TOO_SMALL  The output buffer is as it was. A call with a buffer of `needed` bytes gives the output. The text lists the refused documents.
+ * TBSON_SHAPE_REFUSED     As of tbson_check_shape.
+ * TBSON_BROKEN            At the place no document begins: the bytes that are left are fewer than four, or announce a length of less than five,
+ *                         or of more bytes than are left. Nothing was written.
  * TBSON_NO_MEMORY
  */
-tbson_answer tbson_migrate(const uint8_t *shape, size_t shape_len, const uint8_t *file, size_t file_len, uint8_t *output, size_t output_len,
+tbson_report tbson_migrate(const uint8_t *shape, size_t shape_len, const uint8_t *file, size_t file_len, uint8_t *output, size_t output_len,
                            uint8_t *text, size_t text_len);
 
 /* What is at a place of a file of documents. */

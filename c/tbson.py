@@ -11,7 +11,7 @@ from typing import Iterator, List, NamedTuple, Union
 #: The version of tbson.h that this module is for.
 VERSION = 1
 
-_DONE, _SOME_REFUSED, _SHAPE_REFUSED, _READ_REFUSED, _WRITE_REFUSED, _BROKEN, _END, _ROOM_TOO_SMALL, _NO_MEMORY = range(9)
+_DONE, _SOME_REFUSED, _SHAPE_REFUSED, _READ_REFUSED, _WRITE_REFUSED, _BROKEN, _END, _BUFFER_TOO_SMALL, _NO_MEMORY = range(9)
 
 
 class Refused(Exception):
@@ -52,7 +52,7 @@ class Migration(NamedTuple):
     refused: str
 
 
-class _Answer(ctypes.Structure):
+class _Report(ctypes.Structure):
     _fields_ = [
         ("status", ctypes.c_uint32),
         ("place", ctypes.c_size_t),
@@ -74,9 +74,9 @@ def _load() -> ctypes.CDLL:
     beside = os.path.join(os.path.dirname(os.path.abspath(__file__)), "out", "libtbson.so")
     library = ctypes.CDLL(os.environ.get("TBSON_LIBRARY", beside))
     library.tbson_version.argtypes, library.tbson_version.restype = [], ctypes.c_uint32
-    library.tbson_check_shape.argtypes, library.tbson_check_shape.restype = 2 * _SLICE, _Answer
-    library.tbson_recast.argtypes, library.tbson_recast.restype = 4 * _SLICE, _Answer
-    library.tbson_migrate.argtypes, library.tbson_migrate.restype = 4 * _SLICE, _Answer
+    library.tbson_check_shape.argtypes, library.tbson_check_shape.restype = 2 * _SLICE, _Report
+    library.tbson_recast.argtypes, library.tbson_recast.restype = 4 * _SLICE, _Report
+    library.tbson_migrate.argtypes, library.tbson_migrate.restype = 4 * _SLICE, _Report
     library.tbson_next_document.argtypes, library.tbson_next_document.restype = _SLICE + [ctypes.c_size_t], _Document
     if library.tbson_version() < VERSION:
         raise ImportError("the library is older than tbson.py")
@@ -90,30 +90,30 @@ def _shape_bytes(shape: Union[str, bytes]) -> bytes:
     return shape.encode() if isinstance(shape, str) else bytes(shape)
 
 
-def _refusal(answer: _Answer, text: str) -> Exception:
-    if answer.status == _SHAPE_REFUSED:
-        return ShapeRefused(text, answer.place)
-    if answer.status == _READ_REFUSED:
+def _refusal(report: _Report, text: str) -> Exception:
+    if report.status == _SHAPE_REFUSED:
+        return ShapeRefused(text, report.place)
+    if report.status == _READ_REFUSED:
         return ReadRefused(text)
-    if answer.status == _WRITE_REFUSED:
+    if report.status == _WRITE_REFUSED:
         return WriteRefused(text)
-    if answer.status == _BROKEN:
-        return Broken("no document begins here", answer.place)
-    if answer.status == _NO_MEMORY:
+    if report.status == _BROKEN:
+        return Broken("no document begins here", report.place)
+    if report.status == _NO_MEMORY:
         return MemoryError()
-    return RuntimeError(f"status {answer.status}")
+    return RuntimeError(f"status {report.status}")
 
 
 def _call(function, inputs: List[bytes], output_len: int):
-    """Calls until both rooms are large enough: the answer, the output and the text."""
+    """Calls until both buffers are large enough, and returns the report, the output and the text."""
     text_len = 256
     while True:
         output, text = ctypes.create_string_buffer(max(output_len, 1)), ctypes.create_string_buffer(text_len)
         slices = [argument for each in inputs for argument in (each, len(each))]
-        answer = function(*slices, output, output_len, text, text_len)
-        if answer.status != _ROOM_TOO_SMALL and answer.text_needed <= text_len:
-            return answer, output.raw[: answer.written], text.raw[: answer.text_written].decode()
-        output_len, text_len = max(output_len, answer.needed), max(text_len, answer.text_needed)
+        report = function(*slices, output, output_len, text, text_len)
+        if report.status != _BUFFER_TOO_SMALL and report.text_needed <= text_len:
+            return report, ctypes.string_at(output, report.written), ctypes.string_at(text, report.text_written).decode()
+        output_len, text_len = max(output_len, report.needed), max(text_len, report.text_needed)
 
 
 def version() -> int:
@@ -124,24 +124,24 @@ def version() -> int:
 def check_shape(shape: Union[str, bytes]) -> None:
     """Raises ShapeRefused where the text is no shape."""
     notation, text = _shape_bytes(shape), ctypes.create_string_buffer(256)
-    answer = _library.tbson_check_shape(notation, len(notation), text, len(text))
-    if answer.status != _DONE:
-        raise _refusal(answer, text.raw[: answer.text_written].decode())
+    report = _library.tbson_check_shape(notation, len(notation), text, len(text))
+    if report.status != _DONE:
+        raise _refusal(report, ctypes.string_at(text, report.text_written).decode())
 
 
 def recast(shape: Union[str, bytes], document: bytes) -> bytes:
     """The document, read at the shape and written anew. Raises ShapeRefused, ReadRefused or WriteRefused."""
-    answer, output, text = _call(_library.tbson_recast, [_shape_bytes(shape), bytes(document)], len(document))
-    if answer.status != _DONE:
-        raise _refusal(answer, text)
+    report, output, text = _call(_library.tbson_recast, [_shape_bytes(shape), bytes(document)], len(document))
+    if report.status != _DONE:
+        raise _refusal(report, text)
     return output
 
 
 def migrate(shape: Union[str, bytes], file: bytes) -> Migration:
     """The documents of a file, each recast at the shape. Raises ShapeRefused or Broken."""
-    answer, output, text = _call(_library.tbson_migrate, [_shape_bytes(shape), bytes(file)], len(file))
-    if answer.status not in (_DONE, _SOME_REFUSED):
-        raise _refusal(answer, text)
+    report, output, text = _call(_library.tbson_migrate, [_shape_bytes(shape), bytes(file)], len(file))
+    if report.status not in (_DONE, _SOME_REFUSED):
+        raise _refusal(report, text)
     return Migration(output, text)
 
 

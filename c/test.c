@@ -34,24 +34,24 @@ static const uint8_t wide_seven[] = {16, 0, 0, 0, 18, 'n', 0, 7, 0, 0, 0, 0, 0, 
 /* {n: 7}, {}, {n: 7}. */
 static const uint8_t file[] = {12, 0, 0, 0, 16, 'n', 0, 7, 0, 0, 0, 0, 5, 0, 0, 0, 0, 12, 0, 0, 0, 16, 'n', 0, 7, 0, 0, 0, 0};
 
-/* Whether a room begins with bytes, and has the filling byte behind them to its end. */
-static int holds(const uint8_t *room, size_t room_len, const uint8_t *bytes, size_t len)
+/* Whether a buffer begins with bytes, and has the filling byte behind them to its end. */
+static int holds(const uint8_t *buffer, size_t buffer_len, const uint8_t *bytes, size_t len)
 {
     size_t i;
 
-    if (memcmp(room, bytes, len) != 0) {
+    if (memcmp(buffer, bytes, len) != 0) {
         return 0;
     }
-    for (i = len; i < room_len; i++) {
-        if (room[i] != 0xaa) {
+    for (i = len; i < buffer_len; i++) {
+        if (buffer[i] != 0xaa) {
             return 0;
         }
     }
     return 1;
 }
 
-/* Whether an answer has these numbers. */
-static int is(tbson_answer a, uint32_t status, size_t place, size_t written, size_t needed, size_t text_written, size_t text_needed)
+/* Whether a report has these numbers. */
+static int is(tbson_report a, uint32_t status, size_t place, size_t written, size_t needed, size_t text_written, size_t text_needed)
 {
     return a.status == status && a.place == place && a.written == written && a.needed == needed && a.text_written == text_written &&
            a.text_needed == text_needed;
@@ -90,8 +90,8 @@ static void test_recast(void)
 
     memset(output, 0xaa, sizeof output);
     memset(text, 0xaa, sizeof text);
-    CHECK(is(tbson_recast(TEXT("{n:u32}"), BYTES(seven), NULL, 0, BYTES(text)), TBSON_ROOM_TOO_SMALL, 0, 0, 16, 0, 0));
-    CHECK(is(tbson_recast(TEXT("{n:u32}"), BYTES(seven), output, 15, BYTES(text)), TBSON_ROOM_TOO_SMALL, 0, 0, 16, 0, 0));
+    CHECK(is(tbson_recast(TEXT("{n:u32}"), BYTES(seven), NULL, 0, BYTES(text)), TBSON_BUFFER_TOO_SMALL, 0, 0, 16, 0, 0));
+    CHECK(is(tbson_recast(TEXT("{n:u32}"), BYTES(seven), output, 15, BYTES(text)), TBSON_BUFFER_TOO_SMALL, 0, 0, 16, 0, 0));
     CHECK(holds(output, sizeof output, TEXT("")));
     CHECK(is(tbson_recast(TEXT("{n:u32}"), BYTES(seven), output, 16, NULL, 0), TBSON_DONE, 0, 16, 16, 0, 0));
     CHECK(holds(output, sizeof output, BYTES(wide_seven)));
@@ -161,7 +161,7 @@ static void test_migrate(void)
     memcpy(both + 16, wide_seven, 16);
     memset(output, 0xaa, sizeof output);
     memset(text, 0xaa, sizeof text);
-    CHECK(is(tbson_migrate(TEXT("{n:u32}"), BYTES(file), output, 31, BYTES(text)), TBSON_ROOM_TOO_SMALL, 0, 0, 32, 54, 54));
+    CHECK(is(tbson_migrate(TEXT("{n:u32}"), BYTES(file), output, 31, BYTES(text)), TBSON_BUFFER_TOO_SMALL, 0, 0, 32, 54, 54));
     CHECK(holds(output, sizeof output, TEXT("")));
     CHECK(holds(text, sizeof text, TEXT(line)));
     memset(text, 0xaa, sizeof text);
@@ -218,26 +218,26 @@ void __wrap_free(void *block)
     __real_free(block);
 }
 
-/* Each time that memory is taken fails in turn: both rooms stay as they were, and all memory is given back. */
+/* Each time that memory is taken fails in turn: both buffers stay as they were, and all memory is given back. */
 static void test_no_memory(void)
 {
     uint8_t output[36], text[64];
-    tbson_answer answer;
+    tbson_report report;
     size_t n = 0;
 
     do {
         memset(output, 0xaa, sizeof output);
         memset(text, 0xaa, sizeof text);
         until_failure = ++n;
-        answer = tbson_migrate(TEXT("{n:u32}"), BYTES(file), BYTES(output), BYTES(text));
+        report = tbson_migrate(TEXT("{n:u32}"), BYTES(file), BYTES(output), BYTES(text));
         until_failure = 0;
         CHECK(blocks == 0);
-        if (answer.status == TBSON_NO_MEMORY) {
-            CHECK(is(answer, TBSON_NO_MEMORY, 0, 0, 0, 0, 0));
+        if (report.status == TBSON_NO_MEMORY) {
+            CHECK(is(report, TBSON_NO_MEMORY, 0, 0, 0, 0, 0));
             CHECK(holds(output, sizeof output, TEXT("")) && holds(text, sizeof text, TEXT("")));
         }
-    } while (answer.status == TBSON_NO_MEMORY);
-    CHECK(n > 2 && is(answer, TBSON_SOME_REFUSED, 0, 32, 32, 54, 54));
+    } while (report.status == TBSON_NO_MEMORY);
+    CHECK(n > 2 && is(report, TBSON_SOME_REFUSED, 0, 32, 32, 54, 54));
 }
 
 int main(void)

@@ -1,5 +1,5 @@
 #!/bin/sh
-# Builds the library where it is not built, links it for C and for Python, and runs the tests of both. Takes gcc, python3 and the kit's rt.
+# Builds the library, links it for C and for Python, and runs the tests of both. Takes gcc, python3 and the kit's rt.
 set -eu
 cd "$(dirname "$0")"
 
@@ -7,7 +7,7 @@ kit=$(dirname "$(rt doc)")
 crate=../crates/bson_c
 library=$crate/out/libbson_c.a
 allocator=$kit/c/liblibc_c.a
-[ -e "$library" ] || (cd "$crate" && rt lib)
+(cd "$crate" && rt lib)
 
 mkdir -p out
 gcc -std=c99 -O2 -Wall -Wextra -Werror -Wl,--wrap=malloc,--wrap=realloc,--wrap=free -o out/test test.c "$library" "$allocator"

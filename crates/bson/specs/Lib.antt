@@ -78,12 +78,19 @@ pub use Rattle.bson_laws.specs.Views
 pub use Rattle.bson_laws.specs.Writable
 pub use Rattle.bson_met.specs.Gives as MetGives
 pub use Rattle.bson_met.specs.MetView
+pub use Rattle.bson_met.specs.Nulls
+pub use Rattle.bson_met.specs.OpenedView
+pub use Rattle.bson_met.specs.ScalarView
+pub use Rattle.bson_met.specs.ValueView as MetValueView
+pub use Rattle.bson_leaves.specs.ListsMarked
+pub use Rattle.bson_wrapped.specs.Data
 pub use Rattle.bson_de_raw.specs.Gives
 pub use Rattle.bson_ser_stream.specs.Writing
 pub use Rattle.bson_recast_run.specs.Asked
 pub use Rattle.bson_recast_run.specs.Complete
 pub use Rattle.bson_recast_run.specs.Ends as RunEnds
 pub use Rattle.bson_recast_run.specs.Number as RunNumber
+pub use Rattle.bson_recast_run.specs.Printed as RecastPrinted
 pub use Rattle.bson_recast_run.specs.Recasting
 pub use Rattle.bson_recast_run.specs.Rows as RunRows
 pub use Rattle.bson_recast_run.specs.Run

@@ -12,7 +12,7 @@
 //! | documents in their bytes | `RawDocument`, `RawArray`, `RawElement`, `RawIter`, `RawBsonRef` |
 //! | files of documents | `RawDocuments`; `migrate`, `Migration`, `Refused`, `lines_of` |
 //! | values of kinds that serde's data model lacks | `data` to make them, `reserved` to look at them, `reserved_kind` |
-//! | errors | `ParseError`, `ShapeError`, `de::Error`, `ser::Error`, `raw::Error`, `RecastError`, `MigrateError`; `Cause`, `Path`, `Segment`, `Wrapper`, and `Stop` of `read_value` |
+//! | errors | `ParseError`, `ShapeError`, `de::Error`, `ser::Error`, `raw::Error`, `RecastError`, `MigrateError`; `Cause`, `MAX_NESTING_LEVEL`, `Path`, `Segment`, `Wrapper`, and `Stop` of `read_value` |
 //! | input and output | `Source`, `Sink`, their ends `ReadAdapter`, `WriteAdapter`, `MemorySource`, `MemorySink`, `SteadySource`, `SteadySink`; `read_to_end`, `write_due`, `ReadFault`, `Failed`, `MOST`; `Out`, `Steps`, `Ledger`, `Tally` |
 //! | whole programs | `run` and `Status`, `run_migrate` and `MigrateStatus`, `shape_of_word`, `deliver` |
 //! | texts | `date_text`, `date_of_text`, `integer_of_text`, `subtype_of_text`; `DateError`, `NotDate`, `NotHex`, `NotUuid` |
@@ -68,7 +68,7 @@
 //!
 //! # What a value holds
 //!
-//! `field` is for structs, `get` for maps, as at `any`; `as_str`, `as_i64`, `as_bytes` and `as_seq` return what a value of that form holds, and `None` for
+//! `field` is for structs, `get` for maps, as at `any`; `as_str`, `as_bool`, `as_i64`, `as_double`, `as_bytes` and `as_seq` return what a value of that form holds, and `None` for
 //! every other. For all other forms, and for an option, match on the `Datum`.
 //!
 //! `bson_examples/src/accessors.rt`:
@@ -123,10 +123,8 @@
 //!
 //! /// The bytes of the document that a person is written as.
 //! pub fn person_bytes(alloc: Global, name: &str, age: u8) -> ser::Result<Vec<u8>> {
-//!     match person(alloc, name, age) {
-//!         Ok(person) => to_vec_at(alloc, &person),
-//!         Err(_) => Err(ser::Error::NoMemory),
-//!     }
+//!     let person = person(alloc, name, age)?;
+//!     to_vec_at(alloc, &person)
 //! }
 //! ```
 //!
@@ -169,7 +167,7 @@
 //! ghost use Rattle.bson.specs.BsonView.{pairs_of};
 //! ghost use Rattle.bson.specs.Tree.{int32, no_pairs, pair, string};
 //!
-//! use bson::{Bson, Document, Met, RecastError, Shape, de, read_value, to_vec_at};
+//! use bson::{Bson, Document, MAX_NESTING_LEVEL, Met, RecastError, Shape, de, read_value, to_vec_at};
 //! use std::alloc::{AllocError, Global};
 //!
 //! /// The document `{name: "Ada", age: 36}`.
@@ -197,11 +195,12 @@
 //! /// The bytes of a document.
 //! pub fn document_bytes(alloc: Global, document: Document) -> Result<Vec<u8>, RecastError> {
 //!     let tree = Bson::Document(document);
-//!     let datum = match read_value(alloc, &Shape::document(), &Met::of_tree(200, &tree)) {
+//!     let met = Met::of_tree(MAX_NESTING_LEVEL, &tree);
+//!     let datum = match read_value(alloc, &Shape::document(), &met) {
 //!         Ok(datum) => datum,
-//!         Err(stop) => return Err(RecastError::Read(de::Error::from_stop(alloc, stop))),
+//!         Err(stop) => return Err(RecastError::from(de::Error::from_stop(alloc, stop))),
 //!     };
-//!     to_vec_at(alloc, &datum).map_err(RecastError::Write)
+//!     Ok(to_vec_at(alloc, &datum)?)
 //! }
 //! ```
 //!
@@ -270,10 +269,8 @@
 //!     ensures again { IfOk result (λ r. migration_of shape.now r.0.items ≡ migrated r.0.items []) }
 //! {
 //!     let migration = migrate(alloc, shape, file)?;
-//!     match lines_of(alloc, &migration.refused) {
-//!         Ok(lines) => Ok((migration.output, lines)),
-//!         Err(_) => Err(MigrateError::NoMemory),
-//!     }
+//!     let lines = lines_of(alloc, &migration.refused)?;
+//!     Ok((migration.output, lines))
 //! }
 //! ```
 //!
@@ -369,7 +366,8 @@ pub use bson_base::{
 };
 pub use bson_dates::{date_of_text, date_text};
 pub use bson_datum::{
-    ByteStr, Cause, Datum, Entry, Field, Path, Segment, Stop, Text, Wrapper, de, ser,
+    ByteStr, Cause, Datum, Entry, Field, MAX_NESTING_LEVEL, Path, Segment, Stop, Text, Wrapper, de,
+    ser,
 };
 pub use bson_de::read_value;
 pub use bson_de_raw::from_slice_at;

@@ -1,19 +1,19 @@
-//! What C calls: documents judged, cut and recast from slices into rooms that the caller gives. `c/tbson.h` declares it.
+//! What C calls: documents judged, cut and recast from slices into buffers that the caller gives. `c/tbson.h` declares it.
 //!
 //! A slice crosses as a pointer and a length, an `alloc` not at all, and a status as its number. No call asks anything of its caller beyond that, and no
 //! memory passes the border.
 #![tactic(auto)]
 
-mod answer;
 mod check;
 mod document;
 mod migrate;
 mod recast;
+mod report;
 mod version;
 
-pub use answer::{Answer, NextDocument};
 pub use check::tbson_check_shape;
 pub use document::tbson_next_document;
 pub use migrate::tbson_migrate;
 pub use recast::tbson_recast;
+pub use report::{NextDocument, Report};
 pub use version::tbson_version;

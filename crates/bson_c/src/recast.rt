@@ -1,32 +1,32 @@
 ghost use Rattle.std.specs.Prelude.{◌≡◌, ◌⊎◌, length};
-ghost use Rattle.bson_rooms.specs.Asked.{shape_of};
-ghost use Rattle.bson_rooms.specs.Checks.{NoShapeRow};
-ghost use Rattle.bson_rooms.specs.Number.{number_of};
-ghost use Rattle.bson_rooms.specs.Recasts.{RecastRow, LargerRow, UnreadRow, UnwrittenRow, recast_status_at};
-ghost use Rattle.bson_rooms.specs.Rooms.{IsSilent};
-ghost use Rattle.bson_rooms.specs.declared.status.Status.TheVariants as statuses;
+ghost use Rattle.bson_buffers.specs.Asked.{shape_of};
+ghost use Rattle.bson_buffers.specs.Checks.{NoShapeRow};
+ghost use Rattle.bson_buffers.specs.Number.{number_of};
+ghost use Rattle.bson_buffers.specs.Recasts.{RecastRow, LargerRow, UnreadRow, UnwrittenRow, recast_status_at};
+ghost use Rattle.bson_buffers.specs.Buffers.{IsSilent};
+ghost use Rattle.bson_buffers.specs.declared.status.Status.TheVariants as statuses;
 ghost use Rattle.bson_c.specs.Crossing.{crossed_call};
 
-use crate::answer::Answer;
+use crate::report::Report;
 use std::alloc::Global;
 
-/// Recasts the bytes of a document at a shape, into a room: `bson_rooms::recast_into`.
+/// Recasts the bytes of a document at a shape, into a buffer: `bson_buffers::recast_into`.
 #[unsafe(no_mangle)]
 pub extern "C" fn tbson_recast(
     alloc: Global,
     shape: &[u8],
     bytes: &[u8],
-    room: &mut [u8],
+    output: &mut [u8],
     text: &mut [u8],
-) -> Answer
-    ensures done { result.status ≡ number_of statuses.Done → RecastRow shape.now bytes.now (crossed_call result room.old room.new text.old text.new) }
-    ensures room_too_small { result.status ≡ number_of statuses.RoomTooSmall → LargerRow shape.now bytes.now (crossed_call result room.old room.new text.old text.new) }
-    ensures shape_refused { result.status ≡ number_of statuses.ShapeRefused → NoShapeRow shape.now (crossed_call result room.old room.new text.old text.new) }
-    ensures read_refused { result.status ≡ number_of statuses.ReadRefused → UnreadRow shape.now bytes.now (crossed_call result room.old room.new text.old text.new) }
-    ensures write_refused { result.status ≡ number_of statuses.WriteRefused → UnwrittenRow shape.now bytes.now (crossed_call result room.old room.new text.old text.new) }
-    ensures no_memory { result.status ≡ number_of statuses.NoMemory → IsSilent (crossed_call result room.old room.new text.old text.new) }
+) -> Report
+    ensures done { result.status ≡ number_of statuses.Done → RecastRow shape.now bytes.now (crossed_call result output.old output.new text.old text.new) }
+    ensures buffer_too_small { result.status ≡ number_of statuses.BufferTooSmall → LargerRow shape.now bytes.now (crossed_call result output.old output.new text.old text.new) }
+    ensures shape_refused { result.status ≡ number_of statuses.ShapeRefused → NoShapeRow shape.now (crossed_call result output.old output.new text.old text.new) }
+    ensures read_refused { result.status ≡ number_of statuses.ReadRefused → UnreadRow shape.now bytes.now (crossed_call result output.old output.new text.old text.new) }
+    ensures write_refused { result.status ≡ number_of statuses.WriteRefused → UnwrittenRow shape.now bytes.now (crossed_call result output.old output.new text.old text.new) }
+    ensures no_memory { result.status ≡ number_of statuses.NoMemory → IsSilent (crossed_call result output.old output.new text.old text.new) }
     // The status is the one that is due, or out of memory.
-    ensures complete { (result.status ≡ number_of (recast_status_at (length room.old) bytes.now (shape_of shape.now))) ⊎ (result.status ≡ number_of statuses.NoMemory) }
+    ensures complete { (result.status ≡ number_of (recast_status_at (length output.old) bytes.now (shape_of shape.now))) ⊎ (result.status ≡ number_of statuses.NoMemory) }
 {
-    Answer::crossed(bson_rooms::recast_into(alloc, shape, bytes, room, text))
+    Report::crossed(bson_buffers::recast_into(alloc, shape, bytes, output, text))
 }

@@ -6,7 +6,7 @@ pub const VERSION: u32 = 1;
 /// The version that is linked.
 #[unsafe(no_mangle)]
 pub extern "C" fn tbson_version() -> u32
-    ensures { result ≡ VERSION }
+    ensures version { result ≡ VERSION }
 {
     VERSION
 }

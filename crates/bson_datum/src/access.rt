@@ -4,8 +4,9 @@ ghost use Rattle.bson_datum.specs.Access as access;
 ghost use Rattle.bson_datum.specs.View.{view, items_view, entries_view, fields_view};
 
 use crate::{Datum, Entry, Field};
+use bson_base::Double;
 
-/// What is asked of a value whose form the caller knows. Each answer is borrowed, and takes no memory.
+/// What is asked of a value whose form the caller knows. Each result is borrowed or a number, and takes no memory.
 ///
 /// None of them looks through an optional value or a newtype struct: match `Datum::Some` and `Datum::NewtypeStruct` first.
 impl<'a> Datum<'a> {
@@ -37,6 +38,26 @@ impl<'a> Datum<'a> {
     {
         match self {
             Datum::Str(text) => Some(text.as_str()),
+            _ => None,
+        }
+    }
+
+    /// The truth value of a `Bool`; `None` at every other form.
+    pub fn as_bool(&self) -> Option<bool>
+        ensures boolean { result ≡ access.as_bool (view self.now) }
+    {
+        match self {
+            Datum::Bool(truth) => Some(*truth),
+            _ => None,
+        }
+    }
+
+    /// The number of a `Double`; `None` at every other form.
+    pub fn as_double(&self) -> Option<Double>
+        ensures double { option_map (λ d. d.0) result ≡ access.as_double (view self.now) }
+    {
+        match self {
+            Datum::Double(number) => Some(*number),
             _ => None,
         }
     }

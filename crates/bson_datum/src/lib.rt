@@ -18,7 +18,7 @@ pub use bson_shape::{
     FieldShape, Form, Leaf, Named, ParseError, Shape, ShapeError, VariantContent, VariantShape,
 };
 pub use byte_str::ByteStr;
-pub use cause::Cause;
+pub use cause::{Cause, MAX_NESTING_LEVEL};
 pub use datum::{Datum, Entry, Field};
 pub use path::{Path, Segment};
 pub use stop::{Refused, Stop};

@@ -16,7 +16,7 @@ pub struct Refused<F> {
     pub segments: Vec<Segment>,
 }
 
-/// Why a reader or a writer stopped inside a document. A refusal is in a box, so that an answer takes few bytes wherever
+/// Why a reader or a writer stopped inside a document. A refusal is in a box, so that a result takes few bytes where
 /// nothing is refused.
 #[derive(Debug, Drop)]
 pub enum Stop<F> {

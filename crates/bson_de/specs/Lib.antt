@@ -1,3 +1,2 @@
 pub mod AtKey
 pub mod Enums
-pub mod Fields

@@ -1,4 +1,4 @@
-//! Reading a value that is met at a shape.
+//! Reading a value at a shape, in bytes or in a tree.
 #![tactic(auto)]
 
 mod enumeration;

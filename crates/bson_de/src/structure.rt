@@ -10,7 +10,7 @@ ghost use Rattle.bson_met.specs.Gives.{Reaches};
 ghost use Rattle.bson_met.specs.PieceView.{str_piece};
 ghost use Rattle.bson_slots.specs.FieldSlots.{fields_marked};
 ghost use Rattle.bson_slots.specs.SlotsView.{slots_view};
-ghost use Rattle.bson_de.specs.Fields.{fields_at, fields_by_key};
+ghost use Rattle.bson_wrapped.specs.Fields.{fields_read, fields_by_key};
 
 use crate::tuple::read_next;
 use crate::value::read_value;
@@ -46,7 +46,7 @@ pub(crate) fn read_fields<'de>(
     value: &Met<'de>,
 ) -> Reading<Vec<Field<'de>>>
     requires { AreDistinct (fields_of fields.now) }
-    ensures exact { Reaches (λ v. fields_marked v.items) result (fields_at (fields_of fields.now) value.now) }
+    ensures exact { Reaches (λ v. fields_marked v.items) result (fields_read (slots_of (fields_of fields.now) plain) value.now) }
 {
     match value.judge(alloc)? {
         Value::Array(items) => read_by_place(alloc, fields, items),

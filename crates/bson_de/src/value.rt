@@ -18,9 +18,14 @@ use bson_met::{Items, Met, Reading};
 use bson_shape::{Form, Shape};
 use std::alloc::Global;
 
-/// The value at a shape.
+/// The value at a shape: of a document in its bytes (`Met::of_document`), of a tree (`Met::of_tree`), or of what is inside one.
 ///
 /// What is borrowed is a part of the input; of a tree nothing is borrowed.
+///
+/// # Errors
+///
+/// `Stop::Refused` with the cause and the segments of the path so far: those of `from_slice_at` of `bson_de_raw`, but for the faults of a whole document's
+/// length and last byte. `Stop::NoMemory` where memory ran out. `de::Error::from_stop` makes an error of it.
 #[cycle(read)]
 pub fn read_value<'de>(alloc: Global, shape: &Shape, value: &Met<'de>) -> Reading<Datum<'de>>
     ensures exact { Reaches marked result (reads shape.now plain value.now) }

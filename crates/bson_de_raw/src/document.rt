@@ -9,15 +9,12 @@ ghost use Rattle.bson_laws.specs.Plain.{IsPlain};
 ghost use Rattle.bson_laws.specs.Reads.{reads_marked};
 ghost use Rattle.bson_de_raw.specs.Gives.{Gives, GivesValue};
 
-use bson_datum::{Datum, de};
+use bson_datum::{Datum, MAX_NESTING_LEVEL, de};
 use bson_de::read_value;
 use bson_met::Met;
 use bson_rawdoc::RawDocument;
 use bson_shape::Shape;
 use std::alloc::Global;
-
-/// The most levels of documents and arrays inside one another, the whole document included.
-const MAX_LEVELS: u32 = 200;
 
 /// The value that the bytes of a document are at a shape, by serde's data model.
 ///
@@ -74,7 +71,7 @@ const MAX_LEVELS: u32 = 200;
 /// - `WithPath` round a `DeserializationError`, with the path of the value that is refused: the keys and
 ///   the indexes that lead to it. The path of the document itself is empty. A value in the scope of a
 ///   code has `$scope` behind the code's own path. The key of a map has the map's own path. The first
-///   refusal in the order of the bytes is answered, and its cause is one of these.
+///   refusal in the order of the bytes is returned, and its cause is one of these.
 ///   - `Raw`: a fault of the bytes, before any shape looks at the value.
 ///   - `TooDeep`: a document, an array or a scope at level 201.
 ///   - `InvalidType`: a value of another kind than the shape takes; at `document` one that is no document as a tree, and
@@ -117,7 +114,7 @@ fn read_document<'de>(alloc: Global, shape: &Shape, bytes: &'de [u8]) -> de::Res
     ensures exact { Gives marked result (reads_marked shape.now bytes.now) }
 {
     let document = RawDocument::from_bytes(bytes)?;
-    match read_value(alloc, shape, &Met::of_document(MAX_LEVELS, document)) {
+    match read_value(alloc, shape, &Met::of_document(MAX_NESTING_LEVEL, document)) {
         Ok(value) => Ok(value),
         Err(stop) => Err(de::Error::from_stop(alloc, stop)),
     }

@@ -25,8 +25,6 @@ pub fn at_shape(
     ensures again { IfOk result (λ r. migration_of shape.now r.0.items ≡ migrated r.0.items []) }
 {
     let migration = migrate(alloc, shape, file)?;
-    match lines_of(alloc, &migration.refused) {
-        Ok(lines) => Ok((migration.output, lines)),
-        Err(_) => Err(MigrateError::NoMemory),
-    }
+    let lines = lines_of(alloc, &migration.refused)?;
+    Ok((migration.output, lines))
 }

@@ -2,7 +2,7 @@ ghost use Rattle.std.specs.Prelude.{◌≡◌, IfOk, codes, pos};
 ghost use Rattle.bson.specs.BsonView.{pairs_of};
 ghost use Rattle.bson.specs.Tree.{int32, no_pairs, pair, string};
 
-use bson::{Bson, Document, Met, RecastError, Shape, de, read_value, to_vec_at};
+use bson::{Bson, Document, MAX_NESTING_LEVEL, Met, RecastError, Shape, de, read_value, to_vec_at};
 use std::alloc::{AllocError, Global};
 
 /// The document `{name: "Ada", age: 36}`.
@@ -30,9 +30,10 @@ pub fn first_null(document: &Document) -> Option<&str> {
 /// The bytes of a document.
 pub fn document_bytes(alloc: Global, document: Document) -> Result<Vec<u8>, RecastError> {
     let tree = Bson::Document(document);
-    let datum = match read_value(alloc, &Shape::document(), &Met::of_tree(200, &tree)) {
+    let met = Met::of_tree(MAX_NESTING_LEVEL, &tree);
+    let datum = match read_value(alloc, &Shape::document(), &met) {
         Ok(datum) => datum,
-        Err(stop) => return Err(RecastError::Read(de::Error::from_stop(alloc, stop))),
+        Err(stop) => return Err(RecastError::from(de::Error::from_stop(alloc, stop))),
     };
-    to_vec_at(alloc, &datum).map_err(RecastError::Write)
+    Ok(to_vec_at(alloc, &datum)?)
 }

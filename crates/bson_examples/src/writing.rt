@@ -20,8 +20,6 @@ pub fn person<'a>(alloc: Global, name: &'a str, age: u8) -> Result<Datum<'a>, Al
 
 /// The bytes of the document that a person is written as.
 pub fn person_bytes(alloc: Global, name: &str, age: u8) -> ser::Result<Vec<u8>> {
-    match person(alloc, name, age) {
-        Ok(person) => to_vec_at(alloc, &person),
-        Err(_) => Err(ser::Error::NoMemory),
-    }
+    let person = person(alloc, name, age)?;
+    to_vec_at(alloc, &person)
 }

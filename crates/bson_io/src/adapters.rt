@@ -10,7 +10,7 @@ use crate::{Failed, Sink, Source};
 use std::io::{Read, Write};
 
 /// A reader of std. Each error counts as a fault. Once the count is at the last value of a
-/// `u64` it makes no further call and answers `Ok(0)`.
+/// `u64` it makes no further call and returns `Ok(0)`.
 #[derive(Drop)]
 pub struct ReadAdapter<R> {
     inner: R,

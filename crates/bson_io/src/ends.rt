@@ -17,10 +17,10 @@ pub trait Source {
     /// How many calls failed so far.
     ghost faults: { Self → ℕ };
 
-    /// Moves bytes from the front of what is left to the front of the buffer, and answers how many.
+    /// Moves bytes from the front of what is left to the front of the buffer, and returns how many.
     /// With room in the buffer `Ok(0)` means that none are left.
     /// It fails only where the count of faults rises, and then nothing is taken.
-    /// On an empty buffer it answers `Ok(0)` and changes nothing.
+    /// On an empty buffer it returns `Ok(0)` and changes nothing.
     fn read(&mut self, buf: &mut [u8]) -> Result<usize, Failed>
         ensures bound { ReadsAtMost result buf.new }
         ensures bytes { ReadConsumes (left self.old) (left self.new) result buf.new }
@@ -40,9 +40,9 @@ pub trait Sink {
     /// How many calls failed so far. The count may stop at the last value of a `u64`.
     ghost faults: { Self → ℕ };
 
-    /// Appends some first bytes of the piece, at least one of a piece that is not empty, and answers
+    /// Appends some first bytes of the piece, at least one of a piece that is not empty, and returns
     /// how many. It fails only where the count of faults rises or is at its last value, and then
-    /// nothing is written. On an empty piece it answers `Ok(0)` and changes nothing.
+    /// nothing is written. On an empty piece it returns `Ok(0)` and changes nothing.
     fn write(&mut self, piece: &[u8]) -> Result<usize, Failed>
         ensures bound { WritesAtMost result piece.now }
         ensures bytes { WriteAppends (written self.old) (written self.new) result piece.now }

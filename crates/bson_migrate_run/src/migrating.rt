@@ -106,10 +106,8 @@ fn migrate_each(alloc: Global, shape: &Shape, file: &[u8]) -> Result<Migration, 
             Ok(bytes) => bytes,
             Err(place) => return Err(MigrateError::Broken(place)),
         };
-        match migrate_one(alloc, shape, bytes, number, &mut out, &mut refused) {
-            Ok(()) => number += 1,
-            Err(_) => return Err(MigrateError::NoMemory),
-        }
+        migrate_one(alloc, shape, bytes, number, &mut out, &mut refused)?;
+        number += 1;
     }
     Ok(Migration {
         output: out.into_vec(),

@@ -57,7 +57,7 @@ fn asked(alloc: Global, words: &[String]) -> Result<Result<Shape, String>, Alloc
 
 /// A line for each refused document, with its number and its refusal. An error means out of memory.
 pub fn lines_of(alloc: Global, refused: &[Refused]) -> Result<String, AllocError>
-    ensures { IfOk result (λ l. string_bytes l ≡ refused_lines refused.now) }
+    ensures lines { IfOk result (λ l. string_bytes l ≡ refused_lines refused.now) }
 {
     let mut lines = String::new(alloc);
     for document in refused {

@@ -1,15 +1,13 @@
 -- Recasting the entries of a map one by one.
-use Rattle.std.proofs.Common.{◌≡◌, ℕ, suc, List, [], ◌∷◌, ◌++◌, Bool, true, false, cond, map, Option, Some, None, Ok, Err, Bor, refl, ap, sym, subst, ◌∙◌}
-use Rattle.std.specs.Option.{option_map}
+use Rattle.std.proofs.Common.{◌≡◌, ℕ, suc, List, [], ◌∷◌, ◌++◌, true, false, cond, map, Option, Ok, Bor, refl, ap, sym, subst, ◌∙◌}
 use Rattle.std.specs.Str.{bytes_eq}
 use Rattle.std.proofs.lemmas.List.{append_assoc, append-nil, map-append}
-use Rattle.bson_base.specs.Outcome.{◌>>=◌, result_map}
 use Rattle.bson_base.specs.Text.{Bytes, Utf8, has_zero}
 use Rattle.bson_base.specs.Tree as tree
 use Rattle.bson_base.specs.Tree.{Tree, Pairs, no_pairs, pair, enc, kind, element, elements, enclosed}
 use Rattle.bson_base.specs.declared.element_type.ElementType.TheVariants as kinds
 use Rattle.bson_rawdoc.specs.Node.{Node, Nodes, ended, then_node, inner_node, node_in, nodes_with}
-use Rattle.bson_rawdoc.specs.Piece.{Piece, borrowed, made}
+use Rattle.bson_rawdoc.specs.Piece.{borrowed, made}
 use Rattle.bson_rawdoc.specs.Walk.{Element, Walk, then_walk, walk}
 use Rattle.bson_shape.specs.Form as form
 use Rattle.bson_shape.specs.Form.{Form, leaf}
@@ -20,14 +18,14 @@ use Rattle.bson_datum.specs.Same.{same}
 use Rattle.bson_datum.specs.Value as value
 use Rattle.bson_datum.specs.Value.{str, no_entries, entry}
 use Rattle.bson_laws.specs.Containers.{reads_key, reads_entries}
-use Rattle.bson_laws.specs.Judged.{Reading, plain}
+use Rattle.bson_laws.specs.Judged.{plain}
 use Rattle.bson_laws.specs.Reads.{reads}
 use Rattle.bson_laws.specs.ReadsLeaf.{put_entry}
 use Rattle.bson_laws.specs.Spell.{spell, spell_entries}
 use Rattle.bson_one_pass.specs.Free.{takes_keys, is_new}
-use Rattle.bson_one_pass.specs.Recast.{of_writing, recast_by, recast_node, recast_entries, IsPut, IsElementPut, ArePairsPut}
-use Rattle.bson_one_pass.proofs.Containers.{mapped, pairs_put}
-use Rattle.bson_one_pass.proofs.Places.{read_by}
+use Rattle.bson_one_pass.specs.Put.{of_writing, recast_node, recast_entries, IsPut, IsElementPut, ArePairsPut}
+use Rattle.bson_one_pass.proofs.Containers.{recast_mapped, pairs_put}
+use Rattle.bson_one_pass.proofs.Places.{not_taken, read_by}
 
 -- ---- keys
 
@@ -46,10 +44,6 @@ key_read l name h = absurd cc
 abbrev pub IsNew : Utf8 → List Utf8 → Type 0
 IsNew key [] = Unit {0}
 IsNew key (k ∷ ks) = (bytes_eq key k ≡ false) × IsNew key ks
-
-not_taken : (b rest : Bool) → cond b false rest ≡ true → (b ≡ false) × (rest ≡ true)
-not_taken true rest h = absurd cc
-not_taken false rest h = (refl, h)
 
 abbrev pub text_of : Bor Utf8 → Utf8
 text_of k = k.now
@@ -139,12 +133,8 @@ entries_end key s levels whole names old made p =
 
 -- ---- the whole document
 
-map_by : (m : ℕ) (r : Reading MarkedEntries) → recast_by (λ v. spell (contents v) (suc m)) (result_map value.map r) ≡ option_map tree.document (recast_by (λ es. spell_entries (entry_contents es) m) r)
-map_by m (Err e) = refl
-map_by m (Ok es) = mapped tree.document (spell_entries (entry_contents es) m)
-
 pub map_put : (key : Leaf) (s : Form) (levels m : ℕ) (b old begun filled new : Bytes) → levels ≡ suc m → ((b : Bytes) → filled ≡ begun ++ b → new ≡ old ++ enclosed b)
     → ArePairsPut (recast_entries key s no_entries m (nodes_with (node_in m) (walk b))) begun filled → IsPut (recast_node (form.map (leaf key) s) levels (inner_node levels kinds.EmbeddedDocument b)) old new kinds.EmbeddedDocument
 map_put key s levels m b old begun filled new e wraps h =
     pairs_put (form.map (leaf key) s) (recast_entries key s no_entries m (nodes_with (node_in m) (walk b))) levels m b old begun filled new
-    (map_by m (reads_entries (reads_key plain (leaf key)) (reads s plain) (nodes_with (node_in m) (walk b)) no_entries)) e wraps h
+    (recast_mapped (λ v. spell (contents v) (suc m)) value.map (λ es. spell_entries (entry_contents es) m) tree.document (reads_entries (reads_key plain (leaf key)) (reads s plain) (nodes_with (node_in m) (walk b)) no_entries) (λ es. refl)) e wraps h

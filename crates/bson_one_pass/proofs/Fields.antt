@@ -11,7 +11,7 @@ use Rattle.bson_datum.specs.Value.{no_field_values, field_value}
 use Rattle.bson_laws.specs.Judged.{plain, ignores}
 use Rattle.bson_laws.specs.Slots.{Slot, Slots, put_at, value_or, finish}
 use Rattle.bson_laws.specs.Spell.{spell, spell_fields}
-use Rattle.bson_one_pass.specs.Recast.{recast_fields, ArePairsPut}
+use Rattle.bson_one_pass.specs.Put.{recast_fields, ArePairsPut}
 
 -- the names of slots
 abbrev pub names : Slots → List Utf8

@@ -19,7 +19,7 @@ use Rattle.bson_laws.specs.Spell.{spell}
 use Rattle.bson_laws.specs.Variants.{content_of}
 use Rattle.bson_laws.proofs.Free.{free_spelled}
 use Rattle.bson_one_pass.specs.Free.{names_unit}
-use Rattle.bson_one_pass.specs.Recast.{of_writing, recast_by, recast_node}
+use Rattle.bson_one_pass.specs.Put.{of_writing, recast_by, recast_node}
 
 -- ---- newtypes
 

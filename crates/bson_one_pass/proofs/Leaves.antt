@@ -23,7 +23,7 @@ use Rattle.bson_laws.specs.Spell.{spell}
 use Rattle.bson_laws.proofs.DatumContents.{datum_contents}
 use Rattle.bson_laws.proofs.DatumSpelled.{datum_spelled, uuid_spelled}
 use Rattle.bson_laws.proofs.Spelled.{binary_spelled}
-use Rattle.bson_one_pass.specs.Recast.{of_writing, recast_by, recast_node, IsPut}
+use Rattle.bson_one_pass.specs.Put.{of_writing, recast_by, recast_node, IsPut}
 
 -- the data of a tree are written as the tree
 tree_written : (t : Tree) (levels : ℕ) → IsClean t → depth t ≤ levels → recast_by (λ v. spell (contents v) levels) (Ok (datum made t)) ≡ Some (sorted_tree t)

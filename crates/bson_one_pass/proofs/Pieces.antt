@@ -8,7 +8,7 @@ use Rattle.bson_base.specs.Tree.{Tree, element, enclosed, enc, le32}
 use Rattle.bson_base.proofs.Lengths.{length-le32}
 use Rattle.bson_io.specs.Output.{patched}
 use Rattle.bson_base.specs.declared.element_type.ElementType.{ElementType}
-use Rattle.bson_one_pass.specs.Recast.{IsPut, IsElementPut}
+use Rattle.bson_one_pass.specs.Put.{IsPut, IsElementPut}
 
 -- an element: its front, its value, and its kind in the place
 pub element_is : (old made with_front : Bytes) (key : Utf8) (value : Bytes) (k : ElementType) → with_front ≡ old ++ (0 ∷ (key ++ 0 ∷ [])) → made ≡ with_front ++ value

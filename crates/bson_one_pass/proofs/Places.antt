@@ -23,7 +23,7 @@ use Rattle.bson_laws.specs.Slots.{Slot, Slots, value_or}
 use Rattle.bson_laws.specs.Spell.{Writing, spell}
 use Rattle.bson_laws.specs.Views.{absent}
 use Rattle.bson_one_pass.specs.Free.{is_free}
-use Rattle.bson_one_pass.specs.Recast.{of_writing, recast_by, recast_node, recast_fields, IsElementPut, ArePairsPut}
+use Rattle.bson_one_pass.specs.Put.{of_writing, recast_by, recast_node, recast_fields, IsElementPut, ArePairsPut}
 use Rattle.bson_one_pass.proofs.Fields.{names, LacksName, filled, put_dropped, put_due, AreWritten, written_more, fields_end, fields_step}
 
 -- the name of a field
@@ -73,7 +73,7 @@ lacks_of : (key : Utf8) (ns : List Utf8) → has_name key ns ≡ false → Lacks
 lacks_of key [] h = tt
 lacks_of key (n ∷ ns) h = let parts = or_false (bytes_eq key n) (has_name key ns) h in (swapped key n parts.0, lacks_of key ns parts.1)
 
-not_taken : (b rest : Bool) → cond b false rest ≡ true → (b ≡ false) × (rest ≡ true)
+pub not_taken : (b rest : Bool) → cond b false rest ≡ true → (b ≡ false) × (rest ≡ true)
 not_taken true rest h = absurd cc
 not_taken false rest h = (refl, h)
 

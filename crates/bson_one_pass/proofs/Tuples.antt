@@ -1,5 +1,5 @@
 -- Recasting the parts of a tuple one by one.
-use Rattle.std.proofs.Common.{◌≡◌, ℕ, suc, ◌+◌, ◌<◌, ◌≤◌, List, [], ◌∷◌, ◌++◌, length, get_or, drop, Option, Some, None, Ok, Err, refl, ap, sym, subst, ◌∙◌, add-one}
+use Rattle.std.proofs.Common.{◌≡◌, ℕ, suc, ◌+◌, ◌<◌, ◌≤◌, List, ◌++◌, length, get_or, drop, Option, Some, None, refl, ap, sym, subst, ◌∙◌, add-one}
 use Rattle.std.specs.Fmt.{decimal}
 use Rattle.std.specs.Option.{option_map}
 use Rattle.std.proofs.Math.Seq.{drop-cons}
@@ -14,13 +14,13 @@ use Rattle.bson_rawdoc.specs.Piece.{Piece, borrowed, made}
 use Rattle.bson_rawdoc.specs.Walk.{Element, Walk, then_walk, walk}
 use Rattle.bson_shape.specs.Form.{Form, Parts, part, tuple, tuple_structure}
 use Rattle.bson_shape.specs.ShapeView.{parts_of}
-use Rattle.bson_datum.specs.Marked.{MarkedItems, contents, item_contents}
+use Rattle.bson_datum.specs.Marked.{Marked, MarkedItems, contents, item_contents}
 use Rattle.bson_datum.specs.Value as value
-use Rattle.bson_laws.specs.Judged.{Reading, plain}
+use Rattle.bson_laws.specs.Judged.{plain}
 use Rattle.bson_laws.specs.Reads.{reads, reads_parts}
 use Rattle.bson_laws.specs.Spell.{spell, spell_items}
-use Rattle.bson_one_pass.specs.Recast.{recast_by, recast_node, recast_parts, IsPut, IsElementPut, AreItemsPut}
-use Rattle.bson_one_pass.proofs.Containers.{mapped, elements_put}
+use Rattle.bson_one_pass.specs.Put.{recast_by, recast_node, recast_parts, IsPut, IsElementPut, AreItemsPut}
+use Rattle.bson_one_pass.proofs.Containers.{recast_mapped, elements_put}
 use Rattle.bson_one_pass.proofs.Items.{items_by, AreLeft, left_next, left_none}
 
 -- a part and then the others
@@ -57,21 +57,17 @@ parts_put ss levels i w whole old made all h =
 
 -- ---- the whole array
 
-tuple_by : (m : ℕ) (r : Reading MarkedItems) → recast_by (λ v. spell (contents v) (suc m)) (result_map value.tuple r) ≡ option_map tree.array (recast_by (λ vs. spell_items 0 (item_contents vs) m) r)
-tuple_by m (Err e) = refl
-tuple_by m (Ok vs) = mapped tree.array (spell_items 0 (item_contents vs) m)
-
-structure_by : (name : Utf8) (m : ℕ) (r : Reading MarkedItems)
-    → recast_by (λ v. spell (contents v) (suc m)) (result_map (value.tuple_structure (made name)) r) ≡ option_map tree.array (recast_by (λ vs. spell_items 0 (item_contents vs) m) r)
-structure_by name m (Err e) = refl
-structure_by name m (Ok vs) = mapped tree.array (spell_items 0 (item_contents vs) m)
+-- an array of parts, as what the value around them is written as
+parts_by : (wrap_value : MarkedItems → Marked) (ps : Parts) (m : ℕ) (b : Bytes) → ((vs : MarkedItems) → spell (contents (wrap_value vs)) (suc m) ≡ result_map tree.array (spell_items 0 (item_contents vs) m))
+    → recast_by (λ v. spell (contents v) (suc m)) (result_map wrap_value (reads_parts ps plain 0 (nodes_with (node_in m) (walk b)))) ≡ option_map tree.array (recast_parts ps m 0 (nodes_with (node_in m) (walk b)))
+parts_by wrap_value ps m b is = recast_mapped (λ v. spell (contents v) (suc m)) wrap_value (λ vs. spell_items 0 (item_contents vs) m) tree.array (reads_parts ps plain 0 (nodes_with (node_in m) (walk b))) is
 
 pub tuple_put : (ps : Parts) (levels m : ℕ) (b old begun filled ended : Bytes) → levels ≡ suc m → ((b : Bytes) → filled ≡ begun ++ b → ended ≡ old ++ enclosed b) → AreItemsPut (recast_parts ps m 0 (nodes_with (node_in m) (walk b))) 0 begun filled
     → IsPut (recast_node (tuple ps) levels (inner_node levels kinds.Array b)) old ended kinds.Array
 tuple_put ps levels m b old begun filled ended e wraps h =
-    elements_put (tuple ps) (recast_parts ps m 0 (nodes_with (node_in m) (walk b))) levels m b old begun filled ended (tuple_by m (reads_parts ps plain 0 (nodes_with (node_in m) (walk b)))) e wraps h
+    elements_put (tuple ps) (recast_parts ps m 0 (nodes_with (node_in m) (walk b))) levels m b old begun filled ended (parts_by value.tuple ps m b (λ vs. refl)) e wraps h
 
 pub tuple_structure_put : (name : Utf8) (ps : Parts) (levels m : ℕ) (b old begun filled ended : Bytes) → levels ≡ suc m → ((b : Bytes) → filled ≡ begun ++ b → ended ≡ old ++ enclosed b)
     → AreItemsPut (recast_parts ps m 0 (nodes_with (node_in m) (walk b))) 0 begun filled → IsPut (recast_node (tuple_structure name ps) levels (inner_node levels kinds.Array b)) old ended kinds.Array
 tuple_structure_put name ps levels m b old begun filled ended e wraps h =
-    elements_put (tuple_structure name ps) (recast_parts ps m 0 (nodes_with (node_in m) (walk b))) levels m b old begun filled ended (structure_by name m (reads_parts ps plain 0 (nodes_with (node_in m) (walk b)))) e wraps h
+    elements_put (tuple_structure name ps) (recast_parts ps m 0 (nodes_with (node_in m) (walk b))) levels m b old begun filled ended (parts_by (value.tuple_structure (made name)) ps m b (λ vs. refl)) e wraps h

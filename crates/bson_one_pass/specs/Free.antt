@@ -1,4 +1,4 @@
--- A key that no field has, a text that names a unit variant, and keys of maps.
+-- A key that no field has, a text that names a unit variant, and keys of maps: for the contracts of the parts of the pass.
 use Rattle.std.specs.Prelude.{List, [], ◌∷◌, Bool, false, true, if◌then◌else◌, string_bytes}
 use Rattle.std.specs.Str.{bytes_eq}
 use Rattle.std.specs.Borrow.{Bor}

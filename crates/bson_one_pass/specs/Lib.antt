@@ -1,2 +1,3 @@
 pub mod Recast
+pub mod Put
 pub mod Free

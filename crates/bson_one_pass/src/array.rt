@@ -5,7 +5,7 @@ ghost use Rattle.bson_rawdoc.specs.DocumentView.{array_bytes};
 ghost use Rattle.bson_rawdoc.specs.Node.{inner_node, node_in, nodes_with, value_node};
 ghost use Rattle.bson_rawdoc.specs.ValueView.{raw_value};
 ghost use Rattle.bson_shape.specs.Form.{sequence};
-ghost use Rattle.bson_one_pass.specs.Recast.{recast_node, recast_items, IsPut, AreItemsPut, IsElementPut};
+ghost use Rattle.bson_one_pass.specs.Put.{recast_node, recast_items, IsPut, AreItemsPut, IsElementPut};
 
 use crate::bytes::{close, put, put_front, set_kind};
 use crate::value::recast_value;

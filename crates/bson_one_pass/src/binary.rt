@@ -5,7 +5,7 @@ ghost use Rattle.bson_base.specs.Tree.{binary, after_length};
 ghost use Rattle.bson_rawdoc.specs.Node.{binary_node};
 ghost use Rattle.bson_rawdoc.specs.Piece.{borrowed};
 ghost use Rattle.bson_shape.specs.Form as form;
-ghost use Rattle.bson_one_pass.specs.Recast.{recast_node, IsPut};
+ghost use Rattle.bson_one_pass.specs.Put.{recast_node, IsPut};
 
 use crate::bytes::put;
 use crate::extended::known_bytes;

@@ -5,12 +5,10 @@ ghost use Rattle.bson_one_pass.specs.Recast.{IsRecastAs};
 use crate::bytes::MAX_BYTES;
 use crate::value::recast_value;
 use bson_base::ElementType;
+use bson_datum::MAX_NESTING_LEVEL;
 use bson_rawdoc::{RawBsonRef, RawDocument};
 use bson_shape::Shape;
 use std::alloc::Global;
-
-// The most levels of documents and arrays.
-const MAX_LEVELS: u32 = 200;
 
 /// Reads the bytes of a document at a shape, and gives the bytes of what was read, in one pass.
 ///
@@ -31,7 +29,7 @@ pub fn recast_at_once(alloc: Global, shape: &Shape, bytes: &[u8]) -> Option<Vec<
     match recast_value(
         &mut made,
         shape,
-        MAX_LEVELS,
+        MAX_NESTING_LEVEL,
         &RawBsonRef::Document(document),
     )? {
         ElementType::EmbeddedDocument if made.len() <= MAX_BYTES => Some(made),

@@ -7,7 +7,7 @@ ghost use Rattle.bson_rawdoc.specs.Node as nodes;
 ghost use Rattle.bson_rawdoc.specs.Node.{opens};
 ghost use Rattle.bson_rawdoc.specs.Piece.{borrowed};
 ghost use Rattle.bson_shape.specs.Form as form;
-ghost use Rattle.bson_one_pass.specs.Recast.{recast_node, IsPut};
+ghost use Rattle.bson_one_pass.specs.Put.{recast_node, IsPut};
 
 use crate::bytes::put;
 use crate::leaf::put_eight;

@@ -7,7 +7,7 @@ ghost use Rattle.bson_rawdoc.specs.Node.{value_node, inner_node};
 ghost use Rattle.bson_rawdoc.specs.Piece.{borrowed};
 ghost use Rattle.bson_rawdoc.specs.ValueView.{raw_value};
 ghost use Rattle.bson_shape.specs.Form as form;
-ghost use Rattle.bson_one_pass.specs.Recast.{recast_node, IsPut};
+ghost use Rattle.bson_one_pass.specs.Put.{recast_node, IsPut};
 
 use crate::binary::recast_binary;
 use crate::bytes::put;

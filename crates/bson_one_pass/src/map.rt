@@ -6,7 +6,7 @@ ghost use Rattle.bson_rawdoc.specs.Node.{inner_node, node_in, nodes_with};
 ghost use Rattle.bson_shape.specs.Form as form;
 ghost use Rattle.bson_datum.specs.Value.{no_entries};
 ghost use Rattle.bson_one_pass.specs.Free.{takes_keys, is_new};
-ghost use Rattle.bson_one_pass.specs.Recast.{recast_node, recast_entries, IsPut, ArePairsPut};
+ghost use Rattle.bson_one_pass.specs.Put.{recast_node, recast_entries, IsPut, ArePairsPut};
 
 use crate::array::recast_item;
 use crate::bytes::{close, put};

@@ -17,13 +17,16 @@ ghost use Rattle.bson_laws.specs.Judged.{plain, ignores};
 ghost use Rattle.bson_laws.specs.Reads.{slots_of};
 ghost use Rattle.bson_laws.specs.Views.{absent};
 ghost use Rattle.bson_one_pass.specs.Free.{is_free};
-ghost use Rattle.bson_one_pass.specs.Recast.{recast_node, recast_fields, IsPut, IsElementPut, ArePairsPut};
+ghost use Rattle.bson_one_pass.specs.Put.{recast_node, recast_fields, IsPut, IsElementPut, ArePairsPut};
 
 use crate::array::{recast_item, value_of};
 use crate::bytes::{close, put, put_front, set_kind};
 use bson_base::{BinarySubtype, ElementType};
 use bson_rawdoc::{RawBsonRef, RawDocument, RawElement, RawIter};
 use bson_shape::{FieldShape, Form};
+
+/// The most names that a key is compared with. At a struct of more fields a key that is not the next one's name is left to the reader, which has an index.
+const MOST_COMPARED: usize = 64;
 
 /// The document at a struct of this name with these fields.
 #[cycle(recast)]
@@ -105,7 +108,7 @@ fn drop_element(fields: &[FieldShape], levels: u32, element: &RawElement<'_>) ->
     ensures free { IfSome result (λ _. is_free element.now.key fields.now ≡ true) }
     ensures ignored { IfSome result (λ _. ignores plain (node_in levels element.now.kind element.now.value) ≡ Ok tt) }
 {
-    if !is_free(fields, element.key()) {
+    if fields.len() > MOST_COMPARED || !is_free(fields, element.key()) {
         return None;
     }
     let value = value_of(element, levels)?;

@@ -6,7 +6,7 @@ ghost use Rattle.bson_rawdoc.specs.DocumentView.{array_bytes};
 ghost use Rattle.bson_rawdoc.specs.Node.{inner_node, node_in, nodes_with};
 ghost use Rattle.bson_shape.specs.Form.{tuple, tuple_structure};
 ghost use Rattle.bson_shape.specs.ShapeView.{parts_of};
-ghost use Rattle.bson_one_pass.specs.Recast.{recast_node, recast_parts, IsPut, AreItemsPut};
+ghost use Rattle.bson_one_pass.specs.Put.{recast_node, recast_parts, IsPut, AreItemsPut};
 
 use crate::array::recast_item;
 use crate::bytes::{close, put};

@@ -4,7 +4,7 @@ ghost use Rattle.bson_rawdoc.specs.Node.{value_node, inner_node};
 ghost use Rattle.bson_rawdoc.specs.ValueView.{raw_value};
 ghost use Rattle.bson_shape.specs.Form.{optional, newtype};
 ghost use Rattle.bson_shape.specs.Makers.{is_reserved_newtype};
-ghost use Rattle.bson_one_pass.specs.Recast.{recast_node, IsPut};
+ghost use Rattle.bson_one_pass.specs.Put.{recast_node, IsPut};
 
 use crate::array::recast_array;
 use crate::leaf::recast_leaf;

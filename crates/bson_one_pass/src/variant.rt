@@ -5,7 +5,7 @@ ghost use Rattle.bson_rawdoc.specs.Piece.{borrowed};
 ghost use Rattle.bson_shape.specs.Form.{enumeration};
 ghost use Rattle.bson_shape.specs.ShapeView.{variants_of};
 ghost use Rattle.bson_one_pass.specs.Free.{names_unit};
-ghost use Rattle.bson_one_pass.specs.Recast.{recast_node, IsPut};
+ghost use Rattle.bson_one_pass.specs.Put.{recast_node, IsPut};
 
 use crate::leaf::put_text;
 use bson_base::ElementType;

@@ -1,5 +1,5 @@
 // What `Debug` prints, as Rust's derive prints it.
-use bson_base::{Binary, BinarySubtype, Bson, Document, Double};
+use bson_base::{Binary, BinarySubtype, Bson, Double};
 use bson_datum::{Datum, Field, Text};
 use bson_rawdoc::RawDocument;
 use bson_recast_run::{Status, recast};
@@ -8,13 +8,10 @@ use std::alloc::Global;
 use std::io::Print;
 use std::test::Fail;
 
-/// A document of a binary.
+/// A binary.
 pub fn print_tree(rt: &impl Print, alloc: Global) -> Result<(), Fail> {
-    let mut document = Document::new(alloc);
     let bytes = vec![in alloc; 1, 2]?;
-    let binary = Bson::Binary(Binary::from_parts(BinarySubtype(4), bytes));
-    document.insert(String::from_str(alloc, "b")?, binary)?;
-    let value = Bson::Document(document);
+    let value = Bson::Binary(Binary::from_parts(BinarySubtype(4), bytes));
     println!(rt; "{value:?}")?;
     Ok(())
 }
@@ -30,10 +27,8 @@ pub fn print_datum(rt: &impl Print, alloc: Global) -> Result<(), Fail> {
     Ok(())
 }
 
-/// A shape, the refusal of a notation, and a raw document.
+/// The refusal of a notation, and a raw document.
 pub fn print_shapes(rt: &impl Print, alloc: Global) -> Result<(), Fail> {
-    let shape = Shape::parse(alloc, "?i32")?;
-    println!(rt; "{shape:?}")?;
     let refusal = Shape::parse(alloc, "<A,A>").err();
     println!(rt; "{refusal:?}")?;
     let raw = RawDocument::from_bytes(&[5, 0, 0, 0, 0])?;

@@ -1,5 +1,6 @@
 // What is written of a tree that the reader of trees read.
 use bson_base::{Bson, Document, JavaScriptCodeWithScope, ObjectId, Regex};
+use bson_datum::MAX_NESTING_LEVEL;
 use bson_de::read_value;
 use bson_met::Met;
 use bson_ser_stream::to_vec_at;
@@ -51,7 +52,7 @@ pub fn print_tree(rt: &impl Print, alloc: Global) -> Result<(), Fail> {
         "bson",
     ] {
         let parsed = Shape::parse(alloc, shape)?;
-        let Ok(datum) = read_value(alloc, &parsed, &Met::of_tree(200, &tree)) else {
+        let Ok(datum) = read_value(alloc, &parsed, &Met::of_tree(MAX_NESTING_LEVEL, &tree)) else {
             return Err(Fail::from("not read"));
         };
         let bytes = to_vec_at(alloc, &datum)?;

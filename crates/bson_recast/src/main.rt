@@ -2,9 +2,12 @@
 #![tactic(auto)]
 
 use bson_rawdoc::{ReadAdapter, WriteAdapter};
-use bson_recast_run::run;
+use bson_recast_run::{Status, run};
 use std::process::ExitCode;
 use std::{env, io};
+
+/// The exit status where the arguments cannot be taken, as one that is not UTF-8. The statuses of a run are smaller.
+const BAD_ARGUMENTS: u8 = 7;
 
 /// The words after the program's name.
 fn words(rt: &HostRuntime) -> io::Result<Vec<String>> {
@@ -15,12 +18,14 @@ fn words(rt: &HostRuntime) -> io::Result<Vec<String>> {
     Ok(words)
 }
 
-/// Ends with the status of the run; with 6 or 7 where the words cannot be taken, because memory ran out or another cause.
+/// Ends with the status of the run; with that of no memory, or [`BAD_ARGUMENTS`], where the words cannot be taken.
 fn main(rt: HostRuntime) -> ExitCode {
     let words = match words(&rt) {
         Ok(words) => words,
-        Err(e) if e.kind() == io::ErrorKind::OutOfMemory => return ExitCode::from(6),
-        Err(_) => return ExitCode::from(7),
+        Err(e) if e.kind() == io::ErrorKind::OutOfMemory => return ExitCode::from(
+            Status::NoMemory.number(),
+        ),
+        Err(_) => return ExitCode::from(BAD_ARGUMENTS),
     };
     let mut input = ReadAdapter::new(rt.stdin());
     let mut out = WriteAdapter::new(rt.stdout());

@@ -57,12 +57,12 @@ IsRefusal r (Read e) = r ≡ unread (read_failure e)
 IsRefusal r (Write e) = Unwritten r (write_failure e)
 IsRefusal r NoMemory = Unit {0}
 
--- the answer of a recast
+-- what a recast returns
 abbrev pub IsRecast : Recast → Result (Vec ℕ) RecastError → Type 0
 IsRecast r (Ok v) = r ≡ writes v.items
 IsRecast r (Err e) = IsRefusal r e
 
--- the answer of a recast that appends to a buffer with these bytes, which has the new ones then
+-- what a recast returns that appends to a buffer with these bytes, which has the new ones then
 abbrev pub IsAppended : Recast → (old new : Bytes) → Result (Unit {0}) RecastError → Type 0
 IsAppended r old new (Ok u) = (bytes : Bytes) × (r ≡ writes bytes) × (new ≡ old ++ bytes)
 IsAppended r old new (Err e) = IsRefusal r e × (new ≡ old)

@@ -9,7 +9,7 @@ ghost use Rattle.bson_laws.specs.Plain.{IsPlain};
 ghost use Rattle.bson_laws.specs.Reads.{reads_document};
 ghost use Rattle.bson_laws.specs.Writable.{IsWritable};
 ghost use Rattle.bson_de_raw.specs.Gives.{Gives};
-ghost use Rattle.bson_recast_run.specs.Recasting.{recast_of, writes, IsRecast, IsAppended, GivesBytes, IsForSize, IsForNoNumber, IfUnwritten, IsReadError, IsWriteError};
+ghost use Rattle.bson_recast_run.specs.Recasting.{recast_of, writes, IsRecast, IsAppended, GivesBytes, IsForSize, IsForNoNumber, IfUnwritten};
 
 use bson_datum::{Datum, Shape, de, ser};
 use bson_de_raw::from_slice_at;
@@ -55,6 +55,38 @@ impl From<AllocError> for RecastError {
 
     fn from(_error: AllocError) -> RecastError {
         RecastError::NoMemory
+    }
+}
+
+impl From<de::Error> for RecastError {
+    ghost use Rattle.bson_recast_run.specs.Recasting.{IsReadError};
+
+    ghost from_gives = { λ e r. IsReadError e r };
+
+    fn from(error: de::Error) -> RecastError {
+        match error {
+            de::Error::NoMemory => RecastError::NoMemory,
+            e @ (de::Error::EndOfStream
+            | de::Error::DeserializationError { .. }
+            | de::Error::WithPath { .. }) => RecastError::Read(e),
+        }
+    }
+}
+
+impl From<ser::Error> for RecastError {
+    ghost use Rattle.bson_recast_run.specs.Recasting.{IsWriteError};
+
+    ghost from_gives = { λ e r. IsWriteError e r };
+
+    fn from(error: ser::Error) -> RecastError {
+        match error {
+            ser::Error::NoMemory => RecastError::NoMemory,
+            e @ (ser::Error::InvalidDocumentKey(_)
+            | ser::Error::InvalidCString(_)
+            | ser::Error::UnsignedIntegerExceededRange(_)
+            | ser::Error::SerializationError { .. }
+            | ser::Error::WithPath { .. }) => RecastError::Write(e),
+        }
     }
 }
 
@@ -123,10 +155,8 @@ fn append(out: &mut Out, made: &[u8]) -> Result<(), RecastError>
     ensures { IsAppended (writes made.now) out.old.bytes out.new.bytes result }
 {
     let mut steps = Steps::<Tally>::new();
-    match out.push_all(made, &mut steps) {
-        Ok(()) => Ok(()),
-        Err(_) => Err(RecastError::NoMemory),
-    }
+    out.push_all(made, &mut steps)?;
+    Ok(())
 }
 
 // The same in two steps: the value is read, and then it is written.
@@ -138,15 +168,10 @@ fn recast_in_two(
 ) -> Result<(), RecastError>
     ensures exact { IsAppended (recast_of shape.now bytes.now) out.old.bytes out.new.bytes result }
 {
-    let datum = match read(alloc, shape, bytes) {
-        Ok(datum) => datum,
-        Err(e) => return Err(unread(e)),
-    };
+    let datum = read(alloc, shape, bytes)?;
     let mut steps = Steps::<Tally>::new();
-    match to_buf(&datum, out, &mut steps) {
-        Ok(()) => Ok(()),
-        Err(e) => Err(unwritten(e)),
-    }
+    to_buf(&datum, out, &mut steps)?;
+    Ok(())
 }
 
 // `recast`, but for its other promises.
@@ -159,30 +184,4 @@ fn through(alloc: Global, shape: &Shape, bytes: &[u8]) -> Result<Vec<u8>, Recast
     let mut out = Out::new(alloc);
     recast_in_two(alloc, shape, bytes, &mut out)?;
     Ok(out.into_vec())
-}
-
-// The error of a recast for one of reading.
-fn unread(e: de::Error) -> RecastError
-    ensures { IsReadError e result }
-{
-    match e {
-        de::Error::NoMemory => RecastError::NoMemory,
-        e @ (de::Error::EndOfStream
-        | de::Error::DeserializationError { .. }
-        | de::Error::WithPath { .. }) => RecastError::Read(e),
-    }
-}
-
-// The error of a recast for one of writing.
-fn unwritten(e: ser::Error) -> RecastError
-    ensures { IsWriteError e result }
-{
-    match e {
-        ser::Error::NoMemory => RecastError::NoMemory,
-        e @ (ser::Error::InvalidDocumentKey(_)
-        | ser::Error::InvalidCString(_)
-        | ser::Error::UnsignedIntegerExceededRange(_)
-        | ser::Error::SerializationError { .. }
-        | ser::Error::WithPath { .. }) => RecastError::Write(e),
-    }
 }

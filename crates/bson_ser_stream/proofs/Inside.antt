@@ -1,11 +1,11 @@
 -- A part that is written, and one that is not, seen from what it is a part of.
-use Rattle.std.proofs.Common.{◌≡◌, ℕ, ◌+◌, [], ◌∷◌, ◌++◌, length, reverse, Result, Ok, Err, refl, ap, sym, subst, ◌∙◌, append_assoc, arith}
+use Rattle.std.proofs.Common.{◌≡◌, ℕ, ◌+◌, [], ◌∷◌, ◌++◌, length, reverse, Ok, Err, refl, ap, sym, subst, ◌∙◌, append_assoc, arith}
 use Rattle.std.specs.Prelude.{IsOk}
 use Rattle.std.proofs.lemmas.List.{length-append, reverse-append}
 use Rattle.bson_base.specs.Text.{Bytes, Utf8}
-use Rattle.bson_base.specs.Outcome.{◌>>=◌, result_map}
+use Rattle.bson_base.specs.Outcome.{◌>>=◌}
 use Rattle.bson_base.specs.Tree.{Tree, enc, kind, element}
-use Rattle.bson_datum.specs.Refusal.{WriteFault, Segment, in_segment, inside}
+use Rattle.bson_datum.specs.Refusal.{Segment, in_segment, inside}
 use Rattle.bson_datum.specs.Stop.{segments_out}
 use Rattle.bson_datum.specs.ErrorView.{write_fault}
 use Rattle.bson_datum.specs.declared.ser.Fault.{Fault}

@@ -21,3 +21,4 @@ pub mod Accepted
 pub mod Scoped
 pub mod Limits
 pub mod Meant
+pub mod InOrder

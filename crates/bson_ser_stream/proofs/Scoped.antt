@@ -1,9 +1,8 @@
 -- Code with a scope: a place for the length of all, the code, the scope, and the length over its place.
-use Rattle.std.proofs.Common.{Bool, ◌≡◌, ℕ, zero, suc, ◌+◌, ◌-◌, ◌<◌, ◌≤◌, [], ◌∷◌, ◌++◌, length, take, drop, Option, Some, Result, Ok, Err, refl, ap, sym, subst, ◌∙◌, append_assoc, arith}
+use Rattle.std.proofs.Common.{Bool, ◌≡◌, ℕ, zero, suc, ◌+◌, ◌-◌, [], ◌++◌, length, take, drop, Some, Result, Ok, Err, refl, ap, sym, subst, ◌∙◌, append_assoc, arith}
 use Rattle.std.specs.Prelude.{codes, IsOk}
 use Rattle.std.proofs.lemmas.List.{length-append, take_at, drop_at}
 use Rattle.bson_base.specs.Outcome.{result_map}
-use Rattle.bson_base.specs.Sound.{max_bytes}
 use Rattle.bson_base.specs.Text.{Bytes, Utf8}
 use Rattle.bson_base.specs.Tree.{Tree, string, document, Pairs, le32, closed_text, after_total, enc}
 use Rattle.bson_base.specs.declared.element_type.ElementType.{ElementType}
@@ -22,7 +21,7 @@ use Rattle.bson_laws.proofs.Sizes.{ok_is, under_ok, length-spell}
 use Rattle.bson_ser_stream.specs.Writing.{with_tree, length_place}
 use Rattle.bson_ser_stream.specs.Halting.{Halts, Grows, Puts, Totals, TotalHalts}
 use Rattle.bson_ser_stream.proofs.Ended.{before_patch, length-patched}
-use Rattle.bson_ser_stream.proofs.Growth.{Grows-trans, Grows-appended, Grows-longer}
+use Rattle.bson_ser_stream.proofs.Growth.{Grows-trans, Grows-appended}
 use Rattle.bson_ser_stream.specs.declared.halt.Halt.{Halt}
 use Rattle.bson_datum.specs.declared.stop.Stop.TheVariants.{Refused, NoMemory}
 use Rattle.bson_ser_stream.specs.declared.halt.Halt.TheVariants.{Stopped, TooLong}

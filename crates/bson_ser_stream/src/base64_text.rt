@@ -49,7 +49,7 @@ pub(crate) fn push_base64<L: Ledger>(
     Ok(())
 }
 
-// Appends the bytes of one group of at most four characters, and answers how many they are.
+// Appends the bytes of one group of at most four characters, and returns how many they are.
 fn push_group<L: Ledger>(
     out: &mut Out,
     steps: &mut Steps<L>,

@@ -14,12 +14,9 @@ use crate::halt::Halt;
 use crate::value::put_value;
 use bson_base::ElementType;
 use bson_datum::ser::Result;
-use bson_datum::{Cause, Datum};
+use bson_datum::{Cause, Datum, MAX_NESTING_LEVEL};
 use bson_io::{Ledger, Out, Steps, Tally};
 use std::alloc::Global;
-
-// The most levels of documents and arrays.
-const MAX_LEVELS: u32 = 200;
 
 // A whole document, or as much of it as was written before a refusal.
 fn put_whole<L: Ledger>(
@@ -34,7 +31,7 @@ fn put_whole<L: Ledger>(
 {
     match value.element_type() {
         ElementType::EmbeddedDocument => {
-            put_value(out, steps, value, false, MAX_LEVELS)?;
+            put_value(out, steps, value, false, MAX_NESTING_LEVEL)?;
             Ok(())
         }
         kind => Err(Halt::caused(out.allocator(), Cause::TopLevel(kind))),

@@ -53,7 +53,7 @@ fn readable_inside(readable: bool, name: &str) -> bool
     readable || name == "$__bson_private_human_readable"
 }
 
-/// Appends a value, in its readable form or in its compact one, with so many levels of documents and arrays left, and answers
+/// Appends a value, in its readable form or in its compact one, with so many levels of documents and arrays left, and returns
 /// the kind that it wrote.
 #[cycle(put)]
 #[inline(always)]

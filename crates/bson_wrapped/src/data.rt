@@ -24,16 +24,16 @@ fn text<'de>(text: String) -> Datum<'de>
     Datum::Str(Text::Owned(text))
 }
 
-/// A copy of a text that is met.
+/// A copy of a text that a reader looks at.
 fn text_of<'de>(alloc: Global, text: MetText<'_>) -> Result<Datum<'de>, AllocError>
     ensures { IfOk result (λ d. marked d ≡ values.str (made (met_text text.entry).bytes)) }
 {
     Ok(Datum::Str(Text::Owned(text.to_string(alloc)?)))
 }
 
-/// A copy of bytes.
+/// A copy of bytes. An error means out of memory.
 pub fn bytes<'de>(alloc: Global, bytes: &[u8]) -> Result<Datum<'de>, AllocError>
-    ensures { IfOk result (λ d. marked d ≡ values.bytes (made bytes.now)) }
+    ensures datum { IfOk result (λ d. marked d ≡ values.bytes (made bytes.now)) }
 {
     Ok(Datum::Bytes(ByteStr::Owned(bytes.to_vec(alloc)?)))
 }
@@ -84,30 +84,30 @@ fn wrap<'de>(alloc: Global, name: &str, value: Datum<'de>) -> Result<Datum<'de>,
     struct_of_one(alloc, name, name, value)
 }
 
-/// An ObjectId of these bytes.
+/// An ObjectId of these bytes, which are twelve: with another number of them the writer refuses the struct with `BadStep`. An error means out of memory.
 pub fn object_id<'de>(alloc: Global, id: &[u8]) -> Result<Datum<'de>, AllocError>
-    ensures { IfOk result (λ d. marked d ≡ datum made (tree.object_id id.now)) }
+    ensures datum { IfOk result (λ d. marked d ≡ datum made (tree.object_id id.now)) }
 {
     let digits = text_of(alloc, MetText::Digits(elsewhere(id)))?;
     wrap(alloc, "$oid", digits)
 }
 
-/// A time.
+/// A time. An error means out of memory.
 pub fn date_time<'de>(alloc: Global, time: DateTime) -> Result<Datum<'de>, AllocError>
-    ensures { IfOk result (λ d. marked d ≡ datum made (tree.date_time (millis time))) }
+    ensures datum { IfOk result (λ d. marked d ≡ datum made (tree.date_time (millis time))) }
 {
     let number = text_of(alloc, MetText::Number(time))?;
     let body = struct_of_one(alloc, "", "$numberLong", number)?;
     wrap(alloc, "$date", body)
 }
 
-/// A binary: bytes where its subtype is 0, and else a struct.
+/// A binary: bytes where its subtype is 0, and else a struct. An error means out of memory.
 pub fn binary<'de>(
     alloc: Global,
     subtype: BinarySubtype,
     content: &[u8],
 ) -> Result<Datum<'de>, AllocError>
-    ensures { IfOk result (λ d. marked d ≡ datum made (tree.binary subtype.0 content.now)) }
+    ensures datum { IfOk result (λ d. marked d ≡ datum made (tree.binary subtype.0 content.now)) }
 {
     if subtype.0 == 0 {
         return bytes(alloc, content);
@@ -118,13 +118,13 @@ pub fn binary<'de>(
     wrap(alloc, "$binary", body)
 }
 
-/// A binary whose bytes are owned.
+/// A binary whose bytes are owned. An error means out of memory.
 pub fn owned_binary<'de>(
     alloc: Global,
     subtype: BinarySubtype,
     content: Vec<u8>,
 ) -> Result<Datum<'de>, AllocError>
-    ensures { IfOk result (λ d. marked d ≡ datum made (tree.binary subtype.0 content.items)) }
+    ensures datum { IfOk result (λ d. marked d ≡ datum made (tree.binary subtype.0 content.items)) }
 {
     if subtype.0 == 0 {
         return Ok(Datum::Bytes(ByteStr::Owned(content)));
@@ -132,9 +132,9 @@ pub fn owned_binary<'de>(
     binary(alloc, subtype, &content)
 }
 
-/// A timestamp.
+/// A timestamp. An error means out of memory.
 pub fn timestamp<'de>(alloc: Global, time: Timestamp) -> Result<Datum<'de>, AllocError>
-    ensures { IfOk result (λ d. marked d ≡ datum made (tree.timestamp time.time time.increment)) }
+    ensures datum { IfOk result (λ d. marked d ≡ datum made (tree.timestamp time.time time.increment)) }
 {
     let first = ("t", Datum::I64(i64::from(time.time)));
     let second = ("i", Datum::I64(i64::from(time.increment)));
@@ -142,13 +142,13 @@ pub fn timestamp<'de>(alloc: Global, time: Timestamp) -> Result<Datum<'de>, Allo
     wrap(alloc, "$timestamp", body)
 }
 
-/// A regular expression. Its options are sorted by character.
+/// A regular expression. Its options are sorted by character. An error means out of memory.
 pub fn regular_expression<'de>(
     alloc: Global,
     pattern: String,
     options: String,
 ) -> Result<Datum<'de>, AllocError>
-    ensures { IfOk result (λ d. marked d ≡ datum made (tree.regular_expression (string_bytes pattern) (sorted (string_bytes options)))) }
+    ensures datum { IfOk result (λ d. marked d ≡ datum made (tree.regular_expression (string_bytes pattern) (sorted (string_bytes options)))) }
 {
     let sorted = Regex::new(alloc, String::new(alloc), options)?;
     let options = text(String::from_str(alloc, sorted.options())?);
@@ -156,13 +156,13 @@ pub fn regular_expression<'de>(
     wrap(alloc, "$regularExpression", body)
 }
 
-/// A DbPointer.
+/// A DbPointer. An error means out of memory.
 pub fn db_pointer<'de>(
     alloc: Global,
     namespace: String,
     id: ObjectId,
 ) -> Result<Datum<'de>, AllocError>
-    ensures { IfOk result (λ d. marked d ≡ datum made (tree.db_pointer (string_bytes namespace) id.0)) }
+    ensures datum { IfOk result (λ d. marked d ≡ datum made (tree.db_pointer (string_bytes namespace) id.0)) }
 {
     let digits = text_of(alloc, MetText::Id(id))?;
     let id = struct_of_one(alloc, "", "$oid", digits)?;
@@ -170,9 +170,9 @@ pub fn db_pointer<'de>(
     wrap(alloc, "$dbPointer", body)
 }
 
-/// JavaScript code.
+/// JavaScript code. An error means out of memory.
 pub fn code<'de>(alloc: Global, code: String) -> Result<Datum<'de>, AllocError>
-    ensures { IfOk result (λ d. marked d ≡ datum made (tree.javascript_code (string_bytes code))) }
+    ensures datum { IfOk result (λ d. marked d ≡ datum made (tree.javascript_code (string_bytes code))) }
 {
     wrap(alloc, "$code", text(code))
 }
@@ -184,52 +184,52 @@ pub fn scoped_code<'de>(
     code: String,
     scope: Vec<Entry<'de>>,
 ) -> Result<Datum<'de>, AllocError>
-    ensures { IfOk result (λ d. marked d ≡ scoped_datum (string_bytes code) (entries_marked scope.entry.items)) }
+    ensures datum { IfOk result (λ d. marked d ≡ scoped_datum (string_bytes code) (entries_marked scope.entry.items)) }
 {
     let code = ("$code", text(code));
     let scope = ("$scope", Datum::Map(scope));
     struct_of_two(alloc, "$codeWithScope", code, scope)
 }
 
-/// A Symbol.
+/// A Symbol. An error means out of memory.
 pub fn symbol<'de>(alloc: Global, symbol: String) -> Result<Datum<'de>, AllocError>
-    ensures { IfOk result (λ d. marked d ≡ datum made (tree.symbol (string_bytes symbol))) }
+    ensures datum { IfOk result (λ d. marked d ≡ datum made (tree.symbol (string_bytes symbol))) }
 {
     wrap(alloc, "$symbol", text(symbol))
 }
 
-/// A Decimal128 of these bytes.
+/// A Decimal128 of these bytes, which are sixteen: with another number of them the writer refuses the struct with `BadStep`. An error means out of memory.
 pub fn decimal128<'de>(alloc: Global, bits: Vec<u8>) -> Result<Datum<'de>, AllocError>
-    ensures { IfOk result (λ d. marked d ≡ datum made (tree.decimal128 bits.items)) }
+    ensures datum { IfOk result (λ d. marked d ≡ datum made (tree.decimal128 bits.items)) }
 {
     let bits = Datum::Bytes(ByteStr::Owned(bits));
     struct_of_one(alloc, "$numberDecimal", "$numberDecimalBytes", bits)
 }
 
-/// The deprecated kind without a value.
+/// The deprecated kind without a value. An error means out of memory.
 pub fn undefined<'de>(alloc: Global) -> Result<Datum<'de>, AllocError>
-    ensures { IfOk result (λ d. marked d ≡ datum made tree.undefined) }
+    ensures datum { IfOk result (λ d. marked d ≡ datum made tree.undefined) }
 {
     wrap(alloc, "$undefined", Datum::Bool(true))
 }
 
-/// The value that is greater than every other.
+/// The value that is greater than every other. An error means out of memory.
 pub fn max_key<'de>(alloc: Global) -> Result<Datum<'de>, AllocError>
-    ensures { IfOk result (λ d. marked d ≡ datum made tree.max_key) }
+    ensures datum { IfOk result (λ d. marked d ≡ datum made tree.max_key) }
 {
     wrap(alloc, "$maxKey", Datum::I32(1))
 }
 
-/// The value that is less than every other.
+/// The value that is less than every other. An error means out of memory.
 pub fn min_key<'de>(alloc: Global) -> Result<Datum<'de>, AllocError>
-    ensures { IfOk result (λ d. marked d ≡ datum made tree.min_key) }
+    ensures datum { IfOk result (λ d. marked d ≡ datum made tree.min_key) }
 {
     wrap(alloc, "$minKey", Datum::I32(1))
 }
 
-/// A UUID: its newtype around its text and its bytes.
+/// A UUID: its newtype around its text and its bytes. An error means out of memory.
 pub fn uuid<'de>(alloc: Global, id: Uuid) -> Result<Datum<'de>, AllocError>
-    ensures { IfOk result (λ d. marked d ≡ uuid_datum made id.0) }
+    ensures datum { IfOk result (λ d. marked d ≡ uuid_datum made id.0) }
 {
     let readable = Box::new(alloc, text(id.to_hyphenated(alloc)?))?;
     let compact = Box::new(alloc, bytes(alloc, &id.0)?)?;

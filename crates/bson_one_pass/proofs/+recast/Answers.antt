@@ -12,7 +12,7 @@ use Rattle.bson_shape.proofs.Shapes.{field_smaller, part_smaller}
 use Rattle.bson_datum.specs.Value.{no_entries}
 use Rattle.bson_laws.specs.Judged.{plain}
 use Rattle.bson_laws.specs.Reads.{slots_of}
-use Rattle.bson_one_pass.specs.Recast.{recast_node, recast_items, recast_parts, recast_entries, recast_fields}
+use Rattle.bson_one_pass.specs.Put.{recast_node, recast_items, recast_parts, recast_entries, recast_fields}
 use Rattle.bson_one_pass.proofs.Containers.{array_put}
 use Rattle.bson_one_pass.proofs.Entries.{text_of, entry_step, entries_end, map_put}
 use Rattle.bson_one_pass.proofs.Forms.{newtype_is}

@@ -4,7 +4,7 @@ use Rattle.bson_shape.specs.ShapeView.{fields_of, parts_of, nodes, fields_nodes,
 use Rattle.bson_datum.specs.Value.{no_entries}
 use Rattle.bson_laws.specs.Judged.{plain}
 use Rattle.bson_laws.specs.Reads.{slots_of}
-use Rattle.bson_one_pass.specs.Recast.{recast_items, recast_parts, recast_entries, recast_fields}
+use Rattle.bson_one_pass.specs.Put.{recast_items, recast_parts, recast_entries, recast_fields}
 use Rattle.bson_one_pass.proofs.Places.{AreUnderWay}
 use Rattle.bson_one_pass.proofs.Items.{AreLeft}
 use Rattle.bson_one_pass.proofs.Entries.{AreEntriesPut, text_of}

@@ -15,7 +15,7 @@ loop-piece-preserved c =
       tt,
       tt,
       stepped c.args.shape.now c.args.file.now c.loop-piece.piece-iterator c.next.new.self c.in-Ok.bytes.now c.loop-piece.number c.loop-piece.out.bytes c.migrate_one.new.out.bytes
-          c.loop-piece.refused.items c.migrate_one.new.refused.items step c.in-Ok-migrate_one.ensures c.loop-piece.invariant.2,
+          c.loop-piece.refused.items c.migrate_one.new.refused.items step c.in_ok-migrate_one.ensures c.loop-piece.invariant.2,
     )
 
 pub returns : goal.returns

@@ -8,7 +8,7 @@ pub returns : goal.returns
 returns c =
     let m = c.in-Ok.migration in
     let status = sym (c.status_of.ensures ∙ ap listed_status c.deref-2.ensures.value) in
-    let lines = sym (c.in_ok-lines.ensures ∙ ap refused_lines c.deref.ensures.value) in
+    let lines = sym (c.in_ok-lines.ensures.lines ∙ ap refused_lines c.deref.ensures.value) in
     subst (λ s. Answers c.args.shape.now c.args.bytes.now s m.output.items (string_bytes c.in_ok-lines.lines)) status
     (subst (λ l. Answers c.args.shape.now c.args.bytes.now (listed_status m.refused.items) m.output.items l) lines
     (answers_of c.args.shape.now c.args.bytes.now m c.in-Ok.ensures.exact))

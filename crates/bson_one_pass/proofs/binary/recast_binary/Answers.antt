@@ -1,5 +1,5 @@
 use Rattle.bson_base.specs.Tree.{binary}
-use Rattle.bson_one_pass.proofs.Leaves.{if_put, binary_read, bytes_read, buffer_read, uuid_read}
+use Rattle.bson_one_pass.proofs.Leaves.{if_put, binary_read}
 use Rattle.bson_one_pass.proofs.binary.recast_binary.Goals as goal
 
 pub returns-in-Binary-default : goal.returns-in-Binary-default

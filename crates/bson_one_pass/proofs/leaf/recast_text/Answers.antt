@@ -2,7 +2,7 @@ use Rattle.std.proofs.Common.{sym, subst, Option}
 use Rattle.std.specs.Prelude.{IfSome}
 use Rattle.std.proofs.lemmas.Str.{is_utf8-from_IsUtf8}
 use Rattle.bson_base.specs.Tree.{Tree}
-use Rattle.bson_one_pass.specs.Recast.{IsPut}
+use Rattle.bson_one_pass.specs.Put.{IsPut}
 use Rattle.bson_one_pass.proofs.Leaves.{text_read, string_read}
 use Rattle.bson_one_pass.proofs.leaf.recast_text.Goals as goal
 

@@ -3,7 +3,7 @@ use Rattle.std.specs.Prelude.{IfSome}
 use Rattle.std.proofs.lemmas.Str.{is_utf8-from_IsUtf8}
 use Rattle.bson_base.specs.Tree.{Tree}
 use Rattle.bson_shape.specs.ShapeView.{variants_of}
-use Rattle.bson_one_pass.specs.Recast.{IsPut}
+use Rattle.bson_one_pass.specs.Put.{IsPut}
 use Rattle.bson_one_pass.proofs.Forms.{names_is, unit_read}
 use Rattle.bson_one_pass.proofs.variant.recast_variant.Goals as goal
 

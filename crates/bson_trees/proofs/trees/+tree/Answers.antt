@@ -142,7 +142,7 @@ after_code-returns-then-eq t c =
     let first = step_is _ _ c.in_ok-advance.field-0 s c.in_ok-advance.ensures.advanced more in
     record {
       exact = ap (code_from text) first ∙ code_scoped text key s.value c.advance.new.self (sym c.eq.ensures ∙ c.if-eq.true) ∙ scoped_read text key.bytes s.value (entries_marked c.in_ok-scope.scope.items) c.in_ok-scope.ensures.exact
-          ∙ ap Ok (sym c.in_ok-scoped_code.ensures);
+          ∙ ap Ok (sym c.in_ok-scoped_code.ensures.datum);
     }
 
 pub read_extended_value-returns-in_err-scope : goal.read_extended_value-returns-in_err-scope
@@ -161,7 +161,7 @@ read_extended_value-returns t c =
     let es = entries_marked c.in_ok-scope.scope.items in
     record {
       exact = ap (λ x. extended_at (extended_view x)) c.in-JavaScriptCodeWithScope.is ∙ ap (λ m. extended_at (node.javascript_code_with_scope p m)) (sym c.of_scope.ensures.node) ∙ extended_scoped p n
-          ∙ scoped_read p.bytes scope_key n es c.in_ok-scope.ensures.exact ∙ ap (λ b. Ok (scoped_datum b es)) (sym c.in_ok-code.ensures.ok) ∙ ap Ok (sym c.in_ok-scoped_code.ensures);
+          ∙ scoped_read p.bytes scope_key n es c.in_ok-scope.ensures.exact ∙ ap (λ b. Ok (scoped_datum b es)) (sym c.in_ok-code.ensures.ok) ∙ ap Ok (sym c.in_ok-scoped_code.ensures.datum);
     }
 
 pub read_entries-returns : goal.read_entries-returns

@@ -20,4 +20,4 @@ returns-in_err-id c =
 pub returns : goal.returns
 returns c =
     let n = c.args.value.now in
-    record { exact = mapped (uuid_datum made) (judged plain n) (uuid_at plain) ∙ ap (result_map (uuid_datum made)) c.in_ok-id.ensures.exact ∙ ap Ok (sym c.in_ok-uuid.ensures) }
+    record { exact = mapped (uuid_datum made) (judged plain n) (uuid_at plain) ∙ ap (result_map (uuid_datum made)) c.in_ok-id.ensures.exact ∙ ap Ok (sym c.in_ok-uuid.ensures.datum) }

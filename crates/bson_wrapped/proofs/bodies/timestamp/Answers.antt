@@ -23,5 +23,5 @@ returns c =
     let i = integer u32 (pos c.in_ok-time.increment) in
     record {
       exact = fields_done fs (two_numbers (λ t i. Some (tree.timestamp (unsigned_abs t) (unsigned_abs i)))) c.args.value.now (two made (codes "t") t (codes "i") i) c.in_ok-time.ensures.exact
-          ∙ ap (λ d. Ok (Some d)) (sym c.in_ok-timestamp.ensures);
+          ∙ ap (λ d. Ok (Some d)) (sym c.in_ok-timestamp.ensures.datum);
     }

@@ -1,0 +1,89 @@
+-- What is due for a call before its buffers are looked at: what the proofs of the calls need, and no definition.
+use Rattle.std.specs.Prelude.{◌≡◌, ◌<◌, ◌≤◌, ℕ, List, [], ◌∷◌, length, string_bytes}
+use Rattle.bson_base.specs.Text.{Bytes, Utf8}
+use Rattle.bson_datum.specs.Printed.{printed_failure, printed_read_fault, printed_write_fault}
+use Rattle.bson_datum.specs.Refusal as refusal
+use Rattle.bson_shape.specs.Form.{Form}
+use Rattle.bson_recast_run.specs.Recasting.{recast_of, writes, unread, Unwritten}
+use Rattle.bson_migrate_run.specs.declared.migrating.Migration.{Migration}
+use Rattle.bson_migrate_run.specs.declared.migrating.Refused.{Refused}
+use Rattle.bson_migrate_run.specs.Lines.{refused_lines, AreLines}
+use Rattle.bson_migrate_run.specs.Migrating.{NotRecast, broken, migrated, migration_of}
+use Rattle.bson_buffers.specs.Asked.{IsNotation, IsRefused}
+use Rattle.bson_buffers.specs.Checks.{IsShapeRow, NoShapeRow}
+use Rattle.bson_buffers.specs.Migrates as migrates
+use Rattle.bson_buffers.specs.Recasts.{RecastRow, LargerRow, UnreadRow, UnwrittenRow}
+use Rattle.bson_buffers.specs.Buffers.{Call, Writes, LacksSpace, Tells, IsSilent}
+use Rattle.bson_buffers.specs.declared.due.Due as due
+use Rattle.bson_buffers.specs.declared.status.Status.{Status}
+use Rattle.bson_buffers.specs.declared.status.Status.TheVariants as statuses
+
+-- What was due was put into the buffers; where the output does not fit, the status tells it.
+pub record IsDelivered (due : Status) (place : ℕ) (output : Bytes) (said : Utf8) (status : Status) (c : Call) : Type 0 where
+  pub at : c.place ≡ place
+  pub told : Tells c said
+  pub written : length output ≤ length c.buffer.before → (status ≡ due) × Writes c output
+  pub lacking : length c.buffer.before < length output → (status ≡ statuses.BufferTooSmall) × LacksSpace c output
+
+-- The bytes are a shape's notation, or a text tells why they are none.
+abbrev pub IsForCheck : (shape : Bytes) → Status → (place : ℕ) → (output : Bytes) → (said : Utf8) → Type 0
+IsForCheck shape statuses.Done place output said = (s : Form) × IsNotation shape s × (place ≡ 0) × (output ≡ []) × (said ≡ [])
+IsForCheck shape statuses.ShapeRefused place output said = IsRefused shape (record { place = place; said = said }) × (output ≡ [])
+IsForCheck shape status place output said = ⊥
+
+-- the same for a document and its recast
+abbrev pub IsForRecast : (shape bytes : Bytes) → Status → (place : ℕ) → (output : Bytes) → (said : Utf8) → Type 0
+IsForRecast shape bytes statuses.Done place output said = (s : Form) × IsNotation shape s × (recast_of s bytes ≡ writes output) × (recast_of s output ≡ writes output) × (place ≡ 0) × (said ≡ [])
+IsForRecast shape bytes statuses.ShapeRefused place output said = IsRefused shape (record { place = place; said = said }) × (output ≡ [])
+IsForRecast shape bytes statuses.ReadRefused place output said =
+    (s : Form) × (f : refusal.Failure refusal.ReadFault) × IsNotation shape s × (recast_of s bytes ≡ unread f) × (said ≡ printed_failure printed_read_fault f) × (place ≡ 0) × (output ≡ [])
+IsForRecast shape bytes statuses.WriteRefused place output said =
+    (s : Form) × (f : refusal.Failure refusal.WriteFault) × IsNotation shape s × Unwritten (recast_of s bytes) f × (said ≡ printed_failure printed_write_fault f) × (place ≡ 0) × (output ≡ [])
+IsForRecast shape bytes status place output said = ⊥
+
+-- the same for a file and its migration
+abbrev pub IsForMigration : (shape file : Bytes) → Status → (place : ℕ) → (output : Bytes) → (said : Utf8) → Type 0
+IsForMigration shape file statuses.Done place output said =
+    (s : Form) × IsNotation shape s × (migration_of s file ≡ migrated output []) × (migration_of s output ≡ migrated output []) × (place ≡ 0) × (said ≡ [])
+IsForMigration shape file statuses.SomeRefused place output said =
+    (s : Form) × (first : NotRecast) × (others : List NotRecast) × IsNotation shape s × (migration_of s file ≡ migrated output (first ∷ others)) × (migration_of s output ≡ migrated output []) × AreLines (first ∷ others) said × (place ≡ 0)
+IsForMigration shape file statuses.ShapeRefused place output said = IsRefused shape (record { place = place; said = said }) × (output ≡ [])
+IsForMigration shape file statuses.Broken place output said = (s : Form) × IsNotation shape s × (migration_of s file ≡ broken place) × (output ≡ []) × (said ≡ [])
+IsForMigration shape file status place output said = ⊥
+
+-- the status where these documents are refused
+abbrev pub listed_status : List Refused → Status
+listed_status [] = statuses.Done
+listed_status (x ∷ xs) = statuses.SomeRefused
+
+-- The output of a migration, and the lines of its refused documents.
+pub record IsOfMigration (m : Migration) (d : due.Due) : Type 0 where
+  pub status : d.status ≡ listed_status m.refused.items
+  pub place : d.place ≡ 0
+  pub output : d.output.items ≡ m.output.items
+  pub lines : string_bytes d.text ≡ refused_lines m.refused.items
+
+-- the row of the table at each status
+abbrev pub IsCheckRow : (shape : Bytes) → Status → Call → Type 0
+IsCheckRow shape statuses.Done c = IsShapeRow shape c
+IsCheckRow shape statuses.ShapeRefused c = NoShapeRow shape c
+IsCheckRow shape statuses.NoMemory c = IsSilent c
+IsCheckRow shape status c = ⊥
+
+abbrev pub IsRecastRow : (shape bytes : Bytes) → Status → Call → Type 0
+IsRecastRow shape bytes statuses.Done c = RecastRow shape bytes c
+IsRecastRow shape bytes statuses.BufferTooSmall c = LargerRow shape bytes c
+IsRecastRow shape bytes statuses.ShapeRefused c = NoShapeRow shape c
+IsRecastRow shape bytes statuses.ReadRefused c = UnreadRow shape bytes c
+IsRecastRow shape bytes statuses.WriteRefused c = UnwrittenRow shape bytes c
+IsRecastRow shape bytes statuses.NoMemory c = IsSilent c
+IsRecastRow shape bytes status c = ⊥
+
+abbrev pub IsMigrationRow : (shape file : Bytes) → Status → Call → Type 0
+IsMigrationRow shape file statuses.Done c = migrates.MigratedRow shape file c
+IsMigrationRow shape file statuses.SomeRefused c = migrates.SomeRefusedRow shape file c
+IsMigrationRow shape file statuses.BufferTooSmall c = migrates.LargerRow shape file c
+IsMigrationRow shape file statuses.ShapeRefused c = NoShapeRow shape c
+IsMigrationRow shape file statuses.Broken c = migrates.BrokenRow shape file c
+IsMigrationRow shape file statuses.NoMemory c = IsSilent c
+IsMigrationRow shape file status c = ⊥

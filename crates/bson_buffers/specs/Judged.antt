@@ -1,0 +1,13 @@
+-- What the bytes of a shape are refused with: what the proofs of the calls need, and no definition.
+use Rattle.std.specs.Prelude.{Result, Ok, Err, string_bytes}
+use Rattle.bson_base.specs.Text.{Bytes}
+use Rattle.bson_shape.specs.Form.{Form}
+use Rattle.bson_buffers.specs.declared.asking.ShapeRefusal.{ShapeRefusal}
+use Rattle.bson_buffers.specs.Asked.{NoShape, IsNotation, IsRefused}
+
+abbrev pub told_by : ShapeRefusal → NoShape
+told_by r = record { place = r.place; said = string_bytes r.text }
+
+abbrev pub IsJudged : Bytes → Result Form ShapeRefusal → Type 0
+IsJudged bytes (Ok s) = IsNotation bytes s
+IsJudged bytes (Err r) = IsRefused bytes (told_by r)

@@ -1,0 +1,9 @@
+pub mod Number
+pub mod Buffers
+pub mod Asked
+pub mod Judged
+pub mod Checks
+pub mod Recasts
+pub mod Migrates
+pub mod Finding
+pub mod Due

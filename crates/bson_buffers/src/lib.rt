@@ -1,0 +1,19 @@
+//! Documents judged, cut and recast from slices into buffers: slices that the caller gives. It is what the C library offers, in Rattle.
+#![tactic(auto)]
+
+mod asking;
+mod buffer;
+mod checking;
+mod due;
+mod finding;
+mod migrating;
+mod recasting;
+mod report;
+mod status;
+
+pub use checking::check_shape;
+pub use finding::{Found, document_at};
+pub use migrating::migrate_into;
+pub use recasting::recast_into;
+pub use report::Report;
+pub use status::Status;

@@ -1,9 +1,0 @@
-pub mod Number
-pub mod Rooms
-pub mod Asked
-pub mod Answered
-pub mod Checks
-pub mod Recasts
-pub mod Migrates
-pub mod Finding
-pub mod Due
