@@ -27,7 +27,11 @@ fn refusal_of(alloc: Global, e: &ParseError) -> Result<ShapeRefusal, AllocError>
     Ok(ShapeRefusal { place, text })
 }
 
-/// The shape that the bytes are the notation of, or why they are none. The outer error means out of memory.
+/// The shape that the bytes are the notation of, or why they are none.
+///
+/// # Errors
+///
+/// Memory ran out. The inner error says why the bytes are no notation.
 pub fn asked(alloc: Global, bytes: &[u8]) -> Result<Result<Shape, ShapeRefusal>, AllocError>
     ensures { IfOk result (λ r. IsJudged bytes.now r) }
 {

@@ -10,6 +10,10 @@ use std::alloc::{AllocError, Global};
 
 impl<'a> Text<'a> {
     /// An equal text: borrowed where this one is, else a copy.
+    ///
+    /// # Errors
+    ///
+    /// Memory ran out.
     pub fn try_clone(&self, alloc: Global) -> Result<Text<'a>, AllocError>
         ensures equal { IfOk result (λ t. text_view t ≡ text_view self.now) }
         ensures borrowed { IfOk result (λ t. text_borrowed t ≡ text_borrowed self.now) }
@@ -21,6 +25,10 @@ impl<'a> Text<'a> {
     }
 
     /// An equal text that is owned: a copy where this one is borrowed.
+    ///
+    /// # Errors
+    ///
+    /// Memory ran out.
     pub fn into_owned<'x>(self, alloc: Global) -> Result<Text<'x>, AllocError>
         ensures equal { IfOk result (λ t. text_view t ≡ text_view self.entry) }
         ensures owned { IfOk result (λ t. text_borrowed t ≡ false) }
@@ -34,6 +42,10 @@ impl<'a> Text<'a> {
 
 impl<'a> ByteStr<'a> {
     /// An equal byte string: borrowed where this one is, else a copy.
+    ///
+    /// # Errors
+    ///
+    /// Memory ran out.
     pub fn try_clone(&self, alloc: Global) -> Result<ByteStr<'a>, AllocError>
         ensures equal { IfOk result (λ b. bytes_view b ≡ bytes_view self.now) }
         ensures borrowed { IfOk result (λ b. bytes_borrowed b ≡ bytes_borrowed self.now) }
@@ -45,6 +57,10 @@ impl<'a> ByteStr<'a> {
     }
 
     /// An equal byte string that is owned: a copy where this one is borrowed.
+    ///
+    /// # Errors
+    ///
+    /// Memory ran out.
     pub fn into_owned<'x>(self, alloc: Global) -> Result<ByteStr<'x>, AllocError>
         ensures equal { IfOk result (λ b. bytes_view b ≡ bytes_view self.entry) }
         ensures owned { IfOk result (λ b. bytes_borrowed b ≡ false) }
@@ -58,6 +74,10 @@ impl<'a> ByteStr<'a> {
 
 impl<'a> Datum<'a> {
     /// An equal datum. Its parts are borrowed where those of this one are, else copies.
+    ///
+    /// # Errors
+    ///
+    /// Memory ran out.
     pub fn try_clone(&self, alloc: Global) -> Result<Datum<'a>, AllocError>
         ensures equal { IfOk result (λ d. view d ≡ view self.now) }
         ensures borrowed { IfOk result (λ d. borrowed_parts d ≡ borrowed_parts self.now) }
@@ -66,6 +86,10 @@ impl<'a> Datum<'a> {
     }
 
     /// An equal datum in which nothing is borrowed: each borrowed part is copied.
+    ///
+    /// # Errors
+    ///
+    /// Memory ran out.
     pub fn into_owned<'x>(self, alloc: Global) -> Result<Datum<'x>, AllocError>
         ensures equal { IfOk result (λ d. view d ≡ view self.entry) }
         ensures owned { IfOk result IsOwned }

@@ -167,6 +167,10 @@ impl Model for MemorySink {
 impl MemorySink {
     /// A sink with room for so many bytes, with nothing written and no calls so far. It takes all its
     /// memory here.
+    ///
+    /// # Errors
+    ///
+    /// Memory ran out.
     pub fn new(
         alloc: Global,
         room: usize,

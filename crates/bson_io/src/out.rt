@@ -69,6 +69,10 @@ impl Out {
     }
 
     /// Takes memory for so many more bytes, unless they are spare already.
+    ///
+    /// # Errors
+    ///
+    /// Memory ran out. The output is as it was.
     pub fn reserve(&mut self, n: usize) -> Result<(), AllocError>
         ensures ok { OnOk result (n ≤ self.new.spare) }
         ensures bytes { self.new.bytes ≡ self.old.bytes }
@@ -79,6 +83,10 @@ impl Out {
     }
 
     /// Appends a byte, at one step. Where one byte is spare it takes no memory.
+    ///
+    /// # Errors
+    ///
+    /// Memory ran out. The output is as it was.
     pub fn push<L: Ledger>(&mut self, b: u8, steps: &mut Steps<L>) -> Result<(), AllocError>
         ensures ok { OnOk result (Appended self.old self.new (b ∷ []) steps.old steps.new) }
         ensures err { OnErr result (Refused self.old self.new steps.old steps.new) }
@@ -90,6 +98,10 @@ impl Out {
     }
 
     /// Appends bytes, at one step each. Where as many are spare it takes no memory.
+    ///
+    /// # Errors
+    ///
+    /// Memory ran out. The output is as it was.
     pub fn push_all<L: Ledger>(&mut self, p: &[u8], steps: &mut Steps<L>) -> Result<(), AllocError>
         ensures ok { OnOk result (Appended self.old self.new p.now steps.old steps.new) }
         ensures err { OnErr result (Refused self.old self.new steps.old steps.new) }

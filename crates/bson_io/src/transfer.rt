@@ -73,6 +73,10 @@ pub fn read_to_end<I: Source>(alloc: Global, input: &mut I) -> Result<Vec<u8>, R
 }
 
 /// Writes all that is due, in as many calls as it takes.
+///
+/// # Errors
+///
+/// A call on the sink failed. The sink has got a first part of the bytes.
 pub fn write_due<O: Sink>(out: &mut O, due: &[u8]) -> Result<(), Failed>
     ensures all { OnOk result (Appends (O.written out.old) (O.written out.new) due.now) }
     ensures part { AppendsPrefix (O.written out.old) (O.written out.new) due.now }

@@ -67,6 +67,10 @@ impl<'s, 'de> Entries<'s, 'de> {
 
     /// Puts an entry, whose key was read from this text: in the place of the one that has its key, and
     /// else behind all others.
+    ///
+    /// # Errors
+    ///
+    /// Memory ran out.
     #[inline(always)]
     pub fn put(
         &mut self,

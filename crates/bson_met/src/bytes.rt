@@ -20,6 +20,10 @@ pub struct MetBytes<'de> {
 
 impl<'de> MetBytes<'de> {
     /// The bytes, borrowed where they are in the input.
+    ///
+    /// # Errors
+    ///
+    /// Memory ran out.
     #[inline(always)]
     pub fn to_byte_str(self, alloc: Global) -> Result<ByteStr<'de>, AllocError>
         ensures piece { IfOk result (λ b. bytes_piece b ≡ met_bytes self.entry) }

@@ -48,6 +48,10 @@ impl<'de> MetStr<'de> {
     }
 
     /// The text, borrowed where it is in the input.
+    ///
+    /// # Errors
+    ///
+    /// Memory ran out.
     #[inline(always)]
     pub fn to_text(self, alloc: Global) -> Result<Text<'de>, AllocError>
         ensures piece { IfOk result (λ t. text_piece t ≡ str_piece self.entry) }
@@ -89,6 +93,10 @@ pub enum MetText<'de> {
 
 impl<'de> MetText<'de> {
     /// The text, borrowed from the input where it is there. A text that no bytes hold is made.
+    ///
+    /// # Errors
+    ///
+    /// Memory ran out.
     #[inline(always)]
     pub fn to_text(self, alloc: Global) -> Result<Text<'de>, AllocError>
         ensures piece { IfOk result (λ t. text_piece t ≡ met_text self.entry) }
@@ -100,6 +108,10 @@ impl<'de> MetText<'de> {
     }
 
     /// A copy of the text.
+    ///
+    /// # Errors
+    ///
+    /// Memory ran out.
     #[inline(always)]
     pub fn to_string(self, alloc: Global) -> Result<String, AllocError>
         ensures text { IfOk result (λ s. string_bytes s ≡ (met_text self.entry).bytes) }

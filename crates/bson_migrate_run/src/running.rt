@@ -55,7 +55,11 @@ fn asked(alloc: Global, words: &[String]) -> Result<Result<Shape, String>, Alloc
     }
 }
 
-/// A line for each refused document, with its number and its refusal. An error means out of memory.
+/// A line for each refused document, with its number and its refusal.
+///
+/// # Errors
+///
+/// Memory ran out.
 pub fn lines_of(alloc: Global, refused: &[Refused]) -> Result<String, AllocError>
     ensures lines { IfOk result (λ l. string_bytes l ≡ refused_lines refused.now) }
 {

@@ -17,13 +17,15 @@ use std::alloc::Global;
 impl Shape {
     /// The shape that the text is the notation of.
     ///
-    /// The text is read from left to right, and the first refusal that is met is answered, with its place: a number of
-    /// bytes from the start of the text. `NotNotation` has the number of bytes of the longest front of the text with
-    /// which some notation begins. `Refused` has the first byte of the form whose maker refuses: a reserved or a
-    /// repeated name and a map's key are met at the last byte of the form, inner forms first, and a form inside 512
-    /// others at its first byte. A struct variant's names are judged with its enum. A leaf ends before a byte that
-    /// neither makes its word longer nor makes a name of it. `NoMemory` is answered where memory runs out, in a maker
-    /// too: `Refused` never holds it.
+    /// The text is read from left to right, and the first refusal that is met is returned, with its place: a number of bytes from the start of the text.
+    ///
+    /// # Errors
+    ///
+    /// - `NotNotation` has the number of bytes of the longest front of the text with which some notation begins.
+    /// - `Refused` has the first byte of the form whose maker refuses. A reserved or a repeated name and a map's key are met at the last byte of the
+    ///   form, inner forms first, and a form inside 512 others at its first byte. A struct variant's names are judged with its enum. A leaf ends before a
+    ///   byte that neither makes its word longer nor makes a name of it.
+    /// - `NoMemory` comes where memory runs out, in a maker too: `Refused` never holds it.
     pub fn parse(alloc: Global, text: &str) -> Result<Shape, ParseError>
         // The text is the notation of what is read.
         ensures found { IfOk result (λ s. notation.text s ≡ text.now) }

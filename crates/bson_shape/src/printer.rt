@@ -199,6 +199,10 @@ impl Shape {
     /// The notation of the shape.
     ///
     /// Reading it gives the shape again.
+    ///
+    /// # Errors
+    ///
+    /// Memory ran out.
     pub fn print(&self, alloc: Global) -> Result<String, AllocError>
         ensures text { IfOk result (λ s. string_bytes s ≡ notation.text self.now) }
     {

@@ -314,8 +314,9 @@ impl Shape {
 
     /// An option: null, or a value of this shape.
     ///
-    /// The refusals, of which the first that applies is answered: `TooDeep` where the option would have more than 512
-    /// levels, `NoMemory` where memory runs out.
+    /// # Errors
+    ///
+    /// The first of these that applies: `TooDeep` where the option would have more than 512 levels, `NoMemory` where memory runs out.
     pub fn option(alloc: Global, inner: Shape) -> Result<Shape, ShapeError>
         ensures made { Makes result (made_optional inner) }
     {
@@ -331,8 +332,9 @@ impl Shape {
 
     /// A sequence whose items have this shape.
     ///
-    /// The refusals, of which the first that applies is answered: `TooDeep` where the sequence would have more than 512
-    /// levels, `NoMemory` where memory runs out.
+    /// # Errors
+    ///
+    /// The first of these that applies: `TooDeep` where the sequence would have more than 512 levels, `NoMemory` where memory runs out.
     pub fn seq(alloc: Global, item: Shape) -> Result<Shape, ShapeError>
         ensures made { Makes result (made_sequence item) }
     {
@@ -348,9 +350,10 @@ impl Shape {
 
     /// A map whose keys and values have these shapes.
     ///
-    /// The refusals, of which the first that applies is answered: `KeyNotText` where the key is neither `str`, `string`,
-    /// `char` nor an enum whose variants are all units, `TooDeep` where the map would have more than 512 levels,
-    /// `NoMemory` where memory runs out.
+    /// # Errors
+    ///
+    /// The first of these that applies: `KeyNotText` where the key is neither `str`, `string`, `char` nor an enum whose variants are all units,
+    /// `TooDeep` where the map would have more than 512 levels, `NoMemory` where memory runs out.
     pub fn map(alloc: Global, key: Shape, value: Shape) -> Result<Shape, ShapeError>
         ensures made { Makes result (made_map key value) }
     {
@@ -369,7 +372,9 @@ impl Shape {
 
     /// A tuple of parts of these shapes, in this order.
     ///
-    /// It is refused with `TooDeep` where it would have more than 512 levels.
+    /// # Errors
+    ///
+    /// `TooDeep` where it would have more than 512 levels.
     pub fn tuple(items: Vec<Shape>) -> Result<Shape, ShapeError>
         ensures made { result ≡ made_tuple (parts_of items.items) }
     {
@@ -385,7 +390,9 @@ impl Shape {
 
     /// A tuple struct of this name, of parts of these shapes, in this order.
     ///
-    /// It is refused with `TooDeep` where it would have more than 512 levels.
+    /// # Errors
+    ///
+    /// `TooDeep` where it would have more than 512 levels.
     pub fn tuple_struct(name: String, items: Vec<Shape>) -> Result<Shape, ShapeError>
         ensures made { result ≡ made_tuple_structure (string_bytes name) (parts_of items.items) }
     {
@@ -401,9 +408,10 @@ impl Shape {
 
     /// A newtype of this name, whose value has this shape.
     ///
-    /// The refusals, of which the first that applies is answered: `ReservedName` where the name is
-    /// `$__bson_private_uuid`, `$__bson_private_human_readable` or `$__bson_private_utf8_lossy`, `TooDeep` where the
-    /// newtype would have more than 512 levels, `NoMemory` where memory runs out.
+    /// # Errors
+    ///
+    /// The first of these that applies: `ReservedName` where the name is `$__bson_private_uuid`, `$__bson_private_human_readable` or
+    /// `$__bson_private_utf8_lossy`, `TooDeep` where the newtype would have more than 512 levels, `NoMemory` where memory runs out.
     pub fn newtype(alloc: Global, name: String, value: Shape) -> Result<Shape, ShapeError>
         ensures made { Makes result (made_newtype (string_bytes name) value) }
     {
@@ -432,9 +440,10 @@ impl Shape {
 
     /// A struct of this name, with these fields in this order.
     ///
-    /// The refusals, of which the first that applies is answered: `ReservedName` where the name is one of the thirteen
-    /// reserved names, `RepeatedName` where two fields have one name, `TooDeep` where the struct would have more than
-    /// 512 levels.
+    /// # Errors
+    ///
+    /// The first of these that applies: `ReservedName` where the name is one of the thirteen reserved names, `RepeatedName` where two fields have one
+    /// name, `TooDeep` where the struct would have more than 512 levels.
     pub fn structure(name: String, fields: Vec<FieldShape>) -> Result<Shape, ShapeError>
         ensures made { result ≡ made_structure (string_bytes name) (fields_of fields.items) }
     {
@@ -456,8 +465,10 @@ impl Shape {
 
     /// An enum with these variants in this order.
     ///
-    /// The refusals, of which the first that applies is answered: `RepeatedName` where two variants have one name, or
-    /// two fields of one struct variant, `TooDeep` where the enum would have more than 512 levels.
+    /// # Errors
+    ///
+    /// The first of these that applies: `RepeatedName` where two variants have one name, or two fields of one struct variant, `TooDeep` where the
+    /// enum would have more than 512 levels.
     pub fn enumeration(variants: Vec<VariantShape>) -> Result<Shape, ShapeError>
         ensures made { result ≡ made_enumeration (variants_of variants.items) }
     {

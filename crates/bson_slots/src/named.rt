@@ -10,7 +10,9 @@ use std::alloc::{AllocError, Global};
 
 /// The field of this name with this value. The name is copied.
 ///
-/// Returns `AllocError` where memory for the name runs out.
+/// # Errors
+///
+/// Memory ran out.
 #[inline(always)]
 pub fn named_field<'de>(
     alloc: Global,
@@ -26,7 +28,9 @@ pub fn named_field<'de>(
 
 /// The struct of this name with these fields. The name is copied.
 ///
-/// Returns `AllocError` where memory for the name runs out.
+/// # Errors
+///
+/// Memory ran out.
 pub fn named_struct<'de>(
     alloc: Global,
     name: &str,
@@ -40,7 +44,9 @@ pub fn named_struct<'de>(
 
 /// The struct variant of this name with these fields. The name is copied.
 ///
-/// Returns `AllocError` where memory for the name runs out.
+/// # Errors
+///
+/// Memory ran out.
 pub fn named_struct_variant<'de>(
     alloc: Global,
     name: &str,

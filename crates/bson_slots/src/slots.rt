@@ -37,7 +37,9 @@ impl<'s, 'de> Slots<'s, 'de> {
 
     /// The slots of these fields, of which none has a value.
     ///
-    /// Returns `AllocError` where memory runs out.
+    /// # Errors
+    ///
+    /// Memory ran out.
     #[tactic(auto, using(crate::proofs::Finished::none_yet))]
     pub fn new(alloc: Global, fields: &'s [FieldShape]) -> Result<Slots<'s, 'de>, AllocError>
         ensures empty { IfOk result (λ s. slots_view s ≡ slots_of (fields_of fields.now) plain) }
@@ -68,7 +70,9 @@ impl<'s, 'de> Slots<'s, 'de> {
 
     /// Keeps the value that was read for the field at the place, which has none yet.
     ///
-    /// Returns `AllocError` where memory runs out.
+    /// # Errors
+    ///
+    /// Memory ran out.
     pub fn put(&mut self, alloc: Global, place: usize, value: Datum<'de>) -> Result<(), AllocError>
         requires within { place < length self.old.fields.now }
         requires unfilled { is_some (value_at (slots_view self.old) place) ≡ false }

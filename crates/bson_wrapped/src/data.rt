@@ -31,7 +31,11 @@ fn text_of<'de>(alloc: Global, text: MetText<'_>) -> Result<Datum<'de>, AllocErr
     Ok(Datum::Str(Text::Owned(text.to_string(alloc)?)))
 }
 
-/// A copy of bytes. An error means out of memory.
+/// A copy of bytes.
+///
+/// # Errors
+///
+/// Memory ran out.
 pub fn bytes<'de>(alloc: Global, bytes: &[u8]) -> Result<Datum<'de>, AllocError>
     ensures datum { IfOk result (λ d. marked d ≡ values.bytes (made bytes.now)) }
 {
@@ -84,7 +88,11 @@ fn wrap<'de>(alloc: Global, name: &str, value: Datum<'de>) -> Result<Datum<'de>,
     struct_of_one(alloc, name, name, value)
 }
 
-/// An ObjectId of these bytes, which are twelve: with another number of them the writer refuses the struct with `BadStep`. An error means out of memory.
+/// An ObjectId of these bytes, which are twelve: with another number of them the writer refuses the struct with `BadStep`.
+///
+/// # Errors
+///
+/// Memory ran out.
 pub fn object_id<'de>(alloc: Global, id: &[u8]) -> Result<Datum<'de>, AllocError>
     ensures datum { IfOk result (λ d. marked d ≡ datum made (tree.object_id id.now)) }
 {
@@ -92,7 +100,11 @@ pub fn object_id<'de>(alloc: Global, id: &[u8]) -> Result<Datum<'de>, AllocError
     wrap(alloc, "$oid", digits)
 }
 
-/// A time. An error means out of memory.
+/// A time.
+///
+/// # Errors
+///
+/// Memory ran out.
 pub fn date_time<'de>(alloc: Global, time: DateTime) -> Result<Datum<'de>, AllocError>
     ensures datum { IfOk result (λ d. marked d ≡ datum made (tree.date_time (millis time))) }
 {
@@ -101,7 +113,11 @@ pub fn date_time<'de>(alloc: Global, time: DateTime) -> Result<Datum<'de>, Alloc
     wrap(alloc, "$date", body)
 }
 
-/// A binary: bytes where its subtype is 0, and else a struct. An error means out of memory.
+/// A binary: bytes where its subtype is 0, and else a struct.
+///
+/// # Errors
+///
+/// Memory ran out.
 pub fn binary<'de>(
     alloc: Global,
     subtype: BinarySubtype,
@@ -118,7 +134,11 @@ pub fn binary<'de>(
     wrap(alloc, "$binary", body)
 }
 
-/// A binary whose bytes are owned. An error means out of memory.
+/// A binary whose bytes are owned.
+///
+/// # Errors
+///
+/// Memory ran out.
 pub fn owned_binary<'de>(
     alloc: Global,
     subtype: BinarySubtype,
@@ -132,7 +152,11 @@ pub fn owned_binary<'de>(
     binary(alloc, subtype, &content)
 }
 
-/// A timestamp. An error means out of memory.
+/// A timestamp.
+///
+/// # Errors
+///
+/// Memory ran out.
 pub fn timestamp<'de>(alloc: Global, time: Timestamp) -> Result<Datum<'de>, AllocError>
     ensures datum { IfOk result (λ d. marked d ≡ datum made (tree.timestamp time.time time.increment)) }
 {
@@ -142,7 +166,11 @@ pub fn timestamp<'de>(alloc: Global, time: Timestamp) -> Result<Datum<'de>, Allo
     wrap(alloc, "$timestamp", body)
 }
 
-/// A regular expression. Its options are sorted by character. An error means out of memory.
+/// A regular expression. Its options are sorted by character.
+///
+/// # Errors
+///
+/// Memory ran out.
 pub fn regular_expression<'de>(
     alloc: Global,
     pattern: String,
@@ -156,7 +184,11 @@ pub fn regular_expression<'de>(
     wrap(alloc, "$regularExpression", body)
 }
 
-/// A DbPointer. An error means out of memory.
+/// A DbPointer.
+///
+/// # Errors
+///
+/// Memory ran out.
 pub fn db_pointer<'de>(
     alloc: Global,
     namespace: String,
@@ -170,7 +202,11 @@ pub fn db_pointer<'de>(
     wrap(alloc, "$dbPointer", body)
 }
 
-/// JavaScript code. An error means out of memory.
+/// JavaScript code.
+///
+/// # Errors
+///
+/// Memory ran out.
 pub fn code<'de>(alloc: Global, code: String) -> Result<Datum<'de>, AllocError>
     ensures datum { IfOk result (λ d. marked d ≡ datum made (tree.javascript_code (string_bytes code))) }
 {
@@ -178,6 +214,10 @@ pub fn code<'de>(alloc: Global, code: String) -> Result<Datum<'de>, AllocError>
 }
 
 /// JavaScript code with the entries of its scope.
+///
+/// # Errors
+///
+/// Memory ran out.
 #[tactic(auto, using(bson_leaves::proofs::MarkedLists::row_entries))]
 pub fn scoped_code<'de>(
     alloc: Global,
@@ -191,14 +231,22 @@ pub fn scoped_code<'de>(
     struct_of_two(alloc, "$codeWithScope", code, scope)
 }
 
-/// A Symbol. An error means out of memory.
+/// A Symbol.
+///
+/// # Errors
+///
+/// Memory ran out.
 pub fn symbol<'de>(alloc: Global, symbol: String) -> Result<Datum<'de>, AllocError>
     ensures datum { IfOk result (λ d. marked d ≡ datum made (tree.symbol (string_bytes symbol))) }
 {
     wrap(alloc, "$symbol", text(symbol))
 }
 
-/// A Decimal128 of these bytes, which are sixteen: with another number of them the writer refuses the struct with `BadStep`. An error means out of memory.
+/// A Decimal128 of these bytes, which are sixteen: with another number of them the writer refuses the struct with `BadStep`.
+///
+/// # Errors
+///
+/// Memory ran out.
 pub fn decimal128<'de>(alloc: Global, bits: Vec<u8>) -> Result<Datum<'de>, AllocError>
     ensures datum { IfOk result (λ d. marked d ≡ datum made (tree.decimal128 bits.items)) }
 {
@@ -206,28 +254,44 @@ pub fn decimal128<'de>(alloc: Global, bits: Vec<u8>) -> Result<Datum<'de>, Alloc
     struct_of_one(alloc, "$numberDecimal", "$numberDecimalBytes", bits)
 }
 
-/// The deprecated kind without a value. An error means out of memory.
+/// The deprecated kind without a value.
+///
+/// # Errors
+///
+/// Memory ran out.
 pub fn undefined<'de>(alloc: Global) -> Result<Datum<'de>, AllocError>
     ensures datum { IfOk result (λ d. marked d ≡ datum made tree.undefined) }
 {
     wrap(alloc, "$undefined", Datum::Bool(true))
 }
 
-/// The value that is greater than every other. An error means out of memory.
+/// The value that is greater than every other.
+///
+/// # Errors
+///
+/// Memory ran out.
 pub fn max_key<'de>(alloc: Global) -> Result<Datum<'de>, AllocError>
     ensures datum { IfOk result (λ d. marked d ≡ datum made tree.max_key) }
 {
     wrap(alloc, "$maxKey", Datum::I32(1))
 }
 
-/// The value that is less than every other. An error means out of memory.
+/// The value that is less than every other.
+///
+/// # Errors
+///
+/// Memory ran out.
 pub fn min_key<'de>(alloc: Global) -> Result<Datum<'de>, AllocError>
     ensures datum { IfOk result (λ d. marked d ≡ datum made tree.min_key) }
 {
     wrap(alloc, "$minKey", Datum::I32(1))
 }
 
-/// A UUID: its newtype around its text and its bytes. An error means out of memory.
+/// A UUID: its newtype around its text and its bytes.
+///
+/// # Errors
+///
+/// Memory ran out.
 pub fn uuid<'de>(alloc: Global, id: Uuid) -> Result<Datum<'de>, AllocError>
     ensures datum { IfOk result (λ d. marked d ≡ uuid_datum made id.0) }
 {

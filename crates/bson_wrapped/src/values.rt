@@ -78,6 +78,10 @@ fn uuid_of_text<'de>(alloc: Global, text: &str) -> Result<Option<Datum<'de>>, Al
 }
 
 /// The ObjectId that a text of digits stands for.
+///
+/// # Errors
+///
+/// Memory ran out.
 pub fn id_of_text<'de>(alloc: Global, text: &str) -> Result<Option<Datum<'de>>, AllocError>
     ensures { IfOk result (λ o. as_seen o ≡ as_datum (wrapped.id_of_text text.now)) }
 {
