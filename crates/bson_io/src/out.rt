@@ -130,10 +130,10 @@ impl Out {
         steps.tick_all(4);
     }
 
-    /// Keeps the first `len` bytes, or all where there are no more. The memory stays as it is.
+    /// Keeps the first `len` bytes, or all where there are no more. The memory stays as it is: the room of the bytes that are cut off is spare.
     pub fn cut(&mut self, len: usize)
         ensures bytes { self.new.bytes ≡ take len self.old.bytes }
-        ensures spare { self.old.spare ≤ self.new.spare }
+        ensures room { length self.new.bytes + self.new.spare ≡ length self.old.bytes + self.old.spare }
     {
         self.buf.truncate(len);
     }
