@@ -1,5 +1,5 @@
 -- What the bytes of a shape are refused with.
-use Rattle.std.proofs.Common.{◌≡◌, Bool, true, false, Option, Some, Result, Ok, Err, refl, ap, subst, sym, ◌∙◌, inl, inr}
+use Rattle.std.proofs.Common.{◌≡◌, Bool, true, false, Some, Result, Ok, Err, refl, ap, subst, sym, ◌∙◌, inl, inr}
 use Rattle.std.specs.Prelude.{ℕ}
 use Rattle.std.specs.Str.{IsUtf8, is_utf8}
 use Rattle.std.specs.Str.Lossy.{utf8_valid_len}
@@ -17,9 +17,6 @@ use Rattle.bson_shape.specs.declared.error.ParseError.TheVariants as errors
 use Rattle.bson_shape.specs.declared.error.ShapeError.{ShapeError}
 use Rattle.bson_recast_run.proofs.Statuses.{first_false, first_true}
 use Rattle.bson_buffers.specs.Asked.{not_utf8, no_text, named, shape_of, IsNotation, IsRefused}
-
-abbrev at : ℕ → Option ℕ
-at place = Some place
 
 text_read : (bytes : Bytes) → IsUtf8 bytes → shape_of bytes ≡ named (parsed bytes)
 text_read bytes u = first_true (is_utf8 bytes) (named (parsed bytes)) (Err (no_text bytes)) (is_utf8-from_IsUtf8 bytes u)

@@ -10,7 +10,7 @@ use Rattle.bson_migrate_run.specs.declared.migrating.Refused.{Refused}
 use Rattle.bson_migrate_run.specs.Lines.{refused_lines, AreLines}
 use Rattle.bson_migrate_run.specs.Migrating.{NotRecast, broken, migrated, migration_of}
 use Rattle.bson_buffers.specs.Asked.{IsNotation, IsRefused}
-use Rattle.bson_buffers.specs.Checks.{IsShapeRow, NoShapeRow}
+use Rattle.bson_buffers.specs.Checks.{NoShapeRow}
 use Rattle.bson_buffers.specs.Migrates as migrates
 use Rattle.bson_buffers.specs.Recasts.{RecastRow, LargerRow, UnreadRow, UnwrittenRow}
 use Rattle.bson_buffers.specs.Buffers.{Call, Writes, LacksSpace, Tells, IsSilent}
@@ -62,13 +62,6 @@ pub record IsOfMigration (m : Migration) (d : due.Due) : Type 0 where
   pub place : d.place ≡ 0
   pub output : d.output.items ≡ m.output.items
   pub lines : string_bytes d.text ≡ refused_lines m.refused.items
-
--- the row of the table at each status
-abbrev pub IsCheckRow : (shape : Bytes) → Status → Call → Type 0
-IsCheckRow shape statuses.Done c = IsShapeRow shape c
-IsCheckRow shape statuses.ShapeRefused c = NoShapeRow shape c
-IsCheckRow shape statuses.NoMemory c = IsSilent c
-IsCheckRow shape status c = ⊥
 
 abbrev pub IsRecastRow : (shape bytes : Bytes) → Status → Call → Type 0
 IsRecastRow shape bytes statuses.Done c = RecastRow shape bytes c

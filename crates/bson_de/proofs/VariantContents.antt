@@ -1,10 +1,8 @@
 -- The value at an enum or at a struct, and the contents of variants.
-use Rattle.std.proofs.Common.{◌≡◌, false, Result, Ok, Err, refl, ap, sym, subst, ◌∙◌}
+use Rattle.std.proofs.Common.{◌≡◌, false, Result, Ok, Err, ap, sym, subst, ◌∙◌}
 use Rattle.std.proofs.lemmas.Bool.{false≢true}
 use Rattle.bson_base.specs.Text.{Utf8}
-use Rattle.bson_base.specs.Outcome.{◌>>=◌}
-use Rattle.bson_rawdoc.specs.Node.{Node, Nodes}
-use Rattle.bson_rawdoc.specs.Piece.{Piece}
+use Rattle.bson_rawdoc.specs.Node.{Node}
 use Rattle.bson_shape.specs.Form.{Content, unit_content, newtype_content, tuple_content, struct_content}
 use Rattle.bson_shape.specs.Makers.{is_unit}
 use Rattle.bson_datum.specs.Marked.{Marked}
@@ -13,16 +11,10 @@ use Rattle.bson_datum.specs.Refusal.{at_key, under}
 use Rattle.bson_datum.specs.declared.datum.Datum.{Datum}
 use Rattle.bson_datum.specs.declared.de.Fault.{Fault}
 use Rattle.bson_datum.specs.declared.stop.Stop.{Stop}
-use Rattle.bson_laws.specs.Containers.{read_enum, read_first}
 use Rattle.bson_laws.specs.Judged.{Reading, plain}
 use Rattle.bson_laws.specs.Reads.{reads_content}
-use Rattle.bson_laws.specs.Slots.{Slots, fill, finish, read_structure}
-use Rattle.bson_laws.specs.Taken.{document_of}
 use Rattle.bson_met.specs.Gives.{Reaches}
-use Rattle.bson_met.specs.ValueView.{value_view}
-use Rattle.bson_met.specs.declared.text.MetText.{MetText}
 use Rattle.bson_met.specs.declared.value.Value as code
-use Rattle.bson_met.specs.declared.value.Value.TheVariants.{String, Array}
 use Rattle.bson_met.proofs.Refusals.{stops_inside}
 use Rattle.bson_de.specs.AtKey.{IsAtKey}
 use Rattle.bson_de.specs.Enums.{reads_contents}
@@ -43,12 +35,3 @@ contents_at_key own name (tuple_content ps) n old new some named at h =
     subst (λ (r : Reading Marked). Reaches marked new r) (λ i. under (named i) (reads_contents (named i) (tuple_content ps) n)) (reaches_at marked name old new _ at h)
 contents_at_key own name (struct_content fs) n old new some named at h =
     subst (λ (r : Reading Marked). Reaches marked new r) (λ i. under (named i) (reads_contents (named i) (struct_content fs) n)) (reaches_at marked name old new _ at h)
-
--- a value that is no text at an enum, and one that is no array at a struct, is a document or is refused
-pub other_enum : (unit : Piece → Reading Marked) (contents : Utf8 → Node → Reading Marked) (v : code.Value) → ((t : MetText) → v ≡ String t → ⊥) → read_enum plain unit contents (value_view v) ≡ (document_of (value_view v) >>= read_first contents)
-other_enum unit contents (String t) no_text = absurd (no_text t refl)
-other_enum unit contents v no_text = refl
-
-pub other_structure : (slots : Slots) (v : code.Value) → ((ns : Nodes) → v ≡ Array ns → ⊥) → read_structure plain slots (value_view v) ≡ (document_of (value_view v) >>= λ ns. fill plain ns slots >>= finish)
-other_structure slots (Array ns) no_array = absurd (no_array ns refl)
-other_structure slots v no_array = refl

@@ -21,11 +21,10 @@ use Rattle.bson_laws.proofs.Tame.{judged_is}
 use Rattle.bson_met.specs.MetView.{document_at}
 use Rattle.bson_met.specs.Sizes.{size, sizes}
 use Rattle.bson_met.specs.Gives.{Reaches}
-use Rattle.bson_met.specs.Next.{IsFaulty}
 use Rattle.bson_met.proofs.Refusals.{stops_map}
 use Rattle.bson_met.proofs.Judging.{judged_good}
 use Rattle.bson_leaves.specs.Any.{any_at, any_within, is_opened, any_items_at, any_entries_at}
-use Rattle.bson_leaves.specs.Next.{EndsFaulty, IsNextElement}
+use Rattle.bson_leaves.specs.Next.{IsNextElement}
 
 -- ---- values of the input
 
@@ -85,9 +84,6 @@ next_is old new None e h is = absurd cc
 
 pub walk_first : (see : ElementType → Bytes → Node) (old new : Walk) (e : Element) → old ≡ then_walk e new → nodes_with see old ≡ then_node (borrowed e.key) (see e.kind e.value) (nodes_with see new)
 walk_first see old new e first = ap (nodes_with see) first
-
-pub walk_faulty : (see : ElementType → Bytes → Node) (old : Walk) (s : Stop Fault) → EndsFaulty old s → IsFaulty (nodes_with see old) s
-walk_faulty see old s h = record { fault = h.fault; first = ap (nodes_with see) h.first; refused = h.refused }
 
 -- what is in a document is smaller than it
 document_of_smaller : (m : Node) (ns : Nodes) → document_of m ≡ Ok ns → sizes ns < size m

@@ -7,8 +7,8 @@ use Rattle.bson_datum.specs.Cause.{raw}
 use Rattle.bson_datum.specs.declared.de.Fault.{Fault}
 use Rattle.bson_datum.specs.declared.stop.Stop.{Stop}
 use Rattle.bson_laws.specs.Judged.{Reading, refused}
-use Rattle.bson_met.proofs.Refusals.{StopsAs, stops_bind, refused_stops}
-use Rattle.bson_met.specs.Next.{IsFirstOf, IsFaulty, IsAdvanced, IsItemAdvanced}
+use Rattle.bson_met.proofs.Refusals.{StopsAs, stops_bind}
+use Rattle.bson_met.specs.Next.{IsFirstOf, IsAdvanced, IsItemAdvanced}
 use Rattle.bson_met.specs.PieceView.{str_piece}
 use Rattle.bson_met.specs.declared.elements.Step.{Step}
 
@@ -55,14 +55,6 @@ module _ {S : Type 0} (act : Action S) (i : ℕ) (old : Nodes) (s : S) (total : 
   each_stop k n new t first h =
       let here : StopsAs t (each act i (then_node k n new) s) = stops_bind t (act i k n s) (each act (suc i) new) h in
       subst (StopsAs t) (ap (λ ns. each act i ns s) (sym first) ∙ so_far) here
-
-  -- the list ends with a fault
-  pub each_fault : (t : Stop Fault) → IsFaulty old t → StopsAs t total
-  each_fault t h = subst (StopsAs t) (ap (λ ns. each act i ns s) (sym h.first) ∙ so_far) (refused_stops S (raw h.fault) t h.refused)
-
-  -- the list ends
-  pub each_end : old ≡ ended → total ≡ Ok s
-  each_end e = sym so_far ∙ ap (λ ns. each act i ns s) e
 
   -- one more was done, where the index tells nothing
   pub each_next : ((j : ℕ) (l : Piece) (n : Node) (x : S) → act j l n x ≡ act i l n x) → (k : Piece) (n : Node) (new : Nodes) (t : S) → old ≡ then_node k n new → act i k n s ≡ Ok t → each act i new t ≡ total

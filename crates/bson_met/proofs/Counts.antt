@@ -1,5 +1,5 @@
 -- How many elements there are.
-use Rattle.std.proofs.Common.{◌≡◌, ℕ, suc, ◌<◌, ◌≤◌, ◌^◌, List, [], ◌∷◌, length, Bool, true, false, Result, Ok, Err, refl, ap, arith}
+use Rattle.std.proofs.Common.{◌≡◌, ℕ, suc, ◌≤◌, List, [], ◌∷◌, length, Bool, refl, ap, arith}
 use Rattle.bson_base.specs.BsonView.{trees_of}
 use Rattle.bson_base.specs.Pairs as pairs
 use Rattle.bson_base.specs.Text.{Bytes}
@@ -8,14 +8,10 @@ use Rattle.bson_base.specs.declared.bson.Bson.{Bson}
 use Rattle.bson_base.specs.declared.element_type.ElementType.{ElementType}
 use Rattle.bson_rawdoc.specs.Next as next
 use Rattle.bson_rawdoc.specs.Node as node
-use Rattle.bson_rawdoc.specs.Node.{Node, Nodes, nodes_with, pair_nodes, tree_nodes, opened}
+use Rattle.bson_rawdoc.specs.Node.{Node, nodes_with, pair_nodes, tree_nodes, opened}
 use Rattle.bson_rawdoc.specs.Walk.{Walk, ended, faulty, then_walk}
-use Rattle.bson_datum.specs.declared.de.Fault.{Fault}
-use Rattle.bson_datum.specs.declared.stop.Stop.{Stop}
-use Rattle.bson_met.specs.Next.{IsAdvanced, IsItemAdvanced}
 use Rattle.bson_met.specs.OpenedView.{left_nodes}
 use Rattle.bson_met.specs.Sizes.{count}
-use Rattle.bson_met.specs.declared.elements.Step.{Step}
 use Rattle.bson_met.specs.declared.opened.Place.{Place}
 use Rattle.bson_met.specs.declared.opened.Place.TheVariants as places
 
@@ -62,14 +58,3 @@ count_left places.InsideBehind (node.regular_expression p o) = omega arith
 count_left places.InsideBehind (node.db_pointer n id) = omega arith
 count_left places.Deep (node.db_pointer n id) = omega arith
 count_left p x = omega arith
-
--- no more are left after a step
-pub fewer : (old new : Nodes) (r : Result Bool (Stop Fault)) (s : Step) → IsAdvanced old r s new → count old < 2 ^ 64 → count new < 2 ^ 64
-fewer old new (Ok true) s h few = omega (arith, ap count h)
-fewer old new (Ok false) s h few = omega (arith, ap count h.1)
-fewer old new (Err e) s h few = omega (arith, ap count h.1)
-
-pub fewer_items : (old new : Nodes) (r : Result Bool (Stop Fault)) (v : Node) → IsItemAdvanced old r v new → count old < 2 ^ 64 → count new < 2 ^ 64
-fewer_items old new (Ok true) v h few = omega (arith, ap count h.first)
-fewer_items old new (Ok false) v h few = omega (arith, ap count h.1)
-fewer_items old new (Err e) v h few = omega (arith, ap count h.1)

@@ -3,7 +3,7 @@ use Rattle.std.proofs.Common.{◌≡◌, ℕ, zero, suc, ◌+◌, ◌≤◌, Lis
 use Rattle.std.proofs.lemmas.List.{append_assoc, length-drop}
 use Rattle.std.specs.Prelude.{◌≢◌}
 use Rattle.bson_base.specs.Text.{Bytes}
-use Rattle.bson_rawdoc.specs.Cut.{Cut, whole, broken_at, with_piece, piece_length, cut_at, cut_within, cut_from, cut}
+use Rattle.bson_rawdoc.specs.Cut.{Cut, whole, with_piece, piece_length, cut_at, cut_within, cut_from, cut}
 use Rattle.bson_rawdoc.proofs.Pieces.{piece_fits}
 use Rattle.bson_shape.specs.Form.{Form}
 use Rattle.bson_recast_run.specs.declared.recasting.RecastError.{RecastError}
@@ -11,7 +11,7 @@ use Rattle.bson_recast_run.specs.declared.recasting.RecastError.TheVariants.{Rea
 use Rattle.bson_recast_run.specs.Recasting.{Recast, writes, unread, unwritten, recast_of, IsRefusal}
 use Rattle.bson_migrate_run.specs.declared.migrating.Migration.{Migration}
 use Rattle.bson_migrate_run.specs.declared.migrating.Refused.{Refused}
-use Rattle.bson_migrate_run.specs.Migrating.{NotRecast, broken, bytes_of, outputs, listed, not_recast, migration_by, migration_of, AreListed, IsMigration}
+use Rattle.bson_migrate_run.specs.Migrating.{NotRecast, bytes_of, outputs, listed, not_recast, migration_by, migration_of, AreListed, IsMigration}
 use Rattle.bson_migrate_run.specs.Step.{IsOneMigrated, IsUnderWay}
 
 -- ---- how many documents there are
@@ -59,9 +59,6 @@ one_refused r x old new before after h n kept grew =
     let l = refusal_listed r x h n in
     record { more = x ∷ []; are_listed = l.0; grew = grew; wrote = kept ∙ sym (append-nil old) ∙ ap (λ b. old ++ b) (sym l.1) }
 
-pub begun : (s : Form) (file : Bytes) → IsUnderWay s file (cut file) 0 [] []
-begun s file = record { whole = refl; list = λ rest h. h; break = refl; count = omega arith }
-
 pub stepped : (s : Form) (file : Bytes) (left new : Cut) (piece : Bytes) (number : ℕ) (output output' : Bytes) (refused refused' : List Refused) → left ≡ with_piece piece new → IsOneMigrated number (recast_of s piece) output output' refused refused'
     → IsUnderWay s file left number output refused → IsUnderWay s file new (number + 1) output' refused'
 stepped s file left new piece number output output' refused refused' is one way =
@@ -81,10 +78,6 @@ ended_whole s file left number m is way =
     let w : IsUnderWay s file whole number m.output.items m.refused.items = subst (λ l. IsUnderWay s file l number m.output.items m.refused.items) is way in
     let list = subst (λ xs. AreListed (not_recast s 0 (cut file).pieces) xs) (append-nil m.refused.items) (w.list [] tt) in
     subst (λ b. IsMigration (migration_by b (outputs s (cut file).pieces) (not_recast s 0 (cut file).pieces)) (Ok m)) (sym w.break) (sym (w.whole ∙ append-nil m.output.items), list)
-
-pub ended_broken : (s : Form) (file : Bytes) (left : Cut) (number place : ℕ) (output : Bytes) (refused : List Refused) → left ≡ broken_at place → IsUnderWay s file left number output refused → migration_of s file ≡ broken place
-ended_broken s file left number place output refused is way =
-    ap (λ b. migration_by b (outputs s (cut file).pieces) (not_recast s 0 (cut file).pieces)) (way.break ∙ ap (λ (l : Cut). l.broken) is)
 
 pub room : (s : Form) (file : Bytes) (left new : Cut) (piece : Bytes) (number : ℕ) (output : Bytes) (refused : List Refused) → left ≡ with_piece piece new → IsUnderWay s file left number output refused → number + 1 ≤ length file
 room s file left new piece number output refused is way = omega (arith, way.count, few file, ap (λ (l : Cut). length l.pieces) is)

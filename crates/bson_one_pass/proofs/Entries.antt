@@ -96,9 +96,6 @@ pub record AreEntriesPut (key : Leaf) (s : Form) (levels : ℕ) (whole : Option 
   pub written : AreEntries levels before names bytes
   pub put : made ≡ old ++ bytes
 
-pub entries_first : (key : Leaf) (s : Form) (levels : ℕ) (ns : Nodes) (old : Bytes) → AreEntriesPut key s levels (recast_entries key s no_entries levels ns) ns [] old old
-entries_first key s levels ns old = record { before = no_entries; bytes = []; left = refl; written = (refl, refl); put = sym (append-nil old) }
-
 entry_read : (key : Leaf) (s : Form) (levels : ℕ) (before : MarkedEntries) (name : Utf8) (n : Node) (ns : Nodes) (k v : Marked) → reads_key plain (leaf key) (borrowed name) ≡ Ok k → reads s plain n ≡ Ok v
     → recast_entries key s before levels (then_node (borrowed name) n ns) ≡ recast_entries key s (put_entry k v before) levels ns
 entry_read key s levels before name n ns k v is read = rw (is, read) refl

@@ -39,9 +39,6 @@ items_step s levels i key n ns t h = items_by levels i (reads s plain n) (reads_
 abbrev pub AreLeft : (whole left : Option Trees) → (index : ℕ) → (old made : Bytes) → Type 0
 AreLeft whole left i old made = (ts : Trees) → left ≡ Some ts → (all : Trees) × (whole ≡ Some all) × (old ++ array_elements 0 all ≡ made ++ array_elements i ts)
 
-pub left_at_first : (whole : Option Trees) (old : Bytes) → AreLeft whole whole 0 old old
-left_at_first whole old ts e = (ts, e, refl)
-
 pub left_next : (whole left more : Option Trees) (i : ℕ) (old made new : Bytes) (t : Tree) → AreLeft whole left i old made → left ≡ option_map (tree t) more → new ≡ made ++ element (kind t) (decimal i) (enc t)
     → AreLeft whole more (suc i) old new
 left_next whole left more i old made new t before step put ts e =

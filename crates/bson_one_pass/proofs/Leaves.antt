@@ -1,10 +1,9 @@
 -- Values at leaves.
-use Rattle.std.proofs.Common.{◌≡◌, ℕ, ℤ, zero, suc, w64, FitsSigned, ◌≤◌, ◌<◌, ◌^◌, ◌++◌, length, false, true, cond, Option, Some, None, Ok, refl, ap, sym, subst, ◌∙◌, arith}
-use Rattle.std.specs.Prelude.{nat_eq, IfSome}
+use Rattle.std.proofs.Common.{◌≡◌, ℕ, ℤ, zero, suc, w64, FitsSigned, ◌≤◌, ◌<◌, ◌^◌, ◌++◌, false, true, Option, Some, None, Ok, refl, ap, sym, subst, ◌∙◌, arith}
+use Rattle.std.specs.Prelude.{IfSome}
 use Rattle.std.specs.Int.{cast_unsigned}
 use Rattle.std.specs.Str.{is_utf8}
 use Rattle.bson_base.specs.Sound.{IsClean, HasBytes, IsBinary}
-use Rattle.bson_base.specs.Outcome.{result_map}
 use Rattle.bson_base.specs.Text.{Bytes, Utf8}
 use Rattle.bson_base.specs.Tree as tree
 use Rattle.bson_base.specs.Tree.{Tree, depth}
@@ -15,14 +14,12 @@ use Rattle.bson_rawdoc.specs.Node.{opens}
 use Rattle.bson_rawdoc.specs.Piece.{borrowed, made}
 use Rattle.bson_shape.specs.Form.{leaf}
 use Rattle.bson_shape.specs.declared.leaf.Leaf.TheVariants as leaves
-use Rattle.bson_datum.specs.Cause.{invalid_length}
 use Rattle.bson_datum.specs.Marked.{contents}
-use Rattle.bson_laws.specs.Datum.{datum, uuid_datum, sorted_tree}
-use Rattle.bson_laws.specs.Judged.{refused, plain, ignores}
+use Rattle.bson_laws.specs.Datum.{datum, sorted_tree}
+use Rattle.bson_laws.specs.Judged.{plain, ignores}
 use Rattle.bson_laws.specs.Spell.{spell}
 use Rattle.bson_laws.proofs.DatumContents.{datum_contents}
-use Rattle.bson_laws.proofs.DatumSpelled.{datum_spelled, uuid_spelled}
-use Rattle.bson_laws.proofs.Spelled.{binary_spelled}
+use Rattle.bson_laws.proofs.DatumSpelled.{datum_spelled}
 use Rattle.bson_one_pass.specs.Put.{of_writing, recast_by, recast_node, IsPut}
 
 -- the data of a tree are written as the tree
@@ -41,10 +38,6 @@ timestamp_put time increment old new levels t i put = subst (λ (o : Option Tree
 
 -- ---- binaries
 
--- a binary of any subtype but the old one
-pub binary_is : (subtype : ℕ) (bytes old new : Bytes) → nat_eq subtype 2 ≡ false → new ≡ old ++ tree.after_length subtype bytes → new ≡ old ++ tree.enc (tree.binary subtype bytes)
-binary_is subtype bytes old new other put = put ∙ ap (λ c. old ++ tree.after_length subtype (cond c (tree.le32 (length bytes) ++ bytes) bytes)) (sym other)
-
 -- what was put is what the node is recast as, where the bytes are as they have to be
 pub if_put : {P : Type 0} (r : Option ElementType) (o : Option Tree) (t : Tree) (old new : Bytes) → (P → o ≡ Some t) → IfSome r (IsPut (Some t) old new) → IfSome r (λ _. P) → IfSome r (IsPut o old new)
 if_put None o t old new reads put clean = tt
@@ -53,16 +46,6 @@ if_put (Some k) o t old new reads put clean = subst (λ p. IsPut p old new k) (s
 pub binary_read : (subtype : ℕ) (bytes : Bytes) (levels : ℕ) → IsBinary subtype bytes → recast_node (leaf leaves.Binary) levels (node.binary_node subtype (borrowed bytes)) ≡ Some (tree.binary subtype bytes)
 binary_read zero bytes levels clean = tree_written (tree.binary 0 bytes) levels clean (omega arith)
 binary_read (suc n) bytes levels clean = tree_written (tree.binary (suc n) bytes) levels clean (omega arith)
-
-pub bytes_read : (bytes : Bytes) (levels : ℕ) → IsBinary 0 bytes → recast_node (leaf leaves.Bytes) levels (node.bytes (borrowed bytes)) ≡ Some (tree.binary 0 bytes)
-bytes_read bytes levels clean = ap of_writing (binary_spelled 0 bytes clean)
-
-pub buffer_read : (bytes : Bytes) (levels : ℕ) → IsBinary 0 bytes → recast_node (leaf leaves.ByteBuf) levels (node.bytes (borrowed bytes)) ≡ Some (tree.binary 0 bytes)
-buffer_read bytes levels clean = ap of_writing (binary_spelled 0 bytes clean)
-
-pub uuid_read : (bytes : Bytes) (levels : ℕ) → HasBytes 16 bytes → recast_node (leaf leaves.Uuid) levels (node.binary_node 4 (borrowed bytes)) ≡ Some (tree.binary 4 bytes)
-uuid_read bytes levels h =
-    ap (λ n. recast_by (λ v. spell (contents v) levels) (result_map (uuid_datum made) (cond (nat_eq n 16) (Ok bytes) (refused (invalid_length n))))) h.count ∙ ap of_writing (uuid_spelled false bytes levels h)
 
 -- a binary that no field takes
 pub binary_passed : (subtype : ℕ) (bytes : Bytes) → ignores plain (node.binary_node subtype (borrowed bytes)) ≡ Ok tt

@@ -43,9 +43,6 @@ pub record AreUnderWay (fs : List FieldShape) (levels : ℕ) (whole : Option Pai
   pub written : AreWritten levels front bytes
   pub put : made ≡ old ++ bytes
 
-pub under_way_first : (fs : List FieldShape) (levels : ℕ) (ns : Nodes) (old : Bytes) → AreUnderWay fs levels (recast_fields (slots_of (fields_of fs) plain) levels ns) ns 0 old old
-under_way_first fs levels ns old = record { front = []; bytes = []; names_are = refl; left = refl; written = refl; put = sym (append-nil old) }
-
 -- ---- names
 
 names-append : (xs ys : Slots) → names (xs ++ ys) ≡ names xs ++ names ys

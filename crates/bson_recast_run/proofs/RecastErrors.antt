@@ -1,24 +1,23 @@
 -- What a recast comes to, from the answers of its halves.
-use Rattle.std.proofs.Common.{◌≡◌, Bool, true, false, Result, Ok, Err, refl, ap, sym, subst, ◌∙◌, inl, inr}
-use Rattle.std.specs.Prelude.{◌≢◌, ◌⊎◌, ◌≤◌, ◌++◌, nat_lt}
-use Rattle.std.proofs.lemmas.Bool.{le-ltb, lt-ltb}
+use Rattle.std.proofs.Common.{◌≡◌, Bool, true, false, Ok, Err, ap, sym, subst, inl, inr}
+use Rattle.std.specs.Prelude.{◌≢◌, ◌⊎◌, nat_lt}
+use Rattle.std.proofs.lemmas.Bool.{lt-ltb}
 use Rattle.bson_base.specs.Text.{Bytes}
 use Rattle.bson_base.specs.Outcome.{result_map}
 use Rattle.bson_base.specs.Sound.{max_bytes}
 use Rattle.bson_base.specs.Tree.{Tree, enc}
 use Rattle.bson_shape.specs.Form.{Form}
 use Rattle.bson_datum.specs.Value.{Value}
-use Rattle.bson_datum.specs.Refusal.{ReadFault, WriteFault, Failure, no_memory, bare, placed}
-use Rattle.bson_datum.specs.ErrorView.{read_failure, write_failure}
+use Rattle.bson_datum.specs.Refusal.{WriteFault, Failure, no_memory}
+use Rattle.bson_datum.specs.ErrorView.{write_failure}
 use Rattle.bson_datum.specs.declared.de.Error as de
 use Rattle.bson_datum.specs.declared.ser.Error as ser
 use Rattle.bson_laws.specs.Reads.{reads_document}
 use Rattle.bson_laws.specs.Spell.{Writing, spell_document, size}
-use Rattle.bson_de_raw.specs.Gives.{FailsAs}
-use Rattle.bson_ser_stream.specs.Writing.{with_tree, Fails, IsDue, too_long_failure}
+use Rattle.bson_ser_stream.specs.Writing.{Fails, IsDue, too_long_failure}
 use Rattle.bson_recast_run.specs.declared.recasting.RecastError.{RecastError}
 use Rattle.bson_recast_run.specs.declared.recasting.RecastError.TheVariants.{Read, Write, NoMemory}
-use Rattle.bson_recast_run.specs.Recasting.{writes, written, recast_read, recast_of, Unwritten, IsRefusal, IsAppended, IsReadError, IsWriteError}
+use Rattle.bson_recast_run.specs.Recasting.{writes, written, recast_read, recast_of, Unwritten, IsRefusal, IsWriteError}
 
 -- ---- from the halves to the whole
 
@@ -27,24 +26,6 @@ pub within : (b : Bool) (w : Writing Tree) (bytes : Bytes) → b ≡ false → r
 within true w bytes e is = absurd cc
 within false (Ok t) bytes e is = let same : enc t ≡ bytes = cc in ap writes same
 within false (Err r) bytes e is = absurd cc
-
--- a value that is written behind these bytes
-pub appends_value : (s : Form) (bytes old new : Bytes) (d : Value) → reads_document s bytes ≡ Ok d → with_tree old (spell_document d) ≡ Ok new → size d ≤ max_bytes → IsAppended (recast_of s bytes) old new (Ok tt)
-appends_value s bytes old new d read wrote fits = by_tree (spell_document d) refl wrote where
-  by_tree : (w : Writing Tree) → spell_document d ≡ w → with_tree old w ≡ Ok new → IsAppended (recast_of s bytes) old new (Ok tt)
-  by_tree (Err r) spelled is = absurd cc
-  by_tree (Ok t) spelled is =
-      (enc t, ap recast_read read ∙ within (nat_lt max_bytes (size d)) (spell_document d) (enc t) (le-ltb _ _ fits) (ap (result_map enc) spelled), let same : old ++ enc t ≡ new = cc in sym same)
-
-refuses : (answer : Result Value (Failure ReadFault)) (f : Failure ReadFault) → f ≢ no_memory → FailsAs f answer → answer ≡ Err f
-refuses answer no_memory n h = absurd (n refl)
-refuses answer (bare f) n h = h
-refuses answer (placed path f) n h = h
-
-pub read_error : (s : Form) (bytes : Bytes) (e : de.Error) (r : RecastError) → FailsAs (read_failure e) (reads_document s bytes) → IsReadError e r → IsRefusal (recast_of s bytes) r
-read_error s bytes e NoMemory h is = tt
-read_error s bytes e (Read d) h is = ap recast_read (subst (λ x. reads_document s bytes ≡ Err (read_failure x)) (sym is.0) (refuses (reads_document s bytes) (read_failure e) is.1 h))
-read_error s bytes e (Write d) h is = absurd is
 
 -- a value that is refused, or is too long
 refused_or : (b : Bool) (w : Writing Tree) (f : Failure WriteFault) → IsDue w f ⊎ ((b ≡ true) × (f ≡ too_long_failure)) → Unwritten (written b w) f

@@ -1,17 +1,15 @@
 -- What a shape word asks for.
-use Rattle.std.proofs.Common.{◌≡◌, [], ◌∷◌, Bool, true, false, cond, Option, Some, Result, Ok, Err, refl, ap, sym, ◌∙◌, inl, inr}
+use Rattle.std.proofs.Common.{◌≡◌, [], ◌∷◌, Bool, true, false, cond, Some, Result, Ok, Err, refl, ap, sym, ◌∙◌, inl, inr}
 use Rattle.std.specs.Prelude.{ℕ}
 use Rattle.bson_base.specs.Text.{Utf8}
 use Rattle.bson_shape.specs.Answers.{Fails, error_of}
 use Rattle.bson_shape.specs.Form.{Form}
 use Rattle.bson_shape.specs.Fronts.{IsNotNotationAt, IsRefusedAt}
 use Rattle.bson_shape.specs.Machine.{Refusal, Not_notation, Refused, parsed}
-use Rattle.bson_shape.specs.Makers.{IsShape}
-use Rattle.bson_shape.specs.Notation.{text}
 use Rattle.bson_shape.specs.declared.error.ParseError.{ParseError}
 use Rattle.bson_shape.specs.declared.error.ParseError.TheVariants as errors
 use Rattle.bson_shape.specs.declared.error.ShapeError.{ShapeError}
-use Rattle.bson_recast_run.specs.Asked.{AsksFor, RefusesWords}
+use Rattle.bson_recast_run.specs.Asked.{RefusesWords}
 use Rattle.bson_recast_run.specs.Words.{Usage, Request, refused_with, line_at, line_for, at_shape, request}
 
 chosen : (usage : Utf8) (b : Bool) (r : Request) → b ≡ false → cond b (refused_with usage) r ≡ r
@@ -30,13 +28,6 @@ line_refused : (read : Result Form Refusal) (place : ℕ) (x : ShapeError) → e
 line_refused (Ok s) place x e = absurd cc
 line_refused (Err (Not_notation p)) place x e = absurd cc
 line_refused (Err (Refused r)) place x e = let at : r.place ≡ place = cc in let why : r.cause ≡ x = cc in λ i. refused_with (line_at (at i) (errors.Refused (at i) (why i)))
-
--- a word that is read asks for its shape
-pub asks_for : (usage : Usage) (word : Utf8) (s : Form) → usage.is_option word ≡ false → text s ≡ word → IsShape s → parsed word ≡ Ok s → AsksFor usage (word ∷ []) s
-asks_for usage word s plain is shape read = record { notation = ap (λ w. w ∷ []) (sym is); made = shape; asked = one_word usage word plain ∙ ap at_shape read }
-
-abbrev told : Utf8 → Option Utf8
-told l = Some l
 
 -- a word that is refused asks for none
 pub refuses : (usage : Usage) (word : Utf8) (e : ParseError) (line : Utf8) → usage.is_option word ≡ false → line_for e ≡ Some line → Fails e (parsed word)

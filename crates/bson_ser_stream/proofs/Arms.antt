@@ -1,22 +1,20 @@
 -- A datum whose values, entries or fields are in a `Vec` is written as the value that it is.
-use Rattle.std.proofs.Common.{◌≡◌, ℕ, ◌+◌, ◌⊎◌, inl, inr, List, [], Bool, true, false, cond, Option, Some, None, Result, refl, ap, sym, subst, ◌∙◌}
-use Rattle.std.specs.Str.{bytes_eq}
+use Rattle.std.proofs.Common.{◌≡◌, ℕ, ◌+◌, ◌⊎◌, inl, inr, List, [], Bool, Option, Some, None, Result, ap, sym, subst, ◌∙◌}
 use Rattle.std.specs.Global.{Vec}
 use Rattle.bson_base.specs.Text.{Utf8}
 use Rattle.bson_base.specs.Reserved.{reserved_kind}
-use Rattle.bson_base.specs.Tree.{Tree, document}
+use Rattle.bson_base.specs.Tree.{document}
 use Rattle.bson_base.specs.declared.element_type.ElementType.{ElementType}
-use Rattle.bson_base.specs.declared.element_type.ElementType.TheVariants.{EmbeddedDocument, Binary, JavaScriptCodeWithScope}
+use Rattle.bson_base.specs.declared.element_type.ElementType.TheVariants.{EmbeddedDocument}
 use Rattle.bson_datum.specs.TextView.{text_view}
-use Rattle.bson_datum.specs.Value.{Value, FieldValues, sequence, tuple, tuple_structure, structure, kind_as, reserved_or_document, uuid_newtype, readable_inside}
+use Rattle.bson_datum.specs.Value.{Value, FieldValues, sequence, tuple, tuple_structure, structure, kind_as, reserved_or_document}
 use Rattle.bson_datum.specs.View.{view, items_view}
 use Rattle.bson_datum.proofs.Views.{view-Seq, view-Tuple, view-TupleStruct}
 use Rattle.bson_datum.specs.declared.text.Text.{Text}
 use Rattle.bson_datum.specs.declared.datum.Datum.{Datum, Seq, Tuple, TupleStruct}
 use Rattle.bson_io.specs.Output.{Output}
 use Rattle.bson_reserved.specs.Unwrap.{unwrap, scoped_code}
-use Rattle.bson_reserved.specs.UuidBytes.{uuid_bytes}
-use Rattle.bson_laws.specs.Spell.{Writing, spell_unwrapped, spell_uuid, written_size, struct_at, struct_size, reserved_at, reserved_size, enclosed_at, spell_as, spell_fields_as, spell_list, size_as, size_fields_as, size_list}
+use Rattle.bson_laws.specs.Spell.{struct_at, struct_size, reserved_at, reserved_size, enclosed_at, spell_as, spell_fields_as, spell_list, size_as, size_fields_as, size_list}
 use Rattle.bson_ser_stream.specs.Halting.{Puts}
 use Rattle.bson_ser_stream.specs.declared.halt.Halt.{Halt}
 
@@ -28,13 +26,6 @@ module _ (readable : Bool) (levels : ℕ) (old new : Output) (before now : ℕ) 
   abbrev puts_named : Utf8 → FieldValues → Option ElementType → Type 0
   puts_named name fs o = Puts (reserved_or_document o) (struct_size o (size_fields_as readable fs) (λ k. reserved_size k (unwrap k fs) (scoped_code (size_list readable fs []))))
       (struct_at o levels (spell_fields_as readable fs) (λ k. reserved_at k (unwrap k fs) (scoped_code (spell_list readable fs levels [])))) old new before now r
-
-  abbrev puts_either : Utf8 → Value → Bool → Type 0
-  puts_either name v b = Puts (cond b Binary (kind_as (readable_inside readable name) v)) (cond b (written_size (spell_uuid (uuid_bytes readable v))) (size_as (readable_inside readable name) v))
-      (cond b (spell_uuid (uuid_bytes readable v)) (spell_as (readable_inside readable name) v levels)) old new before now r
-
-  abbrev pub PutsNewtype : Utf8 → Value → Type 0
-  PutsNewtype name v = puts_either name v (bytes_eq name uuid_newtype)
 
   -- a datum that is the value of a list that is in its `Vec`
   pub puts_as : {X : Type 0} (d e : Datum) (f : List X → Value) (xs ys : List X) → d ≡ e → xs ≡ ys → view e ≡ f ys → PutsValue (f xs) → PutsValue (view d)
@@ -53,20 +44,3 @@ module _ (readable : Bool) (levels : ℕ) (old new : Output) (before now : ℕ) 
   pub puts_reserved : (name : Utf8) (fs : FieldValues) (k : ElementType) → reserved_kind name ≡ Some k
       → Puts k (reserved_size k (unwrap k fs) (scoped_code (size_list readable fs []))) (reserved_at k (unwrap k fs) (scoped_code (spell_list readable fs levels []))) old new before now r → PutsValue (structure name fs)
   puts_reserved name fs k is h = subst (puts_named name fs) (sym is) h
-
-  -- a newtype of a UUID, and another
-  pub puts_uuid : (name : Utf8) (v : Value) → bytes_eq name uuid_newtype ≡ true → Puts Binary (written_size (spell_uuid (uuid_bytes readable v))) (spell_uuid (uuid_bytes readable v)) old new before now r → PutsNewtype name v
-  puts_uuid name v is h = subst (puts_either name v) (sym is) h
-
-  pub puts_content : (name : Utf8) (v : Value) → bytes_eq name uuid_newtype ≡ false
-      → Puts (kind_as (readable_inside readable name) v) (size_as (readable_inside readable name) v) (spell_as (readable_inside readable name) v levels) old new before now r → PutsNewtype name v
-  puts_content name v is h = subst (puts_either name v) (sym is) h
-
--- a kind but that of code with a scope is written as what its list is accepted as
-pub unscoped_at : (k : ElementType) (o : Option Tree) (scoped : Option (Utf8 × Writing Tree)) → (k ≡ JavaScriptCodeWithScope → ⊥) → reserved_at k o scoped ≡ spell_unwrapped o
-unscoped_at JavaScriptCodeWithScope o scoped other = absurd (other refl)
-unscoped_at k o scoped other = refl
-
-pub unscoped_size : (k : ElementType) (o : Option Tree) (scoped : Option (Utf8 × ℕ)) → (k ≡ JavaScriptCodeWithScope → ⊥) → reserved_size k o scoped ≡ written_size (spell_unwrapped o)
-unscoped_size JavaScriptCodeWithScope o scoped other = absurd (other refl)
-unscoped_size k o scoped other = refl

@@ -7,10 +7,8 @@ use Rattle.bson_base.specs.Outcome.{◌>>=◌, result_map}
 use Rattle.bson_rawdoc.specs.Node.{Node}
 use Rattle.bson_shape.specs.declared.shape.FieldShape.{FieldShape}
 use Rattle.bson_datum.specs.Cause.{duplicate_field}
-use Rattle.bson_datum.specs.ErrorView.{read_fault}
 use Rattle.bson_datum.specs.Marked.{Marked}
 use Rattle.bson_datum.specs.Refusal.{under}
-use Rattle.bson_datum.specs.Stop.{stop_view}
 use Rattle.bson_datum.specs.declared.datum.Datum.{Datum}
 use Rattle.bson_datum.specs.declared.datum.Field.{Field}
 use Rattle.bson_datum.specs.declared.de.Fault.{Fault}
@@ -20,11 +18,10 @@ use Rattle.bson_laws.specs.Reads.{reads}
 use Rattle.bson_laws.specs.Slots.{Slot, Slots, fill_slot, put_at}
 use Rattle.bson_laws.proofs.Placed.{names_of, IsFirst, IsNone, put_first, put_none}
 use Rattle.bson_slots.specs.FieldSlots.{field_slots, slot_of, value_at, with_value}
-use Rattle.bson_met.specs.Gives.{IsRefusedOrNoMemory}
 use Rattle.bson_slots.specs.Place.{place_of}
 use Rattle.bson_slots.specs.SlotsView.{slots_view}
 use Rattle.bson_slots.specs.declared.slots.Slots as code
-use Rattle.bson_met.proofs.Refusals.{StopsAs, stops_bind, refused_stops}
+use Rattle.bson_met.proofs.Refusals.{StopsAs, stops_bind}
 
 -- ---- places
 
@@ -143,9 +140,6 @@ module _ (s : code.Slots) (key : Utf8) (n : Node) (i : ℕ) (d : FieldShape) (pl
 module _ (s : code.Slots) (key : Utf8) (n : Node) (i : ℕ) (place : key_place s key ≡ Some i) (filled : is_some (value_at (slots_view s) i) ≡ true) (default : Slot) where
   pub put_filled : put_at plain key n (slots_view s) ≡ refused (duplicate_field key)
   put_filled = slot_again key n (slots_view s) i default (first_key s key i place) filled
-
-  pub duplicate_refused : (t : Stop Fault) → IsRefusedOrNoMemory (duplicate_field key) (stop_view read_fault t) → StopsAs t (put_at plain key n (slots_view s))
-  duplicate_refused t h = subst (λ (r : Reading Slots). StopsAs t r) (sym put_filled) (refused_stops Slots (duplicate_field key) t h)
 
 -- the key is the name of no field: the element is dropped
 module _ (s : code.Slots) (key : Utf8) (n : Node) (unknown : key_place s key ≡ None) where

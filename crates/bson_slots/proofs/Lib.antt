@@ -2,5 +2,3 @@ pub mod Places
 pub mod MarkedFields
 pub mod Finished
 pub mod Elements
-pub mod FieldPlaces
-pub mod Filling

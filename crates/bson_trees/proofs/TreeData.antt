@@ -29,7 +29,7 @@ use Rattle.bson_laws.specs.Datum.{datum, itself, pair_data, tree_data}
 use Rattle.bson_laws.specs.Judged.{Reading, refused, judged, plain, scope_key}
 use Rattle.bson_laws.specs.ReadsLeaf.{put_entry}
 use Rattle.bson_laws.specs.Trees.{as_tree, read_tree, array_trees, document_tree, after_code, after_scope, by_key, by_meaning, put_pair, pairs_in}
-use Rattle.bson_laws.specs.Wrapped.{Meaning, body, code, scope, text_at}
+use Rattle.bson_laws.specs.Wrapped.{Meaning, body, code, scope}
 use Rattle.bson_laws.proofs.DatumContents.{datum_contents}
 use Rattle.bson_laws.proofs.Sizes.{under_ok}
 use Rattle.bson_met.specs.Gives.{RefusesAs}
@@ -154,10 +154,6 @@ body_wrapped w (body read) key n r f g e = refl
 body_wrapped w code key n r f g e = absurd cc
 body_wrapped w scope key n r f g e = absurd cc
 
--- a text, and then what comes after it
-pub code_then : (key t : Utf8) (n : Node) (ns : Nodes) → under key (text_at plain n) ≡ Ok t → code_from t ns ≡ result_map (datum made) (under key (text_at plain n) >>= λ x. after_code plain x ns)
-code_then key t n ns e = ap (λ (r : Reading Utf8). result_map (datum made) (r >>= λ x. after_code plain x ns)) (sym e)
-
 -- a scope, and then what comes after it
 pub scope_then : (key : Utf8) (n : Node) (ns : Nodes) (es : MarkedEntries) → scope_at key n ≡ Ok es
     → (ps : Pairs) × (es ≡ pair_data made ps) × (scope_from ps ns ≡ result_map (datum made) (under key (read_tree plain n >>= pairs_in) >>= λ x. after_scope plain x ns))
@@ -211,17 +207,6 @@ list_ends old new false s h e = h.0
 list_ends old new true s h e = absurd cc
 
 -- ---- trees that are documents, and kinds
-
--- data of a tree are a map where the tree is a document
-pub map_tree : (t : Tree) (es : MarkedEntries) → datum made t ≡ value.map es → (ps : Pairs) × (t ≡ tree.document ps) × (pair_data made ps ≡ es)
-map_tree (tree.document ps) es e = (ps, refl, cc)
-map_tree (tree.binary zero b) es e = absurd cc
-map_tree (tree.binary (suc n) b) es e = absurd cc
-map_tree t es e = absurd cc
-
--- the entries of data that are a map
-pub entries_tree : (t : Tree) (es : MarkedEntries) → datum made t ≡ value.map es → result_map (pair_data made) (pairs_in t) ≡ Ok es
-entries_tree t es e = let m = map_tree t es e in ap (λ x. result_map (pair_data made) (pairs_in x)) m.1 ∙ ap Ok m.2
 
 -- data that are none are refused
 pub other_tree : (t : Tree) (v : Marked) → is_map v ≡ false → datum made t ≡ v → result_map (pair_data made) (pairs_in t) ≡ refused (invalid_type (kind t))
