@@ -10,7 +10,7 @@ use Rattle.jiff_core.proofs.DateLemmas.{epoch_day_injective, epoch_day_range}
 use Rattle.bson_dates.specs.DateText.{is_day}
 use Rattle.bson_dates.specs.DatePrinted.{HasYear, day_number}
 
-civil_parts : (m d top : ℕ) → (nat_le 1 m && nat_le m 12 && nat_le 1 d && nat_le d top) ≡ true → IsInRange 1 12 m × IsInRange 1 top d
+pub civil_parts : (m d top : ℕ) → (nat_le 1 m && nat_le m 12 && nat_le 1 d && nat_le d top) ≡ true → IsInRange 1 12 m × IsInRange 1 top d
 civil_parts m d top e = grind (arith, nat_tests)
 
 year_range : (y : ℕ) → y ≤ 9999 → IsYear (pos y)

@@ -1,6 +1,7 @@
 // Dates are printed.
 ghost use Rattle.std.specs.Prelude.{◌≡◌, ◌<◌, ◌≤◌, IfOk, MatchOption, string_bytes};
 ghost use Rattle.bson_dates.specs.DatePrinted.{IsAt, HasYear, Prints, text_of_parts};
+ghost use Rattle.bson_dates.specs.DateText.{date_of_text};
 
 use jiff_core::civil::Date;
 use std::alloc::{AllocError, Global};
@@ -94,6 +95,8 @@ struct DateParts {
 /// `YearOutOfRange` where the year in UTC is not one of 0 to 9999; `NoMemory` where memory ran out.
 pub fn date_text(alloc: Global, millis: i64) -> Result<String, DateError>
     ensures text { Prints string_bytes result millis }
+    // The text is read back as the same time.
+    ensures read_back { IfOk result (λ text. date_of_text (string_bytes text) ≡ Some millis) }
 {
     let Some(parts) = split(millis) else {
         return Err(DateError::YearOutOfRange);
