@@ -1,17 +1,11 @@
 -- What std's and the crates' clauses say of a text, by this crate's words.
-use Rattle.std.proofs.Common.{◌≡◌, ℕ, ◌*◌, List, length, Option, Some, None, Result, Err, IsOk, ◌↔◌, refl, ap, sym, true≢false}
+use Rattle.std.proofs.Common.{◌≡◌, ℕ, ◌*◌, List, length, Option, Some, None, Result, Err, IsOk, ◌↔◌, refl, sym, true≢false}
 use Rattle.std.specs.List.{AllPass}
-use Rattle.std.specs.Result.{result_ok}
 use Rattle.hex.specs.Hex.{decode_sized, is_hex_digit}
 use Rattle.hex.specs.declared.error.FromHexError.{FromHexError}
 use Rattle.hex.proofs.HexLemmas.{IsOk-decode_sized}
-use Rattle.bson_base.specs.Parsed.{bytes_of_digits}
 
 -- ---- hex
-
-pub digits_exact : (s : List ℕ) (n : ℕ) (r : Result (List ℕ) FromHexError) → r ≡ decode_sized s n → bytes_of_digits n s ≡ result_ok r
-unfolding bytes_of_digits
-digits_exact s n r e = ap result_ok (sym e)
 
 pub digits_taken : (s : List ℕ) (n : ℕ) (r : Result (List ℕ) FromHexError) → r ≡ decode_sized s n → IsOk r ↔ ((length s ≡ 2 * n) × AllPass is_hex_digit s)
 digits_taken s n r e = rw e (IsOk-decode_sized s n)

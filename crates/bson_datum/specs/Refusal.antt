@@ -47,10 +47,6 @@ abbrev pub inside : {A F : Type 0} → Segment → Result A (Refusal F) → Resu
 inside s (Ok x) = Ok x
 inside s (Err r) = Err (in_segment s r)
 
--- a refusal of the value at a key, seen from the document that has the key
-abbrev pub in_key : {F : Type 0} → Utf8 → Refusal F → Refusal F
-in_key key = in_segment (at_key key)
-
 -- an answer for the value at a key, seen from the document that has the key
 abbrev pub under : {A F : Type 0} → Utf8 → Result A (Refusal F) → Result A (Refusal F)
 under key = inside (at_key key)

@@ -10,7 +10,7 @@ use Rattle.bson_base.specs.Text.{Utf8, has_zero}
 use Rattle.bson_base.specs.Outcome.{◌>>=◌, result_map}
 use Rattle.bson_base.specs.Sound.{Lacks}
 use Rattle.bson_base.specs.Tree as tree
-use Rattle.bson_base.specs.Tree.{Tree, string, document, array, binary, null, int32, int64, Pairs, no_pairs, pair, Trees, no_trees}
+use Rattle.bson_base.specs.Tree.{Tree, string, document, array, null, int32, int64, Pairs, no_pairs, pair, Trees, no_trees}
 use Rattle.bson_base.specs.declared.element_type.ElementType.{ElementType}
 use Rattle.bson_base.specs.declared.element_type.ElementType.TheVariants.{Int32}
 use Rattle.bson_base.proofs.Outcomes.{some_is, ok_is, map_ok, bind_ok}
@@ -309,9 +309,6 @@ key_name s k x p g e = absurd g
 built_of : {A B C : Type 0} (r : Reading A) (f : A → Reading B) (g : B → C) (x : B) → (r >>= f) ≡ Ok x → (r >>= λ y. result_map g (f y)) ≡ Ok (g x)
 built_of (Ok y) f g x e = ap (result_map g) e
 built_of (Err d) f g x e = absurd cc
-
-under_come : (key : Utf8) (r : Reading Marked) (m : Marked) → r ≡ Ok m → under key r ≡ Ok m
-under_come key r m e = ap (under key) e
 
 -- the items are read from the array again
 abbrev ItemsCome : (Nodes → Reading MarkedItems) → ℕ → Tree → Type 0

@@ -30,7 +30,7 @@ use Rattle.bson_datum.specs.Cause.{invalid_length, wrong_kind, unknown_field}
 use Rattle.bson_datum.specs.Marked.{Marked, contents}
 use Rattle.bson_datum.specs.Refusal.{at_index, under, under_index}
 use Rattle.bson_datum.specs.Value as value
-use Rattle.bson_datum.specs.Value.{IntegerType, i32, i64, u32, in_range, Value, FieldValues, no_field_values, field_value}
+use Rattle.bson_datum.specs.Value.{IntegerType, i32, u32, in_range, Value, FieldValues, no_field_values, field_value}
 use Rattle.bson_datum.specs.Wrapper.{of_key}
 use Rattle.bson_datum.specs.declared.wrapper.Wrapper.{Wrapper}
 use Rattle.bson_datum.specs.declared.wrapper.Wrapper.TheVariants as wrappers
@@ -142,10 +142,6 @@ text_body_makes f h n t tame e = let m = map_ok f (text_at plain n) (Some t) e i
 fits_i32 : (n : ℤ) → in_range i32 n ≡ true → FitsSigned w32 n
 fits_i32 (pos n) h = grind (arith, ints, h)
 fits_i32 (negsuc n) h = grind (arith, ints, h)
-
-fits_i64 : (n : ℤ) → in_range i64 n ≡ true → FitsSigned w64 n
-fits_i64 (pos n) h = grind (arith, ints, h)
-fits_i64 (negsuc n) h = grind (arith, ints, h)
 
 small_u32 : (n : ℤ) → in_range u32 n ≡ true → unsigned_abs n < 2 ^ 32
 small_u32 (pos n) h = grind (arith, ints, h)

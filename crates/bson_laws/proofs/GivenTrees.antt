@@ -16,7 +16,6 @@ use Rattle.bson_laws.specs.Leaves as leaf_kinds
 use Rattle.bson_laws.specs.Leaves.{ExtendedLeaf, object_ids, uuids, of_kind, documents}
 use Rattle.bson_laws.specs.Trees.{put_pair}
 use Rattle.bson_laws.proofs.Coded.{IsName}
-use Rattle.bson_laws.proofs.DatumSpelled.{HasSizes}
 use Rattle.bson_laws.proofs.Fitted.{unlike_swap}
 use Rattle.bson_laws.proofs.TreesRead.{IsReadable, ArePairsReadable, AreTreesReadable}
 
@@ -57,17 +56,6 @@ IsGivenExtended uuids v = (b : Bytes) × (length b ≡ 16) × (v ≡ uuid_datum 
 IsGivenExtended (of_kind k) v = (t : Tree) × (nat_eq (byte (kind t)) (byte k) ≡ true) × IsGivenTree t × (v ≡ datum itself t)
 IsGivenExtended leaf_kinds.trees v = (t : Tree) × IsGivenTree t × (v ≡ datum itself t)
 IsGivenExtended documents v = (ps : Pairs) × ArePairsGiven ps × (v ≡ datum itself (tree.document ps))
-
--- its parts that are written as digits are in range
-pub given_sizes : (t : Tree) → IsGivenTree t → HasSizes t
-given_sizes (tree.binary zero b) g = tt
-given_sizes (tree.binary (suc n) b) g = g
-given_sizes (tree.object_id id) g = g
-given_sizes (tree.date_time n) g = g
-given_sizes (tree.db_pointer namespace id) g = (g.1, g.2)
-given_sizes (tree.timestamp time increment) g = g
-given_sizes (tree.decimal128 b) g = g
-given_sizes t g = tt
 
 -- it is read
 mutual

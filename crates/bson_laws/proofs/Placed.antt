@@ -4,20 +4,13 @@ use Rattle.std.specs.Str.{bytes_eq}
 use Rattle.bson_base.specs.Text.{Utf8}
 use Rattle.bson_base.specs.Outcome.{◌>>=◌, result_map}
 use Rattle.bson_rawdoc.specs.Node.{Node}
-use Rattle.bson_shape.specs.Form.{Fields, no_fields, field}
-use Rattle.bson_shape.specs.Makers.{field_names}
 use Rattle.bson_datum.specs.Refusal.{under}
 use Rattle.bson_laws.specs.Judged.{Mode, Reading, ignores}
 use Rattle.bson_laws.specs.Slots.{Slot, Slots, fill_slot, put_at}
-use Rattle.bson_laws.specs.Reads.{slots_of}
 
 abbrev pub names_of : Slots → List Utf8
 names_of [] = []
 names_of (slot ∷ slots) = slot.name ∷ names_of slots
-
-pub names_are : (fs : Fields) (mode : Mode) → names_of (slots_of fs mode) ≡ field_names fs
-names_are no_fields mode = refl
-names_are (field name s fs) mode = ap (λ names. name ∷ names) (names_are fs mode)
 
 -- none of the names is this one
 abbrev pub IsNone : Utf8 → List Utf8 → Type 0

@@ -250,15 +250,6 @@ abbrev mutual
 abbrev pub size : Value → ℕ
 size v = size_as false v
 
-abbrev pub size_items : (index : ℕ) → Items → ℕ
-size_items i vs = size_items_as false i vs
-
-abbrev pub size_entries : Entries → ℕ
-size_entries es = size_entries_as false es
-
-abbrev pub size_fields : FieldValues → ℕ
-size_fields fs = size_fields_as false fs
-
 -- what nests too deep, or a binary that has more bytes than a binary may
 abbrev pub IsTooLarge : WriteFault → Type 0
 IsTooLarge (unwritable too_deep) = Unit {0}

@@ -117,9 +117,6 @@ texts_found (Some t) n e = (t, refl, found_is (length t.0 + 1 + (length t.1 + 1)
 abbrev behind : Bytes × Bytes → Option (Bytes × Bytes)
 behind first = option_map (λ second. (first.0, second.0)) (cut_at_zero first.1)
 
-texts_are : (p q : Bytes × Bytes) → p ≡ q → (p.0 ≡ q.0) × (p.1 ≡ q.1)
-texts_are p q e = (ap (λ x. x.0) e, ap (λ x. x.1) e)
-
 -- two texts are in the bytes that they and their zeros take
 texts_taken : (bytes : Bytes) (t : Bytes × Bytes) → two_texts_in bytes ≡ Some t → two_texts_in (take (length t.0 + 1 + (length t.1 + 1)) bytes) ≡ Some t
 texts_taken bytes t e =

@@ -7,8 +7,7 @@ use Rattle.std.proofs.lemmas.Str.{IsUtf8-from_is_utf8, is_utf8-from_IsUtf8}
 use Rattle.bson_base.specs.Text.{Bytes}
 use Rattle.bson_base.specs.Kind.{of_byte}
 use Rattle.bson_rawdoc.specs.Extent.{cut_at_zero}
-use Rattle.bson_rawdoc.specs.RawValue.{utf8_in}
-use Rattle.bson_rawdoc.specs.declared.raw.Error.TheVariants.{KeyUnclosed, KeyNotUtf8, NotUtf8}
+use Rattle.bson_rawdoc.specs.declared.raw.Error.TheVariants.{KeyUnclosed, KeyNotUtf8}
 use Rattle.bson_rawdoc.specs.Walk.{of_kind, with_key, element_at}
 
 not_true : (b : Bool) → (b ≡ true → ⊥) → b ≡ false
@@ -35,14 +34,3 @@ module _ (b : ℕ) (bytes : Bytes) (key rest : Bytes) (cut : Some (key, rest) �
   pub key_good : IsUtf8 key → of_kind b key (of_byte b) rest ≡ element_at b bytes
   unfolding element_at
   key_good u = sym (ap (with_key b) (sym cut) ∙ ap (λ t. cond t (of_kind b key (of_byte b) rest) (Err KeyNotUtf8)) (is_utf8-from_IsUtf8 key u))
-
--- ---- bytes that are a text, and others
-
-told : (bytes : Bytes) (b : Bool) → is_utf8 bytes ≡ b → utf8_in bytes ≡ cond b (Ok bytes) (Err NotUtf8)
-told bytes b e = ap (λ c. cond c (Ok bytes) (Err NotUtf8)) e
-
-pub text_good : (t bytes : Bytes) → t ≡ bytes → is_utf8 bytes ≡ true → Ok t ≡ utf8_in bytes
-text_good t bytes e u = ap Ok e ∙ sym (told bytes true u)
-
-pub text_bad : (bytes : Bytes) → is_utf8 bytes ≡ false → Err NotUtf8 ≡ utf8_in bytes
-text_bad bytes n = sym (told bytes false n)

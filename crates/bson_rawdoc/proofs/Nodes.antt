@@ -13,7 +13,7 @@ use Rattle.bson_rawdoc.specs.Node.{Node, string, boolean, broken, regular_expres
 use Rattle.bson_rawdoc.specs.Numbers.{int32_in}
 use Rattle.bson_rawdoc.specs.Piece.{Piece, borrowed}
 use Rattle.bson_rawdoc.specs.RawValue as raw
-use Rattle.bson_rawdoc.specs.RawValue.{RawValue, utf8_in, text_in, closed_in, boolean_of, binary_in, regex_of, db_pointer_in, code_and_scope, scoped_code, value_in}
+use Rattle.bson_rawdoc.specs.RawValue.{utf8_in, text_in, closed_in, boolean_of, binary_in, regex_of, db_pointer_in, code_and_scope, scoped_code, value_in}
 use Rattle.bson_rawdoc.specs.Walk.{walk}
 use Rattle.bson_rawdoc.specs.declared.raw.Error.{Error}
 use Rattle.bson_rawdoc.specs.declared.raw.Error.TheVariants.{NotUtf8, TextUnclosed, ScopeTotal, ValueUnclosed}
@@ -37,10 +37,6 @@ plainly k make (Err e) h = refl
 -- the fault of the node is that of the text
 abbrev HasTextFault : (Piece → Node) → Type 0
 HasTextFault make = (p : Piece) → fault false (make p) ≡ text_fault false p
-
--- a text that is judged
-abbrev judged_in : Bytes → Result Utf8 Error
-judged_in b = cond (is_utf8 b) (Ok b) (Err NotUtf8)
 
 text_either : (make : Piece → Node) → HasTextFault make → (b : Bytes) (u : Bool) → is_utf8 b ≡ u → Sees (λ t. make (borrowed t)) (cond u (Ok b) (Err NotUtf8)) (make (borrowed b))
 text_either make same b true e = (refl, same (borrowed b) ∙ ap (λ x. cond x None (Some NotUtf8)) e)

@@ -78,8 +78,5 @@ mutual
       λ i. pair (coded_bytes.inj key k (ap (λ g. head (tail g)) p) i) (tree_inj t u (ap (λ g. head (tail (tail g))) p) i) (pairs_inj ps qs (ap (λ g. tail (tail (tail g))) p) i)
   pairs_inj x y p = absurd (omega (arith, ap (λ g. num (head g)) p))
 
-abbrev pub coded_tree : Coded Tree
-coded_tree = record { code = tree_code; inj = tree_inj }
-
 abbrev pub coded_pairs : Coded Pairs
 coded_pairs = record { code = pairs_code; inj = pairs_inj }
