@@ -1,4 +1,4 @@
-ghost use Rattle.std.specs.Prelude.{◌≡◌, string_bytes};
+ghost use Rattle.std.specs.Prelude.{◌≡◌, IfOk, string_bytes};
 ghost use Rattle.bson_dates.specs.DatePrinted.{Prints};
 ghost use Rattle.bson_dates.specs.DateText.{date_of_text};
 ghost use Rattle.bson_base.specs.Instant.{millis};
@@ -60,6 +60,8 @@ impl DateTime {
     /// `YearOutOfRange` where the year in UTC is not one of 0 to 9999; `NoMemory` where memory ran out.
     pub fn try_to_rfc3339_string(&self, alloc: Global) -> Result<String, DateError>
         ensures text { Prints string_bytes result (millis self.now) }
+        // The text is read back as the same time.
+        ensures read_back { IfOk result (λ text. date_of_text (string_bytes text) ≡ Some (millis self.now)) }
     {
         date_text(alloc, self.0)
     }
