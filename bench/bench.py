@@ -171,8 +171,8 @@ TAGS = ["a", "admin", "beta", "eu-west", "caf\u00e9", "longer-tag-name", "\u65b0
 CITIES = ["X", "Berlin", "Z\u00fcrich", "S\u00e3o Paulo", "Oslo", "\u6771\u4eac", "New York"]
 
 
-def people(count):
-    """So many documents of persons. One in five has a key that no field takes; three in twenty have no address, three a null."""
+def people(count, change=lambda elements: elements):
+    """So many documents of persons. One in five has a key that no field takes; three in twenty have no address, three a null. The elements of each are changed."""
     draws = Draws(3)
 
     def one():
@@ -186,13 +186,26 @@ def people(count):
             elements.append(element(3, "address", document([text("city", draws.pick(CITIES))])))
         elif kind < 17:
             elements.append(element(10, "address", b""))
-        return document(elements)
+        return document(change(elements))
     return "{_id:oid,name:string,tags:[string],created:datetime,address:?{city:string}}", [one() for _ in range(count)]
 
 
 def file(count):
     """A file of documents of persons, one behind another."""
     shape, documents = people(count)
+    return shape, b"".join(documents)
+
+
+def turned_file(count):
+    """The same with the elements of each document in reverse order."""
+    shape, documents = people(count, lambda elements: elements[::-1])
+    return shape, b"".join(documents)
+
+
+def dropping_file(count):
+    """The same with a document, which no field takes, in front of each document's address."""
+    dropped = element(3, "settings", document([int32("a", 1), text("b", "x")]))
+    shape, documents = people(count, lambda elements: elements[:4] + [dropped] + elements[4:])
     return shape, b"".join(documents)
 
 
@@ -211,6 +224,8 @@ WORKLOADS = {
     "extended, a tenth": lambda: extended(2_000),
     "file": lambda: file(10_000),
     "file, a tenth": lambda: file(1_000),
+    "file in reverse order": lambda: turned_file(10_000),
+    "file with a document dropped": lambda: dropping_file(10_000),
     "18,000 fields in order": lambda: fields(18_000, False),
     "9,000 fields in order": lambda: fields(9_000, False),
     "18,000 fields in reverse": lambda: fields(18_000, True),

@@ -225,7 +225,7 @@ class Parser:
     def take(self, wanted=None):
         token = self.tokens[0]
         if wanted is not None and token != wanted:
-            raise ValueError(f"{wanted} expected, found {token or 'the end'}")
+            raise ValueError(f"{wanted or 'the end'} expected, found {token or 'the end'}")
         self.tokens = self.tokens[1:] or [""]
         return token
 

@@ -1,0 +1,117 @@
+#!/usr/bin/env python3
+"""Types the commands of the pages, and compares what they print with what the page says.
+
+    python3 tools/type_commands.py                      # README.md, the pages in docs/ and the man pages
+    python3 tools/type_commands.py README.md            # one page
+    python3 tools/type_commands.py --programs FOLDER    # with the programs bson_recast and bson_migrate of that folder
+
+Run at the top of the repository. It types each block of kind `console`, and in a man page each literal block: a line that begins with `$ ` is a command, `> `
+goes on with it, and what follows is its output, standard error included. Blocks of kind `sh` are not typed: they prove for an hour or ask for files that are
+not here. The commands run in a copy of the repository in a temporary folder, those of a page in one shell, each block from the top. The programs are those of
+--programs, of crates/*/out or of the PATH, proved or not; a block that names one that is not there is left out, and so is one with `rt` where there is none.
+
+It ends with status 1 where a command prints something else.
+"""
+import argparse
+import difflib
+import glob
+import os
+import re
+import shutil
+import subprocess
+import sys
+import tempfile
+
+MARK = "=== the end of a command ==="
+NEEDED = ("bson_recast", "bson_migrate", "rt")
+PROMPT, MORE = "$ ", "> "
+
+
+def blocks(path):
+    """The blocks of a page that are typed: each the number of its first line and its lines."""
+    manual = path.endswith(".1")
+    begin, end = (".Bd -literal", ".Ed") if manual else ("```console", "```")
+    found, inside = [], False
+    with open(path, encoding="utf-8") as file:
+        for number, line in enumerate(file.read().splitlines(), 1):
+            if inside and line.startswith(end):
+                inside = False
+            elif inside:
+                found[-1][1].append(line.replace("\\e", "\\").replace("\\&", "") if manual else line)
+            elif line.startswith(begin):
+                inside = True
+                found.append((number + 1, []))
+    return found
+
+
+def commands(first, lines):
+    """The commands of a block: each its line's number, its text, and what it prints."""
+    typed = []
+    for number, line in enumerate(lines, first):
+        if line.startswith(PROMPT):
+            typed.append((number, [line[len(PROMPT):]], []))
+        elif line.startswith(MORE) and typed and not typed[-1][2]:
+            typed[-1][1].append(line[len(MORE):])
+        elif typed:
+            typed[-1][2].append(line)
+    return typed
+
+
+def missing(typed, path):
+    """The programs that a block names and that are not there."""
+    text = "\n".join(line for _, lines, _ in typed for line in lines)
+    return [name for name in NEEDED if re.search(rf"(?<![\w/]){name}(?= )", text) and shutil.which(name, path=path) is None]
+
+
+def answers(page, path, folder):
+    """Types all commands of a page. Each with what it prints."""
+    typed, script = [], ["exec 2>&1"]
+    for first, lines in blocks(page):
+        block = commands(first, lines)
+        absent = missing(block, path)
+        if absent:
+            print(f"{page}:{first}: left out, without {' and '.join(absent)}")
+            continue
+        script.append(f'cd "{folder}"')
+        for command in block:
+            typed.append(command)
+            script += ["\n".join(command[1]), f"printf '\\n%s\\n' '{MARK}'"]
+    done = subprocess.run(["bash", "-s"], input="\n".join(script) + "\n", stdout=subprocess.PIPE, text=True, errors="backslashreplace",
+                          env={**os.environ, "PATH": path}, check=False)
+    printed = done.stdout.split(f"\n{MARK}\n")
+    return [(*command, printed[i] if i < len(printed) else "(the shell ended)") for i, command in enumerate(typed)]
+
+
+def differing(page, path, folder):
+    """How many commands of a page were typed, and how many printed something else."""
+    typed = answers(page, path, folder)
+    wrong = 0
+    for number, lines, wanted, printed in typed:
+        printed = printed.strip("\n").split("\n") if printed.strip("\n") else []
+        wanted = "\n".join(wanted).strip("\n").split("\n") if "".join(wanted) else []
+        if printed != wanted:
+            wrong += 1
+            print(f"{page}:{number}: {lines[0]}")
+            print("\n".join(difflib.unified_diff(wanted, printed, "the page", "printed", lineterm="")))
+    print(f"{page}: {len(typed)} commands typed, {wrong} printed something else")
+    return wrong
+
+
+def main():
+    parser = argparse.ArgumentParser(description=__doc__, formatter_class=argparse.RawDescriptionHelpFormatter)
+    parser.add_argument("pages", nargs="*", default=["README.md", *sorted(glob.glob("docs/*.md") + glob.glob("docs/*.1"))])
+    parser.add_argument("--programs", help="the folder of bson_recast and bson_migrate")
+    options = parser.parse_args()
+    own = [options.programs] if options.programs else ["crates/bson_recast/out", "crates/bson_migrate/out"]
+    path = os.pathsep.join([*map(os.path.abspath, own), os.environ.get("PATH", "")])
+    wrong = 0
+    with tempfile.TemporaryDirectory() as parent:
+        for i, page in enumerate(page for page in options.pages if blocks(page)):
+            folder = os.path.join(parent, str(i))
+            shutil.copytree(".", folder, ignore=shutil.ignore_patterns("out", ".git", "__pycache__"))
+            wrong += differing(page, path, folder)
+    return int(wrong > 0)
+
+
+if __name__ == "__main__":
+    sys.exit(main())
