@@ -6,15 +6,12 @@ use bson_base::ElementType;
 use bson_rawdoc::raw;
 use std::fmt;
 
-/// The deepest nesting level that a reader or a writer takes, for documents, arrays and the scopes of codes. The whole document is at level 1.
-pub const MAX_NESTING_LEVEL: u32 = 200;
-
 /// Why a value is refused.
 #[derive(Debug, Drop)]
 pub enum Cause {
     /// The bytes have this fault.
     Raw(raw::Error),
-    /// A document, an array or a scope is at a level beyond [`MAX_NESTING_LEVEL`].
+    /// A document, an array or a scope is at a level beyond [`MAX_NESTING_LEVEL`](bson_base::MAX_NESTING_LEVEL).
     TooDeep,
     /// The value has this kind, and the shape takes another.
     InvalidType(ElementType),

@@ -9,11 +9,8 @@ ghost use Rattle.bson_one_pass.specs.Put.{recast_node, IsPut};
 
 use crate::bytes::put;
 use crate::extended::known_bytes;
-use bson_base::{BinarySubtype, ElementType};
+use bson_base::{BinarySubtype, ElementType, MAX_BINARY};
 use bson_shape::Leaf;
-
-/// The most bytes of a binary.
-const MAX_BINARY: usize = 16777216;
 
 /// A binary at a leaf that takes it: at that of binaries, of byte strings if its subtype is 0, or of UUIDs if it is 4 and there are sixteen bytes.
 pub(crate) fn recast_binary(

@@ -5,9 +5,7 @@ ghost use Rattle.bson_base.specs.Tree.{enclosed, le32};
 ghost use Rattle.bson_io.specs.Output.{patched};
 
 use bson_base::ElementType;
-
-/// The most bytes of a document.
-pub(crate) const MAX_BYTES: usize = 2147483647;
+use bson_io::MOST;
 
 /// Appends bytes; `None` where memory runs out.
 #[inline(always)]
@@ -43,7 +41,7 @@ pub(crate) fn close(made: &mut Vec<u8>, start: usize) -> Option<()>
 {
     made.push(0).ok()?;
     let length = made.len() - start;
-    if length > MAX_BYTES {
+    if length > MOST {
         return None;
     }
     set_length(made, start, length as u32);

@@ -2,10 +2,9 @@
 ghost use Rattle.std.specs.Prelude.{IfSome};
 ghost use Rattle.bson_one_pass.specs.Recast.{IsRecastAs};
 
-use crate::bytes::MAX_BYTES;
 use crate::value::recast_value;
-use bson_base::ElementType;
-use bson_datum::MAX_NESTING_LEVEL;
+use bson_base::{ElementType, MAX_NESTING_LEVEL};
+use bson_io::MOST;
 use bson_rawdoc::{RawBsonRef, RawDocument};
 use bson_shape::Shape;
 use std::alloc::Global;
@@ -32,7 +31,7 @@ pub fn recast_at_once(alloc: Global, shape: &Shape, bytes: &[u8]) -> Option<Vec<
         MAX_NESTING_LEVEL,
         &RawBsonRef::Document(document),
     )? {
-        ElementType::EmbeddedDocument if made.len() <= MAX_BYTES => Some(made),
+        ElementType::EmbeddedDocument if made.len() <= MOST => Some(made),
         _ => None,
     }
 }

@@ -10,13 +10,10 @@ ghost use Rattle.bson_ser_stream.specs.Decoding.{IsFault};
 
 use crate::base64_text::{Base64Fault, push_base64};
 use crate::halt::Halt;
-use bson_base::{BinarySubtype, ElementType};
+use bson_base::{BinarySubtype, ElementType, MAX_BINARY};
 use bson_datum::{Cause, Stop};
 use bson_io::{Ledger, Out, Steps};
 use std::alloc::{AllocError, Global};
-
-// The most bytes behind the subtype of a binary.
-const MAX_BINARY: usize = 16777216;
 
 // The old subtype of bytes without a further meaning, in which a second length is before them.
 const OLD_GENERIC: u8 = 2;
@@ -48,7 +45,7 @@ fn push_front<L: Ledger>(
     subtype: BinarySubtype,
     count: usize,
 ) -> Result<(), AllocError>
-    requires { behind_length subtype.0 count ≤ 16777216 }
+    requires { behind_length subtype.0 count ≤ MAX_BINARY }
     ensures ok { OnOk result (Appended out.old out.new (binary_front subtype.0 count) steps.old steps.new) }
     ensures free { length (binary_front subtype.0 count) ≤ out.old.spare → IsOk result }
     ensures grows { Grows out.old out.new steps.old steps.new }
@@ -90,7 +87,7 @@ fn fill_front<L: Ledger>(
     subtype: BinarySubtype,
     count: usize,
 )
-    requires small { behind_length subtype.0 count ≤ 16777216 }
+    requires small { behind_length subtype.0 count ≤ MAX_BINARY }
     requires inside { start + length (binary_front subtype.0 0) ≤ length out.old.bytes }
     requires fits { start + length (binary_front subtype.0 0) < 2 ^ 64 }
     ensures { Fills out.old out.new start subtype.0 count steps.old steps.new }

@@ -6,10 +6,7 @@ ghost use Rattle.bson_ser_stream.specs.Halting.{Gives, Grows, Ends, EndHalts, To
 
 use crate::halt::Halt;
 use bson_datum::Cause;
-use bson_io::{Ledger, Out, Steps};
-
-/// The most bytes of a document.
-pub(crate) const MAX_BYTES: usize = 2147483647;
+use bson_io::{Ledger, MOST, Out, Steps};
 
 /// A document or an array that was begun.
 #[derive(Drop)]
@@ -52,7 +49,7 @@ impl Container {
     {
         out.push(0, steps)?;
         let len = out.len() - self.start;
-        if len > MAX_BYTES {
+        if len > MOST {
             return Err(Halt::TooLong);
         }
         out.patch_i32(self.start, len as i32, steps);
@@ -86,7 +83,7 @@ impl Total {
         ensures grows { OnErr result (Grows out.old out.new steps.old steps.new) }
     {
         let total = out.len() - self.start;
-        if total > MAX_BYTES {
+        if total > MOST {
             return Err(Halt::TooLong);
         }
         out.patch_i32(self.start, total as i32, steps);

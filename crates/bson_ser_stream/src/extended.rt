@@ -5,13 +5,12 @@ ghost use Rattle.bson_base.specs.Tree.{object_id, date_time, regular_expression,
 ghost use Rattle.bson_reserved.specs.Written.{spell_whole, written_size};
 ghost use Rattle.bson_ser_stream.specs.Halting.{Puts};
 
-use crate::container::MAX_BYTES;
 use crate::element::{has_zero, zero_in};
 use crate::halt::Halt;
 use crate::scalar::{push_text, put_closed};
 use crate::sorting::push_sorted;
 use bson_base::{DateTime, Decimal128, ElementType, ObjectId, Timestamp};
-use bson_io::{Ledger, Out, Steps};
+use bson_io::{Ledger, MOST, Out, Steps};
 
 /// Appends an ObjectId, by its twelve bytes.
 pub(crate) fn put_object_id<L: Ledger>(
@@ -105,7 +104,7 @@ pub(crate) fn put_db_pointer<L: Ledger>(
     ensures { Puts ElementType.DbPointer (length namespace.now + 5 + length id.0)
         (Ok (db_pointer namespace.now id.0)) out.old out.new steps.old steps.new result }
 {
-    if namespace.len() + 5 + id.0.len() > MAX_BYTES {
+    if namespace.len() + 5 + id.0.len() > MOST {
         return Err(Halt::TooLong);
     }
     push_text(out, steps, namespace)?;
@@ -130,7 +129,7 @@ pub(crate) fn put_regular_expression<L: Ledger>(
     if has_zero(options) {
         return Err(zero_in(out.allocator(), options));
     }
-    if pattern.len() + options.len() > MAX_BYTES - 2 {
+    if pattern.len() + options.len() > MOST - 2 {
         return Err(Halt::TooLong);
     }
     out.push_all(pattern.as_bytes(), steps)?;

@@ -8,11 +8,10 @@ ghost use Rattle.bson_laws.specs.Spell.{spell_number};
 ghost use Rattle.bson_ser_stream.specs.Halting.{Gives, Puts, Grows};
 
 use crate::binary::put_binary;
-use crate::container::MAX_BYTES;
 use crate::halt::Halt;
 use bson_base::{BinarySubtype, Double, ElementType};
 use bson_datum::ser::Fault;
-use bson_io::{Ledger, Out, Steps};
+use bson_io::{Ledger, MOST, Out, Steps};
 use std::alloc::AllocError;
 
 // The subtype of bytes without a further meaning.
@@ -117,7 +116,7 @@ pub(crate) fn put_closed<L: Ledger>(
     ensures fits { OnOk result (length text.now + 5 ≤ max_bytes) }
     ensures grows { Grows out.old out.new steps.old steps.new }
 {
-    if text.len() + 5 > MAX_BYTES {
+    if text.len() + 5 > MOST {
         return Err(Halt::TooLong);
     }
     push_text(out, steps, text)?;

@@ -1,0 +1,7 @@
+// What the documents of this library may have at most. That of their bytes is `MOST` of `bson_io`.
+
+/// The deepest nesting level that a reader or a writer takes, for documents, arrays and the scopes of codes. The whole document is at level 1.
+pub const MAX_NESTING_LEVEL: u32 = 200;
+
+/// The most bytes behind the subtype of a binary: 16 MiB. In the old subtype 2 a second length is among them.
+pub const MAX_BINARY: usize = 16777216;
