@@ -18,8 +18,8 @@ use Rattle.bson_laws.specs.Reads.{reads, slots_of}
 use Rattle.bson_laws.specs.Slots.{reads_places}
 use Rattle.bson_met.proofs.Refusals.{StopsAs, stops_bind, stops_map}
 use Rattle.bson_slots.specs.FieldSlots.{fields_marked}
-use Rattle.bson_wrapped.specs.NextValue.{next_value, behind_first}
-use Rattle.bson_wrapped.proofs.DueNext.{next_parts}
+use Rattle.bson_slots.specs.NextValue.{next_value, behind_first}
+use Rattle.bson_slots.proofs.DueNext.{next_parts}
 
 -- the values of these fields, and then the rest
 abbrev pub values_before : List Field → MarkedFields → MarkedFields

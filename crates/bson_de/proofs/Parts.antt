@@ -16,8 +16,8 @@ use Rattle.bson_laws.specs.Judged.{Reading, plain}
 use Rattle.bson_laws.specs.Reads.{reads, reads_parts}
 use Rattle.bson_met.proofs.Refusals.{StopsAs, stops_bind, stops_map}
 use Rattle.bson_leaves.specs.ListsMarked.{items_marked}
-use Rattle.bson_wrapped.specs.NextValue.{next_value, behind_first}
-use Rattle.bson_wrapped.proofs.DueNext.{next_parts}
+use Rattle.bson_slots.specs.NextValue.{next_value, behind_first}
+use Rattle.bson_slots.proofs.DueNext.{next_parts}
 
 -- these items, and then the rest
 abbrev pub items_before : List Datum → MarkedItems → MarkedItems

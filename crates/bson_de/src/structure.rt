@@ -10,7 +10,7 @@ ghost use Rattle.bson_met.specs.Gives.{Reaches};
 ghost use Rattle.bson_met.specs.PieceView.{str_piece};
 ghost use Rattle.bson_slots.specs.FieldSlots.{fields_marked};
 ghost use Rattle.bson_slots.specs.SlotsView.{slots_view};
-ghost use Rattle.bson_wrapped.specs.Fields.{fields_read, fields_by_key};
+ghost use Rattle.bson_slots.specs.FieldsRead.{fields_read, fields_by_key};
 
 use crate::tuple::read_next;
 use crate::value::read_value;

@@ -7,13 +7,13 @@ ghost use Rattle.bson_laws.specs.Judged.{plain};
 ghost use Rattle.bson_laws.specs.Reads.{reads, reads_parts};
 ghost use Rattle.bson_met.specs.Gives.{Reaches};
 ghost use Rattle.bson_leaves.specs.ListsMarked.{items_marked};
-ghost use Rattle.bson_wrapped.specs.NextValue.{next_value, behind_first};
+ghost use Rattle.bson_slots.specs.NextValue.{next_value, behind_first};
 
 use crate::value::read_item;
 use bson_datum::{Datum, Text};
 use bson_met::{Items, Met, Reading};
 use bson_shape::Shape;
-use bson_wrapped::due;
+use bson_slots::due;
 use std::alloc::Global;
 
 /// The value at a tuple whose parts have these shapes.

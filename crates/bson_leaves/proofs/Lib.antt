@@ -8,5 +8,6 @@ pub mod Loops
 pub mod Mapped
 pub mod MarkedLists
 pub mod NumberLeaves
+pub mod SlotsFilled
 pub mod Texts
 pub mod Variants

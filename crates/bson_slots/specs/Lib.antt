@@ -2,3 +2,5 @@ pub mod Place
 pub mod Indexes
 pub mod FieldSlots
 pub mod SlotsView
+pub mod NextValue
+pub mod FieldsRead

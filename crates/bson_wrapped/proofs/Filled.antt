@@ -1,22 +1,12 @@
--- The slots of the fields of a struct, filled with one element after another.
-use Rattle.std.proofs.Common.{◌≡◌, ℕ, suc, [], ◌∷◌, true, false, cond, Ok, refl, ap, ◌∙◌}
+-- What an element does to the slots of a struct of one field or of two.
+use Rattle.std.proofs.Common.{◌≡◌, [], ◌∷◌, true, false, cond, Ok, ap, ◌∙◌}
 use Rattle.std.specs.Str.{bytes_eq}
 use Rattle.bson_base.specs.Outcome.{◌>>=◌, result_map}
 use Rattle.bson_base.specs.Text.{Utf8}
-use Rattle.bson_rawdoc.specs.Node.{Node, Nodes, ended, faulty, then_node}
+use Rattle.bson_rawdoc.specs.Node.{Node}
 use Rattle.bson_laws.specs.Judged.{Reading, plain}
-use Rattle.bson_laws.specs.Slots.{Slot, Slots, fill_slot, put_at, fill}
-use Rattle.bson_leaves.proofs.Each.{Action, each}
-use Rattle.bson_leaves.proofs.Loops.{bind_same}
+use Rattle.bson_laws.specs.Slots.{Slot, Slots, fill_slot, put_at}
 use Rattle.bson_wrapped.specs.Fields.{drop_at}
-
-abbrev pub slots_by : Action Slots
-slots_by i k n slots = put_at plain k.bytes n slots
-
-pub fill_each : (i : ℕ) (ns : Nodes) (slots : Slots) → each slots_by i ns slots ≡ fill plain ns slots
-fill_each i ended slots = refl
-fill_each i (faulty e) slots = refl
-fill_each i (then_node k n ns) slots = bind_same (put_at plain k.bytes n slots) (each slots_by (suc i) ns) (fill plain ns) (λ x. fill_each (suc i) ns x)
 
 -- an element that goes into the first slot, one that goes into another, and one that is dropped
 module _ (key : Utf8) (n : Node) where

@@ -1,15 +1,14 @@
 -- What contracts see of the fields of a struct that are read.
 use Rattle.std.specs.Prelude.{[], ◌∷◌, Option, None}
-use Rattle.bson_base.specs.Outcome.{◌>>=◌}
 use Rattle.bson_base.specs.Text.{Utf8}
-use Rattle.bson_rawdoc.specs.Node.{Node, Nodes}
+use Rattle.bson_rawdoc.specs.Node.{Node}
 use Rattle.bson_shape.specs.Form.{Form}
-use Rattle.bson_datum.specs.Marked.{Marked, MarkedFields}
+use Rattle.bson_datum.specs.Marked.{Marked}
 use Rattle.bson_datum.specs.Refusal.{under}
-use Rattle.bson_laws.specs.Judged.{Reading, judged, ignores, plain}
+use Rattle.bson_laws.specs.Judged.{Reading, ignores, plain}
 use Rattle.bson_laws.specs.ReadsLeaf.{no_extended}
 use Rattle.bson_laws.specs.Shaped.{reads}
-use Rattle.bson_laws.specs.Slots.{Slot, Slots, fill, finish, read_structure}
+use Rattle.bson_laws.specs.Slots.{Slot, Slots}
 
 -- the slot of a field of this shape and name, with what was read for it
 abbrev pub field_slot : Form → Utf8 → Option Marked → Slot
@@ -25,10 +24,3 @@ one_slot s name = field_slot s name None ∷ []
 
 abbrev pub two_slots : Form → Utf8 → Form → Utf8 → Slots
 two_slots s name r other = field_slot s name None ∷ field_slot r other None ∷ []
-
--- the fields of a value, and those from the elements of a document
-abbrev pub fields_read : Slots → Node → Reading MarkedFields
-fields_read slots n = judged plain n >>= read_structure plain slots
-
-abbrev pub fields_by_key : Slots → Nodes → Reading MarkedFields
-fields_by_key slots ns = fill plain ns slots >>= finish

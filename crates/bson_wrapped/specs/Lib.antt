@@ -1,4 +1,3 @@
 pub mod Bodies
 pub mod Data
 pub mod Fields
-pub mod NextValue

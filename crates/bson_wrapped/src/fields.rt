@@ -18,12 +18,14 @@ ghost use Rattle.bson_laws.specs.Wrapped.{with_field};
 ghost use Rattle.bson_leaves.specs.Leaves.{number_as};
 ghost use Rattle.bson_met.specs.Gives.{Reaches};
 ghost use Rattle.bson_met.specs.PieceView.{str_piece};
-ghost use Rattle.bson_wrapped.specs.Fields.{field_slot, one_slot, two_slots, fields_read, fields_by_key, drop_at};
-ghost use Rattle.bson_wrapped.specs.NextValue.{next_value, behind_first, IsDue};
+ghost use Rattle.bson_slots.specs.FieldsRead.{fields_read, fields_by_key};
+ghost use Rattle.bson_slots.specs.NextValue.{next_value, behind_first};
+ghost use Rattle.bson_wrapped.specs.Fields.{field_slot, one_slot, two_slots, drop_at};
 
 use bson_datum::Cause;
 use bson_leaves::{ignore, own_text};
 use bson_met::{Elements, Items, Met, Reading, Step, Value, refused};
+use bson_slots::due;
 use std::alloc::Global;
 
 /// A value that a field has.
@@ -159,18 +161,6 @@ fn next_item<T: FieldValue>(alloc: Global, index: u64, items: &mut Items<'_>) ->
         Ok(value) => Ok(value),
         Err(stop) => Err(stop.under_index(index)),
     }
-}
-
-/// The next element of an array, which is at this index. Where none is left, the fault that ends their list is the refusal, and
-/// without a fault that there are too few.
-pub fn due<'de>(alloc: Global, index: u64, elements: &mut Items<'de>) -> Reading<Met<'de>>
-    ensures { IsDue index elements.old result elements.new }
-{
-    let mut value = elements.start();
-    if elements.advance(alloc, &mut value)? {
-        return Ok(value);
-    }
-    Err(refused(alloc, Cause::InvalidLength(index)))
 }
 
 /// The value of the one field from the elements of a document.

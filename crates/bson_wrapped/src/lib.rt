@@ -9,5 +9,4 @@ mod values;
 
 pub use binaries::{read_binary, read_uuid};
 pub use bodies::read_body;
-pub use fields::due;
 pub use values::id_of_text;

@@ -34,7 +34,7 @@ use Rattle.bson_de.proofs.FieldPlaces.{values_before, places_step, places_stop, 
 use Rattle.bson_leaves.proofs.KeyTexts.{key_valued}
 use Rattle.bson_leaves.proofs.Loops.{items_by, items_each, items_push, item_done, item_stops, entries_by, entries_each, entry_done, key_stops, entry_stops, ignored_at}
 use Rattle.bson_leaves.proofs.Mapped.{taken, not_taken}
-use Rattle.bson_wrapped.proofs.Filled.{slots_by, fill_each}
+use Rattle.bson_leaves.proofs.SlotsFilled.{slots_by, fill_each}
 use Rattle.bson_de.proofs.Nulls.{option_null}
 use Rattle.bson_leaves.proofs.MarkedLists.{marked-Seq, marked-Tuple, marked-TupleStruct, marked-TupleVariant, marked-Map}
 use Rattle.bson_de.proofs.Parts.{items_before, parts_step, parts_stop, parts_end, all_left}

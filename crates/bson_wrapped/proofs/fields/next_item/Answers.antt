@@ -5,7 +5,7 @@ use Rattle.bson_laws.specs.Judged.{Reading, plain}
 use Rattle.bson_laws.specs.ReadsLeaf.{no_extended}
 use Rattle.bson_laws.specs.Shaped.{reads}
 use Rattle.bson_met.proofs.Refusals.{StopsAs, stops_inside}
-use Rattle.bson_wrapped.proofs.DueNext.{value_due}
+use Rattle.bson_slots.proofs.DueNext.{value_due}
 use Rattle.bson_wrapped.proofs.fields.next_item.Goals as goal
 
 pub returns-in-Err-clause-value : goal.returns-in-Err-clause-value

@@ -11,7 +11,7 @@ use Rattle.bson_laws.specs.Shaped.{slots_of}
 use Rattle.bson_laws.specs.Slots.{Slots, read_structure}
 use Rattle.bson_laws.specs.Wrapped.{text}
 use Rattle.bson_met.proofs.Refusals.{StopsAs, stops_map}
-use Rattle.bson_wrapped.specs.Fields.{fields_read}
+use Rattle.bson_slots.specs.FieldsRead.{fields_read}
 use Rattle.bson_wrapped.proofs.Made.{mapped}
 use Rattle.bson_wrapped.proofs.fields.IdFieldValue.read.Goals as goal
 

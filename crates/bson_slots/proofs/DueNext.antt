@@ -6,7 +6,7 @@ use Rattle.bson_datum.specs.Marked.{Marked}
 use Rattle.bson_datum.specs.Refusal.{under_index}
 use Rattle.bson_laws.specs.Containers.{reads_next}
 use Rattle.bson_laws.specs.Judged.{Reading}
-use Rattle.bson_wrapped.specs.NextValue.{next_value, next_node, behind_first}
+use Rattle.bson_slots.specs.NextValue.{next_value, next_node, behind_first}
 
 -- what is read with the element that is due is its value, and then what is read from the others
 pub next_parts : {A : Type 0} (i : ℕ) (read : Node → Reading Marked) (others : Marked → Nodes → Reading A) (ns : Nodes) → reads_next i read others ns ≡ (next_value i read ns >>= λ v. others v (behind_first ns))
