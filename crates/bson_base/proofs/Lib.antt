@@ -12,3 +12,4 @@ pub mod Base64Texts
 pub mod IntegerTexts
 pub mod SubtypeTexts
 pub mod WrittenTexts
+pub mod MadeTexts

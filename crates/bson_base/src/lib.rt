@@ -18,6 +18,7 @@ mod opening;
 mod parsing;
 mod regex;
 mod reserved;
+mod texts;
 mod timestamp;
 mod unique_id;
 
@@ -37,5 +38,6 @@ pub use object_id::{NotHex, ObjectId};
 pub use parsing::{integer_of_text, subtype_of_text};
 pub use regex::Regex;
 pub use reserved::reserved_kind;
+pub use texts::{base64_text, digits, has_zero, number_text};
 pub use timestamp::Timestamp;
 pub use unique_id::{NotUuid, Uuid};

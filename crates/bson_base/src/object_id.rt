@@ -4,6 +4,7 @@ ghost use Rattle.hex.specs.Hex.{is_hex_digit};
 ghost use Rattle.bson_base.specs.Made.{digits};
 ghost use Rattle.bson_base.specs.Parsed.{Parses, bytes_of_digits};
 
+use crate::texts::digits;
 use hex::FromHex;
 use std::alloc::{AllocError, Global};
 
@@ -39,10 +40,9 @@ impl ObjectId {
     /// # Errors
     ///
     /// Out of memory.
-    #[tactic(auto, unfolding(crate::specs::Made::digits))]
     pub fn to_hex(&self, alloc: Global) -> Result<String, AllocError>
         ensures digits { IfOk result (λ text. string_bytes text ≡ digits self.now.0) }
     {
-        hex::encode(alloc, &self.0)
+        digits(alloc, &self.0)
     }
 }

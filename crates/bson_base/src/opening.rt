@@ -1,16 +1,15 @@
-ghost use Rattle.std.specs.Prelude.{◌≡◌, false, string_bytes, IfOk};
+ghost use Rattle.std.specs.Prelude.{◌≡◌, false, IfOk};
 ghost use Rattle.std.specs.Str.{bytes_eq};
 ghost use Rattle.bson_base.specs.Tree.{object_id, date_time, timestamp, decimal128};
 ghost use Rattle.bson_base.specs.BsonView.{tree_of, binary_of, regex_of, pointer_of, pairs_of};
 ghost use Rattle.bson_base.specs.Instant.{millis};
-ghost use Rattle.bson_base.specs.Made.{digits, number_text, base64_text};
 ghost use Rattle.bson_base.specs.Opened.{IsExtended, one, two, opened};
 
 use crate::binary::{Binary, BinarySubtype};
 use crate::bson::Bson;
 use crate::document::Document;
+use crate::texts::{base64_text, digits, number_text};
 use crate::{DateTime, DbPointer, Decimal128, ObjectId, Regex, Timestamp};
-use base64::engine::general_purpose::STANDARD;
 use std::alloc::{AllocError, Global};
 
 impl Bson {
@@ -153,28 +152,4 @@ fn two_pairs(
     let mut document = one_pair(alloc, key, value)?;
     document.insert(String::from_str(alloc, other)?, second)?;
     Ok(document)
-}
-
-// Each byte as two lower-case hexadecimal digits.
-#[tactic(auto, unfolding(crate::specs::Made::digits))]
-fn digits(alloc: Global, bytes: &[u8]) -> Result<String, AllocError>
-    ensures { IfOk result (λ s. string_bytes s ≡ digits bytes.now) }
-{
-    hex::encode(alloc, bytes)
-}
-
-// Standard base64 with padding.
-#[tactic(auto, unfolding(crate::specs::Made::base64_text))]
-fn base64_text(alloc: Global, bytes: &[u8]) -> Result<String, AllocError>
-    ensures { IfOk result (λ s. string_bytes s ≡ base64_text bytes.now) }
-{
-    STANDARD.encode(alloc, bytes)
-}
-
-// A number in decimal digits, with a sign where it is negative.
-#[tactic(auto, unfolding(crate::specs::Made::number_text))]
-fn number_text(alloc: Global, number: i64) -> Result<String, AllocError>
-    ensures { IfOk result (λ s. string_bytes s ≡ number_text number) }
-{
-    format!(in alloc; "{number}")
 }

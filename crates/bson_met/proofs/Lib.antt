@@ -2,5 +2,4 @@ pub mod Refusals
 pub mod NodeKinds
 pub mod Judging
 pub mod Counts
-pub mod MadeTexts
 pub mod NodeNulls

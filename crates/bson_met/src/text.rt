@@ -1,7 +1,5 @@
 ghost use Rattle.std.specs.Prelude.{◌≡◌, true, string_bytes, IfOk};
 ghost use Rattle.std.specs.Str.{is_utf8};
-ghost use Rattle.bson_base.specs.Instant.{millis};
-ghost use Rattle.bson_base.specs.Made.{digits, number_text, base64_text};
 ghost use Rattle.bson_rawdoc.specs.Piece.{borrowed, made};
 ghost use Rattle.bson_datum.specs.MarkedView.{text_piece};
 ghost use Rattle.bson_laws.specs.Taken.{borrow};
@@ -10,8 +8,7 @@ ghost use Rattle.bson_met.specs.PieceView.{str_piece, met_text};
 
 use crate::bytes::MetBytes;
 use crate::reading::{Reading, refused};
-use base64::engine::general_purpose::STANDARD;
-use bson_base::{BinarySubtype, DateTime, ObjectId};
+use bson_base::{BinarySubtype, DateTime, ObjectId, base64_text, digits, number_text};
 use bson_datum::{Cause, Text};
 use std::alloc::{AllocError, Global};
 
@@ -148,12 +145,12 @@ impl<'de> MetText<'de> {
             MetText::Id(id) => digits(alloc, &id.0),
             MetText::Subtype(subtype) => digits(alloc, &[subtype.0]),
             MetText::Base64(bytes) => base64_text(alloc, bytes.bytes),
-            MetText::Number(time) => number_text(alloc, time),
+            MetText::Number(time) => number_text(alloc, time.timestamp_millis()),
         }
     }
 
     // It is a text.
-    #[tactic(auto, using(crate::proofs::MadeTexts::digits_are_text, crate::proofs::MadeTexts::base64_is_text, crate::proofs::MadeTexts::number_is_text))]
+    #[tactic(auto, using(bson_base::proofs::MadeTexts::digits_are_text, bson_base::proofs::MadeTexts::base64_is_text, bson_base::proofs::MadeTexts::number_is_text))]
     #[inline(always)]
     pub(crate) fn known(self)
         ensures text { is_utf8 (met_text self.entry).bytes ≡ true }
@@ -173,28 +170,3 @@ impl<'de> MetText<'de> {
 pub(crate) fn known(text: &str)
     ensures { is_utf8 text.now ≡ true }
 {}
-
-// Each byte as two lower-case hexadecimal digits.
-#[tactic(auto, unfolding(bson_base::specs::Made::digits))]
-fn digits(alloc: Global, bytes: &[u8]) -> Result<String, AllocError>
-    ensures { IfOk result (λ s. string_bytes s ≡ digits bytes.now) }
-{
-    hex::encode(alloc, bytes)
-}
-
-// Standard base64 with padding.
-#[tactic(auto, unfolding(bson_base::specs::Made::base64_text))]
-fn base64_text(alloc: Global, bytes: &[u8]) -> Result<String, AllocError>
-    ensures { IfOk result (λ s. string_bytes s ≡ base64_text bytes.now) }
-{
-    STANDARD.encode(alloc, bytes)
-}
-
-// The milliseconds of a time in decimal digits, with a sign where they are negative.
-#[tactic(auto, unfolding(bson_base::specs::Made::number_text))]
-fn number_text(alloc: Global, time: DateTime) -> Result<String, AllocError>
-    ensures { IfOk result (λ s. string_bytes s ≡ number_text (millis time)) }
-{
-    let mut digits = itoa::Buffer::new();
-    String::from_str(alloc, digits.format(time.timestamp_millis()))
-}

@@ -10,9 +10,8 @@ ghost use Rattle.bson_one_pass.specs.Put.{recast_node, recast_entries, IsPut, Ar
 
 use crate::array::recast_item;
 use crate::bytes::{close, put};
-use crate::structure::has_zero;
 use arrayvec::ArrayVec;
-use bson_base::ElementType;
+use bson_base::{ElementType, has_zero};
 use bson_rawdoc::{RawDocument, RawIter};
 use bson_shape::{Leaf, Shape};
 

@@ -21,7 +21,7 @@ ghost use Rattle.bson_one_pass.specs.Put.{recast_node, recast_fields, IsPut, IsE
 
 use crate::array::{recast_item, value_of};
 use crate::bytes::{close, put, put_front, set_kind};
-use bson_base::{BinarySubtype, ElementType};
+use bson_base::{BinarySubtype, ElementType, has_zero};
 use bson_rawdoc::{RawBsonRef, RawDocument, RawElement, RawIter};
 use bson_shape::{FieldShape, Form};
 
@@ -185,18 +185,4 @@ fn put_missing(made: &mut Vec<u8>, field: &FieldShape) -> Option<()>
     put_front(made, name.as_bytes())?;
     set_kind(made, place, ElementType::Null);
     Some(())
-}
-
-/// Whether a zero character is in the text.
-pub(crate) fn has_zero(text: &str) -> bool
-    ensures { result ≡ has_zero text.now }
-{
-    let mut rest = text.as_bytes();
-    while let [first, others @ ..] = rest {
-        if *first == 0 {
-            return true;
-        }
-        rest = others;
-    }
-    false
 }

@@ -1,6 +1,5 @@
 // The front of an element: a place for its kind, and its key.
 ghost use Rattle.std.specs.Prelude.{◌≡◌, ◌≤◌, ◌+◌, length, IsOk, OnOk};
-ghost use Rattle.bson_base.specs.Text.{has_zero};
 ghost use Rattle.bson_datum.specs.Refusal.{invalid_cstring};
 ghost use Rattle.bson_io.specs.Output.{Appended};
 ghost use Rattle.bson_ser_stream.specs.Writing.{front};
@@ -13,20 +12,6 @@ use std::alloc::{AllocError, Global};
 
 // The byte that holds the place of a kind until the value was written.
 const KIND_PLACE: u8 = 0;
-
-/// Whether a zero character is in the text.
-pub(crate) fn has_zero(text: &str) -> bool
-    ensures { result ≡ has_zero text.now }
-{
-    let mut rest = text.as_bytes();
-    while let [first, others @ ..] = rest {
-        if *first == 0 {
-            return true;
-        }
-        rest = others;
-    }
-    false
-}
 
 /// The refusal of a name that has a zero character.
 pub(crate) fn zero_in(alloc: Global, name: &str) -> Halt

@@ -9,9 +9,9 @@ ghost use Rattle.bson_laws.specs.Means.{number_of, key_text};
 ghost use Rattle.bson_laws.specs.Spell.{or_null, carried, spell_key};
 ghost use Rattle.bson_ser_stream.specs.Halting.{Gives, IsHereOrMemory};
 
-use crate::element::{has_zero, zero_in};
+use crate::element::zero_in;
 use crate::halt::Halt;
-use bson_base::{Binary, BinarySubtype, Bson, Document, ElementType};
+use bson_base::{Binary, BinarySubtype, Bson, Document, ElementType, has_zero};
 use bson_datum::Datum;
 use bson_datum::ser::Fault;
 use std::alloc::{AllocError, Global};

@@ -17,14 +17,14 @@ ghost use Rattle.bson_ser_stream.specs.Writing.{with_tree, with_element, with_en
 ghost use Rattle.bson_ser_stream.specs.Halting.{Puts, PutsParts};
 
 use crate::container::{Container, Total};
-use crate::element::{begin_element, has_zero, zero_in};
+use crate::element::{begin_element, zero_in};
 use crate::halt::Halt;
 use crate::key::written_key;
 use crate::reserved::{put_unwrapped, put_uuid};
 use crate::scalar::{
     put_bool, put_bytes, put_char, put_double, put_i32, put_i64, put_text, put_u64,
 };
-use bson_base::{ElementType, reserved_kind};
+use bson_base::{ElementType, has_zero, reserved_kind};
 use bson_datum::{Cause, Datum, Entry, Field, Text};
 use bson_io::{Ledger, Out, Steps};
 use bson_reserved::scoped_code;

@@ -1,6 +1,6 @@
 use Rattle.std.proofs.Common.{◌≡◌, length}
 use Rattle.bson_base.specs.Text.{has_zero}
-use Rattle.bson_ser_stream.proofs.element.has_zero.Given as goal
+use Rattle.bson_base.proofs.texts.has_zero.Given as goal
 
 abbrev pub invariant-loop-rest : goal.invariant-loop-rest
 invariant-loop-rest l = has_zero l.rest ≡ has_zero l.text
