@@ -13,3 +13,4 @@ pub mod IntegerTexts
 pub mod SubtypeTexts
 pub mod WrittenTexts
 pub mod MadeTexts
+pub mod Tests

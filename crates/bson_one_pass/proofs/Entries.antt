@@ -6,6 +6,7 @@ use Rattle.bson_base.specs.Text.{Bytes, Utf8, has_zero}
 use Rattle.bson_base.specs.Tree as tree
 use Rattle.bson_base.specs.Tree.{Tree, Pairs, no_pairs, pair, enc, kind, element, elements, enclosed}
 use Rattle.bson_base.specs.declared.element_type.ElementType.TheVariants as kinds
+use Rattle.bson_base.proofs.Tests.{not_taken}
 use Rattle.bson_rawdoc.specs.Node.{Node, Nodes, ended, then_node, inner_node, node_in, nodes_with}
 use Rattle.bson_rawdoc.specs.Piece.{borrowed, made}
 use Rattle.bson_rawdoc.specs.Walk.{Element, Walk, then_walk, walk}
@@ -25,7 +26,7 @@ use Rattle.bson_laws.specs.Spell.{spell, spell_entries}
 use Rattle.bson_one_pass.specs.Free.{takes_keys, is_new}
 use Rattle.bson_one_pass.specs.Put.{of_writing, recast_node, recast_entries, IsPut, IsElementPut, ArePairsPut}
 use Rattle.bson_one_pass.proofs.Containers.{recast_mapped, pairs_put}
-use Rattle.bson_one_pass.proofs.Places.{not_taken, read_by}
+use Rattle.bson_one_pass.proofs.Places.{read_by}
 
 -- ---- keys
 

@@ -1,5 +1,5 @@
 -- Recasting the fields of a struct one by one, in the shape's order.
-use Rattle.std.proofs.Common.{◌≡◌, ℕ, suc, ◌+◌, ◌<◌, ◌≤◌, List, [], ◌∷◌, ◌++◌, length, get_or, take, drop, map, Bool, true, false, ◌||◌, cond, Option, Some, None, Ok, Err, refl, ap, sym, subst, ◌∙◌, string_bytes, add-one}
+use Rattle.std.proofs.Common.{◌≡◌, ℕ, suc, ◌+◌, ◌<◌, ◌≤◌, List, [], ◌∷◌, ◌++◌, length, get_or, take, drop, map, Bool, true, false, ◌||◌, Option, Some, None, Ok, Err, refl, ap, sym, subst, ◌∙◌, string_bytes, add-one}
 use Rattle.std.specs.Str.{bytes_eq}
 use Rattle.std.proofs.Math.Seq.{drop-cons}
 use Rattle.std.proofs.lemmas.Bool.{false≢true}
@@ -8,6 +8,7 @@ use Rattle.std.proofs.lemmas.List.{append_assoc, append-nil, map-append, map_mor
 use Rattle.bson_base.specs.Text.{Bytes, Utf8, has_zero}
 use Rattle.bson_base.specs.Tree.{Tree, Pairs, null, enc, kind, element}
 use Rattle.bson_base.specs.declared.element_type.ElementType.TheVariants.{Null}
+use Rattle.bson_base.proofs.Tests.{not_taken}
 use Rattle.bson_rawdoc.specs.Node.{Nodes, ended, then_node, node_in, nodes_with}
 use Rattle.bson_rawdoc.specs.Piece.{Piece, borrowed}
 use Rattle.bson_rawdoc.specs.Walk.{Element, Walk, then_walk}
@@ -69,10 +70,6 @@ swapped x y h = by_case (bytes_eq y x) refl where
 lacks_of : (key : Utf8) (ns : List Utf8) → has_name key ns ≡ false → LacksName key ns
 lacks_of key [] h = tt
 lacks_of key (n ∷ ns) h = let parts = or_false (bytes_eq key n) (has_name key ns) h in (swapped key n parts.0, lacks_of key ns parts.1)
-
-pub not_taken : (b rest : Bool) → cond b false rest ≡ true → (b ≡ false) × (rest ≡ true)
-not_taken true rest h = absurd cc
-not_taken false rest h = (refl, h)
 
 free_lacks : (key : Utf8) (fs : List FieldShape) → is_free key fs ≡ true → LacksName key (map name_of fs)
 free_lacks key [] h = tt
