@@ -6,7 +6,7 @@ use Rattle.bson_reserved.specs.AcceptedView.{accepted_view, accepted_kind}
 use Rattle.bson_reserved.specs.Written.{spell_unwrapped, written_size}
 use Rattle.bson_reserved.specs.declared.accepted.Accepted.{Accepted}
 use Rattle.bson_ser_stream.specs.Halting.{Puts}
-use Rattle.bson_ser_stream.specs.declared.halt.Halt.{Halt}
+use Rattle.bson_writing.specs.declared.halt.Halt.{Halt}
 
 module _ (old new : Output) (before now : ℕ) (r : Result ElementType Halt) where
   -- this was appended, or there is a reason not to

@@ -16,7 +16,7 @@ use Rattle.bson_io.specs.Output.{Output}
 use Rattle.bson_reserved.specs.Unwrap.{unwrap, scoped_code}
 use Rattle.bson_laws.specs.Spell.{struct_at, struct_size, reserved_at, reserved_size, enclosed_at, spell_as, spell_fields_as, spell_list, size_as, size_fields_as, size_list}
 use Rattle.bson_ser_stream.specs.Halting.{Puts}
-use Rattle.bson_ser_stream.specs.declared.halt.Halt.{Halt}
+use Rattle.bson_writing.specs.declared.halt.Halt.{Halt}
 
 module _ (readable : Bool) (levels : ℕ) (old new : Output) (before now : ℕ) (r : Result ElementType Halt) where
   -- the value was appended, or there is a reason not to

@@ -14,10 +14,11 @@ use Rattle.bson_io.specs.Output.{Output, Appended}
 use Rattle.bson_reserved.specs.Written.{Writing, spell_unwrapped, written_size}
 use Rattle.bson_ser_stream.specs.Binary.{binary_front}
 use Rattle.bson_ser_stream.specs.Decoding.{Decodes, IsFault}
-use Rattle.bson_ser_stream.specs.Halting.{IsOutOfMemory, Grows, Puts}
+use Rattle.bson_writing.specs.Halting.{IsOutOfMemory}
+use Rattle.bson_ser_stream.specs.Halting.{Grows, Puts}
 use Rattle.bson_ser_stream.specs.declared.base64_text.Base64Fault.{Base64Fault}
 use Rattle.bson_ser_stream.specs.declared.base64_text.Base64Fault.TheVariants.{NotBase64, NoMemory}
-use Rattle.bson_ser_stream.specs.declared.halt.Halt.{Halt}
+use Rattle.bson_writing.specs.declared.halt.Halt.{Halt}
 use Rattle.bson_ser_stream.proofs.Binaries.{length-front_same, length-written}
 use Rattle.bson_ser_stream.proofs.Puts.{out_of_memory, puts_refusal}
 

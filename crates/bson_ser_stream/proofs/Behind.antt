@@ -9,12 +9,12 @@ use Rattle.bson_datum.specs.Value.{Value, Items, item, Entries, entry, FieldValu
 use Rattle.bson_io.specs.Output.{Output}
 use Rattle.bson_laws.specs.Spell.{Writing, named, spell_as, spell_items_as, spell_key, spell_entries_as, spell_fields_as, size_as, size_fields_as}
 use Rattle.bson_ser_stream.specs.Writing.{with_element, with_entry, with_elements, with_array_elements}
-use Rattle.bson_ser_stream.specs.Halting.{Halts}
+use Rattle.bson_writing.specs.Halting.{Halts}
 use Rattle.bson_ser_stream.proofs.Halted.{field_halts}
 use Rattle.bson_ser_stream.proofs.Inside.{element_on}
 use Rattle.bson_ser_stream.proofs.Puts.{Grows-none}
 use Rattle.bson_ser_stream.proofs.Variants.{one_field}
-use Rattle.bson_ser_stream.specs.declared.halt.Halt.{Halt}
+use Rattle.bson_writing.specs.declared.halt.Halt.{Halt}
 
 pub fields_on : (readable : Bool) (name : Utf8) (v : Value) (rest : FieldValues) (levels : ℕ) (old new : Bytes) → with_element old name (named name (spell_as readable v levels)) ≡ Ok new
     → with_elements new (spell_fields_as readable rest levels) ≡ with_elements old (spell_fields_as readable (field_value name v rest) levels)

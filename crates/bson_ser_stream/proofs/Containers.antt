@@ -14,14 +14,15 @@ use Rattle.bson_io.specs.Output.{Output, Appended, patched}
 use Rattle.bson_laws.specs.Spell.{Writing, spell_items_as, spell_entries_as, spell_fields_as, enclosed_at, size_items_as, size_entries_as, size_fields_as}
 use Rattle.bson_laws.proofs.Sizes.{ok_is, length-spell_items, length-spell_entries, length-spell_fields}
 use Rattle.bson_ser_stream.specs.Writing.{with_bytes, with_tree, length_place, level_inside}
-use Rattle.bson_ser_stream.specs.Halting.{Halts, Grows, Puts, Ends, EndHalts}
+use Rattle.bson_writing.specs.Halting.{Halts}
+use Rattle.bson_ser_stream.specs.Halting.{Grows, Puts, Ends, EndHalts}
 use Rattle.bson_ser_stream.proofs.Growth.{Grows-trans, Grows-appended, Grows-longer}
 use Rattle.bson_ser_stream.proofs.Written.{length-with_bytes}
 use Rattle.bson_ser_stream.proofs.Halted.{unended}
 use Rattle.bson_ser_stream.proofs.Ended.{Grows-container}
-use Rattle.bson_ser_stream.specs.declared.halt.Halt.{Halt}
+use Rattle.bson_writing.specs.declared.halt.Halt.{Halt}
 use Rattle.bson_datum.specs.declared.stop.Stop.TheVariants.{Refused, NoMemory}
-use Rattle.bson_ser_stream.specs.declared.halt.Halt.TheVariants.{Stopped, TooLong}
+use Rattle.bson_writing.specs.declared.halt.Halt.TheVariants.{Stopped, TooLong}
 
 -- the parts of a document or an array: their bytes are what it encloses, and as many as their size says
 pub record Parts {A : Type 0} (container : A → Tree) (bytes : A → Bytes) (parts : ℕ → Writing A) (size : ℕ) : Type 0 where

@@ -13,11 +13,12 @@ use Rattle.bson_laws.specs.Means.{means, key_text}
 use Rattle.bson_laws.specs.Spell.{Writing, named, spell_as, spell_items_as, spell_key, spell_entries_as, spell_fields_as, spell_document, key_size, size, size_as, size_items_as, size_entries_as, size_fields_as}
 use Rattle.bson_laws.proofs.Spelled.{spell_means}
 use Rattle.bson_ser_stream.specs.Writing.{with_bytes, with_tree, with_element, with_entry, with_elements, with_array_elements}
-use Rattle.bson_ser_stream.specs.Halting.{Halts, Gives, Grows, EndHalts}
+use Rattle.bson_writing.specs.Halting.{Halts, Gives}
+use Rattle.bson_ser_stream.specs.Halting.{Grows, EndHalts}
 use Rattle.bson_ser_stream.proofs.Written.{length-with_elements, length-with_entries, length-with_array_elements}
-use Rattle.bson_ser_stream.specs.declared.halt.Halt.{Halt}
+use Rattle.bson_writing.specs.declared.halt.Halt.{Halt}
 use Rattle.bson_datum.specs.declared.stop.Stop.TheVariants.{Refused, NoMemory}
-use Rattle.bson_ser_stream.specs.declared.halt.Halt.TheVariants.{Stopped, TooLong}
+use Rattle.bson_writing.specs.declared.halt.Halt.TheVariants.{Stopped, TooLong}
 
 pub gives_err : {X Y : Type 0} (size spare : ℕ) (view : X → Y) (result : Result X Halt) (h : Halt) (due : Writing Y) → result ≡ Err h → Halts size spare due h → Gives size spare view result due
 gives_err size spare view result h due is halts = subst (λ r. Gives size spare view r due) (sym is) halts

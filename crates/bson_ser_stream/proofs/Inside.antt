@@ -15,9 +15,9 @@ use Rattle.bson_io.specs.Output.{Output, Appended}
 use Rattle.bson_laws.specs.Spell.{Writing}
 use Rattle.bson_laws.proofs.Sizes.{ok_is}
 use Rattle.bson_ser_stream.specs.Writing.{front, with_bytes, with_tree, with_element}
-use Rattle.bson_ser_stream.specs.Halting.{Halts, IsUnder, refusal}
-use Rattle.bson_ser_stream.specs.declared.halt.Halt.{Halt}
-use Rattle.bson_ser_stream.specs.declared.halt.Halt.TheVariants.{Stopped, TooLong}
+use Rattle.bson_writing.specs.Halting.{Halts, IsUnder, refusal}
+use Rattle.bson_writing.specs.declared.halt.Halt.{Halt}
+use Rattle.bson_writing.specs.declared.halt.Halt.TheVariants.{Stopped, TooLong}
 
 in_of : (segment : Segment) (r s : code.Refused Fault) → s.fault ≡ r.fault → segments_out s ≡ segments_out r ++ segment ∷ [] → in_segment segment (refusal r) ≡ refusal s
 in_of segment r s faults steps = λ i. record { path = sym (ap reverse steps ∙ reverse-append (segments_out r) (segment ∷ [])) i; fault = write_fault (sym faults i) }

@@ -21,10 +21,10 @@ use Rattle.bson_laws.specs.Spell.{Writing, spell_number, spell_binary, spell_who
 use Rattle.bson_laws.proofs.Alike.{AreAlike, Both, SameScope, scopes_alike}
 use Rattle.bson_datum.specs.Stop.{IsPlaced}
 use Rattle.bson_ser_stream.specs.Writing.{with_tree, IsDue, Fails, too_long_failure}
-use Rattle.bson_ser_stream.specs.Halting.{halt_view, Halts}
-use Rattle.bson_ser_stream.specs.declared.halt.Halt.{Halt}
+use Rattle.bson_writing.specs.Halting.{halt_view, Halts}
+use Rattle.bson_writing.specs.declared.halt.Halt.{Halt}
 use Rattle.bson_datum.specs.declared.stop.Stop.TheVariants.{Refused, NoMemory}
-use Rattle.bson_ser_stream.specs.declared.halt.Halt.TheVariants.{Stopped, TooLong}
+use Rattle.bson_writing.specs.declared.halt.Halt.TheVariants.{Stopped, TooLong}
 
 abbrev IsLength : Cause → Type 0
 IsLength too_long = Unit {0}

@@ -14,9 +14,10 @@ use Rattle.bson_io.specs.Output as output
 use Rattle.bson_io.specs.Output.{Output}
 use Rattle.bson_reserved.specs.Written.{Writing, written_size}
 use Rattle.bson_ser_stream.specs.Writing.{with_tree}
-use Rattle.bson_ser_stream.specs.Halting.{IsOutOfMemory, IsHereOrMemory, Halts, Grows, Puts}
-use Rattle.bson_ser_stream.specs.declared.halt.Halt.{Halt}
-use Rattle.bson_ser_stream.specs.declared.halt.Halt.TheVariants.{Stopped, TooLong}
+use Rattle.bson_writing.specs.Halting.{IsOutOfMemory, IsHereOrMemory, Halts}
+use Rattle.bson_ser_stream.specs.Halting.{Grows, Puts}
+use Rattle.bson_writing.specs.declared.halt.Halt.{Halt}
+use Rattle.bson_writing.specs.declared.halt.Halt.TheVariants.{Stopped, TooLong}
 
 -- nothing was appended
 pub Grows-none : (old : Output) (now : ℕ) → Grows old old now now

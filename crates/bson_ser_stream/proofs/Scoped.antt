@@ -19,12 +19,13 @@ use Rattle.bson_laws.specs.Spell.{Writing, spell_scoped, scoped_size, enclosed_a
 use Rattle.bson_laws.proofs.Listed.{scope_spelled, scope_sized}
 use Rattle.bson_laws.proofs.Sizes.{ok_is, under_ok, length-spell}
 use Rattle.bson_ser_stream.specs.Writing.{with_tree, length_place}
-use Rattle.bson_ser_stream.specs.Halting.{Halts, Grows, Puts, Totals, TotalHalts}
+use Rattle.bson_writing.specs.Halting.{Halts}
+use Rattle.bson_ser_stream.specs.Halting.{Grows, Puts, Totals, TotalHalts}
 use Rattle.bson_ser_stream.proofs.Ended.{before_patch, length-patched}
 use Rattle.bson_ser_stream.proofs.Growth.{Grows-trans, Grows-appended}
-use Rattle.bson_ser_stream.specs.declared.halt.Halt.{Halt}
+use Rattle.bson_writing.specs.declared.halt.Halt.{Halt}
 use Rattle.bson_datum.specs.declared.stop.Stop.TheVariants.{Refused, NoMemory}
-use Rattle.bson_ser_stream.specs.declared.halt.Halt.TheVariants.{Stopped, TooLong}
+use Rattle.bson_writing.specs.declared.halt.Halt.TheVariants.{Stopped, TooLong}
 
 -- bytes behind a place of four, and the length of all written over the place
 totaled : (old b : Bytes) (n : ℕ) → n ≡ length b + 4 → patched ((old ++ length_place) ++ b) (length old) (le32 n) ≡ old ++ after_total b

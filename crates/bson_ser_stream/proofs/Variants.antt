@@ -10,7 +10,7 @@ use Rattle.bson_io.specs.Output.{Output}
 use Rattle.bson_laws.specs.Spell.{Writing, named, variant_at, variant_size, spell_as, spell_fields_as, size_as, size_fields_as}
 use Rattle.bson_ser_stream.specs.Writing.{with_element, with_elements}
 use Rattle.bson_ser_stream.specs.Halting.{Puts}
-use Rattle.bson_ser_stream.specs.declared.halt.Halt.{Halt}
+use Rattle.bson_writing.specs.declared.halt.Halt.{Halt}
 
 -- a value under its name, as the one field of a struct
 abbrev pub one_field : Utf8 → Value → FieldValues

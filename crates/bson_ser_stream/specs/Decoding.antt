@@ -4,8 +4,8 @@ use Rattle.bson_base.specs.Text.{Bytes}
 use Rattle.bson_io.specs.Output.{Output, Appended}
 use Rattle.bson_datum.specs.Cause.{bad_step}
 use Rattle.bson_datum.specs.Refusal.{unwritable}
-use Rattle.bson_ser_stream.specs.Halting.{IsOutOfMemory, IsHereOrMemory}
-use Rattle.bson_ser_stream.specs.declared.halt.Halt.{Halt}
+use Rattle.bson_writing.specs.Halting.{IsOutOfMemory, IsHereOrMemory}
+use Rattle.bson_writing.specs.declared.halt.Halt.{Halt}
 use Rattle.bson_ser_stream.specs.declared.base64_text.Base64Fault.{Base64Fault}
 use Rattle.bson_ser_stream.specs.declared.base64_text.Base64Fault.TheVariants.{NotBase64, NoMemory}
 

@@ -9,10 +9,10 @@ ghost use Rattle.bson_ser_stream.specs.Halting.{Puts, Grows};
 ghost use Rattle.bson_ser_stream.specs.Decoding.{IsFault};
 
 use crate::base64_text::{Base64Fault, push_base64};
-use crate::halt::Halt;
 use bson_base::{BinarySubtype, ElementType, MAX_BINARY};
 use bson_datum::{Cause, Stop};
 use bson_io::{Ledger, Out, Steps};
+use bson_writing::Halt;
 use std::alloc::{AllocError, Global};
 
 // The old subtype of bytes without a further meaning, in which a second length is before them.

@@ -2,11 +2,12 @@
 ghost use Rattle.std.specs.Prelude.{◌≡◌, ◌≤◌, ◌+◌, length, Ok, OnOk, OnErr, IfOk, IfErr};
 ghost use Rattle.bson_io.specs.Output.{Appended};
 ghost use Rattle.bson_ser_stream.specs.Writing.{length_place, level_inside};
-ghost use Rattle.bson_ser_stream.specs.Halting.{Gives, Grows, Ends, EndHalts, Totals, TotalHalts};
+ghost use Rattle.bson_writing.specs.Halting.{Gives};
+ghost use Rattle.bson_ser_stream.specs.Halting.{Grows, Ends, EndHalts, Totals, TotalHalts};
 
-use crate::halt::Halt;
 use bson_datum::Cause;
 use bson_io::{Ledger, MOST, Out, Steps};
+use bson_writing::Halt;
 
 /// A document or an array that was begun.
 #[derive(Drop)]

@@ -8,14 +8,15 @@ ghost use Rattle.bson_datum.specs.ErrorView.{write_failure};
 ghost use Rattle.bson_laws.specs.Means.{means};
 ghost use Rattle.bson_laws.specs.Spell.{spell_document, size};
 ghost use Rattle.bson_ser_stream.specs.Writing.{with_tree, Fails, too_long_failure, GivesBytes};
-ghost use Rattle.bson_ser_stream.specs.Halting.{Gives, Grows};
+ghost use Rattle.bson_writing.specs.Halting.{Gives};
+ghost use Rattle.bson_ser_stream.specs.Halting.{Grows};
 
-use crate::halt::Halt;
 use crate::value::put_value;
 use bson_base::ElementType;
 use bson_datum::ser::Result;
 use bson_datum::{Cause, Datum, MAX_NESTING_LEVEL};
 use bson_io::{Ledger, Out, Steps, Tally};
+use bson_writing::Halt;
 use std::alloc::Global;
 
 // A whole document, or as much of it as was written before a refusal.

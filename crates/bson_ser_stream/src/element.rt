@@ -1,27 +1,14 @@
 // The front of an element: a place for its kind, and its key.
 ghost use Rattle.std.specs.Prelude.{◌≡◌, ◌≤◌, ◌+◌, length, IsOk, OnOk};
-ghost use Rattle.bson_datum.specs.Refusal.{invalid_cstring};
 ghost use Rattle.bson_io.specs.Output.{Appended};
 ghost use Rattle.bson_ser_stream.specs.Writing.{front};
-ghost use Rattle.bson_ser_stream.specs.Halting.{Grows, IsHereOrMemory};
+ghost use Rattle.bson_ser_stream.specs.Halting.{Grows};
 
-use crate::halt::Halt;
-use bson_datum::ser::Fault;
 use bson_io::{Ledger, Out, Steps};
-use std::alloc::{AllocError, Global};
+use std::alloc::AllocError;
 
 // The byte that holds the place of a kind until the value was written.
 const KIND_PLACE: u8 = 0;
-
-/// The refusal of a name that has a zero character.
-pub(crate) fn zero_in(alloc: Global, name: &str) -> Halt
-    ensures { IsHereOrMemory (invalid_cstring name.now) result }
-{
-    match String::from_str(alloc, name) {
-        Ok(name) => Halt::here(alloc, Fault::InvalidCString(name)),
-        Err(e) => Halt::from(e),
-    }
-}
 
 /// Appends the front of an element: a zero in the place of the byte of its kind, and its key closed by a zero.
 pub(crate) fn begin_element<L: Ledger>(

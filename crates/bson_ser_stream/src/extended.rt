@@ -5,12 +5,11 @@ ghost use Rattle.bson_base.specs.Tree.{object_id, date_time, regular_expression,
 ghost use Rattle.bson_reserved.specs.Written.{spell_whole, written_size};
 ghost use Rattle.bson_ser_stream.specs.Halting.{Puts};
 
-use crate::element::zero_in;
-use crate::halt::Halt;
 use crate::scalar::{push_text, put_closed};
 use crate::sorting::push_sorted;
 use bson_base::{DateTime, Decimal128, ElementType, ObjectId, Timestamp, has_zero};
 use bson_io::{Ledger, MOST, Out, Steps};
+use bson_writing::{Halt, zero_in};
 
 /// Appends an ObjectId, by its twelve bytes.
 pub(crate) fn put_object_id<L: Ledger>(

@@ -7,8 +7,6 @@ mod container;
 mod document;
 mod element;
 mod extended;
-mod halt;
-mod key;
 mod reserved;
 mod scalar;
 mod sorting;

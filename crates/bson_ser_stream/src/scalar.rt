@@ -5,13 +5,14 @@ ghost use Rattle.bson_base.specs.Tree.{boolean, double, string, int32, int64, cl
 ghost use Rattle.bson_io.specs.Output.{Appended};
 ghost use Rattle.bson_reserved.specs.Written.{spell_binary};
 ghost use Rattle.bson_laws.specs.Spell.{spell_number};
-ghost use Rattle.bson_ser_stream.specs.Halting.{Gives, Puts, Grows};
+ghost use Rattle.bson_writing.specs.Halting.{Gives};
+ghost use Rattle.bson_ser_stream.specs.Halting.{Puts, Grows};
 
 use crate::binary::put_binary;
-use crate::halt::Halt;
 use bson_base::{BinarySubtype, Double, ElementType};
 use bson_datum::ser::Fault;
 use bson_io::{Ledger, MOST, Out, Steps};
+use bson_writing::Halt;
 use std::alloc::AllocError;
 
 // The subtype of bytes without a further meaning.

@@ -17,9 +17,7 @@ ghost use Rattle.bson_ser_stream.specs.Writing.{with_tree, with_element, with_en
 ghost use Rattle.bson_ser_stream.specs.Halting.{Puts, PutsParts};
 
 use crate::container::{Container, Total};
-use crate::element::{begin_element, zero_in};
-use crate::halt::Halt;
-use crate::key::written_key;
+use crate::element::begin_element;
 use crate::reserved::{put_unwrapped, put_uuid};
 use crate::scalar::{
     put_bool, put_bytes, put_char, put_double, put_i32, put_i64, put_text, put_u64,
@@ -28,6 +26,7 @@ use bson_base::{ElementType, has_zero, reserved_kind};
 use bson_datum::{Cause, Datum, Entry, Field, Text};
 use bson_io::{Ledger, Out, Steps};
 use bson_reserved::scoped_code;
+use bson_writing::{Halt, written_key, zero_in};
 
 // What is under a key: a value, or what a variant holds that is no datum of its own.
 #[derive(Clone, Copy)]

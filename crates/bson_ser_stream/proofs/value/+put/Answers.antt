@@ -22,7 +22,7 @@ use Rattle.bson_laws.specs.Spell.{spell_scoped, scoped_size, spell_as, spell_ite
 use Rattle.bson_base.specs.Tree.{document, array, elements, array_elements}
 use Rattle.std.specs.Fmt.{decimal}
 use Rattle.bson_ser_stream.specs.Writing.{with_element, with_elements, with_array_elements}
-use Rattle.bson_ser_stream.specs.Halting.{Halts}
+use Rattle.bson_writing.specs.Halting.{Halts}
 use Rattle.bson_laws.proofs.Listed.{no_scope_spelled}
 use Rattle.bson_base.specs.declared.element_type.ElementType.TheVariants.{JavaScriptCodeWithScope}
 use Rattle.bson_datum.specs.Cause.{bad_step}

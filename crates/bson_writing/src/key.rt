@@ -3,13 +3,12 @@ ghost use Rattle.std.specs.Prelude.{◌≡◌, encode_utf8, pos, IfOk};
 ghost use Rattle.std.specs.Option.{option_map};
 ghost use Rattle.bson_base.specs.BsonView.{tree_of};
 ghost use Rattle.bson_base.specs.Tree.{string, binary};
-ghost use Rattle.bson_datum.specs.Refusal.{invalid_document_key};
+ghost use Rattle.bson_datum.specs.Refusal.{invalid_cstring, invalid_document_key};
 ghost use Rattle.bson_datum.specs.View.{view};
 ghost use Rattle.bson_laws.specs.Means.{number_of, key_text};
 ghost use Rattle.bson_laws.specs.Spell.{or_null, carried, spell_key};
-ghost use Rattle.bson_ser_stream.specs.Halting.{Gives, IsHereOrMemory};
+ghost use Rattle.bson_writing.specs.Halting.{Gives, IsHereOrMemory};
 
-use crate::element::zero_in;
 use crate::halt::Halt;
 use bson_base::{Binary, BinarySubtype, Bson, Document, ElementType, has_zero};
 use bson_datum::Datum;
@@ -21,13 +20,23 @@ use std::alloc::{AllocError, Global};
 /// # Errors
 ///
 /// The refusal of a key that is no text, or that has a zero character; or out of memory for what the refusal carries.
-pub(crate) fn written_key<'a>(alloc: Global, key: &'a Datum<'_>) -> Result<&'a str, Halt>
+pub fn written_key<'a>(alloc: Global, key: &'a Datum<'_>) -> Result<&'a str, Halt>
     ensures key { Gives 0 0 (λ text. text.now) result (spell_key (view key.now)) }
 {
     match key_text(key) {
         None => Err(no_text(alloc, key)),
         Some(text) if has_zero(text) => Err(zero_in(alloc, text)),
         Some(text) => Ok(text),
+    }
+}
+
+/// The refusal of a name that has a zero character; or memory ran out.
+pub fn zero_in(alloc: Global, name: &str) -> Halt
+    ensures { IsHereOrMemory (invalid_cstring name.now) result }
+{
+    match String::from_str(alloc, name) {
+        Ok(name) => Halt::here(alloc, Fault::InvalidCString(name)),
+        Err(e) => Halt::from(e),
     }
 }
 

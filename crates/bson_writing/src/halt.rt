@@ -3,7 +3,7 @@ ghost use Rattle.std.specs.Prelude.{◌≡◌};
 ghost use Rattle.bson_datum.specs.Refusal.{unwritable, at_key, at_index};
 ghost use Rattle.bson_datum.specs.Stop.{IsPlaced};
 ghost use Rattle.bson_datum.specs.ErrorView.{cause_view, write_fault, write_failure};
-ghost use Rattle.bson_ser_stream.specs.Halting.{halt_view, IsHereOrMemory, IsUnder};
+ghost use Rattle.bson_writing.specs.Halting.{halt_view, IsHereOrMemory, IsUnder};
 
 use bson_datum::ser::{Error, Fault};
 use bson_datum::{Cause, Stop};
@@ -11,7 +11,7 @@ use std::alloc::{AllocError, Global};
 
 /// Why writing stopped before its end.
 #[derive(Debug, Drop)]
-pub(crate) enum Halt {
+pub enum Halt {
     /// A value is refused, or memory ran out.
     Stopped(Stop<Fault>),
     /// A document would have more bytes than a document may.
@@ -20,21 +20,21 @@ pub(crate) enum Halt {
 
 impl Halt {
     /// A fault of the value itself; or memory ran out.
-    pub(crate) fn here(alloc: Global, fault: Fault) -> Halt
+    pub fn here(alloc: Global, fault: Fault) -> Halt
         ensures here { IsHereOrMemory (write_fault fault) result }
     {
         Halt::Stopped(Stop::here(alloc, fault))
     }
 
     /// A cause in the value itself; or memory ran out.
-    pub(crate) fn caused(alloc: Global, cause: Cause) -> Halt
+    pub fn caused(alloc: Global, cause: Cause) -> Halt
         ensures here { IsHereOrMemory (unwritable (cause_view cause)) result }
     {
         Halt::here(alloc, Fault::Cause(cause))
     }
 
     /// The same, seen from the document that has the value at this key; or memory ran out.
-    pub(crate) fn under_key(self, key: &str) -> Halt
+    pub fn under_key(self, key: &str) -> Halt
         ensures under { IsUnder (at_key key.now) self result }
     {
         match self {
@@ -44,7 +44,7 @@ impl Halt {
     }
 
     /// The same, seen from the array that has the value at this index, from 0; or memory ran out.
-    pub(crate) fn under_index(self, index: u64) -> Halt
+    pub fn under_index(self, index: u64) -> Halt
         ensures under { IsUnder (at_index index) self result }
     {
         match self {
@@ -54,7 +54,7 @@ impl Halt {
     }
 
     /// The error that a caller sees: a refusal with its path, or out of memory.
-    pub(crate) fn into_error(self, alloc: Global) -> Error
+    pub fn into_error(self, alloc: Global) -> Error
         ensures placed { IsPlaced (halt_view self) (write_failure result) }
     {
         match self {
@@ -67,7 +67,7 @@ impl Halt {
 }
 
 impl From<AllocError> for Halt {
-    ghost use Rattle.bson_ser_stream.specs.Halting.{IsOutOfMemory};
+    ghost use Rattle.bson_writing.specs.Halting.{IsOutOfMemory};
 
     ghost from_gives = { λ _ h. IsOutOfMemory h };
 
