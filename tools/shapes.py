@@ -17,8 +17,8 @@ is any shape,
 .Ar f
 the name of a field.
 A value of another kind than those that are named is refused.
-An extended value is one of the kinds that JSON lacks, such as an ObjectId; a
-document represents one if it has a key such as
+An extended value is one of a kind that serde's data model lacks, such as an
+ObjectId; a document represents one if it has a key such as
 .Li $oid .
 """
 
