@@ -4,7 +4,6 @@ use Rattle.std.specs.Prelude.{nat_eq, codes, option_map}
 use Rattle.std.specs.Result.{result_ok}
 use Rattle.std.proofs.lemmas.Bool.Decides.{nat_tests}
 use Rattle.bson_base.specs.Kind.{byte, of_byte}
-use Rattle.bson_base.specs.Sound.{IsClean, ArePairsClean, AreTreesClean}
 use Rattle.bson_base.specs.Tree as tree
 use Rattle.bson_base.specs.Tree.{Tree, Pairs, no_pairs, pair, Trees, no_trees}
 use Rattle.bson_base.specs.declared.element_type.ElementType.{ElementType}
@@ -16,7 +15,7 @@ use Rattle.bson_reserved.specs.Written.{Writing, with_scope, spell_whole}
 use Rattle.bson_laws.specs.Datum.{datum, itself, two, pair_data, tree_data, sorted_tree, sorted_pairs, sorted_trees}
 use Rattle.bson_laws.specs.InRange.{IsInRange, ArePairsInRange, AreTreesInRange}
 use Rattle.bson_laws.specs.Means.{unwrapped_means, means, means_items, means_entries, norm, norm_items, norm_entries}
-use Rattle.bson_laws.proofs.DatumSpelled.{HasSizes, accepted}
+use Rattle.bson_laws.proofs.DatumSpelled.{in_range_sizes, accepted}
 use Rattle.bson_laws.proofs.ParsedSizes.{sorted_text, sorted_twice}
 use Rattle.bson_laws.proofs.Sizes.{binary_is, expression_spelled}
 use Rattle.bson_laws.proofs.Spelled.{tree_is}
@@ -30,35 +29,6 @@ same_kind j k e =
 
 pub own_kind : (k : ElementType) → nat_eq (byte k) (byte k) ≡ true
 own_kind k = grind (arith, nat_tests)
-
--- ---- trees in range
-
-mutual
-  pub clean_in_range : (t : Tree) → IsClean t → IsInRange t
-  clean_in_range (tree.document ps) c = pairs_in_range ps c
-  clean_in_range (tree.array ts) c = trees_in_range ts c
-  clean_in_range (tree.binary subtype b) c = (c.is_byte, c.are_bytes)
-  clean_in_range (tree.regular_expression p q) c = (c.0.text, c.1.text)
-  clean_in_range (tree.javascript_code_with_scope code scope) c = (c.0, pairs_in_range scope c.1)
-  clean_in_range t c = c
-
-  pairs_in_range : (ps : Pairs) → ArePairsClean ps → ArePairsInRange ps
-  pairs_in_range no_pairs c = tt
-  pairs_in_range (pair key t ps) c = (c.0.text, clean_in_range t c.2, pairs_in_range ps c.3)
-
-  trees_in_range : (ts : Trees) → AreTreesClean ts → AreTreesInRange ts
-  trees_in_range no_trees c = tt
-  trees_in_range (tree.tree t ts) c = (clean_in_range t c.0, trees_in_range ts c.1)
-
-in_range_sizes : (t : Tree) → IsInRange t → HasSizes t
-in_range_sizes (tree.binary zero b) r = tt
-in_range_sizes (tree.binary (suc n) b) r = r
-in_range_sizes (tree.object_id id) r = (r.count, r.are_bytes)
-in_range_sizes (tree.date_time n) r = r
-in_range_sizes (tree.db_pointer namespace id) r = (r.1.count, r.1.are_bytes)
-in_range_sizes (tree.timestamp time increment) r = r
-in_range_sizes (tree.decimal128 b) r = r.count
-in_range_sizes t r = tt
 
 -- ---- sorted
 

@@ -1,4 +1,4 @@
--- The value that a clean tree is means the tree with the options of its regular expressions in order, and is spelled as it.
+-- The value that a tree is means the tree with the options of its regular expressions in order, and is spelled as it.
 use Rattle.std.proofs.Common.{◌≡◌, ℕ, ◌<◌, ◌≤◌, ◌^◌, zero, suc, pos, List, [], ◌∷◌, length, Bool, true, false, cond, Option, Some, None, Ok, Err, inl, refl, ap, sym, ◌∙◌, arith}
 use Rattle.std.specs.Int.{w64}
 use Rattle.std.specs.Prelude.{FitsSigned, nat_lt, nat_eq, option_map, option_and_then, codes}
@@ -9,7 +9,7 @@ use Rattle.uuid.proofs.RoundTrips.{parses_hyphenated}
 use Rattle.bson_base.specs.Outcome.{◌>>=◌, result_map}
 use Rattle.bson_base.specs.Reserved.{reserved_kind}
 use Rattle.bson_base.specs.Sorted.{sorted}
-use Rattle.bson_base.specs.Sound.{IsClean, ArePairsClean, AreTreesClean, HasBytes, IsZeroFree}
+use Rattle.bson_base.specs.Sound.{IsClean, HasBytes, IsZeroFree}
 use Rattle.bson_base.specs.Text.{Bytes, Utf8, AreBytes}
 use Rattle.bson_base.specs.Tree as tree
 use Rattle.bson_base.specs.Tree.{Tree, Pairs, no_pairs, pair, Trees, no_trees, depth, pairs_depth, trees_depth}
@@ -22,8 +22,11 @@ use Rattle.bson_datum.specs.Refusal.{here, invalid_cstring, unsigned_exceeds, un
 use Rattle.bson_reserved.specs.Unwrap.{Part, a_value, next_key, next_unsigned, end_as, unwrap, or_else}
 use Rattle.bson_reserved.specs.Written.{with_scope, zero_free}
 use Rattle.bson_laws.specs.Datum.{itself, datum, pair_data, tree_data, uuid_datum, sorted_tree, sorted_pairs, sorted_trees}
+use Rattle.bson_laws.specs.Encodable.{IsEncodable, ArePairsEncodable, AreTreesEncodable}
+use Rattle.bson_laws.specs.InRange.{IsInRange, ArePairsInRange, AreTreesInRange}
 use Rattle.bson_laws.specs.Means.{unwrapped_means, means, means_items, means_entries}
-use Rattle.bson_laws.specs.Spell.{spell_whole, spell_unwrapped, spell_uuid, spell_as, spell_items_as, spell_entries_as}
+use Rattle.bson_laws.specs.Spell.{spell_binary, spell_whole, spell_unwrapped, spell_uuid, spell_as, spell_items_as, spell_entries_as}
+use Rattle.bson_laws.proofs.Ranges.{clean_in_range, clean_encodable}
 use Rattle.bson_laws.proofs.Writable.{wide_small}
 use Rattle.bson_laws.proofs.Spelled.{binary_spelled, enclosed}
 
@@ -63,15 +66,15 @@ HasSizes (tree.timestamp time increment) = (time < 2 ^ 32) × (increment < 2 ^ 3
 HasSizes (tree.decimal128 b) = length b ≡ 16
 HasSizes t = Unit {0}
 
-clean_sizes : (t : Tree) → IsClean t → HasSizes t
-clean_sizes (tree.binary zero b) c = tt
-clean_sizes (tree.binary (suc n) b) c = (c.is_byte, c.are_bytes)
-clean_sizes (tree.object_id id) c = (c.count, c.are_bytes)
-clean_sizes (tree.date_time n) c = c
-clean_sizes (tree.db_pointer namespace id) c = (c.1.count, c.1.are_bytes)
-clean_sizes (tree.timestamp time increment) c = c
-clean_sizes (tree.decimal128 b) c = c.count
-clean_sizes t c = tt
+pub in_range_sizes : (t : Tree) → IsInRange t → HasSizes t
+in_range_sizes (tree.binary zero b) r = tt
+in_range_sizes (tree.binary (suc n) b) r = r
+in_range_sizes (tree.object_id id) r = (r.count, r.are_bytes)
+in_range_sizes (tree.date_time n) r = r
+in_range_sizes (tree.db_pointer namespace id) r = (r.1.count, r.1.are_bytes)
+in_range_sizes (tree.timestamp time increment) r = r
+in_range_sizes (tree.decimal128 b) r = r.count
+in_range_sizes t r = tt
 
 -- each text and number in the fields is read back
 pub accepted : (t : Tree) → HasSizes t → IsAccepted (datum itself t) t
@@ -99,67 +102,76 @@ zero_free_part part z = ap (λ b. cond b (Err (here (invalid_cstring part))) (Ok
 regular_expression_spelled : (pattern options : Utf8) → IsZeroFree pattern → IsZeroFree options → spell_whole (tree.regular_expression pattern options) ≡ Ok (tree.regular_expression pattern (sorted options))
 regular_expression_spelled pattern options p o = λ i. zero_free_part pattern p i >>= λ x. zero_free_part options o i >>= λ y. Ok (tree.regular_expression x (sorted y))
 
+in_range_binary : (subtype : ℕ) (b : Bytes) → IsInRange (tree.binary subtype b) → IsEncodable (tree.binary subtype b) → spell_binary subtype b ≡ Ok (tree.binary subtype b)
+in_range_binary subtype b r e = binary_spelled subtype b (record { is_byte = r.0; are_bytes = r.1; fits = e })
+
+in_range_expression : (pattern options : Utf8) → IsInRange (tree.regular_expression pattern options) → IsEncodable (tree.regular_expression pattern options) → spell_whole (tree.regular_expression pattern options) ≡ Ok (tree.regular_expression pattern (sorted options))
+in_range_expression pattern options r e = regular_expression_spelled pattern options (record { text = r.0; no_zero = e.0 }) (record { text = r.1; no_zero = e.1 })
+
 -- ---- what the value is spelled as
 
 mutual
-  pub datum_spelled : (readable : Bool) (t : Tree) (levels : ℕ) → IsClean t → depth t ≤ levels → spell_as readable (datum itself t) levels ≡ Ok (sorted_tree t)
-  datum_spelled r (tree.double bits) levels c d = refl
-  datum_spelled r (tree.string t) levels c d = refl
-  datum_spelled r (tree.document ps) levels c d =
-      enclosed tree.document (spell_entries_as r (pair_data itself ps)) (sorted_pairs ps) (pairs_depth ps) levels d (λ n le. pairs_spelled r ps n c le)
-  datum_spelled r (tree.array ts) levels c d =
-      enclosed tree.array (spell_items_as r 0 (tree_data itself ts)) (sorted_trees ts) (trees_depth ts) levels d (λ n le. trees_spelled r 0 ts n c le)
-  datum_spelled r (tree.binary zero b) levels c d = binary_spelled 0 b c
-  datum_spelled r (tree.binary (suc n) b) levels c d = ap spell_unwrapped (accepted (tree.binary (suc n) b) (clean_sizes (tree.binary (suc n) b) c)) ∙ binary_spelled (suc n) b c
-  datum_spelled r (tree.boolean b) levels c d = refl
-  datum_spelled r tree.null levels c d = refl
-  datum_spelled r (tree.regular_expression pattern options) levels c d = regular_expression_spelled pattern options c.0 c.1
-  datum_spelled r (tree.javascript_code_with_scope code scope) levels c d =
+  pub tree_spelled : (readable : Bool) (t : Tree) (levels : ℕ) → IsInRange t → IsEncodable t → depth t ≤ levels → spell_as readable (datum itself t) levels ≡ Ok (sorted_tree t)
+  tree_spelled f (tree.double bits) levels r e d = refl
+  tree_spelled f (tree.string t) levels r e d = refl
+  tree_spelled f (tree.document ps) levels r e d =
+      enclosed tree.document (spell_entries_as f (pair_data itself ps)) (sorted_pairs ps) (pairs_depth ps) levels d (λ n le. pairs_spelled f ps n r e le)
+  tree_spelled f (tree.array ts) levels r e d =
+      enclosed tree.array (spell_items_as f 0 (tree_data itself ts)) (sorted_trees ts) (trees_depth ts) levels d (λ n le. trees_spelled f 0 ts n r e le)
+  tree_spelled f (tree.binary zero b) levels r e d = in_range_binary 0 b r e
+  tree_spelled f (tree.binary (suc n) b) levels r e d = ap spell_unwrapped (accepted (tree.binary (suc n) b) r) ∙ in_range_binary (suc n) b r e
+  tree_spelled f (tree.boolean b) levels r e d = refl
+  tree_spelled f tree.null levels r e d = refl
+  tree_spelled f (tree.regular_expression pattern options) levels r e d = in_range_expression pattern options r e
+  tree_spelled f (tree.javascript_code_with_scope code scope) levels r e d =
       ap (λ x. result_map (with_scope code) (under (codes "$scope") x))
-      (enclosed tree.document (spell_entries_as r (pair_data itself scope)) (sorted_pairs scope) (pairs_depth scope) levels d (λ n le. pairs_spelled r scope n c.1 le))
-  datum_spelled r (tree.int32 n) levels c d = refl
-  datum_spelled r (tree.int64 n) levels c d = ap (λ b. cond b (Err (here (unsigned_exceeds n))) (Ok (tree.int64 n))) (wide_small n c)
-  datum_spelled r t levels c d = ap spell_unwrapped (accepted t (clean_sizes t c))
+      (enclosed tree.document (spell_entries_as f (pair_data itself scope)) (sorted_pairs scope) (pairs_depth scope) levels d (λ n le. pairs_spelled f scope n r.1 e le))
+  tree_spelled f (tree.int32 n) levels r e d = refl
+  tree_spelled f (tree.int64 n) levels r e d = ap (λ b. cond b (Err (here (unsigned_exceeds n))) (Ok (tree.int64 n))) (wide_small n r)
+  tree_spelled f t levels r e d = ap spell_unwrapped (accepted t (in_range_sizes t r))
 
-  pairs_spelled : (readable : Bool) (ps : Pairs) (levels : ℕ) → ArePairsClean ps → pairs_depth ps ≤ levels → spell_entries_as readable (pair_data itself ps) levels ≡ Ok (sorted_pairs ps)
-  pairs_spelled r no_pairs levels c d = refl
-  pairs_spelled r (pair key t ps) levels c d =
-      let first = datum_spelled r t levels c.2 (omega arith) in
-      let rest = pairs_spelled r ps levels c.3 (omega arith) in
-      λ i. cond (c.0.free.no_zero i) (Err (here (invalid_cstring key))) (Ok key) >>= λ k. under k (first i) >>= λ u. rest i >>= λ us. Ok (pair k u us)
+  pairs_spelled : (readable : Bool) (ps : Pairs) (levels : ℕ) → ArePairsInRange ps → ArePairsEncodable ps → pairs_depth ps ≤ levels → spell_entries_as readable (pair_data itself ps) levels ≡ Ok (sorted_pairs ps)
+  pairs_spelled f no_pairs levels r e d = refl
+  pairs_spelled f (pair key t ps) levels r e d =
+      let first = tree_spelled f t levels r.1 e.1 (omega arith) in
+      let rest = pairs_spelled f ps levels r.2 e.2 (omega arith) in
+      λ i. cond (e.0 i) (Err (here (invalid_cstring key))) (Ok key) >>= λ k. under k (first i) >>= λ u. rest i >>= λ us. Ok (pair k u us)
 
-  trees_spelled : (readable : Bool) (index : ℕ) (ts : Trees) (levels : ℕ) → AreTreesClean ts → trees_depth ts ≤ levels → spell_items_as readable index (tree_data itself ts) levels ≡ Ok (sorted_trees ts)
-  trees_spelled r i no_trees levels c d = refl
-  trees_spelled r i (tree.tree t ts) levels c d =
-      let first = datum_spelled r t levels c.0 (omega arith) in
-      let rest = trees_spelled r (suc i) ts levels c.1 (omega arith) in
+  trees_spelled : (readable : Bool) (index : ℕ) (ts : Trees) (levels : ℕ) → AreTreesInRange ts → AreTreesEncodable ts → trees_depth ts ≤ levels → spell_items_as readable index (tree_data itself ts) levels ≡ Ok (sorted_trees ts)
+  trees_spelled f i no_trees levels r e d = refl
+  trees_spelled f i (tree.tree t ts) levels r e d =
+      let first = tree_spelled f t levels r.0 e.0 (omega arith) in
+      let rest = trees_spelled f (suc i) ts levels r.1 e.1 (omega arith) in
       λ j. under_index i (first j) >>= λ u. rest j >>= λ us. Ok (tree.tree u us)
+
+pub datum_spelled : (readable : Bool) (t : Tree) (levels : ℕ) → IsClean t → depth t ≤ levels → spell_as readable (datum itself t) levels ≡ Ok (sorted_tree t)
+datum_spelled readable t levels c d = tree_spelled readable t levels (clean_in_range t c) (clean_encodable t c) d
 
 -- ---- what the value means
 
 mutual
-  pub datum_meant : (t : Tree) → IsClean t → means (datum itself t) ≡ Some (sorted_tree t)
-  datum_meant (tree.double bits) c = refl
-  datum_meant (tree.string t) c = refl
-  datum_meant (tree.document ps) c = ap (option_map tree.document) (pairs_meant ps c)
-  datum_meant (tree.array ts) c = ap (option_map tree.array) (trees_meant ts c)
-  datum_meant (tree.binary zero b) c = refl
-  datum_meant (tree.binary (suc n) b) c = ap unwrapped_means (accepted (tree.binary (suc n) b) (clean_sizes (tree.binary (suc n) b) c)) ∙ ap result_ok (binary_spelled (suc n) b c)
-  datum_meant (tree.boolean b) c = refl
-  datum_meant tree.null c = refl
-  datum_meant (tree.regular_expression pattern options) c = ap result_ok (regular_expression_spelled pattern options c.0 c.1)
-  datum_meant (tree.javascript_code_with_scope code scope) c = ap (λ o. option_map (with_scope code) (option_map tree.document o)) (pairs_meant scope c.1)
-  datum_meant (tree.int32 n) c = refl
-  datum_meant (tree.int64 n) c = ap (λ b. cond b None (Some (tree.int64 n))) (wide_small n c)
-  datum_meant t c = ap unwrapped_means (accepted t (clean_sizes t c))
+  pub datum_meant : (t : Tree) → IsInRange t → IsEncodable t → means (datum itself t) ≡ Some (sorted_tree t)
+  datum_meant (tree.double bits) r e = refl
+  datum_meant (tree.string t) r e = refl
+  datum_meant (tree.document ps) r e = ap (option_map tree.document) (pairs_meant ps r e)
+  datum_meant (tree.array ts) r e = ap (option_map tree.array) (trees_meant ts r e)
+  datum_meant (tree.binary zero b) r e = refl
+  datum_meant (tree.binary (suc n) b) r e = ap unwrapped_means (accepted (tree.binary (suc n) b) r) ∙ ap result_ok (in_range_binary (suc n) b r e)
+  datum_meant (tree.boolean b) r e = refl
+  datum_meant tree.null r e = refl
+  datum_meant (tree.regular_expression pattern options) r e = ap result_ok (in_range_expression pattern options r e)
+  datum_meant (tree.javascript_code_with_scope code scope) r e = ap (λ o. option_map (with_scope code) (option_map tree.document o)) (pairs_meant scope r.1 e)
+  datum_meant (tree.int32 n) r e = refl
+  datum_meant (tree.int64 n) r e = ap (λ b. cond b None (Some (tree.int64 n))) (wide_small n r)
+  datum_meant t r e = ap unwrapped_means (accepted t (in_range_sizes t r))
 
-  pairs_meant : (ps : Pairs) → ArePairsClean ps → means_entries (pair_data itself ps) ≡ Some (sorted_pairs ps)
-  pairs_meant no_pairs c = refl
-  pairs_meant (pair key t ps) c = λ i. option_and_then (λ u. option_map (pair key u) (pairs_meant ps c.3 i)) (datum_meant t c.2 i)
+  pairs_meant : (ps : Pairs) → ArePairsInRange ps → ArePairsEncodable ps → means_entries (pair_data itself ps) ≡ Some (sorted_pairs ps)
+  pairs_meant no_pairs r e = refl
+  pairs_meant (pair key t ps) r e = λ i. option_and_then (λ u. option_map (pair key u) (pairs_meant ps r.2 e.2 i)) (datum_meant t r.1 e.1 i)
 
-  trees_meant : (ts : Trees) → AreTreesClean ts → means_items (tree_data itself ts) ≡ Some (sorted_trees ts)
-  trees_meant no_trees c = refl
-  trees_meant (tree.tree t ts) c = λ i. option_and_then (λ u. option_map (tree.tree u) (trees_meant ts c.1 i)) (datum_meant t c.0 i)
+  trees_meant : (ts : Trees) → AreTreesInRange ts → AreTreesEncodable ts → means_items (tree_data itself ts) ≡ Some (sorted_trees ts)
+  trees_meant no_trees r e = refl
+  trees_meant (tree.tree t ts) r e = λ i. option_and_then (λ u. option_map (tree.tree u) (trees_meant ts r.1 e.1 i)) (datum_meant t r.0 e.0 i)
 
 -- ---- UUIDs
 

@@ -26,7 +26,7 @@ use Rattle.bson_base.proofs.Outcomes.{some_is}
 
 -- ---- hexadecimal digits
 
-ok_there : {A E : Type 0} (r : Result A E) (x : A) → result_ok r ≡ Some x → r ≡ Ok x
+pub ok_there : {A E : Type 0} (r : Result A E) (x : A) → result_ok r ≡ Some x → r ≡ Ok x
 ok_there (Ok y) x e = ap Ok (some_is y x e)
 ok_there (Err f) x e = absurd cc
 

@@ -37,7 +37,8 @@ use Rattle.bson_laws.specs.Fits.{IsTreeValue, IsValueOfKind, IsUuidValue, FitsEx
 use Rattle.bson_laws.proofs.Sizes.{unwrap_kind, whole_kind}
 use Rattle.bson_laws.proofs.Spelled.{newtype_meant}
 use Rattle.bson_laws.proofs.DatumContents.{sorted_kind}
-use Rattle.bson_laws.proofs.DatumNormal.{same_kind, clean_in_range, sorted_in_range, tree_sorted_twice, datum_norm, datum_means}
+use Rattle.bson_laws.proofs.Ranges.{clean_in_range}
+use Rattle.bson_laws.proofs.DatumNormal.{same_kind, sorted_in_range, tree_sorted_twice, datum_norm, datum_means}
 use Rattle.bson_laws.specs.Plain.{IsPlain, AreFieldsPlain, ArePartsPlain, AreVariantsPlain, IsContentPlain}
 use Rattle.bson_laws.proofs.Free.{free_norm, free_struct_name}
 use Rattle.bson_laws.proofs.Fitting.{leaf_fits}

@@ -4,6 +4,7 @@ pub mod Datum
 pub mod Views
 pub mod Means
 pub mod InRange
+pub mod Encodable
 pub mod Fits
 pub mod Plain
 pub mod Writable
@@ -15,6 +16,8 @@ pub mod Slots
 pub mod Shaped
 pub mod Wrapped
 pub mod Trees
+pub mod Unmarked
+pub mod Represented
 pub mod ReadsExtended
 pub mod Reads
 pub mod Spell

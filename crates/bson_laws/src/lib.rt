@@ -2,9 +2,13 @@
 #![tactic(auto)]
 
 ghost use Rattle.std.specs.Prelude.{◌≡◌, ℕ, ◌≤◌, Bool, length, Some, Ok};
+ghost use Rattle.bson_base.specs.Opened as for_trees;
+ghost use Rattle.bson_base.specs.Opened.{IsExtended};
 ghost use Rattle.bson_base.specs.Sound.{IsClean, IsSound, HasBytes, max_bytes};
-ghost use Rattle.bson_base.specs.Text.{Bytes, AreBytes};
-ghost use Rattle.bson_base.specs.Tree.{Tree, binary, enc, kind, depth};
+ghost use Rattle.bson_base.specs.Text.{Bytes, Utf8, AreBytes};
+ghost use Rattle.bson_base.specs.Tree as tree;
+ghost use Rattle.bson_base.specs.Tree.{Tree, Pairs, binary, javascript_code_with_scope, enc, kind, depth};
+ghost use Rattle.bson_rawdoc.specs.Node.{Extended, document, opened, opens, tree_node};
 ghost use Rattle.bson_shape.specs.Form.{Form};
 ghost use Rattle.bson_shape.specs.Makers.{IsShape};
 ghost use Rattle.bson_datum.specs.Value.{Value, kind_as};
@@ -13,6 +17,12 @@ ghost use Rattle.bson_laws.specs.Means.{means, norm};
 ghost use Rattle.bson_laws.specs.Fits.{Fits};
 ghost use Rattle.bson_laws.specs.Plain.{IsPlain};
 ghost use Rattle.bson_laws.specs.Writable.{IsWritable};
+ghost use Rattle.bson_laws.specs.InRange.{IsInRange, ArePairsInRange};
+ghost use Rattle.bson_laws.specs.Encodable.{IsEncodable};
+ghost use Rattle.bson_laws.specs.Judged.{plain};
+ghost use Rattle.bson_laws.specs.Trees.{read_tree};
+ghost use Rattle.bson_laws.specs.Unmarked.{unmarked, AreOpenedAlike};
+ghost use Rattle.bson_laws.specs.Represented.{RepresentsItself};
 ghost use Rattle.bson_laws.specs.Reads.{reads_document};
 ghost use Rattle.bson_laws.specs.Datum.{datum, uuid_datum, itself, sorted_tree};
 ghost use Rattle.bson_laws.specs.Spell.{IsWrittenUnlessLarge, HoldsNumbers, spell_as, spell_document, size_as};
@@ -48,17 +58,47 @@ pub fn law_spell_means()
         → kind t ≡ kind_as readable d }
 {}
 
-/// A clean tree, as a value in which each extended value is the struct of a reserved name, is spelled as itself with the options of its regular
-/// expressions in order, in the readable form and in the compact one; and that is what the value means. A UUID as a value is spelled as its binary of
-/// subtype 4: from its text in the readable form, from its bytes in the compact one.
+/// A tree in range, as a value in which each extended value is the struct of a reserved name, is spelled as itself with the options of its regular
+/// expressions in order, in the readable form and in the compact one; and that is what the value means.
 ///
-/// It does nothing.
+/// It is spelled exactly where the format has bytes for it (`IsEncodable`) and it has no more levels than are left: its keys may begin with `$`, and may be
+/// repeated. Code with a scope is spelled wherever the map of its scope is, with as many levels. A UUID as a value is spelled as its binary of subtype 4: from
+/// its text in the readable form, from its bytes in the compact one. The call does nothing.
 pub fn law_datum_spells()
-    ensures spells { (readable : Bool) (t : Tree) (levels : ℕ) → IsClean t → depth t ≤ levels
+    ensures spells { (readable : Bool) (t : Tree) (levels : ℕ) → IsInRange t → IsEncodable t → depth t ≤ levels
         → spell_as readable (datum itself t) levels ≡ Ok (sorted_tree t) }
-    ensures means { (t : Tree) → IsClean t → means (datum itself t) ≡ Some (sorted_tree t) }
+    ensures sorted { (readable : Bool) (t u : Tree) (levels : ℕ) → IsInRange t → spell_as readable (datum itself t) levels ≡ Ok u → u ≡ sorted_tree t }
+    ensures fits { (readable : Bool) (t u : Tree) (levels : ℕ) → IsInRange t → spell_as readable (datum itself t) levels ≡ Ok u
+        → IsEncodable t × (depth t ≤ levels) }
+    ensures scope { (readable : Bool) (code : Utf8) (scope : Pairs) (t : Tree) (levels : ℕ) → ArePairsInRange scope
+        → spell_as readable (datum itself (tree.document scope)) levels ≡ Ok t
+        → spell_as readable (datum itself (javascript_code_with_scope code scope)) levels ≡ Ok (sorted_tree (javascript_code_with_scope code scope)) }
+    ensures means { (t : Tree) → IsInRange t → IsEncodable t → means (datum itself t) ≡ Some (sorted_tree t) }
     ensures uuid { (readable : Bool) (b : Bytes) (levels : ℕ) → HasBytes 16 b
         → spell_as readable (uuid_datum itself b) levels ≡ Ok (binary 4 b) }
+{}
+
+/// The document that a reader opens an extended value to is, without the marks of what is in the input, the document that `Bson::into_extended_document` gives
+/// for the value. What a reader meets of a tree is, without its marks, that tree.
+///
+/// It does nothing.
+pub fn law_opened_agrees()
+    ensures opened { AreOpenedAlike }
+    ensures trees { (in_input : Bool) (t : Tree) (levels : ℕ) → depth t ≤ levels → unmarked (tree_node in_input t levels) ≡ Some t }
+{}
+
+/// The document that an extended value is opened to represents the value: as a tree it is read as the value itself is, and refused exactly where the value is.
+/// Of a clean value that is the value with the options of its regular expressions in order, and so is what is read of the document that
+/// `Bson::into_extended_document` gives for it.
+///
+/// The numbers and the bytes of the value are in the ranges of its kind (`HasRanges`); texts are replaced where they are ill-formed, or not, as the mode of
+/// reading says. The call does nothing.
+pub fn law_opened_represents()
+    ensures represents { RepresentsItself }
+    ensures clean { (in_input : Bool) (t : Tree) (levels : ℕ) (x : Extended) → IsClean t → depth t ≤ levels → tree_node in_input t levels ≡ opens x
+        → read_tree plain (document (opened x)) ≡ Ok (sorted_tree t) }
+    ensures document { (in_input : Bool) (t : Tree) (levels : ℕ) → IsClean t → IsExtended t → depth (tree.document (for_trees.opened t)) ≤ levels
+        → read_tree plain (tree_node in_input (tree.document (for_trees.opened t)) levels) ≡ Ok (sorted_tree t) }
 {}
 
 /// The document that a value of a plain shape means is read back, at the shape, as the normal form of the value.
