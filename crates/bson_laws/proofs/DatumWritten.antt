@@ -29,11 +29,12 @@ binary_short subtype b u e = short_by (ltb (max_binary subtype) (length b)) _ (m
 
 -- ---- reserved structs
 
--- what is accepted is spelled as it is
-taken : (t u : Tree) (o : Option Tree) → o ≡ Some t → spell_unwrapped o ≡ Ok u → spell_whole t ≡ Ok u
+-- what a reserved struct is accepted as is spelled
+pub taken : (t u : Tree) (o : Option Tree) → o ≡ Some t → spell_unwrapped o ≡ Ok u → spell_whole t ≡ Ok u
 taken t u o is e = ap spell_unwrapped (sym is) ∙ e
 
-taken_whole : (t u : Tree) (o : Option Tree) → o ≡ Some t → spell_whole t ≡ Ok t → spell_unwrapped o ≡ Ok u → u ≡ t
+-- as itself
+pub taken_whole : (t u : Tree) (o : Option Tree) → o ≡ Some t → spell_whole t ≡ Ok t → spell_unwrapped o ≡ Ok u → u ≡ t
 taken_whole t u o is whole e = sym (ok_is t u (sym whole ∙ taken t u o is e))
 
 -- ---- trees

@@ -1,5 +1,5 @@
 -- The value of a tree that reading gives is spelled as that tree, and the tree is read again as itself.
-use Rattle.std.proofs.Common.{◌≡◌, ℕ, zero, suc, ◌≤◌, length, true, cond, Option, Some, Ok, Err, refl, ap, sym, subst, ◌∙◌, arith}
+use Rattle.std.proofs.Common.{◌≡◌, ℕ, zero, suc, ◌≤◌, length, true, cond, Ok, Err, refl, ap, sym, subst, ◌∙◌, arith}
 use Rattle.std.specs.Prelude.{nat_eq, codes}
 use Rattle.bson_base.specs.Kind.{byte}
 use Rattle.bson_base.specs.Outcome.{◌>>=◌, result_map}
@@ -15,7 +15,7 @@ use Rattle.bson_datum.specs.Marked.{Marked, contents}
 use Rattle.bson_datum.specs.Refusal.{at_index, under, under_index}
 use Rattle.bson_datum.specs.Value as value
 use Rattle.bson_datum.specs.Value.{Value}
-use Rattle.bson_reserved.specs.Written.{Writing, with_scope, spell_whole, spell_unwrapped}
+use Rattle.bson_reserved.specs.Written.{Writing, with_scope}
 use Rattle.bson_laws.specs.Datum.{datum, itself, pair_data, tree_data, uuid_datum}
 use Rattle.bson_laws.specs.Leaves as leaf_kinds
 use Rattle.bson_laws.specs.Leaves.{ExtendedLeaf, object_ids, uuids, of_kind, documents}
@@ -26,6 +26,7 @@ use Rattle.bson_laws.specs.Spell.{enclosed_at, spell_key, spell, spell_items, sp
 use Rattle.bson_laws.proofs.Coded.{IsCoded, ArePairsCoded, AreTreesCoded}
 use Rattle.bson_laws.proofs.DatumContents.{datum_contents}
 use Rattle.bson_laws.proofs.DatumSpelled.{accepted}
+use Rattle.bson_laws.proofs.DatumWritten.{taken, taken_whole}
 use Rattle.bson_laws.proofs.GivenTrees.{IsGivenTree, ArePairsGiven, AreTreesGiven, IsGivenExtended, given_readable, given_sorted}
 use Rattle.bson_laws.proofs.Sizes.{inside_ok, under_ok, spell_key_ok, wide_is, binary_is, expression_spelled}
 use Rattle.bson_laws.proofs.TreesRead.{judged_readable, tree_again}
@@ -39,14 +40,6 @@ SpelledAs levels t u = (u ≡ t) × (depth t ≤ levels) × IsCoded t
 within : {A : Type 0} (P : ℕ → Tree → Type 0) (container : A → Tree) (levels : ℕ) (parts : ℕ → Writing A) (t : Tree) → enclosed_at container levels parts ≡ Ok t → ((n : ℕ) (x : A) → parts n ≡ Ok x → P (suc n) (container x)) → P levels t
 within P container zero parts t e f = absurd cc
 within P container (suc n) parts t e f = let m = map_ok container (parts n) t e in subst (P (suc n)) m.2 (f n m.0 m.1)
-
--- what a reserved struct is accepted as is spelled
-taken : (t u : Tree) (o : Option Tree) → o ≡ Some t → spell_unwrapped o ≡ Ok u → spell_whole t ≡ Ok u
-taken t u o is e = ap spell_unwrapped (sym is) ∙ e
-
--- as itself
-taken_whole : (t u : Tree) (o : Option Tree) → o ≡ Some t → spell_whole t ≡ Ok t → spell_unwrapped o ≡ Ok u → u ≡ t
-taken_whole t u o is whole e = sym (ok_is t u (sym whole ∙ taken t u o is e))
 
 mutual
   pub datum_spelled : (t : Tree) (levels : ℕ) (u : Tree) → IsGivenTree t → spell (datum itself t) levels ≡ Ok u → SpelledAs levels t u
