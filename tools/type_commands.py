@@ -8,13 +8,15 @@
 Run at the top of the repository. It types each block of kind `console`, and in a man page each literal block: a line that begins with `$ ` is a command, `> `
 goes on with it, and what follows is its output, standard error included. Blocks of kind `sh` are not typed: they prove for an hour or ask for files that are
 not here. The commands run in a copy of the repository in a temporary folder, those of a page in one shell, each block from the top. The programs are those of
---programs, of crates/*/out or of the PATH, proved or not; a block that names one that is not there is left out, and so is one with `rt` where there is none.
+--programs, of crates/*/out or of the PATH, proved or not. From the first command whose program is not there the rest of the page is left out, but for blocks
+with `rt`, which build what they run.
 
 It ends with status 1 where a command prints something else.
 """
 import argparse
 import difflib
 import glob
+import itertools
 import os
 import re
 import shutil
@@ -57,21 +59,28 @@ def commands(first, lines):
     return typed
 
 
-def missing(typed, path):
-    """The programs that a block names and that are not there."""
-    text = "\n".join(line for _, lines, _ in typed for line in lines)
-    return [name for name in NEEDED if re.search(rf"(?<![\w/]){name}(?= )", text) and shutil.which(name, path=path) is None]
+def names(command, program):
+    return any(re.search(rf"(?<![\w/]){program}(?= )", line) for line in command[1])
+
+
+def there(page, path):
+    """The blocks of a page as far as the programs that they name are there."""
+    left_out = False
+    for first, lines in blocks(page):
+        block = commands(first, lines)
+        if left_out and not any(names(command, "rt") for command in block):
+            continue
+        kept = list(itertools.takewhile(lambda command: all(shutil.which(name, path=path) for name in NEEDED if names(command, name)), block))
+        if len(kept) < len(block):
+            left_out = True
+            print(f"{page}:{block[len(kept)][0]}: left out from here, since a program is not there")
+        yield kept
 
 
 def answers(page, path, folder):
     """Types all commands of a page. Each with what it prints."""
     typed, script = [], ["exec 2>&1"]
-    for first, lines in blocks(page):
-        block = commands(first, lines)
-        absent = missing(block, path)
-        if absent:
-            print(f"{page}:{first}: left out, without {' and '.join(absent)}")
-            continue
+    for block in there(page, path):
         script.append(f'cd "{folder}"')
         for command in block:
             typed.append(command)
@@ -102,6 +111,7 @@ def main():
     parser.add_argument("pages", nargs="*", default=["README.md", *sorted(glob.glob("docs/*.md") + glob.glob("docs/*.1"))])
     parser.add_argument("--programs", help="the folder of bson_recast and bson_migrate")
     options = parser.parse_args()
+    sys.stdout.reconfigure(line_buffering=True)
     own = [options.programs] if options.programs else ["crates/bson_recast/out", "crates/bson_migrate/out"]
     path = os.pathsep.join([*map(os.path.abspath, own), os.environ.get("PATH", "")])
     wrong = 0
