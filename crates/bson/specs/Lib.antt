@@ -68,12 +68,17 @@ pub use Rattle.bson_reserved.specs.AcceptedView
 pub use Rattle.bson_reserved.specs.Unwrap
 pub use Rattle.bson_reserved.specs.UuidBytes
 pub use Rattle.bson_laws.specs.Datum
+pub use Rattle.bson_laws.specs.Encodable
 pub use Rattle.bson_laws.specs.Fits
+pub use Rattle.bson_laws.specs.InRange
 pub use Rattle.bson_laws.specs.Judged
 pub use Rattle.bson_laws.specs.Means
 pub use Rattle.bson_laws.specs.Plain
 pub use Rattle.bson_laws.specs.Reads
+pub use Rattle.bson_laws.specs.Represented
 pub use Rattle.bson_laws.specs.Spell
+pub use Rattle.bson_laws.specs.Trees
+pub use Rattle.bson_laws.specs.Unmarked
 pub use Rattle.bson_laws.specs.Views
 pub use Rattle.bson_laws.specs.Writable
 pub use Rattle.bson_met.specs.Gives as MetGives

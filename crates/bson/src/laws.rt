@@ -1,8 +1,8 @@
 //! Laws: functions that do nothing, and whose contracts say what holds of every shape, value and document.
 
 pub use bson_laws::{
-    law_datum_spells, law_fixed_point, law_read_back, law_reads_numbers, law_reads_spell,
-    law_spell_means, law_views_means, law_views_reads,
+    law_datum_spells, law_fixed_point, law_opened_agrees, law_opened_represents, law_read_back,
+    law_reads_numbers, law_reads_spell, law_spell_means, law_views_means, law_views_reads,
 };
 pub use bson_recast_run::law_run_again;
 pub use bson_shape::law_text;
