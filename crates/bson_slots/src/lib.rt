@@ -1,12 +1,12 @@
 //! The fields of a struct while they are read: the place of a name among them, the element that is due for the next of them, and the values that were read so far.
 #![tactic(auto)]
 
-mod due;
 mod index;
 mod named;
+mod next_item;
 mod slots;
 
-pub use due::due;
 pub use index::{NameIndex, scan};
 pub use named::{named_field, named_struct, named_struct_variant};
+pub use next_item::due;
 pub use slots::Slots;
