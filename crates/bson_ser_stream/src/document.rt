@@ -59,7 +59,7 @@ fn put_whole<L: Ledger>(
 /// # Errors
 ///
 /// The first refusal in document order, as `WithPath`, or `NoMemory`. A key comes before its value. After any error `out` holds
-/// the bytes that it had.
+/// the bytes that it had, and no less spare room.
 ///
 /// - `SerializationError` with `TopLevel`: the datum is written as a value of this kind, which is no document.
 /// - `SerializationError` with `TooDeep`: a document or an array is at level 201. The whole document is at level 1. What a
@@ -90,6 +90,8 @@ pub fn to_buf<L: Ledger>(value: &Datum<'_>, out: &mut Out, steps: &mut Steps<L>)
     ensures too_long { IfErr result
         (λ e. write_failure e ≡ too_long_failure → max_bytes < size (view value.now)) }
     ensures kept { OnErr result (out.new.bytes ≡ out.old.bytes) }
+    // The room that was reserved stays.
+    ensures room { OnErr result (out.old.spare ≤ out.new.spare) }
 
     // Where the room is spare, what means a sound document is written, whatever memory there is.
     ensures memory { (t : Tree) → means (view value.now) ≡ Some t → IsSound t
