@@ -32,11 +32,10 @@ pub(crate) fn put_unwrapped<L: Ledger>(
     ensures { let due = spell_unwrapped (unwrap kind (fields_view fields.now)) in
         Puts kind (written_size due) due out.old out.new steps.old steps.new result }
 {
-    let Some(accepted) = unwrap(kind, fields) else {
-        return Err(Halt::caused(out.allocator(), Cause::BadStep));
-    };
-    put_accepted(out, steps, accepted)?;
-    Ok(kind)
+    match unwrap(kind, fields) {
+        Some(accepted) => put_accepted(out, steps, accepted),
+        None => Err(Halt::caused(out.allocator(), Cause::BadStep)),
+    }
 }
 
 // What the fields were accepted as.
