@@ -6,7 +6,9 @@ use Rattle.std.specs.Result.{result_ok}
 use Rattle.std.proofs.lemmas.Bool.Decides.{nat_tests}
 use Rattle.uuid.specs.Text.{lower}
 use Rattle.uuid.proofs.RoundTrips.{parses_hyphenated}
+use Rattle.bson_base.specs.Made.{base64_text}
 use Rattle.bson_base.specs.Outcome.{◌>>=◌, result_map}
+use Rattle.bson_base.specs.Parsed.{bytes_of_base64}
 use Rattle.bson_base.specs.Reserved.{reserved_kind}
 use Rattle.bson_base.specs.Sorted.{sorted}
 use Rattle.bson_base.specs.Sound.{IsClean, HasBytes, IsZeroFree}
@@ -80,7 +82,9 @@ in_range_sizes t r = tt
 pub accepted : (t : Tree) → HasSizes t → IsAccepted (datum itself t) t
 accepted (tree.binary zero b) c = tt
 accepted (tree.binary (suc n) b) c =
-    λ i. option_map (λ (p : ℕ × Bytes). tree.binary p.0 p.1) (or_else (option_and_then (λ s. option_and_then (λ x. Some (s, x)) (base64_read b c.1 i)) (subtype_read (suc n) c.0 i)) None)
+    let binary_of : Option (ℕ × Bytes) → Option Tree = λ found. option_map (λ (p : ℕ × Bytes). tree.binary p.0 p.1) (or_else found None) in
+    ap (λ o. binary_of (option_and_then (λ (given : ℕ × Utf8). option_and_then (λ x. Some (given.0, x)) (bytes_of_base64 given.1)) (option_and_then (λ s. Some (s, base64_text b)) o))) (subtype_read (suc n) c.0)
+    ∙ ap (λ o. binary_of (option_and_then (λ x. Some (suc n, x)) o)) (base64_read b c.1)
 accepted (tree.object_id id) c = ap (λ o. option_map tree.object_id (option_and_then Some o)) (digits_read 12 id c.0 c.1)
 accepted (tree.date_time n) c = ap (λ o. option_map tree.date_time (option_and_then Some o)) (integer_read n c)
 accepted (tree.regular_expression pattern options) c = refl

@@ -1,6 +1,6 @@
 -- What contracts see of what is accepted.
-use Rattle.std.specs.Prelude.{Option, Some, option_map}
-use Rattle.bson_base.specs.Text.{Bytes}
+use Rattle.std.specs.Prelude.{ℕ, Bool, true, false, Option, Some, None, option_map}
+use Rattle.bson_base.specs.Text.{Bytes, Utf8}
 use Rattle.bson_base.specs.Instant.{millis}
 use Rattle.bson_base.specs.Parsed.{bytes_of_base64}
 use Rattle.bson_base.specs.Tree as tree
@@ -29,6 +29,11 @@ accepted_view MinKey = Some tree.min_key
 accepted_view MaxKey = Some tree.max_key
 accepted_view Undefined = Some tree.undefined
 
+-- the subtype and the text of a binary whose bytes are given as base64
+abbrev pub base64_view : Accepted → Option (ℕ × Utf8)
+base64_view (Base64 subtype text) = Some (subtype.0, text.now)
+base64_view accepted = None
+
 -- the value is a map, as a scope is
 abbrev pub IsMap : Value → Type 0
 IsMap (map es) = Unit {0}
@@ -38,6 +43,11 @@ IsMap v = ⊥
 abbrev pub uuid_view : UuidBytes → Bytes
 uuid_view (uuid.Uuid id) = id.0
 uuid_view (uuid.Bytes bs) = bs.now
+
+-- the bytes are those of a text
+abbrev pub is_of_text : UuidBytes → Bool
+is_of_text (uuid.Uuid id) = true
+is_of_text (uuid.Bytes bs) = false
 
 -- the kind of what is accepted
 abbrev pub accepted_kind : Accepted → ElementType

@@ -82,15 +82,21 @@ date_time_list list = do
   milliseconds ← integer_of_text text.0
   end_as milliseconds text.1
 
--- a subtype and bytes, given as base64 and digits
-abbrev pub base64_list : {S : Type 0} → List (Part S) → Option (ℕ × Bytes)
-base64_list list = do
+-- a subtype and a text, which is to be base64 of bytes
+abbrev pub base64_text : {S : Type 0} → List (Part S) → Option (ℕ × Utf8)
+base64_text list = do
   text ← next_text list
   value ← next_key (codes "subType") text.1
   digits ← next_text value
   subtype ← subtype_of_text digits.0
-  b ← bytes_of_base64 text.0
-  end_as (subtype, b) digits.1
+  end_as (subtype, text.0) digits.1
+
+-- a subtype and bytes, given as base64 and digits
+abbrev pub base64_list : {S : Type 0} → List (Part S) → Option (ℕ × Bytes)
+base64_list list = do
+  given ← base64_text list
+  b ← bytes_of_base64 given.1
+  Some (given.0, b)
 
 -- a subtype and bytes, given as they are
 abbrev pub bytes_list : {S : Type 0} → List (Part S) → Option (ℕ × Bytes)
@@ -110,6 +116,14 @@ binary_list list = do
   body ← next_key (codes "$binary") list
   value ← next_key_of (codes "base64") (codes "bytes") body
   or_else (base64_list value) (bytes_list value)
+
+-- the subtype and the text of a binary whose bytes are given as base64, whether its text is base64 or not; none for another kind
+abbrev pub base64_given : {S : Type 0} → ElementType → List (Part S) → Option (ℕ × Utf8)
+base64_given Binary list = do
+  body ← next_key (codes "$binary") list
+  value ← next_key_of (codes "base64") (codes "bytes") body
+  base64_text value
+base64_given kind list = None
 
 -- a time and an increment
 abbrev pub timestamp_list : {S : Type 0} → List (Part S) → Option (ℕ × ℕ)

@@ -1,10 +1,10 @@
 // The list of keys and values that each kind takes, and what it says.
-ghost use Rattle.std.specs.Prelude.{◌≡◌, None, IsSome, option_map, option_and_then};
+ghost use Rattle.std.specs.Prelude.{◌≡◌, IsSome, IfSome, option_map, option_and_then};
 ghost use Rattle.bson_base.specs.Instant.{millis};
 ghost use Rattle.bson_base.specs.Tree as tree;
 ghost use Rattle.bson_reserved.specs.Unwrap as unwrap;
 ghost use Rattle.bson_reserved.specs.ListView.{parts_view};
-ghost use Rattle.bson_reserved.specs.AcceptedView.{accepted_view};
+ghost use Rattle.bson_reserved.specs.AcceptedView.{accepted_view, accepted_kind, base64_view};
 
 use crate::accepted::Accepted;
 use crate::list::Part;
@@ -12,7 +12,8 @@ use crate::parts::{
     end_as, next_byte, next_bytes, next_key, next_key_of, next_text, next_unsigned,
 };
 use bson_base::{
-    BinarySubtype, DateTime, Decimal128, ObjectId, Timestamp, integer_of_text, subtype_of_text,
+    BinarySubtype, DateTime, Decimal128, ElementType, ObjectId, Timestamp, integer_of_text,
+    subtype_of_text,
 };
 
 // 24 hexadecimal digits.
@@ -59,54 +60,58 @@ pub(crate) fn text_list<'a>(name: &str, list: &[Part<'a, '_>]) -> Option<&'a str
 
 // A subtype and bytes: as base64 and digits, or as they are.
 pub(crate) fn binary_list<'a>(list: &[Part<'a, '_>]) -> Option<Accepted<'a>>
-    ensures { option_and_then accepted_view result ≡ option_map (λ p. tree.binary p.0 p.1) (unwrap.binary_list (parts_view list.now)) }
+    ensures accepted { option_and_then accepted_view result ≡ option_map (λ p. tree.binary p.0 p.1) (unwrap.binary_list (parts_view list.now)) }
+    ensures base64 { option_and_then base64_view result ≡ unwrap.base64_given ElementType.Binary (parts_view list.now) }
+    ensures kind { IfSome result (λ accepted. accepted_kind accepted ≡ ElementType.Binary) }
 {
     let body = next_key("$binary", list)?;
     let value = next_key_of("base64", "bytes", body)?;
-    match base64_list(value) {
-        Some(accepted) => Some(accepted),
-        None => bytes_list(value),
+    match base64_text(value) {
+        Some((subtype, text)) => Some(Accepted::Base64 { subtype, text }),
+        None => {
+            let (subtype, bytes) = bytes_list(value)?;
+            Some(Accepted::Binary { subtype, bytes })
+        }
     }
 }
 
-// A subtype and bytes, given as base64 and digits.
-fn base64_list<'a>(list: &[Part<'a, '_>]) -> Option<Accepted<'a>>
-    ensures value { option_and_then accepted_view result ≡ option_map (λ p. tree.binary p.0 p.1) (unwrap.base64_list (parts_view list.now)) }
+// A subtype and a text, which is to be base64 of bytes.
+fn base64_text<'a>(list: &[Part<'a, '_>]) -> Option<(BinarySubtype, &'a str)>
+    ensures value { option_map (λ p. (p.0.0, p.1.now)) result ≡ unwrap.base64_text (parts_view list.now) }
     ensures text { IsSome result → unwrap.bytes_list (parts_view list.now) ≡ None }
 {
     let (text, more) = next_text(list)?;
     let value = next_key("subType", more)?;
     let (digits, rest) = next_text(value)?;
     let subtype = BinarySubtype(subtype_of_text(digits)?);
-    end_as(Accepted::Base64 { subtype, text }, rest)
+    end_as((subtype, text), rest)
 }
 
 // A subtype and bytes, given as they are.
-fn bytes_list<'a>(list: &[Part<'a, '_>]) -> Option<Accepted<'a>>
-    ensures { option_and_then accepted_view result ≡ option_map (λ p. tree.binary p.0 p.1) (unwrap.bytes_list (parts_view list.now)) }
+fn bytes_list<'a>(list: &[Part<'a, '_>]) -> Option<(BinarySubtype, &'a [u8])>
+    ensures { option_map (λ p. (p.0.0, p.1.now)) result ≡ unwrap.bytes_list (parts_view list.now) }
 {
     let (bytes, more) = next_bytes(list)?;
     let value = next_key("subType", more)?;
     let (subtype, rest) = next_byte(value)?;
-    let subtype = BinarySubtype(subtype);
-    end_as(Accepted::Binary { subtype, bytes }, rest)
+    end_as((BinarySubtype(subtype), bytes), rest)
 }
 
 // A pattern and options.
-pub(crate) fn regular_expression_list<'a>(list: &[Part<'a, '_>]) -> Option<Accepted<'a>>
-    ensures { option_and_then accepted_view result ≡ option_map (λ p. tree.regular_expression p.0 p.1) (unwrap.regular_expression_list (parts_view list.now)) }
+pub(crate) fn regular_expression_list<'a>(list: &[Part<'a, '_>]) -> Option<(&'a str, &'a str)>
+    ensures { option_map (λ p. (p.0.now, p.1.now)) result ≡ unwrap.regular_expression_list (parts_view list.now) }
 {
     let body = next_key("$regularExpression", list)?;
     let first = next_key("pattern", body)?;
     let (pattern, more) = next_text(first)?;
     let second = next_key("options", more)?;
     let (options, rest) = next_text(second)?;
-    end_as(Accepted::RegularExpression { pattern, options }, rest)
+    end_as((pattern, options), rest)
 }
 
 // A namespace and an id.
-pub(crate) fn db_pointer_list<'a>(list: &[Part<'a, '_>]) -> Option<Accepted<'a>>
-    ensures { option_and_then accepted_view result ≡ option_map (λ p. tree.db_pointer p.0 p.1) (unwrap.db_pointer_list (parts_view list.now)) }
+pub(crate) fn db_pointer_list<'a>(list: &[Part<'a, '_>]) -> Option<(&'a str, ObjectId)>
+    ensures { option_map (λ p. (p.0.now, p.1.0)) result ≡ unwrap.db_pointer_list (parts_view list.now) }
 {
     let body = next_key("$dbPointer", list)?;
     let first = next_key("$ref", body)?;
@@ -115,7 +120,7 @@ pub(crate) fn db_pointer_list<'a>(list: &[Part<'a, '_>]) -> Option<Accepted<'a>>
     let value = next_key("$oid", second)?;
     let (digits, rest) = next_text(value)?;
     let id = ObjectId::parse_str(digits).ok()?;
-    end_as(Accepted::DbPointer { namespace, id }, rest)
+    end_as((namespace, id), rest)
 }
 
 // Sixteen bytes.

@@ -1,7 +1,7 @@
-ghost use Rattle.std.specs.Prelude.{◌≡◌, option_map};
+ghost use Rattle.std.specs.Prelude.{◌≡◌, IfSome, option_map};
 ghost use Rattle.bson_shape.specs.Makers.{is_reserved_newtype};
 ghost use Rattle.bson_datum.specs.View.{view};
-ghost use Rattle.bson_reserved.specs.AcceptedView.{uuid_view};
+ghost use Rattle.bson_reserved.specs.AcceptedView.{uuid_view, is_of_text};
 ghost use Rattle.bson_reserved.specs.UuidBytes as uuid;
 
 use bson_base::Uuid;
@@ -22,6 +22,8 @@ pub enum UuidBytes<'a> {
 /// Source: the newtype names of MongoDB's crate `bson`, version 2, and serde's `is_human_readable`.
 pub fn uuid_bytes<'a>(readable: bool, value: &'a Datum<'_>) -> Option<UuidBytes<'a>>
     ensures value { option_map uuid_view result ≡ uuid.uuid_bytes readable (view value.now) }
+    // In the readable form they are those of a text, and in the compact form those of a byte string.
+    ensures form { IfSome result (λ bytes. is_of_text bytes ≡ readable) }
 {
     match value {
         Datum::Some(content) => uuid_bytes(readable, content),

@@ -1,9 +1,10 @@
-ghost use Rattle.std.specs.Prelude.{◌≡◌, option_and_then, is_some};
+ghost use Rattle.std.specs.Prelude.{◌≡◌, [], IfSome, option_and_then, is_some};
 ghost use Rattle.bson_datum.specs.View.{fields_view};
 ghost use Rattle.bson_reserved.specs.Unwrap as unwrap;
+ghost use Rattle.bson_reserved.specs.Unwrap.{listed};
 ghost use Rattle.bson_reserved.specs.Listed.{unwrap_list};
 ghost use Rattle.bson_reserved.specs.ListView.{parts_view};
-ghost use Rattle.bson_reserved.specs.AcceptedView.{accepted_view};
+ghost use Rattle.bson_reserved.specs.AcceptedView.{accepted_view, accepted_kind, base64_view};
 
 use crate::accepted::Accepted;
 use crate::list::{Part, parts_of};
@@ -21,6 +22,9 @@ use bson_datum::Field;
 /// Source: the reserved names of MongoDB's crate `bson`, version 2, and the bodies of MongoDB's extended JSON.
 pub fn unwrap<'a>(kind: ElementType, fields: &'a [Field<'_>]) -> Option<Accepted<'a>>
     ensures accepted { option_and_then accepted_view result ≡ unwrap.unwrap kind (fields_view fields.now) }
+    // A binary is accepted as base64 exactly where the list gives its bytes so, whatever its text.
+    ensures base64 { option_and_then base64_view result ≡ unwrap.base64_given kind (listed (fields_view fields.now) []) }
+    ensures kind { IfSome result (λ accepted. accepted_kind accepted ≡ kind) }
 {
     match kind {
         ElementType::MinKey => has_lone_field("$minKey", fields).then_some(Accepted::MinKey),
@@ -47,7 +51,9 @@ fn has_lone_field(name: &str, fields: &[Field<'_>]) -> bool
 
 // What this list of keys and values is accepted as, where the struct's name is reserved for this kind.
 fn unwrap_list<'a>(kind: ElementType, list: &[Part<'a, '_>]) -> Option<Accepted<'a>>
-    ensures { option_and_then accepted_view result ≡ unwrap_list kind (parts_view list.now) }
+    ensures accepted { option_and_then accepted_view result ≡ unwrap_list kind (parts_view list.now) }
+    ensures base64 { option_and_then base64_view result ≡ unwrap.base64_given kind (parts_view list.now) }
+    ensures kind { IfSome result (λ accepted. accepted_kind accepted ≡ kind) }
 {
     match kind {
         ElementType::ObjectId => Some(Accepted::ObjectId(object_id_list(list)?)),
@@ -56,8 +62,14 @@ fn unwrap_list<'a>(kind: ElementType, list: &[Part<'a, '_>]) -> Option<Accepted<
         ElementType::Timestamp => Some(Accepted::Timestamp(timestamp_list(list)?)),
         ElementType::JavaScriptCode => Some(Accepted::JavaScriptCode(text_list("$code", list)?)),
         ElementType::Symbol => Some(Accepted::Symbol(text_list("$symbol", list)?)),
-        ElementType::RegularExpression => regular_expression_list(list),
-        ElementType::DbPointer => db_pointer_list(list),
+        ElementType::RegularExpression => {
+            let (pattern, options) = regular_expression_list(list)?;
+            Some(Accepted::RegularExpression { pattern, options })
+        }
+        ElementType::DbPointer => {
+            let (namespace, id) = db_pointer_list(list)?;
+            Some(Accepted::DbPointer { namespace, id })
+        }
         ElementType::Decimal128 => Some(Accepted::Decimal128(decimal128_list(list)?)),
         _ => None,
     }

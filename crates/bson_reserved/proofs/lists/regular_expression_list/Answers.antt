@@ -1,8 +1,7 @@
-use Rattle.std.proofs.Common.{refl}
-use Rattle.bson_reserved.proofs.Ends.{same_ends}
+use Rattle.bson_reserved.proofs.Ends.{map_ends}
 use Rattle.bson_reserved.proofs.lists.regular_expression_list.Goals as goal
 
 pub returns : goal.returns
 returns c =
     rw (← c.in_ok-body.ensures.taken, ← c.in_ok-first.ensures.taken, ← c.in_ok-pattern.ensures.taken, ← c.in_ok-second.ensures.taken, ← c.in_ok-options.ensures.taken, c.end_as.ensures.taken)
-    (same_ends _ _ _ _ refl _)
+    (map_ends _ _ _)
