@@ -6,7 +6,7 @@ use Rattle.std.proofs.lemmas.Str.{encode_ascii, length-encode, len_utf8_bounds}
 use Rattle.bson_base.specs.Text.{Utf8}
 use Rattle.bson_shape.specs.Notation.{begins_bare, in_bare, names_form, is_escaped}
 use Rattle.bson_base.specs.Outcome.{◌>>=◌}
-use Rattle.bson_shape.specs.Machine.{Refusal, Not_notation, OpenEnum, Level, In_field, In_option, In_brackets, In_map, In_newtype, In_part, In_variant, Owner, Form_at, Field_of, Variant_of, Mode, Form_due, First_field, Field_due, First_part, First_variant, Variant_due, Bare, Quoted, Escape, Named, Variant_done, Done, State, Open, wrapped, enclosed, form_ended, begins_name, begins_form, form_due, field_due, first_field, first_part, variant_due, first_variant, named, word_ended, leaf_ended, bare_name, quoted_name, escape, step, no_more, no_more_behind, other_character, run}
+use Rattle.bson_shape.specs.Machine.{Refusal, Not_notation, Group, Braces, Parens, Angles, Level, In_prefix, In_brackets, In_map, In_item, Owner, Form_at, Item_of, Mode, Form_due, Item_due, Bare, Quoted, Escape, Named, Item_done, Done, State, grown, closing, item_ended, wrapped, enclosed, form_ended, begins_name, begins_form, form_due, name_due, item_begun, item_due, named, word_ended, leaf_ended, bare_name, quoted_name, escape, step, no_more, no_more_behind, other_character, run}
 use Rattle.bson_shape.proofs.NameRuns.{run_step, run_refused}
 use Rattle.std.proofs.lemmas.Bool.Decides.{nat_tests}
 use Rattle.bson_shape.specs.Answers.{Gives}
@@ -53,16 +53,21 @@ not_escaped b h = grind (arith, nat_tests)
 not_naming : (b : ℕ) → 128 ≤ b → names_form b ≡ false
 not_naming b h = grind (arith, nat_tests)
 
--- behind a form or a name there is no such byte
+not_closing : (g : Group) (b : ℕ) → 128 ≤ b → eqb b (closing g) ≡ false
+not_closing (Braces h fs) b l = not_byte b 125 l (omega arith)
+not_closing (Parens h ps) b l = not_byte b 41 l (omega arith)
+not_closing (Angles e) b l = not_byte b 62 l (omega arith)
+
+-- behind an item, a form or a name there is no such byte
+item_refused : (at : ℕ) (g : Group) (st : List Level) (b : ℕ) → 128 ≤ b → item_ended at g st b ≡ Err (Not_notation at)
+item_refused at g st b h = rw (not_byte b 44 h (omega arith), not_closing g b h) refl
+
 enclosed_refused : (at : ℕ) (f : Form) (st : List Level) (b : ℕ) → 128 ≤ b → enclosed at f st b ≡ Err (Not_notation at)
 enclosed_refused at f [] b h = refl
-enclosed_refused at f (In_option place ∷ st) b h = refl
+enclosed_refused at f (In_prefix place p ∷ st) b h = refl
 enclosed_refused at f (In_brackets place ∷ st) b h = rw (not_byte b 93 h (omega arith), not_byte b 58 h (omega arith)) refl
 enclosed_refused at f (In_map place k ∷ st) b h = rw (not_byte b 93 h (omega arith)) refl
-enclosed_refused at f (In_newtype place n ∷ st) b h = refl
-enclosed_refused at f (In_part o ∷ st) b h = rw (not_byte b 44 h (omega arith), not_byte b 41 h (omega arith)) refl
-enclosed_refused at f (In_variant e n ∷ st) b h = rw (not_byte b 44 h (omega arith), not_byte b 62 h (omega arith)) refl
-enclosed_refused at f (In_field o n ∷ st) b h = rw (not_byte b 44 h (omega arith), not_byte b 125 h (omega arith)) refl
+enclosed_refused at f (In_item g n ∷ st) b h = item_refused at (grown g n f) st b h
 
 ended_refused : (at : ℕ) (f : Form) (st : List Level) (b : ℕ) → 128 ≤ b → form_ended at f st b ≡ no_more at f st
 unfolding form_ended
@@ -71,8 +76,9 @@ ended_refused at f st b h = ap (λ k. wrapped at f st >>= k) (λ i e. enclosed_r
 named_refused : (at : ℕ) (owner : Owner) (n : Utf8) (st : List Level) (b : ℕ) → 128 ≤ b → named at owner n st b ≡ Err (Not_notation at)
 unfolding named
 named_refused at (Form_at p) n st b h = rw (not_byte b 61 h (omega arith), not_byte b 33 h (omega arith), not_byte b 40 h (omega arith), not_byte b 123 h (omega arith)) refl
-named_refused at (Variant_of e) n st b h = rw (not_byte b 61 h (omega arith), not_byte b 40 h (omega arith), not_byte b 123 h (omega arith), not_byte b 44 h (omega arith), not_byte b 62 h (omega arith)) refl
-named_refused at (Field_of o) n st b h = rw (not_byte b 58 h (omega arith)) refl
+named_refused at (Item_of (Braces k fs)) n st b h = rw (not_byte b 58 h (omega arith)) refl
+named_refused at (Item_of (Parens k ps)) n st b h = refl
+named_refused at (Item_of (Angles e)) n st b h = rw (not_byte b 61 h (omega arith), not_byte b 40 h (omega arith), not_byte b 123 h (omega arith), not_byte b 44 h (omega arith), not_byte b 62 h (omega arith)) refl
 
 leaf_refused : (o : Option Leaf) (at : ℕ) (st : List Level) (b : ℕ) → 128 ≤ b → leaf_ended at o st b ≡ no_more_behind at o st
 leaf_refused None at st b h = refl
@@ -82,27 +88,27 @@ word_refused : (at place : ℕ) (n : Utf8) (st : List Level) (b : ℕ) → 128 �
 unfolding word_ended
 word_refused at place n st b h = rw (not_naming b h) (leaf_refused (of_word n) at st b h)
 
-field_refused : (at : ℕ) (o : Open) (n : Utf8) (st : List Level) (b : ℕ) → 128 ≤ b → word_ended at (Field_of o) n st b ≡ Err (Not_notation at)
+item_word_refused : (at : ℕ) (g : Group) (n : Utf8) (st : List Level) (b : ℕ) → 128 ≤ b → word_ended at (Item_of g) n st b ≡ Err (Not_notation at)
 unfolding word_ended
-field_refused at o n st b h = named_refused at (Field_of o) n st b h
+item_word_refused at g n st b h = named_refused at (Item_of g) n st b h
 
-variant_refused : (at : ℕ) (e : OpenEnum) (n : Utf8) (st : List Level) (b : ℕ) → 128 ≤ b → word_ended at (Variant_of e) n st b ≡ Err (Not_notation at)
-unfolding word_ended
-variant_refused at e n st b h = named_refused at (Variant_of e) n st b h
+due_refused : (at : ℕ) (g : Group) (st : List Level) (b : ℕ) → 128 ≤ b → item_due at g st b ≡ Err (Not_notation at)
+unfolding item_due item_begun name_due form_due
+due_refused at g st b h = rw (not_closing g b h) (begun g)
+  where
+    begun : (g : Group) → item_begun at g st b ≡ Err (Not_notation at)
+    begun (Braces k fs) = rw (not_quote b h) refl
+    begun (Parens k ps) = rw (not_form b h) refl
+    begun (Angles e) = rw (not_quote b h) refl
 
 -- such a byte is read between quotes alone
 pub high_step : (at : ℕ) (m : Mode) (st : List Level) (b : ℕ) → 128 ≤ b → step at m st b ≡ other_character at m st (b ∷ [])
-unfolding step form_due first_field field_due first_part first_variant variant_due bare_name quoted_name escape other_character
+unfolding step form_due bare_name quoted_name escape other_character
 high_step at Form_due st b h = rw (not_form b h) refl
-high_step at (First_field o) st b h = rw (not_byte b 125 h (omega arith), not_quote b h) refl
-high_step at (Field_due o) st b h = rw (not_quote b h) refl
-high_step at (First_part o) st b h = rw (not_byte b 41 h (omega arith), not_form b h) refl
-high_step at (First_variant e) st b h = rw (not_byte b 62 h (omega arith), not_quote b h) refl
-high_step at (Variant_due e) st b h = rw (not_quote b h) refl
-high_step at (Variant_done e) st b h = rw (not_byte b 44 h (omega arith), not_byte b 62 h (omega arith)) refl
+high_step at (Item_due g) st b h = due_refused at g st b h
+high_step at (Item_done g) st b h = item_refused at g st b h
 high_step at (Bare (Form_at p) n) st b h = rw (not_in_bare b h) (word_refused at p n st b h)
-high_step at (Bare (Field_of o) n) st b h = rw (not_in_bare b h) (field_refused at o n st b h)
-high_step at (Bare (Variant_of e) n) st b h = rw (not_in_bare b h) (variant_refused at e n st b h)
+high_step at (Bare (Item_of g) n) st b h = rw (not_in_bare b h) (item_word_refused at g n st b h)
 high_step at (Quoted owner n) st b h = rw (not_byte b 34 h (omega arith), not_byte b 92 h (omega arith)) refl
 high_step at (Escape owner n) st b h = rw (not_escaped b h) refl
 high_step at (Named owner n) st b h = named_refused at owner n st b h

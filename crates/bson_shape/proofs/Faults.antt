@@ -7,9 +7,9 @@ use Rattle.bson_base.specs.Text.{Utf8}
 use Rattle.bson_base.specs.Reserved.{reserved_kind}
 use Rattle.bson_shape.specs.Form.{Form, leaf, optional, sequence, map, tuple, tuple_structure, newtype, unit_structure, structure, enumeration, Fields, no_fields, field, Parts, no_parts, part, Variants, no_variants, variant, Content, unit_content, newtype_content, tuple_content, struct_content}
 use Rattle.bson_shape.specs.Levels.{levels, deepest, deepest_part, deepest_variant, deepest_inside}
-use Rattle.bson_shape.specs.Makers.{is_text_key, is_reserved_newtype, repeats, variants_repeat, within_levels, made_optional, made_sequence, made_map, made_tuple, made_tuple_structure, made_newtype, made_structure, made_enumeration}
-use Rattle.bson_shape.specs.Notation.{text, name_text, struct_name_text, listed, field_texts, part_texts, variant_texts, content_text}
-use Rattle.bson_shape.specs.FirstRefusal.{MakerRefusal, or_else, too_deep, refusal_of, first_refusal, fields_refusal, parts_refusal, variants_refusal, content_refusal}
+use Rattle.bson_shape.specs.Makers.{is_text_key, is_reserved_newtype, repeats, variants_repeat, within_levels, made_form}
+use Rattle.bson_shape.specs.Notation.{text, name_text, struct_name_text, content_text}
+use Rattle.bson_shape.specs.FirstRefusal.{MakerRefusal, or_else, too_deep, refusal_of, form_refusal, first_refusal, fields_refusal, parts_refusal, variants_refusal, content_refusal}
 use Rattle.bson_shape.specs.InnerForms.{Inner, inner_forms, field_forms, part_forms, variant_forms, content_forms, HasCause, HasFault}
 use Rattle.bson_shape.specs.declared.error.ShapeError.{ShapeError}
 use Rattle.bson_shape.specs.declared.error.ShapeError.TheVariants.{ReservedName, RepeatedName, KeyNotText, TooDeep}
@@ -33,62 +33,46 @@ none_deep false at around is e = lower around is
     lower : (k : ℕ) → nat_le 512 k ≡ false → k + 1 ≤ 512
     lower k h = grind (arith, nat_tests)
 
--- nothing is refused in the inner form
-item_none : (at around : ℕ) (item made : Option MakerRefusal) → or_else (too_deep at around) (or_else item made) ≡ None → item ≡ None
-item_none at around item made e = (neither item made (neither (too_deep at around) (or_else item made) e).1).0
+-- a form in which nothing is refused is not too deep, and nothing is refused inside it
+none_here : (f : Form) (at around : ℕ) (inside : Option MakerRefusal) → form_refusal at around f inside ≡ None → (around + 1 ≤ 512) × (inside ≡ None)
+none_here f at around inside e =
+    let made = refusal_of (at + length (text f)) at (made_form f) in
+    let first = neither (too_deep at around) (or_else inside made) e in
+    (none_deep (nat_le 512 around) at around refl first.0, (neither inside made first.1).0)
 
 mutual
-  -- a form in which nothing is refused is not too deep
+  -- a form in which nothing is refused has few levels
   fits : (f : Form) (at around : ℕ) → first_refusal at around f ≡ None → around + levels f ≤ 512
-  fits (leaf l) at around e = omega (arith, none_deep (nat_le 512 around) at around refl e)
-  fits (optional f) at around e =
-      let inner = at + 1 in
-      omega (arith, fits f inner (around + 1) (item_none at around (first_refusal inner (around + 1) f) (refusal_of (inner + length (text f)) at (made_optional f)) e))
-  fits (sequence f) at around e =
-      let inner = at + 1 in
-      omega (arith, fits f inner (around + 1) (item_none at around (first_refusal inner (around + 1) f) (refusal_of (inner + length (text f) + 1) at (made_sequence f)) e))
+  fits (leaf l) at around e = omega (arith, none_here (leaf l) at around None e)
+  fits (optional f) at around e = omega (arith, fits f (at + 1) (around + 1) (none_here (optional f) at around (first_refusal (at + 1) (around + 1) f) e).1)
+  fits (sequence f) at around e = omega (arith, fits f (at + 1) (around + 1) (none_here (sequence f) at around (first_refusal (at + 1) (around + 1) f) e).1)
   fits (map k v) at around e =
-      let key = at + 1 in
-      let value = key + length (text k) + 1 in
-      let a = first_refusal key (around + 1) k in
+      let value = at + 1 + length (text k) + 1 in
+      let a = first_refusal (at + 1) (around + 1) k in
       let b = first_refusal value (around + 1) v in
-      let both = neither a b (item_none at around (or_else a b) (refusal_of (value + length (text v) + 1) at (made_map k v)) e) in
-      omega (arith, fits k key (around + 1) both.0, fits v value (around + 1) both.1)
-  fits (tuple ps) at around e =
-      let inner = at + 1 in
-      let made = refusal_of (inner + length (listed (part_texts ps)) + 1) at (made_tuple ps) in
-      let first = neither (too_deep at around) (or_else (parts_refusal inner (around + 1) ps) made) e in
-      let less = none_deep (nat_le 512 around) at around refl first.0 in
-      omega (arith, less, parts_fit ps inner (around + 1) less (neither (parts_refusal inner (around + 1) ps) made first.1).0)
-  fits (tuple_structure n ps) at around e =
-      let inner = at + length (name_text n) + 1 in
-      let made = refusal_of (inner + length (listed (part_texts ps)) + 1) at (made_tuple_structure n ps) in
-      let first = neither (too_deep at around) (or_else (parts_refusal inner (around + 1) ps) made) e in
-      let less = none_deep (nat_le 512 around) at around refl first.0 in
-      omega (arith, less, parts_fit ps inner (around + 1) less (neither (parts_refusal inner (around + 1) ps) made first.1).0)
+      let both = neither a b (none_here (map k v) at around (or_else a b) e).1 in
+      omega (arith, fits k (at + 1) (around + 1) both.0, fits v value (around + 1) both.1)
+  fits (tuple ps) at around e = let n = none_here (tuple ps) at around (parts_refusal (at + 1) (around + 1) ps) e in omega (arith, parts_fit ps (at + 1) (around + 1) n.0 n.1)
+  fits (tuple_structure name ps) at around e =
+      let inner = at + length (name_text name) + 1 in
+      let n = none_here (tuple_structure name ps) at around (parts_refusal inner (around + 1) ps) e in omega (arith, parts_fit ps inner (around + 1) n.0 n.1)
   fits (enumeration vs) at around e =
-      let inner = at + 1 in
-      let made = refusal_of (inner + length (listed (variant_texts vs)) + 1) at (made_enumeration vs) in
-      let first = neither (too_deep at around) (or_else (variants_refusal inner (around + 1) vs) made) e in
-      let less = none_deep (nat_le 512 around) at around refl first.0 in
-      omega (arith, less, variants_fit vs inner (around + 1) less (neither (variants_refusal inner (around + 1) vs) made first.1).0)
-  fits (newtype n f) at around e =
-      let inner = at + length (name_text n) + 1 in
-      omega (arith, fits f inner (around + 1) (item_none at around (first_refusal inner (around + 1) f) (refusal_of (inner + length (text f)) at (made_newtype n f)) e))
-  fits (unit_structure n) at around e = omega (arith, none_deep (nat_le 512 around) at around refl e)
-  fits (structure n fs) at around e =
-      let inner = at + length (struct_name_text n) + 1 in
-      let made = refusal_of (inner + length (listed (field_texts fs)) + 1) at (made_structure n fs) in
-      let first = neither (too_deep at around) (or_else (fields_refusal inner (around + 1) fs) made) e in
-      let fields = neither (fields_refusal inner (around + 1) fs) made first.1 in
-      omega (arith, none_deep (nat_le 512 around) at around refl first.0, fields_fit fs inner (around + 1) (none_deep (nat_le 512 around) at around refl first.0) fields.0)
+      let n = none_here (enumeration vs) at around (variants_refusal (at + 1) (around + 1) vs) e in omega (arith, variants_fit vs (at + 1) (around + 1) n.0 n.1)
+  fits (newtype name f) at around e =
+      let inner = at + length (name_text name) + 1 in
+      omega (arith, fits f inner (around + 1) (none_here (newtype name f) at around (first_refusal inner (around + 1) f) e).1)
+  fits (unit_structure name) at around e = omega (arith, none_here (unit_structure name) at around None e)
+  fits (structure name fs) at around e =
+      let inner = at + length (struct_name_text name) + 1 in
+      let n = none_here (structure name fs) at around (fields_refusal inner (around + 1) fs) e in omega (arith, fields_fit fs inner (around + 1) n.0 n.1)
 
   fields_fit : (fs : Fields) (at around : ℕ) → around ≤ 512 → fields_refusal at around fs ≡ None → around + deepest fs ≤ 512
   fields_fit no_fields at around few e = omega arith
   fields_fit (field n f fs) at around few e =
       let inner = at + length (name_text n) + 1 in
-      let both = neither (first_refusal inner around f) (fields_refusal (inner + length (text f) + 1) around fs) e in
-      omega (arith, fits f inner around both.0, fields_fit fs (inner + length (text f) + 1) around few both.1)
+      let next = at + length (name_text n ++ 58 ∷ text f) + 1 in
+      let both = neither (first_refusal inner around f) (fields_refusal next around fs) e in
+      omega (arith, fits f inner around both.0, fields_fit fs next around few both.1)
 
   parts_fit : (ps : Parts) (at around : ℕ) → around ≤ 512 → parts_refusal at around ps ≡ None → around + deepest_part ps ≤ 512
   parts_fit no_parts at around few e = omega arith
@@ -100,9 +84,9 @@ mutual
   variants_fit no_variants at around few e = omega arith
   variants_fit (variant n c vs) at around few e =
       let inner = at + length (name_text n) in
-      let end = inner + length (content_text c) + 1 in
-      let both = neither (content_refusal inner around c) (variants_refusal end around vs) e in
-      omega (arith, content_fits c inner around few both.0, variants_fit vs end around few both.1)
+      let next = at + length (name_text n ++ content_text c) + 1 in
+      let both = neither (content_refusal inner around c) (variants_refusal next around vs) e in
+      omega (arith, content_fits c inner around few both.0, variants_fit vs next around few both.1)
 
   content_fits : (c : Content) (at around : ℕ) → around ≤ 512 → content_refusal at around c ≡ None → around + deepest_inside c ≤ 512
   content_fits unit_content at around few e = omega arith
@@ -167,103 +151,88 @@ enum_fault : (a : Bool) (vs : Variants) (met at around : ℕ) (rest : List Inner
 enum_fault true vs met at around rest r p few e = here_fault (record { place = at; around = around; form = enumeration vs }) rest met RepeatedName r p e
 enum_fault false vs met at around rest r p few e = absurd (none_made (enumeration vs) met at r few e)
 
+-- of a form of few levels a cause holds that its maker tells
+made_fault : (f : Form) (met at around : ℕ) (rest : List Inner) (r : MakerRefusal) → levels f ≤ 512 → refusal_of met at (made_form f) ≡ Some r → FaultIn (record { place = at; around = around; form = f } ∷ rest) r
+made_fault (leaf l) met at around rest r few e = absurd cc
+made_fault (optional f) met at around rest r few e = absurd (none_made (optional f) met at r few e)
+made_fault (sequence f) met at around rest r few e = absurd (none_made (sequence f) met at r few e)
+made_fault (map k v) met at around rest r few e = map_fault (is_text_key k) k v met at around rest r refl few e
+made_fault (tuple ps) met at around rest r few e = absurd (none_made (tuple ps) met at r few e)
+made_fault (tuple_structure n ps) met at around rest r few e = absurd (none_made (tuple_structure n ps) met at r few e)
+made_fault (enumeration vs) met at around rest r few e = enum_fault (variants_repeat vs) vs met at around rest r refl few e
+made_fault (newtype n f) met at around rest r few e = newtype_fault (is_reserved_newtype n) n f met at around rest r refl few e
+made_fault (unit_structure n) met at around rest r few e = absurd cc
+made_fault (structure n fs) met at around rest r few e = struct_fault (is_some (reserved_kind n)) (repeats fs) n fs met at around rest r refl refl few e
+
 under : (i : Inner) (is : List Inner) (r : MakerRefusal) → FaultIn is r → FaultIn (i ∷ is) r
 under i is r h = in_later (i ∷ []) is r h
 
 -- a form too deep, a fault of what is in it, or one of its maker
-around_fault : (this : Form) (inner : List Inner) (item made : Option MakerRefusal) (at around : ℕ) (r : MakerRefusal) → around ≤ 512
-    → (around + 1 ≤ 512 → item ≡ Some r → FaultIn inner r)
-    → (around + 1 ≤ 512 → item ≡ None → made ≡ Some r → FaultIn (record { place = at; around = around; form = this } ∷ inner) r)
-    → or_else (too_deep at around) (or_else item made) ≡ Some r → FaultIn (record { place = at; around = around; form = this } ∷ inner) r
-around_fault this inner item made at around r few in_item in_maker e =
-    elim (one_of (too_deep at around) (or_else item made) r e) [
-      | inl h ↦ deep_fault (nat_le 512 around) at around this inner r refl few h
+around_fault : (f : Form) (inner : List Inner) (inside : Option MakerRefusal) (at around : ℕ) (r : MakerRefusal) → around ≤ 512
+    → (around + 1 ≤ 512 → inside ≡ Some r → FaultIn inner r) → (around + 1 ≤ 512 → inside ≡ None → around + levels f ≤ 512)
+    → form_refusal at around f inside ≡ Some r → FaultIn (record { place = at; around = around; form = f } ∷ inner) r
+around_fault f inner inside at around r few in_item fit e =
+    let made = refusal_of (at + length (text f)) at (made_form f) in
+    elim (one_of (too_deep at around) (or_else inside made) r e) [
+      | inl h ↦ deep_fault (nat_le 512 around) at around f inner r refl few h
       | inr h ↦ let less = none_deep (nat_le 512 around) at around refl h.0 in
-          elim (one_of item made r h.1) [
+          elim (one_of inside made r h.1) [
             | inl g ↦ under _ inner r (in_item less g)
-            | inr g ↦ in_maker less g.0 g.1
+            | inr g ↦ made_fault f (at + length (text f)) at around inner r (let k = fit less g.0 in omega (arith, k)) g.1
           ]
     ]
 
 mutual
   form_fault : (f : Form) (at around : ℕ) (r : MakerRefusal) → around ≤ 512 → first_refusal at around f ≡ Some r → FaultIn (inner_forms at around f) r
-  form_fault (leaf l) at around r few e = deep_fault (nat_le 512 around) at around (leaf l) [] r refl few e
+  form_fault (leaf l) at around r few e = around_fault (leaf l) [] None at around r few (λ less g. absurd cc) (λ less none. omega (arith, less)) e
+  form_fault (unit_structure n) at around r few e = around_fault (unit_structure n) [] None at around r few (λ less g. absurd cc) (λ less none. omega (arith, less)) e
   form_fault (optional f) at around r few e =
-      let inner = at + 1 in
-      let met = inner + length (text f) in
-      around_fault (optional f) (inner_forms inner (around + 1) f) (first_refusal inner (around + 1) f) (refusal_of met at (made_optional f)) at around r few
-      (λ less g. form_fault f inner (around + 1) r less g)
-      (λ less none g. absurd (none_made (optional f) met at r (omega (arith, fits f inner (around + 1) none)) g))
-      e
+      around_fault (optional f) (inner_forms (at + 1) (around + 1) f) (first_refusal (at + 1) (around + 1) f) at around r few
+      (λ less g. form_fault f (at + 1) (around + 1) r less g) (λ less none. omega (arith, fits f (at + 1) (around + 1) none)) e
   form_fault (sequence f) at around r few e =
-      let inner = at + 1 in
-      let met = inner + length (text f) + 1 in
-      around_fault (sequence f) (inner_forms inner (around + 1) f) (first_refusal inner (around + 1) f) (refusal_of met at (made_sequence f)) at around r few
-      (λ less g. form_fault f inner (around + 1) r less g)
-      (λ less none g. absurd (none_made (sequence f) met at r (omega (arith, fits f inner (around + 1) none)) g))
-      e
+      around_fault (sequence f) (inner_forms (at + 1) (around + 1) f) (first_refusal (at + 1) (around + 1) f) at around r few
+      (λ less g. form_fault f (at + 1) (around + 1) r less g) (λ less none. omega (arith, fits f (at + 1) (around + 1) none)) e
+  form_fault (newtype n f) at around r few e =
+      let inner = at + length (name_text n) + 1 in
+      around_fault (newtype n f) (inner_forms inner (around + 1) f) (first_refusal inner (around + 1) f) at around r few
+      (λ less g. form_fault f inner (around + 1) r less g) (λ less none. omega (arith, fits f inner (around + 1) none)) e
   form_fault (map k v) at around r few e =
       let key = at + 1 in
       let value = key + length (text k) + 1 in
-      let met = value + length (text v) + 1 in
       let a = first_refusal key (around + 1) k in
       let b = first_refusal value (around + 1) v in
       let in_key = inner_forms key (around + 1) k in
       let in_value = inner_forms value (around + 1) v in
-      around_fault (map k v) (in_key ++ in_value) (or_else a b) (refusal_of met at (made_map k v)) at around r few
+      around_fault (map k v) (in_key ++ in_value) (or_else a b) at around r few
       (λ less g. elim (one_of a b r g) [
         | inl h ↦ in_first in_key in_value r (form_fault k key (around + 1) r less h)
         | inr h ↦ in_later in_key in_value r (form_fault v value (around + 1) r less h.1)
       ])
-      (λ less none g. let both = neither a b none in map_fault (is_text_key k) k v met at around (in_key ++ in_value) r refl (omega (arith, fits k key (around + 1) both.0, fits v value (around + 1) both.1)) g)
+      (λ less none. let both = neither a b none in omega (arith, fits k key (around + 1) both.0, fits v value (around + 1) both.1))
       e
   form_fault (tuple ps) at around r few e =
-      let inner = at + 1 in
-      let met = inner + length (listed (part_texts ps)) + 1 in
-      around_fault (tuple ps) (part_forms inner (around + 1) ps) (parts_refusal inner (around + 1) ps) (refusal_of met at (made_tuple ps)) at around r few
-      (λ less g. parts_fault ps inner (around + 1) r less g)
-      (λ less none g. absurd (none_made (tuple ps) met at r (omega (arith, parts_fit ps inner (around + 1) less none)) g))
-      e
+      around_fault (tuple ps) (part_forms (at + 1) (around + 1) ps) (parts_refusal (at + 1) (around + 1) ps) at around r few
+      (λ less g. parts_fault ps (at + 1) (around + 1) r less g) (λ less none. omega (arith, parts_fit ps (at + 1) (around + 1) less none)) e
   form_fault (tuple_structure n ps) at around r few e =
       let inner = at + length (name_text n) + 1 in
-      let met = inner + length (listed (part_texts ps)) + 1 in
-      around_fault (tuple_structure n ps) (part_forms inner (around + 1) ps) (parts_refusal inner (around + 1) ps) (refusal_of met at (made_tuple_structure n ps)) at around r few
-      (λ less g. parts_fault ps inner (around + 1) r less g)
-      (λ less none g. absurd (none_made (tuple_structure n ps) met at r (omega (arith, parts_fit ps inner (around + 1) less none)) g))
-      e
-  form_fault (enumeration vs) at around r few e =
-      let inner = at + 1 in
-      let met = inner + length (listed (variant_texts vs)) + 1 in
-      let rest = variant_forms inner (around + 1) vs in
-      around_fault (enumeration vs) rest (variants_refusal inner (around + 1) vs) (refusal_of met at (made_enumeration vs)) at around r few
-      (λ less g. variants_fault vs inner (around + 1) r less g)
-      (λ less none g. enum_fault (variants_repeat vs) vs met at around rest r refl (omega (arith, variants_fit vs inner (around + 1) less none)) g)
-      e
-  form_fault (newtype n f) at around r few e =
-      let inner = at + length (name_text n) + 1 in
-      let met = inner + length (text f) in
-      let rest = inner_forms inner (around + 1) f in
-      around_fault (newtype n f) rest (first_refusal inner (around + 1) f) (refusal_of met at (made_newtype n f)) at around r few
-      (λ less g. form_fault f inner (around + 1) r less g)
-      (λ less none g. newtype_fault (is_reserved_newtype n) n f met at around rest r refl (omega (arith, fits f inner (around + 1) none)) g)
-      e
-  form_fault (unit_structure n) at around r few e = deep_fault (nat_le 512 around) at around (unit_structure n) [] r refl few e
+      around_fault (tuple_structure n ps) (part_forms inner (around + 1) ps) (parts_refusal inner (around + 1) ps) at around r few
+      (λ less g. parts_fault ps inner (around + 1) r less g) (λ less none. omega (arith, parts_fit ps inner (around + 1) less none)) e
   form_fault (structure n fs) at around r few e =
       let inner = at + length (struct_name_text n) + 1 in
-      let met = inner + length (listed (field_texts fs)) + 1 in
-      let rest = field_forms inner (around + 1) fs in
-      around_fault (structure n fs) rest (fields_refusal inner (around + 1) fs) (refusal_of met at (made_structure n fs)) at around r few
-      (λ less g. fields_fault fs inner (around + 1) r less g)
-      (λ less none g. struct_fault (is_some (reserved_kind n)) (repeats fs) n fs met at around rest r refl refl (omega (arith, fields_fit fs inner (around + 1) less none)) g)
-      e
+      around_fault (structure n fs) (field_forms inner (around + 1) fs) (fields_refusal inner (around + 1) fs) at around r few
+      (λ less g. fields_fault fs inner (around + 1) r less g) (λ less none. omega (arith, fields_fit fs inner (around + 1) less none)) e
+  form_fault (enumeration vs) at around r few e =
+      around_fault (enumeration vs) (variant_forms (at + 1) (around + 1) vs) (variants_refusal (at + 1) (around + 1) vs) at around r few
+      (λ less g. variants_fault vs (at + 1) (around + 1) r less g) (λ less none. omega (arith, variants_fit vs (at + 1) (around + 1) less none)) e
 
   fields_fault : (fs : Fields) (at around : ℕ) (r : MakerRefusal) → around ≤ 512 → fields_refusal at around fs ≡ Some r → FaultIn (field_forms at around fs) r
   fields_fault no_fields at around r few e = absurd cc
   fields_fault (field n f fs) at around r few e =
       let inner = at + length (name_text n) + 1 in
-      elim (one_of (first_refusal inner around f) (fields_refusal (inner + length (text f) + 1) around fs) r e) [
-        | inl h ↦ in_first (inner_forms inner around f) (field_forms (inner + length (text f) + 1) around fs) r (form_fault f inner around r few h)
-        | inr h ↦ in_later (inner_forms inner around f) (field_forms (inner + length (text f) + 1) around fs) r (fields_fault fs (inner + length (text f) + 1) around r few h.1)
+      let next = at + length (name_text n ++ 58 ∷ text f) + 1 in
+      elim (one_of (first_refusal inner around f) (fields_refusal next around fs) r e) [
+        | inl h ↦ in_first (inner_forms inner around f) (field_forms next around fs) r (form_fault f inner around r few h)
+        | inr h ↦ in_later (inner_forms inner around f) (field_forms next around fs) r (fields_fault fs next around r few h.1)
       ]
 
   parts_fault : (ps : Parts) (at around : ℕ) (r : MakerRefusal) → around ≤ 512 → parts_refusal at around ps ≡ Some r → FaultIn (part_forms at around ps) r
@@ -279,10 +248,10 @@ mutual
   variants_fault no_variants at around r few e = absurd cc
   variants_fault (variant n c vs) at around r few e =
       let inner = at + length (name_text n) in
-      let end = inner + length (content_text c) + 1 in
-      elim (one_of (content_refusal inner around c) (variants_refusal end around vs) r e) [
-        | inl h ↦ in_first (content_forms inner around c) (variant_forms end around vs) r (content_fault c inner around r few h)
-        | inr h ↦ in_later (content_forms inner around c) (variant_forms end around vs) r (variants_fault vs end around r few h.1)
+      let next = at + length (name_text n ++ content_text c) + 1 in
+      elim (one_of (content_refusal inner around c) (variants_refusal next around vs) r e) [
+        | inl h ↦ in_first (content_forms inner around c) (variant_forms next around vs) r (content_fault c inner around r few h)
+        | inr h ↦ in_later (content_forms inner around c) (variant_forms next around vs) r (variants_fault vs next around r few h.1)
       ]
 
   content_fault : (c : Content) (at around : ℕ) (r : MakerRefusal) → around ≤ 512 → content_refusal at around c ≡ Some r → FaultIn (content_forms at around c) r

@@ -1,25 +1,25 @@
 -- What the machine answers on the text of a form: its first refusal, or what it answers behind it.
-use Rattle.std.proofs.Common.{◌≡◌, ℕ, ◌+◌, Bool, true, false, cond, eqb, ◌||◌, List, [], ◌∷◌, ◌++◌, length, Option, Some, None, Result, Ok, Err, refl, sym, ap, ◌∙◌, subst, arith, append_assoc, append-nil, length-append}
+use Rattle.std.proofs.Common.{◌≡◌, ℕ, ◌+◌, Bool, true, false, cond, ◌||◌, List, [], ◌∷◌, ◌++◌, length, Option, Some, None, Result, Ok, Err, refl, sym, ap, ◌∙◌, subst, arith, append_assoc, append-nil, length-append}
 use Rattle.std.specs.Prelude.{nat_le, IfOk}
 use Rattle.bson_base.specs.Text.{Utf8}
-use Rattle.bson_shape.specs.Form.{Form, leaf, optional, sequence, map, tuple, tuple_structure, newtype, unit_structure, structure, enumeration, Fields, no_fields, field, joined, Parts, no_parts, part, joined_parts, Variants, no_variants, variant, joined_variants, Content, unit_content, newtype_content, tuple_content, struct_content}
+use Rattle.bson_shape.specs.Form.{Form, leaf, optional, sequence, map, tuple, tuple_structure, newtype, unit_structure, structure, enumeration, Fields, no_fields, field, joined, push_field, Parts, no_parts, part, joined_parts, push_part, Variants, no_variants, variant, joined_variants, Content, unit_content, newtype_content, tuple_content, struct_content}
 use Rattle.bson_shape.specs.Leaf.{word}
 use Rattle.bson_shape.specs.declared.leaf.Leaf.{Leaf}
-use Rattle.bson_shape.specs.Makers.{made_optional, made_sequence, made_map, made_tuple, made_tuple_structure, made_newtype, made_structure, made_enumeration}
+use Rattle.bson_shape.specs.Makers.{made_form}
 use Rattle.bson_shape.specs.declared.error.ShapeError.{ShapeError}
 use Rattle.bson_shape.specs.declared.error.ShapeError.TheVariants.{TooDeep}
 use Rattle.std.specs.List.{list_all}
 use Rattle.bson_shape.specs.Notation.{begins_bare, in_bare, bare, names_form, escaped, quoted, name_text, struct_name_text, after_commas, listed, text, field_texts, part_texts, variant_texts, content_text}
-use Rattle.bson_shape.specs.FirstRefusal.{MakerRefusal, or_else, too_deep, refusal_of, first_refusal, fields_refusal, parts_refusal, variants_refusal, content_refusal}
+use Rattle.bson_shape.specs.FirstRefusal.{MakerRefusal, or_else, too_deep, refusal_of, form_refusal, first_refusal, fields_refusal, parts_refusal, variants_refusal, content_refusal}
 use Rattle.bson_shape.specs.Fronts.{goes_on}
 use Rattle.bson_base.specs.Outcome.{◌>>=◌}
-use Rattle.bson_shape.specs.Machine.{Refusal, Refused, OpenEnum, Braces, Struct_at, Struct_variant, Open, Parens, Tuple_at, Tuple_struct_at, Tuple_variant, OpenTuple, Level, In_field, In_option, In_brackets, In_map, In_newtype, In_part, In_variant, Owner, Form_at, Field_of, Variant_of, Mode, Form_due, First_field, Field_due, First_part, First_variant, Variant_due, Bare, Named, Variant_done, Done, State, opened, grown, opened_tuple, grown_tuple, opened_enum, grown_enum, made, Ended, wrapped, closed, braces_closed, parens_closed, enum_closed, enclosed, form_ended, begins_name, name_begun, opens_form, begins_form, form_begun, form_due, field_due, first_field, first_part, variant_due, first_variant, word_ended, bare_name, alone, step, run, finish}
-use Rattle.bson_shape.proofs.Made.{within_levels-made, made_map-made, made_newtype-made, made_structure-made, made_enumeration-made}
+use Rattle.bson_shape.specs.Machine.{Refusal, Refused, OpenEnum, Holder, Nameless_at, Named_at, Variant_of, Group, Braces, Parens, Angles, Prefix, Option_prefix, Newtype_prefix, Level, In_prefix, In_brackets, In_map, In_item, Owner, Form_at, Item_of, Mode, Form_due, Item_due, Bare, Named, Item_done, Done, State, opened_enum, grown, grown_enum, is_empty, closing, Closed, Closed_form, Closed_variant, closed, prefixed, made, form_closed, bracket_closed, group_closed, item_ended, Ended, wrapped, enclosed, form_ended, begins_name, name_begun, opens_form, begins_form, form_begun, form_due, name_due, item_begun, item_due, word_ended, bare_name, alone, step, run, finish}
+use Rattle.bson_shape.proofs.Made.{made_form-made}
 use Rattle.bson_shape.proofs.Shapes.{joined-assoc, joined-none, joined_parts-assoc, joined_parts-none, joined_variants-assoc, joined_variants-none}
 use Rattle.bson_shape.proofs.Words.{and_true, or_false, differs, of_word-word, bare-word}
 use Rattle.bson_shape.proofs.Loop.{bound_assoc}
-use Rattle.bson_shape.proofs.NameRuns.{run_step, run_refused, same_run, name_mode, BeginsName, name_read, colon_step, equals_step, exclamation_step, paren_step, brace_step, variant_equals, variant_paren, variant_brace, unit_comma, unit_angle}
-use Rattle.bson_shape.proofs.States.{after_braces, after_parens}
+use Rattle.bson_shape.proofs.NameRuns.{run_step, run_refused, name_mode, BeginsName, name_read, name_step}
+use Rattle.bson_shape.proofs.States.{after, closing-alone}
 
 -- what is answered from a state on, to the end of the text
 abbrev pub read : ℕ → State → Utf8 → Result Form Refusal
@@ -74,13 +74,9 @@ wrap_made : (r : Result Form ShapeError) (at place : ℕ) (g : Form) (st : List 
 wrap_made (Ok h) at place g st rest same = sym (done_read rest at h st) ∙ ap (λ h. read at (Done h, st) rest) same
 wrap_made (Err e) at place g st rest same = refl
 
-option_read : (f : Form) (at place : ℕ) (st : List Level) (rest : Utf8) → read at (Done f, In_option place ∷ st) rest ≡ settle (refusal_of at place (made_optional f)) (read at (Done (optional f), st) rest)
+prefix_read : (p : Prefix) (f : Form) (at place : ℕ) (st : List Level) (rest : Utf8) → read at (Done f, In_prefix place p ∷ st) rest ≡ settle (refusal_of at place (made_form (prefixed p f))) (read at (Done (prefixed p f), st) rest)
 unfolding wrapped
-option_read f at place st rest = done_read rest at f (In_option place ∷ st) ∙ wrap_made (made_optional f) at place (optional f) st rest (within_levels-made (optional f))
-
-newtype_read : (n : Utf8) (f : Form) (at place : ℕ) (st : List Level) (rest : Utf8) → read at (Done f, In_newtype place n ∷ st) rest ≡ settle (refusal_of at place (made_newtype n f)) (read at (Done (newtype n f), st) rest)
-unfolding wrapped
-newtype_read n f at place st rest = done_read rest at f (In_newtype place n ∷ st) ∙ wrap_made (made_newtype n f) at place (newtype n f) st rest (made_newtype-made n f)
+prefix_read p f at place st rest = done_read rest at f (In_prefix place p ∷ st) ∙ wrap_made (made_form (prefixed p f)) at place (prefixed p f) st rest (made_form-made (prefixed p f))
 
 -- the word of a leaf, where it does not go on
 leaf_read : (rest : Utf8) (l : Leaf) (at place : ℕ) (st : List Level) → goes_on rest ≡ false → read at (Bare (Form_at place) (word l), st) rest ≡ read at (Done (leaf l), st) rest
@@ -91,226 +87,126 @@ leaf_read (b ∷ bs) l at place st ends = let both = or_false (in_bare b) (names
 -- ---- the last byte of a form
 
 -- the maker makes the form or refuses
-closed_read : (r : Result Form ShapeError) (f : Form) (m : Mode) (levels' st : List Level) (at place b : ℕ) (rest : Utf8) → IfOk r (λ g. g ≡ f) → step at m levels' b ≡ closed at place st r
+result_read : (r : Result Form ShapeError) (f : Form) (m : Mode) (levels' st : List Level) (at place b : ℕ) (rest : Utf8) → IfOk r (λ g. g ≡ f) → step at m levels' b ≡ form_closed at place st r
     → read at (m, levels') (b ∷ rest) ≡ settle (refusal_of (at + 1) place r) (read (at + 1) (Done f, st) rest)
-closed_read (Ok g) f m levels' st at place b rest same h = read_step at m levels' b rest (Done g, st) h ∙ ap (λ h. read (at + 1) (Done h, st) rest) same
-closed_read (Err e) f m levels' st at place b rest same h = ap (λ r. r >>= λ t. finish (at + length (b ∷ rest)) t.0 t.1) (run_refused at m levels' b rest _ h)
+result_read (Ok g) f m levels' st at place b rest same h = read_step at m levels' b rest (Done g, st) h ∙ ap (λ h. read (at + 1) (Done h, st) rest) same
+result_read (Err e) f m levels' st at place b rest same h = ap (λ r. r >>= λ t. finish (at + length (b ∷ rest)) t.0 t.1) (run_refused at m levels' b rest _ h)
 
 -- a byte that is taken alike in two states
 read_same : (at : ℕ) (m n : Mode) (st levels' : List Level) (b : ℕ) (bs : Utf8) → step at m st b ≡ step at n levels' b → read at (m, st) (b ∷ bs) ≡ read at (n, levels') (b ∷ bs)
 unfolding run
 read_same at m n st levels' b bs h = ap (λ r. (r >>= λ u. run (at + 1) u bs) >>= λ t. finish (at + length (b ∷ bs)) t.0 t.1) h
 
--- what a maker says at the closing byte, where one is called there
-abbrev pub braces_refusal : ℕ → Braces → Fields → Option MakerRefusal
-braces_refusal at (Struct_at place n) fs = refusal_of (at + 1) place (made_structure n fs)
-braces_refusal at (Struct_variant e n) fs = None
+closed_read : (f : Form) (s : State) (st : List Level) (at place b : ℕ) (rest : Utf8) → step at s.0 s.1 b ≡ form_closed at place st (made_form f)
+    → read at s (b ∷ rest) ≡ settle (refusal_of (at + 1) place (made_form f)) (read (at + 1) (Done f, st) rest)
+closed_read f s st at place b rest h = result_read (made_form f) f s.0 s.1 st at place b rest (made_form-made f) h
 
-abbrev pub parens_refusal : ℕ → Parens → Parts → Option MakerRefusal
-parens_refusal at (Tuple_at place) ps = refusal_of (at + 1) place (made_tuple ps)
-parens_refusal at (Tuple_struct_at place n) ps = refusal_of (at + 1) place (made_tuple_structure n ps)
-parens_refusal at (Tuple_variant e n) ps = None
+-- what a maker says behind a closing bracket, where one is called there
+abbrev closed_refusal : ℕ → Closed → Option MakerRefusal
+closed_refusal read (Closed_form place f) = refusal_of read place (made_form f)
+closed_refusal read (Closed_variant e) = None
 
-braces_read : (h : Braces) (fs : Fields) (m : Mode) (levels' st : List Level) (at : ℕ) (rest : Utf8) → step at m levels' 125 ≡ braces_closed at h fs st
-    → read at (m, levels') (125 ∷ rest) ≡ settle (braces_refusal at h fs) (read (at + 1) (after_braces h fs, st) rest)
-braces_read (Struct_at place n) fs m levels' st at rest e = closed_read (made_structure n fs) (structure n fs) m levels' st at place 125 rest (made_structure-made n fs) e
-braces_read (Struct_variant v n) fs m levels' st at rest e = read_step at m levels' 125 rest _ e
+bracket_read : (c : Closed) (s : State) (st : List Level) (at b : ℕ) (rest : Utf8) → step at s.0 s.1 b ≡ bracket_closed at st c → read at s (b ∷ rest) ≡ settle (closed_refusal (at + 1) c) (read (at + 1) (after c, st) rest)
+bracket_read (Closed_form place f) s st at b rest h = closed_read f s st at place b rest h
+bracket_read (Closed_variant e) s st at b rest h = read_step at s.0 s.1 b rest _ h
 
-parens_read : (h : Parens) (ps : Parts) (m : Mode) (levels' st : List Level) (at : ℕ) (rest : Utf8) → step at m levels' 41 ≡ parens_closed at h ps st
-    → read at (m, levels') (41 ∷ rest) ≡ settle (parens_refusal at h ps) (read (at + 1) (after_parens h ps, st) rest)
-parens_read (Tuple_at place) ps m levels' st at rest e = closed_read (made_tuple ps) (tuple ps) m levels' st at place 41 rest (within_levels-made (tuple ps)) e
-parens_read (Tuple_struct_at place n) ps m levels' st at rest e = closed_read (made_tuple_structure n ps) (tuple_structure n ps) m levels' st at place 41 rest (within_levels-made (tuple_structure n ps)) e
-parens_read (Tuple_variant v n) ps m levels' st at rest e = read_step at m levels' 41 rest _ e
+-- the place of the next byte is named in another way
+moved : (i j : ℕ) (a : Option MakerRefusal) (c : Closed) (st : List Level) (rest : Utf8) → i ≡ j → settle (or_else a (closed_refusal i c)) (read i (after c, st) rest) ≡ settle (or_else a (closed_refusal j c)) (read j (after c, st) rest)
+moved i j a c st rest e = λ k. settle (or_else a (closed_refusal (e k) c)) (read (e k) (after c, st) rest)
 
--- with these fields, parts or variants behind those that were read: what the maker says, and the state behind it
-abbrev brace_refusal : ℕ → Open → Fields → Option MakerRefusal
-brace_refusal at o fs = braces_refusal at o.holder (joined o.fields fs)
+-- ---- the items of a group
 
-abbrev done_with : Open → Fields → Mode
-done_with o fs = after_braces o.holder (joined o.fields fs)
+-- a state behind an item, with which the group is this
+record BehindItem (s : State) (g : Group) (st : List Level) : Type 0 where
+  next : (at : ℕ) → step at s.0 s.1 44 ≡ Ok (Item_due g, st)
+  ends : (at : ℕ) → step at s.0 s.1 (closing g) ≡ group_closed at g st
 
-abbrev paren_refusal : ℕ → OpenTuple → Parts → Option MakerRefusal
-paren_refusal at o ps = parens_refusal at o.holder (joined_parts o.parts ps)
+item_closes : (g : Group) (at : ℕ) (st : List Level) → item_ended at g st (closing g) ≡ group_closed at g st
+item_closes (Braces h fs) at st = refl
+item_closes (Parens h ps) at st = refl
+item_closes (Angles e) at st = refl
 
-abbrev done_parts : OpenTuple → Parts → Mode
-done_parts o ps = after_parens o.holder (joined_parts o.parts ps)
-
-abbrev angle_refusal : ℕ → OpenEnum → Variants → Option MakerRefusal
-angle_refusal at e vs = refusal_of (at + 1) e.place (made_enumeration (joined_variants e.variants vs))
-
-abbrev done_enum : OpenEnum → Variants → Mode
-done_enum e vs = Done (enumeration (joined_variants e.variants vs))
-
-same_end : (a : Option MakerRefusal) (i j : ℕ) (h : Braces) (gs hs : Fields) (st : List Level) (rest : Utf8) → i ≡ j → gs ≡ hs
-    → settle (or_else a (braces_refusal i h gs)) (read (i + 1) (after_braces h gs, st) rest) ≡ settle (or_else a (braces_refusal j h hs)) (read (j + 1) (after_braces h hs, st) rest)
-same_end a i j h gs hs st rest e f = λ k. settle (or_else a (braces_refusal (e k) h (f k))) (read (e k + 1) (after_braces h (f k), st) rest)
-
-same_paren : (a : Option MakerRefusal) (i j : ℕ) (h : Parens) (ps qs : Parts) (st : List Level) (rest : Utf8) → i ≡ j → ps ≡ qs
-    → settle (or_else a (parens_refusal i h ps)) (read (i + 1) (after_parens h ps, st) rest) ≡ settle (or_else a (parens_refusal j h qs)) (read (j + 1) (after_parens h qs, st) rest)
-same_paren a i j h ps qs st rest e f = λ k. settle (or_else a (parens_refusal (e k) h (f k))) (read (e k + 1) (after_parens h (f k), st) rest)
-
-same_angle : (a : Option MakerRefusal) (i j p : ℕ) (vs ws : Variants) (st : List Level) (rest : Utf8) → i ≡ j → vs ≡ ws
-    → settle (or_else a (refusal_of (i + 1) p (made_enumeration vs))) (read (i + 1) (Done (enumeration vs), st) rest) ≡ settle (or_else a (refusal_of (j + 1) p (made_enumeration ws))) (read (j + 1) (Done (enumeration ws), st) rest)
-same_angle a i j p vs ws st rest e f = λ k. settle (or_else a (refusal_of (e k + 1) p (made_enumeration (f k)))) (read (e k + 1) (Done (enumeration (f k)), st) rest)
-
-comma_step : (f : Form) (o : Open) (n : Utf8) (st : List Level) (at : ℕ) → step at (Done f) (In_field o n ∷ st) 44 ≡ Ok (Field_due (grown o n f), st)
+behind_form : (g : Group) (n : Utf8) (f : Form) (st : List Level) → BehindItem (Done f, In_item g n ∷ st) (grown g n f) st
 unfolding step form_ended wrapped
-comma_step f o n st at = refl
+behind_form g n f st = record { next = λ at. next at; ends = λ at. ended at (closing (grown g n f)) ∙ item_closes (grown g n f) at st }
+  where
+    ended : (at b : ℕ) → step at (Done f) (In_item g n ∷ st) b ≡ item_ended at (grown g n f) st b
+    ended at b = refl
 
-close_step : (f : Form) (o : Open) (n : Utf8) (st : List Level) (at : ℕ) → step at (Done f) (In_field o n ∷ st) 125 ≡ braces_closed at (grown o n f).holder (grown o n f).fields st
-unfolding step form_ended wrapped
-close_step f o n st at = refl
+    next : (at : ℕ) → step at (Done f) (In_item g n ∷ st) 44 ≡ Ok (Item_due (grown g n f), st)
+    next at = ended at 44
 
--- a comma between parentheses, and the closing one
-part_comma : (f : Form) (o : OpenTuple) (st : List Level) (at : ℕ) → step at (Done f) (In_part o ∷ st) 44 ≡ Ok (Form_due, In_part (grown_tuple o f) ∷ st)
-unfolding step form_ended wrapped
-part_comma f o st at = refl
+behind_done : (g : Group) (st : List Level) → BehindItem (Item_done g, st) g st
+unfolding step
+behind_done g st = record { next = λ at. refl; ends = λ at. item_closes g at st }
 
-part_close : (f : Form) (o : OpenTuple) (st : List Level) (at : ℕ) → step at (Done f) (In_part o ∷ st) 41 ≡ parens_closed at (grown_tuple o f).holder (grown_tuple o f).parts st
-unfolding step form_ended wrapped
-part_close f o st at = refl
+-- An item with this text is read behind the items of a group, and what is refused in it where it begins at a place; with it the group is the second.
+record ReadsItem (st : List Level) (g : Group) (x : Utf8) (refused : ℕ → Option MakerRefusal) (h : Group) : Type 0 where
+  state : State
+  behind : BehindItem state h st
+  reads : (rest : Utf8) (at : ℕ) → goes_on rest ≡ false → read at (Item_due g, st) (x ++ rest) ≡ settle (refused at) (read (at + length x) state rest)
 
--- the state behind a variant
-abbrev behind_variant : OpenEnum → Utf8 → Content → List Level → State
-behind_variant e n unit_content st = (name_mode (Variant_of e) n, st)
-behind_variant e n (newtype_content f) st = (Done f, In_variant e n ∷ st)
-behind_variant e n (tuple_content ps) st = (Variant_done (grown_enum e n (tuple_content ps)), st)
-behind_variant e n (struct_content fs) st = (Variant_done (grown_enum e n (struct_content fs)), st)
+-- All items to come are read, where the first of them is due; with them the group is the second.
+abbrev ReadsAll : List Level → Group → List Utf8 → (ℕ → Option MakerRefusal) → Group → Type 0
+ReadsAll st g xs refused h =
+    (rest : Utf8) (at : ℕ) → read at (Item_due g, st) (listed xs ++ closing h ∷ rest) ≡ settle (or_else (refused at) (closed_refusal (at + length (listed xs) + 1) (closed h))) (read (at + length (listed xs) + 1) (after (closed h), st) rest)
 
--- a comma behind a variant, and the closing bracket
-variant_comma : (c : Content) (e : OpenEnum) (n : Utf8) (st : List Level) (at : ℕ) → step at (behind_variant e n c st).0 (behind_variant e n c st).1 44 ≡ Ok (Variant_due (grown_enum e n c), st)
-unfolding step form_ended wrapped
-variant_comma unit_content e n st at = unit_comma at e n st
-variant_comma (newtype_content f) e n st at = refl
-variant_comma (tuple_content ps) e n st at = refl
-variant_comma (struct_content fs) e n st at = refl
+-- The same behind an item.
+abbrev ReadsMore : List Level → Group → List Utf8 → (ℕ → Option MakerRefusal) → Group → Type 0
+ReadsMore st g xs refused h =
+    (s : State) → BehindItem s g st → (rest : Utf8) (at : ℕ) → read at s (after_commas xs ++ closing h ∷ rest)
+    ≡ settle (or_else (refused (at + 1)) (closed_refusal (at + length (after_commas xs) + 1) (closed h))) (read (at + length (after_commas xs) + 1) (after (closed h), st) rest)
 
-variant_angle : (c : Content) (e : OpenEnum) (n : Utf8) (st : List Level) (at : ℕ) → step at (behind_variant e n c st).0 (behind_variant e n c st).1 62 ≡ enum_closed at (grown_enum e n c) st
-unfolding step form_ended wrapped
-variant_angle unit_content e n st at = unit_angle at e n st
-variant_angle (newtype_content f) e n st at = refl
-variant_angle (tuple_content ps) e n st at = refl
-variant_angle (struct_content fs) e n st at = refl
+-- behind an item no word goes on
+items_end : (xs : List Utf8) (g : Group) (rest : Utf8) → goes_on (after_commas xs ++ closing g ∷ rest) ≡ false
+items_end [] g rest = closing-alone g
+items_end (x ∷ xs) g rest = refl
 
--- the closing bracket of a sequence that begins at the place
-item_step : (f : Form) (place : ℕ) (st : List Level) (at : ℕ) → step at (Done f) (In_brackets place ∷ st) 93 ≡ closed at place st (made_sequence f)
-unfolding step form_ended wrapped
-item_step f place st at = refl
+none_more : (st : List Level) (g : Group) → ReadsMore st g [] (λ _. None) g
+none_more st g = λ s behind rest at. bracket_read (closed g) s st at (closing g) rest (behind.ends at) ∙ moved (at + 1) (at + 0 + 1) None (closed g) st rest (omega arith)
 
--- the colon of a map that begins at the place, and its closing bracket
-key_step : (k : Form) (place : ℕ) (st : List Level) (at : ℕ) → step at (Done k) (In_brackets place ∷ st) 58 ≡ Ok (Form_due, In_map place k ∷ st)
-unfolding step form_ended wrapped
-key_step k place st at = refl
+none_due : (g : Group) (at : ℕ) (st : List Level) → is_empty g ≡ true → step at (Item_due g) st (closing g) ≡ group_closed at g st
+unfolding step item_due
+none_due (Braces h fs) at st e = rw e refl
+none_due (Parens h ps) at st e = rw e refl
+none_due (Angles v) at st e = rw e refl
 
-value_step : (k v : Form) (place : ℕ) (st : List Level) (at : ℕ) → step at (Done v) (In_map place k ∷ st) 93 ≡ closed at place st (made_map k v)
-unfolding step form_ended wrapped
-value_step k v place st at = refl
+none_at_all : (st : List Level) (g : Group) → is_empty g ≡ true → ReadsAll st g [] (λ _. None) g
+none_at_all st g e = λ rest at. bracket_read (closed g) (Item_due g, st) st at (closing g) rest (none_due g at st e) ∙ moved (at + 1) (at + 0 + 1) None (closed g) st rest (omega arith)
 
--- ---- where a field is due
+-- an item, and those after it
+item_and : (st : List Level) (g between h : Group) (x : Utf8) (xs : List Utf8) (first later : ℕ → Option MakerRefusal) → ReadsItem st g x first between → ReadsMore st between xs later h
+    → ReadsAll st g (x ∷ xs) (λ at. or_else (first at) (later (at + length x + 1))) h
+item_and st g between h x xs first later item more = λ rest at.
+    let tail = after_commas xs in
+    let end = at + length x + length tail + 1 in
+    let all = or_else (first at) (later (at + length x + 1)) in
+    ap (read at (Item_due g, st)) (append_assoc x tail (closing h ∷ rest))
+    ∙ item.reads (tail ++ closing h ∷ rest) at (items_end xs h rest)
+    ∙ ap (settle (first at)) (more item.state item.behind rest (at + length x))
+    ∙ settle_all (first at) (later (at + length x + 1)) (closed_refusal end (closed h)) (read end (after (closed h), st) rest)
+    ∙ moved end (at + length (x ++ tail) + 1) all (closed h) st rest (omega (arith, length-append x tail))
 
-first_begins : (at : ℕ) (o : Open) (st : List Level) → BeginsName at (First_field o) (Field_of o) st
-unfolding step first_field field_due
-first_begins at o st b h = rw (differs begins_name b 125 h refl, h) refl
+-- a comma, and the items behind it
+comma_and : (st : List Level) (g h : Group) (x : Utf8) (xs : List Utf8) (refused : ℕ → Option MakerRefusal) → ReadsAll st g (x ∷ xs) refused h → ReadsMore st g (x ∷ xs) refused h
+comma_and st g h x xs refused all = λ s behind rest at.
+    let items = x ++ after_commas xs in
+    read_step at s.0 s.1 44 (items ++ closing h ∷ rest) (Item_due g, st) (behind.next at) ∙ all rest (at + 1)
+    ∙ moved (at + 1 + length items + 1) (at + length (44 ∷ items) + 1) (refused (at + 1)) (closed h) st rest (omega arith)
 
-next_begins : (at : ℕ) (o : Open) (st : List Level) → BeginsName at (Field_due o) (Field_of o) st
-unfolding step field_due
-next_begins at o st b h = rw h refl
+-- ---- where an item is due
 
-first_variant_begins : (at : ℕ) (e : OpenEnum) (st : List Level) → BeginsName at (First_variant e) (Variant_of e) st
-unfolding step first_variant variant_due
-first_variant_begins at e st b h = rw (differs begins_name b 62 h refl, h) refl
+field_begins : (at : ℕ) (h : Holder) (fs : Fields) (st : List Level) → BeginsName at (Item_due (Braces h fs)) (Item_of (Braces h fs)) st
+unfolding step item_due item_begun name_due
+field_begins at h fs st b k = rw (differs begins_name b 125 k refl, k) refl
 
-next_variant_begins : (at : ℕ) (e : OpenEnum) (st : List Level) → BeginsName at (Variant_due e) (Variant_of e) st
-unfolding step variant_due
-next_variant_begins at e st b h = rw h refl
+variant_begins : (at : ℕ) (e : OpenEnum) (st : List Level) → BeginsName at (Item_due (Angles e)) (Item_of (Angles e)) st
+unfolding step item_due item_begun name_due
+variant_begins at e st b k = rw (differs begins_name b 62 k refl, k) refl
 
-regroup : (name text' more rest : Utf8) → ((name ++ 58 ∷ text') ++ more) ++ rest ≡ name ++ 58 ∷ (text' ++ (more ++ rest))
-regroup name text' more rest = append_assoc (name ++ 58 ∷ text') more rest ∙ append_assoc name (58 ∷ text') (more ++ rest) ∙ ap (λ xs. name ++ 58 ∷ xs) (refl)
-
-field_length : (name text' more : Utf8) → length ((name ++ 58 ∷ text') ++ more) ≡ length name + 1 + length text' + length more
-field_length name text' more = omega (arith, length-append (name ++ 58 ∷ text') more, length-append name (58 ∷ text'))
-
--- a field, and those after it
-one_field : (n : Utf8) (f : Form) (fs : Fields) (o : Open) (rest : Utf8) (at : ℕ) (m : Mode) (st : List Level)
-    → BeginsName at m (Field_of o) st
-    → (let l : Level = In_field o n in
-    let inner = at + length (name_text n) + 1 in
-    let bytes = (name_text n ++ 58 ∷ text f) ++ after_commas (field_texts fs) in
-    read inner (Form_due, l ∷ st) (text f ++ (after_commas (field_texts fs) ++ 125 ∷ rest)) ≡ settle (first_refusal inner (length (l ∷ st)) f) (read (inner + length (text f)) (Done f, l ∷ st) (after_commas (field_texts fs) ++ 125 ∷ rest))
-    → read (inner + length (text f)) (Done f, l ∷ st) (after_commas (field_texts fs) ++ 125 ∷ rest)
-    ≡ settle (or_else (fields_refusal (inner + length (text f) + 1) (length st + 1) fs) (brace_refusal (inner + length (text f) + length (after_commas (field_texts fs))) (grown o n f) fs)) (read (inner + length (text f) + length (after_commas (field_texts fs)) + 1) (done_with (grown o n f) fs, st) rest)
-    → read at (m, st) (bytes ++ 125 ∷ rest)
-    ≡ settle (or_else (fields_refusal at (length st + 1) (field n f fs)) (brace_refusal (at + length bytes) o (field n f fs))) (read (at + length bytes + 1) (done_with o (field n f fs), st) rest))
-one_field n f fs o rest at m st begins = λ first more.
-    let l : Level = In_field o n in
-    let inner = at + length (name_text n) + 1 in
-    let tail = after_commas (field_texts fs) in
-    let bytes = (name_text n ++ 58 ∷ text f) ++ tail in
-    let a = first_refusal inner (length st + 1) f in
-    let b = fields_refusal (inner + length (text f) + 1) (length st + 1) fs in
-    let around : length (l ∷ st) ≡ length st + 1 = omega arith in
-    let place : inner + length (text f) + length tail ≡ at + length bytes = omega (arith, field_length (name_text n) (text f) tail) in
-    ap (read at (m, st)) (regroup (name_text n) (text f) tail (125 ∷ rest))
-    ∙ read_name n (58 ∷ (text f ++ (tail ++ 125 ∷ rest))) at m (Field_of o) st begins
-    ∙ read_step (at + length (name_text n)) (name_mode (Field_of o) n) st 58 (text f ++ (tail ++ 125 ∷ rest)) _ (colon_step (at + length (name_text n)) o n st)
-    ∙ first
-    ∙ ap (λ i. settle (first_refusal inner i f) (read (inner + length (text f)) (Done f, l ∷ st) (tail ++ 125 ∷ rest))) around
-    ∙ ap (settle a) more
-    ∙ settle_all a b (brace_refusal (inner + length (text f) + length tail) (grown o n f) fs) _
-    ∙ same_end (or_else a b) (inner + length (text f) + length tail) (at + length bytes) o.holder (joined (grown o n f).fields fs) (joined o.fields (field n f fs)) st rest
-    place (joined-assoc o.fields (field n f no_fields) fs)
-
--- a part, and those after it
-one_part : (f : Form) (ps : Parts) (o : OpenTuple) (rest : Utf8) (at : ℕ) (st : List Level)
-    → (let l : Level = In_part o in
-    let tail = after_commas (part_texts ps) in
-    let end = at + length (text f) in
-    read at (Form_due, l ∷ st) (text f ++ (tail ++ 41 ∷ rest)) ≡ settle (first_refusal at (length (l ∷ st)) f) (read end (Done f, l ∷ st) (tail ++ 41 ∷ rest))
-    → read end (Done f, l ∷ st) (tail ++ 41 ∷ rest)
-    ≡ settle (or_else (parts_refusal (end + 1) (length st + 1) ps) (paren_refusal (end + length tail) (grown_tuple o f) ps)) (read (end + length tail + 1) (done_parts (grown_tuple o f) ps, st) rest)
-    → read at (Form_due, l ∷ st) ((text f ++ tail) ++ 41 ∷ rest)
-    ≡ settle (or_else (parts_refusal at (length st + 1) (part f ps)) (paren_refusal (at + length (text f ++ tail)) o (part f ps))) (read (at + length (text f ++ tail) + 1) (done_parts o (part f ps), st) rest))
-one_part f ps o rest at st = λ first more.
-    let l : Level = In_part o in
-    let tail = after_commas (part_texts ps) in
-    let end = at + length (text f) in
-    let a = first_refusal at (length st + 1) f in
-    let b = parts_refusal (end + 1) (length st + 1) ps in
-    let around : length (l ∷ st) ≡ length st + 1 = omega arith in
-    ap (read at (Form_due, l ∷ st)) (append_assoc (text f) tail (41 ∷ rest))
-    ∙ first
-    ∙ ap (λ i. settle (first_refusal at i f) (read end (Done f, l ∷ st) (tail ++ 41 ∷ rest))) around
-    ∙ ap (settle a) more
-    ∙ settle_all a b (paren_refusal (end + length tail) (grown_tuple o f) ps) _
-    ∙ same_paren (or_else a b) (end + length tail) (at + length (text f ++ tail)) o.holder (joined_parts (grown_tuple o f).parts ps) (joined_parts o.parts (part f ps)) st rest
-    (omega (arith, length-append (text f) tail)) (joined_parts-assoc o.parts (part f no_parts) ps)
-
--- a variant, and those after it
-one_variant : (n : Utf8) (c : Content) (vs : Variants) (e : OpenEnum) (rest : Utf8) (at : ℕ) (m : Mode) (st : List Level)
-    → BeginsName at m (Variant_of e) st
-    → (let inner = at + length (name_text n) in
-    let end = inner + length (content_text c) in
-    let tail = after_commas (variant_texts vs) in
-    let bytes = (name_text n ++ content_text c) ++ tail in
-    read inner (name_mode (Variant_of e) n, st) (content_text c ++ (tail ++ 62 ∷ rest)) ≡ settle (content_refusal inner (length st + 1) c) (read end (behind_variant e n c st) (tail ++ 62 ∷ rest))
-    → read end (behind_variant e n c st) (tail ++ 62 ∷ rest)
-    ≡ settle (or_else (variants_refusal (end + 1) (length st + 1) vs) (angle_refusal (end + length tail) (grown_enum e n c) vs)) (read (end + length tail + 1) (done_enum (grown_enum e n c) vs, st) rest)
-    → read at (m, st) (bytes ++ 62 ∷ rest)
-    ≡ settle (or_else (variants_refusal at (length st + 1) (variant n c vs)) (angle_refusal (at + length bytes) e (variant n c vs))) (read (at + length bytes + 1) (done_enum e (variant n c vs), st) rest))
-one_variant n c vs e rest at m st begins = λ first more.
-    let inner = at + length (name_text n) in
-    let end = inner + length (content_text c) in
-    let tail = after_commas (variant_texts vs) in
-    let bytes = (name_text n ++ content_text c) ++ tail in
-    let a = content_refusal inner (length st + 1) c in
-    let b = variants_refusal (end + 1) (length st + 1) vs in
-    ap (read at (m, st)) (append_assoc (name_text n ++ content_text c) tail (62 ∷ rest) ∙ append_assoc (name_text n) (content_text c) (tail ++ 62 ∷ rest))
-    ∙ read_name n (content_text c ++ (tail ++ 62 ∷ rest)) at m (Variant_of e) st begins
-    ∙ first
-    ∙ ap (settle a) more
-    ∙ settle_all a b (angle_refusal (end + length tail) (grown_enum e n c) vs) _
-    ∙ same_angle (or_else a b) (end + length tail) (at + length bytes) e.place (joined_variants (grown_enum e n c).variants vs) (joined_variants e.variants (variant n c vs)) st rest
-    (omega (arith, length-append (name_text n ++ content_text c) tail, length-append (name_text n) (content_text c))) (joined_variants-assoc e.variants (variant n c no_variants) vs)
+part_begins : (at b : ℕ) (h : Holder) (ps : Parts) (st : List Level) → begins_form b ≡ true → step at (Item_due (Parens h ps)) st b ≡ step at Form_due (In_item (Parens h ps) [] ∷ st) b
+unfolding step item_due item_begun
+part_begins at b h ps st k = rw (differs begins_form b 41 k refl) refl
 
 -- ---- where a form is due
 
@@ -325,17 +221,13 @@ deep_step b at st h d = rw (h, d) refl
 form_begins : (at : ℕ) (st : List Level) → nat_le 512 (length st) ≡ false → BeginsName at Form_due (Form_at at) st
 form_begins at st d b h =
     form_step b at st (ap (λ t. t || opens_form b) h) d
-    ∙ ap (λ (t : Bool × Bool × Bool × Bool × Bool). Ok (cond t.0 (First_field (opened (Struct_at at [])), st) (cond t.1 (Form_due, In_brackets at ∷ st) (cond t.2 (Form_due, In_option at ∷ st) (cond t.3 (First_part (opened_tuple (Tuple_at at)), st) (cond t.4 (First_variant (opened_enum at), st) (name_begun (Form_at at) b, st)))))))
+    ∙ ap (λ (t : Bool × Bool × Bool × Bool × Bool). Ok (cond t.0 (Item_due (Braces (Nameless_at at) no_fields), st) (cond t.1 (Form_due, In_brackets at ∷ st) (cond t.2 (Form_due, In_prefix at Option_prefix ∷ st) (cond t.3 (Item_due (Parens (Nameless_at at) no_parts), st) (cond t.4 (Item_due (Angles (opened_enum at)), st) (name_begun (Form_at at) b, st)))))))
     (λ i. (differs begins_name b 123 h refl i, differs begins_name b 91 h refl i, differs begins_name b 63 h refl i, differs begins_name b 40 h refl i, differs begins_name b 60 h refl i))
 
--- a struct's name and its brace
-opens : (n rest : Utf8) (at : ℕ) (st : List Level) → nat_le 512 (length st) ≡ false → run at (Form_due, st) (struct_name_text n ++ 123 ∷ rest) ≡ run (at + length (struct_name_text n) + 1) (First_field (opened (Struct_at at n)), st) rest
-opens [] rest at st d =
-    run_step at Form_due st 123 rest _ (form_step 123 at st refl d) ∙ same_run (at + 1) (at + 0 + 1) (First_field (opened (Struct_at at []))) (First_field (opened (Struct_at at []))) st rest (omega arith) refl
-opens (b ∷ bs) rest at st d =
-    let n = b ∷ bs in
-    name_read n (123 ∷ rest) at Form_due (Form_at at) st (form_begins at st d)
-    ∙ run_step (at + length (name_text n)) (name_mode (Form_at at) n) st 123 rest _ (brace_step (at + length (name_text n)) at b bs st)
+-- the name of a form, and the byte behind it
+name_and : (n : Utf8) (b : ℕ) (rest : Utf8) (at : ℕ) (st : List Level) (s : State) → nat_le 512 (length st) ≡ false → step (at + length (name_text n)) (name_mode (Form_at at) n) st b ≡ Ok s
+    → read at (Form_due, st) (name_text n ++ b ∷ rest) ≡ read (at + length (name_text n) + 1) s rest
+name_and n b rest at st s d h = read_name n (b ∷ rest) at Form_due (Form_at at) st (form_begins at st d) ∙ read_step (at + length (name_text n)) (name_mode (Form_at at) n) st b rest s h
 
 word_read : (l : Leaf) (rest : Utf8) (at : ℕ) (st : List Level) → nat_le 512 (length st) ≡ false → read at (Form_due, st) (word l ++ rest) ≡ read (at + length (word l)) (Bare (Form_at at) (word l), st) rest
 word_read l rest at st d =
@@ -390,104 +282,54 @@ deep_refusal at around x d = rw d refl
 shallow_refusal : (at around : ℕ) (x : Option MakerRefusal) → nat_le 512 around ≡ false → or_else (too_deep at around) x ≡ x
 shallow_refusal at around x d = rw d refl
 
-or_none : (x : Option MakerRefusal) → x ≡ or_else x None
-or_none None = refl
-or_none (Some r) = refl
-
-by_depth : (t : Bool) (f : Form) (rest : Utf8) (at : ℕ) (st : List Level) (x : Option MakerRefusal) → nat_le 512 (length st) ≡ t → first_refusal at (length st) f ≡ or_else (too_deep at (length st)) x
-    → (nat_le 512 (length st) ≡ false → read at (Form_due, st) (text f ++ rest) ≡ settle x (read (at + length (text f)) (Done f, st) rest))
+-- a form that is not too deep is read: what is refused inside it, and what its maker says behind its last byte
+by_depth : (t : Bool) (f : Form) (rest : Utf8) (at : ℕ) (st : List Level) (inside : Option MakerRefusal) → nat_le 512 (length st) ≡ t → first_refusal at (length st) f ≡ form_refusal at (length st) f inside
+    → (nat_le 512 (length st) ≡ false → read at (Form_due, st) (text f ++ rest) ≡ settle (or_else inside (refusal_of (at + length (text f)) at (made_form f))) (read (at + length (text f)) (Done f, st) rest))
     → read at (Form_due, st) (text f ++ rest) ≡ settle (first_refusal at (length st) f) (read (at + length (text f)) (Done f, st) rest)
-by_depth true f rest at st x d is shallow = deep_read f rest at st d ∙ sym (ap (λ o. settle o (read (at + length (text f)) (Done f, st) rest)) (is ∙ deep_refusal at (length st) x d))
-by_depth false f rest at st x d is shallow = shallow d ∙ sym (ap (λ o. settle o (read (at + length (text f)) (Done f, st) rest)) (is ∙ shallow_refusal at (length st) x d))
+by_depth true f rest at st inside d is shallow =
+    deep_read f rest at st d ∙ sym (ap (λ o. settle o (read (at + length (text f)) (Done f, st) rest)) (is ∙ deep_refusal at (length st) (or_else inside (refusal_of (at + length (text f)) at (made_form f))) d))
+by_depth false f rest at st inside d is shallow =
+    shallow d ∙ sym (ap (λ o. settle o (read (at + length (text f)) (Done f, st) rest)) (is ∙ shallow_refusal at (length st) (or_else inside (refusal_of (at + length (text f)) at (made_form f))) d))
 
-struct_length : (n : Utf8) (fs : Fields) → length (text (structure n fs)) ≡ length (struct_name_text n) + 1 + length (listed (field_texts fs)) + 1
-struct_length n fs = omega (arith, length-append (struct_name_text n) (123 ∷ (listed (field_texts fs) ++ 125 ∷ [])), length-append (listed (field_texts fs)) (125 ∷ []))
+-- how a form is read
+abbrev ReadsForm : Form → Type 0
+ReadsForm f = (rest : Utf8) (at : ℕ) (st : List Level) → goes_on rest ≡ false → read at (Form_due, st) (text f ++ rest) ≡ settle (first_refusal at (length st) f) (read (at + length (text f)) (Done f, st) rest)
 
-struct_group : (name fields rest : Utf8) → (name ++ 123 ∷ (fields ++ 125 ∷ [])) ++ rest ≡ name ++ 123 ∷ (fields ++ 125 ∷ rest)
-struct_group name fields rest = append_assoc name (123 ∷ (fields ++ 125 ∷ [])) rest ∙ ap (λ xs. name ++ 123 ∷ xs) (append_assoc fields (125 ∷ []) rest)
-
-first_closed : (o : Open) (rest : Utf8) (at : ℕ) (st : List Level)
-    → read at (First_field o, st) (125 ∷ rest) ≡ settle (brace_refusal (at + 0) o no_fields) (read (at + 0 + 1) (done_with o no_fields, st) rest)
-unfolding step first_field
-first_closed o rest at st =
-    braces_read o.holder o.fields (First_field o) st st at rest refl
-    ∙ same_end None at (at + 0) o.holder o.fields (joined o.fields no_fields) st rest (omega arith) (sym (joined-none o.fields))
-
-next_closed : (f : Form) (o : Open) (n : Utf8) (rest : Utf8) (at : ℕ) (st : List Level)
-    → read at (Done f, In_field o n ∷ st) (125 ∷ rest) ≡ settle (brace_refusal (at + 0) (grown o n f) no_fields) (read (at + 0 + 1) (done_with (grown o n f) no_fields, st) rest)
-next_closed f o n rest at st =
-    let g = grown o n f in
-    braces_read g.holder g.fields (Done f) (In_field o n ∷ st) st at rest (close_step f o n st at)
-    ∙ same_end None at (at + 0) g.holder g.fields (joined g.fields no_fields) st rest (omega arith) (sym (joined-none g.fields))
-
-first_part_closed : (o : OpenTuple) (rest : Utf8) (at : ℕ) (st : List Level)
-    → read at (First_part o, st) (41 ∷ rest) ≡ settle (paren_refusal (at + 0) o no_parts) (read (at + 0 + 1) (done_parts o no_parts, st) rest)
-unfolding step first_part
-first_part_closed o rest at st =
-    parens_read o.holder o.parts (First_part o) st st at rest refl
-    ∙ same_paren None at (at + 0) o.holder o.parts (joined_parts o.parts no_parts) st rest (omega arith) (sym (joined_parts-none o.parts))
-
-next_part_closed : (f : Form) (o : OpenTuple) (rest : Utf8) (at : ℕ) (st : List Level)
-    → read at (Done f, In_part o ∷ st) (41 ∷ rest) ≡ settle (paren_refusal (at + 0) (grown_tuple o f) no_parts) (read (at + 0 + 1) (done_parts (grown_tuple o f) no_parts, st) rest)
-next_part_closed f o rest at st =
-    let g = grown_tuple o f in
-    parens_read g.holder g.parts (Done f) (In_part o ∷ st) st at rest (part_close f o st at)
-    ∙ same_paren None at (at + 0) g.holder g.parts (joined_parts g.parts no_parts) st rest (omega arith) (sym (joined_parts-none g.parts))
-
--- a part begins behind the parenthesis as a form begins
-first_part_read : (f : Form) (o : OpenTuple) (rest : Utf8) (at : ℕ) (st : List Level) → read at (First_part o, st) (text f ++ rest) ≡ read at (Form_due, In_part o ∷ st) (text f ++ rest)
-unfolding step first_part
-first_part_read f o rest at st =
-    let t = text_begins f in
-    let other : eqb t.byte 41 ≡ false = differs begins_form t.byte 41 t.begins refl in
-    let same : step at (First_part o) st t.byte ≡ step at Form_due (In_part o ∷ st) t.byte = rw other refl in
-    ap (λ xs. read at (First_part o, st) (xs ++ rest)) t.whole ∙ read_same at (First_part o) Form_due st (In_part o ∷ st) t.byte (t.rest ++ rest) same ∙ sym (ap (λ xs. read at (Form_due, In_part o ∷ st) (xs ++ rest)) t.whole)
-
-angle_read : (e : OpenEnum) (m : Mode) (levels' st : List Level) (at : ℕ) (rest : Utf8) → step at m levels' 62 ≡ enum_closed at e st
-    → read at (m, levels') (62 ∷ rest) ≡ settle (angle_refusal (at + 0) e no_variants) (read (at + 0 + 1) (done_enum e no_variants, st) rest)
-angle_read e m levels' st at rest h =
-    closed_read (made_enumeration e.variants) (enumeration e.variants) m levels' st at e.place 62 rest (made_enumeration-made e.variants) h
-    ∙ same_angle None at (at + 0) e.place e.variants (joined_variants e.variants no_variants) st rest (omega arith) (sym (joined_variants-none e.variants))
-
-first_variant_closed : (o : OpenEnum) (rest : Utf8) (at : ℕ) (st : List Level)
-    → read at (First_variant o, st) (62 ∷ rest) ≡ settle (angle_refusal (at + 0) o no_variants) (read (at + 0 + 1) (done_enum o no_variants, st) rest)
-unfolding step first_variant
-first_variant_closed o rest at st = angle_read o (First_variant o) st st at rest refl
-
--- behind a field's form no word goes on
-more_ends : (fs : Fields) (rest : Utf8) → goes_on (after_commas (field_texts fs) ++ 125 ∷ rest) ≡ false
-more_ends no_fields rest = refl
-more_ends (field n f fs) rest = refl
-
--- nor behind a part or a variant
-parts_end : (ps : Parts) (rest : Utf8) → goes_on (after_commas (part_texts ps) ++ 41 ∷ rest) ≡ false
-parts_end no_parts rest = refl
-parts_end (part f ps) rest = refl
-
-variants_end : (vs : Variants) (rest : Utf8) → goes_on (after_commas (variant_texts vs) ++ 62 ∷ rest) ≡ false
-variants_end no_variants rest = refl
-variants_end (variant n c vs) rest = refl
-
--- a list between two bytes
-list_group : (b c : ℕ) (xs rest : Utf8) → (b ∷ (xs ++ c ∷ [])) ++ rest ≡ b ∷ (xs ++ c ∷ rest)
-list_group b c xs rest = ap (λ ys. b ∷ ys) (append_assoc xs (c ∷ []) rest)
-
-list_length : (b c : ℕ) (xs : Utf8) → length (b ∷ (xs ++ c ∷ [])) ≡ 1 + length xs + 1
-list_length b c xs = omega (arith, length-append xs (c ∷ []))
-
-settle_none : (x : Option MakerRefusal) (r : Result Form Refusal) → settle (or_else x None) r ≡ settle x r
-settle_none x r = ap (λ o. settle o r) (sym (or_none x))
-
--- an inner form, whose text is read at the place, and the maker of the one around it
-around_read : (f : Form) (inner : ℕ) (l : Level) (st : List Level) (rest : Utf8) (r : Option MakerRefusal) (last : Result Form Refusal)
-    → read inner (Form_due, l ∷ st) (text f ++ rest) ≡ settle (first_refusal inner (length (l ∷ st)) f) (read (inner + length (text f)) (Done f, l ∷ st) rest)
-    → read (inner + length (text f)) (Done f, l ∷ st) rest ≡ settle r last
-    → read inner (Form_due, l ∷ st) (text f ++ rest) ≡ settle (or_else (first_refusal inner (length st + 1) f) r) last
-around_read f inner l st rest r last first more =
+-- inside one more form
+inner_read : (f : Form) (l : Level) (st : List Level) (rest : Utf8) (at : ℕ) → ReadsForm f → goes_on rest ≡ false
+    → read at (Form_due, l ∷ st) (text f ++ rest) ≡ settle (first_refusal at (length st + 1) f) (read (at + length (text f)) (Done f, l ∷ st) rest)
+inner_read f l st rest at form ends =
     let around : length (l ∷ st) ≡ length st + 1 = omega arith in
-    first ∙ ap (λ i. settle (first_refusal inner i f) (read (inner + length (text f)) (Done f, l ∷ st) rest)) around
-    ∙ ap (settle (first_refusal inner (length st + 1) f)) more
-    ∙ settle_both (first_refusal inner (length st + 1) f) r last
+    form rest at (l ∷ st) ends ∙ ap (λ i. settle (first_refusal at i f) (read (at + length (text f)) (Done f, l ∷ st) rest)) around
+
+-- and what is answered behind it
+around_read : (f : Form) (l : Level) (st : List Level) (rest : Utf8) (at : ℕ) (r : Option MakerRefusal) (last : Result Form Refusal) → ReadsForm f → goes_on rest ≡ false
+    → read (at + length (text f)) (Done f, l ∷ st) rest ≡ settle r last
+    → read at (Form_due, l ∷ st) (text f ++ rest) ≡ settle (or_else (first_refusal at (length st + 1) f) r) last
+around_read f l st rest at r last form ends more =
+    inner_read f l st rest at form ends ∙ ap (settle (first_refusal at (length st + 1) f)) more ∙ settle_both (first_refusal at (length st + 1) f) r last
+
+prefixed_read : (p : Prefix) (f : Form) (st : List Level) (rest : Utf8) (inner at : ℕ) → ReadsForm f → goes_on rest ≡ false → inner + length (text f) ≡ at + length (text (prefixed p f))
+    → read inner (Form_due, In_prefix at p ∷ st) (text f ++ rest) ≡ settle (or_else (first_refusal inner (length st + 1) f) (refusal_of (at + length (text (prefixed p f))) at (made_form (prefixed p f)))) (read (at + length (text (prefixed p f))) (Done (prefixed p f), st) rest)
+prefixed_read p f st rest inner at form ends place =
+    let end = inner + length (text f) in
+    around_read f (In_prefix at p) st rest inner (refusal_of end at (made_form (prefixed p f))) (read end (Done (prefixed p f), st) rest) form ends (prefix_read p f end at st rest)
+    ∙ moved end (at + length (text (prefixed p f))) (first_refusal inner (length st + 1) f) (Closed_form at (prefixed p f)) st rest place
+
+-- ---- brackets with one item or two
+
+sequence_step : (f : Form) (place : ℕ) (st : List Level) (at : ℕ) → step at (Done f) (In_brackets place ∷ st) 93 ≡ form_closed at place st (made_form (sequence f))
+unfolding step form_ended wrapped
+sequence_step f place st at = refl
+
+-- the colon of a map that begins at the place, and its closing bracket
+key_step : (k : Form) (place : ℕ) (st : List Level) (at : ℕ) → step at (Done k) (In_brackets place ∷ st) 58 ≡ Ok (Form_due, In_map place k ∷ st)
+unfolding step form_ended wrapped
+key_step k place st at = refl
+
+value_step : (k v : Form) (place : ℕ) (st : List Level) (at : ℕ) → step at (Done v) (In_map place k ∷ st) 93 ≡ form_closed at place st (made_form (map k v))
+unfolding step form_ended wrapped
+value_step k v place st at = refl
 
 map_length : (k v : Form) → length (text (map k v)) ≡ 1 + length (text k) + 1 + length (text v) + 1
 map_length k v = omega (arith, length-append (text k) (58 ∷ (text v ++ 93 ∷ [])), length-append (text v) (93 ∷ []))
@@ -495,28 +337,175 @@ map_length k v = omega (arith, length-append (text k) (58 ∷ (text v ++ 93 ∷ 
 map_group : (key value rest : Utf8) → (key ++ 58 ∷ (value ++ 93 ∷ [])) ++ rest ≡ key ++ 58 ∷ (value ++ 93 ∷ rest)
 map_group key value rest = append_assoc key (58 ∷ (value ++ 93 ∷ [])) rest ∙ ap (λ xs. key ++ 58 ∷ xs) (append_assoc value (93 ∷ []) rest)
 
+-- ---- groups
+
+-- a group of these items is read, whose opening bracket is behind these bytes
+group_read : (pre : Utf8) (b inner : ℕ) (g h : Group) (f : Form) (xs : List Utf8) (refused : ℕ → Option MakerRefusal) (rest : Utf8) (at : ℕ) (st : List Level)
+    → text f ≡ pre ++ b ∷ (listed xs ++ closing h ∷ []) → inner ≡ at + length pre + 1 → closed h ≡ Closed_form at f
+    → ((more : Utf8) → read at (Form_due, st) (pre ++ b ∷ more) ≡ read inner (Item_due g, st) more) → ReadsAll st g xs refused h
+    → read at (Form_due, st) (text f ++ rest) ≡ settle (or_else (refused inner) (refusal_of (at + length (text f)) at (made_form f))) (read (at + length (text f)) (Done f, st) rest)
+group_read pre b inner g h f xs refused rest at st whole place is opens all =
+    let items = listed xs in
+    let end = at + length (text f) in
+    ap (λ ys. read at (Form_due, st) (ys ++ rest)) whole
+    ∙ ap (read at (Form_due, st)) (append_assoc pre (b ∷ (items ++ closing h ∷ [])) rest ∙ ap (λ ys. pre ++ b ∷ ys) (append_assoc items (closing h ∷ []) rest))
+    ∙ opens (items ++ closing h ∷ rest) ∙ all rest inner
+    ∙ moved (inner + length items + 1) end (refused inner) (closed h) st rest (omega (arith, place, ap length whole, length-append pre (b ∷ (items ++ closing h ∷ [])), length-append items (closing h ∷ [])))
+    ∙ ap (λ c. settle (or_else (refused inner) (closed_refusal end c)) (read end (after c, st) rest)) is
+
+-- without a name before the bracket
+nameless_read : (b : ℕ) (g h : Group) (f : Form) (xs : List Utf8) (refused : ℕ → Option MakerRefusal) (rest : Utf8) (at : ℕ) (st : List Level)
+    → text f ≡ b ∷ (listed xs ++ closing h ∷ []) → closed h ≡ Closed_form at f → step at Form_due st b ≡ Ok (Item_due g, st) → ReadsAll st g xs refused h
+    → read at (Form_due, st) (text f ++ rest) ≡ settle (or_else (refused (at + 1)) (refusal_of (at + length (text f)) at (made_form f))) (read (at + length (text f)) (Done f, st) rest)
+nameless_read b g h f xs refused rest at st whole is opens all = group_read [] b (at + 1) g h f xs refused rest at st whole (omega arith) is (λ more. read_step at Form_due st b more (Item_due g, st) opens) all
+
+-- behind a name
+named_read : (n : Utf8) (b : ℕ) (g h : Group) (f : Form) (xs : List Utf8) (refused : ℕ → Option MakerRefusal) (rest : Utf8) (at : ℕ) (st : List Level)
+    → nat_le 512 (length st) ≡ false → text f ≡ name_text n ++ b ∷ (listed xs ++ closing h ∷ []) → closed h ≡ Closed_form at f
+    → step (at + length (name_text n)) (name_mode (Form_at at) n) st b ≡ Ok (Item_due g, st) → ReadsAll st g xs refused h
+    → read at (Form_due, st) (text f ++ rest) ≡ settle (or_else (refused (at + length (name_text n) + 1)) (refusal_of (at + length (text f)) at (made_form f))) (read (at + length (text f)) (Done f, st) rest)
+named_read n b g h f xs refused rest at st d whole is opens all =
+    group_read (name_text n) b (at + length (name_text n) + 1) g h f xs refused rest at st whole refl is (λ more. name_and n b more at st (Item_due g, st) d opens) all
+
+-- the items of a variant are read
+variant_read : (b : ℕ) (e : OpenEnum) (n : Utf8) (c : Content) (g h : Group) (xs : List Utf8) (refused : ℕ → Option MakerRefusal) (rest : Utf8) (at : ℕ) (st : List Level)
+    → content_text c ≡ b ∷ (listed xs ++ closing h ∷ []) → closed h ≡ Closed_variant (grown_enum e n c) → step at (name_mode (Item_of (Angles e)) n) st b ≡ Ok (Item_due g, st) → ReadsAll st g xs refused h
+    → read at (name_mode (Item_of (Angles e)) n, st) (content_text c ++ rest) ≡ settle (refused (at + 1)) (read (at + length (content_text c)) (Item_done (Angles (grown_enum e n c)), st) rest)
+variant_read b e n c g h xs refused rest at st whole is opens all =
+    let items = listed xs in
+    let m = name_mode (Item_of (Angles e)) n in
+    let end = at + length (content_text c) in
+    ap (λ ys. read at (m, st) (ys ++ rest)) whole
+    ∙ ap (λ ys. read at (m, st) (b ∷ ys)) (append_assoc items (closing h ∷ []) rest)
+    ∙ read_step at m st b (items ++ closing h ∷ rest) (Item_due g, st) opens ∙ all rest (at + 1)
+    ∙ moved (at + 1 + length items + 1) end (refused (at + 1)) (closed h) st rest (omega (arith, ap length whole, length-append items (closing h ∷ [])))
+    ∙ ap (λ k. settle (or_else (refused (at + 1)) (closed_refusal end k)) (read end (after k, st) rest)) is
+    ∙ no_more_refused (refused (at + 1)) (read end (Item_done (Angles (grown_enum e n c)), st) rest)
+  where
+    no_more_refused : (x : Option MakerRefusal) (r : Result Form Refusal) → settle (or_else x None) r ≡ settle x r
+    no_more_refused None r = refl
+    no_more_refused (Some y) r = refl
+
+-- ---- items, a row for each kind
+
+field_item : (n : Utf8) (f : Form) (h : Holder) (gs : Fields) (st : List Level) → ReadsForm f
+    → ReadsItem st (Braces h gs) (name_text n ++ 58 ∷ text f) (λ at. first_refusal (at + length (name_text n) + 1) (length st + 1) f) (Braces h (push_field gs n f))
+field_item n f h gs st form =
+    let g : Group = Braces h gs in
+    record {
+      state = (Done f, In_item g n ∷ st);
+      behind = behind_form g n f st;
+      reads = λ rest at ends.
+          let inner = at + length (name_text n) + 1 in
+          let end : inner + length (text f) ≡ at + length (name_text n ++ 58 ∷ text f) = omega (arith, length-append (name_text n) (58 ∷ text f)) in
+          ap (read at (Item_due g, st)) (append_assoc (name_text n) (58 ∷ text f) rest)
+          ∙ read_name n (58 ∷ (text f ++ rest)) at (Item_due g) (Item_of g) st (field_begins at h gs st)
+          ∙ read_step (at + length (name_text n)) (name_mode (Item_of g) n) st 58 (text f ++ rest) _ (name_step (at + length (name_text n)) (Item_of g) n st 58 refl tt)
+          ∙ inner_read f (In_item g n) st rest inner form ends
+          ∙ ap (λ i. settle (first_refusal inner (length st + 1) f) (read i (Done f, In_item g n ∷ st) rest)) end;
+    }
+
+part_item : (f : Form) (h : Holder) (gs : Parts) (st : List Level) → ReadsForm f → ReadsItem st (Parens h gs) (text f) (λ at. first_refusal at (length st + 1) f) (Parens h (push_part gs f))
+part_item f h gs st form =
+    let g : Group = Parens h gs in
+    let t = text_begins f in
+    record {
+      state = (Done f, In_item g [] ∷ st);
+      behind = behind_form g [] f st;
+      reads = λ rest at ends.
+          ap (λ xs. read at (Item_due g, st) (xs ++ rest)) t.whole
+          ∙ read_same at (Item_due g) Form_due st (In_item g [] ∷ st) t.byte (t.rest ++ rest) (part_begins at t.byte h gs st t.begins)
+          ∙ sym (ap (λ xs. read at (Form_due, In_item g [] ∷ st) (xs ++ rest)) t.whole)
+          ∙ inner_read f (In_item g []) st rest at form ends;
+    }
+
+-- the state behind a variant
+abbrev variant_state : Content → OpenEnum → Utf8 → List Level → State
+variant_state unit_content e n st = (name_mode (Item_of (Angles e)) n, st)
+variant_state (newtype_content f) e n st = (Done f, In_item (Angles e) n ∷ st)
+variant_state (tuple_content ps) e n st = (Item_done (Angles (grown_enum e n (tuple_content ps))), st)
+variant_state (struct_content fs) e n st = (Item_done (Angles (grown_enum e n (struct_content fs))), st)
+
+variant_behind : (c : Content) (e : OpenEnum) (n : Utf8) (st : List Level) → BehindItem (variant_state c e n st) (Angles (grown_enum e n c)) st
+variant_behind unit_content e n st = record { next = λ at. name_step at (Item_of (Angles e)) n st 44 refl tt; ends = λ at. name_step at (Item_of (Angles e)) n st 62 refl tt }
+variant_behind (newtype_content f) e n st = behind_form (Angles e) n f st
+variant_behind (tuple_content ps) e n st = behind_done (Angles (grown_enum e n (tuple_content ps))) st
+variant_behind (struct_content fs) e n st = behind_done (Angles (grown_enum e n (struct_content fs))) st
+
+-- how what a variant has is read, behind its name
+abbrev ReadsContent : Content → Type 0
+ReadsContent c =
+    (e : OpenEnum) (n rest : Utf8) (at : ℕ) (st : List Level) → goes_on rest ≡ false
+    → read at (name_mode (Item_of (Angles e)) n, st) (content_text c ++ rest) ≡ settle (content_refusal at (length st + 1) c) (read (at + length (content_text c)) (variant_state c e n st) rest)
+
+variant_item : (n : Utf8) (c : Content) (e : OpenEnum) (st : List Level) → ReadsContent c
+    → ReadsItem st (Angles e) (name_text n ++ content_text c) (λ at. content_refusal (at + length (name_text n)) (length st + 1) c) (Angles (grown_enum e n c))
+variant_item n c e st content =
+    let g : Group = Angles e in
+    record {
+      state = variant_state c e n st;
+      behind = variant_behind c e n st;
+      reads = λ rest at ends.
+          let inner = at + length (name_text n) in
+          let end : inner + length (content_text c) ≡ at + length (name_text n ++ content_text c) = omega (arith, length-append (name_text n) (content_text c)) in
+          ap (read at (Item_due g, st)) (append_assoc (name_text n) (content_text c) rest)
+          ∙ read_name n (content_text c ++ rest) at (Item_due g) (Item_of g) st (variant_begins at e st)
+          ∙ content e n rest inner st ends
+          ∙ ap (λ i. settle (content_refusal inner (length st + 1) c) (read i (variant_state c e n st) rest)) end;
+    }
+
+-- one, and those after it
+field_and : (n : Utf8) (f : Form) (fs : Fields) (h : Holder) (gs : Fields) (st : List Level) → ReadsForm f
+    → ReadsMore st (Braces h (push_field gs n f)) (field_texts fs) (λ at. fields_refusal at (length st + 1) fs) (Braces h (joined (push_field gs n f) fs))
+    → ReadsAll st (Braces h gs) (field_texts (field n f fs)) (λ at. fields_refusal at (length st + 1) (field n f fs)) (Braces h (joined gs (field n f fs)))
+field_and n f fs h gs st form more =
+    subst (λ ks. ReadsAll st (Braces h gs) (field_texts (field n f fs)) (λ at. fields_refusal at (length st + 1) (field n f fs)) (Braces h ks)) (joined-assoc gs (field n f no_fields) fs)
+    (item_and st (Braces h gs) (Braces h (push_field gs n f)) (Braces h (joined (push_field gs n f) fs)) (name_text n ++ 58 ∷ text f) (field_texts fs) _ (λ at. fields_refusal at (length st + 1) fs) (field_item n f h gs st form) more)
+
+part_and : (f : Form) (ps : Parts) (h : Holder) (gs : Parts) (st : List Level) → ReadsForm f
+    → ReadsMore st (Parens h (push_part gs f)) (part_texts ps) (λ at. parts_refusal at (length st + 1) ps) (Parens h (joined_parts (push_part gs f) ps))
+    → ReadsAll st (Parens h gs) (part_texts (part f ps)) (λ at. parts_refusal at (length st + 1) (part f ps)) (Parens h (joined_parts gs (part f ps)))
+part_and f ps h gs st form more =
+    subst (λ ks. ReadsAll st (Parens h gs) (part_texts (part f ps)) (λ at. parts_refusal at (length st + 1) (part f ps)) (Parens h ks)) (joined_parts-assoc gs (part f no_parts) ps)
+    (item_and st (Parens h gs) (Parens h (push_part gs f)) (Parens h (joined_parts (push_part gs f) ps)) (text f) (part_texts ps) _ (λ at. parts_refusal at (length st + 1) ps) (part_item f h gs st form) more)
+
+-- the enum with more variants
+abbrev with_variants : OpenEnum → Variants → Group
+with_variants e vs = Angles (record { place = e.place; variants = joined_variants e.variants vs })
+
+variant_and : (n : Utf8) (c : Content) (vs : Variants) (e : OpenEnum) (st : List Level) → ReadsContent c
+    → ReadsMore st (Angles (grown_enum e n c)) (variant_texts vs) (λ at. variants_refusal at (length st + 1) vs) (with_variants (grown_enum e n c) vs)
+    → ReadsAll st (Angles e) (variant_texts (variant n c vs)) (λ at. variants_refusal at (length st + 1) (variant n c vs)) (with_variants e (variant n c vs))
+variant_and n c vs e st content more =
+    subst (λ ws. ReadsAll st (Angles e) (variant_texts (variant n c vs)) (λ at. variants_refusal at (length st + 1) (variant n c vs)) (Angles (record { place = e.place; variants = ws }))) (joined_variants-assoc e.variants (variant n c no_variants) vs)
+    (item_and st (Angles e) (Angles (grown_enum e n c)) (with_variants (grown_enum e n c) vs) (name_text n ++ content_text c) (variant_texts vs) _ (λ at. variants_refusal at (length st + 1) vs) (variant_item n c e st content) more)
+
 mutual
   pub reads_form : (f : Form) (rest : Utf8) (at : ℕ) (st : List Level) → goes_on rest ≡ false → read at (Form_due, st) (text f ++ rest) ≡ settle (first_refusal at (length st) f) (read (at + length (text f)) (Done f, st) rest)
-  reads_form (leaf l) rest at st ends =
-      by_depth (nat_le 512 (length st)) (leaf l) rest at st None refl (or_none (too_deep at (length st))) (λ d. word_read l rest at st d ∙ leaf_read rest l (at + length (word l)) at st ends)
+  reads_form (leaf l) rest at st ends = by_depth (nat_le 512 (length st)) (leaf l) rest at st None refl refl (λ d. word_read l rest at st d ∙ leaf_read rest l (at + length (word l)) at st ends)
   reads_form (optional f) rest at st ends =
-      let inner = at + 1 in
-      let end = inner + length (text f) in
-      let x = or_else (first_refusal inner (length st + 1) f) (refusal_of end at (made_optional f)) in
-      by_depth (nat_le 512 (length st)) (optional f) rest at st x refl refl
-      (λ d. read_step at Form_due st 63 (text f ++ rest) _ (form_step 63 at st refl d)
-      ∙ around_read f inner (In_option at) st rest (refusal_of end at (made_optional f)) (read end (Done (optional f), st) rest) (reads_form f rest inner (In_option at ∷ st) ends) (option_read f end at st rest)
-      ∙ ap (λ i. settle x (read i (Done (optional f), st) rest)) (let e : end ≡ at + length (text (optional f)) = omega arith in e))
+      by_depth (nat_le 512 (length st)) (optional f) rest at st (first_refusal (at + 1) (length st + 1) f) refl refl
+      (λ d. read_step at Form_due st 63 (text f ++ rest) _ (form_step 63 at st refl d) ∙ prefixed_read Option_prefix f st rest (at + 1) at (reads_form f) ends (omega arith))
+  reads_form (newtype n f) rest at st ends =
+      let inner = at + length (name_text n) + 1 in
+      by_depth (nat_le 512 (length st)) (newtype n f) rest at st (first_refusal inner (length st + 1) f) refl refl
+      (λ d. ap (read at (Form_due, st)) (append_assoc (name_text n) (61 ∷ text f) rest)
+      ∙ name_and n 61 (text f ++ rest) at st (Form_due, In_prefix at (Newtype_prefix n) ∷ st) d (name_step (at + length (name_text n)) (Form_at at) n st 61 refl refl)
+      ∙ prefixed_read (Newtype_prefix n) f st rest inner at (reads_form f) ends (omega (arith, length-append (name_text n) (61 ∷ text f))))
+  reads_form (unit_structure n) rest at st ends =
+      by_depth (nat_le 512 (length st)) (unit_structure n) rest at st None refl refl
+      (λ d. ap (read at (Form_due, st)) (append_assoc (name_text n) (33 ∷ []) rest)
+      ∙ name_and n 33 rest at st (Done (unit_structure n), st) d (name_step (at + length (name_text n)) (Form_at at) n st 33 refl refl)
+      ∙ ap (λ i. read i (Done (unit_structure n), st) rest) (let e : at + length (name_text n) + 1 ≡ at + length (text (unit_structure n)) = omega (arith, length-append (name_text n) (33 ∷ [])) in e))
   reads_form (sequence f) rest at st ends =
-      let inner = at + 1 in
-      let end = inner + length (text f) in
-      let x = or_else (first_refusal inner (length st + 1) f) (refusal_of (end + 1) at (made_sequence f)) in
-      by_depth (nat_le 512 (length st)) (sequence f) rest at st x refl refl
+      let end = at + 1 + length (text f) in
+      let a = first_refusal (at + 1) (length st + 1) f in
+      by_depth (nat_le 512 (length st)) (sequence f) rest at st a refl refl
       (λ d. read_step at Form_due st 91 ((text f ++ 93 ∷ []) ++ rest) _ (form_step 91 at st refl d)
-      ∙ ap (read inner (Form_due, In_brackets at ∷ st)) (append_assoc (text f) (93 ∷ []) rest)
-      ∙ around_read f inner (In_brackets at) st (93 ∷ rest) (refusal_of (end + 1) at (made_sequence f)) (read (end + 1) (Done (sequence f), st) rest) (reads_form f (93 ∷ rest) inner (In_brackets at ∷ st) refl)
-      (closed_read (made_sequence f) (sequence f) (Done f) (In_brackets at ∷ st) st end at 93 rest (within_levels-made (sequence f)) (item_step f at st end))
-      ∙ ap (λ i. settle x (read i (Done (sequence f), st) rest)) (let e : end + 1 ≡ at + length (text (sequence f)) = omega (arith, length-append (text f) (93 ∷ [])) in e))
+      ∙ ap (read (at + 1) (Form_due, In_brackets at ∷ st)) (append_assoc (text f) (93 ∷ []) rest)
+      ∙ around_read f (In_brackets at) st (93 ∷ rest) (at + 1) (refusal_of (end + 1) at (made_form (sequence f))) (read (end + 1) (Done (sequence f), st) rest) (reads_form f) refl
+      (closed_read (sequence f) (Done f, In_brackets at ∷ st) st end at 93 rest (sequence_step f at st end))
+      ∙ moved (end + 1) (at + length (text (sequence f))) a (Closed_form at (sequence f)) st rest (omega (arith, length-append (text f) (93 ∷ []))))
   reads_form (map k v) rest at st ends =
       let key = at + 1 in
       let colon = key + length (text k) in
@@ -524,167 +513,74 @@ mutual
       let end = value + length (text v) in
       let a = first_refusal key (length st + 1) k in
       let b = first_refusal value (length st + 1) v in
-      let made = refusal_of (end + 1) at (made_map k v) in
+      let made = refusal_of (end + 1) at (made_form (map k v)) in
       let last = read (end + 1) (Done (map k v), st) rest in
-      by_depth (nat_le 512 (length st)) (map k v) rest at st (or_else (or_else a b) made) refl refl
+      by_depth (nat_le 512 (length st)) (map k v) rest at st (or_else a b) refl refl
       (λ d. read_step at Form_due st 91 ((text k ++ 58 ∷ (text v ++ 93 ∷ [])) ++ rest) _ (form_step 91 at st refl d)
       ∙ ap (read key (Form_due, In_brackets at ∷ st)) (map_group (text k) (text v) rest)
-      ∙ around_read k key (In_brackets at) st (58 ∷ (text v ++ 93 ∷ rest)) (or_else b made) last (reads_form k (58 ∷ (text v ++ 93 ∷ rest)) key (In_brackets at ∷ st) refl)
+      ∙ around_read k (In_brackets at) st (58 ∷ (text v ++ 93 ∷ rest)) key (or_else b made) last (reads_form k) refl
       (read_step colon (Done k) (In_brackets at ∷ st) 58 (text v ++ 93 ∷ rest) _ (key_step k at st colon)
-      ∙ around_read v value (In_map at k) st (93 ∷ rest) made last (reads_form v (93 ∷ rest) value (In_map at k ∷ st) refl)
-      (closed_read (made_map k v) (map k v) (Done v) (In_map at k ∷ st) st end at 93 rest (made_map-made k v) (value_step k v at st end)))
+      ∙ around_read v (In_map at k) st (93 ∷ rest) value made last (reads_form v) refl
+      (closed_read (map k v) (Done v, In_map at k ∷ st) st end at 93 rest (value_step k v at st end)))
       ∙ sym (settle_both a (or_else b made) last) ∙ settle_all a b made last
-      ∙ ap (λ i. settle (or_else (or_else a b) made) (read i (Done (map k v), st) rest)) (let e : end + 1 ≡ at + length (text (map k v)) = omega (arith, map_length k v) in e))
+      ∙ moved (end + 1) (at + length (text (map k v))) (or_else a b) (Closed_form at (map k v)) st rest (omega (arith, map_length k v)))
   reads_form (tuple ps) rest at st ends =
-      let inner = at + 1 in
-      let parts = listed (part_texts ps) in
-      let x = or_else (parts_refusal inner (length st + 1) ps) (refusal_of (inner + length parts + 1) at (made_tuple ps)) in
-      by_depth (nat_le 512 (length st)) (tuple ps) rest at st x refl refl
-      (λ d. ap (read at (Form_due, st)) (list_group 40 41 parts rest)
-      ∙ read_step at Form_due st 40 (parts ++ 41 ∷ rest) _ (form_step 40 at st refl d)
-      ∙ reads_parts ps (opened_tuple (Tuple_at at)) rest inner st
-      ∙ ap (λ i. settle x (read i (Done (tuple ps), st) rest)) (let e : inner + length parts + 1 ≡ at + length (text (tuple ps)) = omega (arith, list_length 40 41 parts) in e))
+      by_depth (nat_le 512 (length st)) (tuple ps) rest at st (parts_refusal (at + 1) (length st + 1) ps) refl refl
+      (λ d. nameless_read 40 (Parens (Nameless_at at) no_parts) (Parens (Nameless_at at) ps) (tuple ps) (part_texts ps) (λ i. parts_refusal i (length st + 1) ps) rest at st refl refl (form_step 40 at st refl d) (reads_parts ps (Nameless_at at) st))
   reads_form (tuple_structure n ps) rest at st ends =
-      let behind = at + length (name_text n) in
-      let inner = behind + 1 in
-      let parts = listed (part_texts ps) in
-      let x = or_else (parts_refusal inner (length st + 1) ps) (refusal_of (inner + length parts + 1) at (made_tuple_structure n ps)) in
-      by_depth (nat_le 512 (length st)) (tuple_structure n ps) rest at st x refl refl
-      (λ d. ap (read at (Form_due, st)) (append_assoc (name_text n) (40 ∷ (parts ++ 41 ∷ [])) rest ∙ ap (λ xs. name_text n ++ xs) (list_group 40 41 parts rest))
-      ∙ read_name n (40 ∷ (parts ++ 41 ∷ rest)) at Form_due (Form_at at) st (form_begins at st d)
-      ∙ read_step behind (name_mode (Form_at at) n) st 40 (parts ++ 41 ∷ rest) _ (paren_step behind at n st)
-      ∙ reads_parts ps (opened_tuple (Tuple_struct_at at n)) rest inner st
-      ∙ ap (λ i. settle x (read i (Done (tuple_structure n ps), st) rest)) (let e : inner + length parts + 1 ≡ at + length (text (tuple_structure n ps)) = omega (arith, list_length 40 41 parts, length-append (name_text n) (40 ∷ (parts ++ 41 ∷ []))) in e))
+      by_depth (nat_le 512 (length st)) (tuple_structure n ps) rest at st (parts_refusal (at + length (name_text n) + 1) (length st + 1) ps) refl refl
+      (λ d. named_read n 40 (Parens (Named_at at n) no_parts) (Parens (Named_at at n) ps) (tuple_structure n ps) (part_texts ps) (λ i. parts_refusal i (length st + 1) ps) rest at st d refl refl
+      (name_step (at + length (name_text n)) (Form_at at) n st 40 refl refl) (reads_parts ps (Named_at at n) st))
+  reads_form (structure [] fs) rest at st ends =
+      by_depth (nat_le 512 (length st)) (structure [] fs) rest at st (fields_refusal (at + length (struct_name_text []) + 1) (length st + 1) fs) refl refl
+      (λ d. group_read [] 123 (at + length (struct_name_text []) + 1) (Braces (Nameless_at at) no_fields) (Braces (Nameless_at at) fs) (structure [] fs) (field_texts fs) (λ i. fields_refusal i (length st + 1) fs) rest at st refl refl refl
+      (λ more. read_step at Form_due st 123 more (Item_due (Braces (Nameless_at at) no_fields), st) (form_step 123 at st refl d) ∙ ap (λ i. read i (Item_due (Braces (Nameless_at at) no_fields), st) more) (omega arith)) (reads_fields fs (Nameless_at at) st))
+  reads_form (structure (b ∷ bs) fs) rest at st ends =
+      let n = b ∷ bs in
+      by_depth (nat_le 512 (length st)) (structure n fs) rest at st (fields_refusal (at + length (name_text n) + 1) (length st + 1) fs) refl refl
+      (λ d. named_read n 123 (Braces (Named_at at n) no_fields) (Braces (Named_at at n) fs) (structure n fs) (field_texts fs) (λ i. fields_refusal i (length st + 1) fs) rest at st d refl refl
+      (name_step (at + length (name_text n)) (Form_at at) n st 123 refl refl) (reads_fields fs (Named_at at n) st))
   reads_form (enumeration vs) rest at st ends =
-      let inner = at + 1 in
-      let variants = listed (variant_texts vs) in
-      let x = or_else (variants_refusal inner (length st + 1) vs) (refusal_of (inner + length variants + 1) at (made_enumeration vs)) in
-      by_depth (nat_le 512 (length st)) (enumeration vs) rest at st x refl refl
-      (λ d. ap (read at (Form_due, st)) (list_group 60 62 variants rest)
-      ∙ read_step at Form_due st 60 (variants ++ 62 ∷ rest) _ (form_step 60 at st refl d)
-      ∙ reads_variants vs (opened_enum at) rest inner st
-      ∙ ap (λ i. settle x (read i (Done (enumeration vs), st) rest)) (let e : inner + length variants + 1 ≡ at + length (text (enumeration vs)) = omega (arith, list_length 60 62 variants) in e))
-  reads_form (newtype n f) rest at st ends =
-      let inner = at + length (name_text n) + 1 in
-      let end = inner + length (text f) in
-      let x = or_else (first_refusal inner (length st + 1) f) (refusal_of end at (made_newtype n f)) in
-      by_depth (nat_le 512 (length st)) (newtype n f) rest at st x refl refl
-      (λ d. ap (read at (Form_due, st)) (append_assoc (name_text n) (61 ∷ text f) rest)
-      ∙ read_name n (61 ∷ (text f ++ rest)) at Form_due (Form_at at) st (form_begins at st d)
-      ∙ read_step (at + length (name_text n)) (name_mode (Form_at at) n) st 61 (text f ++ rest) _ (equals_step (at + length (name_text n)) at n st)
-      ∙ around_read f inner (In_newtype at n) st rest (refusal_of end at (made_newtype n f)) (read end (Done (newtype n f), st) rest) (reads_form f rest inner (In_newtype at n ∷ st) ends) (newtype_read n f end at st rest)
-      ∙ ap (λ i. settle x (read i (Done (newtype n f), st) rest)) (let e : end ≡ at + length (text (newtype n f)) = omega (arith, length-append (name_text n) (61 ∷ text f)) in e))
-  reads_form (unit_structure n) rest at st ends =
-      by_depth (nat_le 512 (length st)) (unit_structure n) rest at st None refl (or_none (too_deep at (length st)))
-      (λ d. ap (read at (Form_due, st)) (append_assoc (name_text n) (33 ∷ []) rest)
-      ∙ read_name n (33 ∷ rest) at Form_due (Form_at at) st (form_begins at st d)
-      ∙ read_step (at + length (name_text n)) (name_mode (Form_at at) n) st 33 rest _ (exclamation_step (at + length (name_text n)) at n st)
-      ∙ ap (λ i. read i (Done (unit_structure n), st) rest) (let e : at + length (name_text n) + 1 ≡ at + length (text (unit_structure n)) = omega (arith, length-append (name_text n) (33 ∷ [])) in e))
-  reads_form (structure n fs) rest at st ends =
-      let inner = at + length (struct_name_text n) + 1 in
-      let fields = listed (field_texts fs) in
-      let x = or_else (fields_refusal inner (length st + 1) fs) (refusal_of (inner + length fields + 1) at (made_structure n fs)) in
-      by_depth (nat_le 512 (length st)) (structure n fs) rest at st x refl refl
-      (λ d. ap (read at (Form_due, st)) (struct_group (struct_name_text n) fields rest)
-      ∙ read_run at inner (Form_due, st) (First_field (opened (Struct_at at n)), st) (struct_name_text n ++ 123 ∷ (fields ++ 125 ∷ rest)) (fields ++ 125 ∷ rest) (opens n (fields ++ 125 ∷ rest) at st d) (omega (arith, length-append (struct_name_text n) (123 ∷ (fields ++ 125 ∷ rest))))
-      ∙ reads_fields fs (opened (Struct_at at n)) rest inner st
-      ∙ ap (λ i. settle x (read i (Done (structure n fs), st) rest)) (let e : inner + length fields + 1 ≡ at + length (text (structure n fs)) = omega (arith, struct_length n fs) in e))
+      by_depth (nat_le 512 (length st)) (enumeration vs) rest at st (variants_refusal (at + 1) (length st + 1) vs) refl refl
+      (λ d. nameless_read 60 (Angles (opened_enum at)) (with_variants (opened_enum at) vs) (enumeration vs) (variant_texts vs) (λ i. variants_refusal i (length st + 1) vs) rest at st refl refl (form_step 60 at st refl d) (reads_variants vs (opened_enum at) st refl))
 
-  reads_fields : (fs : Fields) (o : Open) (rest : Utf8) (at : ℕ) (st : List Level)
-      → read at (First_field o, st) (listed (field_texts fs) ++ 125 ∷ rest)
-      ≡ settle (or_else (fields_refusal at (length st + 1) fs) (brace_refusal (at + length (listed (field_texts fs))) o fs)) (read (at + length (listed (field_texts fs)) + 1) (done_with o fs, st) rest)
-  reads_fields no_fields o rest at st = first_closed o rest at st
-  reads_fields (field n f fs) o rest at st =
-      let l : Level = In_field o n in
-      let inner = at + length (name_text n) + 1 in
-      one_field n f fs o rest at (First_field o) st (first_begins at o st) (reads_form f (after_commas (field_texts fs) ++ 125 ∷ rest) inner (l ∷ st) (more_ends fs rest)) (reads_more fs f o n rest (inner + length (text f)) st)
+  reads_fields : (fs : Fields) (h : Holder) (st : List Level) → ReadsAll st (Braces h no_fields) (field_texts fs) (λ at. fields_refusal at (length st + 1) fs) (Braces h fs)
+  reads_fields no_fields h st = none_at_all st (Braces h no_fields) refl
+  reads_fields (field n f fs) h st = field_and n f fs h no_fields st (reads_form f) (more_fields fs h (push_field no_fields n f) st)
 
-  reads_more : (fs : Fields) (f : Form) (before : Open) (name : Utf8) (rest : Utf8) (at : ℕ) (st : List Level)
-      → read at (Done f, In_field before name ∷ st) (after_commas (field_texts fs) ++ 125 ∷ rest)
-      ≡ settle (or_else (fields_refusal (at + 1) (length st + 1) fs) (brace_refusal (at + length (after_commas (field_texts fs))) (grown before name f) fs)) (read (at + length (after_commas (field_texts fs)) + 1) (done_with (grown before name f) fs, st) rest)
-  reads_more no_fields f before name rest at st = next_closed f before name rest at st
-  reads_more (field n g fs) f before name rest at st =
-      let o = grown before name f in
-      let m : Level = In_field o n in
-      let inner = at + 1 + length (name_text n) + 1 in
-      let bytes = (name_text n ++ 58 ∷ text g) ++ after_commas (field_texts fs) in
-      read_step at (Done f) (In_field before name ∷ st) 44 (bytes ++ 125 ∷ rest) _ (comma_step f before name st at)
-      ∙ one_field n g fs o rest (at + 1) (Field_due o) st (next_begins (at + 1) o st) (reads_form g (after_commas (field_texts fs) ++ 125 ∷ rest) inner (m ∷ st) (more_ends fs rest)) (reads_more fs g o n rest (inner + length (text g)) st)
-      ∙ same_end (fields_refusal (at + 1) (length st + 1) (field n g fs)) (at + 1 + length bytes) (at + length (44 ∷ bytes)) o.holder (joined o.fields (field n g fs)) (joined o.fields (field n g fs)) st rest
-      (omega arith) refl
+  more_fields : (fs : Fields) (h : Holder) (gs : Fields) (st : List Level) → ReadsMore st (Braces h gs) (field_texts fs) (λ at. fields_refusal at (length st + 1) fs) (Braces h (joined gs fs))
+  more_fields no_fields h gs st = subst (λ ks. ReadsMore st (Braces h gs) [] (λ _. None) (Braces h ks)) (sym (joined-none gs)) (none_more st (Braces h gs))
+  more_fields (field n f fs) h gs st =
+      comma_and st (Braces h gs) (Braces h (joined gs (field n f fs))) (name_text n ++ 58 ∷ text f) (field_texts fs) (λ at. fields_refusal at (length st + 1) (field n f fs)) (field_and n f fs h gs st (reads_form f) (more_fields fs h (push_field gs n f) st))
 
-  reads_parts : (ps : Parts) (o : OpenTuple) (rest : Utf8) (at : ℕ) (st : List Level)
-      → read at (First_part o, st) (listed (part_texts ps) ++ 41 ∷ rest)
-      ≡ settle (or_else (parts_refusal at (length st + 1) ps) (paren_refusal (at + length (listed (part_texts ps))) o ps)) (read (at + length (listed (part_texts ps)) + 1) (done_parts o ps, st) rest)
-  reads_parts no_parts o rest at st = first_part_closed o rest at st
-  reads_parts (part f ps) o rest at st =
-      let tail = after_commas (part_texts ps) in
-      ap (read at (First_part o, st)) (append_assoc (text f) tail (41 ∷ rest)) ∙ first_part_read f o (tail ++ 41 ∷ rest) at st ∙ sym (ap (read at (Form_due, In_part o ∷ st)) (append_assoc (text f) tail (41 ∷ rest)))
-      ∙ one_part f ps o rest at st (reads_form f (tail ++ 41 ∷ rest) at (In_part o ∷ st) (parts_end ps rest)) (reads_more_parts ps f o rest (at + length (text f)) st)
+  reads_parts : (ps : Parts) (h : Holder) (st : List Level) → ReadsAll st (Parens h no_parts) (part_texts ps) (λ at. parts_refusal at (length st + 1) ps) (Parens h ps)
+  reads_parts no_parts h st = none_at_all st (Parens h no_parts) refl
+  reads_parts (part f ps) h st = part_and f ps h no_parts st (reads_form f) (more_parts ps h (push_part no_parts f) st)
 
-  reads_more_parts : (ps : Parts) (f : Form) (before : OpenTuple) (rest : Utf8) (at : ℕ) (st : List Level)
-      → read at (Done f, In_part before ∷ st) (after_commas (part_texts ps) ++ 41 ∷ rest)
-      ≡ settle (or_else (parts_refusal (at + 1) (length st + 1) ps) (paren_refusal (at + length (after_commas (part_texts ps))) (grown_tuple before f) ps)) (read (at + length (after_commas (part_texts ps)) + 1) (done_parts (grown_tuple before f) ps, st) rest)
-  reads_more_parts no_parts f before rest at st = next_part_closed f before rest at st
-  reads_more_parts (part g ps) f before rest at st =
-      let o = grown_tuple before f in
-      let tail = after_commas (part_texts ps) in
-      let bytes = text g ++ tail in
-      read_step at (Done f) (In_part before ∷ st) 44 (bytes ++ 41 ∷ rest) _ (part_comma f before st at)
-      ∙ one_part g ps o rest (at + 1) st (reads_form g (tail ++ 41 ∷ rest) (at + 1) (In_part o ∷ st) (parts_end ps rest)) (reads_more_parts ps g o rest (at + 1 + length (text g)) st)
-      ∙ same_paren (parts_refusal (at + 1) (length st + 1) (part g ps)) (at + 1 + length bytes) (at + length (44 ∷ bytes)) o.holder (joined_parts o.parts (part g ps)) (joined_parts o.parts (part g ps)) st rest
-      (omega arith) refl
+  more_parts : (ps : Parts) (h : Holder) (gs : Parts) (st : List Level) → ReadsMore st (Parens h gs) (part_texts ps) (λ at. parts_refusal at (length st + 1) ps) (Parens h (joined_parts gs ps))
+  more_parts no_parts h gs st = subst (λ ks. ReadsMore st (Parens h gs) [] (λ _. None) (Parens h ks)) (sym (joined_parts-none gs)) (none_more st (Parens h gs))
+  more_parts (part f ps) h gs st =
+      comma_and st (Parens h gs) (Parens h (joined_parts gs (part f ps))) (text f) (part_texts ps) (λ at. parts_refusal at (length st + 1) (part f ps)) (part_and f ps h gs st (reads_form f) (more_parts ps h (push_part gs f) st))
 
-  reads_variants : (vs : Variants) (e : OpenEnum) (rest : Utf8) (at : ℕ) (st : List Level)
-      → read at (First_variant e, st) (listed (variant_texts vs) ++ 62 ∷ rest)
-      ≡ settle (or_else (variants_refusal at (length st + 1) vs) (angle_refusal (at + length (listed (variant_texts vs))) e vs)) (read (at + length (listed (variant_texts vs)) + 1) (done_enum e vs, st) rest)
-  reads_variants no_variants e rest at st = first_variant_closed e rest at st
-  reads_variants (variant n c vs) e rest at st =
-      let inner = at + length (name_text n) in
-      one_variant n c vs e rest at (First_variant e) st (first_variant_begins at e st)
-      (reads_content c e n (after_commas (variant_texts vs) ++ 62 ∷ rest) inner st (variants_end vs rest)) (reads_more_variants vs c e n rest (inner + length (content_text c)) st)
+  reads_variants : (vs : Variants) (e : OpenEnum) (st : List Level) → is_empty (Angles e) ≡ true → ReadsAll st (Angles e) (variant_texts vs) (λ at. variants_refusal at (length st + 1) vs) (with_variants e vs)
+  reads_variants no_variants e st none = subst (λ ws. ReadsAll st (Angles e) [] (λ _. None) (Angles (record { place = e.place; variants = ws }))) (sym (joined_variants-none e.variants)) (none_at_all st (Angles e) none)
+  reads_variants (variant n c vs) e st none = variant_and n c vs e st (reads_content c) (more_variants vs (grown_enum e n c) st)
 
-  reads_more_variants : (vs : Variants) (c : Content) (before : OpenEnum) (name : Utf8) (rest : Utf8) (at : ℕ) (st : List Level)
-      → read at (behind_variant before name c st) (after_commas (variant_texts vs) ++ 62 ∷ rest)
-      ≡ settle (or_else (variants_refusal (at + 1) (length st + 1) vs) (angle_refusal (at + length (after_commas (variant_texts vs))) (grown_enum before name c) vs)) (read (at + length (after_commas (variant_texts vs)) + 1) (done_enum (grown_enum before name c) vs, st) rest)
-  reads_more_variants no_variants c before name rest at st =
-      let s = behind_variant before name c st in
-      angle_read (grown_enum before name c) s.0 s.1 st at rest (variant_angle c before name st at)
-  reads_more_variants (variant n d vs) c before name rest at st =
-      let s = behind_variant before name c st in
-      let e = grown_enum before name c in
-      let inner = at + 1 + length (name_text n) in
-      let tail = after_commas (variant_texts vs) in
-      let bytes = (name_text n ++ content_text d) ++ tail in
-      read_step at s.0 s.1 44 (bytes ++ 62 ∷ rest) _ (variant_comma c before name st at)
-      ∙ one_variant n d vs e rest (at + 1) (Variant_due e) st (next_variant_begins (at + 1) e st)
-      (reads_content d e n (tail ++ 62 ∷ rest) inner st (variants_end vs rest)) (reads_more_variants vs d e n rest (inner + length (content_text d)) st)
-      ∙ same_angle (variants_refusal (at + 1) (length st + 1) (variant n d vs)) (at + 1 + length bytes) (at + length (44 ∷ bytes)) e.place (joined_variants e.variants (variant n d vs)) (joined_variants e.variants (variant n d vs)) st rest
-      (omega arith) refl
+  more_variants : (vs : Variants) (e : OpenEnum) (st : List Level) → ReadsMore st (Angles e) (variant_texts vs) (λ at. variants_refusal at (length st + 1) vs) (with_variants e vs)
+  more_variants no_variants e st = subst (λ ws. ReadsMore st (Angles e) [] (λ _. None) (Angles (record { place = e.place; variants = ws }))) (sym (joined_variants-none e.variants)) (none_more st (Angles e))
+  more_variants (variant n c vs) e st =
+      comma_and st (Angles e) (with_variants e (variant n c vs)) (name_text n ++ content_text c) (variant_texts vs) (λ at. variants_refusal at (length st + 1) (variant n c vs)) (variant_and n c vs e st (reads_content c) (more_variants vs (grown_enum e n c) st))
 
-  reads_content : (c : Content) (e : OpenEnum) (n : Utf8) (rest : Utf8) (at : ℕ) (st : List Level) → goes_on rest ≡ false
-      → read at (name_mode (Variant_of e) n, st) (content_text c ++ rest) ≡ settle (content_refusal at (length st + 1) c) (read (at + length (content_text c)) (behind_variant e n c st) rest)
-  reads_content unit_content e n rest at st ends = ap (λ i. read i (name_mode (Variant_of e) n, st) rest) (omega arith)
+  reads_content : (c : Content) (e : OpenEnum) (n rest : Utf8) (at : ℕ) (st : List Level) → goes_on rest ≡ false
+      → read at (name_mode (Item_of (Angles e)) n, st) (content_text c ++ rest) ≡ settle (content_refusal at (length st + 1) c) (read (at + length (content_text c)) (variant_state c e n st) rest)
+  reads_content unit_content e n rest at st ends = ap (λ i. read i (name_mode (Item_of (Angles e)) n, st) rest) (omega arith)
   reads_content (newtype_content f) e n rest at st ends =
-      let l : Level = In_variant e n in
-      let around : length (l ∷ st) ≡ length st + 1 = omega arith in
+      let l : Level = In_item (Angles e) n in
       let end : at + 1 + length (text f) ≡ at + length (61 ∷ text f) = omega arith in
-      read_step at (name_mode (Variant_of e) n) st 61 (text f ++ rest) _ (variant_equals at e n st)
-      ∙ reads_form f rest (at + 1) (l ∷ st) ends
-      ∙ (λ i. settle (first_refusal (at + 1) (around i) f) (read (end i) (Done f, l ∷ st) rest))
+      read_step at (name_mode (Item_of (Angles e)) n) st 61 (text f ++ rest) (Form_due, l ∷ st) (name_step at (Item_of (Angles e)) n st 61 refl tt)
+      ∙ inner_read f l st rest (at + 1) (reads_form f) ends
+      ∙ ap (λ i. settle (first_refusal (at + 1) (length st + 1) f) (read i (Done f, l ∷ st) rest)) end
   reads_content (tuple_content ps) e n rest at st ends =
-      let parts = listed (part_texts ps) in
-      let x = parts_refusal (at + 1) (length st + 1) ps in
-      let end : at + 1 + length parts + 1 ≡ at + length (content_text (tuple_content ps)) = omega (arith, list_length 40 41 parts) in
-      ap (read at (name_mode (Variant_of e) n, st)) (list_group 40 41 parts rest)
-      ∙ read_step at (name_mode (Variant_of e) n) st 40 (parts ++ 41 ∷ rest) _ (variant_paren at e n st)
-      ∙ reads_parts ps (opened_tuple (Tuple_variant e n)) rest (at + 1) st
-      ∙ settle_none x _ ∙ (λ i. settle x (read (end i) (behind_variant e n (tuple_content ps) st) rest))
+      variant_read 40 e n (tuple_content ps) (Parens (Variant_of e n) no_parts) (Parens (Variant_of e n) ps) (part_texts ps) (λ i. parts_refusal i (length st + 1) ps) rest at st refl refl (name_step at (Item_of (Angles e)) n st 40 refl tt) (reads_parts ps (Variant_of e n) st)
   reads_content (struct_content fs) e n rest at st ends =
-      let fields = listed (field_texts fs) in
-      let x = fields_refusal (at + 1) (length st + 1) fs in
-      let end : at + 1 + length fields + 1 ≡ at + length (content_text (struct_content fs)) = omega (arith, list_length 123 125 fields) in
-      ap (read at (name_mode (Variant_of e) n, st)) (list_group 123 125 fields rest)
-      ∙ read_step at (name_mode (Variant_of e) n) st 123 (fields ++ 125 ∷ rest) _ (variant_brace at e n st)
-      ∙ reads_fields fs (opened (Struct_variant e n)) rest (at + 1) st
-      ∙ settle_none x _ ∙ (λ i. settle x (read (end i) (behind_variant e n (struct_content fs) st) rest))
+      variant_read 123 e n (struct_content fs) (Braces (Variant_of e n) no_fields) (Braces (Variant_of e n) fs) (field_texts fs) (λ i. fields_refusal i (length st + 1) fs) rest at st refl refl (name_step at (Item_of (Angles e)) n st 123 refl tt) (reads_fields fs (Variant_of e n) st)

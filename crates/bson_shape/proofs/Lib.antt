@@ -1,6 +1,7 @@
 pub mod Words
 pub mod NameRuns
 pub mod FormRuns
+pub mod Groups
 pub mod States
 pub mod TextStates
 pub mod Wraps

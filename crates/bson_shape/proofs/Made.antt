@@ -5,9 +5,9 @@ use Rattle.std.specs.Str.{is_utf8}
 use Rattle.std.proofs.lemmas.Bool.{or_parts, or_from, true≢false, cond-true, cond-false, le-ltb}
 use Rattle.bson_base.specs.Text.{Utf8}
 use Rattle.bson_base.specs.Reserved.{reserved_kind}
-use Rattle.bson_shape.specs.Form.{Form, map, newtype, structure, enumeration, Fields, Variants, no_variants, variant, Content, unit_content, newtype_content, tuple_content, struct_content}
+use Rattle.bson_shape.specs.Form.{Form, leaf, optional, sequence, map, tuple, tuple_structure, newtype, unit_structure, structure, enumeration, Fields, Variants, no_variants, variant, Content, unit_content, newtype_content, tuple_content, struct_content}
 use Rattle.bson_shape.specs.Levels.{levels, deepest, deepest_variant, max_shape_levels}
-use Rattle.bson_shape.specs.Makers.{is_text_key, is_reserved_newtype, AreDistinct, repeats, has_repeat, variant_names, content_repeats, contents_repeat, variants_repeat, IsNewtype, IsStruct, IsEnum, IsShape, AreShapes, AreVariants, IsContent, Makes, within_levels, made_map, made_newtype, made_structure, made_enumeration}
+use Rattle.bson_shape.specs.Makers.{is_text_key, is_reserved_newtype, AreDistinct, repeats, has_repeat, variant_names, content_repeats, contents_repeat, variants_repeat, IsNewtype, IsStruct, IsEnum, IsShape, AreShapes, AreVariants, IsContent, Makes, within_levels, made_map, made_newtype, made_structure, made_enumeration, made_form}
 use Rattle.bson_shape.specs.declared.error.ShapeError.{ShapeError}
 use Rattle.bson_shape.specs.declared.error.ShapeError.TheVariants.{ReservedName, RepeatedName, KeyNotText, TooDeep}
 
@@ -28,15 +28,15 @@ pub within_levels-few : (f : Form) → levels f ≤ max_shape_levels → within_
 within_levels-few f few = cond-false (nat_lt max_shape_levels (levels f)) _ _ (le-ltb _ _ few)
 
 -- the maker makes each map of few levels whose key is a text
-pub made_map-few : (k v : Form) → is_text_key k ≡ true → levels (map k v) ≤ max_shape_levels → made_map k v ≡ Ok (map k v)
+made_map-few : (k v : Form) → is_text_key k ≡ true → levels (map k v) ≤ max_shape_levels → made_map k v ≡ Ok (map k v)
 made_map-few k v texts few = cond-true (is_text_key k) _ _ texts ∙ within_levels-few (map k v) few
 
 -- the maker makes each newtype that is as it asks
-pub made_newtype-IsNewtype : (name : Utf8) (f : Form) → IsNewtype name f → made_newtype name f ≡ Ok (newtype name f)
+made_newtype-IsNewtype : (name : Utf8) (f : Form) → IsNewtype name f → made_newtype name f ≡ Ok (newtype name f)
 made_newtype-IsNewtype name f is = cond-false (is_reserved_newtype name) _ _ is.free ∙ within_levels-few (newtype name f) is.few
 
 -- the maker makes each struct that is as it asks
-pub made_structure-IsStruct : (name : Utf8) (fs : Fields) → IsStruct name fs → made_structure name fs ≡ Ok (structure name fs)
+made_structure-IsStruct : (name : Utf8) (fs : Fields) → IsStruct name fs → made_structure name fs ≡ Ok (structure name fs)
 made_structure-IsStruct name fs is =
     cond-false (is_some (reserved_kind name)) _ _ (ap is_some is.free) ∙ cond-false (repeats fs) _ _ is.distinct ∙ within_levels-few (structure name fs) is.few
 
@@ -52,7 +52,7 @@ contents_distinct (variant n c vs) h = or_from _ _ (content_distinct c h.1) (con
     content_distinct (struct_content fs) k = k.0
 
 -- the maker makes each enum that is as it asks
-pub made_enumeration-IsEnum : (vs : Variants) → IsEnum vs → AreVariants vs → made_enumeration vs ≡ Ok (enumeration vs)
+made_enumeration-IsEnum : (vs : Variants) → IsEnum vs → AreVariants vs → made_enumeration vs ≡ Ok (enumeration vs)
 made_enumeration-IsEnum vs is shapes = cond-false (variants_repeat vs) _ _ (or_from _ _ is.distinct (contents_distinct vs shapes)) ∙ within_levels-few (enumeration vs) is.few
 
 -- ---- the answers of the makers
@@ -98,17 +98,43 @@ enumeration_answers P vs repeated deep made = by_test (variants_repeat vs)
 pub within_levels-made : (f : Form) → IfOk (within_levels f) (λ g. g ≡ f)
 within_levels-made f = within_answers (λ r. IfOk r (λ g. g ≡ f)) f tt refl
 
-pub made_map-made : (k v : Form) → IfOk (made_map k v) (λ g. g ≡ map k v)
+made_map-made : (k v : Form) → IfOk (made_map k v) (λ g. g ≡ map k v)
 made_map-made k v = map_answers (λ r. IfOk r (λ g. g ≡ map k v)) k v tt tt refl
 
-pub made_newtype-made : (name : Utf8) (f : Form) → IfOk (made_newtype name f) (λ g. g ≡ newtype name f)
+made_newtype-made : (name : Utf8) (f : Form) → IfOk (made_newtype name f) (λ g. g ≡ newtype name f)
 made_newtype-made name f = newtype_answers (λ r. IfOk r (λ g. g ≡ newtype name f)) name f tt tt refl
 
-pub made_structure-made : (name : Utf8) (fs : Fields) → IfOk (made_structure name fs) (λ g. g ≡ structure name fs)
+made_structure-made : (name : Utf8) (fs : Fields) → IfOk (made_structure name fs) (λ g. g ≡ structure name fs)
 made_structure-made name fs = structure_answers (λ r. IfOk r (λ g. g ≡ structure name fs)) name fs tt tt tt refl
 
-pub made_enumeration-made : (vs : Variants) → IfOk (made_enumeration vs) (λ g. g ≡ enumeration vs)
+made_enumeration-made : (vs : Variants) → IfOk (made_enumeration vs) (λ g. g ≡ enumeration vs)
 made_enumeration-made vs = enumeration_answers (λ r. IfOk r (λ g. g ≡ enumeration vs)) vs tt tt refl
+
+-- so does the maker of any form
+pub made_form-made : (f : Form) → IfOk (made_form f) (λ g. g ≡ f)
+made_form-made (leaf l) = refl
+made_form-made (optional f) = within_levels-made (optional f)
+made_form-made (sequence f) = within_levels-made (sequence f)
+made_form-made (map k v) = made_map-made k v
+made_form-made (tuple ps) = within_levels-made (tuple ps)
+made_form-made (tuple_structure n ps) = within_levels-made (tuple_structure n ps)
+made_form-made (newtype n f) = made_newtype-made n f
+made_form-made (unit_structure n) = refl
+made_form-made (structure n fs) = made_structure-made n fs
+made_form-made (enumeration vs) = made_enumeration-made vs
+
+-- and it makes each shape
+pub made_form-IsShape : (f : Form) → IsShape f → made_form f ≡ Ok f
+made_form-IsShape (leaf l) h = refl
+made_form-IsShape (optional f) h = within_levels-few (optional f) h.0
+made_form-IsShape (sequence f) h = within_levels-few (sequence f) h.0
+made_form-IsShape (map k v) h = made_map-few k v h.0 h.1
+made_form-IsShape (tuple ps) h = within_levels-few (tuple ps) h.0
+made_form-IsShape (tuple_structure n ps) h = within_levels-few (tuple_structure n ps) h.1
+made_form-IsShape (newtype n f) h = made_newtype-IsNewtype n f h.0
+made_form-IsShape (unit_structure n) h = refl
+made_form-IsShape (structure n fs) h = made_structure-IsStruct n fs h.0
+made_form-IsShape (enumeration vs) h = made_enumeration-IsEnum vs h.0 h.1
 
 -- the makers of tuples, structs and enums take no memory
 pub within_levels-makes : (f : Form) → Makes (within_levels f) (within_levels f)

@@ -1,11 +1,10 @@
 -- A name is read to its end.
-use Rattle.std.proofs.Common.{◌≡◌, ℕ, ◌+◌, Bool, true, false, cond, eqb, ◌||◌, List, [], ◌∷◌, ◌++◌, length, Ok, Err, refl, sym, ap, ◌∙◌, arith, append_assoc, append-nil, length-append}
+use Rattle.std.proofs.Common.{◌≡◌, ℕ, ◌+◌, Bool, true, false, cond, eqb, ◌||◌, List, [], ◌∷◌, ◌++◌, length, Result, Ok, Err, refl, sym, ap, ◌∙◌, arith, append_assoc, append-nil, length-append}
 use Rattle.std.specs.List.{list_all}
 use Rattle.bson_base.specs.Text.{Utf8}
-use Rattle.bson_shape.specs.Notation.{begins_bare, in_bare, bare, is_escaped, escaped, quoted, name_text}
-use Rattle.bson_shape.specs.Form.{unit_structure, unit_content}
+use Rattle.bson_shape.specs.Notation.{begins_bare, in_bare, bare, names_form, is_escaped, escaped, quoted, name_text}
 use Rattle.bson_base.specs.Outcome.{◌>>=◌}
-use Rattle.bson_shape.specs.Machine.{Refusal, OpenEnum, Struct_at, Struct_variant, Open, Tuple_struct_at, Tuple_variant, Level, In_field, In_newtype, In_variant, Owner, Form_at, Field_of, Variant_of, Mode, Form_due, First_field, First_part, Bare, Quoted, Escape, Named, Done, State, opened, opened_tuple, grown_enum, variant_ended, begins_name, name_begun, named, word_ended, bare_name, name_closed, quoted_name, escape, step, run}
+use Rattle.bson_shape.specs.Machine.{Refusal, Level, Owner, Form_at, Item_of, Mode, Bare, Quoted, Escape, Named, State, begins_name, name_begun, form_named, item_named, named, word_ended, bare_name, name_closed, quoted_name, escape, step, run}
 use Rattle.bson_shape.proofs.Words.{and_true, or_false, differs}
 
 -- a byte that is taken
@@ -99,51 +98,30 @@ read_as false n rest at m owner st begins h = quoted_read n rest at m owner st b
 pub name_read : (n rest : Utf8) (at : ℕ) (m : Mode) (owner : Owner) (st : List Level) → BeginsName at m owner st → run at (m, st) (name_text n ++ rest) ≡ run (at + length (name_text n)) (name_mode owner n, st) rest
 name_read n rest at m owner st begins = read_as (bare n) n rest at m owner st begins refl
 
--- a field's name and its colon
-pub colon_step : (at : ℕ) (o : Open) (n : Utf8) (st : List Level) → step at (name_mode (Field_of o) n) st 58 ≡ Ok (Form_due, In_field o n ∷ st)
-unfolding step bare_name word_ended named
-colon_step at o n st = elim (bare n) as (λ t. step at (cond t (Bare (Field_of o) n) (Named (Field_of o) n)) st 58 ≡ Ok (Form_due, In_field o n ∷ st)) [ true ↦ refl | false ↦ refl ]
+-- the bytes that name a form behind a bare name; behind the name of an item each byte is read as behind a name
+abbrev pub EndsName : Owner → ℕ → Type 0
+EndsName (Form_at place) b = names_form b ≡ true
+EndsName (Item_of g) b = Unit {0}
 
--- a newtype's name and `=`
-pub equals_step : (at place : ℕ) (n : Utf8) (st : List Level) → step at (name_mode (Form_at place) n) st 61 ≡ Ok (Form_due, In_newtype place n ∷ st)
-unfolding step bare_name word_ended named
-equals_step at place n st = elim (bare n) as (λ t. step at (cond t (Bare (Form_at place) n) (Named (Form_at place) n)) st 61 ≡ Ok (Form_due, In_newtype place n ∷ st)) [ true ↦ refl | false ↦ refl ]
+-- behind a name
+abbrev pub behind_name : ℕ → Owner → Utf8 → List Level → ℕ → Result State Refusal
+behind_name at (Form_at place) n st b = form_named at place n st b
+behind_name at (Item_of g) n st b = item_named at g n st b
 
--- a unit struct's name and `!`
-pub exclamation_step : (at place : ℕ) (n : Utf8) (st : List Level) → step at (name_mode (Form_at place) n) st 33 ≡ Ok (Done (unit_structure n), st)
-unfolding step bare_name word_ended named
-exclamation_step at place n st = elim (bare n) as (λ t. step at (cond t (Bare (Form_at place) n) (Named (Form_at place) n)) st 33 ≡ Ok (Done (unit_structure n), st)) [ true ↦ refl | false ↦ refl ]
+named_is : (at : ℕ) (owner : Owner) (n : Utf8) (st : List Level) (b : ℕ) → named at owner n st b ≡ behind_name at owner n st b
+unfolding named
+named_is at (Form_at place) n st b = refl
+named_is at (Item_of g) n st b = refl
 
--- a tuple struct's name and its parenthesis
-pub paren_step : (at place : ℕ) (n : Utf8) (st : List Level) → step at (name_mode (Form_at place) n) st 40 ≡ Ok (First_part (opened_tuple (Tuple_struct_at place n)), st)
-unfolding step bare_name word_ended named
-paren_step at place n st = elim (bare n) as (λ t. step at (cond t (Bare (Form_at place) n) (Named (Form_at place) n)) st 40 ≡ Ok (First_part (opened_tuple (Tuple_struct_at place n)), st)) [ true ↦ refl | false ↦ refl ]
+word_named : (at : ℕ) (owner : Owner) (n : Utf8) (st : List Level) (b : ℕ) → EndsName owner b → word_ended at owner n st b ≡ named at owner n st b
+unfolding word_ended
+word_named at (Form_at place) n st b e = rw e refl
+word_named at (Item_of g) n st b e = refl
 
--- a struct's name, which is not empty, and its brace
-pub brace_step : (at place b : ℕ) (bs : Utf8) (st : List Level) → step at (name_mode (Form_at place) (b ∷ bs)) st 123 ≡ Ok (First_field (opened (Struct_at place (b ∷ bs))), st)
-unfolding step bare_name word_ended named
-brace_step at place b bs st =
-    let n = b ∷ bs in
-    elim (bare n) as (λ t. step at (cond t (Bare (Form_at place) n) (Named (Form_at place) n)) st 123 ≡ Ok (First_field (opened (Struct_at place n)), st)) [ true ↦ refl | false ↦ refl ]
-
--- a variant's name and the byte that tells what it has
-pub variant_equals : (at : ℕ) (e : OpenEnum) (n : Utf8) (st : List Level) → step at (name_mode (Variant_of e) n) st 61 ≡ Ok (Form_due, In_variant e n ∷ st)
-unfolding step bare_name word_ended named
-variant_equals at e n st = elim (bare n) as (λ t. step at (cond t (Bare (Variant_of e) n) (Named (Variant_of e) n)) st 61 ≡ Ok (Form_due, In_variant e n ∷ st)) [ true ↦ refl | false ↦ refl ]
-
-pub variant_paren : (at : ℕ) (e : OpenEnum) (n : Utf8) (st : List Level) → step at (name_mode (Variant_of e) n) st 40 ≡ Ok (First_part (opened_tuple (Tuple_variant e n)), st)
-unfolding step bare_name word_ended named
-variant_paren at e n st = elim (bare n) as (λ t. step at (cond t (Bare (Variant_of e) n) (Named (Variant_of e) n)) st 40 ≡ Ok (First_part (opened_tuple (Tuple_variant e n)), st)) [ true ↦ refl | false ↦ refl ]
-
-pub variant_brace : (at : ℕ) (e : OpenEnum) (n : Utf8) (st : List Level) → step at (name_mode (Variant_of e) n) st 123 ≡ Ok (First_field (opened (Struct_variant e n)), st)
-unfolding step bare_name word_ended named
-variant_brace at e n st = elim (bare n) as (λ t. step at (cond t (Bare (Variant_of e) n) (Named (Variant_of e) n)) st 123 ≡ Ok (First_field (opened (Struct_variant e n)), st)) [ true ↦ refl | false ↦ refl ]
-
--- the comma or the closing bracket behind a unit variant
-pub unit_comma : (at : ℕ) (e : OpenEnum) (n : Utf8) (st : List Level) → step at (name_mode (Variant_of e) n) st 44 ≡ variant_ended at (grown_enum e n unit_content) st 44
-unfolding step bare_name word_ended named
-unit_comma at e n st = elim (bare n) as (λ t. step at (cond t (Bare (Variant_of e) n) (Named (Variant_of e) n)) st 44 ≡ variant_ended at (grown_enum e n unit_content) st 44) [ true ↦ refl | false ↦ refl ]
-
-pub unit_angle : (at : ℕ) (e : OpenEnum) (n : Utf8) (st : List Level) → step at (name_mode (Variant_of e) n) st 62 ≡ variant_ended at (grown_enum e n unit_content) st 62
-unfolding step bare_name word_ended named
-unit_angle at e n st = elim (bare n) as (λ t. step at (cond t (Bare (Variant_of e) n) (Named (Variant_of e) n)) st 62 ≡ variant_ended at (grown_enum e n unit_content) st 62) [ true ↦ refl | false ↦ refl ]
+pub name_step : (at : ℕ) (owner : Owner) (n : Utf8) (st : List Level) (b : ℕ) → in_bare b ≡ false → EndsName owner b → step at (name_mode owner n) st b ≡ behind_name at owner n st b
+unfolding step bare_name
+name_step at owner n st b out e = by_mode (bare n) ∙ named_is at owner n st b
+  where
+    by_mode : (t : Bool) → step at (cond t (Bare owner n) (Named owner n)) st b ≡ named at owner n st b
+    by_mode true = rw out (word_named at owner n st b e)
+    by_mode false = refl

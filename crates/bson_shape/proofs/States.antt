@@ -1,54 +1,86 @@
 -- What a state of the machine has read.
 use Rattle.std.proofs.Common.{◌≡◌, ℕ, true, false, List, [], ◌∷◌, ◌++◌, refl, sym, ap, ◌∙◌, append_assoc, append-nil}
 use Rattle.bson_base.specs.Text.{Utf8}
-use Rattle.bson_shape.specs.Form.{Form, optional, sequence, map, tuple, tuple_structure, newtype, structure, Fields, no_fields, field, push_field, Parts, no_parts, part, push_part, Variants, no_variants, variant, push_variant, Content, newtype_content, tuple_content, struct_content}
-use Rattle.bson_shape.specs.Notation.{in_bare, bare, escaped, quoted, name_text, struct_name_text, after_commas, listed, text, field_texts, part_texts, variant_texts, content_text}
-use Rattle.bson_shape.specs.Machine.{OpenEnum, Braces, Struct_at, Struct_variant, Open, Parens, Tuple_at, Tuple_struct_at, Tuple_variant, OpenTuple, Level, In_field, In_option, In_brackets, In_map, In_newtype, In_part, In_variant, Owner, Form_at, Field_of, Variant_of, Mode, Form_due, First_field, Field_due, First_part, First_variant, Variant_due, Bare, Quoted, Escape, Named, Variant_done, Done, State, grown, grown_tuple, grown_enum, is_written}
+use Rattle.bson_shape.specs.Form.{Form, sequence, map, Fields, no_fields, field, push_field, Parts, no_parts, part, push_part, Variants, no_variants, variant, push_variant, Content, newtype_content, tuple_content, struct_content}
+use Rattle.bson_shape.specs.Notation.{in_bare, names_form, bare, escaped, quoted, name_text, struct_name_text, after_commas, listed, text, field_texts, part_texts, variant_texts, content_text}
+use Rattle.bson_shape.specs.Fronts.{goes_on}
+use Rattle.bson_shape.proofs.Words.{or_false}
+use Rattle.bson_shape.specs.Machine.{OpenEnum, Holder, Nameless_at, Named_at, Variant_of, Group, Braces, Parens, Angles, Prefix, Option_prefix, Newtype_prefix, Level, In_prefix, In_brackets, In_map, In_item, Owner, Form_at, Item_of, Mode, Form_due, Item_due, Bare, Quoted, Escape, Named, Item_done, Done, State, grown, grown_enum, has_no_fields, has_no_parts, has_no_variants, is_empty, closing, Closed, Closed_form, Closed_variant, closed, prefixed, is_written}
 
 -- the comma before a further text
 abbrev pub sep : List Utf8 → Utf8
 sep [] = []
 sep (x ∷ xs) = 44 ∷ []
 
-abbrev pub enum_text : OpenEnum → Utf8
-enum_text e = 60 ∷ listed (variant_texts e.variants)
+-- ---- groups, a row for each kind
+
+-- the texts of the items so far
+abbrev pub item_texts : Group → List Utf8
+item_texts (Braces h fs) = field_texts fs
+item_texts (Parens h ps) = part_texts ps
+item_texts (Angles e) = variant_texts e.variants
+
+abbrev pub opening : Group → ℕ
+opening (Braces h fs) = 123
+opening (Parens h ps) = 40
+opening (Angles e) = 60
 
 -- an enum, and the next variant's name
 abbrev pub variant_text : OpenEnum → Utf8 → Utf8
-variant_text e n = (enum_text e ++ sep (variant_texts e.variants)) ++ name_text n
+variant_text e n = ((60 ∷ listed (variant_texts e.variants)) ++ sep (variant_texts e.variants)) ++ name_text n
 
 -- what is before a brace
-abbrev pub braces_text : Braces → Utf8
-braces_text (Struct_at place n) = struct_name_text n
-braces_text (Struct_variant e n) = variant_text e n
-
-abbrev pub open_text : Open → Utf8
-open_text o = braces_text o.holder ++ 123 ∷ listed (field_texts o.fields)
+abbrev pub braces_text : Holder → Utf8
+braces_text (Nameless_at place) = []
+braces_text (Named_at place n) = struct_name_text n
+braces_text (Variant_of e n) = variant_text e n
 
 -- what is before a parenthesis
-abbrev pub parens_text : Parens → Utf8
-parens_text (Tuple_at place) = []
-parens_text (Tuple_struct_at place n) = name_text n
-parens_text (Tuple_variant e n) = variant_text e n
+abbrev pub parens_text : Holder → Utf8
+parens_text (Nameless_at place) = []
+parens_text (Named_at place n) = name_text n
+parens_text (Variant_of e n) = variant_text e n
 
-abbrev pub tuple_text : OpenTuple → Utf8
-tuple_text o = parens_text o.holder ++ 40 ∷ listed (part_texts o.parts)
+-- what is before the opening bracket
+abbrev pub before_text : Group → Utf8
+before_text (Braces h fs) = braces_text h
+before_text (Parens h ps) = parens_text h
+before_text (Angles e) = []
+
+-- between an item's comma and its form
+abbrev pub label : Group → Utf8 → Utf8
+label (Braces h fs) n = name_text n ++ 58 ∷ []
+label (Parens h ps) n = []
+label (Angles e) n = name_text n ++ 61 ∷ []
+
+abbrev pub group_text : Group → Utf8
+group_text g = before_text g ++ opening g ∷ listed (item_texts g)
+
+-- up to the next item
+abbrev pub due_text : Group → Utf8
+due_text g = group_text g ++ sep (item_texts g)
+
+-- up to the next item's form
+abbrev pub item_text : Group → Utf8 → Utf8
+item_text g n = due_text g ++ label g n
+
+-- ---- states
 
 -- what is before the name
 abbrev pub owner_text : Owner → Utf8
 owner_text (Form_at place) = []
-owner_text (Field_of o) = open_text o ++ sep (field_texts o.fields)
-owner_text (Variant_of e) = enum_text e ++ sep (variant_texts e.variants)
+owner_text (Item_of g) = due_text g
+
+abbrev pub prefix_text : Prefix → Utf8
+prefix_text Option_prefix = 63 ∷ []
+prefix_text (Newtype_prefix n) = name_text n ++ 61 ∷ []
 
 -- what is written of a form before the one inside it
 abbrev pub level_text : Level → Utf8
-level_text (In_field o n) = open_text o ++ (sep (field_texts o.fields) ++ (name_text n ++ 58 ∷ []))
-level_text (In_option place) = 63 ∷ []
+level_text (In_prefix place p) = prefix_text p
 level_text (In_brackets place) = 91 ∷ []
 level_text (In_map place k) = 91 ∷ (text k ++ 58 ∷ [])
-level_text (In_newtype place n) = name_text n ++ 61 ∷ []
-level_text (In_part o) = tuple_text o ++ sep (part_texts o.parts)
-level_text (In_variant e n) = variant_text e n ++ 61 ∷ []
+level_text (In_item g n) = item_text g n
 
 abbrev pub levels_text : List Level → Utf8
 levels_text [] = []
@@ -56,16 +88,12 @@ levels_text (l ∷ st) = levels_text st ++ level_text l
 
 abbrev pub mode_text : Mode → Utf8
 mode_text Form_due = []
-mode_text (First_field o) = open_text o
-mode_text (Field_due o) = open_text o ++ 44 ∷ []
-mode_text (First_part o) = tuple_text o
-mode_text (First_variant e) = enum_text e
-mode_text (Variant_due e) = enum_text e ++ 44 ∷ []
+mode_text (Item_due g) = due_text g
 mode_text (Bare owner n) = owner_text owner ++ n
 mode_text (Quoted owner n) = owner_text owner ++ 34 ∷ escaped n
 mode_text (Escape owner n) = owner_text owner ++ (34 ∷ (escaped n ++ 92 ∷ []))
 mode_text (Named owner n) = owner_text owner ++ quoted n
-mode_text (Variant_done e) = enum_text e
+mode_text (Item_done g) = group_text g
 mode_text (Done f) = text f
 
 abbrev pub written : State → Utf8
@@ -80,16 +108,12 @@ pub record HasLastByte (f : Form) : Type 0 where
 
 abbrev pub ValidMode : Mode → Type 0
 ValidMode Form_due = Unit {0}
-ValidMode (First_field o) = sep (field_texts o.fields) ≡ []
-ValidMode (Field_due o) = sep (field_texts o.fields) ≡ 44 ∷ []
-ValidMode (First_part o) = sep (part_texts o.parts) ≡ []
-ValidMode (First_variant e) = sep (variant_texts e.variants) ≡ []
-ValidMode (Variant_due e) = sep (variant_texts e.variants) ≡ 44 ∷ []
+ValidMode (Item_due g) = Unit {0}
 ValidMode (Bare owner n) = bare n ≡ true
 ValidMode (Quoted owner n) = Unit {0}
 ValidMode (Escape owner n) = Unit {0}
 ValidMode (Named owner n) = bare n ≡ false
-ValidMode (Variant_done e) = sep (variant_texts e.variants) ≡ 44 ∷ []
+ValidMode (Item_done g) = sep (item_texts g) ≡ 44 ∷ []
 ValidMode (Done f) = HasLastByte f
 
 -- ---- lists between commas
@@ -106,10 +130,6 @@ sep-snoc : (xs : List Utf8) (x : Utf8) → sep (xs ++ x ∷ []) ≡ 44 ∷ []
 sep-snoc [] x = refl
 sep-snoc (y ∷ ys) x = refl
 
--- one more text in a list that is open
-open-snoc : (before : Utf8) (b : ℕ) (xs ys : List Utf8) (x : Utf8) → ys ≡ xs ++ x ∷ [] → before ++ b ∷ listed ys ≡ (before ++ b ∷ listed xs) ++ (sep xs ++ x)
-open-snoc before b xs ys x e = ap (λ zs. before ++ b ∷ listed zs) e ∙ ap (λ zs. before ++ b ∷ zs) (listed-snoc xs x) ∙ sym (append_assoc before (b ∷ listed xs) (sep xs ++ x))
-
 field_texts-push : (fs : Fields) (n : Utf8) (f : Form) → field_texts (push_field fs n f) ≡ field_texts fs ++ (name_text n ++ 58 ∷ text f) ∷ []
 field_texts-push no_fields n f = refl
 field_texts-push (field m g fs) n f = ap (λ xs. (name_text m ++ 58 ∷ text g) ∷ xs) (field_texts-push fs n f)
@@ -122,97 +142,115 @@ variant_texts-push : (vs : Variants) (n : Utf8) (c : Content) → variant_texts 
 variant_texts-push no_variants n c = refl
 variant_texts-push (variant m d vs) n c = ap (λ xs. (name_text m ++ content_text d) ∷ xs) (variant_texts-push vs n c)
 
--- behind a further one a comma comes next
-pub sep-field : (fs : Fields) (n : Utf8) (f : Form) → sep (field_texts (push_field fs n f)) ≡ 44 ∷ []
-sep-field fs n f = ap sep (field_texts-push fs n f) ∙ sep-snoc (field_texts fs) (name_text n ++ 58 ∷ text f)
+-- ---- one more item
 
-pub sep-part : (ps : Parts) (f : Form) → sep (part_texts (push_part ps f)) ≡ 44 ∷ []
-sep-part ps f = ap sep (part_texts-push ps f) ∙ sep-snoc (part_texts ps) (text f)
+-- the same brackets, with one more text
+more_text : (g h : Group) (x : Utf8) → before_text h ≡ before_text g → opening h ≡ opening g → item_texts h ≡ item_texts g ++ x ∷ [] → group_text h ≡ due_text g ++ x
+more_text g h x b o e =
+    (λ i. b i ++ o i ∷ listed (e i)) ∙ ap (λ zs. before_text g ++ opening g ∷ zs) (listed-snoc (item_texts g) x)
+    ∙ sym (append_assoc (before_text g) (opening g ∷ listed (item_texts g)) (sep (item_texts g) ++ x)) ∙ sym (append_assoc (group_text g) (sep (item_texts g)) x)
+
+item_texts-grown : (g : Group) (n : Utf8) (f : Form) → item_texts (grown g n f) ≡ item_texts g ++ (label g n ++ text f) ∷ []
+item_texts-grown (Braces h fs) n f = field_texts-push fs n f ∙ ap (λ x. field_texts fs ++ x ∷ []) (sym (append_assoc (name_text n) (58 ∷ []) (text f)))
+item_texts-grown (Parens h ps) n f = part_texts-push ps f
+item_texts-grown (Angles e) n f = variant_texts-push e.variants n (newtype_content f) ∙ ap (λ x. variant_texts e.variants ++ x ∷ []) (sym (append_assoc (name_text n) (61 ∷ []) (text f)))
+
+pub grown_text : (g : Group) (n : Utf8) (f : Form) → group_text (grown g n f) ≡ item_text g n ++ text f
+grown_text g n f = brackets g ∙ sym (append_assoc (due_text g) (label g n) (text f))
+  where
+    brackets : (g : Group) → group_text (grown g n f) ≡ due_text g ++ (label g n ++ text f)
+    brackets (Braces h fs) = more_text (Braces h fs) (grown (Braces h fs) n f) (label (Braces h fs) n ++ text f) refl refl (item_texts-grown (Braces h fs) n f)
+    brackets (Parens h ps) = more_text (Parens h ps) (grown (Parens h ps) n f) (label (Parens h ps) n ++ text f) refl refl (item_texts-grown (Parens h ps) n f)
+    brackets (Angles e) = more_text (Angles e) (grown (Angles e) n f) (label (Angles e) n ++ text f) refl refl (item_texts-grown (Angles e) n f)
+
+-- with one more variant
+pub grown_enum_text : (e : OpenEnum) (n : Utf8) (c : Content) → group_text (Angles (grown_enum e n c)) ≡ variant_text e n ++ content_text c
+grown_enum_text e n c =
+    more_text (Angles e) (Angles (grown_enum e n c)) (name_text n ++ content_text c) refl refl (variant_texts-push e.variants n c)
+    ∙ sym (append_assoc (due_text (Angles e)) (name_text n) (content_text c))
+
+-- behind a further one a comma comes next
+pub sep-grown : (g : Group) (n : Utf8) (f : Form) → sep (item_texts (grown g n f)) ≡ 44 ∷ []
+sep-grown g n f = ap sep (item_texts-grown g n f) ∙ sep-snoc (item_texts g) (label g n ++ text f)
 
 pub sep-variant : (vs : Variants) (n : Utf8) (c : Content) → sep (variant_texts (push_variant vs n c)) ≡ 44 ∷ []
 sep-variant vs n c = ap sep (variant_texts-push vs n c) ∙ sep-snoc (variant_texts vs) (name_text n ++ content_text c)
 
--- ---- fields between braces
-
--- with one more field
-pub grown_text : (o : Open) (name : Utf8) (f : Form) → open_text (grown o name f) ≡ open_text o ++ (sep (field_texts o.fields) ++ (name_text name ++ 58 ∷ text f))
-grown_text o name f = open-snoc (braces_text o.holder) 123 (field_texts o.fields) (field_texts (grown o name f).fields) (name_text name ++ 58 ∷ text f) (field_texts-push o.fields name f)
-
-pub levels_grown : (o : Open) (name : Utf8) (st : List Level) (f : Form) → levels_text (In_field o name ∷ st) ++ text f ≡ levels_text st ++ open_text (grown o name f)
-levels_grown o name st f = regrouped (levels_text st) (open_text o) (sep (field_texts o.fields)) (name_text name) (text f) ∙ ap (λ xs. levels_text st ++ xs) (sym (grown_text o name f))
+-- before the first none does
+pub sep-empty : (g : Group) → is_empty g ≡ true → sep (item_texts g) ≡ []
+sep-empty (Braces h fs) k = of_fields fs k
   where
-    regrouped : (a b c d e : Utf8) → (a ++ (b ++ (c ++ (d ++ 58 ∷ [])))) ++ e ≡ a ++ (b ++ (c ++ (d ++ 58 ∷ e)))
-    regrouped a b c d e = simp append_assoc
-
--- ---- parts between parentheses
-
-pub grown_tuple_text : (o : OpenTuple) (f : Form) → tuple_text (grown_tuple o f) ≡ tuple_text o ++ (sep (part_texts o.parts) ++ text f)
-grown_tuple_text o f = open-snoc (parens_text o.holder) 40 (part_texts o.parts) (part_texts (grown_tuple o f).parts) (text f) (part_texts-push o.parts f)
-
-pub levels_part : (o : OpenTuple) (st : List Level) (f : Form) → levels_text (In_part o ∷ st) ++ text f ≡ levels_text st ++ tuple_text (grown_tuple o f)
-levels_part o st f = regrouped (levels_text st) (tuple_text o) (sep (part_texts o.parts)) (text f) ∙ ap (λ xs. levels_text st ++ xs) (sym (grown_tuple_text o f))
+    of_fields : (fs : Fields) → has_no_fields fs ≡ true → sep (field_texts fs) ≡ []
+    of_fields no_fields k = refl
+    of_fields (field n f fs) k = absurd cc
+sep-empty (Parens h ps) k = of_parts ps k
   where
-    regrouped : (a b c d : Utf8) → (a ++ (b ++ c)) ++ d ≡ a ++ (b ++ (c ++ d))
-    regrouped a b c d = simp append_assoc
-
--- ---- variants between angle brackets
-
-pub grown_enum_text : (e : OpenEnum) (n : Utf8) (c : Content) → enum_text (grown_enum e n c) ≡ variant_text e n ++ content_text c
-grown_enum_text e n c =
-    open-snoc [] 60 (variant_texts e.variants) (variant_texts (grown_enum e n c).variants) (name_text n ++ content_text c) (variant_texts-push e.variants n c)
-    ∙ regrouped (enum_text e) (sep (variant_texts e.variants)) (name_text n) (content_text c)
+    of_parts : (ps : Parts) → has_no_parts ps ≡ true → sep (part_texts ps) ≡ []
+    of_parts no_parts k = refl
+    of_parts (part f ps) k = absurd cc
+sep-empty (Angles e) k = of_variants e.variants k
   where
-    regrouped : (a b c d : Utf8) → a ++ (b ++ (c ++ d)) ≡ ((a ++ b) ++ c) ++ d
-    regrouped a b c d = simp append_assoc
+    of_variants : (vs : Variants) → has_no_variants vs ≡ true → sep (variant_texts vs) ≡ []
+    of_variants no_variants k = refl
+    of_variants (variant n c vs) k = absurd cc
 
-pub levels_variant : (e : OpenEnum) (n : Utf8) (st : List Level) (f : Form) → levels_text (In_variant e n ∷ st) ++ text f ≡ levels_text st ++ enum_text (grown_enum e n (newtype_content f))
-levels_variant e n st f = regrouped (levels_text st) (variant_text e n) (text f) ∙ ap (λ xs. levels_text st ++ xs) (sym (grown_enum_text e n (newtype_content f)))
-  where
-    regrouped : (a b c : Utf8) → (a ++ (b ++ 61 ∷ [])) ++ c ≡ a ++ (b ++ 61 ∷ c)
-    regrouped a b c = simp append_assoc
+pub levels_grown : (g : Group) (n : Utf8) (st : List Level) (f : Form) → levels_text (In_item g n ∷ st) ++ text f ≡ levels_text st ++ group_text (grown g n f)
+levels_grown g n st f = append_assoc (levels_text st) (item_text g n) (text f) ∙ ap (λ xs. levels_text st ++ xs) (sym (grown_text g n f))
 
--- ---- behind a closing byte
+-- ---- behind a closing bracket
 
--- behind the braces
-abbrev pub after_braces : Braces → Fields → Mode
-after_braces (Struct_at place n) fs = Done (structure n fs)
-after_braces (Struct_variant e n) fs = Variant_done (grown_enum e n (struct_content fs))
-
--- behind the parentheses
-abbrev pub after_parens : Parens → Parts → Mode
-after_parens (Tuple_at place) ps = Done (tuple ps)
-after_parens (Tuple_struct_at place n) ps = Done (tuple_structure n ps)
-after_parens (Tuple_variant e n) ps = Variant_done (grown_enum e n (tuple_content ps))
+abbrev pub after : Closed → Mode
+after (Closed_form place f) = Done f
+after (Closed_variant e) = Item_done (Angles e)
 
 -- the list and the byte behind it
 closed_list : (before : Utf8) (b c : ℕ) (xs : List Utf8) → before ++ b ∷ (listed xs ++ c ∷ []) ≡ (before ++ b ∷ listed xs) ++ c ∷ []
 closed_list before b c xs = sym (append_assoc before (b ∷ listed xs) (c ∷ []))
 
-pub closed_braces : (h : Braces) (fs : Fields) → mode_text (after_braces h fs) ≡ (braces_text h ++ 123 ∷ listed (field_texts fs)) ++ 125 ∷ []
-closed_braces (Struct_at place n) fs = closed_list (struct_name_text n) 123 125 (field_texts fs)
-closed_braces (Struct_variant e n) fs = grown_enum_text e n (struct_content fs) ∙ closed_list (variant_text e n) 123 125 (field_texts fs)
+pub closed_text : (g : Group) → mode_text (after (closed g)) ≡ group_text g ++ closing g ∷ []
+closed_text (Braces (Nameless_at place) fs) = refl
+closed_text (Braces (Named_at place n) fs) = closed_list (struct_name_text n) 123 125 (field_texts fs)
+closed_text (Braces (Variant_of e n) fs) = grown_enum_text e n (struct_content fs) ∙ closed_list (variant_text e n) 123 125 (field_texts fs)
+closed_text (Parens (Nameless_at place) ps) = refl
+closed_text (Parens (Named_at place n) ps) = closed_list (name_text n) 40 41 (part_texts ps)
+closed_text (Parens (Variant_of e n) ps) = grown_enum_text e n (tuple_content ps) ∙ closed_list (variant_text e n) 40 41 (part_texts ps)
+closed_text (Angles e) = refl
 
-pub closed_parens : (h : Parens) (ps : Parts) → mode_text (after_parens h ps) ≡ (parens_text h ++ 40 ∷ listed (part_texts ps)) ++ 41 ∷ []
-closed_parens (Tuple_at place) ps = refl
-closed_parens (Tuple_struct_at place n) ps = closed_list (name_text n) 40 41 (part_texts ps)
-closed_parens (Tuple_variant e n) ps = grown_enum_text e n (tuple_content ps) ∙ closed_list (variant_text e n) 40 41 (part_texts ps)
+-- no word goes on before the closing bracket, nor does it belong to one
+pub closing-alone : (g : Group) → goes_on (closing g ∷ []) ≡ false
+closing-alone (Braces h fs) = refl
+closing-alone (Parens h ps) = refl
+closing-alone (Angles e) = refl
 
-pub valid_braces : (h : Braces) (fs : Fields) → ValidMode (after_braces h fs)
-valid_braces (Struct_at place n) fs = record { before = struct_name_text n ++ 123 ∷ listed (field_texts fs); byte = 125; whole = closed_list (struct_name_text n) 123 125 (field_texts fs); closes = refl }
-valid_braces (Struct_variant e n) fs = sep-variant e.variants n (struct_content fs)
+pub closing-ends : (g : Group) → in_bare (closing g) ≡ false
+closing-ends g = (or_false (in_bare (closing g)) (names_form (closing g)) (closing-alone g)).0
 
-pub valid_parens : (h : Parens) (ps : Parts) → ValidMode (after_parens h ps)
-valid_parens (Tuple_at place) ps = record { before = 40 ∷ listed (part_texts ps); byte = 41; whole = refl; closes = refl }
-valid_parens (Tuple_struct_at place n) ps = record { before = name_text n ++ 40 ∷ listed (part_texts ps); byte = 41; whole = closed_list (name_text n) 40 41 (part_texts ps); closes = refl }
-valid_parens (Tuple_variant e n) ps = sep-variant e.variants n (tuple_content ps)
+abbrev HasMore : Closed → Type 0
+HasMore (Closed_form place f) = Unit {0}
+HasMore (Closed_variant e) = sep (variant_texts e.variants) ≡ 44 ∷ []
 
--- an option's text is that of its inner form behind `?`
-pub levels_inner : (place : ℕ) (st : List Level) (f : Form) → levels_text st ++ text (optional f) ≡ levels_text (In_option place ∷ st) ++ text f
-levels_inner place st f = sym (append_assoc (levels_text st) (63 ∷ []) (text f))
+pub valid_closed : (g : Group) → ValidMode (after (closed g))
+valid_closed g = valid (closed g) (closed_text g) (has_more g)
+  where
+    valid : (c : Closed) → mode_text (after c) ≡ group_text g ++ closing g ∷ [] → HasMore c → ValidMode (after c)
+    valid (Closed_form place f) e m = record { before = group_text g; byte = closing g; whole = e; closes = closing-ends g }
+    valid (Closed_variant v) e m = m
 
--- a newtype's text is that of its inner form behind its name and `=`
-pub levels_named : (place : ℕ) (n : Utf8) (st : List Level) (f : Form) → levels_text st ++ text (newtype n f) ≡ levels_text (In_newtype place n ∷ st) ++ text f
-levels_named place n st f = ap (λ xs. levels_text st ++ xs) (sym (append_assoc (name_text n) (61 ∷ []) (text f))) ∙ sym (append_assoc (levels_text st) (name_text n ++ 61 ∷ []) (text f))
+    has_more : (g : Group) → HasMore (closed g)
+    has_more (Braces (Nameless_at place) fs) = tt
+    has_more (Braces (Named_at place n) fs) = tt
+    has_more (Braces (Variant_of e n) fs) = sep-variant e.variants n (struct_content fs)
+    has_more (Parens (Nameless_at place) ps) = tt
+    has_more (Parens (Named_at place n) ps) = tt
+    has_more (Parens (Variant_of e n) ps) = sep-variant e.variants n (tuple_content ps)
+    has_more (Angles e) = tt
+
+-- ---- other levels
+
+-- a form that begins with a prefix
+pub levels_prefixed : (p : Prefix) (place : ℕ) (st : List Level) (f : Form) → levels_text st ++ text (prefixed p f) ≡ levels_text (In_prefix place p ∷ st) ++ text f
+levels_prefixed Option_prefix place st f = sym (append_assoc (levels_text st) (63 ∷ []) (text f))
+levels_prefixed (Newtype_prefix n) place st f = ap (λ xs. levels_text st ++ xs) (sym (append_assoc (name_text n) (61 ∷ []) (text f))) ∙ sym (append_assoc (levels_text st) (name_text n ++ 61 ∷ []) (text f))
 
 -- a sequence's text is that of its items' form between brackets
 pub levels_item : (place : ℕ) (st : List Level) (f : Form) → levels_text st ++ text (sequence f) ≡ (levels_text (In_brackets place ∷ st) ++ text f) ++ 93 ∷ []

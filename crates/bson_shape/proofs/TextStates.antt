@@ -5,8 +5,9 @@ use Rattle.std.specs.Char.{IsScalar}
 use lib.Utf8.{encode, low_scalar}
 use Rattle.std.proofs.lemmas.Str.{IsUtf8-append, IsUtf8-encode, IsUtf8-nil, IsUtf8-from_is_utf8, is_utf8-from_IsUtf8, encode_ascii}
 use Rattle.bson_base.specs.Text.{Utf8}
-use Rattle.bson_shape.specs.Form.{Form, Fields, no_fields, field, push_field, Parts, no_parts, part, push_part, Variants, no_variants, variant, push_variant, Content}
-use Rattle.bson_shape.specs.Machine.{OpenEnum, Braces, Struct_at, Struct_variant, Open, Parens, Tuple_at, Tuple_struct_at, Tuple_variant, OpenTuple, Level, In_field, In_option, In_brackets, In_map, In_newtype, In_part, In_variant, Owner, Form_at, Field_of, Variant_of, Mode, Form_due, First_field, Field_due, First_part, First_variant, Variant_due, Bare, Quoted, Escape, Named, Variant_done, Done, State}
+use Rattle.bson_shape.specs.Form.{Form, Fields, no_fields, field, push_field, Parts, no_parts, part, push_part, Variants, no_variants, variant, push_variant, Content, newtype_content, tuple_content, struct_content}
+use Rattle.bson_shape.specs.Machine.{OpenEnum, Holder, Nameless_at, Named_at, Variant_of, Group, Braces, Parens, Angles, Prefix, Option_prefix, Newtype_prefix, Level, In_prefix, In_brackets, In_map, In_item, Owner, Form_at, Item_of, Mode, Form_due, Item_due, Bare, Quoted, Escape, Named, Item_done, Done, State, grown, closed, prefixed}
+use Rattle.bson_shape.proofs.States.{after}
 use Rattle.bson_shape.specs.Fronts.{HasTextNames, HaveTextNames, PartsHaveTextNames, VariantsHaveTextNames, ContentHasTextNames}
 use Rattle.std.proofs.Common.{arith}
 
@@ -28,62 +29,73 @@ text-push xs b h k = text-append xs (b ∷ []) h (text-one b k)
 abbrev pub TextEnum : OpenEnum → Type 0
 TextEnum e = VariantsHaveTextNames e.variants
 
-abbrev pub TextBraces : Braces → Type 0
-TextBraces (Struct_at place n) = is_utf8 n ≡ true
-TextBraces (Struct_variant e n) = TextEnum e × (is_utf8 n ≡ true)
+abbrev pub TextHolder : Holder → Type 0
+TextHolder (Nameless_at place) = Unit {0}
+TextHolder (Named_at place n) = is_utf8 n ≡ true
+TextHolder (Variant_of e n) = TextEnum e × (is_utf8 n ≡ true)
 
-abbrev pub TextOpen : Open → Type 0
-TextOpen o = TextBraces o.holder × HaveTextNames o.fields
+abbrev pub TextGroup : Group → Type 0
+TextGroup (Braces h fs) = TextHolder h × HaveTextNames fs
+TextGroup (Parens h ps) = TextHolder h × PartsHaveTextNames ps
+TextGroup (Angles e) = TextEnum e
 
-abbrev pub TextParens : Parens → Type 0
-TextParens (Tuple_at place) = Unit {0}
-TextParens (Tuple_struct_at place n) = is_utf8 n ≡ true
-TextParens (Tuple_variant e n) = TextEnum e × (is_utf8 n ≡ true)
-
-abbrev pub TextTuple : OpenTuple → Type 0
-TextTuple o = TextParens o.holder × PartsHaveTextNames o.parts
+abbrev pub TextPrefix : Prefix → Type 0
+TextPrefix Option_prefix = Unit {0}
+TextPrefix (Newtype_prefix n) = is_utf8 n ≡ true
 
 abbrev pub TextOwner : Owner → Type 0
 TextOwner (Form_at place) = Unit {0}
-TextOwner (Field_of o) = TextOpen o
-TextOwner (Variant_of e) = TextEnum e
+TextOwner (Item_of g) = TextGroup g
 
 abbrev pub TextLevels : List Level → Type 0
 TextLevels [] = Unit {0}
-TextLevels (In_field o n ∷ st) = TextOpen o × (is_utf8 n ≡ true) × TextLevels st
-TextLevels (In_option place ∷ st) = TextLevels st
+TextLevels (In_prefix place p ∷ st) = TextPrefix p × TextLevels st
 TextLevels (In_brackets place ∷ st) = TextLevels st
 TextLevels (In_map place k ∷ st) = HasTextNames k × TextLevels st
-TextLevels (In_newtype place n ∷ st) = (is_utf8 n ≡ true) × TextLevels st
-TextLevels (In_part o ∷ st) = TextTuple o × TextLevels st
-TextLevels (In_variant e n ∷ st) = TextEnum e × (is_utf8 n ≡ true) × TextLevels st
+TextLevels (In_item g n ∷ st) = TextGroup g × (is_utf8 n ≡ true) × TextLevels st
 
 abbrev pub TextMode : Mode → Type 0
 TextMode Form_due = Unit {0}
-TextMode (First_field o) = TextOpen o
-TextMode (Field_due o) = TextOpen o
-TextMode (First_part o) = TextTuple o
-TextMode (First_variant e) = TextEnum e
-TextMode (Variant_due e) = TextEnum e
+TextMode (Item_due g) = TextGroup g
 TextMode (Bare owner n) = TextOwner owner × (is_utf8 n ≡ true)
 TextMode (Quoted owner n) = TextOwner owner × (is_utf8 n ≡ true)
 TextMode (Escape owner n) = TextOwner owner × (is_utf8 n ≡ true)
 TextMode (Named owner n) = TextOwner owner × (is_utf8 n ≡ true)
-TextMode (Variant_done e) = TextEnum e
+TextMode (Item_done g) = TextGroup g
 TextMode (Done f) = HasTextNames f
 
 pub record TextState (s : State) : Type 0 where
   pub mode : TextMode s.0
   pub levels : TextLevels s.1
 
-pub texts-snoc : (fs : Fields) (n : Utf8) (f : Form) → HaveTextNames fs → is_utf8 n ≡ true → HasTextNames f → HaveTextNames (push_field fs n f)
+texts-snoc : (fs : Fields) (n : Utf8) (f : Form) → HaveTextNames fs → is_utf8 n ≡ true → HasTextNames f → HaveTextNames (push_field fs n f)
 texts-snoc no_fields n f h t k = (t, k, tt)
 texts-snoc (field m g fs) n f h t k = (h.0, h.1, texts-snoc fs n f h.2 t k)
 
-pub parts_texts-snoc : (ps : Parts) (f : Form) → PartsHaveTextNames ps → HasTextNames f → PartsHaveTextNames (push_part ps f)
+parts_texts-snoc : (ps : Parts) (f : Form) → PartsHaveTextNames ps → HasTextNames f → PartsHaveTextNames (push_part ps f)
 parts_texts-snoc no_parts f h k = (k, tt)
 parts_texts-snoc (part g ps) f h k = (h.0, parts_texts-snoc ps f h.1 k)
 
 pub variants_texts-snoc : (vs : Variants) (n : Utf8) (c : Content) → VariantsHaveTextNames vs → is_utf8 n ≡ true → ContentHasTextNames c → VariantsHaveTextNames (push_variant vs n c)
 variants_texts-snoc no_variants n c h t k = (t, k, tt)
 variants_texts-snoc (variant m d vs) n c h t k = (h.0, h.1, variants_texts-snoc vs n c h.2 t k)
+
+-- with one more item
+pub names-grown : (g : Group) (n : Utf8) (f : Form) → TextGroup g → is_utf8 n ≡ true → HasTextNames f → TextGroup (grown g n f)
+names-grown (Braces h fs) n f k t i = (k.0, texts-snoc fs n f k.1 t i)
+names-grown (Parens h ps) n f k t i = (k.0, parts_texts-snoc ps f k.1 i)
+names-grown (Angles e) n f k t i = variants_texts-snoc e.variants n (newtype_content f) k t i
+
+-- behind the closing bracket
+pub names-closed : (g : Group) → TextGroup g → TextMode (after (closed g))
+names-closed (Braces (Nameless_at place) fs) k = (text-nil, k.1)
+names-closed (Braces (Named_at place n) fs) k = k
+names-closed (Braces (Variant_of e n) fs) k = variants_texts-snoc e.variants n (struct_content fs) k.0.0 k.0.1 k.1
+names-closed (Parens (Nameless_at place) ps) k = k.1
+names-closed (Parens (Named_at place n) ps) k = k
+names-closed (Parens (Variant_of e n) ps) k = variants_texts-snoc e.variants n (tuple_content ps) k.0.0 k.0.1 k.1
+names-closed (Angles e) k = k
+
+pub names-prefixed : (p : Prefix) (f : Form) → TextPrefix p → HasTextNames f → HasTextNames (prefixed p f)
+names-prefixed Option_prefix f k h = h
+names-prefixed (Newtype_prefix n) f k h = (k, h)

@@ -1,20 +1,20 @@
 -- A form that ends, with the options and newtypes around it that end with it.
 use Rattle.std.proofs.Common.{◌≡◌, ℕ, List, [], ◌∷◌, ◌++◌, Some, Result, Ok, Err, refl, sym, ap, subst, ◌∙◌}
 use Rattle.std.specs.Prelude.{IfOk}
-use Rattle.bson_shape.specs.Form.{Form, leaf, optional, newtype}
+use Rattle.bson_shape.specs.Form.{Form, leaf}
 use Rattle.bson_shape.specs.Leaf.{of_word}
 use Rattle.bson_shape.specs.declared.leaf.Leaf.{Leaf}
-use Rattle.bson_shape.specs.Makers.{made_optional, made_newtype}
+use Rattle.bson_shape.specs.Makers.{made_form}
 use Rattle.bson_shape.specs.Notation.{text}
 use Rattle.bson_shape.specs.Fronts.{HasTextNames}
 use Rattle.bson_shape.specs.FirstRefusal.{MakerRefusal}
 use Rattle.bson_shape.specs.declared.error.ShapeError.{ShapeError}
 use Rattle.bson_base.specs.Outcome.{◌>>=◌}
-use Rattle.bson_shape.specs.Machine.{Refusal, Not_notation, Refused, Level, In_field, In_option, In_brackets, In_map, In_newtype, In_part, In_variant, Form_at, Mode, Bare, Done, State, made, Ended, wrapped}
-use Rattle.bson_shape.proofs.Made.{within_levels-made, made_newtype-made}
+use Rattle.bson_shape.specs.Machine.{Refusal, Not_notation, Refused, Level, In_prefix, In_brackets, In_map, In_item, Form_at, Mode, Bare, Done, State, made, Ended, prefixed, wrapped}
+use Rattle.bson_shape.proofs.Made.{made_form-made}
 use Rattle.bson_shape.proofs.Words.{of_word-is}
-use Rattle.bson_shape.proofs.TextStates.{TextLevels, TextMode}
-use Rattle.bson_shape.proofs.States.{levels_text, mode_text, levels_inner, levels_named}
+use Rattle.bson_shape.proofs.TextStates.{TextLevels, TextMode, names-prefixed}
+use Rattle.bson_shape.proofs.States.{levels_text, mode_text, levels_prefixed}
 
 -- The same is written, and the names are still texts; a maker that refuses does so behind these bytes.
 abbrev pub Keeps : ℕ → Form → List Level → Result Ended Refusal → Type 0
@@ -36,15 +36,11 @@ made_keeps (Err e) read place f g around st is same names k = refl
 pub wrapped_keeps : (st : List Level) (read : ℕ) (f : Form) → Keeps read f st (wrapped read f st)
 unfolding wrapped
 wrapped_keeps [] read f = (refl, λ h l. (h, l))
-wrapped_keeps (In_option place ∷ st) read f =
-    made_keeps (made_optional f) read place f (optional f) (In_option place ∷ st) st (within_levels-made (optional f)) (levels_inner place st f) (λ h l. (h, l)) (wrapped_keeps st read (optional f))
-wrapped_keeps (In_newtype place n ∷ st) read f =
-    made_keeps (made_newtype n f) read place f (newtype n f) (In_newtype place n ∷ st) st (made_newtype-made n f) (levels_named place n st f) (λ h l. ((l.0, h), l.1)) (wrapped_keeps st read (newtype n f))
-wrapped_keeps (In_field o n ∷ st) read f = (refl, λ h l. (h, l))
+wrapped_keeps (In_prefix place p ∷ st) read f =
+    made_keeps (made_form (prefixed p f)) read place f (prefixed p f) (In_prefix place p ∷ st) st (made_form-made (prefixed p f)) (levels_prefixed p place st f) (λ h l. (names-prefixed p f l.0 h, l.1)) (wrapped_keeps st read (prefixed p f))
 wrapped_keeps (In_brackets place ∷ st) read f = (refl, λ h l. (h, l))
 wrapped_keeps (In_map place k ∷ st) read f = (refl, λ h l. (h, l))
-wrapped_keeps (In_part o ∷ st) read f = (refl, λ h l. (h, l))
-wrapped_keeps (In_variant e n ∷ st) read f = (refl, λ h l. (h, l))
+wrapped_keeps (In_item g n ∷ st) read f = (refl, λ h l. (h, l))
 
 -- ---- behind a form
 

@@ -1,9 +1,9 @@
 -- The first refusal of a maker that is met in reading a notation from left to right. Source: this library's own notation.
-use Rattle.std.specs.Prelude.{ℕ, ◌+◌, nat_le, if◌then◌else◌, length, Option, Some, None, Result, Ok, Err}
+use Rattle.std.specs.Prelude.{ℕ, ◌+◌, nat_le, if◌then◌else◌, ◌∷◌, ◌++◌, length, Option, Some, None, Result, Ok, Err}
 use Rattle.bson_shape.specs.Form.{Form, leaf, optional, sequence, map, tuple, tuple_structure, newtype, unit_structure, structure, enumeration, Fields, no_fields, field, Parts, no_parts, part, Variants, no_variants, variant, Content, unit_content, newtype_content, tuple_content, struct_content}
 use Rattle.bson_shape.specs.Levels.{max_shape_levels}
-use Rattle.bson_shape.specs.Makers.{made_optional, made_sequence, made_map, made_tuple, made_tuple_structure, made_newtype, made_structure, made_enumeration}
-use Rattle.bson_shape.specs.Notation.{text, name_text, struct_name_text, listed, field_texts, part_texts, variant_texts, content_text}
+use Rattle.bson_shape.specs.Makers.{made_form}
+use Rattle.bson_shape.specs.Notation.{colon, text, name_text, struct_name_text, content_text}
 use Rattle.bson_shape.specs.declared.error.ShapeError.{ShapeError}
 use Rattle.bson_shape.specs.declared.error.ShapeError.TheVariants.{TooDeep}
 
@@ -28,59 +28,33 @@ abbrev pub refusal_of : ℕ → ℕ → Result Form ShapeError → Option MakerR
 refusal_of met place (Ok f) = None
 refusal_of met place (Err e) = Some (record { met = met; place = place; cause = e })
 
+-- of a form whose text begins at this place, inside so many others: that it is too deep, what is refused inside it, or what its maker refuses
+-- behind its last byte
+abbrev pub form_refusal : ℕ → ℕ → Form → Option MakerRefusal → Option MakerRefusal
+form_refusal at around f inside = or_else (too_deep at around) (or_else inside (refusal_of (at + length (text f)) at (made_form f)))
+
 abbrev mutual
-  -- of a form whose text begins at this place, inside so many others; the maker of a form is called behind its last byte, those of inner forms first
+  -- of a form whose text begins at this place, inside so many others
   pub first_refusal : ℕ → ℕ → Form → Option MakerRefusal
-  first_refusal at around (leaf l) = too_deep at around
-  first_refusal at around (optional f) =
-      let inner = at + 1 in
-      or_else (too_deep at around)
-      (or_else (first_refusal inner (around + 1) f)
-      (refusal_of (inner + length (text f)) at (made_optional f)))
-  first_refusal at around (sequence f) =
-      let inner = at + 1 in
-      or_else (too_deep at around)
-      (or_else (first_refusal inner (around + 1) f)
-      (refusal_of (inner + length (text f) + 1) at (made_sequence f)))
+  first_refusal at around (leaf l) = form_refusal at around (leaf l) None
+  first_refusal at around (optional f) = form_refusal at around (optional f) (first_refusal (at + 1) (around + 1) f)
+  first_refusal at around (sequence f) = form_refusal at around (sequence f) (first_refusal (at + 1) (around + 1) f)
   first_refusal at around (map k v) =
-      let key = at + 1 in
-      let value = key + length (text k) + 1 in
-      or_else (too_deep at around)
-      (or_else (or_else (first_refusal key (around + 1) k) (first_refusal value (around + 1) v))
-      (refusal_of (value + length (text v) + 1) at (made_map k v)))
-  first_refusal at around (tuple ps) =
-      let inner = at + 1 in
-      or_else (too_deep at around)
-      (or_else (parts_refusal inner (around + 1) ps)
-      (refusal_of (inner + length (listed (part_texts ps)) + 1) at (made_tuple ps)))
+      form_refusal at around (map k v) (or_else (first_refusal (at + 1) (around + 1) k) (first_refusal (at + 1 + length (text k) + 1) (around + 1) v))
+  first_refusal at around (tuple ps) = form_refusal at around (tuple ps) (parts_refusal (at + 1) (around + 1) ps)
   first_refusal at around (tuple_structure name ps) =
-      let inner = at + length (name_text name) + 1 in
-      or_else (too_deep at around)
-      (or_else (parts_refusal inner (around + 1) ps)
-      (refusal_of (inner + length (listed (part_texts ps)) + 1) at (made_tuple_structure name ps)))
-  first_refusal at around (newtype name f) =
-      let inner = at + length (name_text name) + 1 in
-      or_else (too_deep at around)
-      (or_else (first_refusal inner (around + 1) f)
-      (refusal_of (inner + length (text f)) at (made_newtype name f)))
-  first_refusal at around (unit_structure name) = too_deep at around
+      form_refusal at around (tuple_structure name ps) (parts_refusal (at + length (name_text name) + 1) (around + 1) ps)
+  first_refusal at around (newtype name f) = form_refusal at around (newtype name f) (first_refusal (at + length (name_text name) + 1) (around + 1) f)
+  first_refusal at around (unit_structure name) = form_refusal at around (unit_structure name) None
   first_refusal at around (structure name fs) =
-      let inner = at + length (struct_name_text name) + 1 in
-      or_else (too_deep at around)
-      (or_else (fields_refusal inner (around + 1) fs)
-      (refusal_of (inner + length (listed (field_texts fs)) + 1) at (made_structure name fs)))
-  first_refusal at around (enumeration vs) =
-      let inner = at + 1 in
-      or_else (too_deep at around)
-      (or_else (variants_refusal inner (around + 1) vs)
-      (refusal_of (inner + length (listed (variant_texts vs)) + 1) at (made_enumeration vs)))
+      form_refusal at around (structure name fs) (fields_refusal (at + length (struct_name_text name) + 1) (around + 1) fs)
+  first_refusal at around (enumeration vs) = form_refusal at around (enumeration vs) (variants_refusal (at + 1) (around + 1) vs)
 
   -- of fields, where the text of the first one begins at this place
   pub fields_refusal : ℕ → ℕ → Fields → Option MakerRefusal
   fields_refusal at around no_fields = None
   fields_refusal at around (field name f fs) =
-      let inner = at + length (name_text name) + 1 in
-      or_else (first_refusal inner around f) (fields_refusal (inner + length (text f) + 1) around fs)
+      or_else (first_refusal (at + length (name_text name) + 1) around f) (fields_refusal (at + length (name_text name ++ colon ∷ text f) + 1) around fs)
 
   -- of parts, where the text of the first one begins at this place
   pub parts_refusal : ℕ → ℕ → Parts → Option MakerRefusal
@@ -91,8 +65,7 @@ abbrev mutual
   pub variants_refusal : ℕ → ℕ → Variants → Option MakerRefusal
   variants_refusal at around no_variants = None
   variants_refusal at around (variant name c vs) =
-      let inner = at + length (name_text name) in
-      or_else (content_refusal inner around c) (variants_refusal (inner + length (content_text c) + 1) around vs)
+      or_else (content_refusal (at + length (name_text name)) around c) (variants_refusal (at + length (name_text name ++ content_text c) + 1) around vs)
 
   -- of what a variant has, where its text begins at this place; no maker is called behind it
   pub content_refusal : ℕ → ℕ → Content → Option MakerRefusal

@@ -4,7 +4,7 @@ use Rattle.bson_base.specs.Reserved.{reserved_kind}
 use Rattle.bson_shape.specs.Form.{Form, leaf, optional, sequence, map, tuple, tuple_structure, newtype, unit_structure, structure, enumeration, Fields, no_fields, field, Parts, no_parts, part, Variants, no_variants, variant, Content, unit_content, newtype_content, tuple_content, struct_content}
 use Rattle.bson_shape.specs.Levels.{max_shape_levels}
 use Rattle.bson_shape.specs.Makers.{is_text_key, is_reserved_newtype, repeats, variants_repeat}
-use Rattle.bson_shape.specs.Notation.{text, name_text, struct_name_text, content_text}
+use Rattle.bson_shape.specs.Notation.{colon, text, name_text, struct_name_text, content_text}
 use Rattle.bson_shape.specs.declared.error.ShapeError.{ShapeError}
 use Rattle.bson_shape.specs.declared.error.ShapeError.TheVariants.{ReservedName, RepeatedName, KeyNotText, TooDeep, NoMemory}
 
@@ -21,8 +21,7 @@ abbrev mutual
   inner_forms at around (optional f) = record { place = at; around = around; form = optional f } ∷ inner_forms (at + 1) (around + 1) f
   inner_forms at around (sequence f) = record { place = at; around = around; form = sequence f } ∷ inner_forms (at + 1) (around + 1) f
   inner_forms at around (map k v) =
-      let key = at + 1 in
-      record { place = at; around = around; form = map k v } ∷ (inner_forms key (around + 1) k ++ inner_forms (key + length (text k) + 1) (around + 1) v)
+      record { place = at; around = around; form = map k v } ∷ (inner_forms (at + 1) (around + 1) k ++ inner_forms (at + 1 + length (text k) + 1) (around + 1) v)
   inner_forms at around (tuple ps) = record { place = at; around = around; form = tuple ps } ∷ part_forms (at + 1) (around + 1) ps
   inner_forms at around (tuple_structure name ps) =
       record { place = at; around = around; form = tuple_structure name ps } ∷ part_forms (at + length (name_text name) + 1) (around + 1) ps
@@ -37,8 +36,7 @@ abbrev mutual
   pub field_forms : ℕ → ℕ → Fields → List Inner
   field_forms at around no_fields = []
   field_forms at around (field name f fs) =
-      let inner = at + length (name_text name) + 1 in
-      inner_forms inner around f ++ field_forms (inner + length (text f) + 1) around fs
+      inner_forms (at + length (name_text name) + 1) around f ++ field_forms (at + length (name_text name ++ colon ∷ text f) + 1) around fs
 
   pub part_forms : ℕ → ℕ → Parts → List Inner
   part_forms at around no_parts = []
@@ -47,8 +45,7 @@ abbrev mutual
   pub variant_forms : ℕ → ℕ → Variants → List Inner
   variant_forms at around no_variants = []
   variant_forms at around (variant name c vs) =
-      let inner = at + length (name_text name) in
-      content_forms inner around c ++ variant_forms (inner + length (content_text c) + 1) around vs
+      content_forms (at + length (name_text name)) around c ++ variant_forms (at + length (name_text name ++ content_text c) + 1) around vs
 
   pub content_forms : ℕ → ℕ → Content → List Inner
   content_forms at around unit_content = []

@@ -2,11 +2,11 @@
 use Rattle.std.specs.Prelude.{ℕ, ◌+◌, Bool, true, false, ◌&&◌, ◌||◌, ◌==◌, nat_le, if◌then◌else◌, List, [], ◌∷◌, ◌++◌, length, Option, Some, None, Result, Ok, Err}
 use Rattle.bson_base.specs.Outcome.{◌>>=◌}
 use Rattle.bson_base.specs.Text.{Utf8}
-use Rattle.bson_shape.specs.Form.{Form, leaf, unit_structure, Fields, no_fields, push_field, Parts, no_parts, push_part, Variants, no_variants, push_variant, Content, unit_content, newtype_content, tuple_content, struct_content}
+use Rattle.bson_shape.specs.Form.{Form, leaf, optional, sequence, map, tuple, tuple_structure, newtype, unit_structure, structure, enumeration, Fields, no_fields, field, push_field, Parts, no_parts, part, push_part, Variants, no_variants, variant, push_variant, Content, unit_content, newtype_content, tuple_content, struct_content}
 use Rattle.bson_shape.specs.Leaf.{of_word}
 use Rattle.bson_shape.specs.declared.leaf.Leaf.{Leaf}
 use Rattle.bson_shape.specs.Levels.{max_shape_levels}
-use Rattle.bson_shape.specs.Makers.{made_optional, made_sequence, made_map, made_tuple, made_tuple_structure, made_newtype, made_structure, made_enumeration}
+use Rattle.bson_shape.specs.Makers.{made_form}
 use Rattle.bson_shape.specs.Notation.{exclamation, quote, open_paren, close_paren, comma, colon, open_angle, equals, close_angle, question, open_bracket, backslash, close_bracket, open_brace, close_brace, begins_bare, in_bare, bare, names_form, is_escaped}
 use Rattle.bson_shape.specs.FirstRefusal.{MakerRefusal}
 use Rattle.bson_shape.specs.declared.error.ShapeError.{ShapeError}
@@ -24,72 +24,55 @@ pub record OpenEnum : Type 0 where
   pub place : ℕ
   pub variants : Variants
 
--- What braces belong to.
-pub data Braces : Type 0 where
-  -- a struct that begins at this place, and its name
-  Struct_at : ℕ → Utf8 → Braces
+-- What braces or parentheses belong to.
+pub data Holder : Type 0 where
+  -- a form that begins at this place, without a name
+  Nameless_at : ℕ → Holder
+  -- a form that begins at this place, and its name
+  Named_at : ℕ → Utf8 → Holder
   -- a variant of this name
-  Struct_variant : OpenEnum → Utf8 → Braces
+  Variant_of : OpenEnum → Utf8 → Holder
 
--- Braces that have not closed: what they belong to, and the fields so far.
-pub record Open : Type 0 where
-  pub holder : Braces
-  pub fields : Fields
+-- A group: items with commas between, whose closing bracket has not come. It has the items so far.
+pub data Group : Type 0 where
+  -- fields between braces
+  Braces : Holder → Fields → Group
+  -- parts between parentheses
+  Parens : Holder → Parts → Group
+  -- variants between angle brackets
+  Angles : OpenEnum → Group
 
--- What parentheses belong to.
-pub data Parens : Type 0 where
-  -- a tuple that begins at this place
-  Tuple_at : ℕ → Parens
-  -- a tuple struct that begins at this place, and its name
-  Tuple_struct_at : ℕ → Utf8 → Parens
-  -- a variant of this name
-  Tuple_variant : OpenEnum → Utf8 → Parens
-
--- Parentheses that have not closed: what they belong to, and the parts so far.
-pub record OpenTuple : Type 0 where
-  pub holder : Parens
-  pub parts : Parts
+-- What is before a form and ends where that form ends.
+pub data Prefix : Type 0 where
+  -- `?`
+  Option_prefix : Prefix
+  -- a newtype's name and `=`
+  Newtype_prefix : Utf8 → Prefix
 
 -- A form around the one that is read.
 pub data Level : Type 0 where
-  -- braces, and the name of the field
-  In_field : Open → Utf8 → Level
-  -- an option that begins at this place
-  In_option : ℕ → Level
+  -- a form that begins at this place with the prefix
+  In_prefix : ℕ → Prefix → Level
   -- a sequence that begins at this place, or a map, before its colon
   In_brackets : ℕ → Level
   -- a map that begins at this place, behind its colon, and its key
   In_map : ℕ → Form → Level
-  -- a newtype that begins at this place, and its name
-  In_newtype : ℕ → Utf8 → Level
-  -- parentheses
-  In_part : OpenTuple → Level
-  -- an enum, and the name of the newtype variant
-  In_variant : OpenEnum → Utf8 → Level
+  -- a group, and the name of the item; a part has the empty one
+  In_item : Group → Utf8 → Level
 
 -- Whose name is read.
 pub data Owner : Type 0 where
   -- a form that begins at this place
   Form_at : ℕ → Owner
-  -- a field between braces
-  Field_of : Open → Owner
-  -- a variant of an enum
-  Variant_of : OpenEnum → Owner
+  -- the next item of a group
+  Item_of : Group → Owner
 
 -- What is read at the moment.
 pub data Mode : Type 0 where
   -- a form is due
   Form_due : Mode
-  -- a field or a closing brace is due
-  First_field : Open → Mode
-  -- a field is due, behind a comma
-  Field_due : Open → Mode
-  -- a form or a closing parenthesis is due
-  First_part : OpenTuple → Mode
-  -- a variant or a closing bracket is due
-  First_variant : OpenEnum → Mode
-  -- a variant is due, behind a comma
-  Variant_due : OpenEnum → Mode
+  -- an item is due, or the closing bracket where the group has no item
+  Item_due : Group → Mode
   -- inside a bare name
   Bare : Owner → Utf8 → Mode
   -- inside a quoted name
@@ -98,8 +81,8 @@ pub data Mode : Type 0 where
   Escape : Owner → Utf8 → Mode
   -- behind a quoted name
   Named : Owner → Utf8 → Mode
-  -- behind the last byte of a variant that has one of its own
-  Variant_done : OpenEnum → Mode
+  -- behind the last byte of an item that has one of its own
+  Item_done : Group → Mode
   -- behind the last byte of a form that has one of its own
   Done : Form → Mode
 
@@ -107,19 +90,7 @@ pub data Mode : Type 0 where
 abbrev pub State : Type 0
 State = Mode × List Level
 
-abbrev pub opened : Braces → Open
-opened holder = record { holder = holder; fields = no_fields }
-
--- the braces with one more field
-abbrev pub grown : Open → Utf8 → Form → Open
-grown o name f = record { holder = o.holder; fields = push_field o.fields name f }
-
-abbrev pub opened_tuple : Parens → OpenTuple
-opened_tuple holder = record { holder = holder; parts = no_parts }
-
--- the parentheses with one more part
-abbrev pub grown_tuple : OpenTuple → Form → OpenTuple
-grown_tuple o f = record { holder = o.holder; parts = push_part o.parts f }
+-- ---- groups and prefixes, a row for each kind
 
 abbrev pub opened_enum : ℕ → OpenEnum
 opened_enum place = record { place = place; variants = no_variants }
@@ -128,91 +99,120 @@ opened_enum place = record { place = place; variants = no_variants }
 abbrev pub grown_enum : OpenEnum → Utf8 → Content → OpenEnum
 grown_enum e name c = record { place = e.place; variants = push_variant e.variants name c }
 
+-- the group with one more item: this name, and behind it this form
+abbrev pub grown : Group → Utf8 → Form → Group
+grown (Braces h fs) name f = Braces h (push_field fs name f)
+grown (Parens h ps) name f = Parens h (push_part ps f)
+grown (Angles e) name f = Angles (grown_enum e name (newtype_content f))
+
+abbrev pub has_no_fields : Fields → Bool
+has_no_fields no_fields = true
+has_no_fields (field name f fs) = false
+
+abbrev pub has_no_parts : Parts → Bool
+has_no_parts no_parts = true
+has_no_parts (part f ps) = false
+
+abbrev pub has_no_variants : Variants → Bool
+has_no_variants no_variants = true
+has_no_variants (variant name c vs) = false
+
+-- the group has no item yet
+abbrev pub is_empty : Group → Bool
+is_empty (Braces h fs) = has_no_fields fs
+is_empty (Parens h ps) = has_no_parts ps
+is_empty (Angles e) = has_no_variants e.variants
+
+-- the closing bracket
+abbrev pub closing : Group → ℕ
+closing (Braces h fs) = close_brace
+closing (Parens h ps) = close_paren
+closing (Angles e) = close_angle
+
+-- What ends with a closing bracket.
+pub data Closed : Type 0 where
+  -- a form that begins at this place
+  Closed_form : ℕ → Form → Closed
+  -- a variant, with which the enum is this
+  Closed_variant : OpenEnum → Closed
+
+-- what the closing bracket of the group ends
+abbrev pub closed : Group → Closed
+closed (Braces (Nameless_at place) fs) = Closed_form place (structure [] fs)
+closed (Braces (Named_at place name) fs) = Closed_form place (structure name fs)
+closed (Braces (Variant_of e name) fs) = Closed_variant (grown_enum e name (struct_content fs))
+closed (Parens (Nameless_at place) ps) = Closed_form place (tuple ps)
+closed (Parens (Named_at place name) ps) = Closed_form place (tuple_structure name ps)
+closed (Parens (Variant_of e name) ps) = Closed_variant (grown_enum e name (tuple_content ps))
+closed (Angles e) = Closed_form e.place (enumeration e.variants)
+
+-- the form with the prefix before it
+abbrev pub prefixed : Prefix → Form → Form
+prefixed Option_prefix f = optional f
+prefixed (Newtype_prefix name) f = newtype name f
+
+-- ---- the end of a form or an item
+
 -- the maker's answer behind so many bytes, for a form that begins at the place
 abbrev pub made : ℕ → ℕ → Result Form ShapeError → Result Form Refusal
 made read place (Ok f) = Ok f
 made read place (Err e) = Err (Refused (record { met = read; place = place; cause = e }))
 
--- A form, with the levels around it.
-abbrev pub Ended : Type 0
-Ended = Form × List Level
-
--- a form that ends behind so many bytes, with the options and newtypes around it that end with it
-unfoldable pub wrapped : ℕ → Form → List Level → Result Ended Refusal
-wrapped read f [] = Ok (f, [])
-wrapped read f (In_option place ∷ st) = made read place (made_optional f) >>= λ g. wrapped read g st
-wrapped read f (In_newtype place name ∷ st) = made read place (made_newtype name f) >>= λ g. wrapped read g st
-wrapped read f (In_field o name ∷ st) = Ok (f, In_field o name ∷ st)
-wrapped read f (In_brackets place ∷ st) = Ok (f, In_brackets place ∷ st)
-wrapped read f (In_map place k ∷ st) = Ok (f, In_map place k ∷ st)
-wrapped read f (In_part o ∷ st) = Ok (f, In_part o ∷ st)
-wrapped read f (In_variant e name ∷ st) = Ok (f, In_variant e name ∷ st)
-
 -- the last byte of a form that begins at the second place
-abbrev pub closed : ℕ → ℕ → List Level → Result Form ShapeError → Result State Refusal
-closed at place st r = made (at + 1) place r >>= λ f. Ok (Done f, st)
+abbrev pub form_closed : ℕ → ℕ → List Level → Result Form ShapeError → Result State Refusal
+form_closed at place st r = made (at + 1) place r >>= λ f. Ok (Done f, st)
 
--- a closing brace
-abbrev pub braces_closed : ℕ → Braces → Fields → List Level → Result State Refusal
-braces_closed at (Struct_at place name) fs st = closed at place st (made_structure name fs)
-braces_closed at (Struct_variant e name) fs st = Ok (Variant_done (grown_enum e name (struct_content fs)), st)
+-- a closing bracket, and what it ends
+abbrev pub bracket_closed : ℕ → List Level → Closed → Result State Refusal
+bracket_closed at st (Closed_form place f) = form_closed at place st (made_form f)
+bracket_closed at st (Closed_variant e) = Ok (Item_done (Angles e), st)
 
--- behind a field, with which the braces are these
-abbrev pub field_ended : ℕ → Open → List Level → ℕ → Result State Refusal
-field_ended at o st b =
-    if b == comma then Ok (Field_due o, st)
-    else (if b == close_brace then braces_closed at o.holder o.fields st
-    else Err (Not_notation at))
+abbrev pub group_closed : ℕ → Group → List Level → Result State Refusal
+group_closed at g st = bracket_closed at st (closed g)
 
--- a closing parenthesis
-abbrev pub parens_closed : ℕ → Parens → Parts → List Level → Result State Refusal
-parens_closed at (Tuple_at place) ps st = closed at place st (made_tuple ps)
-parens_closed at (Tuple_struct_at place name) ps st = closed at place st (made_tuple_structure name ps)
-parens_closed at (Tuple_variant e name) ps st = Ok (Variant_done (grown_enum e name (tuple_content ps)), st)
-
--- behind a part, with which the parentheses are these
-abbrev pub part_ended : ℕ → OpenTuple → List Level → ℕ → Result State Refusal
-part_ended at o st b =
-    if b == comma then Ok (Form_due, In_part o ∷ st)
-    else (if b == close_paren then parens_closed at o.holder o.parts st
-    else Err (Not_notation at))
-
--- a closing angle bracket
-abbrev pub enum_closed : ℕ → OpenEnum → List Level → Result State Refusal
-enum_closed at e st = closed at e.place st (made_enumeration e.variants)
-
--- behind a variant, with which the enum is this
-abbrev pub variant_ended : ℕ → OpenEnum → List Level → ℕ → Result State Refusal
-variant_ended at e st b =
-    if b == comma then Ok (Variant_due e, st)
-    else (if b == close_angle then enum_closed at e st
+-- behind an item, with which the group is this
+abbrev pub item_ended : ℕ → Group → List Level → ℕ → Result State Refusal
+item_ended at g st b =
+    if b == comma then Ok (Item_due g, st)
+    else (if b == closing g then group_closed at g st
     else Err (Not_notation at))
 
 -- behind the first form between brackets that begin at the second place: the item of a sequence, or the key of a map
-abbrev pub item_ended : ℕ → ℕ → Form → List Level → ℕ → Result State Refusal
-item_ended at place f st b =
-    if b == close_bracket then closed at place st (made_sequence f)
+abbrev pub key_ended : ℕ → ℕ → Form → List Level → ℕ → Result State Refusal
+key_ended at place f st b =
+    if b == close_bracket then form_closed at place st (made_form (sequence f))
     else (if b == colon then Ok (Form_due, In_map place f ∷ st)
     else Err (Not_notation at))
 
 -- behind the value of a map that begins at the second place
 abbrev pub value_ended : ℕ → ℕ → Form → Form → List Level → ℕ → Result State Refusal
-value_ended at place k v st b = if b == close_bracket then closed at place st (made_map k v) else Err (Not_notation at)
+value_ended at place k v st b = if b == close_bracket then form_closed at place st (made_form (map k v)) else Err (Not_notation at)
+
+-- A form, with the levels around it.
+abbrev pub Ended : Type 0
+Ended = Form × List Level
+
+-- a form that ends behind so many bytes, with the prefixes around it, which end with it
+unfoldable pub wrapped : ℕ → Form → List Level → Result Ended Refusal
+wrapped read f [] = Ok (f, [])
+wrapped read f (In_prefix place p ∷ st) = made read place (made_form (prefixed p f)) >>= λ g. wrapped read g st
+wrapped read f (In_brackets place ∷ st) = Ok (f, In_brackets place ∷ st)
+wrapped read f (In_map place k ∷ st) = Ok (f, In_map place k ∷ st)
+wrapped read f (In_item g name ∷ st) = Ok (f, In_item g name ∷ st)
 
 -- behind a form, inside one with bytes of its own to come
 abbrev pub enclosed : ℕ → Form → List Level → ℕ → Result State Refusal
-enclosed at f (In_field o name ∷ st) b = field_ended at (grown o name f) st b
-enclosed at f (In_brackets place ∷ st) b = item_ended at place f st b
-enclosed at f (In_map place k ∷ st) b = value_ended at place k f st b
-enclosed at f (In_part o ∷ st) b = part_ended at (grown_tuple o f) st b
-enclosed at f (In_variant e name ∷ st) b = variant_ended at (grown_enum e name (newtype_content f)) st b
-enclosed at f (In_option place ∷ st) b = Err (Not_notation at)
-enclosed at f (In_newtype place name ∷ st) b = Err (Not_notation at)
 enclosed at f [] b = Err (Not_notation at)
+enclosed at f (In_prefix place p ∷ st) b = Err (Not_notation at)
+enclosed at f (In_brackets place ∷ st) b = key_ended at place f st b
+enclosed at f (In_map place k ∷ st) b = value_ended at place k f st b
+enclosed at f (In_item g name ∷ st) b = item_ended at (grown g name f) st b
 
 -- behind a form
 unfoldable pub form_ended : ℕ → Form → List Level → ℕ → Result State Refusal
 form_ended at f st b = wrapped at f st >>= λ e. enclosed at e.0 e.1 b
+
+-- ---- where a form or an item is due
 
 abbrev pub begins_name : ℕ → Bool
 begins_name b = begins_bare b || (b == quote)
@@ -231,11 +231,11 @@ begins_form b = begins_name b || opens_form b
 -- the first byte of a form
 abbrev pub form_begun : ℕ → List Level → ℕ → State
 form_begun at st b =
-    if b == open_brace then (First_field (opened (Struct_at at [])), st)
+    if b == open_brace then (Item_due (Braces (Nameless_at at) no_fields), st)
     else (if b == open_bracket then (Form_due, In_brackets at ∷ st)
-    else (if b == question then (Form_due, In_option at ∷ st)
-    else (if b == open_paren then (First_part (opened_tuple (Tuple_at at)), st)
-    else (if b == open_angle then (First_variant (opened_enum at), st)
+    else (if b == question then (Form_due, In_prefix at Option_prefix ∷ st)
+    else (if b == open_paren then (Item_due (Parens (Nameless_at at) no_parts), st)
+    else (if b == open_angle then (Item_due (Angles (opened_enum at)), st)
     else (name_begun (Form_at at) b, st)))))
 
 -- where a form is due
@@ -244,25 +244,21 @@ form_due at st b =
     if begins_form b then (if nat_le max_shape_levels (length st) then Err (Refused (record { met = at + 1; place = at; cause = TooDeep })) else Ok (form_begun at st b))
     else Err (Not_notation at)
 
--- where the name of a field is due
-unfoldable pub field_due : ℕ → Open → List Level → ℕ → Result State Refusal
-field_due at o st b = if begins_name b then Ok (name_begun (Field_of o) b, st) else Err (Not_notation at)
+-- where the name of an item is due
+unfoldable pub name_due : ℕ → Group → List Level → ℕ → Result State Refusal
+name_due at g st b = if begins_name b then Ok (name_begun (Item_of g) b, st) else Err (Not_notation at)
 
--- behind the opening brace
-unfoldable pub first_field : ℕ → Open → List Level → ℕ → Result State Refusal
-first_field at o st b = if b == close_brace then braces_closed at o.holder o.fields st else field_due at o st b
+-- where an item is due
+unfoldable pub item_begun : ℕ → Group → List Level → ℕ → Result State Refusal
+item_begun at (Braces h fs) st b = name_due at (Braces h fs) st b
+item_begun at (Parens h ps) st b = form_due at (In_item (Parens h ps) [] ∷ st) b
+item_begun at (Angles e) st b = name_due at (Angles e) st b
 
--- behind the opening parenthesis
-unfoldable pub first_part : ℕ → OpenTuple → List Level → ℕ → Result State Refusal
-first_part at o st b = if b == close_paren then parens_closed at o.holder o.parts st else form_due at (In_part o ∷ st) b
+-- the same, where a group that has none yet may close
+unfoldable pub item_due : ℕ → Group → List Level → ℕ → Result State Refusal
+item_due at g st b = if (b == closing g) && is_empty g then group_closed at g st else item_begun at g st b
 
--- where the name of a variant is due
-unfoldable pub variant_due : ℕ → OpenEnum → List Level → ℕ → Result State Refusal
-variant_due at e st b = if begins_name b then Ok (name_begun (Variant_of e) b, st) else Err (Not_notation at)
-
--- behind the opening angle bracket
-unfoldable pub first_variant : ℕ → OpenEnum → List Level → ℕ → Result State Refusal
-first_variant at e st b = if b == close_angle then enum_closed at e st else variant_due at e st b
+-- ---- names
 
 -- the empty name of a struct is not written
 abbrev pub is_written : Utf8 → Bool
@@ -272,25 +268,30 @@ is_written (b ∷ bs) = true
 -- behind the name of a form that begins at the second place
 abbrev pub form_named : ℕ → ℕ → Utf8 → List Level → ℕ → Result State Refusal
 form_named at place name st b =
-    if b == equals then Ok (Form_due, In_newtype place name ∷ st)
+    if b == equals then Ok (Form_due, In_prefix place (Newtype_prefix name) ∷ st)
     else (if b == exclamation then Ok (Done (unit_structure name), st)
-    else (if b == open_paren then Ok (First_part (opened_tuple (Tuple_struct_at place name)), st)
-    else (if (b == open_brace) && is_written name then Ok (First_field (opened (Struct_at place name)), st)
+    else (if b == open_paren then Ok (Item_due (Parens (Named_at place name) no_parts), st)
+    else (if (b == open_brace) && is_written name then Ok (Item_due (Braces (Named_at place name) no_fields), st)
     else Err (Not_notation at))))
 
 -- behind the name of a variant: what comes next tells what the variant has
 abbrev pub variant_named : ℕ → OpenEnum → Utf8 → List Level → ℕ → Result State Refusal
 variant_named at e name st b =
-    if b == equals then Ok (Form_due, In_variant e name ∷ st)
-    else (if b == open_paren then Ok (First_part (opened_tuple (Tuple_variant e name)), st)
-    else (if b == open_brace then Ok (First_field (opened (Struct_variant e name)), st)
-    else variant_ended at (grown_enum e name unit_content) st b))
+    if b == equals then Ok (Form_due, In_item (Angles e) name ∷ st)
+    else (if b == open_paren then Ok (Item_due (Parens (Variant_of e name) no_parts), st)
+    else (if b == open_brace then Ok (Item_due (Braces (Variant_of e name) no_fields), st)
+    else item_ended at (Angles (grown_enum e name unit_content)) st b))
+
+-- behind the name of an item; a part has none
+abbrev pub item_named : ℕ → Group → Utf8 → List Level → ℕ → Result State Refusal
+item_named at (Braces h fs) name st b = if b == colon then Ok (Form_due, In_item (Braces h fs) name ∷ st) else Err (Not_notation at)
+item_named at (Parens h ps) name st b = Err (Not_notation at)
+item_named at (Angles e) name st b = variant_named at e name st b
 
 -- behind a name
 unfoldable pub named : ℕ → Owner → Utf8 → List Level → ℕ → Result State Refusal
 named at (Form_at place) name st b = form_named at place name st b
-named at (Field_of o) name st b = if b == colon then Ok (Form_due, In_field o name ∷ st) else Err (Not_notation at)
-named at (Variant_of e) name st b = variant_named at e name st b
+named at (Item_of g) name st b = item_named at g name st b
 
 -- behind a word that is no name, with the leaf that it stands for
 abbrev pub leaf_ended : ℕ → Option Leaf → List Level → ℕ → Result State Refusal
@@ -300,8 +301,7 @@ leaf_ended at (Some l) st b = form_ended at (leaf l) st b
 -- behind a bare name: where it does not name a form, it is a leaf
 unfoldable pub word_ended : ℕ → Owner → Utf8 → List Level → ℕ → Result State Refusal
 word_ended at (Form_at place) name st b = if names_form b then named at (Form_at place) name st b else leaf_ended at (of_word name) st b
-word_ended at (Field_of o) name st b = named at (Field_of o) name st b
-word_ended at (Variant_of e) name st b = named at (Variant_of e) name st b
+word_ended at (Item_of g) name st b = named at (Item_of g) name st b
 
 -- inside a bare name
 unfoldable pub bare_name : ℕ → Owner → Utf8 → List Level → ℕ → Result State Refusal
@@ -322,19 +322,17 @@ quoted_name at owner name st b =
 unfoldable pub escape : ℕ → Owner → Utf8 → List Level → ℕ → Result State Refusal
 escape at owner name st b = if is_escaped b then Ok (Quoted owner (name ++ b ∷ []), st) else Err (Not_notation at)
 
+-- ---- the whole text
+
 -- one byte, at a place
 unfoldable pub step : ℕ → Mode → List Level → ℕ → Result State Refusal
 step at Form_due st b = form_due at st b
-step at (First_field o) st b = first_field at o st b
-step at (Field_due o) st b = field_due at o st b
-step at (First_part o) st b = first_part at o st b
-step at (First_variant e) st b = first_variant at e st b
-step at (Variant_due e) st b = variant_due at e st b
+step at (Item_due g) st b = item_due at g st b
 step at (Bare owner name) st b = bare_name at owner name st b
 step at (Quoted owner name) st b = quoted_name at owner name st b
 step at (Escape owner name) st b = escape at owner name st b
 step at (Named owner name) st b = named at owner name st b
-step at (Variant_done e) st b = variant_ended at e st b
+step at (Item_done g) st b = item_ended at g st b
 step at (Done f) st b = form_ended at f st b
 
 -- no further byte is taken

@@ -166,6 +166,19 @@ made_structure name fs =
 abbrev pub made_enumeration : Variants → Result Form ShapeError
 made_enumeration vs = if variants_repeat vs then Err RepeatedName else within_levels (enumeration vs)
 
+-- what the maker of the form answers, where its inner forms are made; a leaf and a unit struct are made in any case
+abbrev pub made_form : Form → Result Form ShapeError
+made_form (leaf l) = Ok (leaf l)
+made_form (optional f) = made_optional f
+made_form (sequence f) = made_sequence f
+made_form (map k v) = made_map k v
+made_form (tuple ps) = made_tuple ps
+made_form (tuple_structure name ps) = made_tuple_structure name ps
+made_form (newtype name f) = made_newtype name f
+made_form (unit_structure name) = Ok (unit_structure name)
+made_form (structure name fs) = made_structure name fs
+made_form (enumeration vs) = made_enumeration vs
+
 -- What a maker that takes memory answers, where this is due: what is due, or that memory ran out where no refusal is due.
 abbrev pub Makes : Result Form ShapeError → Result Form ShapeError → Type 0
 Makes (Ok f) due = due ≡ Ok f

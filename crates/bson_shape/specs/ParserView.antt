@@ -1,14 +1,16 @@
 -- What the parser's values stand for.
-use Rattle.std.specs.Prelude.{List, [], ◌∷◌, map, reverse, Option, Some, None, string_bytes}
+use Rattle.std.specs.Prelude.{List, [], ◌∷◌, map, reverse, Option, Some, None, Result, string_bytes}
+use Rattle.bson_shape.specs.Answers.{Gives}
 use Rattle.bson_shape.specs.ShapeView.{fields_of, parts_of, variants_of}
 use Rattle.bson_shape.specs.Machine as machine
-use Rattle.bson_shape.specs.declared.levels.OpenEnum.{OpenEnum}
-use Rattle.bson_shape.specs.declared.levels.Braces.{Braces}
-use Rattle.bson_shape.specs.declared.levels.Braces.TheVariants as braces
-use Rattle.bson_shape.specs.declared.levels.Open.{Open}
-use Rattle.bson_shape.specs.declared.levels.Parens.{Parens}
-use Rattle.bson_shape.specs.declared.levels.Parens.TheVariants as parens
-use Rattle.bson_shape.specs.declared.levels.OpenTuple.{OpenTuple}
+use Rattle.bson_shape.specs.declared.error.ParseError.{ParseError}
+use Rattle.bson_shape.specs.declared.group.OpenEnum.{OpenEnum}
+use Rattle.bson_shape.specs.declared.group.Holder.{Holder}
+use Rattle.bson_shape.specs.declared.group.Holder.TheVariants as holders
+use Rattle.bson_shape.specs.declared.group.Group.{Group}
+use Rattle.bson_shape.specs.declared.group.Group.TheVariants as groups
+use Rattle.bson_shape.specs.declared.levels.Prefix.{Prefix}
+use Rattle.bson_shape.specs.declared.levels.Prefix.TheVariants as prefixes
 use Rattle.bson_shape.specs.declared.levels.Level.{Level}
 use Rattle.bson_shape.specs.declared.levels.Level.TheVariants as levels
 use Rattle.bson_shape.specs.declared.levels.Ended.{Ended}
@@ -20,52 +22,47 @@ use Rattle.bson_shape.specs.declared.mode.Mode.TheVariants as modes
 abbrev pub enum_view : OpenEnum → machine.OpenEnum
 enum_view e = record { place = e.place; variants = variants_of e.variants.items }
 
-abbrev pub braces_view : Braces → machine.Braces
-braces_view (braces.StructAt place name) = machine.Struct_at place (string_bytes name)
-braces_view (braces.StructVariant e name) = machine.Struct_variant (enum_view e) (string_bytes name)
+abbrev pub holder_view : Holder → machine.Holder
+holder_view (holders.NamelessAt place) = machine.Nameless_at place
+holder_view (holders.NamedAt place name) = machine.Named_at place (string_bytes name)
+holder_view (holders.VariantOf e name) = machine.Variant_of (enum_view e) (string_bytes name)
 
-abbrev pub open_view : Open → machine.Open
-open_view o = record { holder = braces_view o.holder; fields = fields_of o.fields.items }
+abbrev pub group_view : Group → machine.Group
+group_view (groups.Braces holder fields) = machine.Braces (holder_view holder) (fields_of fields.items)
+group_view (groups.Parens holder parts) = machine.Parens (holder_view holder) (parts_of parts.items)
+group_view (groups.Angles e) = machine.Angles (enum_view e)
 
-abbrev pub parens_view : Parens → machine.Parens
-parens_view (parens.TupleAt place) = machine.Tuple_at place
-parens_view (parens.TupleStructAt place name) = machine.Tuple_struct_at place (string_bytes name)
-parens_view (parens.TupleVariant e name) = machine.Tuple_variant (enum_view e) (string_bytes name)
-
-abbrev pub tuple_view : OpenTuple → machine.OpenTuple
-tuple_view o = record { holder = parens_view o.holder; parts = parts_of o.parts.items }
+abbrev pub prefix_view : Prefix → machine.Prefix
+prefix_view prefixes.Option = machine.Option_prefix
+prefix_view (prefixes.Newtype name) = machine.Newtype_prefix (string_bytes name)
 
 abbrev pub level_view : Level → machine.Level
-level_view (levels.InField o name) = machine.In_field (open_view o) (string_bytes name)
-level_view (levels.InOption place) = machine.In_option place
+level_view (levels.InPrefix place p) = machine.In_prefix place (prefix_view p)
 level_view (levels.InBrackets place) = machine.In_brackets place
 level_view (levels.InMap place key) = machine.In_map place key
-level_view (levels.InNewtype place name) = machine.In_newtype place (string_bytes name)
-level_view (levels.InPart o) = machine.In_part (tuple_view o)
-level_view (levels.InVariant e name) = machine.In_variant (enum_view e) (string_bytes name)
+level_view (levels.InItem group name) = machine.In_item (group_view group) (string_bytes name)
 
 abbrev pub owner_view : Owner → machine.Owner
 owner_view (owners.FormAt place) = machine.Form_at place
-owner_view (owners.FieldOf o) = machine.Field_of (open_view o)
-owner_view (owners.VariantOf e) = machine.Variant_of (enum_view e)
+owner_view (owners.ItemOf group) = machine.Item_of (group_view group)
 
 abbrev pub mode_view : Mode → machine.Mode
 mode_view modes.FormDue = machine.Form_due
-mode_view (modes.FirstField o) = machine.First_field (open_view o)
-mode_view (modes.FieldDue o) = machine.Field_due (open_view o)
-mode_view (modes.FirstPart o) = machine.First_part (tuple_view o)
-mode_view (modes.FirstVariant e) = machine.First_variant (enum_view e)
-mode_view (modes.VariantDue e) = machine.Variant_due (enum_view e)
+mode_view (modes.ItemDue group) = machine.Item_due (group_view group)
 mode_view (modes.Bare owner name) = machine.Bare (owner_view owner) (string_bytes name)
 mode_view (modes.Quoted owner name) = machine.Quoted (owner_view owner) (string_bytes name)
 mode_view (modes.Escape owner name) = machine.Escape (owner_view owner) (string_bytes name)
 mode_view (modes.Named owner name) = machine.Named (owner_view owner) (string_bytes name)
-mode_view (modes.VariantDone e) = machine.Variant_done (enum_view e)
+mode_view (modes.ItemDone group) = machine.Item_done (group_view group)
 mode_view (modes.Done shape) = machine.Done shape
 
 -- the last of the stack is the innermost
 abbrev pub levels_view : List Level → List machine.Level
 levels_view ls = reverse (map level_view ls)
+
+-- The mode that a call returned, with these levels around, is the state that the machine reaches, or the refusal is the machine's, unless memory ran out.
+abbrev pub Reaches : Result Mode ParseError → List Level → Result machine.State machine.Refusal → Type 0
+Reaches result ls due = Gives (λ m. (mode_view m, levels_view ls)) result due
 
 -- the level that was taken off, if there was one, and those around it
 abbrev pub around_view : Option Level → List machine.Level → List machine.Level

@@ -6,6 +6,7 @@ mod ends;
 mod equality;
 mod error;
 mod form;
+mod group;
 mod leaf;
 mod levels;
 mod mode;

@@ -1,16 +1,14 @@
 // What the parser reads at the moment.
 use crate::Shape;
-use crate::levels::{Open, OpenEnum, OpenTuple};
+use crate::group::Group;
 
 /// Whose name is read.
 #[derive(Drop)]
 pub(crate) enum Owner {
     /// A form that begins at this place.
     FormAt(usize),
-    /// A field between these braces.
-    FieldOf(Open),
-    /// A variant of this enum.
-    VariantOf(OpenEnum),
+    /// The next item of this group.
+    ItemOf(Group),
 }
 
 /// What is read at the moment.
@@ -18,16 +16,8 @@ pub(crate) enum Owner {
 pub(crate) enum Mode {
     /// A form is due.
     FormDue,
-    /// A field or a closing brace is due.
-    FirstField(Open),
-    /// A field is due, behind a comma.
-    FieldDue(Open),
-    /// A form or a closing parenthesis is due.
-    FirstPart(OpenTuple),
-    /// A variant or a closing bracket is due.
-    FirstVariant(OpenEnum),
-    /// A variant is due, behind a comma.
-    VariantDue(OpenEnum),
+    /// An item is due, or the closing bracket where the group has no item.
+    ItemDue(Group),
     /// Inside a bare name.
     Bare(Owner, String),
     /// Inside a quoted name.
@@ -36,8 +26,8 @@ pub(crate) enum Mode {
     Escape(Owner, String),
     /// Behind a quoted name.
     Named(Owner, String),
-    /// Behind the last byte of a variant that has one of its own.
-    VariantDone(OpenEnum),
+    /// Behind the last byte of an item that has one of its own.
+    ItemDone(Group),
     /// Behind the last byte of a form that has one of its own.
     Done(Shape),
 }

@@ -2,15 +2,15 @@
 ghost use Rattle.std.specs.Prelude.{◌≡◌, ◌<◌, ◌∷◌, ◌++◌, [], IfOk, OnOk, string_bytes, encode_utf8};
 ghost use Rattle.bson_shape.specs.Notation.{names_form};
 ghost use Rattle.bson_shape.specs.Machine as machine;
-ghost use Rattle.bson_shape.specs.ParserView.{enum_view, open_view, tuple_view, owner_view, mode_view, levels_view};
+ghost use Rattle.bson_shape.specs.ParserView.{enum_view, group_view, owner_view, mode_view, levels_view, Reaches};
 ghost use Rattle.bson_shape.specs.Answers.{Gives};
 
-use crate::ends::{
-    braces_closed, enum_closed, form_ended, last, no_more, parens_closed, variant_ended,
+use crate::ends::{form_ended, last, no_more};
+use crate::group::{
+    Group, Holder, OpenEnum, closing, group_closed, grown_enum, is_empty, item_ended,
+    opened_angles, opened_braces, opened_parens,
 };
-use crate::levels::{
-    Braces, Level, Open, OpenEnum, OpenTuple, Parens, grown_enum, opened, opened_enum, opened_tuple,
-};
+use crate::levels::{Level, Prefix};
 use crate::mode::{Mode, Owner};
 use crate::name::{begins_bare, in_bare, is_bare};
 use crate::{Leaf, ParseError, Shape, ShapeError, VariantContent};
@@ -54,22 +54,21 @@ fn form_begun(alloc: Global, levels: &mut Vec<Level>, at: usize, b: u8) -> Resul
     ensures { IfOk result (λ m. machine.form_begun at (levels_view levels.old.items) b ≡ (mode_view m, levels_view levels.new.items)) }
 {
     if b == b'{' {
-        let holder = Braces::StructAt(at, String::new(alloc));
-        return Ok(Mode::FirstField(opened(alloc, holder)));
+        return Ok(opened_braces(alloc, Holder::NamelessAt(at)));
     }
     if b == b'[' {
         levels.push(Level::InBrackets(at))?;
         return Ok(Mode::FormDue);
     }
     if b == b'?' {
-        levels.push(Level::InOption(at))?;
+        levels.push(Level::InPrefix(at, Prefix::Option))?;
         return Ok(Mode::FormDue);
     }
     if b == b'(' {
-        return Ok(Mode::FirstPart(opened_tuple(alloc, Parens::TupleAt(at))));
+        return Ok(opened_parens(alloc, Holder::NamelessAt(at)));
     }
     if b == b'<' {
-        return Ok(Mode::FirstVariant(opened_enum(alloc, at)));
+        return Ok(opened_angles(alloc, at));
     }
     name_begun(alloc, Owner::FormAt(at), b)
 }
@@ -78,7 +77,7 @@ fn form_begun(alloc: Global, levels: &mut Vec<Level>, at: usize, b: u8) -> Resul
 #[tactic(auto, unfolding(crate::specs::Machine::form_due))]
 fn form_due(alloc: Global, levels: &mut Vec<Level>, at: usize, b: u8) -> Result<Mode, ParseError>
     requires { b < 128 }
-    ensures { Gives (λ m. (mode_view m, levels_view levels.new.items)) result (machine.form_due at (levels_view levels.old.items) b) }
+    ensures { Reaches result levels.new.items (machine.form_due at (levels_view levels.old.items) b) }
 {
     if !begins_form(b) {
         return Err(ParseError::NotNotation(at));
@@ -89,95 +88,64 @@ fn form_due(alloc: Global, levels: &mut Vec<Level>, at: usize, b: u8) -> Result<
     Ok(form_begun(alloc, levels, at, b)?)
 }
 
-/// Where the name of a field is due.
-#[tactic(auto, unfolding(crate::specs::Machine::field_due))]
-fn field_due(
+/// Where the name of an item is due.
+#[tactic(auto, unfolding(crate::specs::Machine::name_due))]
+fn name_due(
     alloc: Global,
-    opened: Open,
+    group: Group,
     levels: &Vec<Level>,
     at: usize,
     b: u8,
 ) -> Result<Mode, ParseError>
     requires { b < 128 }
-    ensures { Gives (λ m. (mode_view m, levels_view levels.now.items)) result (machine.field_due at (open_view opened) (levels_view levels.now.items) b) }
+    ensures { Reaches result levels.now.items (machine.name_due at (group_view group) (levels_view levels.now.items) b) }
 {
     if begins_bare(b) || b == b'"' {
-        return Ok(name_begun(alloc, Owner::FieldOf(opened), b)?);
+        return Ok(name_begun(alloc, Owner::ItemOf(group), b)?);
     }
     Err(ParseError::NotNotation(at))
 }
 
-/// Behind the opening brace.
-#[tactic(auto, unfolding(crate::specs::Machine::first_field))]
-fn first_field(
+/// Where an item is due.
+#[tactic(auto, unfolding(crate::specs::Machine::item_begun))]
+fn item_begun(
     alloc: Global,
-    opened: Open,
-    levels: &Vec<Level>,
-    at: usize,
-    b: u8,
-) -> Result<Mode, ParseError>
-    requires { b < 128 }
-    ensures { Gives (λ m. (mode_view m, levels_view levels.now.items)) result (machine.first_field at (open_view opened) (levels_view levels.now.items) b) }
-{
-    if b == b'}' {
-        return braces_closed(opened, levels, at);
-    }
-    field_due(alloc, opened, levels, at, b)
-}
-
-/// Behind the opening parenthesis.
-#[tactic(auto, unfolding(crate::specs::Machine::first_part))]
-fn first_part(
-    alloc: Global,
-    opened: OpenTuple,
+    group: Group,
     levels: &mut Vec<Level>,
     at: usize,
     b: u8,
 ) -> Result<Mode, ParseError>
     requires { b < 128 }
-    ensures { Gives (λ m. (mode_view m, levels_view levels.new.items)) result (machine.first_part at (tuple_view opened) (levels_view levels.old.items) b) }
+    ensures { Reaches result levels.new.items (machine.item_begun at (group_view group) (levels_view levels.old.items) b) }
 {
-    if b == b')' {
-        return parens_closed(opened, levels, at);
+    match group {
+        Group::Parens(holder, parts) => {
+            levels.push(Level::InItem(Group::Parens(holder, parts), String::new(alloc)))?;
+            form_due(alloc, levels, at, b)
+        }
+        Group::Braces(holder, fields) => {
+            name_due(alloc, Group::Braces(holder, fields), levels, at, b)
+        }
+        Group::Angles(opened) => name_due(alloc, Group::Angles(opened), levels, at, b),
     }
-    levels.push(Level::InPart(opened))?;
-    form_due(alloc, levels, at, b)
 }
 
-/// Where the name of a variant is due.
-#[tactic(auto, unfolding(crate::specs::Machine::variant_due))]
-fn variant_due(
+/// Where an item is due; a group that has none yet may close.
+#[tactic(auto, unfolding(crate::specs::Machine::item_due))]
+fn item_due(
     alloc: Global,
-    opened: OpenEnum,
-    levels: &Vec<Level>,
+    group: Group,
+    levels: &mut Vec<Level>,
     at: usize,
     b: u8,
 ) -> Result<Mode, ParseError>
     requires { b < 128 }
-    ensures { Gives (λ m. (mode_view m, levels_view levels.now.items)) result (machine.variant_due at (enum_view opened) (levels_view levels.now.items) b) }
+    ensures { Reaches result levels.new.items (machine.item_due at (group_view group) (levels_view levels.old.items) b) }
 {
-    if begins_bare(b) || b == b'"' {
-        return Ok(name_begun(alloc, Owner::VariantOf(opened), b)?);
+    if b == closing(&group) && is_empty(&group) {
+        return group_closed(alloc, group, levels, at);
     }
-    Err(ParseError::NotNotation(at))
-}
-
-/// Behind the opening angle bracket.
-#[tactic(auto, unfolding(crate::specs::Machine::first_variant))]
-fn first_variant(
-    alloc: Global,
-    opened: OpenEnum,
-    levels: &Vec<Level>,
-    at: usize,
-    b: u8,
-) -> Result<Mode, ParseError>
-    requires { b < 128 }
-    ensures { Gives (λ m. (mode_view m, levels_view levels.now.items)) result (machine.first_variant at (enum_view opened) (levels_view levels.now.items) b) }
-{
-    if b == b'>' {
-        return enum_closed(opened, levels, at);
-    }
-    variant_due(alloc, opened, levels, at, b)
+    item_begun(alloc, group, levels, at, b)
 }
 
 /// Behind the name of a form that begins at the place.
@@ -189,22 +157,16 @@ fn form_named(
     at: usize,
     b: u8,
 ) -> Result<Mode, ParseError>
-    ensures { Gives (λ m. (mode_view m, levels_view levels.new.items)) result (machine.form_named at place (string_bytes name) (levels_view levels.old.items) b) }
+    ensures { Reaches result levels.new.items (machine.form_named at place (string_bytes name) (levels_view levels.old.items) b) }
 {
     match b {
         b'=' => {
-            levels.push(Level::InNewtype(place, name))?;
+            levels.push(Level::InPrefix(place, Prefix::Newtype(name)))?;
             Ok(Mode::FormDue)
         }
         b'!' => Ok(Mode::Done(Shape::unit_struct(name))),
-        b'(' => {
-            let holder = Parens::TupleStructAt(place, name);
-            Ok(Mode::FirstPart(opened_tuple(alloc, holder)))
-        }
-        b'{' if !name.is_empty() => {
-            let holder = Braces::StructAt(place, name);
-            Ok(Mode::FirstField(opened(alloc, holder)))
-        }
+        b'(' => Ok(opened_parens(alloc, Holder::NamedAt(place, name))),
+        b'{' if !name.is_empty() => Ok(opened_braces(alloc, Holder::NamedAt(place, name))),
         _ => Err(ParseError::NotNotation(at)),
     }
 }
@@ -212,33 +174,49 @@ fn form_named(
 /// Behind the name of a variant: what comes next tells what the variant has.
 fn variant_named(
     alloc: Global,
-    variants: OpenEnum,
+    opened: OpenEnum,
     name: String,
     levels: &mut Vec<Level>,
     at: usize,
     b: u8,
 ) -> Result<Mode, ParseError>
-    ensures { Gives (λ m. (mode_view m, levels_view levels.new.items)) result (machine.variant_named at (enum_view variants) (string_bytes name) (levels_view levels.old.items) b) }
+    ensures { Reaches result levels.new.items (machine.variant_named at (enum_view opened) (string_bytes name) (levels_view levels.old.items) b) }
 {
     match b {
         b'=' => {
-            levels.push(Level::InVariant(variants, name))?;
+            levels.push(Level::InItem(Group::Angles(opened), name))?;
             Ok(Mode::FormDue)
         }
-        b'(' => {
-            let holder = Parens::TupleVariant(variants, name);
-            Ok(Mode::FirstPart(opened_tuple(alloc, holder)))
+        b'(' => Ok(opened_parens(alloc, Holder::VariantOf(opened, name))),
+        b'{' => Ok(opened_braces(alloc, Holder::VariantOf(opened, name))),
+        _ => {
+            let grown = grown_enum(opened, name, VariantContent::Unit)?;
+            item_ended(alloc, Group::Angles(grown), levels, at, b)
         }
-        b'{' => {
-            let holder = Braces::StructVariant(variants, name);
-            Ok(Mode::FirstField(opened(alloc, holder)))
+    }
+}
+
+/// Behind the name of an item; a part has none.
+fn item_named(
+    alloc: Global,
+    group: Group,
+    name: String,
+    levels: &mut Vec<Level>,
+    at: usize,
+    b: u8,
+) -> Result<Mode, ParseError>
+    ensures { Reaches result levels.new.items (machine.item_named at (group_view group) (string_bytes name) (levels_view levels.old.items) b) }
+{
+    match group {
+        Group::Braces(holder, fields) => {
+            if b == b':' {
+                levels.push(Level::InItem(Group::Braces(holder, fields), name))?;
+                return Ok(Mode::FormDue);
+            }
+            Err(ParseError::NotNotation(at))
         }
-        _ => variant_ended(
-            grown_enum(variants, name, VariantContent::Unit)?,
-            levels,
-            at,
-            b,
-        ),
+        Group::Parens(_, _) => Err(ParseError::NotNotation(at)),
+        Group::Angles(opened) => variant_named(alloc, opened, name, levels, at, b),
     }
 }
 
@@ -252,18 +230,11 @@ fn named(
     at: usize,
     b: u8,
 ) -> Result<Mode, ParseError>
-    ensures { Gives (λ m. (mode_view m, levels_view levels.new.items)) result (machine.named at (owner_view owner) (string_bytes name) (levels_view levels.old.items) b) }
+    ensures { Reaches result levels.new.items (machine.named at (owner_view owner) (string_bytes name) (levels_view levels.old.items) b) }
 {
     match owner {
         Owner::FormAt(place) => form_named(alloc, place, name, levels, at, b),
-        Owner::FieldOf(opened) => {
-            if b == b':' {
-                levels.push(Level::InField(opened, name))?;
-                return Ok(Mode::FormDue);
-            }
-            Err(ParseError::NotNotation(at))
-        }
-        Owner::VariantOf(opened) => variant_named(alloc, opened, name, levels, at, b),
+        Owner::ItemOf(group) => item_named(alloc, group, name, levels, at, b),
     }
 }
 
@@ -284,7 +255,7 @@ fn word_ended(
     at: usize,
     b: u8,
 ) -> Result<Mode, ParseError>
-    ensures { Gives (λ m. (mode_view m, levels_view levels.new.items)) result (machine.word_ended at (owner_view owner) (string_bytes name) (levels_view levels.old.items) b) }
+    ensures { Reaches result levels.new.items (machine.word_ended at (owner_view owner) (string_bytes name) (levels_view levels.old.items) b) }
 {
     match owner {
         Owner::FormAt(place) => {
@@ -296,8 +267,7 @@ fn word_ended(
                 Some(leaf) => form_ended(alloc, Shape::leaf(leaf), levels, at, b),
             }
         }
-        Owner::FieldOf(opened) => named(alloc, Owner::FieldOf(opened), name, levels, at, b),
-        Owner::VariantOf(opened) => named(alloc, Owner::VariantOf(opened), name, levels, at, b),
+        Owner::ItemOf(group) => named(alloc, Owner::ItemOf(group), name, levels, at, b),
     }
 }
 
@@ -312,7 +282,7 @@ fn bare_name(
     b: u8,
 ) -> Result<Mode, ParseError>
     requires { b < 128 }
-    ensures { Gives (λ m. (mode_view m, levels_view levels.new.items)) result (machine.bare_name at (owner_view owner) (string_bytes name) (levels_view levels.old.items) b) }
+    ensures { Reaches result levels.new.items (machine.bare_name at (owner_view owner) (string_bytes name) (levels_view levels.old.items) b) }
 {
     if in_bare(b) {
         let mut longer = name;
@@ -330,7 +300,7 @@ fn name_closed(
     levels: &Vec<Level>,
     at: usize,
 ) -> Result<Mode, ParseError>
-    ensures { Gives (λ m. (mode_view m, levels_view levels.now.items)) result (machine.name_closed at (owner_view owner) (string_bytes name) (levels_view levels.now.items)) }
+    ensures { Reaches result levels.now.items (machine.name_closed at (owner_view owner) (string_bytes name) (levels_view levels.now.items)) }
 {
     if is_bare(name.as_str()) {
         return Err(ParseError::NotNotation(at));
@@ -348,7 +318,7 @@ fn quoted_name(
     b: u8,
 ) -> Result<Mode, ParseError>
     requires { b < 128 }
-    ensures { Gives (λ m. (mode_view m, levels_view levels.now.items)) result (machine.quoted_name at (owner_view owner) (string_bytes name) (levels_view levels.now.items) b) }
+    ensures { Reaches result levels.now.items (machine.quoted_name at (owner_view owner) (string_bytes name) (levels_view levels.now.items) b) }
 {
     if b == b'"' {
         return name_closed(owner, name, levels, at);
@@ -371,7 +341,7 @@ fn escape(
     b: u8,
 ) -> Result<Mode, ParseError>
     requires { b < 128 }
-    ensures { Gives (λ m. (mode_view m, levels_view levels.now.items)) result (machine.escape at (owner_view owner) (string_bytes name) (levels_view levels.now.items) b) }
+    ensures { Reaches result levels.now.items (machine.escape at (owner_view owner) (string_bytes name) (levels_view levels.now.items) b) }
 {
     if b == b'"' || b == b'\\' {
         let mut longer = name;
@@ -391,20 +361,16 @@ fn step(
     b: u8,
 ) -> Result<Mode, ParseError>
     requires { b < 128 }
-    ensures { Gives (λ m. (mode_view m, levels_view levels.new.items)) result (machine.step at (mode_view mode) (levels_view levels.old.items) b) }
+    ensures { Reaches result levels.new.items (machine.step at (mode_view mode) (levels_view levels.old.items) b) }
 {
     match mode {
         Mode::FormDue => form_due(alloc, levels, at, b),
-        Mode::FirstField(opened) => first_field(alloc, opened, levels, at, b),
-        Mode::FieldDue(opened) => field_due(alloc, opened, levels, at, b),
-        Mode::FirstPart(opened) => first_part(alloc, opened, levels, at, b),
-        Mode::FirstVariant(opened) => first_variant(alloc, opened, levels, at, b),
-        Mode::VariantDue(opened) => variant_due(alloc, opened, levels, at, b),
+        Mode::ItemDue(group) => item_due(alloc, group, levels, at, b),
         Mode::Bare(owner, name) => bare_name(alloc, owner, name, levels, at, b),
         Mode::Quoted(owner, name) => quoted_name(owner, name, levels, at, b),
         Mode::Escape(owner, name) => escape(owner, name, levels, at, b),
         Mode::Named(owner, name) => named(alloc, owner, name, levels, at, b),
-        Mode::VariantDone(opened) => variant_ended(opened, levels, at, b),
+        Mode::ItemDone(group) => item_ended(alloc, group, levels, at, b),
         Mode::Done(shape) => form_ended(alloc, shape, levels, at, b),
     }
 }
@@ -418,7 +384,7 @@ fn other_character(
     at: usize,
     c: char,
 ) -> Result<Mode, ParseError>
-    ensures { Gives (λ m. (mode_view m, levels_view levels.new.items)) result (machine.other_character at (mode_view mode) (levels_view levels.old.items) (encode_utf8 c)) }
+    ensures { Reaches result levels.new.items (machine.other_character at (mode_view mode) (levels_view levels.old.items) (encode_utf8 c)) }
 {
     match mode {
         Mode::Quoted(owner, name) => {
@@ -443,7 +409,7 @@ fn read_character(
     at: usize,
     c: char,
 ) -> Result<Mode, ParseError>
-    ensures { Gives (λ m. (mode_view m, levels_view levels.new.items)) result (machine.run at (mode_view mode, levels_view levels.old.items) (encode_utf8 c)) }
+    ensures { Reaches result levels.new.items (machine.run at (mode_view mode, levels_view levels.old.items) (encode_utf8 c)) }
 {
     if c.is_ascii() {
         return step(alloc, mode, levels, at, c as u8);
@@ -454,7 +420,7 @@ fn read_character(
 /// All the characters.
 fn read_characters(alloc: Global, text: &str, levels: &mut Vec<Level>) -> Result<Mode, ParseError>
     requires { levels.old.items ≡ [] }
-    ensures { Gives (λ m. (mode_view m, levels_view levels.new.items)) result (machine.run 0 (machine.Form_due, []) text.now) }
+    ensures { Reaches result levels.new.items (machine.run 0 (machine.Form_due, []) text.now) }
 {
     let mut mode = Mode::FormDue;
     let mut at = 0;

@@ -3,7 +3,7 @@ use Rattle.bson_shape.specs.ShapeView.{variants_of}
 use Rattle.bson_shape.specs.Machine.{OpenEnum}
 use Rattle.bson_shape.specs.Form.{Variants}
 use Rattle.bson_shape.proofs.Shapes.{variants_of-push}
-use Rattle.bson_shape.proofs.levels.grown_enum.Goals as goal
+use Rattle.bson_shape.proofs.group.grown_enum.Goals as goal
 
 pub returns : goal.returns
 returns c =
