@@ -5,6 +5,7 @@
 mod debug;
 mod faults;
 mod reading;
+mod refusals;
 mod tree;
 mod writing;
 
@@ -20,7 +21,8 @@ fn main(rt: HostRuntime) -> Result<(), Fail> {
     reading::print_kinds(&rt, alloc)?;
     tree::print_tree(&rt, alloc)?;
     writing::print_struct(&rt, alloc)?;
-    writing::print_refusals(&rt, alloc)?;
+    refusals::print_refusals(&rt, alloc)?;
+    refusals::print_long_binaries(&rt, alloc)?;
     faults::print_input_faults(&rt, alloc)?;
     faults::print_output_faults(&rt, alloc)
 }

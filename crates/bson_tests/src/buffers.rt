@@ -92,6 +92,26 @@ fn files_are_migrated(rt: HostRuntime) -> Result<(), Fail> {
 }
 
 #[test]
+fn a_text_is_cut_to_its_buffer(rt: HostRuntime) -> Result<(), Fail> {
+    let alloc = rt.alloc();
+    let mut buffer = [255; 18];
+    let mut text = [b'.'; 16];
+    let report = recast_into(alloc, b"{n:bool}", &SEVEN, &mut buffer, &mut text[..10]);
+    assert_eq!(rt; report.status, Status::ReadRefused);
+    assert_eq!(rt; numbers(report), (0, 0, 0, 10, 31));
+    assert_eq!(rt; text.as_slice(), b"error at n......".as_slice());
+    let report = recast_into(alloc, b"[char:i32]", &SEVEN, &mut buffer, &mut text[..10]);
+    assert_eq!(rt; report.status, Status::WriteRefused);
+    assert_eq!(rt; numbers(report), (0, 0, 0, 10, 40));
+    assert_eq!(rt; text.as_slice(), b"error at .......".as_slice());
+    let report = migrate_into(alloc, b"{n:u32}", &FILE, &mut buffer, &mut text[..10]);
+    assert_eq!(rt; report.status, Status::SomeRefused);
+    assert_eq!(rt; numbers(report), (0, 16, 16, 10, 54));
+    assert_eq!(rt; text.as_slice(), b"document 1......".as_slice());
+    Ok(())
+}
+
+#[test]
 fn documents_are_found(rt: HostRuntime) {
     assert_eq!(rt; document_at(&FILE, 0), Found::Document(12));
     assert_eq!(rt; document_at(&FILE, 12), Found::Document(5));

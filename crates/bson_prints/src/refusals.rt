@@ -1,0 +1,91 @@
+// What the writer refuses where there is memory.
+use crate::writing::one_field;
+use bson_datum::{ByteStr, Datum, Entry, Field, Text};
+use bson_ser_stream::to_vec_at;
+use std::alloc::{AllocError, Global};
+use std::io::Print;
+use std::test::Fail;
+
+/// The most bytes that a binary may have.
+const MAX_BINARY: usize = 16777216;
+
+/// The text of a UUID.
+const UUID: &str = "67e55044-10b1-426f-9247-bb680e5fe0c8";
+
+/// A field with this value.
+fn field<'a>(name: &'a str, value: Datum<'a>) -> Field<'a> {
+    let name = Text::Borrowed(name);
+    Field { name, value }
+}
+
+/// A map whose key is a byte string.
+fn map_of_bytes<'a>(alloc: Global) -> Result<Datum<'a>, AllocError> {
+    let key = Datum::Bytes(ByteStr::Borrowed(b"a"));
+    let value = Datum::Unit;
+    Ok(Datum::Map(vec![in alloc; Entry { key, value }]?))
+}
+
+/// A struct of a reserved name with its field twice.
+fn repeated_field<'a>(alloc: Global) -> Result<Datum<'a>, AllocError> {
+    let digits = || Datum::Str(Text::Borrowed("507f1f77bcf86cd799439011"));
+    let fields = vec![in alloc; field("$oid", digits()), field("$oid", digits())]?;
+    let name = Text::Borrowed("$oid");
+    Ok(Datum::Struct { name, fields })
+}
+
+/// The newtype of a UUID around the text of one, which it takes in the readable form alone.
+fn compact_uuid<'a>(alloc: Global) -> Result<Datum<'a>, AllocError> {
+    let name = Text::Borrowed("$__bson_private_uuid");
+    let value = Box::new(alloc, Datum::Str(Text::Borrowed(UUID)))?;
+    Ok(Datum::NewtypeStruct { name, value })
+}
+
+/// An array in an array, and so on: so many arrays.
+fn nested<'a>(alloc: Global, arrays: u32) -> Result<Datum<'a>, AllocError> {
+    let mut value = Datum::Unit;
+    for _ in 0..arrays {
+        value = Datum::Seq(vec![in alloc; value]?);
+    }
+    Ok(value)
+}
+
+/// A binary of the old subtype 2 with these bytes.
+fn old_binary<'a>(alloc: Global, bytes: &'a [u8]) -> Result<Datum<'a>, AllocError> {
+    let bytes = field("bytes", Datum::Bytes(ByteStr::Borrowed(bytes)));
+    let fields = vec![in alloc; bytes, field("subType", Datum::U8(2))]?;
+    let name = Text::Borrowed("");
+    let fields = vec![in alloc; field("$binary", Datum::Struct { name, fields })]?;
+    let name = Text::Borrowed("$binary");
+    Ok(Datum::Struct { name, fields })
+}
+
+/// Writes a document with the value under `x`, and prints why it is refused.
+fn print_refusal(rt: &impl Print, alloc: Global, value: Datum<'_>) -> Result<(), Fail> {
+    match to_vec_at(alloc, &one_field(alloc, "x", value)?) {
+        Ok(_) => println!(rt; "written")?,
+        Err(error) => println!(rt; "{error}")?,
+    }
+    Ok(())
+}
+
+/// The refusals of a number above the greatest Int64, of a key that is no text, of a field given twice, of a UUID in the form that the newtype
+/// does not take, and of an array at level 201.
+pub fn print_refusals(rt: &impl Print, alloc: Global) -> Result<(), Fail> {
+    for value in [
+        Datum::U64(9223372036854775808),
+        map_of_bytes(alloc)?,
+        repeated_field(alloc)?,
+        compact_uuid(alloc)?,
+        nested(alloc, 200)?,
+    ] {
+        print_refusal(rt, alloc, value)?;
+    }
+    Ok(())
+}
+
+/// The refusals of binaries that have one byte too many: of subtype 0, and of the old subtype 2, where four bytes less may be.
+pub fn print_long_binaries(rt: &impl Print, alloc: Global) -> Result<(), Fail> {
+    let bytes = vec![in alloc; 0; MAX_BINARY + 1]?;
+    print_refusal(rt, alloc, Datum::Bytes(ByteStr::Borrowed(&bytes)))?;
+    print_refusal(rt, alloc, old_binary(alloc, &bytes[..MAX_BINARY - 3])?)
+}
