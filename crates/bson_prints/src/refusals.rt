@@ -1,13 +1,11 @@
 // What the writer refuses where there is memory.
 use crate::writing::one_field;
+use bson_base::MAX_BINARY;
 use bson_datum::{ByteStr, Datum, Entry, Field, Text};
 use bson_ser_stream::to_vec_at;
 use std::alloc::{AllocError, Global};
 use std::io::Print;
 use std::test::Fail;
-
-/// The most bytes that a binary may have.
-const MAX_BINARY: usize = 16777216;
 
 /// The text of a UUID.
 const UUID: &str = "67e55044-10b1-426f-9247-bb680e5fe0c8";
