@@ -91,15 +91,18 @@ pub use Rattle.bson_leaves.specs.ListsMarked
 pub use Rattle.bson_wrapped.specs.Data
 pub use Rattle.bson_de_raw.specs.Gives
 pub use Rattle.bson_ser_stream.specs.Writing
-pub use Rattle.bson_recast_run.specs.Asked
-pub use Rattle.bson_recast_run.specs.Complete
-pub use Rattle.bson_recast_run.specs.Ends as RunEnds
+pub use Rattle.bson_program.specs.Command
+pub use Rattle.bson_program.specs.Ends as RunEnds
+pub use Rattle.bson_program.specs.Input
+pub use Rattle.bson_program.specs.OneShape
+pub use Rattle.bson_program.specs.Prepared
+pub use Rattle.bson_program.specs.Program
+pub use Rattle.bson_program.specs.Run
+pub use Rattle.bson_program.specs.ShapeWord
 pub use Rattle.bson_recast_run.specs.Number as RunNumber
 pub use Rattle.bson_recast_run.specs.Printed as RecastPrinted
 pub use Rattle.bson_recast_run.specs.Recasting
 pub use Rattle.bson_recast_run.specs.Rows as RunRows
-pub use Rattle.bson_recast_run.specs.Run
-pub use Rattle.bson_recast_run.specs.Words
 pub use Rattle.bson_migrate_run.specs.Lines
 pub use Rattle.bson_migrate_run.specs.Migrating
 pub use Rattle.bson_migrate_run.specs.Number as MigrateNumber

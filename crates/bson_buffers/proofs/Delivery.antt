@@ -1,9 +1,8 @@
 -- Whether an output fits in its buffer.
 use Rattle.std.proofs.Common.{◌≡◌, ◌≤◌, ◌<◌, ℕ, length, Bool, true, false, refl, inl, inr}
 use Rattle.std.specs.Prelude.{◌⊎◌, nat_lt}
-use Rattle.std.proofs.lemmas.Bool.{le-ltb, lt-ltb, ltb-true, ltb-false}
+use Rattle.std.proofs.lemmas.Bool.{cond-false, cond-true, le-ltb, lt-ltb, ltb-true, ltb-false}
 use Rattle.bson_base.specs.Text.{Bytes}
-use Rattle.bson_recast_run.proofs.Statuses.{first_false, first_true}
 use Rattle.bson_buffers.specs.Recasts.{fitted}
 use Rattle.bson_buffers.specs.declared.status.Status.{Status}
 use Rattle.bson_buffers.specs.declared.status.Status.TheVariants as statuses
@@ -16,7 +15,7 @@ within_or_above m n = by_test (nat_lt n m) refl where
   by_test false is = inl (ltb-false _ _ is)
 
 pub fits : (places : ℕ) (output : Bytes) (status : Status) → length output ≤ places → fitted places output status ≡ status
-fits places output status within = first_false (nat_lt places (length output)) statuses.BufferTooSmall status (le-ltb _ _ within)
+fits places output status within = cond-false (nat_lt places (length output)) statuses.BufferTooSmall status (le-ltb _ _ within)
 
 pub lacks : (places : ℕ) (output : Bytes) (status : Status) → places < length output → fitted places output status ≡ statuses.BufferTooSmall
-lacks places output status above = first_true (nat_lt places (length output)) statuses.BufferTooSmall status (lt-ltb _ _ above)
+lacks places output status above = cond-true (nat_lt places (length output)) statuses.BufferTooSmall status (lt-ltb _ _ above)

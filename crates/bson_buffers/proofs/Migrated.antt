@@ -8,7 +8,7 @@ use Rattle.bson_migrate_run.specs.declared.migrating.Migration.{Migration}
 use Rattle.bson_migrate_run.specs.declared.migrating.Refused.{Refused}
 use Rattle.bson_migrate_run.specs.Lines.{refused_lines}
 use Rattle.bson_migrate_run.specs.Migrating.{Migrating, broken, migrated, migration_of, IsMigration}
-use Rattle.bson_migrate_run.specs.Prepared as prepared
+use Rattle.bson_migrate_run.specs.Rows as rows
 use Rattle.bson_migrate_run.proofs.LinesDue.{answers_of}
 use Rattle.bson_buffers.specs.Asked.{shape_of, IsNotation}
 use Rattle.bson_buffers.specs.Due.{IsDelivered, IsForMigration, IsMigrationRow, IsOfMigration, listed_status}
@@ -22,10 +22,10 @@ use Rattle.bson_buffers.proofs.Delivery.{within_or_above, fits, lacks}
 
 -- ---- what is due for a migration that was done
 
-by_list : (shape file output : Bytes) (s : Form) (xs : List Refused) → IsNotation shape s → prepared.Answers s file (prepared.listed_status xs) output (refused_lines xs) → migration_of s output ≡ migrated output []
+by_list : (shape file output : Bytes) (s : Form) (xs : List Refused) → IsNotation shape s → rows.Answers (migration_of s file) (rows.listed_status xs) output (refused_lines xs) → migration_of s output ≡ migrated output []
     → IsForMigration shape file (listed_status xs) 0 output (refused_lines xs)
-by_list shape file output s [] n h again = (s, n, h.0, again, refl, h.1)
-by_list shape file output s (x ∷ xs) n h again = (s, h.0, h.1, n, h.2, again, h.3, refl)
+by_list shape file output s [] n h again = (s, n, h.answer, again, refl, h.no_line)
+by_list shape file output s (x ∷ xs) n h again = (s, h.first, h.others, n, h.answer, again, h.say, refl)
 
 due_for_migrated : (shape file : Bytes) (s : Form) (m : Migration) → IsNotation shape s → IsMigration (migration_of s file) (Ok m) → migration_of s m.output.items ≡ migrated m.output.items []
     → IsForMigration shape file (listed_status m.refused.items) 0 m.output.items (refused_lines m.refused.items)

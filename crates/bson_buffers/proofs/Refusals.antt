@@ -3,6 +3,7 @@ use Rattle.std.proofs.Common.{◌≡◌, Bool, true, false, Some, Result, Ok, Er
 use Rattle.std.specs.Prelude.{ℕ}
 use Rattle.std.specs.Str.{IsUtf8, is_utf8}
 use Rattle.std.specs.Str.Lossy.{utf8_valid_len}
+use Rattle.std.proofs.lemmas.Bool.{cond-false, cond-true}
 use Rattle.std.proofs.lemmas.Str.{IsUtf8-from_is_utf8, is_utf8-from_IsUtf8}
 use Rattle.bson_base.specs.Text.{Bytes, Utf8}
 use Rattle.bson_shape.specs.Answers.{Fails, error_of}
@@ -15,11 +16,10 @@ use Rattle.bson_shape.specs.Refusals.{place_of, refusal_text}
 use Rattle.bson_shape.specs.declared.error.ParseError.{ParseError}
 use Rattle.bson_shape.specs.declared.error.ParseError.TheVariants as errors
 use Rattle.bson_shape.specs.declared.error.ShapeError.{ShapeError}
-use Rattle.bson_recast_run.proofs.Statuses.{first_false, first_true}
 use Rattle.bson_buffers.specs.Asked.{not_utf8, no_text, named, shape_of, IsNotation, IsRefused}
 
 text_read : (bytes : Bytes) → IsUtf8 bytes → shape_of bytes ≡ named (parsed bytes)
-text_read bytes u = first_true (is_utf8 bytes) (named (parsed bytes)) (Err (no_text bytes)) (is_utf8-from_IsUtf8 bytes u)
+text_read bytes u = cond-true (is_utf8 bytes) (named (parsed bytes)) (Err (no_text bytes)) (is_utf8-from_IsUtf8 bytes u)
 
 invalid : (bytes : Bytes) → (IsUtf8 bytes → ⊥) → (b : Bool) → is_utf8 bytes ≡ b → is_utf8 bytes ≡ false
 invalid bytes bad true is = absurd (bad (IsUtf8-from_is_utf8 bytes is))
@@ -30,7 +30,7 @@ pub refuses_bytes : (bytes : Bytes) (place : ℕ) (said : Utf8) → (IsUtf8 byte
 refuses_bytes bytes place said bad is says =
     let broken : is_utf8 bytes ≡ false = invalid bytes bad (is_utf8 bytes) refl in
     let same : record { place = place; said = said } ≡ no_text bytes = λ i. record { place = is i; said = says i } in
-    record { why = inl (record { invalid = broken; says = same }); asked = first_false (is_utf8 bytes) (named (parsed bytes)) (Err (no_text bytes)) broken ∙ ap Err (sym same) }
+    record { why = inl (record { invalid = broken; says = same }); asked = cond-false (is_utf8 bytes) (named (parsed bytes)) (Err (no_text bytes)) broken ∙ ap Err (sym same) }
 
 -- the notation of a shape
 pub reads_shape : (bytes : Bytes) (s : Form) → IsUtf8 bytes → text s ≡ bytes → IsShape s → parsed bytes ≡ Ok s → IsNotation bytes s

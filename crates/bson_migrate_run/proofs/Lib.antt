@@ -1,7 +1,5 @@
 pub mod Listing
 pub mod Again
-pub mod Statuses
-pub mod Prepares
-pub mod Answered
+pub mod Settled
 pub mod WholeFiles
 pub mod LinesDue

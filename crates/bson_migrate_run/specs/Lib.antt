@@ -3,4 +3,3 @@ pub mod Migrating
 pub mod Step
 pub mod Lines
 pub mod Rows
-pub mod Prepared

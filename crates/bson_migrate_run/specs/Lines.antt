@@ -5,7 +5,8 @@ use Rattle.bson_base.specs.Text.{Utf8}
 use Rattle.bson_datum.specs.Refusal.{WriteFault, Failure}
 use Rattle.bson_recast_run.specs.Due.{read_refused_line, write_refused_line}
 use Rattle.bson_recast_run.specs.Printed.{recast_error_text}
-use Rattle.bson_recast_run.specs.Words.{Usage, newline}
+use Rattle.bson_program.specs.OneShape.{Usage}
+use Rattle.bson_program.specs.ShapeWord.{newline}
 use Rattle.bson_recast_run.specs.Recasting.{Recast, writes, unread, unwritten, Unwritten}
 use Rattle.bson_migrate_run.specs.declared.migrating.MigrateError.{MigrateError}
 use Rattle.bson_migrate_run.specs.declared.migrating.MigrateError.TheVariants.{Broken, NoMemory}

@@ -5,49 +5,40 @@ ghost use Rattle.bson_base.specs.Text.{Bytes};
 ghost use Rattle.bson_shape.specs.Form.{Form};
 ghost use Rattle.bson_shape.specs.Makers.{IsShape};
 ghost use Rattle.bson_shape.specs.Notation.{text};
-ghost use Rattle.bson_recast_run.specs.Asked.{Asks};
-ghost use Rattle.bson_recast_run.specs.Ends.{source_change, sink_change};
-ghost use Rattle.bson_recast_run.specs.Run.{run_of, AllQuiet, Silent};
+ghost use Rattle.bson_program.specs.Command.{Asked};
+ghost use Rattle.bson_program.specs.Ends.{source_change, sink_change};
+ghost use Rattle.bson_program.specs.Prepared.{Says};
+ghost use Rattle.bson_program.specs.Program.{IsDue, IsAnswered};
+ghost use Rattle.bson_program.specs.Run.{run_of, AllQuiet, AreKept};
 ghost use Rattle.bson_migrate_run.specs.declared.status.MigrateStatus.TheVariants as statuses;
-ghost use Rattle.bson_migrate_run.specs.Lines.{migrate_usage, refused_lines};
+ghost use Rattle.bson_migrate_run.specs.Lines.{refused_lines};
 ghost use Rattle.bson_migrate_run.specs.Migrating.{NotRecast, migrated, migration_of};
-ghost use Rattle.bson_migrate_run.specs.Prepared.{listed_status, Answers, Reports};
-ghost use Rattle.bson_migrate_run.specs.Rows.{IsDue, IsAnswered, WritesMigrated};
+ghost use Rattle.bson_migrate_run.specs.Rows.{Answers, listed_status, migrate_program, WritesMigrated};
 
 use crate::migrating::{MigrateError, Refused, migrate};
 use crate::status::MigrateStatus;
-use bson_datum::Shape;
-use bson_io::{ReadFault, Sink, Source, read_to_end};
-use bson_recast_run::{deliver, shape_of_word};
+use bson_io::{Sink, Source};
+use bson_program::{Answer, Endings, InputEndings, finish, read_input, shape_of_word};
+use bson_shape::Shape;
 use std::alloc::{AllocError, Global};
 
 /// The line for words that ask for no migration.
 const USAGE: &str = "usage: bson_migrate SHAPE\n";
 
-/// A status, with what is due to the two sinks.
-#[derive(Drop)]
-struct Answer {
-    status: MigrateStatus,
-    bytes: Vec<u8>,
-    lines: String,
-}
+const ENDINGS: Endings<MigrateStatus> = Endings {
+    sink_fault: MigrateStatus::SinkFault,
+    no_memory: MigrateStatus::NoMemory,
+};
 
-// An answer that is one line.
-fn refuse(alloc: Global, status: MigrateStatus, line: String) -> Answer
-    ensures status { result.status ≡ status }
-    ensures bytes { result.bytes.items ≡ [] }
-    ensures line { string_bytes result.lines ≡ string_bytes line }
-{
-    Answer {
-        status,
-        bytes: Vec::new(alloc),
-        lines: line,
-    }
-}
+const INPUT_ENDINGS: InputEndings<MigrateStatus> = InputEndings {
+    source_fault: MigrateStatus::SourceFault,
+    too_long: MigrateStatus::Broken,
+    too_long_line: "input too long\n",
+};
 
 // The shape that the words ask for, or the line that refuses them. The outer error means out of memory.
 fn asked(alloc: Global, words: &[String]) -> Result<Result<Shape, String>, AllocError>
-    ensures { IfOk result (λ r. Asks migrate_usage (map string_bytes words.now) r) }
+    ensures { IfOk result (Asked migrate_program.command (map string_bytes words.now)) }
 {
     match words {
         [word] => shape_of_word(alloc, word.as_str()),
@@ -82,14 +73,18 @@ fn status_of(refused: &[Refused]) -> MigrateStatus
 }
 
 // What is due for an input that was read to its end. An error means out of memory.
-fn answer_to(alloc: Global, shape: &Shape, bytes: &[u8]) -> Result<Answer, AllocError>
-    ensures { IfOk result (λ a. Answers shape.now bytes.now a.status a.bytes.items (string_bytes a.lines)) }
+fn answer_to(
+    alloc: Global,
+    shape: &Shape,
+    bytes: &[u8],
+) -> Result<Answer<MigrateStatus>, AllocError>
+    ensures { IfOk result (Says (Answers (migration_of shape.now bytes.now))) }
 {
     let migration = match migrate(alloc, shape, bytes) {
         Ok(migration) => migration,
         Err(MigrateError::Broken(place)) => {
             let line = format!(in alloc; "broken at {place}\n")?;
-            return Ok(refuse(alloc, MigrateStatus::Broken, line));
+            return Ok(Answer::line(alloc, MigrateStatus::Broken, line));
         }
         Err(MigrateError::NoMemory) => return Err(AllocError),
     };
@@ -101,57 +96,22 @@ fn answer_to(alloc: Global, shape: &Shape, bytes: &[u8]) -> Result<Answer, Alloc
     })
 }
 
-// What is due for an input that was not read to its end. An error means out of memory.
-fn answer_to_fault(alloc: Global, fault: ReadFault) -> Result<Answer, AllocError>
-    ensures { IfOk result (λ a. Reports fault a.status a.bytes.items (string_bytes a.lines)) }
-{
-    match fault {
-        ReadFault::Failed => {
-            let line = String::from_str(alloc, "source fault\n")?;
-            Ok(refuse(alloc, MigrateStatus::SourceFault, line))
-        }
-        ReadFault::TooLong => {
-            let line = String::from_str(alloc, "input too long\n")?;
-            Ok(refuse(alloc, MigrateStatus::Broken, line))
-        }
-        ReadFault::NoMemory => Err(AllocError),
-    }
-}
-
 // What is due for these words on this input. An error means out of memory.
-fn prepare<I: Source>(alloc: Global, words: &[String], input: &mut I) -> Result<Answer, AllocError>
-    ensures due { IfOk result (λ a. IsDue (map string_bytes words.now) (source_change I.left I.faults input.old input.new)
-        a.status a.bytes.items (string_bytes a.lines)) }
+fn prepare<I: Source>(
+    alloc: Global,
+    words: &[String],
+    input: &mut I,
+) -> Result<Answer<MigrateStatus>, AllocError>
+    ensures due { IfOk result (Says (IsDue migrate_program (map string_bytes words.now) (source_change I.left I.faults input.old input.new))) }
     ensures later { I.faults input.old ≤ I.faults input.new }
 {
     let shape = match asked(alloc, words)? {
         Ok(shape) => shape,
-        Err(line) => return Ok(refuse(alloc, MigrateStatus::Usage, line)),
+        Err(line) => return Ok(Answer::line(alloc, MigrateStatus::Usage, line)),
     };
-    match read_to_end(alloc, input) {
+    match read_input(alloc, INPUT_ENDINGS, input)? {
         Ok(bytes) => answer_to(alloc, &shape, &bytes),
-        Err(fault) => answer_to_fault(alloc, fault),
-    }
-}
-
-// `run_migrate`, but for what it says of a whole file.
-fn carry_out<I: Source, O: Sink, E: Sink>(
-    alloc: Global,
-    words: &[String],
-    input: &mut I,
-    out: &mut O,
-    err: &mut E,
-) -> MigrateStatus
-    ensures { IsAnswered (run_of (map string_bytes words.now) (source_change I.left I.faults input.old input.new)
-        (sink_change O.written O.room O.faults out.old out.new) (sink_change E.written E.room E.faults err.old err.new) result) }
-{
-    let answer = match prepare(alloc, words, input) {
-        Ok(answer) => answer,
-        Err(_) => return MigrateStatus::NoMemory,
-    };
-    match deliver(&answer.bytes, answer.lines.as_str(), out, err) {
-        Ok(()) => answer.status,
-        Err(_) => MigrateStatus::SinkFault,
+        Err(answer) => Ok(answer),
     }
 }
 
@@ -179,12 +139,13 @@ pub fn run_migrate<I: Source, O: Sink, E: Sink>(
         (sink_change O.written O.room O.faults out.old out.new) (sink_change E.written E.room E.faults err.old err.new) result in
         (s : Form) (file output : Bytes) (refused : List NotRecast) → IsShape s → r.words ≡ text s ∷ [] → r.input.before ≡ Some file
         → length file ≤ max_bytes → migration_of s file ≡ migrated output refused → AllQuiet r
-        → WritesMigrated r output refused ⊎ ((r.status ≡ statuses.NoMemory) × Silent r) }
+        → WritesMigrated r output refused ⊎ ((r.status ≡ statuses.NoMemory) × AreKept r.out r.err) }
 
     // The table of answers: each status only where its row holds, with exactly what the row says on the two sinks; and where the input tells its
     // bytes, no count rose and no sink's count is at its last value, the status whose row holds, or out of memory.
-    ensures answers { IsAnswered (run_of (map string_bytes words.now) (source_change I.left I.faults input.old input.new)
+    ensures answers { IsAnswered migrate_program (run_of (map string_bytes words.now) (source_change I.left I.faults input.old input.new)
         (sink_change O.written O.room O.faults out.old out.new) (sink_change E.written E.room E.faults err.old err.new) result) }
 {
-    carry_out(alloc, words, input, out, err)
+    let prepared = prepare(alloc, words, input);
+    finish(ENDINGS, prepared, out, err)
 }

@@ -1,6 +1,6 @@
 -- What was recast is recast again as the same bytes.
-use Rattle.std.proofs.Common.{◌≡◌, ◌≤◌, [], length, Bool, true, false, Result, Ok, Err, Option, Some, refl, ap, sym, subst, ◌∙◌, arith}
-use Rattle.std.specs.Prelude.{ℕ, nat_lt, IfOk}
+use Rattle.std.proofs.Common.{◌≡◌, ◌≤◌, [], length, Bool, true, false, Result, Ok, Err, Option, Some, refl, ap, sym, subst, ◌∙◌, arith, inl, inr}
+use Rattle.std.specs.Prelude.{◌⊎◌, ℕ, nat_lt, IfOk}
 use Rattle.std.specs.Global.{Vec}
 use Rattle.std.specs.Io.KnownBytes.{Appends}
 use Rattle.std.proofs.lemmas.Bool.{le-ltb, ltb-false}
@@ -22,17 +22,20 @@ use Rattle.bson_laws.specs.Judged.{plain}
 use Rattle.bson_laws.specs.Reads.{reads, answered, reads_document}
 use Rattle.bson_laws.specs.Spell.{Writing, spell_document, size}
 use Rattle.bson_laws.proofs.ReadAgain.{document_again, document_size}
+use Rattle.bson_program.proofs.Inputs.{whole}
+use Rattle.bson_program.specs.Command.{IsAskedFor}
+use Rattle.bson_program.specs.Ends.{ReadAs}
+use Rattle.bson_program.specs.Input.{OnInput}
+use Rattle.bson_program.specs.OneShape.{one_shape, request}
+use Rattle.bson_program.specs.Program.{IsDue, IsAnswered}
+use Rattle.bson_program.specs.Run.{Run, AllQuiet, AreKept, AreWritten, Told, CutShort}
 use Rattle.bson_recast_run.specs.declared.recasting.RecastError.{RecastError}
 use Rattle.bson_recast_run.specs.declared.status.Status.{Status}
 use Rattle.bson_recast_run.specs.declared.status.Status.TheVariants as statuses
-use Rattle.bson_recast_run.specs.Complete.{WritesExactly}
 use Rattle.bson_recast_run.specs.Due.{recast_usage}
-use Rattle.bson_recast_run.specs.Words.{request}
 use Rattle.bson_recast_run.specs.Recasting.{writes, written, recast_read, recast_of, IsRecast}
-use Rattle.bson_recast_run.specs.Rows.{IsDue, DoneRow, IsAnswered}
-use Rattle.bson_recast_run.specs.Run.{Run, AllQuiet, Told}
+use Rattle.bson_recast_run.specs.Rows.{Answers, recast_input, recast_program, WritesExactly}
 use Rattle.bson_recast_run.proofs.Headline.{writes_recast}
-use Rattle.bson_recast_run.proofs.Inputs.{whole}
 
 -- a value that was read, and the document that it is written as
 pub record IsWrittenAs (s : Form) (bytes out : Bytes) : Type 0 where
@@ -76,20 +79,43 @@ grown before after bytes out empty holds grew =
     let both : Appends (Some []) (Some out) bytes = subst (λ a. Appends (Some []) a bytes) holds (subst (λ b. Appends b after bytes) empty grew) in
     sym both
 
+-- a run that ended well: the shape that was asked for, the input, and its recast, which was written
+pub record HasWritten (r : Run Status) : Type 0 where
+  pub shape : Form
+  pub asked : IsAskedFor (one_shape recast_usage) r.words shape
+  pub bytes : Bytes
+  pub read : ReadAs r.input bytes
+  pub out : Bytes
+  pub answer : recast_of shape bytes ≡ writes out
+  pub out_grew : Appends r.out.before r.out.after out
+
+has_written : (r : Run Status) → r.status ≡ statuses.Done → IsAnswered recast_program r → HasWritten r
+has_written r done answers = by_end answers.ended where
+  by_due : (bytes lines : Bytes) → AreWritten bytes lines r.out r.err → IsDue recast_program r.words r.input statuses.Done bytes lines → HasWritten r
+  by_due bytes lines written (inr row) = absurd (let e = row.ended in cc)
+  by_due bytes lines written (inl row) = by_input row.answer where
+    by_input : OnInput recast_input (λ doc. Answers (recast_of row.job doc)) r.input statuses.Done bytes lines → HasWritten r
+    by_input (inl h) = record { shape = row.job; asked = row.asked; bytes = h.bytes; read = h.read; out = bytes; answer = h.answer.answer; out_grew = written.out_grew }
+    by_input (inr (inl h)) = absurd (let e = h.ended in cc)
+    by_input (inr (inr h)) = absurd (let e = h.ended in cc)
+
+  by_end : Told (IsDue recast_program r.words r.input) r ⊎ ((r.status ≡ statuses.SinkFault) × CutShort (IsDue recast_program r.words r.input) r) ⊎ ((r.status ≡ statuses.NoMemory) × AreKept r.out r.err) → HasWritten r
+  by_end (inl h) = by_due h.bytes h.lines h.written (subst (λ x. IsDue recast_program r.words r.input x h.bytes h.lines) done h.due)
+  by_end (inr (inl h)) = absurd (let e = sym done ∙ h.0 in cc)
+  by_end (inr (inr h)) = absurd (let e = sym done ∙ h.0 in cc)
+
 -- A run that ended well on an input of bytes wrote `out` to an empty output: a run with the same words on `out` writes exactly it, or nothing.
-pub run_again : (first second : Run Status) (given out : Bytes) → IsAnswered first → first.status ≡ statuses.Done → AreBytes given → first.input.before ≡ Some given
-    → first.out.before ≡ Some [] → first.out.after ≡ Some out → IsAnswered second → second.words ≡ first.words → second.input.before ≡ Some out → AllQuiet second
+pub run_again : (first second : Run Status) (given out : Bytes) → IsAnswered recast_program first → first.status ≡ statuses.Done → AreBytes given → first.input.before ≡ Some given
+    → first.out.before ≡ Some [] → first.out.after ≡ Some out → IsAnswered recast_program second → second.words ≡ first.words → second.input.before ≡ Some out → AllQuiet second
     → WritesExactly second out
 run_again first second given out answers done are told empty holds again words input quiet =
-    let h : Told (IsDue first.words first.input) first = answers.done done in
-    let row : DoneRow first.words first.input h.bytes h.line = subst (λ x. IsDue first.words first.input x h.bytes h.line) done h.due in
-    let asked = row.given in
-    let is_input : asked.bytes ≡ given = whole first.input.before first.input.after asked.bytes given asked.read.taken asked.read.ended told in
-    let is_out : h.bytes ≡ out = grown first.out.before first.out.after h.bytes out empty holds h.out_grew in
-    let once : recast_of asked.shape given ≡ writes out = subst (λ b. recast_of asked.shape b ≡ writes out) is_input (row.answer ∙ ap writes is_out) in
-    let w = written_as asked.shape given out (reads_document asked.shape given) refl once in
+    let h = has_written first done answers in
+    let is_input : h.bytes ≡ given = whole first.input.before first.input.after h.bytes given h.read.taken h.read.ended told in
+    let is_out : h.out ≡ out = grown first.out.before first.out.after h.out out empty holds h.out_grew in
+    let once : recast_of h.shape given ≡ writes out = subst (λ b. recast_of h.shape b ≡ writes out) is_input (h.answer ∙ ap writes is_out) in
+    let w = written_as h.shape given out (reads_document h.shape given) refl once in
     let small : length out ≤ max_bytes = omega (arith, w.fits, document_size w.value w.tree w.spelled, ap length w.is) in
-    writes_recast asked.shape out out second again small (recast_again asked.shape given out asked.for_shape.made are once) (ap (request recast_usage) words ∙ asked.for_shape.asked) input quiet
+    writes_recast h.shape out out second again small (recast_again h.shape given out h.asked.asks.made are once) (ap (request recast_usage) words ∙ h.asked.is) input quiet
 
 -- ---- the frame
 

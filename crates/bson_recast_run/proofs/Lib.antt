@@ -1,10 +1,6 @@
 pub mod RecastErrors
 pub mod Migrates
-pub mod Prepares
-pub mod Inputs
-pub mod Statuses
 pub mod Headline
-pub mod Words
-pub mod Answered
+pub mod Settled
 pub mod Again
 mod AtOnce

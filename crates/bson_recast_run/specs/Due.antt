@@ -4,7 +4,8 @@ use Rattle.std.specs.List.{starts_with}
 use Rattle.bson_base.specs.Text.{Utf8}
 use Rattle.bson_datum.specs.Refusal.{ReadFault, WriteFault, Failure}
 use Rattle.bson_datum.specs.Printed.{printed_failure, printed_read_fault, printed_write_fault}
-use Rattle.bson_recast_run.specs.Words.{Usage, newline}
+use Rattle.bson_program.specs.OneShape.{Usage}
+use Rattle.bson_program.specs.ShapeWord.{newline}
 
 -- A word that begins with `--` is an option of the recast, and there is no option yet.
 abbrev pub recast_usage : Usage
@@ -18,6 +19,3 @@ write_refused_line f = codes "write refused: " ++ printed_failure printed_write_
 
 abbrev pub too_long_line : Utf8
 too_long_line = codes "read refused: input too long\n"
-
-abbrev pub source_fault_line : Utf8
-source_fault_line = codes "source fault\n"

@@ -1,12 +1,5 @@
 pub mod Number
 pub mod Recasting
 pub mod Printed
-pub mod Words
 pub mod Due
-pub mod Asked
-pub mod Ends
-pub mod Run
-pub mod Given
-pub mod Complete
 pub mod Rows
-pub mod Prepared

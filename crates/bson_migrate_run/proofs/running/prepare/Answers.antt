@@ -1,17 +1,24 @@
-use Rattle.std.proofs.Common.{Err, ap, map, string_bytes}
-use Rattle.bson_recast_run.specs.Asked.{AsksFor}
-use Rattle.bson_migrate_run.specs.Lines.{migrate_usage}
-use Rattle.bson_migrate_run.proofs.Prepares.{due_answer, due_failure}
+use Rattle.std.proofs.Common.{inl, inr, map, string_bytes}
+use Rattle.bson_program.proofs.Prepares.{job_due, whole_due}
+use Rattle.bson_program.specs.Command.{IsAskedFor}
+use Rattle.bson_program.specs.Ends.{ReadAs, source_change}
+use Rattle.bson_program.specs.Input.{IsUnread}
+use Rattle.bson_program.specs.Prepared.{Says}
+use Rattle.bson_migrate_run.specs.Migrating.{migration_of}
+use Rattle.bson_migrate_run.specs.Rows.{Answers, migrate_input, migrate_program}
 use Rattle.bson_migrate_run.proofs.running.prepare.Goals as goal
 
-pub returns-in-Ok-read_to_end-clause-due : goal.returns-in-Ok-read_to_end-clause-due
-returns-in-Ok-read_to_end-clause-due g c =
-    let read = c.in-Ok-read_to_end.ensures in
-    let asked : AsksFor migrate_usage (map string_bytes c.args.words.now) c.in-Ok.shape = rw c.in-Ok.is at c.in_ok-shape.ensures in
-    due_answer _ _ c.in-Ok.shape c.in-Ok-read_to_end.bytes.items c.deref.result.now c.answer_to.result asked (record { taken = read.bytes; ended = read.end; most = read.most }) c.deref.ensures.value c.answer_to.ensures
+pub returns-in-Ok-2-clause-due : goal.returns-in-Ok-2-clause-due
+returns-in-Ok-2-clause-due g c =
+    let input = source_change g.I.Source.left g.I.Source.faults c.args.input.now c.read_input.new.input in
+    let asked : IsAskedFor migrate_program.command (map string_bytes c.args.words.now) c.in-Ok.shape = rw c.in-Ok.is at c.in_ok-shape.ensures in
+    let read : ReadAs input c.in-Ok-2.bytes.items = rw c.in-Ok-2.is at c.in_ok-bytes.ensures.taken in
+    job_due migrate_program _ input c.in-Ok.shape c.answer_to.result asked
+    (whole_due migrate_input (λ bytes. Answers (migration_of c.in-Ok.shape bytes)) input c.in-Ok-2.bytes.items c.deref.result.now c.answer_to.result read c.deref.ensures.value c.answer_to.ensures)
 
-pub returns-clause-due : goal.returns-clause-due
-returns-clause-due g c =
-    let unread = c.in-Err-read_to_end in
-    let asked : AsksFor migrate_usage (map string_bytes c.args.words.now) c.in-Ok.shape = rw c.in-Ok.is at c.in_ok-shape.ensures in
-    due_failure _ _ c.in-Ok.shape unread.fault c.answer_to_fault.result asked (λ n. unread.ensures.within (λ e. n cc)) (λ e. unread.ensures.failed (ap Err e)) (λ e. unread.ensures.too_long (ap Err e)) c.answer_to_fault.ensures
+pub returns-in-Err-2-clause-due : goal.returns-in-Err-2-clause-due
+returns-in-Err-2-clause-due g c =
+    let input = source_change g.I.Source.left g.I.Source.faults c.args.input.now c.read_input.new.input in
+    let asked : IsAskedFor migrate_program.command (map string_bytes c.args.words.now) c.in-Ok.shape = rw c.in-Ok.is at c.in_ok-shape.ensures in
+    let unread : Says (IsUnread migrate_input input) c.in-Err-2.answer = rw c.in-Err-2.is at c.in_ok-bytes.ensures.taken in
+    inl (record { job = c.in-Ok.shape; asked = asked; answer = inr unread })

@@ -1,9 +1,8 @@
 // The shape that a word of a command line asks for.
-ghost use Rattle.std.specs.Prelude.{◌≡◌, [], ◌∷◌, string_bytes, IfOk, Some, false};
-ghost use Rattle.bson_recast_run.specs.Asked.{Asks};
-ghost use Rattle.bson_recast_run.specs.Words.{Usage, line_at, line_for};
+ghost use Rattle.std.specs.Prelude.{◌≡◌, string_bytes, IfOk, Some};
+ghost use Rattle.bson_program.specs.ShapeWord.{IsShapeOf, line_at, line_for};
 
-use bson_datum::{ParseError, Shape};
+use bson_shape::{ParseError, Shape};
 use std::alloc::{AllocError, Global};
 
 // The line for a shape word that is refused at a place.
@@ -29,8 +28,7 @@ fn line_of(alloc: Global, e: &ParseError) -> Result<String, AllocError>
 ///
 /// The outer error means out of memory.
 pub fn shape_of_word(alloc: Global, word: &str) -> Result<Result<Shape, String>, AllocError>
-    // Where the word is alone and no option, the shape is asked for, or the line is due.
-    ensures asks { (usage : Usage) → usage.is_option word.now ≡ false → IfOk result (λ r. Asks usage (word.now ∷ []) r) }
+    ensures exact { IfOk result (IsShapeOf word.now) }
 {
     match Shape::parse(alloc, word) {
         Ok(shape) => {

@@ -1,0 +1,5 @@
+pub mod ShapeWords
+pub mod OneShape
+pub mod Inputs
+pub mod Prepares
+pub mod Answered

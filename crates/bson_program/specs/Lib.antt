@@ -1,0 +1,8 @@
+pub mod Ends
+pub mod Run
+pub mod Input
+pub mod Command
+pub mod Program
+pub mod ShapeWord
+pub mod OneShape
+pub mod Prepared
