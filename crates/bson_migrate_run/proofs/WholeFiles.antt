@@ -36,15 +36,15 @@ pub writes_migrated : (s : Form) (file output : Bytes) (refused : List NotRecast
     → WritesMigrated r output refused ⊎ ((r.status ≡ statuses.NoMemory) × AreKept r.out r.err)
 writes_migrated s file output refused r answers shape words told small is quiet =
     by_end (quiet_read migrate_program migrate_input (λ bytes. Answers (migration_of s bytes)) r s file quiet (requested migrate_usage s r.words refl shape words) (λ status bytes lines h. h) told small answers) where
-  by_end : Told (Answers (migration_of s file)) r ⊎ ((r.status ≡ statuses.NoMemory) × AreKept r.out r.err) → WritesMigrated r output refused ⊎ ((r.status ≡ statuses.NoMemory) × AreKept r.out r.err)
-  by_end (inl h) =
-      let answer : Answers (migrated output refused) r.status h.bytes h.lines = subst (λ m. Answers m r.status h.bytes h.lines) is h.due in
-      let due = migrated_due output refused r.status h.bytes h.lines answer in
-      inl (record {
-        status = status_is (migrated output refused) r.status h.bytes h.lines answer;
-        lines = h.lines;
-        are_lines = due.1;
-        out_grew = subst (Appends r.out.before r.out.after) due.0 h.written.out_grew;
-        err_grew = h.written.err_grew;
-      })
-  by_end (inr h) = inr h
+      by_end : Told (Answers (migration_of s file)) r ⊎ ((r.status ≡ statuses.NoMemory) × AreKept r.out r.err) → WritesMigrated r output refused ⊎ ((r.status ≡ statuses.NoMemory) × AreKept r.out r.err)
+      by_end (inl h) =
+          let answer : Answers (migrated output refused) r.status h.bytes h.lines = subst (λ m. Answers m r.status h.bytes h.lines) is h.due in
+          let due = migrated_due output refused r.status h.bytes h.lines answer in
+          inl (record {
+            status = status_is (migrated output refused) r.status h.bytes h.lines answer;
+            lines = h.lines;
+            are_lines = due.1;
+            out_grew = subst (Appends r.out.before r.out.after) due.0 h.written.out_grew;
+            err_grew = h.written.err_grew;
+          })
+      by_end (inr h) = inr h

@@ -1,5 +1,5 @@
 -- A run that finishes with what is due meets the table of answers.
-use Rattle.std.proofs.Common.{◌≡◌, ◌≤◌, ◌<◌, ◌+◌, length, List, Option, Some, None, Result, Ok, Err, refl, ap, sym, subst, ◌∙◌, inl, inr, arith, string_bytes}
+use Rattle.std.proofs.Common.{◌≡◌, ◌≤◌, ◌<◌, length, List, Option, Some, None, Result, Ok, Err, refl, ap, sym, subst, ◌∙◌, inl, inr, arith, string_bytes}
 use Rattle.std.specs.Prelude.{◌⊎◌, ℕ, IfSome, IfOk}
 use Rattle.std.specs.declared.alloc.AllocError.{AllocError}
 use Rattle.bson_base.specs.Sound.{max_bytes}
@@ -9,7 +9,7 @@ use Rattle.bson_program.proofs.Inputs.{read_whole}
 use Rattle.bson_program.specs.Ends.{SourceChange}
 use Rattle.bson_program.specs.Input.{InputEnds, OnInput}
 use Rattle.bson_program.specs.Prepared.{Says, IsFinished}
-use Rattle.bson_program.specs.Program.{Program, IsDue, JobRow, UsageRow, requested_status, status_due, IsAnswered}
+use Rattle.bson_program.specs.Program.{Program, IsDue, requested_status, status_due, IsAnswered}
 use Rattle.bson_program.specs.Run.{Run, Due, AllQuiet, AreKept, AreCut, Told, CutShort}
 use Rattle.bson_program.specs.declared.answer.Answer.{Answer}
 

@@ -7,7 +7,7 @@ use Rattle.std.specs.Io.KnownBytes.{Consumes, IsAtEnd}
 use Rattle.bson_base.specs.Sound.{max_bytes}
 use Rattle.bson_base.specs.Text.{Bytes}
 use Rattle.bson_io.specs.Ends.{TakesExactly}
-use Rattle.bson_program.specs.Ends.{SourceChange, ReadAs}
+use Rattle.bson_program.specs.Ends.{SourceChange}
 use Rattle.bson_program.specs.Input.{InputEnds, WholeRow, OnInput, input_status}
 use Rattle.bson_program.specs.Run.{Due}
 

@@ -85,11 +85,11 @@ writes_due out statuses.NoMemory bytes line h = absurd h
 pub writes_recast : (s : Form) (doc out : Bytes) (r : Run Status) → IsAnswered recast_program r → length doc ≤ max_bytes → recast_of s doc ≡ writes out → request recast_usage r.words ≡ Ok s → r.input.before ≡ Some doc → AllQuiet r → WritesExactly r out
 writes_recast s doc out r answers small recast_is asked told quiet =
     by_end (quiet_read recast_program recast_input (λ bytes. Answers (recast_of s bytes)) r s doc quiet asked (λ status bytes line h. h) told small answers) where
-  by_end : Told (Answers (recast_of s doc)) r ⊎ ((r.status ≡ statuses.NoMemory) × AreKept r.out r.err) → WritesExactly r out
-  by_end (inl h) =
-      let due = writes_due out r.status h.bytes h.lines (subst (λ c. Answers c r.status h.bytes h.lines) recast_is h.due) in
-      inl (due.0, subst (Appends r.out.before r.out.after) due.1 h.written.out_grew, keeps_from r.err.before r.err.after (subst (Appends r.err.before r.err.after) due.2 h.written.err_grew))
-  by_end (inr h) = inr h
+      by_end : Told (Answers (recast_of s doc)) r ⊎ ((r.status ≡ statuses.NoMemory) × AreKept r.out r.err) → WritesExactly r out
+      by_end (inl h) =
+          let due = writes_due out r.status h.bytes h.lines (subst (λ c. Answers c r.status h.bytes h.lines) recast_is h.due) in
+          inl (due.0, subst (Appends r.out.before r.out.after) due.1 h.written.out_grew, keeps_from r.err.before r.err.after (subst (Appends r.err.before r.err.after) due.2 h.written.err_grew))
+      by_end (inr h) = inr h
 
 -- Given the notation of a shape and the bytes of a sound document, whose value at the shape means a sound document, exactly that document is written, or nothing.
 pub headline : (s : Form) (t u : Tree) (d : Value) (r : Run Status) → IsAnswered recast_program r → IsShape s → IsSound t → views s t ≡ Some d → means d ≡ Some u → IsSound u → r.words ≡ text s ∷ [] → r.input.before ≡ Some (enc t) → AllQuiet r → WritesExactly r (enc u)
