@@ -1,5 +1,5 @@
 -- What is written of a whole file.
-use Rattle.std.proofs.Common.{◌≡◌, ◌≤◌, List, [], ◌∷◌, length, Some, Ok, refl, ap, sym, subst, ◌∙◌, inl, inr}
+use Rattle.std.proofs.Common.{◌≡◌, ◌≤◌, List, [], ◌∷◌, length, Some, refl, subst, inl, inr}
 use Rattle.std.specs.Prelude.{◌⊎◌}
 use Rattle.std.specs.Io.KnownBytes.{Appends}
 use Rattle.bson_base.specs.Sound.{max_bytes}
@@ -14,8 +14,8 @@ use Rattle.bson_program.specs.Run.{Run, AllQuiet, AreKept, Told}
 use Rattle.bson_migrate_run.specs.declared.status.MigrateStatus.{MigrateStatus}
 use Rattle.bson_migrate_run.specs.declared.status.MigrateStatus.TheVariants as statuses
 use Rattle.bson_migrate_run.specs.Lines.{migrate_usage, AreLines}
-use Rattle.bson_migrate_run.specs.Migrating.{NotRecast, broken, migrated, migration_of}
-use Rattle.bson_migrate_run.specs.Rows.{Answers, migration_status, migrate_input, migrate_program, WritesMigrated}
+use Rattle.bson_migrate_run.specs.Migrating.{NotRecast, migrated, migration_of}
+use Rattle.bson_migrate_run.specs.Rows.{Answers, migrate_input, migrate_program, WritesMigrated}
 use Rattle.bson_migrate_run.proofs.Settled.{status_is}
 
 -- what is due where the migration comes to these bytes and these documents

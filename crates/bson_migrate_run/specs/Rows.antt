@@ -1,5 +1,5 @@
 -- The program: the rows of its table of answers for a file that was read whole, and what it shares with every other.
-use Rattle.std.specs.Prelude.{◌≡◌, ◌⊎◌, ℕ, List, [], ◌∷◌}
+use Rattle.std.specs.Prelude.{◌≡◌, ℕ, List, [], ◌∷◌}
 use Rattle.std.specs.Io.KnownBytes.{Appends}
 use Rattle.bson_base.specs.Text.{Bytes, Utf8}
 use Rattle.bson_shape.specs.Form.{Form}

@@ -1,5 +1,5 @@
 -- What is written under the headline's conditions.
-use Rattle.std.proofs.Common.{◌≡◌, ◌≤◌, List, [], ◌∷◌, ◌++◌, length, Bool, true, false, cond, Option, Some, None, Ok, refl, ap, sym, subst, ◌∙◌, inl, inr, append-nil}
+use Rattle.std.proofs.Common.{◌≡◌, ◌≤◌, [], ◌∷◌, ◌++◌, length, Bool, true, false, cond, Option, Some, None, Ok, refl, ap, subst, ◌∙◌, inl, inr, append-nil}
 use Rattle.std.specs.Prelude.{◌⊎◌, ◌&&◌, ℕ, nat_eq}
 use Rattle.std.specs.Io.KnownBytes.{Keeps, Appends}
 use Rattle.std.proofs.lemmas.Bool.{eqb-true}
