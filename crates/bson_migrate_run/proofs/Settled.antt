@@ -12,10 +12,7 @@ pub status_is : (m : Migrating) (status : MigrateStatus) (out lines : Bytes) →
 status_is m statuses.Done out lines h = sym (ap migration_status h.answer)
 status_is m statuses.SomeRefused out lines h = sym (ap migration_status h.answer)
 status_is m statuses.Broken out lines h = sym (ap migration_status h.answer)
-status_is m statuses.Usage out lines h = absurd h
-status_is m statuses.SourceFault out lines h = absurd h
-status_is m statuses.SinkFault out lines h = absurd h
-status_is m statuses.NoMemory out lines h = absurd h
+status_is m status out lines h = absurd h
 
 pub settled : Settles migrate_program
 settled = record {

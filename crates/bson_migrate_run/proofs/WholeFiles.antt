@@ -27,10 +27,7 @@ migrated_due output refused statuses.SomeRefused bytes lines h =
     let some : h.first ∷ h.others ≡ refused = (let e = h.answer in cc) in
     ((let e = h.answer in cc), subst (λ ds. AreLines ds lines) some h.say)
 migrated_due output refused statuses.Broken bytes lines h = absurd (let e = h.answer in cc)
-migrated_due output refused statuses.Usage bytes lines h = absurd h
-migrated_due output refused statuses.SourceFault bytes lines h = absurd h
-migrated_due output refused statuses.SinkFault bytes lines h = absurd h
-migrated_due output refused statuses.NoMemory bytes lines h = absurd h
+migrated_due output refused status bytes lines h = absurd h
 
 pub writes_migrated : (s : Form) (file output : Bytes) (refused : List NotRecast) (r : Run MigrateStatus) → IsAnswered migrate_program r → IsShape s → r.words ≡ text s ∷ [] → r.input.before ≡ Some file → length file ≤ max_bytes → migration_of s file ≡ migrated output refused → AllQuiet r
     → WritesMigrated r output refused ⊎ ((r.status ≡ statuses.NoMemory) × AreKept r.out r.err)

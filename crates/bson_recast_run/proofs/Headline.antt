@@ -76,10 +76,7 @@ writes_due : (out : Bytes) (status : Status) (bytes line : Bytes) → Answers (w
 writes_due out statuses.Done bytes line h = (refl, (let e = h.answer in cc), h.no_line)
 writes_due out statuses.ReadRefused bytes line h = absurd (let e = h.answer in cc)
 writes_due out statuses.WriteRefused bytes line h = absurd h.answer
-writes_due out statuses.Usage bytes line h = absurd h
-writes_due out statuses.SourceFault bytes line h = absurd h
-writes_due out statuses.SinkFault bytes line h = absurd h
-writes_due out statuses.NoMemory bytes line h = absurd h
+writes_due out status bytes line h = absurd h
 
 -- Asked for a recast of this input at a shape, where the recast writes `out`, exactly that is written, or nothing.
 pub writes_recast : (s : Form) (doc out : Bytes) (r : Run Status) → IsAnswered recast_program r → length doc ≤ max_bytes → recast_of s doc ≡ writes out → request recast_usage r.words ≡ Ok s → r.input.before ≡ Some doc → AllQuiet r → WritesExactly r out

@@ -18,10 +18,7 @@ status_is : (r : Recast) (status : Status) (out line : Bytes) → Answers r stat
 status_is r statuses.Done out line h = sym (ap recast_status h.answer)
 status_is r statuses.ReadRefused out line h = sym (ap recast_status h.answer)
 status_is r statuses.WriteRefused out line h = sym (status_unwritten r h.failure h.answer)
-status_is r statuses.Usage out line h = absurd h
-status_is r statuses.SourceFault out line h = absurd h
-status_is r statuses.SinkFault out line h = absurd h
-status_is r statuses.NoMemory out line h = absurd h
+status_is r status out line h = absurd h
 
 pub settled : Settles recast_program
 settled = record {
