@@ -18,6 +18,9 @@
  * in a forked child of a process with threads. A call on a document that nests deep takes up to 1.1 MB of stack, as measured; give a thread
  * 2 MB.
  *
+ * Checking only. A call without an output buffer, of the length 0, writes no output and says whether there would be one, and of how many bytes: see
+ * tbson_recast and tbson_migrate.
+ *
  * Names. All names that begin with tbson_ or TBSON_ are reserved for this library: later versions add calls, such as reading into a flat list
  * of nodes, comparing shapes, and finding a shape for documents.
  */
@@ -62,6 +65,35 @@ enum tbson_status {
     TBSON_NO_MEMORY = 8
 };
 
+/*
+ * The name of a status, as "TBSON_DONE"; "unknown status" of any other number. It is code of this header, and no call of the library.
+ */
+static inline const char *tbson_status_name(uint32_t status)
+{
+    switch (status) {
+    case TBSON_DONE:
+        return "TBSON_DONE";
+    case TBSON_SOME_REFUSED:
+        return "TBSON_SOME_REFUSED";
+    case TBSON_SHAPE_REFUSED:
+        return "TBSON_SHAPE_REFUSED";
+    case TBSON_READ_REFUSED:
+        return "TBSON_READ_REFUSED";
+    case TBSON_WRITE_REFUSED:
+        return "TBSON_WRITE_REFUSED";
+    case TBSON_BROKEN:
+        return "TBSON_BROKEN";
+    case TBSON_END:
+        return "TBSON_END";
+    case TBSON_BUFFER_TOO_SMALL:
+        return "TBSON_BUFFER_TOO_SMALL";
+    case TBSON_NO_MEMORY:
+        return "TBSON_NO_MEMORY";
+    default:
+        return "unknown status";
+    }
+}
+
 /* What a call returns. A number that is not spoken of at the status is 0. */
 typedef struct tbson_report {
     /* One of enum tbson_status. */
@@ -104,6 +136,9 @@ tbson_report tbson_check_shape(const uint8_t *shape, size_t shape_len, uint8_t *
  *                         document is refused.
  * TBSON_WRITE_REFUSED     The same: the output would be too long or nest too deep, say.
  * TBSON_NO_MEMORY
+ *
+ * To check a document only, give NULL and 0 for the output buffer. An output has at least five bytes, so a document that can be recast gives
+ * TBSON_BUFFER_TOO_SMALL, and `needed` is the length of its recast.
  */
 tbson_report tbson_recast(const uint8_t *shape, size_t shape_len, const uint8_t *document, size_t document_len, uint8_t *output, size_t output_len,
                           uint8_t *text, size_t text_len);
@@ -119,6 +154,9 @@ tbson_report tbson_recast(const uint8_t *shape, size_t shape_len, const uint8_t 
  * TBSON_BROKEN            At the place no document begins: the bytes that are left are fewer than four, or announce a length of less than five,
  *                         or of more bytes than are left. Nothing was written.
  * TBSON_NO_MEMORY
+ *
+ * To check a file only, give NULL and 0 for the output buffer: all documents can be recast where the text is empty (`text_needed` is 0) at TBSON_DONE or
+ * TBSON_BUFFER_TOO_SMALL. Where none can be, and there is some, the output is empty and the status is TBSON_SOME_REFUSED.
  */
 tbson_report tbson_migrate(const uint8_t *shape, size_t shape_len, const uint8_t *file, size_t file_len, uint8_t *output, size_t output_len,
                            uint8_t *text, size_t text_len);

@@ -1,29 +1,51 @@
-"""Typed BSON for Python: tbson.h over ctypes.
+"""Typed BSON for Python: tbson.h over ctypes, for CPython 3.8 and later.
 
-The library is the file that the environment's TBSON_LIBRARY names, or out/libtbson.so beside this file, which test.sh builds. Shapes are texts, as
-"{name:string,age:i64}"; documents and files of documents are bytes.
+The library is the file that the environment's TBSON_LIBRARY names, or out/libtbson.so beside this file, which `make` in its folder builds. Shapes are texts,
+as "{name:string,age:i64}". Documents and files of documents are bytes, or anything else whose bytes lie one after another in memory: a bytearray, a
+memoryview, an mmap. They are not copied. What is written comes back as the bytearray that the library wrote to.
 """
 
 import ctypes
+import enum
+import mmap
 import os
-from typing import Iterator, List, NamedTuple, Union
+from typing import Any, Iterator, NamedTuple, Optional, Tuple, Union
 
 #: The version of tbson.h that this module is for.
 VERSION = 1
 
-_DONE, _SOME_REFUSED, _SHAPE_REFUSED, _READ_REFUSED, _WRITE_REFUSED, _BROKEN, _END, _BUFFER_TOO_SMALL, _NO_MEMORY = range(9)
+
+class Status(enum.IntEnum):
+    """How a call ended: enum tbson_status."""
+
+    DONE = 0
+    SOME_REFUSED = 1
+    SHAPE_REFUSED = 2
+    READ_REFUSED = 3
+    WRITE_REFUSED = 4
+    BROKEN = 5
+    END = 6
+    BUFFER_TOO_SMALL = 7
+    NO_MEMORY = 8
 
 
-class Refused(Exception):
-    """A call was refused: for `text`, at `place` where it has one."""
+class Refused(ValueError):
+    """A shape, a document or a file was refused.
 
-    def __init__(self, text: str, place: int = 0):
-        super().__init__(text, place)
-        self.text = text
-        self.place = place
+    text    what the library says of it
+    path    where in the document, as "a.b[2]", and "." for the whole document; None where the text has no path
+    cause   the text without the path
+    status  one of Status
+    place   where in the shape's UTF-8, or in the file: a number of bytes from the start; 0 at any other status
+    index   the number of the document in a file, counted from 0; None of a document that was not in a file
 
-    def __str__(self) -> str:
-        return self.text
+    Path and cause are the two parts of the text, "error at PATH: CAUSE". Names are in the path as they are: one with ": " in it is cut there.
+    """
+
+    def __init__(self, text: str, status: Optional[Status] = None, place: int = 0, index: Optional[int] = None):
+        super().__init__(text)
+        self.text, self.status, self.place, self.index = text, status, place, index
+        self.path, self.cause = _path_and_cause(text)
 
 
 class ShapeRefused(Refused):
@@ -48,8 +70,16 @@ class Migration(NamedTuple):
     A line has its names as they are, so one that holds a line break breaks it.
     """
 
-    output: bytes
+    output: bytearray
     refused: str
+
+
+def _path_and_cause(text: str) -> Tuple[Optional[str], str]:
+    front = "error at "
+    if not text.startswith(front):
+        return None, text
+    path, _, cause = text[len(front) :].partition(": ")
+    return path, cause
 
 
 class _Report(ctypes.Structure):
@@ -67,53 +97,114 @@ class _Document(ctypes.Structure):
     _fields_ = [("status", ctypes.c_uint32), ("length", ctypes.c_size_t)]
 
 
-_SLICE = [ctypes.c_char_p, ctypes.c_size_t]
+class _PyBuffer(ctypes.Structure):
+    # Py_buffer of CPython's object.h.
+    _fields_ = [
+        ("buf", ctypes.c_void_p),
+        ("obj", ctypes.c_void_p),
+        ("len", ctypes.c_ssize_t),
+        ("itemsize", ctypes.c_ssize_t),
+        ("readonly", ctypes.c_int),
+        ("ndim", ctypes.c_int),
+        ("format", ctypes.c_char_p),
+        ("shape", ctypes.c_void_p),
+        ("strides", ctypes.c_void_p),
+        ("suboffsets", ctypes.c_void_p),
+        ("internal", ctypes.c_void_p),
+    ]
+
+
+_get_buffer = ctypes.pythonapi.PyObject_GetBuffer
+_get_buffer.argtypes = [ctypes.py_object, ctypes.POINTER(_PyBuffer), ctypes.c_int]
+_release_buffer = ctypes.pythonapi.PyBuffer_Release
+_release_buffer.argtypes, _release_buffer.restype = [ctypes.POINTER(_PyBuffer)], None
+
+
+class _Bytes:
+    """The bytes of an object where they lie in memory, which stay there until the `with` ends."""
+
+    def __init__(self, source: Any):
+        self._buffer = _PyBuffer()
+        _get_buffer(source, self._buffer, 0)
+        self.pair = (self._buffer.buf, self._buffer.len)
+
+    def __enter__(self) -> Tuple[int, int]:
+        return self.pair
+
+    def __exit__(self, *_: Any) -> None:
+        _release_buffer(self._buffer)
+
+
+_SLICE = [ctypes.c_void_p, ctypes.c_size_t]
 
 
 def _load() -> ctypes.CDLL:
-    beside = os.path.join(os.path.dirname(os.path.abspath(__file__)), "out", "libtbson.so")
-    library = ctypes.CDLL(os.environ.get("TBSON_LIBRARY", beside))
+    folder = os.path.dirname(os.path.abspath(__file__))
+    path = os.environ.get("TBSON_LIBRARY") or os.path.join(folder, "out", "libtbson.so")
+    try:
+        library = ctypes.CDLL(path)
+    except OSError as error:
+        raise ImportError(
+            f"tbson: the shared library {path} cannot be loaded ({error}). Build it by `make -C {folder}`, or set TBSON_LIBRARY to the path of libtbson.so."
+        ) from error
     library.tbson_version.argtypes, library.tbson_version.restype = [], ctypes.c_uint32
     library.tbson_check_shape.argtypes, library.tbson_check_shape.restype = 2 * _SLICE, _Report
     library.tbson_recast.argtypes, library.tbson_recast.restype = 4 * _SLICE, _Report
     library.tbson_migrate.argtypes, library.tbson_migrate.restype = 4 * _SLICE, _Report
     library.tbson_next_document.argtypes, library.tbson_next_document.restype = _SLICE + [ctypes.c_size_t], _Document
     if library.tbson_version() < VERSION:
-        raise ImportError("the library is older than tbson.py")
+        raise ImportError(f"tbson: {path} is version {library.tbson_version()}, and tbson.py needs {VERSION}. Build it anew by `make -C {folder}`.")
     return library
 
 
 _library = _load()
 
+_KINDS = {Status.SHAPE_REFUSED: ShapeRefused, Status.READ_REFUSED: ReadRefused, Status.WRITE_REFUSED: WriteRefused, Status.BROKEN: Broken}
+
 
 def _shape_bytes(shape: Union[str, bytes]) -> bytes:
-    return shape.encode() if isinstance(shape, str) else bytes(shape)
+    return shape.encode() if isinstance(shape, str) else shape
 
 
-def _refusal(report: _Report, text: str) -> Exception:
-    if report.status == _SHAPE_REFUSED:
-        return ShapeRefused(text, report.place)
-    if report.status == _READ_REFUSED:
-        return ReadRefused(text)
-    if report.status == _WRITE_REFUSED:
-        return WriteRefused(text)
-    if report.status == _BROKEN:
-        return Broken("no document begins here", report.place)
-    if report.status == _NO_MEMORY:
+def _failure(report: _Report, text: str) -> Exception:
+    if report.status == Status.NO_MEMORY:
         return MemoryError()
-    return RuntimeError(f"status {report.status}")
+    kind = _KINDS.get(report.status)
+    if kind is None:
+        return RuntimeError(f"status {report.status}")
+    return kind(text or "no document begins here", Status(report.status), report.place)
 
 
-def _call(function, inputs: List[bytes], output_len: int):
-    """Calls until both buffers are large enough, and returns the report, the output and the text."""
-    text_len = 256
-    while True:
-        output, text = ctypes.create_string_buffer(max(output_len, 1)), ctypes.create_string_buffer(text_len)
-        slices = [argument for each in inputs for argument in (each, len(each))]
-        report = function(*slices, output, output_len, text, text_len)
-        if report.status != _BUFFER_TOO_SMALL and report.text_needed <= text_len:
-            return report, ctypes.string_at(output, report.written), ctypes.string_at(text, report.text_written).decode()
-        output_len, text_len = max(output_len, report.needed), max(text_len, report.text_needed)
+def _text_buffer(length: int) -> Union[bytearray, mmap.mmap]:
+    """A buffer of zeros. Of a long one, what is not written to takes no memory."""
+    return bytearray(length) if length <= 65536 else mmap.mmap(-1, length)
+
+
+def _call(function: Any, inputs: Tuple[Any, ...], output_len: int, text_len: int) -> Tuple[_Report, bytearray, str]:
+    """Calls the function, and returns the report, the output and the text.
+
+    Where a buffer was too small, it calls a second time, with buffers of the lengths that the first call told.
+    """
+    output, text = bytearray(output_len), _text_buffer(text_len)
+    with _Bytes(output) as output_pair, _Bytes(text) as text_pair:
+        report = function(*(part for pair in inputs for part in pair), *output_pair, *text_pair)
+    if report.status == Status.BUFFER_TOO_SMALL or report.text_needed > text_len:
+        return _call(function, inputs, max(output_len, report.needed), max(text_len, report.text_needed))
+    del output[report.written :]
+    return report, output, text[: report.text_written].decode()
+
+
+# The lengths of the first buffers. They are such that a second call is rare, which takes as long as the first: the library keeps nothing from one call to the
+# next. No multiple of the input's length bounds the output, since a struct writes null for each option that a document lacks. A number or a date that is
+# widened takes at most two thirds more. A text is made of names and texts of the shape and of the document, and a few words.
+
+
+def _output_len(shape: bytes, length: int) -> int:
+    return 2 * (length + len(shape))
+
+
+def _text_len(shape: bytes, length: int) -> int:
+    return 256 + min(2 * (length + len(shape)), 1 << 20)
 
 
 def version() -> int:
@@ -123,36 +214,60 @@ def version() -> int:
 
 def check_shape(shape: Union[str, bytes]) -> None:
     """Raises ShapeRefused where the text is no shape."""
-    notation, text = _shape_bytes(shape), ctypes.create_string_buffer(256)
-    report = _library.tbson_check_shape(notation, len(notation), text, len(text))
-    if report.status != _DONE:
-        raise _refusal(report, ctypes.string_at(text, report.text_written).decode())
+    notation, text = _shape_bytes(shape), bytearray(64)
+    with _Bytes(notation) as shape_pair, _Bytes(text) as text_pair:
+        report = _library.tbson_check_shape(*shape_pair, *text_pair)
+    if report.status != Status.DONE:
+        raise _failure(report, text[: report.text_written].decode())
 
 
-def recast(shape: Union[str, bytes], document: bytes) -> bytes:
+def check(shape: Union[str, bytes], document: Any) -> int:
+    """How many bytes the recast of the document takes, of which nothing is written. Raises ShapeRefused, ReadRefused or WriteRefused."""
+    notation = _shape_bytes(shape)
+    with _Bytes(notation) as shape_pair, _Bytes(document) as pair:
+        text_len = _text_len(notation, pair[1])
+        while True:
+            text = _text_buffer(text_len)
+            with _Bytes(text) as text_pair:
+                report = _library.tbson_recast(*shape_pair, *pair, None, 0, *text_pair)
+            if report.status == Status.BUFFER_TOO_SMALL:
+                return report.needed
+            if report.text_needed <= text_len:
+                raise _failure(report, text[: report.text_written].decode())
+            text_len = report.text_needed
+
+
+def recast(shape: Union[str, bytes], document: Any) -> bytearray:
     """The document, read at the shape and written anew. Raises ShapeRefused, ReadRefused or WriteRefused."""
-    report, output, text = _call(_library.tbson_recast, [_shape_bytes(shape), bytes(document)], len(document))
-    if report.status != _DONE:
-        raise _refusal(report, text)
+    notation = _shape_bytes(shape)
+    with _Bytes(notation) as shape_pair, _Bytes(document) as pair:
+        lengths = _output_len(notation, pair[1]), _text_len(notation, pair[1])
+        report, output, text = _call(_library.tbson_recast, (shape_pair, pair), *lengths)
+    if report.status != Status.DONE:
+        raise _failure(report, text)
     return output
 
 
-def migrate(shape: Union[str, bytes], file: bytes) -> Migration:
+def migrate(shape: Union[str, bytes], file: Any) -> Migration:
     """The documents of a file, each recast at the shape. Raises ShapeRefused or Broken."""
-    report, output, text = _call(_library.tbson_migrate, [_shape_bytes(shape), bytes(file)], len(file))
-    if report.status not in (_DONE, _SOME_REFUSED):
-        raise _refusal(report, text)
+    notation = _shape_bytes(shape)
+    with _Bytes(notation) as shape_pair, _Bytes(file) as pair:
+        lengths = _output_len(notation, pair[1]), 4096 + pair[1]
+        report, output, text = _call(_library.tbson_migrate, (shape_pair, pair), *lengths)
+    if report.status not in (Status.DONE, Status.SOME_REFUSED):
+        raise _failure(report, text)
     return Migration(output, text)
 
 
-def documents(file: bytes) -> Iterator[bytes]:
-    """The documents of a file, one after another. Raises Broken."""
-    file, place = bytes(file), 0
-    while True:
-        found = _library.tbson_next_document(file, len(file), place)
-        if found.status == _END:
-            return
-        if found.status != _DONE:
-            raise Broken("no document begins here", place)
-        yield file[place : place + found.length]
-        place += found.length
+def documents(file: Any) -> Iterator[memoryview]:
+    """The documents of a file, one after another, each where it lies in the file. Raises Broken."""
+    view, place = memoryview(file).cast("B"), 0
+    with _Bytes(view) as pair:
+        while True:
+            found = _library.tbson_next_document(*pair, place)
+            if found.status == Status.END:
+                return
+            if found.status != Status.DONE:
+                raise Broken("no document begins here", Status.BROKEN, place)
+            yield view[place : place + found.length]
+            place += found.length

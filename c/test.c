@@ -57,6 +57,19 @@ static int is(tbson_report a, uint32_t status, size_t place, size_t written, siz
            a.text_needed == text_needed;
 }
 
+static void test_status_names(void)
+{
+    static const char *const names[] = {"TBSON_DONE", "TBSON_SOME_REFUSED", "TBSON_SHAPE_REFUSED", "TBSON_READ_REFUSED", "TBSON_WRITE_REFUSED",
+                                        "TBSON_BROKEN", "TBSON_END", "TBSON_BUFFER_TOO_SMALL", "TBSON_NO_MEMORY"};
+    uint32_t status;
+
+    for (status = 0; status < sizeof names / sizeof *names; status++) {
+        CHECK(strcmp(tbson_status_name(status), names[status]) == 0);
+    }
+    CHECK(strcmp(tbson_status_name(status), "unknown status") == 0);
+    CHECK(strcmp(tbson_status_name(UINT32_MAX), "unknown status") == 0);
+}
+
 static void test_shapes(void)
 {
     static const uint8_t broken_text[] = {'"', 'a', 0xc3, '"', '!'};
@@ -96,6 +109,8 @@ static void test_recast(void)
     CHECK(is(tbson_recast(TEXT("{n:u32}"), BYTES(seven), output, 16, NULL, 0), TBSON_DONE, 0, 16, 16, 0, 0));
     CHECK(holds(output, sizeof output, BYTES(wide_seven)));
     CHECK(holds(text, sizeof text, TEXT("")));
+    /* Without an output buffer a document is only checked. */
+    CHECK(is(tbson_recast(TEXT("{n:u32}"), BYTES(seven), NULL, 0, NULL, 0), TBSON_BUFFER_TOO_SMALL, 0, 0, 16, 0, 0));
     /* What was written is written again. */
     memset(output, 0xaa, sizeof output);
     CHECK(is(tbson_recast(TEXT("{n:u32}"), BYTES(wide_seven), BYTES(output), BYTES(text)), TBSON_DONE, 0, 16, 16, 0, 0));
@@ -172,6 +187,9 @@ static void test_migrate(void)
     memset(text, 0xaa, sizeof text);
     CHECK(is(tbson_migrate(TEXT("{n:u32}"), file, 12, BYTES(output), BYTES(text)), TBSON_DONE, 0, 16, 16, 0, 0));
     CHECK(holds(output, sizeof output, BYTES(wide_seven)));
+    /* Without an output buffer a file is only checked: where no document can be recast, the output is empty. */
+    CHECK(is(tbson_migrate(TEXT("{n:u32}"), file, 12, NULL, 0, NULL, 0), TBSON_BUFFER_TOO_SMALL, 0, 0, 16, 0, 0));
+    CHECK(is(tbson_migrate(TEXT("{n:u32}"), file + 12, 5, NULL, 0, NULL, 0), TBSON_SOME_REFUSED, 0, 0, 0, 0, 54));
     /* A file without documents. */
     CHECK(is(tbson_migrate(TEXT("{n:u32}"), NULL, 0, NULL, 0, NULL, 0), TBSON_DONE, 0, 0, 0, 0, 0));
     memset(output, 0xaa, sizeof output);
@@ -243,6 +261,7 @@ static void test_no_memory(void)
 int main(void)
 {
     CHECK(tbson_version() == TBSON_VERSION);
+    test_status_names();
     test_shapes();
     test_recast();
     test_refused_recast();

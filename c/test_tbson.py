@@ -1,6 +1,11 @@
 """Tests of tbson.py. The bytes that are expected come from the BSON format (bsonspec.org), and the texts from the pages of the repository."""
 
+import mmap
+import os
+import pickle
 import struct
+import subprocess
+import sys
 import threading
 import unittest
 
@@ -69,9 +74,49 @@ class Recasts(unittest.TestCase):
             with self.subTest(shape=shape), self.assertRaises(kind) as caught:
                 tbson.recast(shape, ADA)
             self.assertEqual(caught.exception.text, said)
+            self.assertEqual(str(caught.exception), said)
         with self.assertRaises(tbson.WriteRefused) as caught:
             tbson.recast("[char:i32]", document(int32("n", 7)))
         self.assertEqual(caught.exception.text, "error at .: invalid map key type: String")
+
+    def test_a_refusal_is_a_value_error_with_its_parts(self):
+        for shape, status, path, cause in [
+            ("{name:u8}", tbson.Status.READ_REFUSED, "name", "invalid type: String"),
+            ("{size:u8}", tbson.Status.READ_REFUSED, ".", "missing field size"),
+            ("{age:i33}", tbson.Status.SHAPE_REFUSED, None, "not a shape"),
+        ]:
+            with self.subTest(shape=shape), self.assertRaises(ValueError) as caught:
+                tbson.recast(shape, ADA)
+            refused = caught.exception
+            self.assertEqual((refused.status, refused.path, refused.cause, refused.index), (status, path, cause, None))
+            copy = pickle.loads(pickle.dumps(refused))
+            self.assertEqual((type(copy), copy.text, copy.status, copy.place), (type(refused), refused.text, status, refused.place))
+
+    def test_any_bytes(self):
+        memory = mmap.mmap(-1, len(ADA))
+        memory[:] = ADA
+        for given in [bytearray(ADA), memoryview(ADA), memoryview(b"." + ADA)[1:], memory]:
+            self.assertEqual(tbson.recast(b"{age:i64}", given), document(int64("age", 36)))
+        memory.close()
+        with self.assertRaises(TypeError):
+            tbson.recast("{age:i64}", "a text")
+        with self.assertRaises(BufferError):
+            tbson.recast("{age:i64}", memoryview(ADA)[::2])
+
+    def test_checked_only(self):
+        self.assertEqual(tbson.check("{age:i64}", ADA), len(document(int64("age", 36))))
+        with self.assertRaises(tbson.ReadRefused) as caught:
+            tbson.check("{%s:u8}" % ("n" * 1000), ADA)
+        self.assertEqual(caught.exception.cause, "missing field " + "n" * 1000)
+
+    def test_an_output_that_is_many_times_the_input(self):
+        names = ["field%d" % n for n in range(50)]
+        shape = "{list:[{%s}]}" % ",".join("%s:?i32" % name for name in names)
+        empty = document(b"\x04list\0" + document(*(b"\x03%d\0" % n + document() for n in range(100))))
+        null = document(*(b"\x0a" + name.encode() + b"\0" for name in names))
+        full = document(b"\x04list\0" + document(*(b"\x03%d\0" % n + null for n in range(100))))
+        self.assertGreater(len(full), 10 * (len(empty) + len(shape)))
+        self.assertEqual(tbson.recast(shape, empty), full)
 
     def test_a_long_text(self):
         name = "n" * 1000
@@ -104,6 +149,50 @@ class Files(unittest.TestCase):
         migration = tbson.migrate("{n:u32}", 100 * document())
         self.assertEqual(migration.output, b"")
         self.assertEqual(migration.refused, "".join(f"document {n}: read refused: error at .: missing field n\n" for n in range(100)))
+
+
+class Calls(unittest.TestCase):
+    """How often the library is called."""
+
+    def count(self, name, work):
+        function, calls = getattr(tbson._library, name), []
+
+        def counted(*arguments):
+            calls.append(arguments)
+            return function(*arguments)
+
+        setattr(tbson._library, name, counted)
+        try:
+            work()
+        finally:
+            setattr(tbson._library, name, function)
+        return len(calls)
+
+    def test_one_call(self):
+        numbers = document(*(int32(str(n), n) for n in range(1000)))
+        self.assertEqual(self.count("tbson_recast", lambda: tbson.recast("[string:i64]", numbers)), 1)
+        self.assertEqual(self.count("tbson_recast", lambda: tbson.check("[string:i64]", numbers)), 1)
+        self.assertEqual(self.count("tbson_migrate", lambda: tbson.migrate("[string:i64]", 100 * numbers)), 1)
+        self.assertEqual(self.count("tbson_migrate", lambda: tbson.migrate("{n:u32}", 70 * document())), 1)
+
+    def test_one_call_for_a_long_text(self):
+        name = "n" * 100000
+
+        def refused():
+            with self.assertRaises(tbson.ReadRefused):
+                tbson.recast("{%s:u8}" % name, document(text(name, "Ada")))
+
+        self.assertEqual(self.count("tbson_recast", refused), 1)
+
+
+class Missing(unittest.TestCase):
+    def test_a_missing_library(self):
+        environment = dict(os.environ, TBSON_LIBRARY="/nowhere/libtbson.so")
+        ran = subprocess.run([sys.executable, "-c", "import tbson"], env=environment, capture_output=True, text=True)
+        self.assertEqual(ran.returncode, 1)
+        last = ran.stderr.splitlines()[-1]
+        for said in ["ImportError: tbson: ", "/nowhere/libtbson.so", "make -C", "TBSON_LIBRARY"]:
+            self.assertIn(said, last)
 
 
 class Threads(unittest.TestCase):
