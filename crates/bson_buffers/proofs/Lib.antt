@@ -4,3 +4,6 @@ pub mod Checked
 pub mod Recast
 pub mod Migrated
 pub mod Pieces
+pub mod Skipped
+pub mod Records
+pub mod ListedRows

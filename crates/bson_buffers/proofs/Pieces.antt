@@ -1,10 +1,12 @@
 -- What the first step of a cut says of the place where it began.
-use Rattle.std.proofs.Common.{◌≡◌, ℕ, ◌+◌, ◌<◌, ◌≤◌, ◌-◌, [], ◌∷◌, length, take, drop, Option, Some, None, refl, ap, sym, ◌∙◌, arith}
+use Rattle.std.proofs.Common.{◌≡◌, ℕ, ◌+◌, ◌<◌, ◌≤◌, ◌-◌, [], ◌∷◌, length, take, drop, Option, Some, None, refl, ap, sym, ◌∙◌, inl, inr, arith}
+use Rattle.std.specs.Prelude.{◌⊎◌}
 use Rattle.std.proofs.lemmas.List.{length-drop, length-take-le, drop_all, drop-drop, take_rest}
 use Rattle.bson_base.specs.Text.{Bytes}
 use Rattle.bson_rawdoc.specs.Cut.{Cut, whole, broken_at, with_piece, piece_length, cut_from, cut}
 use Rattle.bson_rawdoc.proofs.Pieces.{piece_fits, cut-nil, cut_more, cut_broken}
-use Rattle.bson_buffers.specs.Finding.{IsDocument, IsEnd, IsBroken}
+use Rattle.bson_buffers.specs.Finding.{left_at, IsDocument, IsEnd, IsBroken}
+use Rattle.bson_buffers.proofs.Delivery.{within_or_above}
 
 abbrev some : ℕ → Option ℕ
 some n = Some n
@@ -57,6 +59,17 @@ document_found file place size inside is =
       within = omega (arith, f.1, length-drop place file);
       first = cut_more place (drop place file) size is ∙ ap (λ rest. with_piece (take size (drop place file)) (cut_from (place + size) rest)) (drop-drop size place file);
     }
+
+-- at a place there is a document, or none is left
+pub step_at : (file : Bytes) (place : ℕ) → ((size : ℕ) × IsDocument file place size) ⊎ ((left_at file place).pieces ≡ [])
+step_at file place = by_place (within_or_above (length file) place) where
+  by_length : (o : Option ℕ) → place < length file → piece_length (drop place file) ≡ o → ((size : ℕ) × IsDocument file place size) ⊎ ((left_at file place).pieces ≡ [])
+  by_length None inside is = inr (ap (λ (c : Cut). c.pieces) (cut_broken place (drop place file) (omega (arith, length-drop place file)) is))
+  by_length (Some n) inside is = inl (n, document_found file place n inside is)
+
+  by_place : (length file ≤ place) ⊎ (place < length file) → ((size : ℕ) × IsDocument file place size) ⊎ ((left_at file place).pieces ≡ [])
+  by_place (inl past) = inr (ap (λ (c : Cut). c.pieces) (ends file place past))
+  by_place (inr inside) = by_length (piece_length (drop place file)) inside refl
 
 -- ---- the same of the bytes behind a place, as the code takes them
 

@@ -7,3 +7,5 @@ pub mod Recasts
 pub mod Migrates
 pub mod Finding
 pub mod Due
+pub mod Lists
+pub mod Prover

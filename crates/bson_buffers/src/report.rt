@@ -35,3 +35,14 @@ impl Report {
         }
     }
 }
+
+/// How a migration ended that lists the refused documents in an array.
+#[derive(Clone, Copy, Debug, PartialEq, Eq)]
+pub struct MigrationReport {
+    /// How the call ended, and what it did with its two buffers.
+    pub report: Report,
+    /// How many records were written to their array: as many of the first ones as fit.
+    pub refusals_written: usize,
+    /// How many records there are in all, one for each refused document.
+    pub refusals_needed: usize,
+}

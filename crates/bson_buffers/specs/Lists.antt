@@ -1,0 +1,122 @@
+-- Migrating a file with a record for each refused document: what the records say, when each status comes, and what the call did then.
+use Rattle.std.specs.Prelude.{◌≡◌, ◌⊎◌, ◌+◌, ℕ, min, List, [], ◌∷◌, ◌++◌, length, take, drop, codes}
+use Rattle.std.specs.List.{sum_by}
+use Rattle.bson_base.specs.Text.{Bytes, Utf8}
+use Rattle.bson_datum.specs.Printed.{printed_failure, printed_path, printed_read_fault, printed_write_fault}
+use Rattle.bson_datum.specs.Refusal.{ReadFault, WriteFault, Failure, no_memory, bare, placed}
+use Rattle.bson_rawdoc.specs.Cut.{cut}
+use Rattle.bson_shape.specs.Form.{Form}
+use Rattle.bson_recast_run.specs.Recasting.{Recast, writes, unread, unwritten, Unwritten}
+use Rattle.bson_migrate_run.specs.Migrating.{NotRecast, migrated, migration_of}
+use Rattle.bson_buffers.specs.Asked.{shape_of, IsNotation}
+use Rattle.bson_buffers.specs.Buffers.{Call, Writes, LacksSpace, Tells, IsSilent}
+use Rattle.bson_buffers.specs.Checks.{NoShapeRow}
+use Rattle.bson_buffers.specs.Migrates.{MigratedRow, BrokenRow, migration_status_at}
+use Rattle.bson_buffers.specs.Number.{number_of}
+use Rattle.bson_buffers.specs.declared.refusal.Refusal.{Refusal}
+use Rattle.bson_buffers.specs.declared.report.MigrationReport.{MigrationReport}
+use Rattle.bson_buffers.specs.declared.status.Status.{Status}
+use Rattle.bson_buffers.specs.declared.status.Status.TheVariants as statuses
+
+-- where the document of a number begins in a file: behind those before it
+abbrev pub offset_in : (file : Bytes) → (number : ℕ) → ℕ
+offset_in file number = sum_by length (take number (cut file).pieces)
+
+-- what is printed of a failure before its cause
+abbrev pub printed_front : {F : Type 0} → Failure F → Utf8
+printed_front no_memory = []
+printed_front (bare f) = []
+printed_front (placed path f) = codes "error at " ++ printed_path path ++ codes ": "
+
+-- why a document is not recast: the number of a status, a text, and how many bytes of the text are before the cause
+pub record Reason : Type 0 where
+  pub status : ℕ
+  pub text : Utf8
+  pub cause_start : ℕ
+
+abbrev pub unread_for : Failure ReadFault → Reason
+unread_for f = record { status = number_of statuses.ReadRefused; text = printed_failure printed_read_fault f; cause_start = length (printed_front f) }
+
+abbrev pub unwritten_for : Failure WriteFault → Reason
+unwritten_for f = record { status = number_of statuses.WriteRefused; text = printed_failure printed_write_fault f; cause_start = length (printed_front f) }
+
+-- why a document is not recast; where its value is refused and is too long, it is either's
+abbrev pub IsReasonOf : Recast → Reason → Type 0
+IsReasonOf (writes bytes) r = ⊥
+IsReasonOf (unread f) r = r ≡ unread_for f
+IsReasonOf (unwritten due too_long) r = (f : Failure WriteFault) × Unwritten (unwritten due too_long) f × (r ≡ unwritten_for f)
+
+-- the record of the document of a number, whose text begins here
+abbrev pub record_of : (file : Bytes) → (text_start number : ℕ) → Reason → Refusal
+record_of file text_start number r = record {
+  index = number;
+  offset = offset_in file number;
+  status = r.status;
+  text_start = text_start;
+  text_length = length r.text;
+  cause_start = r.cause_start;
+}
+
+-- a record for each document that is not recast, and their texts one after another, which begin here
+abbrev pub AreRecords : (file : Bytes) → (text_start : ℕ) → List NotRecast → List Refusal → (texts : Utf8) → Type 0
+AreRecords file text_start [] records texts = (records ≡ []) × (texts ≡ [])
+AreRecords file text_start (d ∷ ds) records texts =
+    (r : Reason) × (rest : List Refusal) × (behind : Utf8) × IsReasonOf d.recast r × (records ≡ record_of file text_start d.number r ∷ rest) × (texts ≡ r.text ++ behind) × AreRecords file (text_start + length r.text) ds rest behind
+
+-- the array for the records before and after a call, and the numbers of its report on it
+pub record Records : Type 0 where
+  pub before : List Refusal
+  pub after : List Refusal
+  pub written : ℕ
+  pub needed : ℕ
+
+abbrev pub records_by : MigrationReport → (before after : List Refusal) → Records
+records_by a before after = record { before = before; after = after; written = a.refusals_written; needed = a.refusals_needed }
+
+-- As many first records as fit are at the front of the array; those behind them are as they were.
+pub record Lists (a : Records) (records : List Refusal) : Type 0 where
+  pub put : a.after ≡ take (length a.before) records ++ drop (length records) a.before
+  pub written : a.written ≡ min (length records) (length a.before)
+  pub needed : a.needed ≡ length records
+
+-- Some documents are not recast, as a record for each tells; the buffer holds what the others' recasts write, and migrated again that is given back.
+pub record ListedRow (shape file : Bytes) (c : Call) (a : Records) : Type 0 where
+  pub form : Form
+  pub notation : IsNotation shape form
+  pub output : Bytes
+  pub first : NotRecast
+  pub others : List NotRecast
+  pub migration : migration_of form file ≡ migrated output (first ∷ others)
+  pub again : migration_of form output ≡ migrated output []
+  pub records : List Refusal
+  pub texts : Utf8
+  pub are_records : AreRecords file 0 (first ∷ others) records texts
+  pub put : Writes c output
+  pub says : Tells c texts
+  pub lists : Lists a records
+  pub no_place : c.place ≡ 0
+
+-- The buffer is too small for what the recasts write. Of each document that is not recast a record tells.
+pub record LargerListedRow (shape file : Bytes) (c : Call) (a : Records) : Type 0 where
+  pub form : Form
+  pub notation : IsNotation shape form
+  pub output : Bytes
+  pub refused : List NotRecast
+  pub migration : migration_of form file ≡ migrated output refused
+  pub records : List Refusal
+  pub texts : Utf8
+  pub are_records : AreRecords file 0 refused records texts
+  pub larger : LacksSpace c output
+  pub says : Tells c texts
+  pub lists : Lists a records
+  pub no_place : c.place ≡ 0
+
+-- The table of statuses: each status comes only where its row holds, and it is the one that is due, or out of memory.
+pub record IsListedMigration (shape file : Bytes) (status : Status) (c : Call) (a : Records) : Type 0 where
+  pub done : status ≡ statuses.Done → MigratedRow shape file c × Lists a []
+  pub some_refused : status ≡ statuses.SomeRefused → ListedRow shape file c a
+  pub buffer_too_small : status ≡ statuses.BufferTooSmall → LargerListedRow shape file c a
+  pub shape_refused : status ≡ statuses.ShapeRefused → NoShapeRow shape c × Lists a []
+  pub broken : status ≡ statuses.Broken → BrokenRow shape file c × Lists a []
+  pub no_memory : status ≡ statuses.NoMemory → IsSilent c × Lists a []
+  pub complete : (status ≡ migration_status_at (length c.buffer.before) file (shape_of shape)) ⊎ (status ≡ statuses.NoMemory)
