@@ -7,6 +7,7 @@
 mod check;
 mod document;
 mod migrate;
+mod migrate_and_list;
 mod recast;
 mod report;
 mod version;
@@ -14,6 +15,7 @@ mod version;
 pub use check::tbson_check_shape;
 pub use document::tbson_next_document;
 pub use migrate::tbson_migrate;
+pub use migrate_and_list::tbson_migrate_and_list;
 pub use recast::tbson_recast;
-pub use report::{NextDocument, Report};
+pub use report::{MigrationReport, NextDocument, Report};
 pub use version::tbson_version;

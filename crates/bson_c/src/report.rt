@@ -1,6 +1,6 @@
 // What the calls return: structs that cross the border, with a status as its number.
 ghost use Rattle.std.specs.Prelude.{◌≡◌};
-ghost use Rattle.bson_c.specs.Crossing.{IsCrossed, IsCrossedFound};
+ghost use Rattle.bson_c.specs.Crossing.{IsCrossed, IsCrossedFound, IsCrossedMigration};
 
 use bson_buffers::{Found, Status};
 
@@ -34,6 +34,31 @@ impl Report {
             needed: report.needed,
             text_written: report.text_written,
             text_needed: report.text_needed,
+        }
+    }
+}
+
+/// How a migration ended that lists the refused documents in an array.
+#[repr(C)]
+#[derive(Clone, Copy, Debug, PartialEq, Eq)]
+pub struct MigrationReport {
+    /// How the call ended, and what it did with its two buffers.
+    pub report: Report,
+    /// How many records were written to their array: as many of the first ones as fit.
+    pub refusals_written: usize,
+    /// How many records there are in all, one for each refused document.
+    pub refusals_needed: usize,
+}
+
+impl MigrationReport {
+    /// A report of the library, as it crosses.
+    pub(crate) fn crossed(migration: bson_buffers::MigrationReport) -> MigrationReport
+        ensures { IsCrossedMigration migration result }
+    {
+        MigrationReport {
+            report: Report::crossed(migration.report),
+            refusals_written: migration.refusals_written,
+            refusals_needed: migration.refusals_needed,
         }
     }
 }
