@@ -161,6 +161,43 @@ tbson_report tbson_recast(const uint8_t *shape, size_t shape_len, const uint8_t 
 tbson_report tbson_migrate(const uint8_t *shape, size_t shape_len, const uint8_t *file, size_t file_len, uint8_t *output, size_t output_len,
                            uint8_t *text, size_t text_len);
 
+/* A refused document of a file. */
+typedef struct tbson_refusal {
+    /* The number of the document in the file, counted from 0. */
+    uint64_t index;
+    /* Where the document begins: a number of bytes from the start of the file. */
+    size_t offset;
+    /* TBSON_READ_REFUSED or TBSON_WRITE_REFUSED. */
+    uint32_t status;
+    /* Where its text begins in the text of the call, and how many bytes it takes. */
+    size_t text_start;
+    size_t text_length;
+    /*
+     * Where in its text the cause begins. It is 0 where the text has no path; else the text is "error at PATH: CAUSE", and the path takes the bytes
+     * from the ninth up to two before the cause.
+     */
+    size_t cause_start;
+} tbson_refusal;
+
+/* What tbson_migrate_and_list returns. */
+typedef struct tbson_migration_report {
+    /* As of tbson_migrate. */
+    tbson_report report;
+    /* How many records were written to the array: the smaller of its length and of refusals_needed. */
+    size_t refusals_written;
+    /* How many records there are in all: one for each refused document. */
+    size_t refusals_needed;
+} tbson_migration_report;
+
+/*
+ * Recasts each document of a file as tbson_migrate does, with the same statuses, and lists the refused documents in an array, in the order of the file.
+ * The text has no lines: it is the texts of the refused documents one after another, each as tbson_recast gives it, and a record says where each is.
+ * Where the array has fewer places than there are refused documents, it gets the first records; the places behind them stay as they were. At any
+ * status but TBSON_SOME_REFUSED and TBSON_BUFFER_TOO_SMALL no document is listed.
+ */
+tbson_migration_report tbson_migrate_and_list(const uint8_t *shape, size_t shape_len, const uint8_t *file, size_t file_len, uint8_t *output,
+                                              size_t output_len, uint8_t *text, size_t text_len, tbson_refusal *refusals, size_t refusals_len);
+
 /* What is at a place of a file of documents. */
 typedef struct tbson_document {
     /* One of enum tbson_status. */

@@ -198,6 +198,26 @@ static void test_migrate(void)
     CHECK(holds(output, sizeof output, TEXT("")));
 }
 
+static void test_migrate_and_list(void)
+{
+    static const char said[] = "error at .: missing field n";
+    tbson_refusal refusals[2];
+    tbson_migration_report a;
+    uint8_t output[36], text[64];
+
+    memset(output, 0xaa, sizeof output);
+    memset(text, 0xaa, sizeof text);
+    memset(refusals, 0xaa, sizeof refusals);
+    a = tbson_migrate_and_list(TEXT("{n:u32}"), BYTES(file), BYTES(output), BYTES(text), refusals, 2);
+    CHECK(is(a.report, TBSON_SOME_REFUSED, 0, 32, 32, 27, 27) && a.refusals_written == 1 && a.refusals_needed == 1);
+    CHECK(holds(text, sizeof text, TEXT(said)));
+    CHECK(refusals[0].index == 1 && refusals[0].offset == 12 && refusals[0].status == TBSON_READ_REFUSED);
+    CHECK(refusals[0].text_start == 0 && refusals[0].text_length == 27 && refusals[0].cause_start == 12);
+    CHECK(holds((const uint8_t *)&refusals[1], sizeof refusals[1], TEXT("")));
+    a = tbson_migrate_and_list(TEXT("{n:u32}"), BYTES(file), NULL, 0, NULL, 0, NULL, 0);
+    CHECK(is(a.report, TBSON_BUFFER_TOO_SMALL, 0, 0, 32, 0, 27) && a.refusals_written == 0 && a.refusals_needed == 1);
+}
+
 /* malloc, realloc and free of the library, which the linker's --wrap leads here: the one that is counted down to fails. */
 static size_t until_failure = 0;
 static long blocks = 0;
@@ -267,6 +287,7 @@ int main(void)
     test_refused_recast();
     test_next_document();
     test_migrate();
+    test_migrate_and_list();
     test_no_memory();
     puts("test.c: all holds");
     return 0;

@@ -1,5 +1,8 @@
 // Documents judged, recast, migrated and found, from slices into buffers.
-use bson_buffers::{Found, Report, Status, check_shape, document_at, migrate_into, recast_into};
+use bson_buffers::{
+    Found, Refusal, Report, Status, check_shape, document_at, migrate_and_list, migrate_into,
+    recast_into,
+};
 use std::test::Fail;
 
 /// The document {n: 7}, its 7 an Int32.
@@ -88,6 +91,50 @@ fn files_are_migrated(rt: HostRuntime) -> Result<(), Fail> {
     let report = migrate_into(alloc, b"{n:u32}", &FILE[..13], &mut buffer, &mut text);
     assert_eq!(rt; report.status, Status::Broken);
     assert_eq!(rt; numbers(report), (12, 0, 0, 0, 0));
+    Ok(())
+}
+
+/// A record that no call wrote.
+const UNWRITTEN: Refusal = Refusal {
+    index: 9,
+    offset: 9,
+    status: 9,
+    text_start: 9,
+    text_length: 9,
+    cause_start: 9,
+};
+
+#[test]
+fn refused_documents_are_listed(rt: HostRuntime) -> Result<(), Fail> {
+    let alloc = rt.alloc();
+    let mut buffer = [255; 18];
+    let mut text = [b'.'; 64];
+    let mut refusals = [UNWRITTEN, UNWRITTEN];
+    let migration = migrate_and_list(
+        alloc,
+        b"{n:u32}",
+        &FILE,
+        &mut buffer,
+        &mut text,
+        &mut refusals,
+    );
+    assert_eq!(rt; migration.report.status, Status::SomeRefused);
+    assert_eq!(rt; numbers(migration.report), (0, 16, 16, 27, 27));
+    assert_eq!(rt; (migration.refusals_written, migration.refusals_needed), (1, 1));
+    assert_eq!(rt; &buffer[..16], WIDE.as_slice());
+    assert!(rt; text.starts_with(b"error at .: missing field n."));
+    let missing = Refusal {
+        index: 1,
+        offset: 12,
+        status: 3,
+        text_start: 0,
+        text_length: 27,
+        cause_start: 12,
+    };
+    assert_eq!(rt; refusals, [missing, UNWRITTEN]);
+    let migration = migrate_and_list(alloc, b"{n:u32}", &FILE, &mut [], &mut text, &mut []);
+    assert_eq!(rt; migration.report.status, Status::BufferTooSmall);
+    assert_eq!(rt; (migration.refusals_written, migration.refusals_needed), (0, 1));
     Ok(())
 }
 
