@@ -1,4 +1,4 @@
-use Rattle.std.proofs.Common.{◌++◌, length, take, drop, ap, ◌∙◌, string_bytes}
+use Rattle.std.proofs.Common.{◌++◌, length, take, drop, ap, ◌∙◌, string_bytes, rules}
 use Rattle.std.specs.Prelude.{min}
 use Rattle.bson_buffers.specs.Lists.{Lists, records_by}
 use Rattle.bson_buffers.proofs.ListedRows.{is_listed}
@@ -12,6 +12,6 @@ returns-in-Ok c =
     let listed : Lists (records_by _ before c.put_front.new.buffer) records = record {
       put = c.put_front.ensures.put ∙ ap (λ rs. take (length before) rs ++ drop (length rs) before) c.deref.ensures.value;
       written = c.put_front.ensures.count ∙ ap (λ rs. min (length rs) (length before)) c.deref.ensures.value;
-      needed = c.len.ensures;
+      needed = search rules;
     } in
     is_listed c.args.shape.now c.args.file.now due.status due.place due.output.items (string_bytes due.text) records c.deliver.result.status _ _ c.in-Ok.ensures c.deliver.ensures listed
