@@ -120,7 +120,10 @@ fn refused_documents_are_listed(rt: HostRuntime) -> Result<(), Fail> {
     );
     assert_eq!(rt; migration.report.status, Status::SomeRefused);
     assert_eq!(rt; numbers(migration.report), (0, 16, 16, 27, 27));
-    assert_eq!(rt; (migration.refusals_written, migration.refusals_needed), (1, 1));
+    assert_eq!(rt;
+        (migration.refusals_written, migration.refusals_needed),
+        (1, 1)
+    );
     assert_eq!(rt; &buffer[..16], WIDE.as_slice());
     assert!(rt; text.starts_with(b"error at .: missing field n."));
     let missing = Refusal {
@@ -134,7 +137,10 @@ fn refused_documents_are_listed(rt: HostRuntime) -> Result<(), Fail> {
     assert_eq!(rt; refusals, [missing, UNWRITTEN]);
     let migration = migrate_and_list(alloc, b"{n:u32}", &FILE, &mut [], &mut text, &mut []);
     assert_eq!(rt; migration.report.status, Status::BufferTooSmall);
-    assert_eq!(rt; (migration.refusals_written, migration.refusals_needed), (0, 1));
+    assert_eq!(rt;
+        (migration.refusals_written, migration.refusals_needed),
+        (0, 1)
+    );
     Ok(())
 }
 
