@@ -9,7 +9,7 @@ import ctypes
 import enum
 import mmap
 import os
-from typing import Any, Iterator, NamedTuple, Optional, Tuple, Union
+from typing import Any, Iterator, List, NamedTuple, Optional, Tuple, Union
 
 #: The version of tbson.h that this module is for.
 VERSION = 1
@@ -38,13 +38,17 @@ class Refused(ValueError):
     status  one of Status
     place   where in the shape's UTF-8, or in the file: a number of bytes from the start; 0 at any other status
     index   the number of the document in a file, counted from 0; None of a document that was not in a file
+    offset  where the document begins in the file: a number of bytes from the start; None as with the index
 
-    Path and cause are the two parts of the text, "error at PATH: CAUSE". Names are in the path as they are: one with ": " in it is cut there.
+    Path and cause are the two parts of the text, "error at PATH: CAUSE". Names are in the path as they are. Of a document that was not in a file, a path that
+    holds ": " is cut there.
     """
 
-    def __init__(self, text: str, status: Optional[Status] = None, place: int = 0, index: Optional[int] = None):
+    def __init__(self, text: str, status: Optional[Status] = None, place: int = 0):
         super().__init__(text)
-        self.text, self.status, self.place, self.index = text, status, place, index
+        self.text, self.status, self.place = text, status, place
+        self.index: Optional[int] = None
+        self.offset: Optional[int] = None
         self.path, self.cause = _path_and_cause(text)
 
 
@@ -65,13 +69,10 @@ class Broken(Refused):
 
 
 class Migration(NamedTuple):
-    """What migrating a file gave: the new documents, one after another, and a text with a line for each document that was refused.
-
-    A line has its names as they are, so one that holds a line break breaks it.
-    """
+    """What migrating a file gave: the new documents, one after another, and why each of the others was refused."""
 
     output: bytearray
-    refused: str
+    refused: List[Refused]
 
 
 def _path_and_cause(text: str) -> Tuple[Optional[str], str]:
@@ -91,6 +92,21 @@ class _Report(ctypes.Structure):
         ("text_written", ctypes.c_size_t),
         ("text_needed", ctypes.c_size_t),
     ]
+
+
+class _Refusal(ctypes.Structure):
+    _fields_ = [
+        ("index", ctypes.c_uint64),
+        ("offset", ctypes.c_size_t),
+        ("status", ctypes.c_uint32),
+        ("text_start", ctypes.c_size_t),
+        ("text_length", ctypes.c_size_t),
+        ("cause_start", ctypes.c_size_t),
+    ]
+
+
+class _MigrationReport(ctypes.Structure):
+    _fields_ = [("report", _Report), ("refusals_written", ctypes.c_size_t), ("refusals_needed", ctypes.c_size_t)]
 
 
 class _Document(ctypes.Structure):
@@ -150,7 +166,7 @@ def _load() -> ctypes.CDLL:
     library.tbson_version.argtypes, library.tbson_version.restype = [], ctypes.c_uint32
     library.tbson_check_shape.argtypes, library.tbson_check_shape.restype = 2 * _SLICE, _Report
     library.tbson_recast.argtypes, library.tbson_recast.restype = 4 * _SLICE, _Report
-    library.tbson_migrate.argtypes, library.tbson_migrate.restype = 4 * _SLICE, _Report
+    library.tbson_migrate_and_list.argtypes, library.tbson_migrate_and_list.restype = 5 * _SLICE, _MigrationReport
     library.tbson_next_document.argtypes, library.tbson_next_document.restype = _SLICE + [ctypes.c_size_t], _Document
     if library.tbson_version() < VERSION:
         raise ImportError(f"tbson: {path} is version {library.tbson_version()}, and tbson.py needs {VERSION}. Build it anew by `make -C {folder}`.")
@@ -248,15 +264,33 @@ def recast(shape: Union[str, bytes], document: Any) -> bytearray:
     return output
 
 
+def _refused(record: _Refusal, texts: Union[bytearray, mmap.mmap]) -> Refused:
+    text = bytes(texts[record.text_start : record.text_start + record.text_length])
+    refused = _KINDS[Status(record.status)](text.decode(), Status(record.status))
+    refused.index, refused.offset = record.index, record.offset
+    path = text[len("error at ") : record.cause_start - len(": ")] if record.cause_start else None
+    refused.path, refused.cause = None if path is None else path.decode(), text[record.cause_start :].decode()
+    return refused
+
+
 def migrate(shape: Union[str, bytes], file: Any) -> Migration:
     """The documents of a file, each recast at the shape. Raises ShapeRefused or Broken."""
     notation = _shape_bytes(shape)
     with _Bytes(notation) as shape_pair, _Bytes(file) as pair:
-        lengths = _output_len(notation, pair[1]), 4096 + pair[1]
-        report, output, text = _call(_library.tbson_migrate, (shape_pair, pair), *lengths)
+        lengths = _output_len(notation, pair[1]), 4096 + pair[1], min(pair[1] // 5, 1024 + pair[1] // 40)
+        while True:
+            output, text, records = bytearray(lengths[0]), _text_buffer(lengths[1]), (_Refusal * lengths[2])()
+            with _Bytes(output) as output_pair, _Bytes(text) as text_pair:
+                migration = _library.tbson_migrate_and_list(*shape_pair, *pair, *output_pair, *text_pair, ctypes.addressof(records), len(records))
+            report = migration.report
+            needed = max(lengths[0], report.needed), max(lengths[1], report.text_needed), max(lengths[2], migration.refusals_needed)
+            if needed == lengths:
+                break
+            lengths = needed
     if report.status not in (Status.DONE, Status.SOME_REFUSED):
-        raise _failure(report, text)
-    return Migration(output, text)
+        raise _failure(report, text[: report.text_written].decode())
+    del output[report.written :]
+    return Migration(output, [_refused(record, text) for record in records[: migration.refusals_written]])
 
 
 def documents(file: Any) -> Iterator[memoryview]:

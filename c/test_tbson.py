@@ -143,12 +143,17 @@ class Files(unittest.TestCase):
     def test_a_migration(self):
         migration = tbson.migrate("{n:u32}", self.FILE)
         self.assertEqual(migration.output, document(int64("n", 7)) + document(int64("n", 8)))
-        self.assertEqual(migration.refused, "document 1: read refused: error at .: missing field n\n")
+        self.assertEqual([(r.index, r.offset, r.status, r.text, r.path, r.cause) for r in migration.refused], [(1, 12, tbson.Status.READ_REFUSED, "error at .: missing field n", ".", "missing field n")])
 
     def test_many_refused_documents(self):
         migration = tbson.migrate("{n:u32}", 100 * document())
         self.assertEqual(migration.output, b"")
-        self.assertEqual(migration.refused, "".join(f"document {n}: read refused: error at .: missing field n\n" for n in range(100)))
+        self.assertEqual([(r.index, r.offset, r.text) for r in migration.refused], [(n, 5 * n, "error at .: missing field n") for n in range(100)])
+
+    def test_names_with_line_breaks_and_colons(self):
+        name = "a: b\n"
+        refused = tbson.migrate('{"a: b\\n":u8}', document(text(name, "Ada"))).refused
+        self.assertEqual([(r.path, r.cause) for r in refused], [(name, "invalid type: String")])
 
 
 class Calls(unittest.TestCase):
@@ -172,8 +177,8 @@ class Calls(unittest.TestCase):
         numbers = document(*(int32(str(n), n) for n in range(1000)))
         self.assertEqual(self.count("tbson_recast", lambda: tbson.recast("[string:i64]", numbers)), 1)
         self.assertEqual(self.count("tbson_recast", lambda: tbson.check("[string:i64]", numbers)), 1)
-        self.assertEqual(self.count("tbson_migrate", lambda: tbson.migrate("[string:i64]", 100 * numbers)), 1)
-        self.assertEqual(self.count("tbson_migrate", lambda: tbson.migrate("{n:u32}", 70 * document())), 1)
+        self.assertEqual(self.count("tbson_migrate_and_list", lambda: tbson.migrate("[string:i64]", 100 * numbers)), 1)
+        self.assertEqual(self.count("tbson_migrate_and_list", lambda: tbson.migrate("{n:u32}", 70 * document())), 1)
 
     def test_one_call_for_a_long_text(self):
         name = "n" * 100000
