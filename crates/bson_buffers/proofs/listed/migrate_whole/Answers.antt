@@ -1,6 +1,6 @@
 use Rattle.std.proofs.Common.{◌++◌, length, take, drop, ap, ◌∙◌, string_bytes, rules}
 use Rattle.std.specs.Prelude.{min}
-use Rattle.bson_buffers.specs.Lists.{Lists, records_by}
+use Rattle.bson_buffers.specs.Lists.{Records, Lists}
 use Rattle.bson_buffers.proofs.ListedRows.{is_listed}
 use Rattle.bson_buffers.proofs.listed.migrate_whole.Goals as goal
 
@@ -9,9 +9,10 @@ returns-in-Ok c =
     let due = c.in-Ok.listed.due in
     let records = c.in-Ok.listed.refusals.items in
     let before = c.args.refusals.now in
-    let listed : Lists (records_by _ before c.put_front.new.buffer) records = record {
+    let array : Records = record { before = before; after = c.put_front.new.buffer; written = c.put_front.result; needed = c.len.result } in
+    let listed : Lists array records = record {
       put = c.put_front.ensures.put ∙ ap (λ rs. take (length before) rs ++ drop (length rs) before) c.deref.ensures.value;
       written = c.put_front.ensures.count ∙ ap (λ rs. min (length rs) (length before)) c.deref.ensures.value;
       needed = search rules;
     } in
-    is_listed c.args.shape.now c.args.file.now due.status due.place due.output.items (string_bytes due.text) records c.deliver.result.status _ _ c.in-Ok.ensures c.deliver.ensures listed
+    is_listed c.args.shape.now c.args.file.now due.status due.place due.output.items (string_bytes due.text) records c.deliver.result.status _ array c.in-Ok.ensures c.deliver.ensures listed
