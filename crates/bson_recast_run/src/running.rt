@@ -42,6 +42,7 @@ const INPUT_ENDINGS: InputEndings<Status> = InputEndings {
 };
 
 // The shape that the words ask for, or the line that refuses them. The outer error means out of memory.
+#[tactic(auto, using(bson_program::proofs::OneShape::asks_one))]
 fn asked(alloc: Global, words: &[String]) -> Result<Result<Shape, String>, AllocError>
     ensures { IfOk result (Asked recast_program.command (map string_bytes words.now)) }
 {
