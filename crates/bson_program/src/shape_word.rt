@@ -1,5 +1,7 @@
 // The shape that a word of a command line asks for.
-ghost use Rattle.std.specs.Prelude.{◌≡◌, string_bytes, IfOk, Some};
+ghost use Rattle.std.specs.Prelude.{◌≡◌, [], ◌∷◌, false, string_bytes, IfOk, Some};
+ghost use Rattle.bson_program.specs.Command.{Asked};
+ghost use Rattle.bson_program.specs.OneShape.{one_shape, Usage};
 ghost use Rattle.bson_program.specs.ShapeWord.{IsShapeOf, line_at, line_for};
 
 use bson_shape::{ParseError, Shape};
@@ -37,4 +39,15 @@ pub fn shape_of_word(alloc: Global, word: &str) -> Result<Result<Shape, String>,
         }
         Err(e) => Ok(Err(line_of(alloc, &e)?)),
     }
+}
+
+/// What a word that is no option asks for, alone on the command line of a program that takes one shape: a shape, or the line that refuses it.
+///
+/// # Errors
+///
+/// The outer error means out of memory.
+pub fn asked_by_word(alloc: Global, word: &str) -> Result<Result<Shape, String>, AllocError>
+    ensures asks { (usage : Usage) → usage.is_option word.now ≡ false → IfOk result (Asked (one_shape usage) (word.now ∷ [])) }
+{
+    shape_of_word(alloc, word)
 }

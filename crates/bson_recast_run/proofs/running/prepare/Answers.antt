@@ -16,8 +16,8 @@ returns-in-Ok-2-clause-due g c =
     job_due recast_program _ input c.in-Ok.shape c.answer_to.result asked
     (whole_due recast_input (λ bytes. Answers (recast_of c.in-Ok.shape bytes)) input c.in-Ok-2.bytes.items c.deref.result.now c.answer_to.result read c.deref.ensures.value c.answer_to.ensures)
 
-pub returns-in-Err-2-clause-due : goal.returns-in-Err-2-clause-due
-returns-in-Err-2-clause-due g c =
+pub returns-clause-due : goal.returns-clause-due
+returns-clause-due g c =
     let input = source_change g.I.Source.left g.I.Source.faults c.args.input.now c.read_input.new.input in
     let asked : IsAskedFor recast_program.command (map string_bytes c.args.words.now) c.in-Ok.shape = rw c.in-Ok.is at c.in_ok-shape.ensures in
     let unread : Says (IsUnread recast_input input) c.in-Err-2.answer = rw c.in-Err-2.is at c.in_ok-bytes.ensures.taken in
