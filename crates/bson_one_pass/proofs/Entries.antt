@@ -1,5 +1,6 @@
 -- Recasting the entries of a map one by one.
 use Rattle.std.proofs.Common.{◌≡◌, ℕ, suc, List, [], ◌∷◌, ◌++◌, true, false, cond, map, Option, Ok, Bor, refl, ap, sym, subst, ◌∙◌}
+use Rattle.std.specs.Map.Iter.{deref}
 use Rattle.std.specs.Str.{bytes_eq}
 use Rattle.std.proofs.lemmas.List.{append_assoc, append-nil, map-append}
 use Rattle.bson_base.specs.Text.{Bytes, Utf8, has_zero}
@@ -23,7 +24,8 @@ use Rattle.bson_laws.specs.Judged.{plain}
 use Rattle.bson_laws.specs.Reads.{reads}
 use Rattle.bson_laws.specs.ReadsLeaf.{put_entry}
 use Rattle.bson_laws.specs.Spell.{spell, spell_entries}
-use Rattle.bson_one_pass.specs.Free.{takes_keys, is_new}
+use Rattle.bson_itself.specs.Keys.{is_new}
+use Rattle.bson_one_pass.specs.Free.{takes_keys}
 use Rattle.bson_one_pass.specs.Put.{of_writing, recast_node, recast_entries, IsPut, IsElementPut, ArePairsPut}
 use Rattle.bson_one_pass.proofs.Containers.{recast_mapped, pairs_put}
 use Rattle.bson_one_pass.proofs.Places.{read_by}
@@ -40,18 +42,6 @@ key_read : (key : Leaf) (name : Utf8) → takes_keys key ≡ true → IsKey key 
 key_read leaves.Str name h = record { value = str (borrowed name); read = refl; text = refl }
 key_read leaves.String name h = record { value = str (made name); read = refl; text = refl }
 key_read l name h = absurd cc
-
--- the key is none of these
-abbrev pub IsNew : Utf8 → List Utf8 → Type 0
-IsNew key [] = Unit {0}
-IsNew key (k ∷ ks) = (bytes_eq key k ≡ false) × IsNew key ks
-
-abbrev pub text_of : Bor Utf8 → Utf8
-text_of k = k.now
-
-new_is : (key : Utf8) (ks : List (Bor Utf8)) → is_new key ks ≡ true → IsNew key (map text_of ks)
-new_is key [] h = tt
-new_is key (k ∷ ks) h = let parts = not_taken (bytes_eq key k.now) (is_new key ks) h in (parts.0, new_is key ks parts.1)
 
 -- ---- what is written
 
@@ -70,11 +60,11 @@ AreEntries levels (entry k v es) names bytes =
     (name : Utf8) × (others : List Utf8) × (first : Bytes) × (rest : Bytes) × (names ≡ name ∷ others) × (bytes ≡ first ++ rest) × IsEntry levels k v name first × AreEntries levels es others rest
 
 -- one more, of a new key
-entries_more : (levels : ℕ) (k v : Marked) (name : Utf8) (one : Bytes) (es : MarkedEntries) (names : List Utf8) (bytes : Bytes) → IsEntry levels k v name one → IsNew name names → AreEntries levels es names bytes
+entries_more : (levels : ℕ) (k v : Marked) (name : Utf8) (one : Bytes) (es : MarkedEntries) (names : List Utf8) (bytes : Bytes) → IsEntry levels k v name one → is_new name names ≡ true → AreEntries levels es names bytes
     → AreEntries levels (put_entry k v es) (names ++ name ∷ []) (bytes ++ one)
 entries_more levels k v name one no_entries names bytes e new h = (name, [], one, [], ap (λ l. l ++ name ∷ []) h.0, ap (λ b. b ++ one) h.1 ∙ sym (append-nil one), e, (refl, refl))
 entries_more levels k v name one (entry key old es) names bytes e new h =
-    let n : IsNew name (h.0 ∷ h.1) = subst (IsNew name) h.4 new in
+    let n = not_taken (bytes_eq name h.0) (is_new name h.1) (ap (is_new name) (sym h.4) ∙ new) in
     let other : same (contents k) (contents key) ≡ false = (λ i. same (e.text i) (h.6.text i)) ∙ n.0 in
     subst (λ c. AreEntries levels (cond c (entry key v es) (entry key old (put_entry k v es))) (names ++ name ∷ []) (bytes ++ one)) (sym other)
     (h.0, h.1 ++ name ∷ [], h.2, h.3 ++ one, ap (λ l. l ++ name ∷ []) h.4, ap (λ b. b ++ one) h.5 ∙ append_assoc h.2 h.3 one, h.6, entries_more levels k v name one es h.1 h.3 e n.1 h.7)
@@ -103,8 +93,8 @@ entry_read key s levels before name n ns k v is read = rw (is, read) refl
 
 -- an element of a new key was put
 pub entry_step : (key : Leaf) (s : Form) (levels : ℕ) (whole : Option Pairs) (names : List (Bor Utf8)) (name : Bor Utf8) (old_walk new_walk : Walk) (e : Element) (old made new : Bytes) → takes_keys key ≡ true → old_walk ≡ then_walk e new_walk
-    → AreEntriesPut key s levels whole (nodes_with (node_in levels) old_walk) (map text_of names) old made → name.now ≡ e.key → is_new name.now names ≡ true → has_zero name.now ≡ false
-    → IsElementPut (recast_node s levels (node_in levels e.kind e.value)) name.now made new → AreEntriesPut key s levels whole (nodes_with (node_in levels) new_walk) (map text_of (names ++ name ∷ [])) old new
+    → AreEntriesPut key s levels whole (nodes_with (node_in levels) old_walk) (map deref names) old made → name.now ≡ e.key → is_new name.now (map deref names) ≡ true → has_zero name.now ≡ false
+    → IsElementPut (recast_node s levels (node_in levels e.kind e.value)) name.now made new → AreEntriesPut key s levels whole (nodes_with (node_in levels) new_walk) (map deref (names ++ name ∷ [])) old new
 entry_step key s levels whole names name old_walk new_walk e old made new takes step p key_is new_key closed h =
     let n = node_in levels e.kind e.value in
     let ns = nodes_with (node_in levels) new_walk in
@@ -118,8 +108,8 @@ entry_step key s levels whole names name old_walk new_walk e old made new takes 
           ∙ ap (λ w. recast_entries key s p.before levels (nodes_with (node_in levels) w)) step
           ∙ ap (λ b. recast_entries key s p.before levels (then_node (borrowed b) n ns)) (sym key_is)
           ∙ entry_read key s levels p.before name.now n ns k.value q.0 k.read q.2;
-      written = subst (λ l. AreEntries levels (put_entry k.value q.0 p.before) l (p.bytes ++ el)) (sym (map-append text_of names (name ∷ [])))
-          (entries_more levels k.value q.0 name.now el p.before (map text_of names) p.bytes (record { tree = q.1; text = k.text; spelled = q.3; closed = closed; bytes_are = refl }) (new_is name.now names new_key) p.written);
+      written = subst (λ l. AreEntries levels (put_entry k.value q.0 p.before) l (p.bytes ++ el)) (sym (map-append deref names (name ∷ [])))
+          (entries_more levels k.value q.0 name.now el p.before (map deref names) p.bytes (record { tree = q.1; text = k.text; spelled = q.3; closed = closed; bytes_are = refl }) new_key p.written);
       put = q.4 ∙ ap (λ b. b ++ el) p.put ∙ append_assoc old p.bytes el;
     }
 

@@ -9,3 +9,5 @@ mod Containers
 mod Tuples
 mod Entries
 mod Whole
+mod Kept
+mod Passed

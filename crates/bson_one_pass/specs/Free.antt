@@ -1,14 +1,17 @@
--- A key that no field has, a text that names a unit variant, and keys of maps: for the contracts of the parts of the pass.
-use Rattle.std.specs.Prelude.{List, [], ◌∷◌, Bool, false, true, if◌then◌else◌, string_bytes}
+-- A key that no field has, values that are dropped, a text that names a unit variant, and leaves at the keys of maps: for the contracts of the parts of the pass.
+use Rattle.std.specs.Prelude.{◌≡◌, ℕ, Ok, List, [], ◌∷◌, Bool, false, true, if◌then◌else◌, string_bytes}
 use Rattle.std.specs.Str.{bytes_eq}
-use Rattle.std.specs.Borrow.{Bor}
 use Rattle.bson_base.specs.Text.{Utf8}
+use Rattle.bson_rawdoc.specs.Node.{Nodes}
+use Rattle.bson_rawdoc.specs.Piece.{Piece}
 use Rattle.bson_shape.specs.Makers.{is_unit}
 use Rattle.bson_shape.specs.ShapeView.{content_of}
 use Rattle.bson_shape.specs.declared.leaf.Leaf.{Leaf}
 use Rattle.bson_shape.specs.declared.leaf.Leaf.TheVariants as leaves
 use Rattle.bson_shape.specs.declared.shape.FieldShape.{FieldShape}
 use Rattle.bson_shape.specs.declared.shape.VariantShape.{VariantShape}
+use Rattle.bson_datum.specs.Refusal.{Segment}
+use Rattle.bson_laws.specs.Judged.{plain, pass_nodes}
 
 -- the key is the name of none of these fields
 abbrev pub is_free : Utf8 → List FieldShape → Bool
@@ -26,7 +29,6 @@ takes_keys leaves.Str = true
 takes_keys leaves.String = true
 takes_keys l = false
 
--- the key is none of these
-abbrev pub is_new : Utf8 → List (Bor Utf8) → Bool
-is_new key [] = true
-is_new key (k ∷ ks) = if bytes_eq key k.now then false else is_new key ks
+-- nothing in these values is at fault, wherever their elements are
+abbrev pub ArePassed : Nodes → Type 0
+ArePassed ns = (place : ℕ → Piece → Segment) (i : ℕ) → pass_nodes plain place i ns ≡ Ok tt

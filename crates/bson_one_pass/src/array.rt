@@ -4,14 +4,16 @@ ghost use Rattle.bson_base.specs.declared.element_type.ElementType.TheVariants a
 ghost use Rattle.bson_rawdoc.specs.DocumentView.{array_bytes};
 ghost use Rattle.bson_rawdoc.specs.Node.{inner_node, node_in, nodes_with, value_node};
 ghost use Rattle.bson_rawdoc.specs.ValueView.{raw_value};
-ghost use Rattle.bson_shape.specs.Form.{sequence};
+ghost use Rattle.bson_shape.specs.Form.{sequence, leaf};
+ghost use Rattle.bson_shape.specs.declared.leaf.Leaf.TheVariants.{Any};
 ghost use Rattle.bson_one_pass.specs.Put.{recast_node, recast_items, IsPut, AreItemsPut, IsElementPut};
 
 use crate::bytes::{close, put, put_front, set_kind};
 use crate::value::recast_value;
 use bson_base::ElementType;
+use bson_itself::is_itself;
 use bson_rawdoc::{RawArray, RawBsonRef, RawElement, RawIter};
-use bson_shape::Shape;
+use bson_shape::{Form, Leaf, Shape};
 
 /// The array at a sequence: its values, whose keys are their indexes from 0 on.
 #[cycle(recast)]
@@ -64,10 +66,30 @@ pub(crate) fn recast_item(
     ensures { IfSome result (λ _. IsElementPut (recast_node shape.now levels (node_in levels element.now.kind element.now.value)) key.now
         made.old.items made.new.items) }
 {
+    if let Form::Leaf(Leaf::Any) = shape.form() {
+        return keep_item(made, levels, element, key);
+    }
     let value = value_of(element, levels)?;
     let place = made.len();
     put_front(made, key.as_bytes())?;
     let kind = recast_value(made, shape, levels, &value)?;
+    set_kind(made, place, kind);
+    Some(())
+}
+
+/// An element whose key is this, and whose value is written at `any` as it was read: its bytes are copied.
+fn keep_item(made: &mut Vec<u8>, levels: u32, element: &RawElement<'_>, key: &str) -> Option<()>
+    ensures { IfSome result (λ _. IsElementPut (recast_node (leaf Any) levels (node_in levels element.now.kind element.now.value)) key.now
+        made.old.items made.new.items) }
+{
+    let kind = element.element_type();
+    let bytes = element.slice();
+    if !is_itself(kind, bytes, levels, *made.allocator()) {
+        return None;
+    }
+    let place = made.len();
+    put_front(made, key.as_bytes())?;
+    put(made, bytes)?;
     set_kind(made, place, kind);
     Some(())
 }

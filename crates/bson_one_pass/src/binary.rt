@@ -8,8 +8,8 @@ ghost use Rattle.bson_shape.specs.Form as form;
 ghost use Rattle.bson_one_pass.specs.Put.{recast_node, IsPut};
 
 use crate::bytes::put;
-use crate::extended::known_bytes;
 use bson_base::{BinarySubtype, ElementType, MAX_BINARY};
+use bson_rawdoc::reading::known_bytes;
 use bson_shape::Leaf;
 
 /// A binary at a leaf that takes it: at that of binaries, of byte strings if its subtype is 0, or of UUIDs if it is 4 and there are sixteen bytes.

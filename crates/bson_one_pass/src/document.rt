@@ -1,12 +1,15 @@
 // A whole document.
 ghost use Rattle.std.specs.Prelude.{IfSome};
+ghost use Rattle.bson_shape.specs.Form.{leaf};
+ghost use Rattle.bson_shape.specs.declared.leaf.Leaf.TheVariants.{Any};
 ghost use Rattle.bson_one_pass.specs.Recast.{IsRecastAs};
 
 use crate::value::recast_value;
 use bson_base::{ElementType, MAX_NESTING_LEVEL};
 use bson_io::MOST;
+use bson_itself::is_itself;
 use bson_rawdoc::{RawBsonRef, RawDocument};
-use bson_shape::Shape;
+use bson_shape::{Form, Leaf, Shape};
 use std::alloc::Global;
 
 /// Reads the bytes of a document at a shape, and gives the bytes of what was read, in one pass.
@@ -15,10 +18,14 @@ use std::alloc::Global;
 /// out. It takes structs whose fields the document has in the shape's order, options, sequences, tuples, tuple structs, newtypes, unit structs, texts at the
 /// unit variants of enums, maps of at most 16 different keys at `str` or `string`, and the leaves `bool`, `double`, `unit`, `str`, `string`, `bytes`,
 /// `bytebuf`, `oid`, `datetime`, `timestamp`, `decimal`, `binary`, `uuid` and those of integers, where the value is of the kind of the leaf. It takes no
-/// binary of the old subtype 2.
+/// binary of the old subtype 2. At `any` it takes what is written as it was read: values without an extended value in them, whose arrays have their indexes as
+/// keys and whose documents have no key twice.
 pub fn recast_at_once(alloc: Global, shape: &Shape, bytes: &[u8]) -> Option<Vec<u8>>
     ensures recast { IfSome result (λ v. IsRecastAs shape.now bytes.now v.items) }
 {
+    if let Form::Leaf(Leaf::Any) = shape.form() {
+        return keep_document(alloc, bytes);
+    }
     let Ok(document) = RawDocument::from_bytes(bytes) else {
         return None;
     };
@@ -34,4 +41,15 @@ pub fn recast_at_once(alloc: Global, shape: &Shape, bytes: &[u8]) -> Option<Vec<
         ElementType::EmbeddedDocument if made.len() <= MOST => Some(made),
         _ => None,
     }
+}
+
+/// A document that is written at `any` as it was read: a copy of its bytes.
+fn keep_document(alloc: Global, bytes: &[u8]) -> Option<Vec<u8>>
+    ensures { IfSome result (λ v. IsRecastAs (leaf Any) bytes.now v.items) }
+{
+    let kind = ElementType::EmbeddedDocument;
+    if bytes.len() > MOST || !is_itself(kind, bytes, MAX_NESTING_LEVEL, alloc) {
+        return None;
+    }
+    Vec::from_slice(alloc, bytes).ok()
 }

@@ -1,7 +1,6 @@
 // Extended values at their leaves.
 ghost use Rattle.std.specs.Prelude.{◌≡◌, ◌++◌, ◌<◌, ◌^◌, IfSome};
 ghost use Rattle.bson_base.specs.Sound.{HasBytes};
-ghost use Rattle.bson_base.specs.Text.{AreBytes};
 ghost use Rattle.bson_base.specs.Tree.{le32};
 ghost use Rattle.bson_rawdoc.specs.Node as nodes;
 ghost use Rattle.bson_rawdoc.specs.Node.{opens};
@@ -12,6 +11,7 @@ ghost use Rattle.bson_one_pass.specs.Put.{recast_node, IsPut};
 use crate::bytes::put;
 use crate::leaf::put_eight;
 use bson_base::{Decimal128, ElementType, ObjectId, Timestamp};
+use bson_rawdoc::reading::known_bytes;
 use bson_shape::Leaf;
 
 /// An ObjectId at its leaf: its twelve bytes.
@@ -39,11 +39,6 @@ fn known(id: &[u8; 12])
 {
     known_bytes(id);
 }
-
-// Bytes are bytes.
-pub(crate) fn known_bytes(bytes: &[u8])
-    ensures { AreBytes bytes.now }
-{}
 
 /// A time at its leaf: its milliseconds in eight bytes.
 pub(crate) fn recast_time(

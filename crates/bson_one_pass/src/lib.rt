@@ -7,6 +7,7 @@ mod array;
 mod binary;
 mod bytes;
 mod document;
+mod dropped;
 mod extended;
 mod leaf;
 mod map;

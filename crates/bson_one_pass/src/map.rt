@@ -5,13 +5,14 @@ ghost use Rattle.bson_rawdoc.specs.DocumentView.{document_bytes};
 ghost use Rattle.bson_rawdoc.specs.Node.{inner_node, node_in, nodes_with};
 ghost use Rattle.bson_shape.specs.Form as form;
 ghost use Rattle.bson_datum.specs.Value.{no_entries};
-ghost use Rattle.bson_one_pass.specs.Free.{takes_keys, is_new};
+ghost use Rattle.bson_one_pass.specs.Free.{takes_keys};
 ghost use Rattle.bson_one_pass.specs.Put.{recast_node, recast_entries, IsPut, ArePairsPut};
 
 use crate::array::recast_item;
 use crate::bytes::{close, put};
 use arrayvec::ArrayVec;
 use bson_base::{ElementType, has_zero};
+use bson_itself::is_new;
 use bson_rawdoc::{RawDocument, RawIter};
 use bson_shape::{Leaf, Shape};
 
@@ -73,16 +74,4 @@ fn recast_entries(
         names.push(name);
     }
     Some(())
-}
-
-/// Whether a key is none of these.
-fn is_new(key: &str, names: &[&str]) -> bool
-    ensures { result ≡ is_new key.now names.now }
-{
-    for name in names {
-        if key == *name {
-            return false;
-        }
-    }
-    true
 }

@@ -1,14 +1,12 @@
 // Documents at a struct whose fields they have in the shape's order.
 ghost use Rattle.std.specs.Prelude.{◌≡◌, ◌++◌, [], string_bytes, false, true, IfSome, None, Some, Ok};
-ghost use Rattle.std.specs.Str.{is_utf8};
 ghost use Rattle.bson_base.specs.Text.{has_zero};
 ghost use Rattle.bson_base.specs.Tree.{element};
 ghost use Rattle.bson_base.specs.Reserved.{reserved_kind};
 ghost use Rattle.bson_base.specs.declared.element_type.ElementType.TheVariants as kinds;
 ghost use Rattle.bson_rawdoc.specs.DocumentView.{document_bytes};
-ghost use Rattle.bson_rawdoc.specs.Node.{binary_node, inner_node, node_in, nodes_with, value_node};
-ghost use Rattle.bson_rawdoc.specs.Piece.{Piece, borrowed};
-ghost use Rattle.bson_rawdoc.specs.ValueView.{raw_value};
+ghost use Rattle.bson_rawdoc.specs.Node.{inner_node, node_in, nodes_with};
+ghost use Rattle.bson_rawdoc.specs.Piece.{Piece};
 ghost use Rattle.bson_shape.specs.Form.{structure};
 ghost use Rattle.bson_shape.specs.Makers.{AreDistinct};
 ghost use Rattle.bson_shape.specs.ShapeView.{fields_of};
@@ -21,8 +19,9 @@ ghost use Rattle.bson_one_pass.specs.Put.{recast_node, recast_fields, IsPut, IsE
 
 use crate::array::{recast_item, value_of};
 use crate::bytes::{close, put, put_front, set_kind};
-use bson_base::{BinarySubtype, ElementType, has_zero};
-use bson_rawdoc::{RawBsonRef, RawDocument, RawElement, RawIter};
+use crate::dropped::is_passed;
+use bson_base::{ElementType, has_zero};
+use bson_rawdoc::{RawDocument, RawElement, RawIter};
 use bson_shape::{FieldShape, Form};
 
 /// The most names that a key is compared with. At a struct of more fields a key that is not the next one's name is left to the reader, which has an index.
@@ -103,7 +102,7 @@ fn recast_field(
     recast_item(made, &field.shape, levels, element, name)
 }
 
-/// An element that no field has: its value is looked at, and dropped.
+/// An element that no field has: its value is walked to its end, and dropped.
 fn drop_element(fields: &[FieldShape], levels: u32, element: &RawElement<'_>) -> Option<()>
     ensures free { IfSome result (λ _. is_free element.now.key fields.now ≡ true) }
     ensures ignored { IfSome result (λ _. ignores plain (node_in levels element.now.kind element.now.value) ≡ Ok tt) }
@@ -127,43 +126,6 @@ fn is_free(fields: &[FieldShape], key: &str) -> bool
             return false;
         }
     }
-    true
-}
-
-/// Whether a value has no others in it, so that nothing in it can be at fault.
-fn is_passed(value: &RawBsonRef<'_>, levels: u32) -> bool
-    ensures { result ≡ true → ignores plain (value_node (inner_node levels) (raw_value value.now)) ≡ Ok tt }
-{
-    match value {
-        RawBsonRef::Double(_)
-        | RawBsonRef::Boolean(_)
-        | RawBsonRef::Null
-        | RawBsonRef::Int32(_)
-        | RawBsonRef::Int64(_)
-        | RawBsonRef::ObjectId(_)
-        | RawBsonRef::DateTime(_)
-        | RawBsonRef::Timestamp(_)
-        | RawBsonRef::Decimal128(_)
-        | RawBsonRef::Undefined
-        | RawBsonRef::MaxKey
-        | RawBsonRef::MinKey => true,
-        RawBsonRef::Binary { subtype, bytes } => is_binary(*subtype, bytes),
-        RawBsonRef::String(text) => is_text(text),
-        _ => false,
-    }
-}
-
-// A text is UTF-8.
-fn is_text(text: &str) -> bool
-    ensures { is_utf8 text.now ≡ true }
-{
-    true
-}
-
-// Nothing in a binary is at fault.
-fn is_binary(subtype: BinarySubtype, bytes: &[u8]) -> bool
-    ensures { ignores plain (binary_node subtype.0 (borrowed bytes.now)) ≡ Ok tt }
-{
     true
 }
 

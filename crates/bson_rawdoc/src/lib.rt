@@ -10,8 +10,8 @@ mod get;
 mod iter;
 mod parts;
 pub mod raw;
-mod reading;
-mod utf8;
+pub mod reading;
+pub mod utf8;
 mod value;
 
 pub use array::RawArray;

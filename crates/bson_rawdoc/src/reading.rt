@@ -1,8 +1,14 @@
 // Numbers, keys and closing bytes at the front of a slice.
 ghost use Rattle.std.specs.Prelude.{◌≡◌, ◌≤◌, ◌+◌, length, option_map, IfSome};
+ghost use Rattle.bson_base.specs.Text.{AreBytes};
 ghost use Rattle.bson_rawdoc.specs.Envelope as envelope;
 ghost use Rattle.bson_rawdoc.specs.Numbers as numbers;
 ghost use Rattle.bson_rawdoc.specs.Extent as extents;
+
+/// Tells the prover that bytes are below 256.
+pub fn known_bytes(bytes: &[u8])
+    ensures { AreBytes bytes.now }
+{}
 
 // The bytes, which are so many, as an array.
 pub(crate) fn fixed<const N: usize>(bytes: &[u8]) -> [u8; N]
@@ -15,9 +21,9 @@ pub(crate) fn fixed<const N: usize>(bytes: &[u8]) -> [u8; N]
     }
 }
 
-// The number without a sign in the first four bytes.
+/// The unsigned number of 32 bits in the first four bytes.
 #[tactic(auto, unfolding(crate::specs::Numbers::uint32_in))]
-pub(crate) fn uint32_in(bytes: &[u8]) -> u32
+pub fn uint32_in(bytes: &[u8]) -> u32
     requires { 4 ≤ length bytes.now }
     ensures { result ≡ numbers.uint32_in bytes.now }
 {
@@ -44,8 +50,8 @@ pub(crate) fn int64_in(bytes: &[u8]) -> i64
     ])
 }
 
-// Whether the last byte is a zero.
-pub(crate) fn is_closed(bytes: &[u8]) -> bool
+/// Whether the last byte is a zero.
+pub fn is_closed(bytes: &[u8]) -> bool
     ensures { result ≡ envelope.is_closed bytes.now }
 {
     match bytes {
@@ -54,9 +60,9 @@ pub(crate) fn is_closed(bytes: &[u8]) -> bool
     }
 }
 
-// What is between the first four bytes and the last.
+/// The bytes between the first four and the last.
 #[tactic(auto, unfolding(crate::specs::Envelope::inside))]
-pub(crate) fn inside(bytes: &[u8]) -> &[u8]
+pub fn inside(bytes: &[u8]) -> &[u8]
     requires { 5 ≤ length bytes.now }
     ensures { result.now ≡ envelope.inside bytes.now }
 {

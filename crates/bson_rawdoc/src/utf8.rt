@@ -10,9 +10,9 @@ use crate::reading::cut_at_zero;
 // Texts of up to so many bytes are tested for ASCII first.
 const SHORT: usize = 16;
 
-// Whether these bytes are UTF-8.
+/// Whether these bytes are UTF-8.
 #[inline(always)]
-pub(crate) fn is_utf8(bytes: &[u8]) -> bool
+pub fn is_utf8(bytes: &[u8]) -> bool
     ensures { result ≡ is_utf8 bytes.now }
 {
     if bytes.len() <= SHORT && is_ascii(bytes) {
@@ -41,10 +41,14 @@ fn is_utf8_of_any_length(bytes: &[u8]) -> bool
     simdutf8::basic::from_utf8(bytes).is_ok()
 }
 
-// How many bytes the key takes that begins these bytes, without the zero behind it. One pass looks for the zero and for characters
-// beyond ASCII.
+/// How many bytes the key takes that begins these bytes, without the zero behind it.
+///
+/// # Errors
+///
+/// `KeyUnclosed` where no byte is zero, then `KeyNotUtf8` where the bytes before the first zero are not UTF-8.
+// One pass looks for the zero and for characters beyond ASCII.
 #[inline(always)]
-pub(crate) fn key_len(bytes: &[u8]) -> Result<usize, Error>
+pub fn key_len(bytes: &[u8]) -> Result<usize, Error>
     ensures within { IfOk result (λ n. n < length bytes.now) }
     ensures cut { IfOk result (λ n. cut_at_zero bytes.now ≡ Some (take n bytes.now, drop (n + 1) bytes.now)) }
     ensures utf8 { IfOk result (λ n. IsUtf8 (take n bytes.now)) }

@@ -1,6 +1,7 @@
 use Rattle.std.proofs.Common.{◌≡◌, suc, ◌+◌, ◌-◌, ◌*◌, ◌<◌, ◌++◌, [], ◌∷◌, length, get_or, take, drop, map, ap, sym, ◌∙◌, arith, rules}
 use Rattle.std.specs.Fmt.{decimal}
 use Rattle.std.specs.Str.{bytes_eq}
+use Rattle.std.specs.Map.Iter.{deref}
 use Rattle.bson_base.specs.Tree.{enclosed}
 use Rattle.bson_rawdoc.specs.DocumentView.{array_bytes, document_bytes}
 use Rattle.bson_rawdoc.specs.Node.{inner_node, node_in, nodes_with, value_node}
@@ -14,7 +15,7 @@ use Rattle.bson_laws.specs.Judged.{plain}
 use Rattle.bson_laws.specs.Reads.{slots_of}
 use Rattle.bson_one_pass.specs.Put.{recast_node, recast_items, recast_parts, recast_entries, recast_fields}
 use Rattle.bson_one_pass.proofs.Containers.{array_put}
-use Rattle.bson_one_pass.proofs.Entries.{text_of, entry_step, entries_end, map_put}
+use Rattle.bson_one_pass.proofs.Entries.{entry_step, entries_end, map_put}
 use Rattle.bson_one_pass.proofs.Forms.{newtype_is}
 use Rattle.bson_one_pass.proofs.Items.{item_step, left_none}
 use Rattle.bson_one_pass.proofs.Pieces.{enclosed_put, item_put}
@@ -176,7 +177,7 @@ map::recast_entries-loop-element-preserved t c =
 pub map::recast_entries-returns : goal.map::recast_entries-returns
 map::recast_entries-returns t c =
     let whole = recast_entries c.args.key c.args.shape.now no_entries c.args.levels (nodes_with (node_in c.args.levels) c.args.elements) in
-    entries_end c.args.key c.args.shape.now c.args.levels whole (map text_of c.loop-element.names.items) c.args.made.now.items c.loop-element.made.items (rw c.in-None.ensures.steps.0 at c.loop-element.invariant.2)
+    entries_end c.args.key c.args.shape.now c.args.levels whole (map deref c.loop-element.names.items) c.args.made.now.items c.loop-element.made.items (rw c.in-None.ensures.steps.0 at c.loop-element.invariant.2)
 
 pub map::recast_map-returns : goal.map::recast_map-returns
 map::recast_map-returns t c =

@@ -1,4 +1,5 @@
 use Rattle.std.proofs.Common.{◌≡◌, ◌+◌, ◌*◌, ◌-◌, ◌≤◌, length, drop, map}
+use Rattle.std.specs.Map.Iter.{deref}
 use Rattle.bson_rawdoc.specs.Node.{ended, node_in, nodes_with}
 use Rattle.bson_shape.specs.ShapeView.{fields_of, parts_of, nodes, fields_nodes, parts_nodes}
 use Rattle.bson_datum.specs.Value.{no_entries}
@@ -7,7 +8,7 @@ use Rattle.bson_laws.specs.Reads.{slots_of}
 use Rattle.bson_one_pass.specs.Put.{recast_items, recast_parts, recast_entries, recast_fields}
 use Rattle.bson_one_pass.proofs.Places.{AreUnderWay}
 use Rattle.bson_one_pass.proofs.Items.{AreLeft}
-use Rattle.bson_one_pass.proofs.Entries.{AreEntriesPut, text_of}
+use Rattle.bson_one_pass.proofs.Entries.{AreEntriesPut}
 use Rattle.bson_one_pass.proofs.+recast.Given as goal
 
 abbrev pub decreases-value::recast_value : goal.decreases-value::recast_value
@@ -74,4 +75,4 @@ invariant-tuple::recast_parts-loop-part l =
 abbrev pub invariant-map::recast_entries-loop-element : goal.invariant-map::recast_entries-loop-element
 invariant-map::recast_entries-loop-element l =
     (goal.iterator-map::recast_entries-loop-element).can_next l.element-iterator × (goal.iterator-map::recast_entries-loop-element).is_finite l.element-iterator
-    × AreEntriesPut l.fn.key l.shape l.levels (recast_entries l.fn.key l.shape no_entries l.levels (nodes_with (node_in l.levels) l.fn.elements)) (nodes_with (node_in l.levels) l.element-iterator) (map text_of l.names.items) l.initial.made.items l.made.items
+    × AreEntriesPut l.fn.key l.shape l.levels (recast_entries l.fn.key l.shape no_entries l.levels (nodes_with (node_in l.levels) l.fn.elements)) (nodes_with (node_in l.levels) l.element-iterator) (map deref l.names.items) l.initial.made.items l.made.items

@@ -1,0 +1,5 @@
+mod Names
+mod Parts
+mod Left
+mod Law
+mod Kept

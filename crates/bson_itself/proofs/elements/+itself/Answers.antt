@@ -1,0 +1,113 @@
+use Rattle.std.proofs.Common.{◌≡◌, suc, ◌-◌, ◌∷◌, ◌++◌, [], get_or, take, map, true, ap, sym, subst, ◌∙◌, refl, arith}
+use Rattle.std.specs.Fmt.{decimal}
+use Rattle.std.specs.Map.Iter.{deref}
+use Rattle.std.proofs.lemmas.List.{map-append, nil_from_length}
+use Rattle.bson_base.specs.Kind.{byte}
+use Rattle.bson_base.specs.Text.{Bytes}
+use Rattle.bson_base.specs.declared.element_type.ElementType.TheVariants as kinds
+use Rattle.bson_itself.specs.Encoded.{EncodesItself, IsText, IsPlainBinary, IsTrueOrFalse, ArePairs, AreTrees}
+use Rattle.bson_itself.specs.Keys.{is_new}
+use Rattle.bson_itself.proofs.Left.{PairsLeft, pairs_end, pairs_step, TreesLeft, trees_end, trees_step, element_first, same_bytes}
+use Rattle.bson_itself.proofs.Names.{knows_more, added_new}
+use Rattle.bson_itself.proofs.Parts.{fixed_one, made_one, text_one, binary_one, boolean_one, null_one, double_one, int32_one, int64_one, document_one, array_one}
+use Rattle.bson_itself.proofs.elements.+itself.Goals as goal
+
+pub are_items-loop-rest-preserved : goal.are_items-loop-rest-preserved
+are_items-loop-rest-preserved t c =
+    let whole = c.args.bytes.now in
+    let levels = c.args.levels in
+    let rest = c.loop-rest.rest.now in
+    let i = c.loop-rest.index in
+    let value = c.in-Some.value.now in
+    let name = c.in-Some.name.now in
+    let kind = c.in-Some-from_byte.kind in
+    let n = c.in-Some-value_len.size in
+    let back = c.split_at.result.1.now in
+    let there = element_first rest value kind n name back c.in-len1-up.len_at_least (sym c.in-Some-from_byte.ensures.kind) c.in-Some.ensures c.split_at.ensures.back in
+    let is : name ≡ decimal i = same_bytes name c.format.result.now c.if-ne.ensures ∙ c.format.ensures.text in
+    let at : rest ≡ byte kind ∷ (decimal i ++ (0 ∷ (take n value ++ back))) = there ∙ ap (λ (key : Bytes). byte kind ∷ (key ++ (0 ∷ (take n value ++ back)))) is in
+    let step = trees_step whole levels i kind (take n value) back (subst (TreesLeft whole levels i) at c.loop-rest.invariant) c.in-Some-value_len.ensures.itself in
+    let next : suc i ≡ c.in-Some-checked_add.more = omega (arith, c.in-Some-checked_add.ensures) in
+    subst (λ j. TreesLeft whole levels j back) next step
+
+pub are_items-returns : goal.are_items-returns
+are_items-returns t c = λ _. trees_end c.args.bytes.now c.args.levels c.loop-rest.index c.loop-rest.rest.now c.loop-rest.invariant (nil_from_length c.loop-rest.rest.now (omega arith))
+
+pub are_pairs-loop-rest-preserved : goal.are_pairs-loop-rest-preserved
+are_pairs-loop-rest-preserved t c =
+    let whole = c.args.bytes.now in
+    let levels = c.args.levels in
+    let rest = c.loop-rest.rest.now in
+    let names = c.loop-rest.names.items in
+    let value = c.in-Some.value.now in
+    let name = c.in-Some.name.now in
+    let kind = c.in-Some-from_byte.kind in
+    let n = c.in-Some-value_len.size in
+    let back = c.split_at.result.1.now in
+    let key = c.in-Some.ensures in
+    let there = element_first rest value kind n name back c.in-len1-up.len_at_least (sym c.in-Some-from_byte.ensures.kind) key c.split_at.ensures.back in
+    let new : is_new name (map deref names) ≡ true = ap (λ ns. is_new name (map deref ns)) (sym c.as_slice-in-len1-up.ensures.value) ∙ sym c.if-not-is_new.ensures.is_new in
+    let step = pairs_step [] whole levels (map deref names) kind name (take n value) back (subst (PairsLeft [] whole levels (map deref names)) there c.loop-rest.invariant) key.text key.no_zero new c.in-Some-value_len.ensures.itself in
+    subst (λ before. PairsLeft [] whole levels before back) (sym (ap (map deref) c.push.ensures.items ∙ map-append deref names (c.in-Some.name ∷ []))) step
+
+pub are_pairs-returns : goal.are_pairs-returns
+are_pairs-returns t c = λ _. pairs_end [] c.args.bytes.now c.args.levels (map deref c.loop-rest.names.items) c.loop-rest.rest.now c.loop-rest.invariant (nil_from_length c.loop-rest.rest.now (omega arith))
+
+pub array_len-returns-clause-itself : goal.array_len-returns-clause-itself
+array_len-returns-clause-itself t c =
+    let m = c.args.levels - 1 in
+    let part = take c.in_ok-count.count c.args.bytes.now in
+    array_one c.args.levels m part (omega arith) c.in_ok-count.ensures.frame (subst (AreTrees m) c.inside.ensures (c.if-not-are_items.ensures refl))
+
+pub document_len-returns-clause-itself : goal.document_len-returns-clause-itself
+document_len-returns-clause-itself t c =
+    let m = c.args.levels - 1 in
+    let part = take c.in_ok-count.count c.args.bytes.now in
+    document_one c.args.levels m part (omega arith) c.in_ok-count.ensures.frame (subst (ArePairs m) c.inside.ensures (c.if-not-are_pairs.ensures refl))
+
+pub value_len-returns-in-Double-clause-itself : goal.value_len-returns-in-Double-clause-itself
+value_len-returns-in-Double-clause-itself t c =
+    rw c.in-Double.is (fixed_one kinds.Double c.args.levels c.args.bytes.now 8 c.fixed_len.result c.fixed_len.ensures.are_bytes c.fixed_len.ensures.within c.fixed_len.ensures.fixed (λ part all n. double_one c.args.levels part n))
+
+pub value_len-returns-in-String-clause-itself : goal.value_len-returns-in-String-clause-itself
+value_len-returns-in-String-clause-itself t c = rw c.in-String.is (made_one kinds.String c.args.levels c.args.bytes.now c.text_len.result IsText c.text_len.ensures.text (text_one c.args.levels))
+
+pub value_len-returns-in-Binary-clause-itself : goal.value_len-returns-in-Binary-clause-itself
+value_len-returns-in-Binary-clause-itself t c = rw c.in-Binary.is (made_one kinds.Binary c.args.levels c.args.bytes.now c.binary_len.result IsPlainBinary c.binary_len.ensures.binary (binary_one c.args.levels))
+
+pub value_len-returns-in-Boolean-clause-itself : goal.value_len-returns-in-Boolean-clause-itself
+value_len-returns-in-Boolean-clause-itself t c = rw c.in-Boolean.is (made_one kinds.Boolean c.args.levels c.args.bytes.now c.boolean_len.result IsTrueOrFalse c.boolean_len.ensures.boolean (boolean_one c.args.levels))
+
+pub value_len-returns-in-Null-clause-itself : goal.value_len-returns-in-Null-clause-itself
+value_len-returns-in-Null-clause-itself t c = rw c.in-Null.is (null_one c.args.levels)
+
+pub value_len-returns-in-Int32-clause-itself : goal.value_len-returns-in-Int32-clause-itself
+value_len-returns-in-Int32-clause-itself t c =
+    rw c.in-Int32.is (fixed_one kinds.Int32 c.args.levels c.args.bytes.now 4 c.fixed_len-in-Int32.result c.fixed_len-in-Int32.ensures.are_bytes c.fixed_len-in-Int32.ensures.within c.fixed_len-in-Int32.ensures.fixed (int32_one c.args.levels))
+
+pub value_len-returns-in-Int64-clause-itself : goal.value_len-returns-in-Int64-clause-itself
+value_len-returns-in-Int64-clause-itself t c =
+    rw c.in-Int64.is (fixed_one kinds.Int64 c.args.levels c.args.bytes.now 8 c.fixed_len-in-Int64.result c.fixed_len-in-Int64.ensures.are_bytes c.fixed_len-in-Int64.ensures.within c.fixed_len-in-Int64.ensures.fixed (int64_one c.args.levels))
+
+pub are_more_pairs-loop-rest-preserved : goal.are_more_pairs-loop-rest-preserved
+are_more_pairs-loop-rest-preserved t c =
+    let first = map deref c.args.names.now in
+    let whole = c.args.bytes.now in
+    let levels = c.args.levels in
+    let rest = c.loop-rest.rest.now in
+    let before = c.loop-rest.invariant.0 in
+    let value = c.in-Some.value.now in
+    let name = c.in-Some.name in
+    let kind = c.in-Some-from_byte.kind in
+    let n = c.in-Some-value_len.size in
+    let back = c.split_at.result.1.now in
+    let key = c.in-Some.ensures in
+    let there = element_first rest value kind n name.now back c.in-len1-up.len_at_least (sym c.in-Some-from_byte.ensures.kind) key c.split_at.ensures.back in
+    let new = added_new c.loop-rest.known name before c.loop-rest.invariant.1 (sym c.in-Ok-true.field-0-test ∙ c.in-Ok-true.ensures.added) in (
+      before ++ name.now ∷ [],
+      knows_more c.loop-rest.known c.insert.new.self name before c.loop-rest.invariant.1 c.in-Ok-true.ensures.updates.0,
+      pairs_step first whole levels before kind name.now (take n value) back (subst (PairsLeft first whole levels before) there c.loop-rest.invariant.2) key.text key.no_zero new c.in-Some-value_len.ensures.itself,
+    )
+
+pub are_more_pairs-returns : goal.are_more_pairs-returns
+are_more_pairs-returns t c = λ _. pairs_end (map deref c.args.names.now) c.args.bytes.now c.args.levels c.loop-rest.invariant.0 c.loop-rest.rest.now c.loop-rest.invariant.2 (nil_from_length c.loop-rest.rest.now (omega arith))

@@ -1,0 +1,20 @@
+-- Values whose bytes are kept.
+use Rattle.std.specs.Prelude.{◌≡◌, ℕ, Ok}
+use Rattle.bson_base.specs.Text.{Bytes}
+use Rattle.bson_base.specs.Tree.{Tree, kind, enc}
+use Rattle.bson_base.specs.declared.element_type.ElementType.{ElementType}
+use Rattle.bson_rawdoc.specs.Node.{node_in}
+use Rattle.bson_shape.specs.Form.{Form}
+use Rattle.bson_datum.specs.Marked.{Marked, contents}
+use Rattle.bson_laws.specs.Judged.{plain}
+use Rattle.bson_laws.specs.Reads.{reads}
+use Rattle.bson_laws.specs.Spell.{spell}
+
+-- A value of the kind in these bytes, with so many levels left, is read at the shape as a value that is written as these bytes.
+pub record IsKept (s : Form) (levels : ℕ) (k : ElementType) (b : Bytes) : Type 0 where
+  pub given : Marked
+  pub tree : Tree
+  pub read : reads s plain (node_in levels k b) ≡ Ok given
+  pub spelled : spell (contents given) levels ≡ Ok tree
+  pub kind_is : kind tree ≡ k
+  pub encoded : enc tree ≡ b

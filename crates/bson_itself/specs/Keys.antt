@@ -1,0 +1,23 @@
+-- Keys of documents and of arrays.
+use Rattle.std.specs.Prelude.{◌≡◌, List, [], ◌∷◌, ◌++◌, Bool, true, false, if◌then◌else◌, not}
+use Rattle.std.specs.Borrow.{Bor}
+use Rattle.std.specs.BTreeSet.{BTreeSet, contains_by}
+use Rattle.std.specs.Cmp.Lexicographic.{slice_cmp}
+use Rattle.std.specs.Ordering.{nat_cmp}
+use Rattle.std.specs.Str.{is_utf8, bytes_eq}
+use Rattle.bson_base.specs.Text.{Bytes, Utf8, has_zero}
+
+-- the key is none of these
+abbrev pub is_new : Utf8 → List Utf8 → Bool
+is_new key [] = true
+is_new key (k ∷ ks) = if bytes_eq key k then false else is_new key ks
+
+-- The bytes are a key, the zero that closes it, and what is behind that.
+pub record IsKey (bytes : Bytes) (key behind : Bytes) : Type 0 where
+  pub text : is_utf8 key ≡ true
+  pub no_zero : has_zero key ≡ false
+  pub parts : bytes ≡ key ++ 0 ∷ behind
+
+-- the set has these keys and no others
+abbrev pub Knows : BTreeSet (Bor Utf8) → List Utf8 → Type 0
+Knows set keys = (q : Bor Utf8) → is_new q.now keys ≡ not (contains_by (λ k. slice_cmp nat_cmp q.now k.now) set)

@@ -1,0 +1,4 @@
+pub mod Itself
+pub mod Kept
+pub mod Keys
+pub mod Encoded

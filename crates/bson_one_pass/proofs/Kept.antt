@@ -1,0 +1,55 @@
+-- Values whose bytes are kept.
+use Rattle.std.proofs.Common.{◌≡◌, ℕ, ◌^◌, ◌<◌, ◌≤◌, ◌++◌, length, false, Result, Ok, Err, Some, refl, ap, sym, subst, ◌∙◌, arith}
+use Rattle.std.specs.Option.{IfSome}
+use Rattle.std.specs.Result.{IfOk, result_ok}
+use Rattle.bson_base.specs.Outcome.{result_map}
+use Rattle.bson_base.specs.Sound.{max_levels, max_bytes}
+use Rattle.bson_base.specs.Text.{Bytes}
+use Rattle.bson_base.specs.Tree.{Tree, Pairs, document, kind, enc}
+use Rattle.bson_base.specs.declared.element_type.ElementType.{ElementType}
+use Rattle.bson_base.specs.declared.element_type.ElementType.TheVariants.{EmbeddedDocument}
+use Rattle.bson_rawdoc.specs.Envelope.{envelope}
+use Rattle.bson_rawdoc.specs.Node.{node_in}
+use Rattle.bson_shape.specs.Form.{Form}
+use Rattle.bson_datum.specs.Cause.{raw}
+use Rattle.bson_datum.specs.Marked.{contents}
+use Rattle.bson_datum.specs.Refusal.{bare, unreadable}
+use Rattle.bson_laws.specs.Judged.{plain}
+use Rattle.bson_laws.specs.Reads.{reads, answered}
+use Rattle.bson_laws.specs.Spell.{spell, at_top}
+use Rattle.bson_laws.proofs.ReadBack.{envelope_again}
+use Rattle.bson_laws.proofs.Sizes.{spell_kind}
+use Rattle.bson_itself.specs.Kept.{IsKept}
+use Rattle.bson_one_pass.specs.Put.{of_writing, recast_by, recast_node, IsPut}
+use Rattle.bson_one_pass.specs.Recast.{IsRecastAs}
+
+-- what is kept is recast as its bytes
+pub kept_put : (s : Form) (levels : ℕ) (k : ElementType) (b old new : Bytes) → IsKept s levels k b → new ≡ old ++ b → IsPut (recast_node s levels (node_in levels k b)) old new k
+kept_put s levels k b old new h put =
+    subst (λ o. IsPut o old new k) (sym (ap (recast_by (λ v. spell (contents v) levels)) h.read ∙ ap of_writing h.spelled)) (h.kind_is, put ∙ ap (λ (x : Bytes). old ++ x) (sym h.encoded))
+
+-- ---- a whole document
+
+document_of : (t : Tree) → kind t ≡ EmbeddedDocument → (ps : Pairs) × (t ≡ document ps)
+document_of (document ps) e = (ps, refl)
+document_of t e = absurd cc
+
+pub document_kept : (s : Form) (b made : Bytes) → IsKept s max_levels EmbeddedDocument b → length b ≤ max_bytes → made ≡ b → IsRecastAs s b made
+document_kept s b made h few copied =
+    let d = document_of h.tree h.kind_is in
+    let is : enc (document d.0) ≡ b = ap enc (sym d.1) ∙ h.encoded in
+    let short : length (enc (document d.0)) < 2 ^ 31 = subst (λ (x : Bytes). length x < 2 ^ 31) (sym is) (omega (arith, few)) in
+    let framed : envelope b ≡ Ok b = subst (λ (x : Bytes). envelope x ≡ Ok x) is (envelope_again d.0 short) in
+    record {
+      value = contents h.given;
+      tree = h.tree;
+      read = ap (λ r. result_map contents (elim r [ Ok d ↦ answered (reads s plain (node_in max_levels EmbeddedDocument d)) | Err e ↦ Err (bare (unreadable (raw e))) ])) framed ∙ ap (λ q. result_map contents (answered q)) h.read;
+      spelled = ap (λ k. at_top k (spell (contents h.given) max_levels)) (sym (spell_kind false (contents h.given) max_levels h.tree h.spelled) ∙ h.kind_is) ∙ h.spelled;
+      encoded = h.encoded ∙ sym copied;
+      fits = subst (λ (x : Bytes). length x ≤ max_bytes) (sym copied) few;
+    }
+
+-- what was copied, where there was memory for it
+pub if_copied : {A E : Type 0} (items : A → Bytes) (P : Bytes → Type 0) (b : Bytes) (r : Result A E) → IfOk r (λ v. items v ≡ b) → ((made : Bytes) → made ≡ b → P made) → IfSome (result_ok r) (λ v. P (items v))
+if_copied items P b (Ok v) copied each = each (items v) copied
+if_copied items P b (Err e) copied each = tt

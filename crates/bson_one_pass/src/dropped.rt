@@ -1,0 +1,81 @@
+// Values that no field takes: they are walked to their end, and dropped.
+ghost use Rattle.std.specs.Prelude.{◌≡◌, ◌≤◌, ◌-◌, Ok, true, IsTrue};
+ghost use Rattle.std.specs.Str.{is_utf8};
+ghost use Rattle.bson_rawdoc.specs.Node.{binary_node, inner_node, node_in, nodes_with, value_node};
+ghost use Rattle.bson_rawdoc.specs.Piece.{borrowed};
+ghost use Rattle.bson_rawdoc.specs.ValueView.{raw_value};
+ghost use Rattle.bson_laws.specs.Judged.{plain, ignores};
+ghost use Rattle.bson_one_pass.specs.Free.{ArePassed};
+
+use crate::array::value_of;
+use bson_base::BinarySubtype;
+use bson_rawdoc::{RawBsonRef, RawIter};
+
+/// Whether nothing in a value is at fault, with so many levels left.
+#[cycle(dropped)]
+pub(crate) fn is_passed(value: &RawBsonRef<'_>, levels: u32) -> bool
+    ensures { IsTrue result → ignores plain (value_node (inner_node levels) (raw_value value.now)) ≡ Ok tt }
+{
+    match value {
+        RawBsonRef::Double(_)
+        | RawBsonRef::Boolean(_)
+        | RawBsonRef::Null
+        | RawBsonRef::Int32(_)
+        | RawBsonRef::Int64(_)
+        | RawBsonRef::ObjectId(_)
+        | RawBsonRef::DateTime(_)
+        | RawBsonRef::Timestamp(_)
+        | RawBsonRef::Decimal128(_)
+        | RawBsonRef::Undefined
+        | RawBsonRef::MaxKey
+        | RawBsonRef::MinKey => true,
+        RawBsonRef::Binary { subtype, bytes } => is_binary(*subtype, bytes),
+        RawBsonRef::String(text) => is_text(text),
+        RawBsonRef::Symbol(text) => is_text(text),
+        RawBsonRef::JavaScriptCode(code) => is_text(code),
+        RawBsonRef::RegularExpression { pattern, options } => is_text(pattern) && is_text(options),
+        RawBsonRef::DbPointer { namespace, .. } => is_text(namespace),
+        RawBsonRef::Document(document) => are_passed(document.iter_elements(), levels),
+        RawBsonRef::Array(array) => are_passed(array.as_doc().iter_elements(), levels),
+        RawBsonRef::JavaScriptCodeWithScope { code, scope } => {
+            is_text(code) && are_passed(scope.iter_elements(), levels)
+        }
+    }
+}
+
+/// Whether nothing in the elements of a document or an array is at fault, which takes one of so many levels.
+#[cycle(dropped)]
+fn are_passed(elements: RawIter<'_>, levels: u32) -> bool
+    ensures level { IsTrue result → 1 ≤ levels }
+    ensures passed { IsTrue result → ArePassed (nodes_with (node_in (levels - 1)) elements.entry) }
+{
+    if levels == 0 {
+        return false;
+    }
+    for element in elements {
+        let Ok(element) = element else {
+            return false;
+        };
+        let Some(value) = value_of(&element, levels - 1) else {
+            return false;
+        };
+        if !is_passed(&value, levels - 1) {
+            return false;
+        }
+    }
+    true
+}
+
+// A text is UTF-8.
+fn is_text(text: &str) -> bool
+    ensures { is_utf8 text.now ≡ true }
+{
+    true
+}
+
+// Nothing in a binary is at fault.
+fn is_binary(subtype: BinarySubtype, bytes: &[u8]) -> bool
+    ensures { ignores plain (binary_node subtype.0 (borrowed bytes.now)) ≡ Ok tt }
+{
+    true
+}
