@@ -2,7 +2,7 @@
 use Rattle.std.proofs.Common.{◌≡◌, ℕ, ◌^◌, ◌<◌, length, true, false, Option, Some, None, Ok, Err, refl, ap, sym, subst, ◌∙◌}
 use Rattle.bson_base.specs.Outcome.{◌>>=◌}
 use Rattle.bson_base.specs.Text.{Bytes}
-use Rattle.bson_base.specs.Tree.{kind, enc}
+use Rattle.bson_base.specs.Tree.{enc}
 use Rattle.bson_base.specs.declared.element_type.ElementType.{ElementType}
 use Rattle.bson_rawdoc.specs.Node as node
 use Rattle.bson_rawdoc.specs.Node.{Node, too_deep, node_in, tree_node}

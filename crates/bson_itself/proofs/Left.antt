@@ -1,7 +1,8 @@
 -- The elements of a document and of an array, one by one: those that are left, and the whole.
-use Rattle.std.proofs.Common.{◌≡◌, ℕ, zero, suc, ◌+◌, [], ◌∷◌, ◌++◌, List, length, take, drop, get_or, map, ◌≤◌, ◌-◌, ◌<◌, Bool, cond, eqb, true, false, Option, Some, None, refl, ap, sym, subst, ◌∙◌, append_assoc, arith}
+use Rattle.std.proofs.Common.{◌≡◌, ℕ, zero, suc, ◌+◌, [], ◌∷◌, ◌++◌, List, length, take, drop, get_or, ◌≤◌, ◌-◌, ◌<◌, Bool, cond, eqb, true, false, Option, Some, None, refl, ap, sym, subst, ◌∙◌, append_assoc, arith}
 use Rattle.std.specs.Fmt.{decimal}
 use Rattle.std.specs.Str.{is_utf8, bytes_eq}
+use Rattle.std.specs.List.{IsDistinct}
 use Rattle.std.specs.Prelude.{not}
 use Rattle.std.proofs.lemmas.Slice.Eq.{bytes_eq-Decides}
 use Rattle.std.proofs.lemmas.Bool.{eqb-true}
@@ -16,7 +17,7 @@ use Rattle.bson_rawdoc.specs.Extent.{in_front, cut_at_zero}
 use Rattle.bson_itself.specs.Encoded.{EncodesItself, ArePairsBehind, AreTrees, LacksAll}
 use Rattle.bson_itself.specs.Itself.{ArePairsThemselves, AreTreesThemselves}
 use Rattle.bson_itself.specs.Keys.{is_new, IsKey}
-use Rattle.bson_itself.proofs.Names.{lacked_last, lacked_pair}
+use Rattle.bson_itself.proofs.Names.{lacked_last, lacked_pair, distinct_last}
 
 -- ---- kinds
 
@@ -58,6 +59,19 @@ pairs_step first whole levels before k key value rest left text closed new one p
     left (pair key one.0 ps) (text, closed, lacked_last before key ps lacked, one.2, all) (lacked_pair before key one.0 ps new lacked)
     (element_before (byte (kind one.0)) key (enc one.0) (elements ps)
     ∙ (λ i. byte (one.1 i) ∷ (key ++ (0 ∷ (one.3 i ++ is i)))))
+
+-- the same where it is known at the end alone that the keys are different
+abbrev pub KeysLeft : (first : List Utf8) → (whole : Bytes) → (levels : ℕ) → (before : List Utf8) → (rest : Bytes) → Type 0
+KeysLeft first whole levels before rest = (ps : Pairs) → ArePairsThemselves ps levels → LacksAll before ps → elements ps ≡ rest → IsDistinct bytes_eq before → ArePairsBehind first levels whole
+
+pub keys_step : (first : List Utf8) (whole : Bytes) (levels : ℕ) (before : List Utf8) (k : ElementType) (key value rest : Bytes) → KeysLeft first whole levels before (byte k ∷ (key ++ (0 ∷ (value ++ rest)))) → is_utf8 key ≡ true → has_zero key ≡ false
+    → EncodesItself k levels value → KeysLeft first whole levels (before ++ key ∷ []) rest
+keys_step first whole levels before k key value rest left text closed one ps all lacked is different =
+    let parts = distinct_last before key different in
+    pairs_step first whole levels before k key value rest (λ qs each none same. left qs each none same parts.1) text closed parts.0 one ps all lacked is
+
+pub keys_end : (first : List Utf8) (whole : Bytes) (levels : ℕ) (before : List Utf8) (rest : Bytes) → KeysLeft first whole levels before rest → rest ≡ [] → IsDistinct bytes_eq before → ArePairsBehind first levels whole
+keys_end first whole levels before rest left none different = left no_pairs tt (none_lacked before) (sym none) different
 
 -- the same for arrays
 abbrev pub TreesLeft : (whole : Bytes) → (levels index : ℕ) → (rest : Bytes) → Type 0

@@ -1,12 +1,15 @@
--- Keys that are different, and sets of keys.
-use Rattle.std.proofs.Common.{◌≡◌, [], ◌∷◌, ◌++◌, List, Bool, cond, true, false, refl, ap, sym, ◌∙◌}
-use Rattle.std.specs.Borrow.{Bor}
-use Rattle.std.specs.BTreeSet.{BTreeSet, contains_by}
-use Rattle.std.specs.Cmp.Lexicographic.{slice_cmp}
-use Rattle.std.specs.Ordering.{nat_cmp, is_eq}
-use Rattle.std.specs.Prelude.{not}
+-- Keys that are different.
+use Rattle.std.proofs.Common.{◌≡◌, [], ◌∷◌, ◌++◌, List, map, Bool, cond, true, false, Bor, refl, sym, ◌∙◌}
+use Rattle.std.specs.Cmp.{IsTotalOrder}
+use Rattle.std.specs.List.{AllByRecursion, IsDistinct}
+use Rattle.std.specs.List.Sorted.{IsStrictlySortedBy, IsPermutation}
+use Rattle.std.specs.Map.Iter.{deref}
+use Rattle.std.specs.Ordering.{eq_by_cmp}
 use Rattle.std.specs.Str.{bytes_eq}
 use Rattle.std.proofs.lemmas.Bool.Decides.{same_from_decides}
+use Rattle.std.proofs.lemmas.Cmp.{nat_list_cmp_total}
+use Rattle.std.proofs.lemmas.List.Sorted.{IsPermutation-sym}
+use Rattle.std.proofs.lemmas.Map.Keys.{IsDistinct-IsPermutation, IsDistinct-from_sorted}
 use Rattle.std.proofs.lemmas.Map.Text.{is_eq-slice_cmp}
 use Rattle.std.proofs.lemmas.Slice.Eq.{bytes_eq-Decides}
 use Rattle.bson_base.specs.Sound.{Lacks}
@@ -14,7 +17,7 @@ use Rattle.bson_base.specs.Text.{Utf8}
 use Rattle.bson_base.specs.Tree.{Tree, Pairs, pair}
 use Rattle.bson_base.proofs.Tests.{not_taken}
 use Rattle.bson_itself.specs.Encoded.{LacksAll}
-use Rattle.bson_itself.specs.Keys.{is_new, Knows}
+use Rattle.bson_itself.specs.Keys.{is_new, by_bytes}
 
 pub bytes_eq-swap : (xs ys : Utf8) → bytes_eq xs ys ≡ bytes_eq ys xs
 bytes_eq-swap xs ys = same_from_decides _ _ (bytes_eq-Decides xs ys) (λ e. sym ((bytes_eq-Decides ys xs).0 e), λ e. (bytes_eq-Decides ys xs).1 (sym e))
@@ -37,32 +40,46 @@ pub lacked_rest : (ks : List Utf8) (key : Utf8) (t : Tree) (ps : Pairs) → Lack
 lacked_rest [] key t ps h last = (last, tt)
 lacked_rest (k ∷ ks) key t ps h last = (h.0.1, lacked_rest ks key t ps h.1 last)
 
--- ---- sets of keys
+-- ---- keys that are different
 
-turned : (a b c : Bool) → cond a false (cond b false c) ≡ cond b false (cond a false c)
-turned true true c = refl
-turned true false c = refl
-turned false true c = refl
-turned false false c = refl
+unlike : (P : Utf8 → Type 0) (ks : List Utf8) (key : Utf8) → AllByRecursion P (ks ++ key ∷ []) → P key × AllByRecursion P ks
+unlike P [] key h = (h.0, tt)
+unlike P (k ∷ ks) key h = let rest = unlike P ks key h.1 in (rest.0, (h.0, rest.1))
 
-new_last : (key name : Utf8) (ks : List Utf8) → is_new key (ks ++ name ∷ []) ≡ cond (bytes_eq name key) false (is_new key ks)
-new_last key name [] = ap (λ c. cond c false true) (bytes_eq-swap key name)
-new_last key name (k ∷ ks) = ap (λ r. cond (bytes_eq key k) false r) (new_last key name ks) ∙ turned (bytes_eq key k) (bytes_eq name key) (is_new key ks)
+taken_false : (b c : Bool) → b ≡ false → c ≡ true → cond b false c ≡ true
+taken_false true c e h = sym e
+taken_false false c e h = h
 
-not_cond : (a b : Bool) → cond a false (not b) ≡ not (cond a true b)
-not_cond true b = refl
-not_cond false b = refl
+-- the last one is new, and those before it are different
+pub distinct_last : (ks : List Utf8) (key : Utf8) → IsDistinct bytes_eq (ks ++ key ∷ []) → (is_new key ks ≡ true) × IsDistinct bytes_eq ks
+unfolding IsDistinct
+distinct_last [] key d = (refl, tt)
+distinct_last (k ∷ ks) key d =
+    let first = unlike (λ y. bytes_eq k y ≡ false) ks key d.0 in
+    let rest = distinct_last ks key d.1 in
+    (taken_false (bytes_eq key k) (is_new key ks) (bytes_eq-swap key k ∙ first.0) rest.0, (first.1, rest.1))
 
--- a set that has one key more
-pub knows_more : (old new : BTreeSet (Bor Utf8)) (name : Bor Utf8) (names : List Utf8) → Knows old names
-    → ((q : Bor Utf8) → contains_by (λ k. slice_cmp nat_cmp q.now k.now) new ≡ cond (is_eq (slice_cmp nat_cmp name.now q.now)) true (contains_by (λ k. slice_cmp nat_cmp q.now k.now) old)) → Knows new (names ++ name.now ∷ [])
-knows_more old new name names known updates q =
-    new_last q.now name.now names
-    ∙ ap (cond (bytes_eq name.now q.now) false) (known q)
-    ∙ not_cond (bytes_eq name.now q.now) (contains_by (λ k. slice_cmp nat_cmp q.now k.now) old)
-    ∙ ap (λ c. not (cond c true (contains_by (λ k. slice_cmp nat_cmp q.now k.now) old))) (sym (is_eq-slice_cmp name.now q.now))
-    ∙ ap not (sym (updates q))
+-- ---- keys in order
 
--- a key that was added to a set is new
-pub added_new : (set : BTreeSet (Bor Utf8)) (q : Bor Utf8) (names : List Utf8) → Knows set names → true ≡ not (contains_by (λ k. slice_cmp nat_cmp q.now k.now) set) → is_new q.now names ≡ true
-added_new set q names known added = known q ∙ sym added
+pub ascending : IsTotalOrder by_bytes
+ascending = record {
+  antisymm = λ x y. nat_list_cmp_total.antisymm x.now y.now;
+  trans = λ x y z. nat_list_cmp_total.trans x.now y.now z.now;
+  congr = λ x y z. nat_list_cmp_total.congr x.now y.now z.now;
+}
+
+all_read : (x : Bor Utf8) (ks : List (Bor Utf8)) → AllByRecursion (λ y. eq_by_cmp by_bytes x y ≡ false) ks → AllByRecursion (λ y. bytes_eq x.now y ≡ false) (map deref ks)
+all_read x [] h = tt
+all_read x (k ∷ ks) h = (sym (is_eq-slice_cmp x.now k.now) ∙ h.0, all_read x ks h.1)
+
+distinct_read : (ks : List (Bor Utf8)) → IsDistinct (eq_by_cmp by_bytes) ks → IsDistinct bytes_eq (map deref ks)
+unfolding IsDistinct
+distinct_read [] h = tt
+distinct_read (k ∷ ks) h = (all_read k ks h.0, distinct_read ks h.1)
+
+-- keys that are ascending in another order are different
+pub different : (keys sorted : List (Bor Utf8)) → IsPermutation keys sorted → IsStrictlySortedBy by_bytes sorted → IsDistinct bytes_eq (map deref keys)
+different keys sorted moved rises =
+    distinct_read keys
+    (IsDistinct-IsPermutation (eq_by_cmp by_bytes) (λ x y. is_eq-slice_cmp x.now y.now ∙ bytes_eq-swap x.now y.now ∙ sym (is_eq-slice_cmp y.now x.now)) sorted keys (IsPermutation-sym keys sorted moved)
+    (IsDistinct-from_sorted by_bytes sorted rises))

@@ -1,11 +1,13 @@
 // Keys of documents and of arrays.
-ghost use Rattle.std.specs.Prelude.{◌≡◌, map, not, IfSome, IfOk, OnOk, ◌++◌, ◌∷◌, []};
+ghost use Rattle.std.specs.Prelude.{◌≡◌, map, IfSome, IsTrue};
+ghost use Rattle.std.specs.List.{IsDistinct};
+ghost use Rattle.std.specs.List.Sorted.{IsStrictlySortedBy};
 ghost use Rattle.std.specs.Map.Iter.{deref};
-ghost use Rattle.bson_itself.specs.Keys.{is_new, IsKey, Knows};
+ghost use Rattle.std.specs.Str.{bytes_eq};
+ghost use Rattle.bson_itself.specs.Keys.{is_new, by_bytes, IsKey};
 
 use bson_rawdoc::utf8::key_len;
-use std::alloc::{AllocError, Global};
-use std::collections::BTreeSet;
+use std::cmp::Ordering;
 
 // The key that begins these bytes, and what is behind its zero.
 #[inline(always)]
@@ -33,16 +35,23 @@ pub fn is_new(key: &str, names: &[&str]) -> bool
     true
 }
 
-// A set of these names. It is ordered, so that each look-up has a bound whatever the names are.
-pub(crate) fn known_names<'a>(
-    names: &[&'a str],
-    alloc: Global,
-) -> Result<BTreeSet<&'a str>, AllocError>
-    ensures { IfOk result (λ set. Knows set (map deref names.now)) }
+// Whether no two of these keys are the same. They are put in order, so that it takes so many comparisons as the logarithm of their number says for each,
+// whatever the keys are.
+pub(crate) fn are_different(keys: &mut [&str]) -> bool
+    ensures { IsTrue result → IsDistinct bytes_eq (map deref keys.old) }
 {
-    let mut known = BTreeSet::new(alloc);
-    for name in names {
-        known.insert(*name)?;
+    keys.sort_unstable();
+    are_ascending(keys)
+}
+
+// Whether each of these keys is less than the next one.
+fn are_ascending(keys: &[&str]) -> bool
+    ensures { IsTrue result → IsStrictlySortedBy by_bytes keys.now }
+{
+    for i in 1..keys.len() {
+        if keys[i - 1].cmp(keys[i]) != Ordering::Less {
+            return false;
+        }
     }
-    Ok(known)
+    true
 }

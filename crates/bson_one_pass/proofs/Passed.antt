@@ -1,5 +1,5 @@
 -- Values that are dropped: nothing in them is at fault.
-use Rattle.std.proofs.Common.{◌≡◌, ℕ, suc, ◌-◌, ◌≤◌, true, Ok, refl, ap, sym, subst, ◌∙◌, arith}
+use Rattle.std.proofs.Common.{◌≡◌, ℕ, suc, true, Ok, refl, ap, ◌∙◌}
 use Rattle.std.specs.Str.{is_utf8}
 use Rattle.bson_base.specs.Outcome.{◌>>=◌}
 use Rattle.bson_base.specs.Text.{Bytes, Utf8}

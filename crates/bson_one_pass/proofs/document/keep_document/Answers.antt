@@ -1,6 +1,5 @@
-use Rattle.std.proofs.Common.{Option, sym, subst, refl, arith}
+use Rattle.std.proofs.Common.{sym, subst, refl, arith}
 use Rattle.std.specs.Option.{IfSome}
-use Rattle.bson_base.specs.declared.element_type.ElementType.TheVariants.{EmbeddedDocument}
 use Rattle.bson_shape.specs.Form.{leaf}
 use Rattle.bson_shape.specs.declared.leaf.Leaf.TheVariants.{Any}
 use Rattle.bson_one_pass.specs.Recast.{IsRecastAs}

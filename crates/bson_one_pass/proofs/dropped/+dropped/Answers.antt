@@ -1,10 +1,9 @@
-use Rattle.std.proofs.Common.{◌≡◌, ◌-◌, Ok, ap, sym, subst, ◌∙◌, refl, arith}
-use Rattle.bson_rawdoc.specs.DocumentView.{document_bytes, array_bytes}
+use Rattle.std.proofs.Common.{◌≡◌, ◌-◌, Ok, ap, subst, ◌∙◌, refl, arith}
 use Rattle.bson_rawdoc.specs.Node.{node_in, nodes_with}
 use Rattle.bson_rawdoc.specs.Walk.{walk}
 use Rattle.bson_laws.specs.Judged.{plain, ignores}
 use Rattle.bson_one_pass.specs.Free.{ArePassed}
-use Rattle.bson_one_pass.proofs.Passed.{passed_step, none_left, document_passed, array_passed, scoped_passed}
+use Rattle.bson_one_pass.proofs.Passed.{passed_step, document_passed, array_passed, scoped_passed}
 use Rattle.bson_one_pass.proofs.dropped.+dropped.Goals as goal
 
 pub are_passed-loop-element-preserved : goal.are_passed-loop-element-preserved
