@@ -1,23 +1,21 @@
 -- Keys that are different.
-use Rattle.std.proofs.Common.{◌≡◌, [], ◌∷◌, ◌++◌, List, map, Bool, cond, true, false, Bor, refl, sym, ◌∙◌}
-use Rattle.std.specs.Cmp.{IsTotalOrder}
+use Rattle.std.proofs.Common.{◌≡◌, ℕ, [], ◌∷◌, ◌++◌, List, map, Bool, cond, true, false, refl, ap, sym, ◌∙◌}
 use Rattle.std.specs.List.{AllByRecursion, IsDistinct}
-use Rattle.std.specs.List.Sorted.{IsStrictlySortedBy, IsPermutation}
-use Rattle.std.specs.Map.Iter.{deref}
-use Rattle.std.specs.Ordering.{eq_by_cmp}
+use Rattle.std.specs.List.Sorted.{IsStrictlyIncreasing, IsPermutation}
+use Rattle.std.specs.Ordering.{eq_by_cmp, nat_cmp}
 use Rattle.std.specs.Str.{bytes_eq}
+use Rattle.std.proofs.lemmas.Bool.{false≢true}
 use Rattle.std.proofs.lemmas.Bool.Decides.{same_from_decides}
-use Rattle.std.proofs.lemmas.Cmp.{nat_list_cmp_total}
+use Rattle.std.proofs.lemmas.Cmp.{nat_cmp_total, eq_by_cmp_equiv}
 use Rattle.std.proofs.lemmas.List.Sorted.{IsPermutation-sym}
-use Rattle.std.proofs.lemmas.Map.Keys.{IsDistinct-IsPermutation, IsDistinct-from_sorted}
-use Rattle.std.proofs.lemmas.Map.Text.{is_eq-slice_cmp}
+use Rattle.std.proofs.lemmas.Map.Keys.{IsDistinct-IsPermutation, IsDistinct-from_sorted, sorted_from_strictly_increasing}
 use Rattle.std.proofs.lemmas.Slice.Eq.{bytes_eq-Decides}
 use Rattle.bson_base.specs.Sound.{Lacks}
 use Rattle.bson_base.specs.Text.{Utf8}
 use Rattle.bson_base.specs.Tree.{Tree, Pairs, pair}
 use Rattle.bson_base.proofs.Tests.{not_taken}
 use Rattle.bson_itself.specs.Encoded.{LacksAll}
-use Rattle.bson_itself.specs.Keys.{is_new, by_bytes}
+use Rattle.bson_itself.specs.Keys.{hash_of, is_new}
 
 pub bytes_eq-swap : (xs ys : Utf8) → bytes_eq xs ys ≡ bytes_eq ys xs
 bytes_eq-swap xs ys = same_from_decides _ _ (bytes_eq-Decides xs ys) (λ e. sym ((bytes_eq-Decides ys xs).0 e), λ e. (bytes_eq-Decides ys xs).1 (sym e))
@@ -59,27 +57,24 @@ distinct_last (k ∷ ks) key d =
     let rest = distinct_last ks key d.1 in
     (taken_false (bytes_eq key k) (is_new key ks) (bytes_eq-swap key k ∙ first.0) rest.0, (first.1, rest.1))
 
--- ---- keys in order
+-- ---- keys whose hashes are different
 
-pub ascending : IsTotalOrder by_bytes
-ascending = record {
-  antisymm = λ x y. nat_list_cmp_total.antisymm x.now y.now;
-  trans = λ x y z. nat_list_cmp_total.trans x.now y.now z.now;
-  congr = λ x y z. nat_list_cmp_total.congr x.now y.now z.now;
-}
+hashes_alike : (k y : Utf8) (b : Bool) → bytes_eq k y ≡ b → eq_by_cmp nat_cmp (hash_of k) (hash_of y) ≡ false → b ≡ false
+hashes_alike k y true same other =
+    let equal : k ≡ y = (bytes_eq-Decides k y).0 same in
+    absurd (false≢true (sym other ∙ ap (λ h. eq_by_cmp nat_cmp (hash_of k) (hash_of h)) (sym equal) ∙ (eq_by_cmp_equiv nat_cmp_total).refl (hash_of k)))
+hashes_alike k y false same other = refl
 
-all_read : (x : Bor Utf8) (ks : List (Bor Utf8)) → AllByRecursion (λ y. eq_by_cmp by_bytes x y ≡ false) ks → AllByRecursion (λ y. bytes_eq x.now y ≡ false) (map deref ks)
-all_read x [] h = tt
-all_read x (k ∷ ks) h = (sym (is_eq-slice_cmp x.now k.now) ∙ h.0, all_read x ks h.1)
+all_apart : (k : Utf8) (ks : List Utf8) → AllByRecursion (λ h. eq_by_cmp nat_cmp (hash_of k) h ≡ false) (map hash_of ks) → AllByRecursion (λ y. bytes_eq k y ≡ false) ks
+all_apart k [] h = tt
+all_apart k (y ∷ ks) h = (hashes_alike k y (bytes_eq k y) refl h.0, all_apart k ks h.1)
 
-distinct_read : (ks : List (Bor Utf8)) → IsDistinct (eq_by_cmp by_bytes) ks → IsDistinct bytes_eq (map deref ks)
+pub hashes_apart : (ks : List Utf8) → IsDistinct (eq_by_cmp nat_cmp) (map hash_of ks) → IsDistinct bytes_eq ks
 unfolding IsDistinct
-distinct_read [] h = tt
-distinct_read (k ∷ ks) h = (all_read k ks h.0, distinct_read ks h.1)
+hashes_apart [] h = tt
+hashes_apart (k ∷ ks) h = (all_apart k ks h.0, hashes_apart ks h.1)
 
--- keys that are ascending in another order are different
-pub different : (keys sorted : List (Bor Utf8)) → IsPermutation keys sorted → IsStrictlySortedBy by_bytes sorted → IsDistinct bytes_eq (map deref keys)
-different keys sorted moved rises =
-    distinct_read keys
-    (IsDistinct-IsPermutation (eq_by_cmp by_bytes) (λ x y. is_eq-slice_cmp x.now y.now ∙ bytes_eq-swap x.now y.now ∙ sym (is_eq-slice_cmp y.now x.now)) sorted keys (IsPermutation-sym keys sorted moved)
-    (IsDistinct-from_sorted by_bytes sorted rises))
+-- numbers that are ascending in another order are different
+pub different : (numbers sorted : List ℕ) → IsPermutation numbers sorted → IsStrictlyIncreasing sorted → IsDistinct (eq_by_cmp nat_cmp) numbers
+different numbers sorted moved rises =
+    IsDistinct-IsPermutation (eq_by_cmp nat_cmp) (eq_by_cmp_equiv nat_cmp_total).symm sorted numbers (IsPermutation-sym numbers sorted moved) (IsDistinct-from_sorted nat_cmp sorted (sorted_from_strictly_increasing sorted rises))

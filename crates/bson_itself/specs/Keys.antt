@@ -1,9 +1,6 @@
 -- Keys of documents and of arrays.
-use Rattle.std.specs.Prelude.{◌≡◌, List, [], ◌∷◌, ◌++◌, Bool, true, false, if◌then◌else◌}
-use Rattle.std.specs.Borrow.{Bor}
-use Rattle.std.specs.Cmp.Lexicographic.{slice_cmp}
-use Rattle.std.specs.Ordering.{nat_cmp}
-use Rattle.std.specs.declared.cmp.Ordering.{Ordering}
+use Rattle.std.specs.Prelude.{◌≡◌, ℕ, List, [], ◌∷◌, ◌++◌, Bool, true, false, if◌then◌else◌}
+use Rattle.std.specs.Hash.FoldHasher.{initial, write, finish}
 use Rattle.std.specs.Str.{is_utf8, bytes_eq}
 use Rattle.bson_base.specs.Text.{Bytes, Utf8, has_zero}
 
@@ -18,6 +15,6 @@ pub record IsKey (bytes : Bytes) (key behind : Bytes) : Type 0 where
   pub no_zero : has_zero key ≡ false
   pub parts : bytes ≡ key ++ 0 ∷ behind
 
--- the order of keys by their bytes
-abbrev pub by_bytes : Bor Utf8 → Bor Utf8 → Ordering
-by_bytes x y = slice_cmp nat_cmp x.now y.now
+-- the hash by which keys are told apart
+unfoldable pub hash_of : Utf8 → ℕ
+hash_of key = finish (write initial key)

@@ -7,7 +7,7 @@ ghost use Rattle.bson_shape.specs.declared.leaf.Leaf.TheVariants.{Any};
 ghost use Rattle.bson_itself.specs.Encoded.{EncodesItself, ArePairs, ArePairsBehind, AreTrees, IsFrame};
 ghost use Rattle.bson_itself.specs.Kept.{IsKept};
 
-use crate::keys::{are_different, is_new, key};
+use crate::keys::{are_different, hash_of, hashes_of, is_new, key};
 use crate::values::{binary_len, boolean_len, fixed_len, text_len};
 use arrayvec::ArrayVec;
 use bson_base::ElementType;
@@ -15,7 +15,7 @@ use bson_io::MOST;
 use bson_rawdoc::reading::{inside, is_closed, known_bytes, uint32_in};
 use std::alloc::Global;
 
-/// So many keys of a document are each compared with those before it; where there are more, they are put in order at its end.
+/// So many keys of a document are each compared with those before it; where there are more, their hashes are.
 const MOST_COMPARED: usize = 16;
 
 /// Whether a value of the kind in these bytes is written at `any` as these bytes, with so many levels of documents and arrays left.
@@ -141,7 +141,7 @@ fn are_pairs(bytes: &[u8], levels: u32, alloc: Global) -> bool
 fn are_more_pairs<'a>(names: &[&'a str], bytes: &'a [u8], levels: u32, alloc: Global) -> bool
     ensures { IsTrue result → ArePairsBehind (map deref names.now) levels bytes.now }
 {
-    let Ok(mut keys) = Vec::from_slice(alloc, names) else {
+    let Ok(mut hashes) = hashes_of(names, alloc) else {
         return false;
     };
     let mut rest = bytes;
@@ -149,7 +149,7 @@ fn are_more_pairs<'a>(names: &[&'a str], bytes: &'a [u8], levels: u32, alloc: Gl
         let Some((name, value)) = key(behind) else {
             return false;
         };
-        if keys.push(name).is_err() {
+        if hashes.push(hash_of(name)).is_err() {
             return false;
         }
         let Some(kind) = ElementType::from_byte(*byte) else {
@@ -161,7 +161,7 @@ fn are_more_pairs<'a>(names: &[&'a str], bytes: &'a [u8], levels: u32, alloc: Gl
         let (_, next) = value.split_at(size);
         rest = next;
     }
-    are_different(&mut keys)
+    are_different(&mut hashes)
 }
 
 // Whether these bytes are the elements of an array, whose keys are their indexes.

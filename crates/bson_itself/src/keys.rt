@@ -1,13 +1,14 @@
 // Keys of documents and of arrays.
-ghost use Rattle.std.specs.Prelude.{◌≡◌, map, IfSome, IsTrue};
+ghost use Rattle.std.specs.Prelude.{◌≡◌, map, IfOk, IfSome, IsTrue};
 ghost use Rattle.std.specs.List.{IsDistinct};
-ghost use Rattle.std.specs.List.Sorted.{IsStrictlySortedBy};
+ghost use Rattle.std.specs.List.Sorted.{IsStrictlyIncreasing};
 ghost use Rattle.std.specs.Map.Iter.{deref};
-ghost use Rattle.std.specs.Str.{bytes_eq};
-ghost use Rattle.bson_itself.specs.Keys.{is_new, by_bytes, IsKey};
+ghost use Rattle.std.specs.Ordering.{eq_by_cmp, nat_cmp};
+ghost use Rattle.bson_itself.specs.Keys.{hash_of, is_new, IsKey};
 
 use bson_rawdoc::utf8::key_len;
-use std::cmp::Ordering;
+use std::alloc::{AllocError, Global};
+use std::hash::{FoldHasher, Hasher};
 
 // The key that begins these bytes, and what is behind its zero.
 #[inline(always)]
@@ -35,21 +36,41 @@ pub fn is_new(key: &str, names: &[&str]) -> bool
     true
 }
 
-// Whether no two of these keys are the same. They are put in order, so that it takes so many comparisons as the logarithm of their number says for each,
-// whatever the keys are.
-pub(crate) fn are_different(keys: &mut [&str]) -> bool
-    ensures { IsTrue result → IsDistinct bytes_eq (map deref keys.old) }
+/// The hash by which keys are told apart.
+#[tactic(auto, unfolding(crate::specs::Keys::hash_of))]
+pub(crate) fn hash_of(key: &str) -> u64
+    ensures { result ≡ hash_of key.now }
 {
-    keys.sort_unstable();
-    are_ascending(keys)
+    let mut hasher = FoldHasher::default();
+    hasher.write(key.as_bytes());
+    hasher.finish()
 }
 
-// Whether each of these keys is less than the next one.
-fn are_ascending(keys: &[&str]) -> bool
-    ensures { IsTrue result → IsStrictlySortedBy by_bytes keys.now }
+// The hashes of these keys.
+pub(crate) fn hashes_of(keys: &[&str], alloc: Global) -> Result<Vec<u64>, AllocError>
+    ensures { IfOk result (λ v. v.items ≡ map hash_of (map deref keys.now)) }
 {
-    for i in 1..keys.len() {
-        if keys[i - 1].cmp(keys[i]) != Ordering::Less {
+    let mut hashes = Vec::with_capacity(alloc, 4 * keys.len())?;
+    for key in keys {
+        hashes.push(hash_of(key))?;
+    }
+    Ok(hashes)
+}
+
+// Whether no two of these numbers are the same. They are put in order.
+pub(crate) fn are_different(numbers: &mut [u64]) -> bool
+    ensures { IsTrue result → IsDistinct (eq_by_cmp nat_cmp) numbers.old }
+{
+    numbers.sort_unstable();
+    are_ascending(numbers)
+}
+
+// Whether each of these numbers is less than the next one.
+fn are_ascending(numbers: &[u64]) -> bool
+    ensures { IsTrue result → IsStrictlyIncreasing numbers.now }
+{
+    for i in 1..numbers.len() {
+        if numbers[i - 1] >= numbers[i] {
             return false;
         }
     }

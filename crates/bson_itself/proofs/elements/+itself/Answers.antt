@@ -2,14 +2,15 @@ use Rattle.std.proofs.Common.{◌≡◌, suc, ◌-◌, ◌∷◌, ◌++◌, [], 
 use Rattle.std.specs.Fmt.{decimal}
 use Rattle.std.specs.List.{IsDistinct}
 use Rattle.std.specs.Map.Iter.{deref}
-use Rattle.std.specs.Str.{bytes_eq}
+use Rattle.std.specs.Ordering.{eq_by_cmp, nat_cmp}
 use Rattle.std.proofs.lemmas.List.{map-append, nil_from_length}
 use Rattle.bson_base.specs.Kind.{byte}
 use Rattle.bson_base.specs.Text.{Bytes}
 use Rattle.bson_base.specs.declared.element_type.ElementType.TheVariants as kinds
 use Rattle.bson_itself.specs.Encoded.{IsText, IsPlainBinary, IsTrueOrFalse, ArePairs, AreTrees}
-use Rattle.bson_itself.specs.Keys.{is_new}
+use Rattle.bson_itself.specs.Keys.{hash_of, is_new}
 use Rattle.bson_itself.proofs.Left.{PairsLeft, pairs_end, pairs_step, KeysLeft, keys_end, keys_step, TreesLeft, trees_end, trees_step, element_first, same_bytes}
+use Rattle.bson_itself.proofs.Names.{hashes_apart}
 use Rattle.bson_itself.proofs.Parts.{fixed_one, made_one, text_one, binary_one, boolean_one, null_one, double_one, int32_one, int64_one, document_one, array_one}
 use Rattle.bson_itself.proofs.elements.+itself.Goals as goal
 
@@ -96,19 +97,22 @@ are_more_pairs-loop-rest-preserved t c =
     let whole = c.args.bytes.now in
     let levels = c.args.levels in
     let rest = c.loop-rest.rest.now in
-    let before = map deref c.loop-rest.keys.items in
+    let before = c.loop-rest.invariant.0 in
     let value = c.in-Some.value.now in
-    let name = c.in-Some.name in
+    let name = c.in-Some.name.now in
     let kind = c.in-Some-from_byte.kind in
     let n = c.in-Some-value_len.size in
     let back = c.split_at.result.1.now in
     let key = c.in-Some.ensures in
-    let there = element_first rest value kind n name.now back c.in-len1-up.len_at_least (sym c.in-Some-from_byte.ensures.kind) key c.split_at.ensures.back in
-    let step = keys_step first whole levels before kind name.now (take n value) back (subst (KeysLeft first whole levels before) there c.loop-rest.invariant) key.text key.no_zero c.in-Some-value_len.ensures.itself in
-    let more : c.push.new.self.items ≡ c.loop-rest.keys.items ++ name ∷ [] = search rules in
-    subst (λ ks. KeysLeft first whole levels ks back) (sym (ap (map deref) more ∙ map-append deref c.loop-rest.keys.items (name ∷ []))) step
+    let there = element_first rest value kind n name back c.in-len1-up.len_at_least (sym c.in-Some-from_byte.ensures.kind) key c.split_at.ensures.back in
+    let more : c.push.new.self.items ≡ c.loop-rest.hashes.items ++ c.hash_of.result ∷ [] = search rules in (
+      before ++ name ∷ [],
+      more ∙ (λ i. c.loop-rest.invariant.1 i ++ c.hash_of.ensures i ∷ []) ∙ sym (map-append hash_of before (name ∷ [])),
+      keys_step first whole levels before kind name (take n value) back (subst (KeysLeft first whole levels before) there c.loop-rest.invariant.2) key.text key.no_zero c.in-Some-value_len.ensures.itself,
+    )
 
 pub are_more_pairs-returns : goal.are_more_pairs-returns
 are_more_pairs-returns t c = λ h.
-    keys_end (map deref c.args.names.now) c.args.bytes.now c.args.levels (map deref c.loop-rest.keys.items) c.loop-rest.rest.now c.loop-rest.invariant (nil_from_length c.loop-rest.rest.now (omega arith))
-    (subst (λ ks. IsDistinct bytes_eq (map deref ks)) c.deref_mut.ensures.value (c.are_different.ensures h))
+    let before = c.loop-rest.invariant.0 in
+    keys_end (map deref c.args.names.now) c.args.bytes.now c.args.levels before c.loop-rest.rest.now c.loop-rest.invariant.2 (nil_from_length c.loop-rest.rest.now (omega arith))
+    (hashes_apart before (subst (IsDistinct (eq_by_cmp nat_cmp)) (c.deref_mut.ensures.value ∙ c.loop-rest.invariant.1) (c.are_different.ensures h)))

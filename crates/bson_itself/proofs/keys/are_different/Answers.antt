@@ -2,4 +2,4 @@ use Rattle.bson_itself.proofs.Names.{different}
 use Rattle.bson_itself.proofs.keys.are_different.Goals as goal
 
 pub returns : goal.returns
-returns c = λ h. different c.args.keys.now c.sort_unstable.new.self c.sort_unstable.ensures.permutation (c.are_ascending.ensures h)
+returns c = λ h. different c.args.numbers.now c.sort_unstable.new.self c.sort_unstable.ensures.permutation (c.are_ascending.ensures h)
