@@ -14,10 +14,10 @@ use Rattle.bson_base.specs.Tree.{Pairs, no_pairs, pair, Trees, no_trees, tree, k
 use Rattle.bson_base.specs.declared.element_type.ElementType.{ElementType}
 use Rattle.bson_base.proofs.Outcomes.{some_is}
 use Rattle.bson_rawdoc.specs.Extent.{in_front, cut_at_zero}
-use Rattle.bson_itself.specs.Encoded.{EncodesItself, ArePairsBehind, AreTrees, LacksAll}
+use Rattle.bson_itself.specs.Encoded.{EncodesItself, ArePairs, AreTrees}
 use Rattle.bson_itself.specs.Itself.{ArePairsThemselves, AreTreesThemselves}
-use Rattle.bson_itself.specs.Keys.{is_new, IsKey}
-use Rattle.bson_itself.proofs.Names.{lacked_last, lacked_pair, distinct_last}
+use Rattle.bson_itself.specs.Keys.{IsKey}
+use Rattle.bson_itself.proofs.Names.{LacksAll, lacked_last, lacked_pair, distinct_last}
 
 -- ---- kinds
 
@@ -35,43 +35,31 @@ byte_is b k e = byte_among b all_kinds k e
 
 -- ---- the elements that are left
 
--- whatever pairs the rest is, with them the whole is pairs behind those of the first keys
-abbrev pub PairsLeft : (first : List Utf8) → (whole : Bytes) → (levels : ℕ) → (before : List Utf8) → (rest : Bytes) → Type 0
-PairsLeft first whole levels before rest = (ps : Pairs) → ArePairsThemselves ps levels → LacksAll before ps → elements ps ≡ rest → ArePairsBehind first levels whole
+-- Whatever pairs the rest is, with them the whole is pairs, if the keys of those before them are different.
+abbrev pub PairsLeft : (whole : Bytes) → (levels : ℕ) → (before : List Utf8) → (rest : Bytes) → Type 0
+PairsLeft whole levels before rest = (ps : Pairs) → ArePairsThemselves ps levels → LacksAll before ps → elements ps ≡ rest → IsDistinct bytes_eq before → ArePairs levels whole
 
-pub pairs_first : (first : List Utf8) (whole : Bytes) (levels : ℕ) → PairsLeft first whole levels first whole
-pairs_first first whole levels ps all lacked is = (ps, all, lacked, is)
+pub pairs_first : (whole : Bytes) (levels : ℕ) → PairsLeft whole levels [] whole
+pairs_first whole levels ps all lacked is different = (ps, all, is)
 
 none_lacked : (ks : List Utf8) → LacksAll ks no_pairs
 none_lacked [] = tt
 none_lacked (k ∷ ks) = (tt, none_lacked ks)
 
-pub pairs_end : (first : List Utf8) (whole : Bytes) (levels : ℕ) (before : List Utf8) (rest : Bytes) → PairsLeft first whole levels before rest → rest ≡ [] → ArePairsBehind first levels whole
-pairs_end first whole levels before rest left none = left no_pairs tt (none_lacked before) (sym none)
+pub pairs_end : (whole : Bytes) (levels : ℕ) (before : List Utf8) (rest : Bytes) → PairsLeft whole levels before rest → rest ≡ [] → IsDistinct bytes_eq before → ArePairs levels whole
+pairs_end whole levels before rest left none different = left no_pairs tt (none_lacked before) (sym none) different
 
-pub element_before : (k : ℕ) (key value more : Bytes) → (k ∷ (key ++ (0 ∷ value))) ++ more ≡ k ∷ (key ++ (0 ∷ (value ++ more)))
+element_before : (k : ℕ) (key value more : Bytes) → (k ∷ (key ++ (0 ∷ value))) ++ more ≡ k ∷ (key ++ (0 ∷ (value ++ more)))
 element_before k key value more = ap (λ (b : Bytes). k ∷ b) (append_assoc key (0 ∷ value) more)
 
 -- one more: its kind, its key, its value
-pub pairs_step : (first : List Utf8) (whole : Bytes) (levels : ℕ) (before : List Utf8) (k : ElementType) (key value rest : Bytes) → PairsLeft first whole levels before (byte k ∷ (key ++ (0 ∷ (value ++ rest)))) → is_utf8 key ≡ true → has_zero key ≡ false
-    → is_new key before ≡ true → EncodesItself k levels value → PairsLeft first whole levels (before ++ key ∷ []) rest
-pairs_step first whole levels before k key value rest left text closed new one ps all lacked is =
-    left (pair key one.0 ps) (text, closed, lacked_last before key ps lacked, one.2, all) (lacked_pair before key one.0 ps new lacked)
-    (element_before (byte (kind one.0)) key (enc one.0) (elements ps)
-    ∙ (λ i. byte (one.1 i) ∷ (key ++ (0 ∷ (one.3 i ++ is i)))))
-
--- the same where it is known at the end alone that the keys are different
-abbrev pub KeysLeft : (first : List Utf8) → (whole : Bytes) → (levels : ℕ) → (before : List Utf8) → (rest : Bytes) → Type 0
-KeysLeft first whole levels before rest = (ps : Pairs) → ArePairsThemselves ps levels → LacksAll before ps → elements ps ≡ rest → IsDistinct bytes_eq before → ArePairsBehind first levels whole
-
-pub keys_step : (first : List Utf8) (whole : Bytes) (levels : ℕ) (before : List Utf8) (k : ElementType) (key value rest : Bytes) → KeysLeft first whole levels before (byte k ∷ (key ++ (0 ∷ (value ++ rest)))) → is_utf8 key ≡ true → has_zero key ≡ false
-    → EncodesItself k levels value → KeysLeft first whole levels (before ++ key ∷ []) rest
-keys_step first whole levels before k key value rest left text closed one ps all lacked is different =
+pub pairs_step : (whole : Bytes) (levels : ℕ) (before : List Utf8) (k : ElementType) (key value rest : Bytes) → PairsLeft whole levels before (byte k ∷ (key ++ (0 ∷ (value ++ rest)))) → is_utf8 key ≡ true → has_zero key ≡ false
+    → EncodesItself k levels value → PairsLeft whole levels (before ++ key ∷ []) rest
+pairs_step whole levels before k key value rest left text closed one ps all lacked is different =
     let parts = distinct_last before key different in
-    pairs_step first whole levels before k key value rest (λ qs each none same. left qs each none same parts.1) text closed parts.0 one ps all lacked is
-
-pub keys_end : (first : List Utf8) (whole : Bytes) (levels : ℕ) (before : List Utf8) (rest : Bytes) → KeysLeft first whole levels before rest → rest ≡ [] → IsDistinct bytes_eq before → ArePairsBehind first levels whole
-keys_end first whole levels before rest left none different = left no_pairs tt (none_lacked before) (sym none) different
+    left (pair key one.0 ps) (text, closed, lacked_last before key ps lacked, one.2, all) (lacked_pair before key one.0 ps parts.0 lacked)
+    (element_before (byte (kind one.0)) key (enc one.0) (elements ps)
+    ∙ (λ i. byte (one.1 i) ∷ (key ++ (0 ∷ (one.3 i ++ is i))))) parts.1
 
 -- the same for arrays
 abbrev pub TreesLeft : (whole : Bytes) → (levels index : ℕ) → (rest : Bytes) → Type 0

@@ -1,4 +1,5 @@
-mod Names
+pub mod Names
+mod More
 mod Parts
 mod Left
 mod Law

@@ -14,13 +14,17 @@ use Rattle.bson_base.specs.Sound.{Lacks}
 use Rattle.bson_base.specs.Text.{Utf8}
 use Rattle.bson_base.specs.Tree.{Tree, Pairs, pair}
 use Rattle.bson_base.proofs.Tests.{not_taken}
-use Rattle.bson_itself.specs.Encoded.{LacksAll}
 use Rattle.bson_itself.specs.Keys.{hash_of, is_new}
 
 pub bytes_eq-swap : (xs ys : Utf8) → bytes_eq xs ys ≡ bytes_eq ys xs
 bytes_eq-swap xs ys = same_from_decides _ _ (bytes_eq-Decides xs ys) (λ e. sym ((bytes_eq-Decides ys xs).0 e), λ e. (bytes_eq-Decides ys xs).1 (sym e))
 
 -- ---- pairs that lack keys
+
+-- no pair has one of the keys
+abbrev pub LacksAll : List Utf8 → Pairs → Type 0
+LacksAll [] ps = Unit {0}
+LacksAll (k ∷ ks) ps = Lacks k ps × LacksAll ks ps
 
 pub lacked_last : (ks : List Utf8) (key : Utf8) (ps : Pairs) → LacksAll (ks ++ key ∷ []) ps → Lacks key ps
 lacked_last [] key ps h = h.0
@@ -78,3 +82,19 @@ hashes_apart (k ∷ ks) h = (all_apart k ks h.0, hashes_apart ks h.1)
 pub different : (numbers sorted : List ℕ) → IsPermutation numbers sorted → IsStrictlyIncreasing sorted → IsDistinct (eq_by_cmp nat_cmp) numbers
 different numbers sorted moved rises =
     IsDistinct-IsPermutation (eq_by_cmp nat_cmp) (eq_by_cmp_equiv nat_cmp_total).symm sorted numbers (IsPermutation-sym numbers sorted moved) (IsDistinct-from_sorted nat_cmp sorted (sorted_from_strictly_increasing sorted rises))
+
+-- a new key behind different ones
+all_more : (P : Utf8 → Type 0) (ks : List Utf8) (key : Utf8) → AllByRecursion P ks → P key → AllByRecursion P (ks ++ key ∷ [])
+all_more P [] key h last = (last, tt)
+all_more P (k ∷ ks) key h last = (h.0, all_more P ks key h.1 last)
+
+pub distinct_more : (ks : List Utf8) (key : Utf8) → is_new key ks ≡ true → IsDistinct bytes_eq ks → IsDistinct bytes_eq (ks ++ key ∷ [])
+unfolding IsDistinct
+distinct_more [] key new d = (tt, tt)
+distinct_more (k ∷ ks) key new d =
+    let parts = not_taken (bytes_eq key k) (is_new key ks) new in
+    (all_more (λ y. bytes_eq k y ≡ false) ks key d.0 (bytes_eq-swap k key ∙ parts.0), distinct_more ks key parts.1 d.1)
+
+pub distinct_none : IsDistinct bytes_eq []
+unfolding IsDistinct
+distinct_none = tt

@@ -154,7 +154,7 @@ pub int64_one : (levels : ℕ) (b : Bytes) → AreBytes b → length b ≡ 8 →
 int64_one levels b all eight = (int64 (int64_in b), refl, int64_fits b, int64_bytes b all eight)
 
 pub document_one : (levels m : ℕ) (b : Bytes) → levels ≡ suc m → IsFrame b → ArePairs m (inside b) → EncodesItself kinds.EmbeddedDocument levels b
-document_one levels m b e frame ps = (document ps.0, refl, subst (λ n. IsItself (document ps.0) n) (sym e) ps.1, ap enclosed ps.3 ∙ frame)
+document_one levels m b e frame ps = (document ps.0, refl, subst (λ n. IsItself (document ps.0) n) (sym e) ps.1, ap enclosed ps.2 ∙ frame)
 
 pub array_one : (levels m : ℕ) (b : Bytes) → levels ≡ suc m → IsFrame b → AreTrees m (inside b) → EncodesItself kinds.Array levels b
 array_one levels m b e frame ts = (array ts.0, refl, subst (λ n. IsItself (array ts.0) n) (sym e) ts.1, ap enclosed ts.2 ∙ frame)

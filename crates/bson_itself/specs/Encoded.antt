@@ -1,7 +1,7 @@
 -- The bytes of trees that are written as they were read, and of their parts. It is for the contracts of the functions that look for them; what callers are told is in `Kept`.
-use Rattle.std.specs.Prelude.{◌≡◌, ℕ, ◌≤◌, List, [], ◌∷◌, length, Bool, true}
+use Rattle.std.specs.Prelude.{◌≡◌, ℕ, ◌≤◌, length, Bool, true}
 use Rattle.std.specs.Str.{is_utf8}
-use Rattle.bson_base.specs.Sound.{max_binary, Lacks}
+use Rattle.bson_base.specs.Sound.{max_binary}
 use Rattle.bson_base.specs.Text.{Bytes, Utf8}
 use Rattle.bson_base.specs.Tree.{Tree, boolean, Pairs, Trees, kind, enc, elements, array_elements, closed_text, enclosed, after_length}
 use Rattle.bson_base.specs.declared.element_type.ElementType.{ElementType}
@@ -12,18 +12,9 @@ use Rattle.bson_itself.specs.Itself.{IsItself, ArePairsThemselves, AreTreesThems
 abbrev pub EncodesItself : ElementType → (levels : ℕ) → Bytes → Type 0
 EncodesItself k levels b = (t : Tree) × (kind t ≡ k) × IsItself t levels × (enc t ≡ b)
 
--- no pair has one of the keys
-abbrev pub LacksAll : List Utf8 → Pairs → Type 0
-LacksAll [] ps = Unit {0}
-LacksAll (k ∷ ks) ps = Lacks k ps × LacksAll ks ps
-
--- the bytes of the elements of such a document that come behind those of these keys
-abbrev pub ArePairsBehind : (before : List Utf8) → (levels : ℕ) → Bytes → Type 0
-ArePairsBehind before levels b = (ps : Pairs) × ArePairsThemselves ps levels × LacksAll before ps × (elements ps ≡ b)
-
 -- the bytes of the elements of such a document
 abbrev pub ArePairs : (levels : ℕ) → Bytes → Type 0
-ArePairs levels b = ArePairsBehind [] levels b
+ArePairs levels b = (ps : Pairs) × ArePairsThemselves ps levels × (elements ps ≡ b)
 
 -- the bytes of the elements of such an array
 abbrev pub AreTrees : (levels : ℕ) → Bytes → Type 0

@@ -1,22 +1,17 @@
 // The elements of documents and arrays, one by one.
-ghost use Rattle.std.specs.Prelude.{◌≡◌, ◌≤◌, take, length, map, IfSome, IsTrue};
-ghost use Rattle.std.specs.Map.Iter.{deref};
+ghost use Rattle.std.specs.Prelude.{◌≡◌, ◌≤◌, take, length, IfSome, IsTrue};
 ghost use Rattle.bson_base.specs.declared.element_type.ElementType.TheVariants as kinds;
 ghost use Rattle.bson_shape.specs.Form.{leaf};
 ghost use Rattle.bson_shape.specs.declared.leaf.Leaf.TheVariants.{Any};
-ghost use Rattle.bson_itself.specs.Encoded.{EncodesItself, ArePairs, ArePairsBehind, AreTrees, IsFrame};
+ghost use Rattle.bson_itself.specs.Encoded.{EncodesItself, ArePairs, AreTrees, IsFrame};
 ghost use Rattle.bson_itself.specs.Kept.{IsKept};
 
-use crate::keys::{are_different, hash_of, hashes_of, is_new, key};
+use crate::keys::{MetKeys, key};
 use crate::values::{binary_len, boolean_len, fixed_len, text_len};
-use arrayvec::ArrayVec;
 use bson_base::ElementType;
 use bson_io::MOST;
 use bson_rawdoc::reading::{inside, is_closed, known_bytes, uint32_in};
 use std::alloc::Global;
-
-/// So many keys of a document are each compared with those before it; where there are more, their hashes are.
-const MOST_COMPARED: usize = 16;
 
 /// Whether a value of the kind in these bytes is written at `any` as these bytes, with so many levels of documents and arrays left.
 ///
@@ -110,46 +105,13 @@ fn array_len(bytes: &[u8], levels: u32, alloc: Global) -> Option<usize>
 fn are_pairs(bytes: &[u8], levels: u32, alloc: Global) -> bool
     ensures { IsTrue result → ArePairs levels bytes.now }
 {
-    let mut names = ArrayVec::<&str, MOST_COMPARED>::new();
-    let mut rest = bytes;
-    while let [byte, behind @ ..] = rest {
-        if names.is_full() {
-            return are_more_pairs(names.as_slice(), rest, levels, alloc);
-        }
-        let Some((name, value)) = key(behind) else {
-            return false;
-        };
-        if !is_new(name, names.as_slice()) {
-            return false;
-        }
-        let Some(kind) = ElementType::from_byte(*byte) else {
-            return false;
-        };
-        let Some(size) = value_len(kind, value, levels, alloc) else {
-            return false;
-        };
-        names.push(name);
-        let (_, next) = value.split_at(size);
-        rest = next;
-    }
-    true
-}
-
-// Whether these bytes are the elements of a document that come behind those of these keys.
-#[inline(never)]
-#[cycle(itself)]
-fn are_more_pairs<'a>(names: &[&'a str], bytes: &'a [u8], levels: u32, alloc: Global) -> bool
-    ensures { IsTrue result → ArePairsBehind (map deref names.now) levels bytes.now }
-{
-    let Ok(mut hashes) = hashes_of(names, alloc) else {
-        return false;
-    };
+    let mut keys = MetKeys::new(alloc);
     let mut rest = bytes;
     while let [byte, behind @ ..] = rest {
         let Some((name, value)) = key(behind) else {
             return false;
         };
-        if hashes.push(hash_of(name)).is_err() {
+        if !keys.add(name) {
             return false;
         }
         let Some(kind) = ElementType::from_byte(*byte) else {
@@ -161,7 +123,7 @@ fn are_more_pairs<'a>(names: &[&'a str], bytes: &'a [u8], levels: u32, alloc: Gl
         let (_, next) = value.split_at(size);
         rest = next;
     }
-    are_different(&mut hashes)
+    keys.are_different()
 }
 
 // Whether these bytes are the elements of an array, whose keys are their indexes.

@@ -6,4 +6,4 @@ mod keys;
 mod values;
 
 pub use elements::is_itself;
-pub use keys::is_new;
+pub use keys::MetKeys;

@@ -1,8 +1,7 @@
 -- Recasting the entries of a map one by one.
-use Rattle.std.proofs.Common.{◌≡◌, ℕ, suc, List, [], ◌∷◌, ◌++◌, true, false, cond, map, Option, Ok, Bor, refl, ap, sym, subst, ◌∙◌}
-use Rattle.std.specs.Map.Iter.{deref}
+use Rattle.std.proofs.Common.{◌≡◌, ℕ, suc, List, [], ◌∷◌, ◌++◌, true, false, cond, Option, Ok, Bor, refl, ap, sym, subst, ◌∙◌}
 use Rattle.std.specs.Str.{bytes_eq}
-use Rattle.std.proofs.lemmas.List.{append_assoc, append-nil, map-append}
+use Rattle.std.proofs.lemmas.List.{append_assoc, append-nil}
 use Rattle.bson_base.specs.Text.{Bytes, Utf8, has_zero}
 use Rattle.bson_base.specs.Tree as tree
 use Rattle.bson_base.specs.Tree.{Tree, Pairs, no_pairs, pair, enc, kind, element, elements, enclosed}
@@ -92,9 +91,9 @@ entry_read : (key : Leaf) (s : Form) (levels : ℕ) (before : MarkedEntries) (na
 entry_read key s levels before name n ns k v is read = rw (is, read) refl
 
 -- an element of a new key was put
-pub entry_step : (key : Leaf) (s : Form) (levels : ℕ) (whole : Option Pairs) (names : List (Bor Utf8)) (name : Bor Utf8) (old_walk new_walk : Walk) (e : Element) (old made new : Bytes) → takes_keys key ≡ true → old_walk ≡ then_walk e new_walk
-    → AreEntriesPut key s levels whole (nodes_with (node_in levels) old_walk) (map deref names) old made → name.now ≡ e.key → is_new name.now (map deref names) ≡ true → has_zero name.now ≡ false
-    → IsElementPut (recast_node s levels (node_in levels e.kind e.value)) name.now made new → AreEntriesPut key s levels whole (nodes_with (node_in levels) new_walk) (map deref (names ++ name ∷ [])) old new
+pub entry_step : (key : Leaf) (s : Form) (levels : ℕ) (whole : Option Pairs) (names : List Utf8) (name : Bor Utf8) (old_walk new_walk : Walk) (e : Element) (old made new : Bytes) → takes_keys key ≡ true → old_walk ≡ then_walk e new_walk
+    → AreEntriesPut key s levels whole (nodes_with (node_in levels) old_walk) names old made → name.now ≡ e.key → is_new name.now names ≡ true → has_zero name.now ≡ false
+    → IsElementPut (recast_node s levels (node_in levels e.kind e.value)) name.now made new → AreEntriesPut key s levels whole (nodes_with (node_in levels) new_walk) (names ++ name.now ∷ []) old new
 entry_step key s levels whole names name old_walk new_walk e old made new takes step p key_is new_key closed h =
     let n = node_in levels e.kind e.value in
     let ns = nodes_with (node_in levels) new_walk in
@@ -108,8 +107,8 @@ entry_step key s levels whole names name old_walk new_walk e old made new takes 
           ∙ ap (λ w. recast_entries key s p.before levels (nodes_with (node_in levels) w)) step
           ∙ ap (λ b. recast_entries key s p.before levels (then_node (borrowed b) n ns)) (sym key_is)
           ∙ entry_read key s levels p.before name.now n ns k.value q.0 k.read q.2;
-      written = subst (λ l. AreEntries levels (put_entry k.value q.0 p.before) l (p.bytes ++ el)) (sym (map-append deref names (name ∷ [])))
-          (entries_more levels k.value q.0 name.now el p.before (map deref names) p.bytes (record { tree = q.1; text = k.text; spelled = q.3; closed = closed; bytes_are = refl }) new_key p.written);
+      written =
+          (entries_more levels k.value q.0 name.now el p.before names p.bytes (record { tree = q.1; text = k.text; spelled = q.3; closed = closed; bytes_are = refl }) new_key p.written);
       put = q.4 ∙ ap (λ b. b ++ el) p.put ∙ append_assoc old p.bytes el;
     }
 

@@ -16,7 +16,7 @@ use std::alloc::Global;
 ///
 /// `None` says nothing of the document: it is for the shapes and documents that the pass does not take, for those that are refused, and where memory runs
 /// out. It takes structs whose fields the document has in the shape's order, options, sequences, tuples, tuple structs, newtypes, unit structs, texts at the
-/// unit variants of enums, maps of at most 16 different keys at `str` or `string`, and the leaves `bool`, `double`, `unit`, `str`, `string`, `bytes`,
+/// unit variants of enums, maps of different keys at `str` or `string`, and the leaves `bool`, `double`, `unit`, `str`, `string`, `bytes`,
 /// `bytebuf`, `oid`, `datetime`, `timestamp`, `decimal`, `binary`, `uuid` and those of integers, where the value is of the kind of the leaf. It takes no
 /// binary of the old subtype 2. At `any` it takes what is written as it was read: values without an extended value in them, whose arrays have their indexes as
 /// keys and whose documents have no key twice.

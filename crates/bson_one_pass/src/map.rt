@@ -10,14 +10,10 @@ ghost use Rattle.bson_one_pass.specs.Put.{recast_node, recast_entries, IsPut, Ar
 
 use crate::array::recast_item;
 use crate::bytes::{close, put};
-use arrayvec::ArrayVec;
 use bson_base::{ElementType, has_zero};
-use bson_itself::is_new;
+use bson_itself::MetKeys;
 use bson_rawdoc::{RawDocument, RawIter};
 use bson_shape::{Leaf, Shape};
-
-/// The most entries of a map that the pass takes: each key is compared with those before it.
-const MAX_ENTRIES: usize = 16;
 
 /// The document at a map whose keys are at a leaf, and whose values have this shape.
 #[cycle(recast)]
@@ -61,17 +57,22 @@ fn recast_entries(
     ensures { IfSome result (λ _. ArePairsPut (recast_entries key shape.now no_entries levels (nodes_with (node_in levels) elements.entry))
         made.old.items made.new.items) }
 {
-    let mut names = ArrayVec::<&str, MAX_ENTRIES>::new();
+    let mut keys = MetKeys::new(*made.allocator());
     for element in elements {
         let Ok(element) = element else {
             return None;
         };
         let name = element.key();
-        if names.is_full() || has_zero(name) || !is_new(name, names.as_slice()) {
+        if has_zero(name) {
+            return None;
+        }
+        if !keys.add(name) {
             return None;
         }
         recast_item(made, shape, levels, &element, name)?;
-        names.push(name);
+    }
+    if !keys.are_different() {
+        return None;
     }
     Some(())
 }

@@ -1,7 +1,7 @@
-use Rattle.std.proofs.Common.{◌≡◌, suc, ◌+◌, ◌-◌, ◌*◌, ◌<◌, ◌++◌, [], ◌∷◌, length, get_or, take, drop, map, ap, sym, ◌∙◌, arith, rules}
+use Rattle.std.proofs.Common.{◌≡◌, suc, ◌+◌, ◌-◌, ◌*◌, ◌<◌, ◌++◌, [], ◌∷◌, length, get_or, take, drop, refl, ap, sym, ◌∙◌, arith, rules}
 use Rattle.std.specs.Fmt.{decimal}
 use Rattle.std.specs.Str.{bytes_eq}
-use Rattle.std.specs.Map.Iter.{deref}
+use Rattle.bson_itself.proofs.Names.{distinct_last}
 use Rattle.bson_base.specs.Tree.{enclosed}
 use Rattle.bson_rawdoc.specs.DocumentView.{array_bytes, document_bytes}
 use Rattle.bson_rawdoc.specs.Node.{inner_node, node_in, nodes_with, value_node}
@@ -166,18 +166,27 @@ pub map::recast_entries-loop-element-preserved : goal.map::recast_entries-loop-e
 map::recast_entries-loop-element-preserved t c =
     let s = c.args.shape.now in
     let levels = c.args.levels in
-    let step = rw c.in-Ok.is at c.in-Some.ensures.steps in (
+    let step = rw c.in-Ok.is at c.in-Some.ensures.steps in
+    let met = c.loop-element.invariant.2 in
+    let name = c.key-name.result in (
       tt,
       tt,
-      rw c.push.ensures.items
-          (entry_step c.args.key s levels (recast_entries c.args.key s no_entries levels (nodes_with (node_in levels) c.args.elements)) c.loop-element.names.items c.key-name.result c.loop-element.element-iterator c.next.new.self c.in-Ok.element
-          c.args.made.now.items c.loop-element.made.items c.recast_item.new.made.items c.requires.keys step c.loop-element.invariant.2 c.key-name.ensures.key (search rules) (search rules) c.in_ok-recast_item.ensures),
+      (
+        met.0 ++ name.now ∷ [],
+        c.if-not-add.ensures.added refl met.0 met.1,
+        λ different.
+            let parts = distinct_last met.0 name.now different in
+            entry_step c.args.key s levels (recast_entries c.args.key s no_entries levels (nodes_with (node_in levels) c.args.elements)) met.0 name c.loop-element.element-iterator c.next.new.self c.in-Ok.element c.args.made.now.items
+            c.loop-element.made.items c.recast_item.new.made.items c.requires.keys step (met.2 parts.1) c.key-name.ensures.key parts.0 (search rules) c.in_ok-recast_item.ensures,
+      ),
     )
 
 pub map::recast_entries-returns : goal.map::recast_entries-returns
 map::recast_entries-returns t c =
     let whole = recast_entries c.args.key c.args.shape.now no_entries c.args.levels (nodes_with (node_in c.args.levels) c.args.elements) in
-    entries_end c.args.key c.args.shape.now c.args.levels whole (map deref c.loop-element.names.items) c.args.made.now.items c.loop-element.made.items (rw c.in-None.ensures.steps.0 at c.loop-element.invariant.2)
+    let met = c.loop-element.invariant.2 in
+    let put = met.2 (c.if-not-are_different.ensures.different refl met.0 met.1) in
+    entries_end c.args.key c.args.shape.now c.args.levels whole met.0 c.args.made.now.items c.loop-element.made.items (rw c.in-None.ensures.steps.0 at put)
 
 pub map::recast_map-returns : goal.map::recast_map-returns
 map::recast_map-returns t c =

@@ -1,5 +1,8 @@
-use Rattle.std.proofs.Common.{◌≡◌, ◌+◌, ◌*◌, ◌-◌, ◌≤◌, length, drop, map}
-use Rattle.std.specs.Map.Iter.{deref}
+use Rattle.std.proofs.Common.{◌≡◌, ◌+◌, ◌*◌, ◌-◌, ◌≤◌, length, drop, List}
+use Rattle.std.specs.List.{IsDistinct}
+use Rattle.std.specs.Str.{bytes_eq}
+use Rattle.bson_base.specs.Text.{Utf8}
+use Rattle.bson_itself.specs.Met.{HasKeys}
 use Rattle.bson_rawdoc.specs.Node.{ended, node_in, nodes_with}
 use Rattle.bson_shape.specs.ShapeView.{fields_of, parts_of, nodes, fields_nodes, parts_nodes}
 use Rattle.bson_datum.specs.Value.{no_entries}
@@ -75,4 +78,5 @@ invariant-tuple::recast_parts-loop-part l =
 abbrev pub invariant-map::recast_entries-loop-element : goal.invariant-map::recast_entries-loop-element
 invariant-map::recast_entries-loop-element l =
     (goal.iterator-map::recast_entries-loop-element).can_next l.element-iterator × (goal.iterator-map::recast_entries-loop-element).is_finite l.element-iterator
-    × AreEntriesPut l.fn.key l.shape l.levels (recast_entries l.fn.key l.shape no_entries l.levels (nodes_with (node_in l.levels) l.fn.elements)) (nodes_with (node_in l.levels) l.element-iterator) (map deref l.names.items) l.initial.made.items l.made.items
+    × ((names : List Utf8) × HasKeys l.keys names
+    × (IsDistinct bytes_eq names → AreEntriesPut l.fn.key l.shape l.levels (recast_entries l.fn.key l.shape no_entries l.levels (nodes_with (node_in l.levels) l.fn.elements)) (nodes_with (node_in l.levels) l.element-iterator) names l.initial.made.items l.made.items))

@@ -1,16 +1,11 @@
-use Rattle.std.proofs.Common.{◌≡◌, suc, ◌-◌, ◌∷◌, ◌++◌, [], take, map, true, ap, sym, subst, ◌∙◌, refl, arith, rules}
+use Rattle.std.proofs.Common.{◌≡◌, suc, ◌-◌, ◌∷◌, ◌++◌, [], take, ap, sym, subst, ◌∙◌, refl, arith}
 use Rattle.std.specs.Fmt.{decimal}
-use Rattle.std.specs.List.{IsDistinct}
-use Rattle.std.specs.Map.Iter.{deref}
-use Rattle.std.specs.Ordering.{eq_by_cmp, nat_cmp}
-use Rattle.std.proofs.lemmas.List.{map-append, nil_from_length}
+use Rattle.std.proofs.lemmas.List.{nil_from_length}
 use Rattle.bson_base.specs.Kind.{byte}
 use Rattle.bson_base.specs.Text.{Bytes}
 use Rattle.bson_base.specs.declared.element_type.ElementType.TheVariants as kinds
 use Rattle.bson_itself.specs.Encoded.{IsText, IsPlainBinary, IsTrueOrFalse, ArePairs, AreTrees}
-use Rattle.bson_itself.specs.Keys.{hash_of, is_new}
-use Rattle.bson_itself.proofs.Left.{PairsLeft, pairs_end, pairs_step, KeysLeft, keys_end, keys_step, TreesLeft, trees_end, trees_step, element_first, same_bytes}
-use Rattle.bson_itself.proofs.Names.{hashes_apart}
+use Rattle.bson_itself.proofs.Left.{PairsLeft, pairs_first, pairs_end, pairs_step, TreesLeft, trees_end, trees_step, element_first, same_bytes}
 use Rattle.bson_itself.proofs.Parts.{fixed_one, made_one, text_one, binary_one, boolean_one, null_one, double_one, int32_one, int64_one, document_one, array_one}
 use Rattle.bson_itself.proofs.elements.+itself.Goals as goal
 
@@ -35,25 +30,31 @@ are_items-loop-rest-preserved t c =
 pub are_items-returns : goal.are_items-returns
 are_items-returns t c = λ _. trees_end c.args.bytes.now c.args.levels c.loop-rest.index c.loop-rest.rest.now c.loop-rest.invariant (nil_from_length c.loop-rest.rest.now (omega arith))
 
+pub are_pairs-loop-rest-init : goal.are_pairs-loop-rest-init
+are_pairs-loop-rest-init t c = ([], c.new-keys.ensures.none, pairs_first c.args.bytes.now c.args.levels)
+
 pub are_pairs-loop-rest-preserved : goal.are_pairs-loop-rest-preserved
 are_pairs-loop-rest-preserved t c =
     let whole = c.args.bytes.now in
     let levels = c.args.levels in
     let rest = c.loop-rest.rest.now in
-    let names = c.loop-rest.names.items in
+    let before = c.loop-rest.invariant.0 in
     let value = c.in-Some.value.now in
     let name = c.in-Some.name.now in
     let kind = c.in-Some-from_byte.kind in
     let n = c.in-Some-value_len.size in
     let back = c.split_at.result.1.now in
     let key = c.in-Some.ensures in
-    let there = element_first rest value kind n name back c.in-len1-up.len_at_least (sym c.in-Some-from_byte.ensures.kind) key c.split_at.ensures.back in
-    let new : is_new name (map deref names) ≡ true = ap (λ ns. is_new name (map deref ns)) (sym c.as_slice-in-len1-up.ensures.value) ∙ sym c.if-not-is_new.ensures.is_new in
-    let step = pairs_step [] whole levels (map deref names) kind name (take n value) back (subst (PairsLeft [] whole levels (map deref names)) there c.loop-rest.invariant) key.text key.no_zero new c.in-Some-value_len.ensures.itself in
-    subst (λ before. PairsLeft [] whole levels before back) (sym (ap (map deref) c.push.ensures.items ∙ map-append deref names (c.in-Some.name ∷ []))) step
+    let there = element_first rest value kind n name back c.in-len1-up.len_at_least (sym c.in-Some-from_byte.ensures.kind) key c.split_at.ensures.back in (
+      before ++ name ∷ [],
+      c.if-not-add.ensures.added refl before c.loop-rest.invariant.1,
+      pairs_step whole levels before kind name (take n value) back (subst (PairsLeft whole levels before) there c.loop-rest.invariant.2) key.text key.no_zero c.in-Some-value_len.ensures.itself,
+    )
 
 pub are_pairs-returns : goal.are_pairs-returns
-are_pairs-returns t c = λ _. pairs_end [] c.args.bytes.now c.args.levels (map deref c.loop-rest.names.items) c.loop-rest.rest.now c.loop-rest.invariant (nil_from_length c.loop-rest.rest.now (omega arith))
+are_pairs-returns t c = λ h.
+    let before = c.loop-rest.invariant.0 in
+    pairs_end c.args.bytes.now c.args.levels before c.loop-rest.rest.now c.loop-rest.invariant.2 (nil_from_length c.loop-rest.rest.now (omega arith)) (c.are_different.ensures.different h before c.loop-rest.invariant.1)
 
 pub array_len-returns-clause-itself : goal.array_len-returns-clause-itself
 array_len-returns-clause-itself t c =
@@ -90,29 +91,3 @@ value_len-returns-in-Int32-clause-itself t c =
 pub value_len-returns-in-Int64-clause-itself : goal.value_len-returns-in-Int64-clause-itself
 value_len-returns-in-Int64-clause-itself t c =
     rw c.in-Int64.is (fixed_one kinds.Int64 c.args.levels c.args.bytes.now 8 c.fixed_len-in-Int64.result c.fixed_len-in-Int64.ensures.are_bytes c.fixed_len-in-Int64.ensures.within c.fixed_len-in-Int64.ensures.fixed (int64_one c.args.levels))
-
-pub are_more_pairs-loop-rest-preserved : goal.are_more_pairs-loop-rest-preserved
-are_more_pairs-loop-rest-preserved t c =
-    let first = map deref c.args.names.now in
-    let whole = c.args.bytes.now in
-    let levels = c.args.levels in
-    let rest = c.loop-rest.rest.now in
-    let before = c.loop-rest.invariant.0 in
-    let value = c.in-Some.value.now in
-    let name = c.in-Some.name.now in
-    let kind = c.in-Some-from_byte.kind in
-    let n = c.in-Some-value_len.size in
-    let back = c.split_at.result.1.now in
-    let key = c.in-Some.ensures in
-    let there = element_first rest value kind n name back c.in-len1-up.len_at_least (sym c.in-Some-from_byte.ensures.kind) key c.split_at.ensures.back in
-    let more : c.push.new.self.items ≡ c.loop-rest.hashes.items ++ c.hash_of.result ∷ [] = search rules in (
-      before ++ name ∷ [],
-      more ∙ (λ i. c.loop-rest.invariant.1 i ++ c.hash_of.ensures i ∷ []) ∙ sym (map-append hash_of before (name ∷ [])),
-      keys_step first whole levels before kind name (take n value) back (subst (KeysLeft first whole levels before) there c.loop-rest.invariant.2) key.text key.no_zero c.in-Some-value_len.ensures.itself,
-    )
-
-pub are_more_pairs-returns : goal.are_more_pairs-returns
-are_more_pairs-returns t c = λ h.
-    let before = c.loop-rest.invariant.0 in
-    keys_end (map deref c.args.names.now) c.args.bytes.now c.args.levels before c.loop-rest.rest.now c.loop-rest.invariant.2 (nil_from_length c.loop-rest.rest.now (omega arith))
-    (hashes_apart before (subst (IsDistinct (eq_by_cmp nat_cmp)) (c.deref_mut.ensures.value ∙ c.loop-rest.invariant.1) (c.are_different.ensures h)))

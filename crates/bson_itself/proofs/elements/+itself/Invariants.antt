@@ -1,8 +1,7 @@
-use Rattle.std.proofs.Common.{◌≡◌, [], List, ◌+◌, ◌*◌, length, map}
-use Rattle.std.specs.Map.Iter.{deref}
+use Rattle.std.proofs.Common.{List, ◌+◌, ◌*◌, length}
 use Rattle.bson_base.specs.Text.{Utf8}
-use Rattle.bson_itself.specs.Keys.{hash_of}
-use Rattle.bson_itself.proofs.Left.{PairsLeft, KeysLeft, TreesLeft}
+use Rattle.bson_itself.specs.Met.{HasKeys}
+use Rattle.bson_itself.proofs.Left.{PairsLeft, TreesLeft}
 use Rattle.bson_itself.proofs.elements.+itself.Given as goal
 
 abbrev pub decreases-are_items : goal.decreases-are_items
@@ -27,16 +26,7 @@ abbrev pub decreases-are_items-loop-rest : goal.decreases-are_items-loop-rest
 decreases-are_items-loop-rest l = length l.rest
 
 abbrev pub invariant-are_pairs-loop-rest : goal.invariant-are_pairs-loop-rest
-invariant-are_pairs-loop-rest l = PairsLeft [] l.bytes l.levels (map deref l.names.items) l.rest
+invariant-are_pairs-loop-rest l = (before : List Utf8) × HasKeys l.keys before × PairsLeft l.bytes l.levels before l.rest
 
 abbrev pub decreases-are_pairs-loop-rest : goal.decreases-are_pairs-loop-rest
 decreases-are_pairs-loop-rest l = length l.rest
-
-abbrev pub decreases-are_more_pairs : goal.decreases-are_more_pairs
-decreases-are_more_pairs l = 4 * l.levels + 2
-
-abbrev pub invariant-are_more_pairs-loop-rest : goal.invariant-are_more_pairs-loop-rest
-invariant-are_more_pairs-loop-rest l = (before : List Utf8) × (l.hashes.items ≡ map hash_of before) × KeysLeft (map deref l.names) l.bytes l.levels before l.rest
-
-abbrev pub decreases-are_more_pairs-loop-rest : goal.decreases-are_more_pairs-loop-rest
-decreases-are_more_pairs-loop-rest l = length l.rest
