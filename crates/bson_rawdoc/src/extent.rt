@@ -6,9 +6,14 @@ use crate::raw::Error;
 use crate::reading::{cut_at_zero, int32_in};
 use bson_base::ElementType;
 
-// How many bytes a value of the kind takes, of the bytes that begin with it.
+/// How many bytes a value of the kind takes, of the bytes that begin with it. It may be more than there are.
+///
+/// # Errors
+///
+/// `BadExtent` where the length that the value announces is not there, or is less than a value of the kind takes; at a regular expression where its two texts are not
+/// closed.
 #[inline(always)]
-pub(crate) fn extent(kind: ElementType, bytes: &[u8]) -> Result<usize, Error>
+pub fn extent(kind: ElementType, bytes: &[u8]) -> Result<usize, Error>
     ensures { result ≡ extents.extent kind bytes.now }
 {
     match kind {

@@ -72,9 +72,9 @@ impl<'a> Iterator for RawIter<'a> {
     }
 }
 
-// The first element of these and the bytes behind it, or the fault that ends them.
+/// The first element in these bytes and the bytes behind it, or the fault that ends them; `None` where there are no bytes.
 #[inline(always)]
-fn next_element(bytes: &[u8]) -> Option<Result<(RawElement<'_>, &[u8]), Error>>
+pub fn next_element(bytes: &[u8]) -> Option<Result<(RawElement<'_>, &[u8]), Error>>
     ensures { IsStep bytes.now result }
 {
     match bytes {

@@ -5,7 +5,7 @@ mod array;
 mod document;
 mod documents;
 mod element;
-mod extent;
+pub mod extent;
 mod get;
 mod iter;
 mod parts;
@@ -22,5 +22,5 @@ pub use bson_io::{
 pub use document::RawDocument;
 pub use documents::RawDocuments;
 pub use element::RawElement;
-pub use iter::RawIter;
+pub use iter::{RawIter, next_element};
 pub use value::RawBsonRef;

@@ -30,18 +30,18 @@ pub fn uint32_in(bytes: &[u8]) -> u32
     u32::from_le_bytes([bytes[0], bytes[1], bytes[2], bytes[3]])
 }
 
-// The int32 in the first four bytes.
+/// The int32 in the first four bytes.
 #[tactic(auto, unfolding(crate::specs::Numbers::int32_in))]
-pub(crate) fn int32_in(bytes: &[u8]) -> i32
+pub fn int32_in(bytes: &[u8]) -> i32
     requires { 4 ≤ length bytes.now }
     ensures { result ≡ numbers.int32_in bytes.now }
 {
     i32::from_le_bytes([bytes[0], bytes[1], bytes[2], bytes[3]])
 }
 
-// The int64 in the first eight bytes.
+/// The int64 in the first eight bytes.
 #[tactic(auto, unfolding(crate::specs::Numbers::int64_in))]
-pub(crate) fn int64_in(bytes: &[u8]) -> i64
+pub fn int64_in(bytes: &[u8]) -> i64
     requires { 8 ≤ length bytes.now }
     ensures { result ≡ numbers.int64_in bytes.now }
 {
