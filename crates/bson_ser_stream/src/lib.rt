@@ -13,3 +13,4 @@ mod sorting;
 mod value;
 
 pub use document::{to_buf, to_vec_at, to_vec_counted};
+pub use value::put_value;

@@ -53,10 +53,14 @@ fn readable_inside(readable: bool, name: &str) -> bool
 }
 
 /// Appends a value, in its readable form or in its compact one, with so many levels of documents and arrays left, and returns
-/// the kind that it wrote.
+/// the kind that it wrote. It is for writers of values that are part of something else; whole documents are written by [`to_buf`](crate::to_buf).
+///
+/// # Errors
+///
+/// The refusal of the value, with its path from here on, or that memory ran out. What was appended before stays in `out`.
 #[cycle(put)]
 #[inline(always)]
-pub(crate) fn put_value<L: Ledger>(
+pub fn put_value<L: Ledger>(
     out: &mut Out,
     steps: &mut Steps<L>,
     value: &Datum<'_>,
