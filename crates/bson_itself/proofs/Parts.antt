@@ -1,9 +1,9 @@
 -- Numbers, texts and frames in bytes are those that they are encoded as.
-use Rattle.std.proofs.Common.{◌≡◌, ℕ, pos, negsuc, zero, suc, ◌+◌, ◌-◌, ◌^◌, ◌<◌, ◌≤◌, [], ◌∷◌, ◌++◌, length, take, drop, drop-cons, get_or, ltb, Bool, true, false, cond, refl, ap, sym, subst, ◌∙◌, arith}
-use Rattle.std.specs.Prelude.{FitsSigned, Option, Some, None, IfSome}
+use Rattle.std.proofs.Common.{◌≡◌, ℕ, zero, suc, ◌+◌, ◌-◌, ◌^◌, ◌<◌, ◌≤◌, [], ◌∷◌, ◌++◌, length, take, drop, drop-cons, get_or, true, refl, ap, sym, subst, ◌∙◌, arith}
+use Rattle.std.specs.Prelude.{Option, Some, None, IfSome}
 use Rattle.std.specs.Int.{w32, w64, from_le_bytes, cast_unsigned}
 use Rattle.std.specs.Str.{is_utf8}
-use Rattle.std.proofs.lemmas.Bool.{ltb-true, ltb-false, eqb-true}
+use Rattle.std.proofs.lemmas.Bool.{eqb-true}
 use Rattle.std.proofs.lemmas.Int.{of_z-to_z}
 use Rattle.std.proofs.lemmas.List.{length-take-le, length-drop, take-append-drop, get_or-drop, get_or-take}
 use Rattle.std.proofs.lemmas.List.Elements.{All-take}
@@ -15,31 +15,11 @@ use Rattle.bson_rawdoc.specs.Envelope.{is_closed, inside}
 use Rattle.bson_rawdoc.specs.Numbers.{uint32_in, int32_in, int64_in}
 use Rattle.bson_base.specs.declared.element_type.ElementType.{ElementType}
 use Rattle.bson_base.specs.declared.element_type.ElementType.TheVariants as kinds
+use Rattle.bson_laws.proofs.TameBytes.{byte_at, int32_fits, int64_fits}
 use Rattle.bson_itself.specs.Itself.{IsItself}
 use Rattle.bson_itself.specs.Encoded.{EncodesItself, ArePairs, AreTrees, IsText, IsPlainBinary, IsTrueOrFalse, IsFrame}
 
 -- ---- numbers
-
-byte_at : (b : Bytes) (i : ℕ) → AreBytes b → get_or b i 0 < 256
-byte_at [] i h = omega arith
-byte_at (x ∷ b) zero h = h 0 0 (omega arith)
-byte_at (x ∷ b) (suc i) h = byte_at b i (λ k d l. h (suc k) d (omega arith))
-
-either_wide : (n : ℕ) (b : Bool) → ltb n (2 ^ 63) ≡ b → FitsSigned w64 (cond b (pos n) (negsuc (2 ^ 64 - suc n)))
-either_wide n true e = omega (arith, ltb-true _ _ e)
-either_wide n false e = omega (arith, ltb-false _ _ e)
-
-int64_fits : (b : Bytes) → FitsSigned w64 (int64_in b)
-unfolding int64_in
-int64_fits b = let n = from_le_bytes w64 b in either_wide n (ltb n (2 ^ 63)) refl
-
-either_short : (n : ℕ) (b : Bool) → ltb n (2 ^ 31) ≡ b → FitsSigned w32 (cond b (pos n) (negsuc (2 ^ 32 - suc n)))
-either_short n true e = omega (arith, ltb-true _ _ e)
-either_short n false e = omega (arith, ltb-false _ _ e)
-
-int32_fits : (b : Bytes) → FitsSigned w32 (int32_in b)
-unfolding int32_in
-int32_fits b = let n = from_le_bytes w32 b in either_short n (ltb n (2 ^ 31)) refl
 
 four_below : (b : Bytes) → AreBytes b → from_le_bytes w32 b < 2 ^ 32
 four_below b h = omega (arith, byte_at b 0 h, byte_at b 1 h, byte_at b 2 h, byte_at b 3 h)
