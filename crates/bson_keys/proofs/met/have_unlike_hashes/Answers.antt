@@ -1,6 +1,5 @@
 use Rattle.std.proofs.Common.{subst, ◌∙◌}
 use Rattle.std.specs.List.{IsDistinct}
-use Rattle.std.specs.Map.Iter.{deref}
 use Rattle.std.specs.Ordering.{eq_by_cmp, nat_cmp}
 use Rattle.bson_keys.specs.Hashes.{hash_of}
 use Rattle.bson_keys.proofs.Distinct.{hashes_apart}
