@@ -13,7 +13,7 @@ use Rattle.std.proofs.lemmas.Slice.Eq.{bytes_eq-Decides}
 use Rattle.std.proofs.lemmas.List.{take_more, take_more_set, map-append, length-map, length-take, take_all}
 use Rattle.bson_base.specs.Text.{Utf8}
 use Rattle.bson_keys.specs.Places.{further_or_first, place_among, place_in_tree}
-use Rattle.bson_keys.specs.Hashes.{hash_of}
+use Rattle.bson_keys.specs.Hashes.{second_hash_of}
 use Rattle.bson_keys.specs.KeysView.{place_found}
 
 -- a key compares equal to another in a B-tree where it is the same text
@@ -22,15 +22,15 @@ compared h key text true is same =
     sym (tied_then h (slice_cmp nat_cmp key text)) ∙ ap (λ c. c && is_eq (slice_cmp nat_cmp key text)) (same ((bytes_eq-Decides key text).0 is)) ∙ is_eq-slice_cmp key text ∙ is
 compared h key text false other same = sym (tied_then h (slice_cmp nat_cmp key text)) ∙ ap (λ c. is_eq h && c) (is_eq-slice_cmp key text ∙ other) ∙ and-false (is_eq h)
 
-equal_order : (h : ℕ) (key text : Utf8) → h ≡ hash_of key → key ≡ text → is_eq (nat_cmp h (hash_of text)) ≡ true
-equal_order h key text is same = ap (λ t. is_eq (nat_cmp h (hash_of t))) (sym same) ∙ ap (λ n. is_eq (nat_cmp n (hash_of key))) is ∙ (eq_by_cmp_equiv nat_cmp_total).refl (hash_of key)
+equal_order : (h : ℕ) (key text : Utf8) → h ≡ second_hash_of key → key ≡ text → is_eq (nat_cmp h (second_hash_of text)) ≡ true
+equal_order h key text is same = ap (λ t. is_eq (nat_cmp h (second_hash_of t))) (sym same) ∙ ap (λ n. is_eq (nat_cmp n (second_hash_of key))) is ∙ (eq_by_cmp_equiv nat_cmp_total).refl (second_hash_of key)
 
 -- where a place was put into a B-tree at a key, each other text has the place that it had
-pub tree_updates : (key : Bor Utf8) (h : ℕ) (m n : BTreeMap (ℕ × Bor Utf8) ℕ) (w : Option ℕ) → h ≡ hash_of key.now → UpdatesBy (λ x y. ordering_then (nat_cmp x.0 y.0) (slice_cmp nat_cmp x.1.now y.1.now)) (λ k. ordering_then (nat_cmp h k.0) (slice_cmp nat_cmp key.now k.1.now)) m n w
+pub tree_updates : (key : Bor Utf8) (h : ℕ) (m n : BTreeMap (ℕ × Bor Utf8) ℕ) (w : Option ℕ) → h ≡ second_hash_of key.now → UpdatesBy (λ x y. ordering_then (nat_cmp x.0 y.0) (slice_cmp nat_cmp x.1.now y.1.now)) (λ k. ordering_then (nat_cmp h k.0) (slice_cmp nat_cmp key.now k.1.now)) m n w
     → (text : Utf8) → place_in_tree n text ≡ cond (bytes_eq key.now text) w (place_in_tree m text)
 tree_updates key h m n w is updates text =
-    updates.0 (hash_of text, record { ref_ptr = key.ref_ptr; now = text })
-    ∙ ap (λ b. cond b w (place_in_tree m text)) (compared (nat_cmp h (hash_of text)) key.now text (bytes_eq key.now text) refl (equal_order h key.now text is))
+    updates.0 (second_hash_of text, record { ref_ptr = key.ref_ptr; now = text })
+    ∙ ap (λ b. cond b w (place_in_tree m text)) (compared (nat_cmp h (second_hash_of text)) key.now text (bytes_eq key.now text) refl (equal_order h key.now text is))
 
 -- the texts of keys
 abbrev pub texts_of : List (Bor Utf8) → List Utf8

@@ -6,7 +6,7 @@ use Rattle.std.specs.Cmp.Lexicographic.{slice_cmp}
 use Rattle.std.specs.Ordering.{nat_cmp, ordering_then}
 use Rattle.std.specs.Str.{bytes_eq}
 use Rattle.bson_base.specs.Text.{Utf8}
-use Rattle.bson_keys.specs.Hashes.{hash_of}
+use Rattle.bson_keys.specs.Hashes.{second_hash_of}
 
 -- one place further, or the first place where there is none further on
 abbrev pub further_or_first : Option ℕ → Option ℕ → Option ℕ
@@ -18,9 +18,9 @@ abbrev pub place_among : List Utf8 → Utf8 → Option ℕ
 place_among [] text = None
 place_among (key ∷ keys) text = further_or_first (place_among keys text) (if bytes_eq key text then Some 0 else None)
 
--- the place that a B-tree, ordered by hash and then by text, has for a text
+-- the place that a B-tree, ordered by second hashes and then by texts, has for a text
 abbrev pub place_in_tree : BTreeMap (ℕ × Bor Utf8) ℕ → Utf8 → Option ℕ
-place_in_tree tree text = get_by (λ k. ordering_then (nat_cmp (hash_of text) k.0) (slice_cmp nat_cmp text k.1.now)) tree
+place_in_tree tree text = get_by (λ k. ordering_then (nat_cmp (second_hash_of text) k.0) (slice_cmp nat_cmp text k.1.now)) tree
 
 -- The B-tree has for each text its place among the keys.
 abbrev pub FindsAll : BTreeMap (ℕ × Bor Utf8) ℕ → List Utf8 → Type 0

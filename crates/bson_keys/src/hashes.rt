@@ -8,7 +8,7 @@ use std::hash::{DefaultHasher, FoldHasher, Hasher};
 
 // The hash of a key.
 #[tactic(auto, unfolding(crate::specs::Hashes::hash_of))]
-pub(crate) fn hash_of(key: &str) -> u64
+fn hash_of(key: &str) -> u64
     ensures { result ≡ hash_of key.now }
 {
     let mut hasher = FoldHasher::default();
@@ -16,9 +16,9 @@ pub(crate) fn hash_of(key: &str) -> u64
     hasher.finish()
 }
 
-// Another hash of a key, which takes longer. Keys that were made to have one hash do not have one of this kind too.
+// Another hash of a key. It takes longer; keys that were made to have the same first hash have different ones of these.
 #[tactic(auto, unfolding(crate::specs::Hashes::second_hash_of))]
-fn second_hash_of(key: &str) -> u64
+pub(crate) fn second_hash_of(key: &str) -> u64
     ensures { result ≡ second_hash_of key.now }
 {
     let mut hasher = DefaultHasher::new();

@@ -3,15 +3,15 @@ ghost use Rattle.std.specs.Str.{bytes_eq};
 ghost use Rattle.bson_base.specs.Text.{Utf8};
 ghost use Rattle.bson_keys.specs.Places.{place_among, place_in_tree, FindsAll};
 
-use crate::hashes::hash_of;
+use crate::hashes::second_hash_of;
 use std::alloc::{AllocError, Global};
 use std::collections::BTreeMap;
 
 /// So many keys are looked up by a scan.
 const FEW: usize = 8;
 
-/// The places of keys, in the order of their hashes, and of the texts where hashes are the same. So keys that were made to have one hash are found too in
-/// as many steps as the logarithm of their number.
+/// The places of keys, in the order of their second hashes, and of the texts where these are the same. So each key is found in
+/// as many steps as the logarithm of their number, whatever the keys are.
 type Places<'de> = BTreeMap<(u64, &'de str), usize>;
 
 /// The keys of a map that is read, each with its place.
@@ -94,7 +94,7 @@ fn insert<'de>(places: &mut Places<'de>, key: &'de str, place: usize) -> Result<
     ensures { IfOk result (λ _. (text : Utf8) → place_in_tree places.new text
         ≡ (if bytes_eq key.now text then Some place else place_in_tree places.old text)) }
 {
-    places.insert((hash_of(key), key), place)?;
+    places.insert((second_hash_of(key), key), place)?;
     Ok(())
 }
 
@@ -114,7 +114,7 @@ fn places_of<'de>(alloc: Global, keys: &[&'de str]) -> Result<Places<'de>, Alloc
 fn look_up<'de>(places: &Places<'de>, text: &'de str) -> Option<usize>
     ensures { result ≡ place_in_tree places.now text.now }
 {
-    places.get(&(hash_of(text), text)).copied()
+    places.get(&(second_hash_of(text), text)).copied()
 }
 
 /// The place of the last key that is the text.
