@@ -21,7 +21,8 @@ use Rattle.bson_laws.specs.Spell.{spell, spell_items, spell_entries}
 use Rattle.bson_laws.proofs.Writable.{wide_small}
 use Rattle.bson_laws.proofs.Coded.{IsCoded, ArePairsCoded, AreTreesCoded}
 use Rattle.bson_itself.specs.Itself.{IsItself, ArePairsThemselves, AreTreesThemselves}
-use Rattle.bson_itself.proofs.Names.{LacksAll, bytes_eq-swap, lacked_rest}
+use Rattle.bson_keys.proofs.Distinct.{bytes_eq-swap}
+use Rattle.bson_itself.proofs.Names.{LacksAll, lacked_rest}
 
 -- a value without a shape, after it is judged
 abbrev pub judged_any : Node → Reading Marked

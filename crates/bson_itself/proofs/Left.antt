@@ -17,7 +17,8 @@ use Rattle.bson_rawdoc.specs.Extent.{in_front, cut_at_zero}
 use Rattle.bson_itself.specs.Encoded.{EncodesItself, ArePairs, AreTrees}
 use Rattle.bson_itself.specs.Itself.{ArePairsThemselves, AreTreesThemselves}
 use Rattle.bson_itself.specs.Keys.{IsKey}
-use Rattle.bson_itself.proofs.Names.{LacksAll, lacked_last, lacked_pair, distinct_last}
+use Rattle.bson_keys.proofs.Distinct.{distinct_last}
+use Rattle.bson_itself.proofs.Names.{LacksAll, lacked_last, lacked_pair}
 
 -- ---- kinds
 

@@ -1,5 +1,4 @@
 pub mod Names
-mod More
 mod Parts
 mod Left
 mod Law

@@ -1,5 +1,4 @@
 pub mod Itself
 pub mod Kept
 pub mod Keys
-pub mod Met
 pub mod Encoded

@@ -6,10 +6,11 @@ ghost use Rattle.bson_shape.specs.declared.leaf.Leaf.TheVariants.{Any};
 ghost use Rattle.bson_itself.specs.Encoded.{EncodesItself, ArePairs, AreTrees, IsFrame};
 ghost use Rattle.bson_itself.specs.Kept.{IsKept};
 
-use crate::keys::{MetKeys, key};
+use crate::keys::key;
 use crate::values::{binary_len, boolean_len, fixed_len, text_len};
 use bson_base::ElementType;
 use bson_io::MOST;
+use bson_keys::MetKeys;
 use bson_rawdoc::reading::{inside, is_closed, known_bytes, uint32_in};
 use std::alloc::Global;
 

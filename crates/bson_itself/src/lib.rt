@@ -6,4 +6,3 @@ mod keys;
 mod values;
 
 pub use elements::is_itself;
-pub use keys::MetKeys;

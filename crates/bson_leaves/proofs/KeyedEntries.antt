@@ -20,9 +20,9 @@ use Rattle.bson_datum.specs.declared.datum.Entry.{Entry}
 use Rattle.bson_laws.specs.ReadsLeaf.{put_entry}
 use Rattle.std.specs.Prelude.{option_map}
 use Rattle.bson_leaves.specs.EntriesView.{entry_place, IsIndexed}
-use Rattle.bson_leaves.specs.KeysView.{key_place, HasPlacesBelow}
+use Rattle.bson_keys.specs.KeysView.{key_place, HasPlacesBelow}
 use Rattle.bson_leaves.specs.declared.entries.Entries as code
-use Rattle.bson_leaves.specs.declared.keys.Keys.{Keys}
+use Rattle.bson_keys.specs.declared.places.Keys.{Keys}
 use Rattle.bson_leaves.proofs.KeyTexts.{key_same}
 
 -- the first place, or the other one

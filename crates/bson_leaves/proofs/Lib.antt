@@ -2,7 +2,6 @@ pub mod AnyRead
 pub mod Characters
 pub mod Each
 pub mod KeyedEntries
-pub mod KeyPlaces
 pub mod KeyTexts
 pub mod Loops
 pub mod Mapped

@@ -1,8 +1,6 @@
 pub mod Any
 pub mod EntriesView
 pub mod Extended
-pub mod KeyPlaces
-pub mod KeysView
 pub mod KeyValues
 pub mod Leaves
 pub mod ListsMarked

@@ -15,10 +15,10 @@ ghost use Rattle.bson_met.specs.PieceView.{str_piece};
 ghost use Rattle.bson_leaves.specs.KeyValues.{key_value};
 ghost use Rattle.bson_leaves.specs.ListsMarked.{entries_marked};
 
-use crate::keys::Keys;
 use crate::text::character;
 use crate::unit::unit_of;
 use bson_datum::{Datum, Entry, Text};
+use bson_keys::Keys;
 use bson_met::{MetStr, Reading};
 use bson_shape::{Form, Leaf};
 use std::alloc::{AllocError, Global};

@@ -5,7 +5,6 @@ mod any;
 mod byte_string;
 mod entries;
 mod ignored;
-mod keys;
 mod leaf;
 mod text;
 mod unit;

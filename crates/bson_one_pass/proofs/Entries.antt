@@ -23,7 +23,7 @@ use Rattle.bson_laws.specs.Judged.{plain}
 use Rattle.bson_laws.specs.Reads.{reads}
 use Rattle.bson_laws.specs.ReadsLeaf.{put_entry}
 use Rattle.bson_laws.specs.Spell.{spell, spell_entries}
-use Rattle.bson_itself.specs.Keys.{is_new}
+use Rattle.bson_keys.specs.New.{is_new}
 use Rattle.bson_one_pass.specs.Free.{takes_keys}
 use Rattle.bson_one_pass.specs.Put.{of_writing, recast_node, recast_entries, IsPut, IsElementPut, ArePairsPut}
 use Rattle.bson_one_pass.proofs.Containers.{recast_mapped, pairs_put}

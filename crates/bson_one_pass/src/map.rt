@@ -11,7 +11,7 @@ ghost use Rattle.bson_one_pass.specs.Put.{recast_node, recast_entries, IsPut, Ar
 use crate::array::recast_item;
 use crate::bytes::{close, put};
 use bson_base::{ElementType, has_zero};
-use bson_itself::MetKeys;
+use bson_keys::MetKeys;
 use bson_rawdoc::{RawDocument, RawIter};
 use bson_shape::{Leaf, Shape};
 

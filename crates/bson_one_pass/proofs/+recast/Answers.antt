@@ -1,7 +1,7 @@
 use Rattle.std.proofs.Common.{◌≡◌, suc, ◌+◌, ◌-◌, ◌*◌, ◌<◌, ◌++◌, [], ◌∷◌, length, get_or, take, drop, refl, ap, sym, ◌∙◌, arith, rules}
 use Rattle.std.specs.Fmt.{decimal}
 use Rattle.std.specs.Str.{bytes_eq}
-use Rattle.bson_itself.proofs.Names.{distinct_last}
+use Rattle.bson_keys.proofs.Distinct.{distinct_last}
 use Rattle.bson_base.specs.Tree.{enclosed}
 use Rattle.bson_rawdoc.specs.DocumentView.{array_bytes, document_bytes}
 use Rattle.bson_rawdoc.specs.Node.{inner_node, node_in, nodes_with, value_node}

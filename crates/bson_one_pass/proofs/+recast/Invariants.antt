@@ -2,7 +2,7 @@ use Rattle.std.proofs.Common.{◌≡◌, ◌+◌, ◌*◌, ◌-◌, ◌≤◌, l
 use Rattle.std.specs.List.{IsDistinct}
 use Rattle.std.specs.Str.{bytes_eq}
 use Rattle.bson_base.specs.Text.{Utf8}
-use Rattle.bson_itself.specs.Met.{HasKeys}
+use Rattle.bson_keys.specs.Met.{HasKeys}
 use Rattle.bson_rawdoc.specs.Node.{ended, node_in, nodes_with}
 use Rattle.bson_shape.specs.ShapeView.{fields_of, parts_of, nodes, fields_nodes, parts_nodes}
 use Rattle.bson_datum.specs.Value.{no_entries}

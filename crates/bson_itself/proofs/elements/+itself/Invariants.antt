@@ -1,6 +1,6 @@
 use Rattle.std.proofs.Common.{List, ◌+◌, ◌*◌, length}
 use Rattle.bson_base.specs.Text.{Utf8}
-use Rattle.bson_itself.specs.Met.{HasKeys}
+use Rattle.bson_keys.specs.Met.{HasKeys}
 use Rattle.bson_itself.proofs.Left.{PairsLeft, TreesLeft}
 use Rattle.bson_itself.proofs.elements.+itself.Given as goal
 

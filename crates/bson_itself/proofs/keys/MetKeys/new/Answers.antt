@@ -1,6 +1,0 @@
-use Rattle.std.proofs.Common.{rules}
-use Rattle.bson_itself.proofs.More.{none_met}
-use Rattle.bson_itself.proofs.keys.MetKeys.new.Goals as goal
-
-pub returns : goal.returns
-returns c = record { none = none_met _ (search rules) (search rules) }

@@ -1,5 +1,0 @@
-use Rattle.bson_itself.proofs.Names.{different}
-use Rattle.bson_itself.proofs.keys.are_different.Goals as goal
-
-pub returns : goal.returns
-returns c = λ h. different c.args.numbers.now c.sort_unstable.new.self c.sort_unstable.ensures.permutation (c.are_ascending.ensures h)

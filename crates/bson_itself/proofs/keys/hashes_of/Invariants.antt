@@ -1,7 +1,0 @@
-use Rattle.std.proofs.Common.{◌≡◌, map, take}
-use Rattle.std.specs.Map.Iter.{deref}
-use Rattle.bson_itself.specs.Keys.{hash_of}
-use Rattle.bson_itself.proofs.keys.hashes_of.Given as goal
-
-abbrev pub invariant-loop-key : goal.invariant-loop-key
-invariant-loop-key l = l.hashes.items ≡ map hash_of (map deref (take l.key-index l.keys))

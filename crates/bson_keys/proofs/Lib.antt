@@ -1,0 +1,3 @@
+pub mod Distinct
+mod KeyPlaces
+mod More

@@ -1,0 +1,27 @@
+-- The places of texts among keys.
+use Rattle.std.specs.Prelude.{◌≡◌, ℕ, suc, List, [], ◌∷◌, if◌then◌else◌, Option, Some, None}
+use Rattle.std.specs.Borrow.{Bor}
+use Rattle.std.specs.BTreeMap.{BTreeMap, get_by}
+use Rattle.std.specs.Cmp.Lexicographic.{slice_cmp}
+use Rattle.std.specs.Ordering.{nat_cmp, ordering_then}
+use Rattle.std.specs.Str.{bytes_eq}
+use Rattle.bson_base.specs.Text.{Utf8}
+use Rattle.bson_keys.specs.Hashes.{second_hash_of}
+
+-- one place further, or the first place where there is none further on
+abbrev pub further_or_first : Option ℕ → Option ℕ → Option ℕ
+further_or_first (Some i) first = Some (suc i)
+further_or_first None first = first
+
+-- the place of the last of the keys that is the text, from 0
+abbrev pub place_among : List Utf8 → Utf8 → Option ℕ
+place_among [] text = None
+place_among (key ∷ keys) text = further_or_first (place_among keys text) (if bytes_eq key text then Some 0 else None)
+
+-- the place that a B-tree, ordered by second hashes and then by texts, has for a text
+abbrev pub place_in_tree : BTreeMap (ℕ × Bor Utf8) ℕ → Utf8 → Option ℕ
+place_in_tree tree text = get_by (λ k. ordering_then (nat_cmp (second_hash_of text) k.0) (slice_cmp nat_cmp text k.1.now)) tree
+
+-- The B-tree has for each text its place among the keys.
+abbrev pub FindsAll : BTreeMap (ℕ × Bor Utf8) ℕ → List Utf8 → Type 0
+FindsAll tree keys = (text : Utf8) → place_in_tree tree text ≡ place_among keys text
