@@ -1,6 +1,7 @@
 // Data are copied, and errors are made, where there is memory.
 use bson_datum::{ByteStr, Cause, Datum, Entry, Field, Stop, Text, de, ser};
 use std::alloc::{AllocError, Global};
+use std::io::Print;
 use std::test::Fail;
 
 /// A tuple struct with a variant of each form, with borrowed texts.
@@ -37,46 +38,31 @@ fn borrowed<'a>(alloc: Global) -> Result<Datum<'a>, AllocError> {
     Ok(Datum::Struct { name, fields })
 }
 
-#[test]
-fn data_are_copied(rt: HostRuntime) -> Result<(), Fail> {
-    let alloc = rt.alloc();
+/// Whether a datum is equal to its copy and to its owned copy, and copies of a text and of a byte string.
+pub fn print_copies(rt: &impl Print, alloc: Global) -> Result<(), Fail> {
     let datum = borrowed(alloc)?;
     let copy = datum.try_clone(alloc)?;
-    assert!(rt; copy == datum);
-    assert!(rt; copy.into_owned(alloc)? == datum);
-    Ok(())
-}
-
-#[test]
-fn texts_and_byte_strings_are_copied(rt: HostRuntime) -> Result<(), Fail> {
-    let alloc = rt.alloc();
+    println!(rt; "equal to its copy: {}", copy == datum)?;
+    let owned = copy.into_owned(alloc)?;
+    println!(rt; "equal to its owned copy: {}", owned == datum)?;
     let text = Text::Borrowed("a").into_owned(alloc)?;
-    assert_eq!(rt; text.as_str(), "a");
-    assert_eq!(rt; text.try_clone(alloc)?.as_str(), "a");
+    println!(rt; "{text:?}, {:?}", text.try_clone(alloc)?)?;
     let bytes = ByteStr::Borrowed(b"a").into_owned(alloc)?;
-    assert_eq!(rt; bytes.as_bytes(), b"a".as_slice());
-    assert_eq!(rt; bytes.try_clone(alloc)?.as_bytes(), b"a".as_slice());
+    println!(rt; "{bytes:?}, {:?}", bytes.try_clone(alloc)?)?;
     Ok(())
 }
 
-#[test]
-fn errors_are_made_with_their_paths(rt: HostRuntime) -> Result<(), Fail> {
-    let alloc = rt.alloc();
+/// Errors that are made of a fault and its path.
+pub fn print_errors(rt: &impl Print, alloc: Global) -> Result<(), Fail> {
     let fault = de::Fault::Cause(Cause::NotUtf8);
     let stop = Stop::here(alloc, fault)
         .under_index(2)
         .under_key("b")
         .under_key("a");
     let error = de::Error::from_stop(alloc, stop);
-    assert_eq!(rt;
-        format!(in alloc; "{error}")?.as_str(),
-        "error at a.b[2]: bytes are not UTF-8"
-    );
+    println!(rt; "{error}")?;
     let fault = ser::Fault::InvalidCString(String::from_str(alloc, "b\0")?);
     let error = ser::Error::from_stop(alloc, Stop::here(alloc, fault));
-    assert_eq!(rt;
-        format!(in alloc; "{error}")?.as_str(),
-        "error at .: cstrings cannot contain null bytes"
-    );
+    println!(rt; "{error}")?;
     Ok(())
 }

@@ -1,9 +1,30 @@
-// Owned values are made and copied where there is memory.
+// Owned values are made, opened and copied where there is memory.
 use bson_base::{
     Binary, BinarySubtype, Bson, DbPointer, Document, JavaScriptCodeWithScope, ObjectId, Regex,
 };
 use std::alloc::{AllocError, Global};
+use std::io::Print;
 use std::test::Fail;
+
+/// A regular expression, whose options are put in order, and a copy of it.
+pub fn print_regex(rt: &impl Print, alloc: Global) -> Result<(), Fail> {
+    let pattern = String::from_str(alloc, "a")?;
+    let regex = Regex::new(alloc, pattern, String::from_str(alloc, "xi")?)?;
+    let copy = regex.try_clone(alloc)?;
+    println!(rt; "regex: {} {}", regex.pattern(), regex.options())?;
+    println!(rt; "copy: {} {}", copy.pattern(), copy.options())?;
+    Ok(())
+}
+
+/// The document that a symbol is opened to.
+pub fn print_opened(rt: &impl Print, alloc: Global) -> Result<(), Fail> {
+    let symbol = Bson::Symbol(String::from_str(alloc, "a")?);
+    let opened = symbol.into_extended_document(alloc)?;
+    for (key, value) in opened.iter() {
+        println!(rt; "opened: {key} is {value:?}")?;
+    }
+    Ok(())
+}
 
 /// A value of each kind that has memory of its own, but for documents.
 fn values(alloc: Global) -> Result<Vec<Bson>, AllocError> {
@@ -26,15 +47,14 @@ fn values(alloc: Global) -> Result<Vec<Bson>, AllocError> {
     Ok(values)
 }
 
-#[test]
-fn a_document_is_made_and_copied(rt: HostRuntime) -> Result<(), Fail> {
-    let alloc = rt.alloc();
+/// What was under the key of a document before, how many keys it has, and whether a copy of it is equal to it.
+pub fn print_copy(rt: &impl Print, alloc: Global) -> Result<(), Fail> {
     let mut document = Document::new(alloc);
     let values = Bson::Array(values(alloc)?);
     let old = document.insert(String::from_str(alloc, "a")?, values)?;
-    assert_eq!(rt; old, None);
-    assert_eq!(rt; document.len(), 1);
+    println!(rt; "document: {old:?}, {} key", document.len())?;
     let value = Bson::Document(document);
-    assert_eq!(rt; value.try_clone(alloc)?, value);
+    let copy = value.try_clone(alloc)?;
+    println!(rt; "equal to its copy: {}", copy == value)?;
     Ok(())
 }
