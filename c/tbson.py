@@ -7,7 +7,6 @@ memoryview, an mmap. They are not copied. What is written comes back as the byte
 
 import ctypes
 import enum
-import mmap
 import os
 from typing import Any, Iterator, List, NamedTuple, Optional, Tuple, Union
 
@@ -157,19 +156,20 @@ _SLICE = [ctypes.c_void_p, ctypes.c_size_t]
 def _load() -> ctypes.CDLL:
     folder = os.path.dirname(os.path.abspath(__file__))
     path = os.environ.get("TBSON_LIBRARY") or os.path.join(folder, "out", "libtbson.so")
+    remedy = f"Build it by `make -C {folder}`, which takes the kit of Rattle, or set TBSON_LIBRARY to the path of libtbson.so."
     try:
         library = ctypes.CDLL(path)
+        library.tbson_version.argtypes, library.tbson_version.restype = [], ctypes.c_uint32
     except OSError as error:
-        raise ImportError(
-            f"tbson: the shared library {path} cannot be loaded ({error}). Build it by `make -C {folder}`, or set TBSON_LIBRARY to the path of libtbson.so."
-        ) from error
-    library.tbson_version.argtypes, library.tbson_version.restype = [], ctypes.c_uint32
+        raise ImportError(f"tbson: the shared library {path} cannot be loaded ({error}). {remedy}") from error
+    except AttributeError as error:
+        raise ImportError(f"tbson: {path} is another library ({error}). {remedy}") from error
+    if library.tbson_version() < VERSION:
+        raise ImportError(f"tbson: {path} has version {library.tbson_version()}, and tbson.py needs {VERSION}. {remedy}")
     library.tbson_check_shape.argtypes, library.tbson_check_shape.restype = 2 * _SLICE, _Report
     library.tbson_recast.argtypes, library.tbson_recast.restype = 4 * _SLICE, _Report
     library.tbson_migrate_and_list.argtypes, library.tbson_migrate_and_list.restype = 5 * _SLICE, _MigrationReport
     library.tbson_next_document.argtypes, library.tbson_next_document.restype = _SLICE + [ctypes.c_size_t], _Document
-    if library.tbson_version() < VERSION:
-        raise ImportError(f"tbson: {path} is version {library.tbson_version()}, and tbson.py needs {VERSION}. Build it anew by `make -C {folder}`.")
     return library
 
 
@@ -191,9 +191,13 @@ def _failure(report: _Report, text: str) -> Exception:
     return kind(text or "no document begins here", Status(report.status), report.place)
 
 
-def _text_buffer(length: int) -> Union[bytearray, mmap.mmap]:
-    """A buffer of zeros. Of a long one, what is not written to takes no memory."""
-    return bytearray(length) if length <= 65536 else mmap.mmap(-1, length)
+_new_bytearray = ctypes.pythonapi.PyByteArray_FromStringAndSize
+_new_bytearray.argtypes, _new_bytearray.restype = [ctypes.c_void_p, ctypes.c_ssize_t], ctypes.py_object
+
+
+def _buffer(length: int) -> bytearray:
+    """A buffer of so many bytes, which are not set to anything: of a long one, what is never written to takes no memory."""
+    return _new_bytearray(None, length)
 
 
 def _call(function: Any, inputs: Tuple[Any, ...], output_len: int, text_len: int) -> Tuple[_Report, bytearray, str]:
@@ -201,7 +205,7 @@ def _call(function: Any, inputs: Tuple[Any, ...], output_len: int, text_len: int
 
     Where a buffer was too small, it calls a second time, with buffers of the lengths that the first call told.
     """
-    output, text = bytearray(output_len), _text_buffer(text_len)
+    output, text = _buffer(output_len), _buffer(text_len)
     with _Bytes(output) as output_pair, _Bytes(text) as text_pair:
         report = function(*(part for pair in inputs for part in pair), *output_pair, *text_pair)
     if report.status == Status.BUFFER_TOO_SMALL or report.text_needed > text_len:
@@ -212,7 +216,8 @@ def _call(function: Any, inputs: Tuple[Any, ...], output_len: int, text_len: int
 
 # The lengths of the first buffers. They are such that a second call is rare, which takes as long as the first: the library keeps nothing from one call to the
 # next. No multiple of the input's length bounds the output, since a struct writes null for each option that a document lacks. A number or a date that is
-# widened takes at most two thirds more. A text is made of names and texts of the shape and of the document, and a few words.
+# widened takes at most two thirds more. A text is made of names and texts of the shape and of the document, and a few words. A document takes five bytes or
+# more, and a record 48.
 
 
 def _output_len(shape: bytes, length: int) -> int:
@@ -243,7 +248,7 @@ def check(shape: Union[str, bytes], document: Any) -> int:
     with _Bytes(notation) as shape_pair, _Bytes(document) as pair:
         text_len = _text_len(notation, pair[1])
         while True:
-            text = _text_buffer(text_len)
+            text = _buffer(text_len)
             with _Bytes(text) as text_pair:
                 report = _library.tbson_recast(*shape_pair, *pair, None, 0, *text_pair)
             if report.status == Status.BUFFER_TOO_SMALL:
@@ -264,8 +269,12 @@ def recast(shape: Union[str, bytes], document: Any) -> bytearray:
     return output
 
 
-def _refused(record: _Refusal, texts: Union[bytearray, mmap.mmap]) -> Refused:
-    text = bytes(texts[record.text_start : record.text_start + record.text_length])
+def _refusal_count(length: int) -> int:
+    return min(length // 5, 4096 + length // 32)
+
+
+def _refused(record: _Refusal, texts: bytearray) -> Refused:
+    text = texts[record.text_start : record.text_start + record.text_length]
     refused = _KINDS[Status(record.status)](text.decode(), Status(record.status))
     refused.index, refused.offset = record.index, record.offset
     path = text[len("error at ") : record.cause_start - len(": ")] if record.cause_start else None
@@ -277,11 +286,11 @@ def migrate(shape: Union[str, bytes], file: Any) -> Migration:
     """The documents of a file, each recast at the shape. Raises ShapeRefused or Broken."""
     notation = _shape_bytes(shape)
     with _Bytes(notation) as shape_pair, _Bytes(file) as pair:
-        lengths = _output_len(notation, pair[1]), 4096 + pair[1], min(pair[1] // 5, 1024 + pair[1] // 40)
+        lengths = _output_len(notation, pair[1]), 65536 + pair[1], _refusal_count(pair[1])
         while True:
-            output, text, records = bytearray(lengths[0]), _text_buffer(lengths[1]), (_Refusal * lengths[2])()
-            with _Bytes(output) as output_pair, _Bytes(text) as text_pair:
-                migration = _library.tbson_migrate_and_list(*shape_pair, *pair, *output_pair, *text_pair, ctypes.addressof(records), len(records))
+            output, text, records = _buffer(lengths[0]), _buffer(lengths[1]), _buffer(lengths[2] * ctypes.sizeof(_Refusal))
+            with _Bytes(output) as output_pair, _Bytes(text) as text_pair, _Bytes(records) as (first, _):
+                migration = _library.tbson_migrate_and_list(*shape_pair, *pair, *output_pair, *text_pair, first, lengths[2])
             report = migration.report
             needed = max(lengths[0], report.needed), max(lengths[1], report.text_needed), max(lengths[2], migration.refusals_needed)
             if needed == lengths:
@@ -290,7 +299,7 @@ def migrate(shape: Union[str, bytes], file: Any) -> Migration:
     if report.status not in (Status.DONE, Status.SOME_REFUSED):
         raise _failure(report, text[: report.text_written].decode())
     del output[report.written :]
-    return Migration(output, [_refused(record, text) for record in records[: migration.refusals_written]])
+    return Migration(output, [_refused(record, text) for record in (_Refusal * migration.refusals_written).from_buffer(records)])
 
 
 def documents(file: Any) -> Iterator[memoryview]:

@@ -216,6 +216,42 @@ static void test_migrate_and_list(void)
     CHECK(holds((const uint8_t *)&refusals[1], sizeof refusals[1], TEXT("")));
     a = tbson_migrate_and_list(TEXT("{n:u32}"), BYTES(file), NULL, 0, NULL, 0, NULL, 0);
     CHECK(is(a.report, TBSON_BUFFER_TOO_SMALL, 0, 0, 32, 0, 27) && a.refusals_written == 0 && a.refusals_needed == 1);
+    /* Where nothing is refused, or all of the file, the array stays as it was. */
+    memset(refusals, 0xaa, sizeof refusals);
+    a = tbson_migrate_and_list(TEXT("{n:u32}"), file, 12, BYTES(output), BYTES(text), refusals, 2);
+    CHECK(is(a.report, TBSON_DONE, 0, 16, 16, 0, 0) && a.refusals_written == 0 && a.refusals_needed == 0);
+    a = tbson_migrate_and_list(TEXT("{n:u32}"), file, 18, BYTES(output), BYTES(text), refusals, 2);
+    CHECK(is(a.report, TBSON_BROKEN, 17, 0, 0, 0, 0) && a.refusals_written == 0 && a.refusals_needed == 0);
+    a = tbson_migrate_and_list(TEXT("{n:u33}"), BYTES(file), BYTES(output), BYTES(text), refusals, 2);
+    CHECK(is(a.report, TBSON_SHAPE_REFUSED, 6, 0, 0, 11, 11) && a.refusals_written == 0 && a.refusals_needed == 0);
+    CHECK(holds((const uint8_t *)refusals, sizeof refusals, TEXT("")));
+}
+
+/* A document that is refused in writing, one whose text has no path, and one that is recast. */
+static void test_two_refusals(void)
+{
+    static const uint8_t both[] = {12, 0, 0, 0, 16, 'n', 0, 7, 0, 0, 0, 0, 5, 0, 0, 0, 1, 5, 0, 0, 0, 0};
+    static const char said[] = "error at .: invalid map key type: Stringdocument not terminated";
+    tbson_refusal refusals[2];
+    tbson_migration_report a;
+    uint8_t output[8], text[64];
+
+    memset(output, 0xaa, sizeof output);
+    memset(text, 0xaa, sizeof text);
+    a = tbson_migrate_and_list(TEXT("[char:i32]"), BYTES(both), BYTES(output), BYTES(text), refusals, 2);
+    CHECK(is(a.report, TBSON_SOME_REFUSED, 0, 5, 5, 63, 63) && a.refusals_written == 2 && a.refusals_needed == 2);
+    CHECK(holds(output, sizeof output, both + 17, 5) && holds(text, sizeof text, TEXT(said)));
+    CHECK(refusals[0].index == 0 && refusals[0].offset == 0 && refusals[0].status == TBSON_WRITE_REFUSED);
+    CHECK(refusals[0].text_start == 0 && refusals[0].text_length == 40 && refusals[0].cause_start == 12);
+    CHECK(refusals[1].index == 1 && refusals[1].offset == 12 && refusals[1].status == TBSON_READ_REFUSED);
+    CHECK(refusals[1].text_start == 40 && refusals[1].text_length == 23 && refusals[1].cause_start == 0);
+    /* An array and a text buffer that are too small get what fits. */
+    memset(text, 0xaa, sizeof text);
+    memset(refusals, 0xaa, sizeof refusals);
+    a = tbson_migrate_and_list(TEXT("[char:i32]"), BYTES(both), BYTES(output), text, 10, refusals, 1);
+    CHECK(is(a.report, TBSON_SOME_REFUSED, 0, 5, 5, 10, 63) && a.refusals_written == 1 && a.refusals_needed == 2);
+    CHECK(holds(text, sizeof text, TEXT("error at .")) && refusals[0].text_length == 40);
+    CHECK(holds((const uint8_t *)&refusals[1], sizeof refusals[1], TEXT("")));
 }
 
 /* malloc, realloc and free of the library, which the linker's --wrap leads here: the one that is counted down to fails. */
@@ -278,6 +314,30 @@ static void test_no_memory(void)
     CHECK(n > 2 && is(report, TBSON_SOME_REFUSED, 0, 32, 32, 54, 54));
 }
 
+static void test_no_memory_for_a_list(void)
+{
+    uint8_t output[36], text[64];
+    tbson_refusal refusals[1];
+    tbson_migration_report a;
+    size_t n = 0;
+
+    do {
+        memset(output, 0xaa, sizeof output);
+        memset(text, 0xaa, sizeof text);
+        memset(refusals, 0xaa, sizeof refusals);
+        until_failure = ++n;
+        a = tbson_migrate_and_list(TEXT("{n:u32}"), BYTES(file), BYTES(output), BYTES(text), refusals, 1);
+        until_failure = 0;
+        CHECK(blocks == 0);
+        if (a.report.status == TBSON_NO_MEMORY) {
+            CHECK(is(a.report, TBSON_NO_MEMORY, 0, 0, 0, 0, 0) && a.refusals_written == 0 && a.refusals_needed == 0);
+            CHECK(holds(output, sizeof output, TEXT("")) && holds(text, sizeof text, TEXT("")));
+            CHECK(holds((const uint8_t *)refusals, sizeof refusals, TEXT("")));
+        }
+    } while (a.report.status == TBSON_NO_MEMORY);
+    CHECK(n > 2 && is(a.report, TBSON_SOME_REFUSED, 0, 32, 32, 27, 27) && a.refusals_written == 1);
+}
+
 int main(void)
 {
     CHECK(tbson_version() == TBSON_VERSION);
@@ -288,7 +348,9 @@ int main(void)
     test_next_document();
     test_migrate();
     test_migrate_and_list();
+    test_two_refusals();
     test_no_memory();
+    test_no_memory_for_a_list();
     puts("test.c: all holds");
     return 0;
 }

@@ -143,16 +143,33 @@ class Files(unittest.TestCase):
     def test_a_migration(self):
         migration = tbson.migrate("{n:u32}", self.FILE)
         self.assertEqual(migration.output, document(int64("n", 7)) + document(int64("n", 8)))
-        self.assertEqual([(r.index, r.offset, r.status, r.text, r.path, r.cause) for r in migration.refused], [(1, 12, tbson.Status.READ_REFUSED, "error at .: missing field n", ".", "missing field n")])
+        self.assertEqual(
+            [(r.index, r.offset, r.status, r.text, r.path, r.cause) for r in migration.refused],
+            [(1, 12, tbson.Status.READ_REFUSED, "error at .: missing field n", ".", "missing field n")],
+        )
+
+    def test_refused_in_writing_and_without_a_path(self):
+        migration = tbson.migrate("[char:i32]", document(int32("n", 7)) + b"\5\0\0\0\1" + document())
+        self.assertEqual(migration.output, document())
+        self.assertEqual(
+            [(type(r), r.index, r.offset, r.path, r.cause) for r in migration.refused],
+            [(tbson.WriteRefused, 0, 0, ".", "invalid map key type: String"), (tbson.ReadRefused, 1, 12, None, "document not terminated")],
+        )
+
+    def test_no_file_for_a_shape_that_is_none(self):
+        with self.assertRaises(tbson.ShapeRefused) as caught:
+            tbson.migrate("{n:u33}", self.FILE)
+        self.assertEqual((caught.exception.place, caught.exception.cause), (6, "not a shape"))
+        self.assertEqual(tbson.migrate("{n:u32}", b""), (b"", []))
 
     def test_many_refused_documents(self):
-        migration = tbson.migrate("{n:u32}", 100 * document())
+        migration = tbson.migrate("{n:u32}", 10000 * document())
         self.assertEqual(migration.output, b"")
-        self.assertEqual([(r.index, r.offset, r.text) for r in migration.refused], [(n, 5 * n, "error at .: missing field n") for n in range(100)])
+        self.assertEqual([(r.index, r.offset, r.text) for r in migration.refused], [(n, 5 * n, "error at .: missing field n") for n in range(10000)])
 
     def test_names_with_line_breaks_and_colons(self):
         name = "a: b\n"
-        refused = tbson.migrate('{"a: b\\n":u8}', document(text(name, "Ada"))).refused
+        refused = tbson.migrate('{"a: b\n":u8}', document(text(name, "Ada"))).refused
         self.assertEqual([(r.path, r.cause) for r in refused], [(name, "invalid type: String")])
 
 
@@ -178,7 +195,7 @@ class Calls(unittest.TestCase):
         self.assertEqual(self.count("tbson_recast", lambda: tbson.recast("[string:i64]", numbers)), 1)
         self.assertEqual(self.count("tbson_recast", lambda: tbson.check("[string:i64]", numbers)), 1)
         self.assertEqual(self.count("tbson_migrate_and_list", lambda: tbson.migrate("[string:i64]", 100 * numbers)), 1)
-        self.assertEqual(self.count("tbson_migrate_and_list", lambda: tbson.migrate("{n:u32}", 70 * document())), 1)
+        self.assertEqual(self.count("tbson_migrate_and_list", lambda: tbson.migrate("{n:u32}", 2000 * document())), 1)
 
     def test_one_call_for_a_long_text(self):
         name = "n" * 100000
@@ -191,13 +208,14 @@ class Calls(unittest.TestCase):
 
 
 class Missing(unittest.TestCase):
-    def test_a_missing_library(self):
-        environment = dict(os.environ, TBSON_LIBRARY="/nowhere/libtbson.so")
-        ran = subprocess.run([sys.executable, "-c", "import tbson"], env=environment, capture_output=True, text=True)
-        self.assertEqual(ran.returncode, 1)
-        last = ran.stderr.splitlines()[-1]
-        for said in ["ImportError: tbson: ", "/nowhere/libtbson.so", "make -C", "TBSON_LIBRARY"]:
-            self.assertIn(said, last)
+    def test_a_missing_library_and_another_one(self):
+        for library in ["/nowhere/libtbson.so", "libc.so.6"]:
+            environment = dict(os.environ, TBSON_LIBRARY=library)
+            ran = subprocess.run([sys.executable, "-c", "import tbson"], env=environment, capture_output=True, text=True)
+            self.assertEqual(ran.returncode, 1)
+            last = ran.stderr.splitlines()[-1]
+            for said in ["ImportError: tbson: ", library, "make -C", "TBSON_LIBRARY"]:
+                self.assertIn(said, last)
 
 
 class Threads(unittest.TestCase):
