@@ -9,9 +9,11 @@
  * - The output buffer gets all of the output, or nothing. The bytes behind the output stay as they were.
  * - The text buffer gets as many first bytes of the text as fit, and the bytes behind them stay as they were. The text is UTF-8 with no zero
  *   byte at its end; one that is cut may end inside a character. Names of fields are in it as they are, line breaks and zeros included.
+ * - The array of tbson_migrate_and_list gets as many first records as fit, and the places behind them stay as they were.
  *
- * Requirements for the caller. Each pointer with its length names so many bytes that may be read, and for a buffer written; with the length 0
- * the pointer may be NULL. A buffer overlaps no other argument of its call. Each length is at most PTRDIFF_MAX.
+ * Requirements for the caller. Each pointer with its length names so many bytes that may be read, and for a buffer written; `refusals` with its
+ * length names so many records, aligned as the struct is. With the length 0 the pointer may be NULL. A buffer or an array overlaps no other
+ * argument of its call, and takes at most PTRDIFF_MAX bytes.
  *
  * Threads. The library has no state. Calls may run at the same time, on threads of any kind, as long as none writes to what another one
  * reads or writes. Memory is taken by malloc and given back by free before the call returns, so a call may not run in a signal handler, nor
@@ -61,7 +63,8 @@ enum tbson_status {
     TBSON_END = 6,
     /* The output takes more bytes than its buffer has: as many as are needed. */
     TBSON_BUFFER_TOO_SMALL = 7,
-    /* Memory ran out. Any call but tbson_next_document and tbson_version may return it at any time. Both buffers are as they were. */
+    /* Memory ran out. Any call but tbson_next_document and tbson_version may return it at any time. The buffers and the array
+     * are as they were. */
     TBSON_NO_MEMORY = 8
 };
 
@@ -174,7 +177,7 @@ typedef struct tbson_refusal {
     size_t text_length;
     /*
      * Where in its text the cause begins. It is 0 where the text has no path; else the text is "error at PATH: CAUSE", and the path takes the bytes
-     * from the ninth up to two before the cause.
+     * from the offset 9 up to, but not with, the offset cause_start - 2.
      */
     size_t cause_start;
 } tbson_refusal;
@@ -192,6 +195,7 @@ typedef struct tbson_migration_report {
 /*
  * Recasts each document of a file as tbson_migrate does, with the same statuses, and lists the refused documents in an array, in the order of the file.
  * The text has no lines: it is the texts of the refused documents one after another, each as tbson_recast gives it, and a record says where each is.
+ * At TBSON_SHAPE_REFUSED it is as of tbson_check_shape.
  * Where the array has fewer places than there are refused documents, it gets the first records; the places behind them stay as they were. At any
  * status but TBSON_SOME_REFUSED and TBSON_BUFFER_TOO_SMALL no document is listed.
  */
