@@ -202,6 +202,12 @@ def turned_file(count):
     return shape, b"".join(documents)
 
 
+def missing_file(count):
+    """The same at a shape with one more field in the middle, an option that no document has."""
+    shape, documents = people(count)
+    return shape.replace(",tags:", ",nick:?string,tags:"), b"".join(documents)
+
+
 def dropping_file(count):
     """The same with a document, which no field takes, in front of each document's address."""
     dropped = element(3, "settings", document([int32("a", 1), text("b", "x")]))
@@ -225,6 +231,7 @@ WORKLOADS = {
     "file": lambda: file(10_000),
     "file, a tenth": lambda: file(1_000),
     "file in reverse order": lambda: turned_file(10_000),
+    "file, an option missing": lambda: missing_file(10_000),
     "file with a document dropped": lambda: dropping_file(10_000),
     "18,000 fields in order": lambda: fields(18_000, False),
     "9,000 fields in order": lambda: fields(9_000, False),

@@ -11,12 +11,8 @@ use Rattle.bson_datum.specs.Value.{no_field_values, field_value}
 use Rattle.bson_laws.specs.Judged.{plain, ignores}
 use Rattle.bson_laws.specs.Slots.{Slot, Slots, put_at, value_or, finish}
 use Rattle.bson_laws.specs.Spell.{spell, spell_fields}
+use Rattle.bson_one_pass.specs.Found.{names, IsWritten, AreWritten}
 use Rattle.bson_one_pass.specs.Put.{recast_fields, ArePairsPut}
-
--- the names of slots
-abbrev pub names : Slots → List Utf8
-names [] = []
-names (s ∷ ss) = s.name ∷ names ss
 
 -- a key is none of these names
 abbrev pub LacksName : Utf8 → List Utf8 → Type 0
@@ -26,6 +22,10 @@ LacksName key (n ∷ ns) = (bytes_eq n key ≡ false) × LacksName key ns
 -- a key is the name of none of these slots
 abbrev pub Lacks : Utf8 → Slots → Type 0
 Lacks key ss = LacksName key (names ss)
+
+pub names-append : (xs ys : Slots) → names (xs ++ ys) ≡ names xs ++ names ys
+names-append [] ys = refl
+names-append (x ∷ xs) ys = ap (λ ns. x.name ∷ ns) (names-append xs ys)
 
 -- the slot with a value
 abbrev pub filled : Slot → Marked → Slot
@@ -42,20 +42,6 @@ put_due key n [] back s v free same empty read = rw (same, empty, read) refl
 put_due key n (f ∷ front) back s v free same empty read = rw (free.0, put_due key n front back s v free.1 same empty read) refl
 
 -- ---- what is written
-
--- a slot whose field is written as this element
-pub record IsWritten (levels : ℕ) (s : Slot) (bytes : Bytes) : Type 0 where
-  pub value : Marked
-  pub tree : Tree
-  pub given : value_or s.name s.missing s.value ≡ Ok value
-  pub spelled : spell (contents value) levels ≡ Ok tree
-  pub closed : has_zero s.name ≡ false
-  pub bytes_are : bytes ≡ element (kind tree) s.name (enc tree)
-
--- slots whose fields are written as these bytes
-abbrev pub AreWritten : (levels : ℕ) → Slots → Bytes → Type 0
-AreWritten levels [] bytes = bytes ≡ []
-AreWritten levels (s ∷ ss) bytes = (first rest : Bytes) × IsWritten levels s first × AreWritten levels ss rest × (bytes ≡ first ++ rest)
 
 -- one more
 pub written_more : (levels : ℕ) (ss : Slots) (s : Slot) (bytes more : Bytes) → AreWritten levels ss bytes → IsWritten levels s more → AreWritten levels (ss ++ s ∷ []) (bytes ++ more)

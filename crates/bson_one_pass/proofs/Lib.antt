@@ -1,6 +1,7 @@
 mod Items
 mod Fields
 mod Places
+mod AnyOrder
 mod Pieces
 mod Values
 mod Leaves

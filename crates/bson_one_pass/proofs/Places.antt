@@ -25,14 +25,11 @@ use Rattle.bson_laws.specs.Spell.{Writing, spell}
 use Rattle.bson_laws.specs.Views.{absent}
 use Rattle.bson_one_pass.specs.Free.{is_free}
 use Rattle.bson_one_pass.specs.Put.{of_writing, recast_by, recast_node, recast_fields, IsElementPut, ArePairsPut}
-use Rattle.bson_one_pass.proofs.Fields.{names, LacksName, filled, put_dropped, put_due, AreWritten, written_more, fields_end, fields_step}
-
--- the name of a field
-abbrev name_of : FieldShape → Utf8
-name_of f = string_bytes f.name
+use Rattle.bson_one_pass.specs.Found.{name_of, names, AreWritten}
+use Rattle.bson_one_pass.proofs.Fields.{LacksName, names-append, filled, put_dropped, put_due, written_more, fields_end, fields_step}
 
 -- the slot of a field
-abbrev slot_of : FieldShape → Slot
+abbrev pub slot_of : FieldShape → Slot
 slot_of f = record { name = string_bytes f.name; missing = absent f.shape; read = reads f.shape plain; value = None }
 
 -- The fields up to a place were written: what is left of the document fills the other slots, and these bytes were appended.
@@ -46,19 +43,15 @@ pub record AreUnderWay (fs : List FieldShape) (levels : ℕ) (whole : Option Pai
 
 -- ---- names
 
-names-append : (xs ys : Slots) → names (xs ++ ys) ≡ names xs ++ names ys
-names-append [] ys = refl
-names-append (x ∷ xs) ys = ap (λ ns. x.name ∷ ns) (names-append xs ys)
-
 names-slots : (fs : List FieldShape) → names (slots_of (fields_of fs) plain) ≡ map name_of fs
 names-slots [] = refl
 names-slots (f ∷ fs) = ap (λ ns. name_of f ∷ ns) (names-slots fs)
 
-or_false : (a b : Bool) → (a || b) ≡ false → (a ≡ false) × (b ≡ false)
+pub or_false : (a b : Bool) → (a || b) ≡ false → (a ≡ false) × (b ≡ false)
 or_false true b h = absurd cc
 or_false false b h = (refl, h)
 
-same_name : (x y : Utf8) → bytes_eq x y ≡ true → x ≡ y
+pub same_name : (x y : Utf8) → bytes_eq x y ≡ true → x ≡ y
 same_name x y h = (bytes_eq-Decides x y).0 h
 
 swapped : (x y : Utf8) → bytes_eq x y ≡ false → bytes_eq y x ≡ false
@@ -71,7 +64,7 @@ lacks_of : (key : Utf8) (ns : List Utf8) → has_name key ns ≡ false → Lacks
 lacks_of key [] h = tt
 lacks_of key (n ∷ ns) h = let parts = or_false (bytes_eq key n) (has_name key ns) h in (swapped key n parts.0, lacks_of key ns parts.1)
 
-free_lacks : (key : Utf8) (fs : List FieldShape) → is_free key fs ≡ true → LacksName key (map name_of fs)
+pub free_lacks : (key : Utf8) (fs : List FieldShape) → is_free key fs ≡ true → LacksName key (map name_of fs)
 free_lacks key [] h = tt
 free_lacks key (f ∷ fs) h = let parts = not_taken (bytes_eq (name_of f) key) (is_free key fs) h in (parts.0, free_lacks key fs parts.1)
 

@@ -1,3 +1,4 @@
 pub mod Recast
 pub mod Put
 pub mod Free
+pub mod Found

@@ -15,10 +15,10 @@ use std::alloc::Global;
 /// Reads the bytes of a document at a shape, and gives the bytes of what was read, in one pass.
 ///
 /// `None` says nothing of the document: it is for the shapes and documents that the pass does not take, for those that are refused, and where memory runs
-/// out. It takes structs whose fields the document has in the shape's order, options, sequences, tuples, tuple structs, newtypes, unit structs, texts at the
-/// unit variants of enums, maps of different keys at `str` or `string`, and the leaves `bool`, `double`, `unit`, `str`, `string`, `bytes`,
-/// `bytebuf`, `oid`, `datetime`, `timestamp`, `decimal`, `binary`, `uuid` and those of integers, where the value is of the kind of the leaf. It takes no
-/// binary of the old subtype 2. At `any` it takes what is written as it was read: values without an extended value in them, whose arrays have their indexes as
+/// out. It takes structs, those of more than 64 fields where the document has them in the shape's order and nothing else, options, sequences, tuples, tuple
+/// structs, newtypes, unit structs, texts at the unit variants of enums, maps of different keys at `str` or `string`, and the leaves `bool`, `double`, `unit`,
+/// `str`, `string`, `bytes`, `bytebuf`, `oid`, `datetime`, `timestamp`, `decimal`, `binary`, `uuid` and those of integers, where the value is of the kind of the
+/// leaf. It takes no binary of the old subtype 2. At `any` it takes what is written as it was read: values without an extended value in them, whose arrays have their indexes as
 /// keys and whose documents have no key twice.
 pub fn recast_at_once(alloc: Global, shape: &Shape, bytes: &[u8]) -> Option<Vec<u8>>
     ensures recast { IfSome result (λ v. IsRecastAs shape.now bytes.now v.items) }

@@ -1,5 +1,5 @@
 // Values that no field takes: they are walked to their end, and dropped.
-ghost use Rattle.std.specs.Prelude.{◌≡◌, ◌≤◌, ◌-◌, Ok, true, IsTrue};
+ghost use Rattle.std.specs.Prelude.{◌≡◌, ◌≤◌, ◌-◌, Ok, true, IfSome, IsTrue};
 ghost use Rattle.std.specs.Str.{is_utf8};
 ghost use Rattle.bson_rawdoc.specs.Node.{binary_node, inner_node, node_in, nodes_with, value_node};
 ghost use Rattle.bson_rawdoc.specs.Piece.{borrowed};
@@ -9,7 +9,7 @@ ghost use Rattle.bson_one_pass.specs.Free.{ArePassed};
 
 use crate::array::value_of;
 use bson_base::BinarySubtype;
-use bson_rawdoc::{RawBsonRef, RawIter};
+use bson_rawdoc::{RawBsonRef, RawElement, RawIter};
 
 /// Whether nothing in a value is at fault, with so many levels left.
 #[cycle(dropped)]
@@ -78,4 +78,15 @@ fn is_binary(subtype: BinarySubtype, bytes: &[u8]) -> bool
     ensures { ignores plain (binary_node subtype.0 (borrowed bytes.now)) ≡ Ok tt }
 {
     true
+}
+
+/// The value of an element that no field has: it is walked to its end, and dropped. `None` where something in it is at fault.
+pub(crate) fn drop_value(levels: u32, element: &RawElement<'_>) -> Option<()>
+    ensures { IfSome result (λ _. ignores plain (node_in levels element.now.kind element.now.value) ≡ Ok tt) }
+{
+    let value = value_of(element, levels)?;
+    if is_passed(&value, levels) {
+        return Some(());
+    }
+    None
 }

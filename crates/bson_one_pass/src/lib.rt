@@ -9,6 +9,7 @@ mod bytes;
 mod document;
 mod dropped;
 mod extended;
+mod found;
 mod leaf;
 mod map;
 mod structure;

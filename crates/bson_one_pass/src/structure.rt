@@ -1,5 +1,5 @@
-// Documents at a struct whose fields they have in the shape's order.
-ghost use Rattle.std.specs.Prelude.{◌≡◌, ◌++◌, [], string_bytes, false, true, IfSome, None, Some, Ok};
+// Documents at structs.
+ghost use Rattle.std.specs.Prelude.{◌≡◌, ◌++◌, [], string_bytes, false, IfSome, None, Some};
 ghost use Rattle.bson_base.specs.Text.{has_zero};
 ghost use Rattle.bson_base.specs.Tree.{element};
 ghost use Rattle.bson_base.specs.Reserved.{reserved_kind};
@@ -11,15 +11,16 @@ ghost use Rattle.bson_shape.specs.Form.{structure};
 ghost use Rattle.bson_shape.specs.Makers.{AreDistinct};
 ghost use Rattle.bson_shape.specs.ShapeView.{fields_of};
 ghost use Rattle.bson_datum.specs.Value.{none};
-ghost use Rattle.bson_laws.specs.Judged.{plain, ignores};
+ghost use Rattle.bson_laws.specs.Judged.{plain};
 ghost use Rattle.bson_laws.specs.Reads.{slots_of};
 ghost use Rattle.bson_laws.specs.Views.{absent};
-ghost use Rattle.bson_one_pass.specs.Free.{is_free};
+ghost use Rattle.bson_one_pass.specs.Found.{IsFoundPut, AreFoundPut};
 ghost use Rattle.bson_one_pass.specs.Put.{recast_node, recast_fields, IsPut, IsElementPut, ArePairsPut};
 
-use crate::array::{recast_item, value_of};
+use crate::array::recast_item;
 use crate::bytes::{close, put, put_front, set_kind};
-use crate::dropped::is_passed;
+use crate::dropped::drop_value;
+use crate::found::{find_elements, is_free};
 use bson_base::{ElementType, has_zero};
 use bson_rawdoc::{RawDocument, RawElement, RawIter};
 use bson_shape::{FieldShape, Form};
@@ -51,20 +52,21 @@ pub(crate) fn recast_struct(
     Some(ElementType::EmbeddedDocument)
 }
 
-/// The fields from the elements of a document. An element that no field has is dropped, and an option that no element has is null.
+/// The fields from the elements of a document: as they come while they come in the shape's order, and the others once their elements are found. An element that
+/// no field has is dropped, and an option that no element has is null.
 #[cycle(recast)]
 fn recast_fields(
     made: &mut Vec<u8>,
     fields: &[FieldShape],
     levels: u32,
-    elements: RawIter<'_>,
+    mut elements: RawIter<'_>,
 ) -> Option<()>
     requires distinct { AreDistinct (fields_of fields.now) }
     ensures { IfSome result (λ _. ArePairsPut (recast_fields (slots_of (fields_of fields.now) plain) levels (nodes_with (node_in levels) elements.entry))
         made.old.items made.new.items) }
 {
     let mut place = 0;
-    for element in elements {
+    while let Some(element) = elements.next() {
         let Ok(element) = element else {
             return None;
         };
@@ -73,7 +75,20 @@ fn recast_fields(
                 recast_field(made, field, levels, &element)?;
                 place += 1;
             }
-            _ => drop_element(fields, levels, &element)?,
+            _ if fields.len() > MOST_COMPARED => return None,
+            _ if is_free(fields, element.key()) => drop_value(levels, &element)?,
+            _ => {
+                let (front, others) = fields.split_at(place);
+                let found = find_elements(
+                    *made.allocator(),
+                    front,
+                    others,
+                    levels,
+                    element,
+                    elements,
+                )?;
+                return put_found(made, others, levels, &found);
+            }
         }
     }
     while let Some(field) = fields.get(place) {
@@ -102,31 +117,38 @@ fn recast_field(
     recast_item(made, &field.shape, levels, element, name)
 }
 
-/// An element that no field has: its value is walked to its end, and dropped.
-fn drop_element(fields: &[FieldShape], levels: u32, element: &RawElement<'_>) -> Option<()>
-    ensures free { IfSome result (λ _. is_free element.now.key fields.now ≡ true) }
-    ensures ignored { IfSome result (λ _. ignores plain (node_in levels element.now.kind element.now.value) ≡ Ok tt) }
+/// Fields from the elements that were found for them, in the fields' order.
+#[cycle(recast)]
+fn put_found(
+    made: &mut Vec<u8>,
+    fields: &[FieldShape],
+    levels: u32,
+    found: &[Option<RawElement<'_>>],
+) -> Option<()>
+    ensures { IfSome result (λ _. AreFoundPut levels fields.now found.now made.old.items made.new.items) }
 {
-    if fields.len() > MOST_COMPARED || !is_free(fields, element.key()) {
-        return None;
+    let mut place = 0;
+    while let Some(field) = fields.get(place) {
+        put_field(made, field, levels, found.get(place)?)?;
+        place += 1;
     }
-    let value = value_of(element, levels)?;
-    if is_passed(&value, levels) {
-        return Some(());
-    }
-    None
+    Some(())
 }
 
-/// Whether a key is the name of no field.
-fn is_free(fields: &[FieldShape], key: &str) -> bool
-    ensures { result ≡ is_free key.now fields.now }
+/// A field from the element that was found for it, if one was.
+#[cycle(recast)]
+fn put_field(
+    made: &mut Vec<u8>,
+    field: &FieldShape,
+    levels: u32,
+    found: &Option<RawElement<'_>>,
+) -> Option<()>
+    ensures { IfSome result (λ _. IsFoundPut levels field.now found.now made.old.items made.new.items) }
 {
-    for field in fields {
-        if field.name.as_str() == key {
-            return false;
-        }
+    match found {
+        Some(element) => recast_field(made, field, levels, element),
+        None => put_missing(made, field),
     }
-    true
 }
 
 /// A field that no element has: an option is null.

@@ -19,6 +19,8 @@ use Rattle.bson_one_pass.proofs.Entries.{entry_step, entries_end, map_put}
 use Rattle.bson_one_pass.proofs.Forms.{newtype_is}
 use Rattle.bson_one_pass.proofs.Items.{item_step, left_none}
 use Rattle.bson_one_pass.proofs.Pieces.{enclosed_put, item_put}
+use Rattle.bson_one_pass.proofs.AnyOrder as any_order
+use Rattle.bson_one_pass.proofs.AnyOrder.{if_element_put, if_missing_put, left_less, if_found_put, fewer}
 use Rattle.bson_one_pass.proofs.Places.{due_step, dropped_step, missing_step, places_end}
 use Rattle.bson_one_pass.proofs.Tuples.{part_at_put, parts_put, tuple_put, tuple_structure_put}
 use Rattle.bson_one_pass.proofs.+recast.Goals as goal
@@ -73,7 +75,7 @@ structure::recast_fields-recast_field-requires t c =
     let found = c.in-Some-get.ensures.lookup in
     let smaller = field_smaller fs c.loop-element.place f found.3.0 in
     let same : nodes (get_or fs c.loop-element.place f).shape ≡ nodes f.shape = ap (λ (g : FieldShape). nodes g.shape) (sym found.1) in
-    let less : 8 * nodes f.shape + 2 < 8 * fields_nodes (fields_of fs) + 3 = omega (arith, smaller, same) in
+    let less : 8 * nodes f.shape + 2 < 8 * fields_nodes (fields_of fs) + 4 = omega (arith, smaller, same) in
     search rules
 
 pub structure::recast_fields-loop-element-preserved-then-eq : goal.structure::recast_fields-loop-element-preserved-then-eq
@@ -85,24 +87,19 @@ structure::recast_fields-loop-element-preserved-then-eq t c =
     let step = rw c.in-Ok.is at c.in-Some.ensures.steps in
     let written = c.in_ok-recast_field-in-Some-get.ensures in
     let same = ap (λ x. bytes_eq x e.key) (sym c.as_str.ensures.value) ∙ ap (λ k. bytes_eq c.as_str.result.now k) (sym c.key.ensures.key) ∙ sym c.eq.ensures ∙ c.if-eq.true in (
-      tt,
-      tt,
       omega (arith, found.3.0),
-      due_step fs levels (recast_fields (slots_of (fields_of fs) plain) levels (nodes_with (node_in levels) c.args.elements)) c.loop-element.place c.args.made.now.items c.loop-element.made.items c.loop-element.element-iterator c.next.new.self e
-          c.in-Some-get.field.now c.recast_field.new.made.items c.loop-element.invariant.3 step found.3.0 found.1 same c.requires.distinct written.name written.put,
+      due_step fs levels (recast_fields (slots_of (fields_of fs) plain) levels (nodes_with (node_in levels) c.args.elements)) c.loop-element.place c.args.made.now.items c.loop-element.made.items c.loop-element.elements c.next.new.self e
+          c.in-Some-get.field.now c.recast_field.new.made.items c.loop-element.invariant.1 step found.3.0 found.1 same c.requires.distinct written.name written.put,
     )
 
 pub structure::recast_fields-loop-element-preserved : goal.structure::recast_fields-loop-element-preserved
 structure::recast_fields-loop-element-preserved t c =
     let fs = c.args.fields.now in
     let levels = c.args.levels in
-    let dropped = c.in_ok-drop_element-in_default-get.ensures in
     let step = rw c.in-Ok.is at c.in-Some.ensures.steps in (
-      tt,
-      tt,
-      c.loop-element.invariant.2,
-      dropped_step fs levels (recast_fields (slots_of (fields_of fs) plain) levels (nodes_with (node_in levels) c.args.elements)) c.loop-element.place c.args.made.now.items c.loop-element.made.items c.loop-element.element-iterator c.next.new.self
-          c.in-Ok.element c.loop-element.invariant.3 step dropped.free dropped.ignored,
+      c.loop-element.invariant.0,
+      dropped_step fs levels (recast_fields (slots_of (fields_of fs) plain) levels (nodes_with (node_in levels) c.args.elements)) c.loop-element.place c.args.made.now.items c.loop-element.made.items c.loop-element.elements c.next.new.self
+          c.in-Ok.element c.loop-element.invariant.1 step (search rules) c.in_ok-drop_value-in_default-2.ensures,
     )
 
 pub structure::recast_fields-loop-field-preserved : goal.structure::recast_fields-loop-field-preserved
@@ -199,3 +196,51 @@ map::recast_map-returns t c =
     let at : c.len-start.result ≡ length old = search rules in
     let ends : new ≡ take (length old) made ++ enclosed (drop (length old + 4) made) = c.in_ok-close.ensures ∙ ap (λ n. take n made ++ enclosed (drop (n + 4) made)) at in
     map_put c.args.key c.args.shape.now c.args.levels m b old begun made new (search rules) (λ e fills. enclosed_put old begun made new e c.in_ok-put.ensures fills ends) (rw c.iter_elements.ensures.walk at c.in_ok-recast_entries.ensures)
+
+pub structure::put_field-returns-in-Some : goal.structure::put_field-returns-in-Some
+structure::put_field-returns-in-Some t c =
+    rw c.in-Some.is (if_element_put c.args.levels c.args.field.now c.in-Some.element c.args.made.now.items c.recast_field.new.made.items c.recast_field.result c.recast_field.ensures.name c.recast_field.ensures.put)
+
+pub structure::put_field-returns-in-None : goal.structure::put_field-returns-in-None
+structure::put_field-returns-in-None t c =
+    rw c.in-None.is (if_missing_put c.args.levels c.args.field.now c.args.made.now.items c.put_missing.new.made.items c.put_missing.result c.put_missing.ensures.name c.put_missing.ensures.absent c.put_missing.ensures.put)
+
+pub structure::put_found-put_field-requires : goal.structure::put_found-put_field-requires
+structure::put_found-put_field-requires t c =
+    let fs = c.args.fields.now in
+    let f = c.in-Some.field.now in
+    let at = c.in-Some.ensures.lookup in
+    let smaller = field_smaller fs c.loop-field.place f at.3.0 in
+    let same : nodes (get_or fs c.loop-field.place f).shape ≡ nodes f.shape = ap (λ (g : FieldShape). nodes g.shape) (sym at.1) in
+    let less : 8 * nodes f.shape + 3 < 8 * fields_nodes (fields_of fs) + 3 = omega (arith, smaller, same) in
+    search rules
+
+pub structure::put_found-loop-field-preserved : goal.structure::put_found-loop-field-preserved
+structure::put_found-loop-field-preserved t c =
+    let at = c.in-Some.ensures.lookup in
+    let there = c.in_ok-get.ensures.lookup in (
+      omega (arith, at.3.0),
+      left_less c.args.levels c.args.fields.now c.args.found.now c.loop-field.place c.args.made.now.items c.loop-field.made.items c.put_field.new.made.items c.in-Some.field.now c.in_ok-get.field-0.now c.loop-field.invariant.1 at.3.0 at.1
+          there.3.0 there.1 c.in_ok-put_field.ensures,
+    )
+
+pub structure::put_found-returns : goal.structure::put_found-returns
+structure::put_found-returns t c =
+    any_order.left_none c.args.levels c.args.fields.now c.args.found.now c.loop-field.place c.args.made.now.items c.loop-field.made.items c.loop-field.invariant.1 (search rules)
+
+pub structure::recast_fields-put_found-requires : goal.structure::recast_fields-put_found-requires
+structure::recast_fields-put_found-requires t c =
+    let fs = c.args.fields.now in
+    let same : fields_nodes (fields_of c.split_at.result.1.now) ≡ fields_nodes (fields_of (drop c.loop-element.place fs)) = ap (λ xs. fields_nodes (fields_of xs)) c.split_at.ensures.back in
+    let less : 8 * fields_nodes (fields_of c.split_at.result.1.now) + 3 < 8 * fields_nodes (fields_of fs) + 4 = omega (arith, fewer fs c.loop-element.place, same) in
+    search rules
+
+pub structure::recast_fields-returns-in_default-3 : goal.structure::recast_fields-returns-in_default-3
+structure::recast_fields-returns-in_default-3 t c =
+    let fs = c.args.fields.now in
+    let levels = c.args.levels in
+    let step = rw c.in-Ok.is at c.in-Some.ensures.steps in
+    let found = rw (c.split_at.ensures.front, c.split_at.ensures.back) at c.in_ok-found-in_default-3.ensures in
+    let put = rw (c.split_at.ensures.back, c.deref.ensures.value) at c.put_found.ensures in
+    if_found_put fs levels (recast_fields (slots_of (fields_of fs) plain) levels (nodes_with (node_in levels) c.args.elements)) c.loop-element.place c.args.made.now.items c.loop-element.made.items c.put_found.new.made.items c.loop-element.elements
+    c.next.new.self c.in-Ok.element c.in_ok-found-in_default-3.found.items c.put_found.result c.loop-element.invariant.1 step found put

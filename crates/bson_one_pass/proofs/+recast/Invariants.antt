@@ -3,6 +3,7 @@ use Rattle.std.specs.List.{IsDistinct}
 use Rattle.std.specs.Str.{bytes_eq}
 use Rattle.bson_base.specs.Text.{Utf8}
 use Rattle.bson_keys.specs.Met.{HasKeys}
+use Rattle.bson_rawdoc.specs.Next.{steps}
 use Rattle.bson_rawdoc.specs.Node.{ended, node_in, nodes_with}
 use Rattle.bson_shape.specs.ShapeView.{fields_of, parts_of, nodes, fields_nodes, parts_nodes}
 use Rattle.bson_datum.specs.Value.{no_entries}
@@ -10,6 +11,7 @@ use Rattle.bson_laws.specs.Judged.{plain}
 use Rattle.bson_laws.specs.Reads.{slots_of}
 use Rattle.bson_one_pass.specs.Put.{recast_items, recast_parts, recast_entries, recast_fields}
 use Rattle.bson_one_pass.proofs.Places.{AreUnderWay}
+use Rattle.bson_one_pass.proofs.AnyOrder.{FoundLeft}
 use Rattle.bson_one_pass.proofs.Items.{AreLeft}
 use Rattle.bson_one_pass.proofs.Entries.{AreEntriesPut}
 use Rattle.bson_one_pass.proofs.+recast.Given as goal
@@ -48,10 +50,16 @@ abbrev pub decreases-structure::recast_field : goal.decreases-structure::recast_
 decreases-structure::recast_field l = 8 * nodes l.field.now.shape + 2
 
 abbrev pub decreases-structure::recast_fields : goal.decreases-structure::recast_fields
-decreases-structure::recast_fields l = 8 * fields_nodes (fields_of l.fields.now) + 3
+decreases-structure::recast_fields l = 8 * fields_nodes (fields_of l.fields.now) + 4
+
+abbrev pub decreases-structure::put_found : goal.decreases-structure::put_found
+decreases-structure::put_found l = 8 * fields_nodes (fields_of l.fields.now) + 3
+
+abbrev pub decreases-structure::put_field : goal.decreases-structure::put_field
+decreases-structure::put_field l = 8 * nodes l.field.now.shape + 3
 
 abbrev pub decreases-structure::recast_struct : goal.decreases-structure::recast_struct
-decreases-structure::recast_struct l = 8 * fields_nodes (fields_of l.fields.now) + 4
+decreases-structure::recast_struct l = 8 * fields_nodes (fields_of l.fields.now) + 5
 
 abbrev pub invariant-array::recast_items-loop-element : goal.invariant-array::recast_items-loop-element
 invariant-array::recast_items-loop-element l =
@@ -60,8 +68,17 @@ invariant-array::recast_items-loop-element l =
 
 abbrev pub invariant-structure::recast_fields-loop-element : goal.invariant-structure::recast_fields-loop-element
 invariant-structure::recast_fields-loop-element l =
-    (goal.iterator-structure::recast_fields-loop-element).can_next l.element-iterator × (goal.iterator-structure::recast_fields-loop-element).is_finite l.element-iterator × (l.place ≤ length l.fields)
-    × AreUnderWay l.fields l.levels (recast_fields (slots_of (fields_of l.fields) plain) l.levels (nodes_with (node_in l.levels) l.fn.elements)) (nodes_with (node_in l.levels) l.element-iterator) l.place l.initial.made.items l.made.items
+    (l.place ≤ length l.fields)
+    × AreUnderWay l.fields l.levels (recast_fields (slots_of (fields_of l.fields) plain) l.levels (nodes_with (node_in l.levels) l.fn.elements)) (nodes_with (node_in l.levels) l.elements) l.place l.initial.made.items l.made.items
+
+abbrev pub decreases-structure::recast_fields-loop-element : goal.decreases-structure::recast_fields-loop-element
+decreases-structure::recast_fields-loop-element l = steps l.elements
+
+abbrev pub invariant-structure::put_found-loop-field : goal.invariant-structure::put_found-loop-field
+invariant-structure::put_found-loop-field l = (l.place ≤ length l.fields) × FoundLeft l.levels l.fields l.found l.place l.fn.made.items l.made.items
+
+abbrev pub decreases-structure::put_found-loop-field : goal.decreases-structure::put_found-loop-field
+decreases-structure::put_found-loop-field l = length l.fields - l.place
 
 abbrev pub invariant-structure::recast_fields-loop-field : goal.invariant-structure::recast_fields-loop-field
 invariant-structure::recast_fields-loop-field l =

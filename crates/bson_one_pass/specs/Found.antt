@@ -1,0 +1,93 @@
+-- The fields of a struct whose elements come in any order: what is found of them, and what is written. It is for the contracts of the parts of the pass.
+use Rattle.std.specs.Prelude.{◌≡◌, ℕ, zero, suc, ◌++◌, List, [], ◌∷◌, map, Option, Some, None, Ok, true, false, string_bytes}
+use Rattle.std.specs.Str.{bytes_eq}
+use Rattle.bson_base.specs.Text.{Bytes, Utf8, has_zero}
+use Rattle.bson_base.specs.Tree.{Tree, enc, kind, element}
+use Rattle.bson_rawdoc.specs.Node.{Nodes, node_in}
+use Rattle.bson_rawdoc.specs.Walk.{Element}
+use Rattle.bson_shape.specs.ShapeView.{fields_of}
+use Rattle.bson_shape.specs.declared.shape.FieldShape.{FieldShape}
+use Rattle.bson_datum.specs.Marked.{Marked, contents}
+use Rattle.bson_laws.specs.Judged.{plain}
+use Rattle.bson_laws.specs.Reads.{reads, slots_of}
+use Rattle.bson_laws.specs.Slots.{Slot, Slots, fill, put_at, value_or}
+use Rattle.bson_laws.specs.Spell.{spell}
+use Rattle.bson_laws.specs.Views.{absent}
+
+-- ---- names
+
+-- the name of a field
+abbrev pub name_of : FieldShape → Utf8
+name_of f = string_bytes f.name
+
+-- the key names the field at the place
+abbrev pub IsField : List FieldShape → (place : ℕ) → (key : Utf8) → Type 0
+IsField [] i key = ⊥
+IsField (f ∷ fs) zero key = bytes_eq (name_of f) key ≡ true
+IsField (f ∷ fs) (suc i) key = IsField fs i key
+
+-- the names of slots
+abbrev pub names : Slots → List Utf8
+names [] = []
+names (s ∷ ss) = s.name ∷ names ss
+
+-- ---- elements
+
+-- the slot of a field, with the value that was read for it, if one was
+abbrev pub slot_with : FieldShape → Option Marked → Slot
+slot_with f v = record { name = name_of f; missing = absent f.shape; read = reads f.shape plain; value = v }
+
+-- the slots of fields, each with its value
+abbrev pub slots_with : List FieldShape → List (Option Marked) → Slots
+slots_with [] vs = []
+slots_with (f ∷ fs) [] = []
+slots_with (f ∷ fs) (v ∷ vs) = slot_with f v ∷ slots_with fs vs
+
+-- the element that was found for a field is read as a value; where none was found, there is none
+abbrev pub IsReadAs : (levels : ℕ) → FieldShape → Option Element → Option Marked → Type 0
+IsReadAs levels f None None = Unit {0}
+IsReadAs levels f None (Some v) = ⊥
+IsReadAs levels f (Some e) None = ⊥
+IsReadAs levels f (Some e) (Some v) = reads f.shape plain (node_in levels e.kind e.value) ≡ Ok v
+
+-- the same for each field
+abbrev pub AreReadAs : (levels : ℕ) → List FieldShape → List (Option Element) → List (Option Marked) → Type 0
+AreReadAs levels [] es vs = vs ≡ []
+AreReadAs levels (f ∷ fs) [] vs = ⊥
+AreReadAs levels (f ∷ fs) (e ∷ es) [] = ⊥
+AreReadAs levels (f ∷ fs) (e ∷ es) (v ∷ vs) = IsReadAs levels f e v × AreReadAs levels fs es vs
+
+-- An element was found for one of these fields, or is dropped. Where the elements that are found now are read as values, those that were found before are too, and
+-- this element fills the slots of the fields up to its value, behind slots in front of them.
+abbrev pub IsNoted : (levels : ℕ) → (front fields : List FieldShape) → Element → (old new : List (Option Element)) → Type 0
+IsNoted levels front fs e old new = (after : List (Option Marked)) → AreReadAs levels fs new after → (before : List (Option Marked)) × AreReadAs levels fs old before
+    × ((slots : Slots) → map name_of front ≡ names slots → put_at plain e.key (node_in levels e.kind e.value) (slots ++ slots_with fs before) ≡ Ok (slots ++ slots_with fs after))
+
+-- Elements were found for fields, behind slots of fields in front. Where these are read as values, the elements fill the slots as those that are left fill the slots with these values.
+abbrev pub AreFound : (levels : ℕ) → (front fields : List FieldShape) → (whole left : Nodes) → (found : List (Option Element)) → Type 0
+AreFound levels front fs whole left found = (values : List (Option Marked)) → AreReadAs levels fs found values → (slots : Slots) → map name_of front ≡ names slots
+    → fill plain whole (slots ++ slots_of (fields_of fs) plain) ≡ fill plain left (slots ++ slots_with fs values)
+
+-- ---- what is written
+
+-- a slot whose field is written as this element
+pub record IsWritten (levels : ℕ) (s : Slot) (bytes : Bytes) : Type 0 where
+  pub value : Marked
+  pub tree : Tree
+  pub given : value_or s.name s.missing s.value ≡ Ok value
+  pub spelled : spell (contents value) levels ≡ Ok tree
+  pub closed : has_zero s.name ≡ false
+  pub bytes_are : bytes ≡ element (kind tree) s.name (enc tree)
+
+-- slots whose fields are written as these bytes
+abbrev pub AreWritten : (levels : ℕ) → Slots → Bytes → Type 0
+AreWritten levels [] bytes = bytes ≡ []
+AreWritten levels (s ∷ ss) bytes = (first rest : Bytes) × IsWritten levels s first × AreWritten levels ss rest × (bytes ≡ first ++ rest)
+
+-- A field was written: the element that was found for it, if one was, is read as a value, and its slot with this is written as the bytes that were appended.
+abbrev pub IsFoundPut : (levels : ℕ) → FieldShape → (found : Option Element) → (old new : Bytes) → Type 0
+IsFoundPut levels f found old new = (value : Option Marked) × (bytes : Bytes) × IsReadAs levels f found value × IsWritten levels (slot_with f value) bytes × (new ≡ old ++ bytes)
+
+-- Fields were written in their order: the elements that were found for them are read as values, and the slots with these are written as the bytes that were appended.
+abbrev pub AreFoundPut : (levels : ℕ) → List FieldShape → (found : List (Option Element)) → (old new : Bytes) → Type 0
+AreFoundPut levels fs found old new = (values : List (Option Marked)) × (bytes : Bytes) × AreReadAs levels fs found values × AreWritten levels (slots_with fs values) bytes × (new ≡ old ++ bytes)
