@@ -4,3 +4,4 @@ pub mod Headline
 pub mod Settled
 pub mod Again
 mod AtOnce
+pub mod OneWord

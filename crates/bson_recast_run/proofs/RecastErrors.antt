@@ -10,7 +10,6 @@ use Rattle.bson_shape.specs.Form.{Form}
 use Rattle.bson_datum.specs.Value.{Value}
 use Rattle.bson_datum.specs.Refusal.{WriteFault, Failure, no_memory}
 use Rattle.bson_datum.specs.ErrorView.{write_failure}
-use Rattle.bson_datum.specs.declared.de.Error as de
 use Rattle.bson_datum.specs.declared.ser.Error as ser
 use Rattle.bson_laws.specs.Reads.{reads_document}
 use Rattle.bson_laws.specs.Spell.{Writing, spell_document, size}

@@ -38,13 +38,18 @@ fn borrowed<'a>(alloc: Global) -> Result<Datum<'a>, AllocError> {
     Ok(Datum::Struct { name, fields })
 }
 
-/// Whether a datum is equal to its copy and to its owned copy, and copies of a text and of a byte string.
+/// Whether a datum is equal to its copy and to its owned copy.
 pub fn print_copies(rt: &impl Print, alloc: Global) -> Result<(), Fail> {
     let datum = borrowed(alloc)?;
     let copy = datum.try_clone(alloc)?;
     println!(rt; "equal to its copy: {}", copy == datum)?;
     let owned = copy.into_owned(alloc)?;
     println!(rt; "equal to its owned copy: {}", owned == datum)?;
+    Ok(())
+}
+
+/// Copies of a text and of a byte string.
+pub fn print_text_copies(rt: &impl Print, alloc: Global) -> Result<(), Fail> {
     let text = Text::Borrowed("a").into_owned(alloc)?;
     println!(rt; "{text:?}, {:?}", text.try_clone(alloc)?)?;
     let bytes = ByteStr::Borrowed(b"a").into_owned(alloc)?;

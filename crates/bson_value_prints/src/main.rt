@@ -29,6 +29,7 @@ fn main(rt: HostRuntime) -> Result<(), Fail> {
     shapes::print_notations(&rt, alloc)?;
     shapes::print_levels(&rt, alloc)?;
     data::print_copies(&rt, alloc)?;
+    data::print_text_copies(&rt, alloc)?;
     data::print_errors(&rt, alloc)?;
     ends::print_adapters(&rt)?;
     ends::print_memory(&rt, alloc)?;

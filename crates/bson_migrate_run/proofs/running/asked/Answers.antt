@@ -1,0 +1,14 @@
+use Rattle.std.proofs.Common.{◌≡◌, [], ◌∷◌, map, string_bytes, refl, ap, sym, subst, ◌∙◌}
+use Rattle.std.specs.Prelude.{IfOk}
+use Rattle.bson_program.specs.Command.{Asked}
+use Rattle.bson_program.specs.OneShape.{one_shape}
+use Rattle.bson_recast_run.proofs.OneWord.{one_word}
+use Rattle.bson_migrate_run.specs.Lines.{migrate_usage}
+use Rattle.bson_migrate_run.proofs.running.asked.Goals as goal
+
+pub returns-in-len1 : goal.returns-in-len1
+returns-in-len1 c =
+    let word = c.as_str.result.now in
+    let is : map string_bytes c.args.words.now ≡ word ∷ [] =
+    one_word c.args.words.now c.word-item.result _ c.in-len1.len_at_least c.in-len1.len_below c.word-item.is ∙ ap (λ w. w ∷ []) (sym c.as_str.ensures.value) in
+    subst (λ ws. IfOk c.asked_by_word.result (Asked (one_shape migrate_usage) ws)) (sym is) (c.asked_by_word.ensures.asks migrate_usage refl)
