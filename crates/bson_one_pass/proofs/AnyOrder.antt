@@ -19,10 +19,10 @@ use Rattle.bson_datum.specs.Marked.{Marked, field_contents}
 use Rattle.bson_datum.specs.Value.{none}
 use Rattle.bson_laws.specs.Judged.{plain, ignores}
 use Rattle.bson_laws.specs.Reads.{reads, slots_of}
-use Rattle.bson_laws.specs.Slots.{Slot, Slots, fill, finish, put_at, value_or}
+use Rattle.bson_laws.specs.Slots.{Slots, fill, finish, put_at, value_or}
 use Rattle.bson_laws.specs.Spell.{spell_fields}
 use Rattle.bson_laws.specs.Views.{absent}
-use Rattle.bson_one_pass.specs.Found.{name_of, names, IsField, slot_with, slots_with, IsReadAs, AreReadAs, IsNoted, AreFound, IsWritten, AreWritten, IsFoundPut, AreFoundPut}
+use Rattle.bson_one_pass.specs.Found.{name_of, names, IsField, slots_with, AreReadAs, IsNoted, AreFound, AreWritten, IsFoundPut, AreFoundPut}
 use Rattle.bson_one_pass.specs.Free.{is_free}
 use Rattle.bson_one_pass.specs.Put.{recast_by, recast_node, recast_fields, IsElementPut, ArePairsPut}
 use Rattle.bson_one_pass.proofs.Fields.{LacksName, names-append, put_dropped, fields_end}
@@ -112,15 +112,14 @@ element_noted levels front fs e i es distinct at lt empty after h =
 
 -- an element that no field has
 pub element_dropped : (levels : ℕ) (front fs : List FieldShape) (e : Element) (es : List (Option Element)) → is_free e.key fs ≡ true → is_free e.key front ≡ true → ignores plain (node_in levels e.kind e.value) ≡ Ok tt → IsNoted levels front fs e es es
-element_dropped levels front fs e es free free_front passed after h =
-    (
-      after,
-      h,
-      λ slots named.
-          let lacks : LacksName e.key (names slots ++ names (slots_with fs after)) =
-          lacks_both e.key (names slots) (names (slots_with fs after)) (subst (LacksName e.key) named (free_lacks e.key front free_front)) (subst (LacksName e.key) (sym (names-with levels fs es after h)) (free_lacks e.key fs free)) in
-          put_dropped e.key (node_in levels e.kind e.value) (slots ++ slots_with fs after) (subst (LacksName e.key) (sym (names-append slots (slots_with fs after))) lacks) passed,
-    )
+element_dropped levels front fs e es free free_front passed after h = (
+  after,
+  h,
+  λ slots named.
+      let lacks : LacksName e.key (names slots ++ names (slots_with fs after)) =
+      lacks_both e.key (names slots) (names (slots_with fs after)) (subst (LacksName e.key) named (free_lacks e.key front free_front)) (subst (LacksName e.key) (sym (names-with levels fs es after h)) (free_lacks e.key fs free)) in
+      put_dropped e.key (node_in levels e.kind e.value) (slots ++ slots_with fs after) (subst (LacksName e.key) (sym (names-append slots (slots_with fs after))) lacks) passed,
+)
 
 -- no element is looked at yet
 pub found_none : (levels : ℕ) (front fs : List FieldShape) (whole : Nodes) (es : List (Option Element)) → es ≡ replicate (length fs) None → AreFound levels front fs whole whole es
@@ -175,14 +174,13 @@ if_element_put levels f e made new (Some x) closed put = element_put levels f e 
 pub if_missing_put : {A : Type 0} (levels : ℕ) (f : FieldShape) (made new : Bytes) (r : Option A) → IfSome r (λ _. has_zero (name_of f) ≡ false) → IfSome r (λ _. absent {T = Piece} f.shape ≡ Some none) → IfSome r (λ _. new ≡ made ++ element Null (name_of f) [])
     → IfSome r (λ _. IsFoundPut levels f None made new)
 if_missing_put levels f made new None closed none_there put = tt
-if_missing_put levels f made new (Some x) closed none_there put =
-    (
-      None,
-      element Null (name_of f) [],
-      tt,
-      record { value = none; tree = null; given = ap (λ m. value_or (name_of f) m None) none_there; spelled = refl; closed = closed; bytes_are = refl },
-      put,
-    )
+if_missing_put levels f made new (Some x) closed none_there put = (
+  None,
+  element Null (name_of f) [],
+  tt,
+  record { value = none; tree = null; given = ap (λ m. value_or (name_of f) m None) none_there; spelled = refl; closed = closed; bytes_are = refl },
+  put,
+)
 
 pub left_none : (levels : ℕ) (fs : List FieldShape) (es : List (Option Element)) (i : ℕ) (old made : Bytes) → FoundLeft levels fs es i old made → length fs ≤ i → AreFoundPut levels fs es old made
 left_none levels fs es i old made left all =

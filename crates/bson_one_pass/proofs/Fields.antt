@@ -2,15 +2,15 @@
 use Rattle.std.proofs.Common.{◌≡◌, ℕ, List, [], ◌∷◌, ◌++◌, true, false, Option, Some, None, Ok, refl, ap, sym, subst, ◌∙◌}
 use Rattle.std.specs.Str.{bytes_eq}
 use Rattle.std.proofs.lemmas.List.{append_assoc, append-nil}
-use Rattle.bson_base.specs.Text.{Bytes, Utf8, has_zero}
-use Rattle.bson_base.specs.Tree.{Tree, Pairs, no_pairs, pair, enc, kind, element, elements}
+use Rattle.bson_base.specs.Text.{Bytes, Utf8}
+use Rattle.bson_base.specs.Tree.{Pairs, no_pairs, pair, enc, kind, element, elements}
 use Rattle.bson_rawdoc.specs.Node.{Node, Nodes, ended, then_node}
 use Rattle.bson_rawdoc.specs.Piece.{Piece}
-use Rattle.bson_datum.specs.Marked.{Marked, MarkedFields, contents, field_contents}
+use Rattle.bson_datum.specs.Marked.{Marked, MarkedFields, field_contents}
 use Rattle.bson_datum.specs.Value.{no_field_values, field_value}
 use Rattle.bson_laws.specs.Judged.{plain, ignores}
-use Rattle.bson_laws.specs.Slots.{Slot, Slots, put_at, value_or, finish}
-use Rattle.bson_laws.specs.Spell.{spell, spell_fields}
+use Rattle.bson_laws.specs.Slots.{Slot, Slots, put_at, finish}
+use Rattle.bson_laws.specs.Spell.{spell_fields}
 use Rattle.bson_one_pass.specs.Found.{names, IsWritten, AreWritten}
 use Rattle.bson_one_pass.specs.Put.{recast_fields, ArePairsPut}
 

@@ -1,4 +1,4 @@
-use Rattle.std.proofs.Common.{◌∙◌, ap, replicate, None, refl, rules}
+use Rattle.std.proofs.Common.{refl, rules}
 use Rattle.bson_rawdoc.specs.Node.{node_in, nodes_with}
 use Rattle.bson_rawdoc.specs.Walk.{then_walk}
 use Rattle.bson_one_pass.proofs.AnyOrder.{found_none, found_step}

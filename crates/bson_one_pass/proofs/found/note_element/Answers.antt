@@ -1,4 +1,4 @@
-use Rattle.std.proofs.Common.{◌≡◌, ◌<◌, length, get_or, List, Option, None, ap, sym, subst, ◌∙◌}
+use Rattle.std.proofs.Common.{◌<◌, length, get_or, List, Option, None, ap, sym, subst, ◌∙◌}
 use Rattle.bson_rawdoc.specs.Walk.{Element}
 use Rattle.bson_one_pass.specs.Found.{IsField}
 use Rattle.bson_one_pass.specs.Free.{is_free}
