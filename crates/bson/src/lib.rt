@@ -14,7 +14,7 @@
 //! | values of kinds that serde's data model lacks | `data` to make them, `reserved` to look at them, `reserved_kind` |
 //! | errors | `ParseError`, `ShapeError`, `de::Error`, `ser::Error`, `raw::Error`, `RecastError`, `MigrateError`; `Cause`, `MAX_NESTING_LEVEL`, `Path`, `Segment`, `Wrapper`, and `Stop` of `read_value` |
 //! | input and output | `Source`, `Sink`, their ends `ReadAdapter`, `WriteAdapter`, `MemorySource`, `MemorySink`, `SteadySource`, `SteadySink`; `read_to_end`, `write_due`, `ReadFault`, `Failed`, `MOST`; `Out`, `Steps`, `Ledger`, `Tally` |
-//! | whole programs | `run` and `Status`, `run_migrate` and `MigrateStatus`; what they share: `shape_of_word`, `asked_by_word`, `read_input`, `Answer`, `finish` |
+//! | whole programs | `run` and `Status`, `run_migrate` and `MigrateStatus`; what they share: `shape_of_word`, `read_input`, `Answer`, `finish` |
 //! | texts | `date_text`, `date_of_text`, `integer_of_text`, `subtype_of_text`; `DateError`, `NotDate`, `NotHex`, `NotUuid` |
 //! | contracts | `laws`; the definitions that contracts name, as `Rattle.bson.specs.Tree` |
 //!
@@ -380,7 +380,7 @@ pub use bson_migrate_run::{
     MigrateError, MigrateStatus, Migration, Refused, lines_of, migrate, run_migrate,
 };
 pub use bson_program::{
-    Answer, Endings, InputEndings, asked_by_word, finish, read_input, shape_of_word,
+    Answer, Endings, InputEndings, finish, read_input, shape_of_word,
 };
 pub use bson_rawdoc::{RawArray, RawBsonRef, RawDocument, RawDocuments, RawElement, RawIter, raw};
 pub use bson_recast_run::{RecastError, Status, recast, recast_to_buf, run};

@@ -15,7 +15,7 @@ use Rattle.bson_laws.specs.Reads.{reads}
 use Rattle.bson_laws.specs.ReadsLeaf.{read_any}
 use Rattle.bson_laws.proofs.Codec.{seen_again}
 use Rattle.bson_itself.specs.Encoded.{EncodesItself}
-use Rattle.bson_itself.specs.Kept.{IsKept}
+use Rattle.bson_itself.specs.Kept.{IsWrittenAsRead}
 use Rattle.bson_itself.proofs.Law.{judged_any, same_tree, itself_coded}
 
 -- ---- what is judged is the node itself
@@ -36,7 +36,7 @@ reads_any : (n : Node) (v : Marked) → judged_any n ≡ Ok v → reads (leaf An
 reads_any n v e = any_by n v (judged plain n) (judged_same (node.fault false n) n) e
 
 -- the law
-pub any_kept : (levels : ℕ) (k : ElementType) (b : Bytes) → length b < 2 ^ 31 → EncodesItself k levels b → IsKept (leaf Any) levels k b
+pub any_kept : (levels : ℕ) (k : ElementType) (b : Bytes) → length b < 2 ^ 31 → EncodesItself k levels b → IsWrittenAsRead (leaf Any) levels k b
 any_kept levels k b small one =
     let t = one.0 in
     let s = same_tree t levels one.2 in

@@ -17,7 +17,7 @@ use Rattle.bson_base.specs.declared.element_type.ElementType.{ElementType}
 use Rattle.bson_base.specs.declared.element_type.ElementType.TheVariants as kinds
 use Rattle.bson_laws.proofs.TameBytes.{byte_at, int32_fits, int64_fits}
 use Rattle.bson_itself.specs.Itself.{IsItself}
-use Rattle.bson_itself.specs.Encoded.{EncodesItself, ArePairs, AreTrees, IsText, IsPlainBinary, IsTrueOrFalse, IsFrame}
+use Rattle.bson_itself.specs.Encoded.{EncodesItself, ArePairs, AreTrees, IsTextValue, IsPlainBinary, IsTrueOrFalse, IsFrame}
 
 -- ---- numbers
 
@@ -89,7 +89,7 @@ module _ (b : Bytes) (n : ℕ) (all : AreBytes b) (within : n ≤ length b) wher
       let number : length (inside part) + 5 ≡ uint32_in part = omega (arith, part_length, inside_length part (omega (arith, part_length)), front_again n b (omega arith), is) in
       ap (λ m. le32 m ++ (inside part ++ 0 ∷ [])) number ∙ sym (framed part part_bytes (omega (arith, part_length)) closed)
 
-  pub text_is : 5 ≤ n → uint32_in b + 4 ≡ n → is_closed (take n b) ≡ true → is_utf8 (inside (take n b)) ≡ true → IsText (take n b)
+  pub text_is : 5 ≤ n → uint32_in b + 4 ≡ n → is_closed (take n b) ≡ true → is_utf8 (inside (take n b)) ≡ true → IsTextValue (take n b)
   text_is five is closed text =
       let part = take n b in
       let number : length (inside part) + 1 ≡ uint32_in part = omega (arith, part_length, inside_length part (omega (arith, part_length)), front_again n b (omega arith), is) in
@@ -115,7 +115,7 @@ module _ (b : Bytes) (n : ℕ) (all : AreBytes b) (within : n ≤ length b) wher
 pub double_one : (levels : ℕ) (b : Bytes) → length b ≡ 8 → EncodesItself kinds.Double levels b
 double_one levels b eight = (double b, refl, eight, refl)
 
-pub text_one : (levels : ℕ) (b : Bytes) → IsText b → EncodesItself kinds.String levels b
+pub text_one : (levels : ℕ) (b : Bytes) → IsTextValue b → EncodesItself kinds.String levels b
 text_one levels b t = (string t.0, refl, t.1, t.2)
 
 pub binary_one : (levels : ℕ) (b : Bytes) → IsPlainBinary b → EncodesItself kinds.Binary levels b

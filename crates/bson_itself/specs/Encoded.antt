@@ -1,4 +1,5 @@
 -- The bytes of trees that are written as they were read, and of their parts. It is for the contracts of the functions that look for them; what callers are told is in `Kept`.
+-- Source: bsonspec.org, version 1.1, `document`, `string`, `binary` and `element`.
 use Rattle.std.specs.Prelude.{◌≡◌, ℕ, ◌≤◌, length, Bool, true}
 use Rattle.std.specs.Str.{is_utf8}
 use Rattle.bson_base.specs.Sound.{max_binary}
@@ -21,8 +22,8 @@ abbrev pub AreTrees : (levels : ℕ) → Bytes → Type 0
 AreTrees levels b = (ts : Trees) × AreTreesThemselves ts levels × (array_elements 0 ts ≡ b)
 
 -- the bytes of a text as a value: its length, the text, a zero
-abbrev pub IsText : Bytes → Type 0
-IsText b = (t : Utf8) × (is_utf8 t ≡ true) × (closed_text t ≡ b)
+abbrev pub IsTextValue : Bytes → Type 0
+IsTextValue b = (t : Utf8) × (is_utf8 t ≡ true) × (closed_text t ≡ b)
 
 -- the bytes of a binary of subtype 0
 abbrev pub IsPlainBinary : Bytes → Type 0

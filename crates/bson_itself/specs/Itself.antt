@@ -1,4 +1,4 @@
--- The trees that are written at `any` as they were read.
+-- The trees that are written at `any` as they were read. Source: serde's data model, and bsonspec.org, version 1.1, `element`, `binary` and `string`.
 use Rattle.std.specs.Prelude.{◌≡◌, ℕ, zero, suc, ◌≤◌, length, true, false, FitsSigned}
 use Rattle.std.specs.Int.{w32, w64}
 use Rattle.std.specs.Str.{is_utf8}
@@ -18,7 +18,7 @@ IsByteString (suc subtype) b = ⊥
 
 abbrev mutual
   -- A tree that is read at `any` as a value that is written as this tree, with so many levels left: it has no extended value, its texts are UTF-8, and the keys of
-  -- each document are different. (The keys of arrays are no part of a tree.)
+  -- each document are different. (The keys of arrays are no part of a tree.) It is a clean tree (`IsClean`) of fewer kinds and within the levels, whose keys may begin with `$`.
   pub IsItself : Tree → (levels : ℕ) → Type 0
   IsItself (double b) levels = length b ≡ 8
   IsItself (string t) levels = is_utf8 t ≡ true

@@ -11,7 +11,7 @@ use Rattle.bson_laws.specs.Reads.{reads}
 use Rattle.bson_laws.specs.Spell.{spell}
 
 -- A value of the kind in these bytes, with so many levels left, is read at the shape as a value that is written as these bytes.
-pub record IsKept (s : Form) (levels : ℕ) (k : ElementType) (b : Bytes) : Type 0 where
+pub record IsWrittenAsRead (s : Form) (levels : ℕ) (k : ElementType) (b : Bytes) : Type 0 where
   pub given : Marked
   pub tree : Tree
   pub read : reads s plain (node_in levels k b) ≡ Ok given

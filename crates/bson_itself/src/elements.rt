@@ -4,7 +4,7 @@ ghost use Rattle.bson_base.specs.declared.element_type.ElementType.TheVariants a
 ghost use Rattle.bson_shape.specs.Form.{leaf};
 ghost use Rattle.bson_shape.specs.declared.leaf.Leaf.TheVariants.{Any};
 ghost use Rattle.bson_itself.specs.Encoded.{EncodesItself, ArePairs, AreTrees, IsFrame};
-ghost use Rattle.bson_itself.specs.Kept.{IsKept};
+ghost use Rattle.bson_itself.specs.Kept.{IsWrittenAsRead};
 
 use crate::keys::key;
 use crate::values::{binary_len, boolean_len, fixed_len, text_len};
@@ -17,35 +17,31 @@ use std::alloc::Global;
 /// Whether a value of the kind in these bytes is written at `any` as these bytes, with so many levels of documents and arrays left.
 ///
 /// `false` says nothing of the value: it is also for values that are read and written otherwise, for those that are refused, and where memory runs out. It
-/// is `true` at texts, numbers, booleans, null, binaries of subtype 0, and documents and arrays of these whose keys are different, or the indexes in an
-/// array.
-pub fn is_itself(kind: ElementType, bytes: &[u8], levels: u32, alloc: Global) -> bool
-    ensures kept { IsTrue result → IsKept (leaf Any) levels kind bytes.now }
+/// looks for texts, numbers, booleans, null, binaries of subtype 0, and documents and arrays of these whose keys are different, or the indexes in an array.
+pub fn is_itself(alloc: Global, kind: ElementType, bytes: &[u8], levels: u32) -> bool
+    ensures kept { IsTrue result → IsWrittenAsRead (leaf Any) levels kind bytes.now }
 {
     if bytes.len() > MOST {
         return false;
     }
-    let Some(len) = value_len(kind, bytes, levels, alloc) else {
+    let Some(len) = value_len(alloc, kind, bytes, levels) else {
         return false;
     };
-    if len != bytes.len() {
-        return false;
-    }
-    true
+    len == bytes.len()
 }
 
 // How many bytes the value of the kind takes that begins these bytes.
 #[inline(always)]
 #[cycle(itself)]
-fn value_len(kind: ElementType, bytes: &[u8], levels: u32, alloc: Global) -> Option<usize>
+fn value_len(alloc: Global, kind: ElementType, bytes: &[u8], levels: u32) -> Option<usize>
     ensures within { IfSome result (λ n. n ≤ length bytes.now) }
     ensures itself { IfSome result (λ n. EncodesItself kind levels (take n bytes.now)) }
 {
     match kind {
         ElementType::Double => fixed_len(bytes, 8),
         ElementType::String => text_len(bytes),
-        ElementType::EmbeddedDocument => document_len(bytes, levels, alloc),
-        ElementType::Array => array_len(bytes, levels, alloc),
+        ElementType::EmbeddedDocument => document_len(alloc, bytes, levels),
+        ElementType::Array => array_len(alloc, bytes, levels),
         ElementType::Binary => binary_len(bytes),
         ElementType::Boolean => boolean_len(bytes),
         ElementType::Null => Some(0),
@@ -75,12 +71,12 @@ fn frame_len(bytes: &[u8]) -> Option<usize>
 // How many bytes the document takes that begins these bytes.
 #[inline(always)]
 #[cycle(itself)]
-fn document_len(bytes: &[u8], levels: u32, alloc: Global) -> Option<usize>
+fn document_len(alloc: Global, bytes: &[u8], levels: u32) -> Option<usize>
     ensures within { IfSome result (λ n. n ≤ length bytes.now) }
     ensures itself { IfSome result (λ n. EncodesItself kinds.EmbeddedDocument levels (take n bytes.now)) }
 {
     let count = frame_len(bytes)?;
-    if levels == 0 || !are_pairs(inside(&bytes[..count]), levels - 1, alloc) {
+    if levels == 0 || !are_pairs(alloc, inside(&bytes[..count]), levels - 1) {
         return None;
     }
     Some(count)
@@ -89,12 +85,12 @@ fn document_len(bytes: &[u8], levels: u32, alloc: Global) -> Option<usize>
 // How many bytes the array takes that begins these bytes.
 #[inline(always)]
 #[cycle(itself)]
-fn array_len(bytes: &[u8], levels: u32, alloc: Global) -> Option<usize>
+fn array_len(alloc: Global, bytes: &[u8], levels: u32) -> Option<usize>
     ensures within { IfSome result (λ n. n ≤ length bytes.now) }
     ensures itself { IfSome result (λ n. EncodesItself kinds.Array levels (take n bytes.now)) }
 {
     let count = frame_len(bytes)?;
-    if levels == 0 || !are_items(inside(&bytes[..count]), levels - 1, alloc) {
+    if levels == 0 || !are_items(alloc, inside(&bytes[..count]), levels - 1) {
         return None;
     }
     Some(count)
@@ -103,7 +99,7 @@ fn array_len(bytes: &[u8], levels: u32, alloc: Global) -> Option<usize>
 // Whether these bytes are the elements of a document.
 #[inline(never)]
 #[cycle(itself)]
-fn are_pairs(bytes: &[u8], levels: u32, alloc: Global) -> bool
+fn are_pairs(alloc: Global, bytes: &[u8], levels: u32) -> bool
     ensures { IsTrue result → ArePairs levels bytes.now }
 {
     let mut keys = MetKeys::new(alloc);
@@ -118,7 +114,7 @@ fn are_pairs(bytes: &[u8], levels: u32, alloc: Global) -> bool
         let Some(kind) = ElementType::from_byte(*byte) else {
             return false;
         };
-        let Some(size) = value_len(kind, value, levels, alloc) else {
+        let Some(size) = value_len(alloc, kind, value, levels) else {
             return false;
         };
         let (_, next) = value.split_at(size);
@@ -130,7 +126,7 @@ fn are_pairs(bytes: &[u8], levels: u32, alloc: Global) -> bool
 // Whether these bytes are the elements of an array, whose keys are their indexes.
 #[inline(never)]
 #[cycle(itself)]
-fn are_items(bytes: &[u8], levels: u32, alloc: Global) -> bool
+fn are_items(alloc: Global, bytes: &[u8], levels: u32) -> bool
     ensures { IsTrue result → AreTrees levels bytes.now }
 {
     let mut digits = itoa::Buffer::new();
@@ -146,7 +142,7 @@ fn are_items(bytes: &[u8], levels: u32, alloc: Global) -> bool
         let Some(kind) = ElementType::from_byte(*byte) else {
             return false;
         };
-        let Some(size) = value_len(kind, value, levels, alloc) else {
+        let Some(size) = value_len(alloc, kind, value, levels) else {
             return false;
         };
         let (_, next) = value.split_at(size);

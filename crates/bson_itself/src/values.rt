@@ -1,7 +1,7 @@
 // The bytes of values without others in them.
 ghost use Rattle.std.specs.Prelude.{◌≡◌, ◌≤◌, take, length, IfSome};
 ghost use Rattle.bson_base.specs.Text.{AreBytes};
-ghost use Rattle.bson_itself.specs.Encoded.{IsText, IsPlainBinary, IsTrueOrFalse};
+ghost use Rattle.bson_itself.specs.Encoded.{IsTextValue, IsPlainBinary, IsTrueOrFalse};
 
 use bson_base::MAX_BINARY;
 use bson_rawdoc::reading::{inside, is_closed, known_bytes, uint32_in};
@@ -11,7 +11,7 @@ use bson_rawdoc::utf8::is_utf8;
 #[inline(always)]
 pub(crate) fn text_len(bytes: &[u8]) -> Option<usize>
     ensures within { IfSome result (λ n. n ≤ length bytes.now) }
-    ensures text { IfSome result (λ n. IsText (take n bytes.now)) }
+    ensures text { IfSome result (λ n. IsTextValue (take n bytes.now)) }
 {
     if bytes.len() < 4 {
         return None;
@@ -66,8 +66,7 @@ pub(crate) fn boolean_len(bytes: &[u8]) -> Option<usize>
     ensures boolean { IfSome result (λ n. IsTrueOrFalse (take n bytes.now)) }
 {
     match bytes {
-        [0, ..] => Some(1),
-        [1, ..] => Some(1),
+        [0 | 1, ..] => Some(1),
         _ => None,
     }
 }

@@ -18,7 +18,7 @@ ghost use Rattle.bson_migrate_run.specs.Rows.{Answers, listed_status, migrate_pr
 use crate::migrating::{MigrateError, Refused, migrate};
 use crate::status::MigrateStatus;
 use bson_io::{Sink, Source};
-use bson_program::{Answer, Endings, InputEndings, asked_by_word, finish, read_input};
+use bson_program::{Answer, Endings, InputEndings, finish, read_input, shape_of_word};
 use bson_shape::Shape;
 use std::alloc::{AllocError, Global};
 
@@ -41,7 +41,7 @@ fn asked(alloc: Global, words: &[String]) -> Result<Result<Shape, String>, Alloc
     ensures { IfOk result (Asked migrate_program.command (map string_bytes words.now)) }
 {
     match words {
-        [word] => asked_by_word(alloc, word.as_str()),
+        [word] => shape_of_word(alloc, word.as_str()),
         _ => Ok(Err(String::from_str(alloc, USAGE)?)),
     }
 }

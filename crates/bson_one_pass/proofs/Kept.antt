@@ -19,12 +19,12 @@ use Rattle.bson_laws.specs.Reads.{reads, answered}
 use Rattle.bson_laws.specs.Spell.{spell, at_top}
 use Rattle.bson_laws.proofs.ReadBack.{envelope_again}
 use Rattle.bson_laws.proofs.Sizes.{spell_kind}
-use Rattle.bson_itself.specs.Kept.{IsKept}
+use Rattle.bson_itself.specs.Kept.{IsWrittenAsRead}
 use Rattle.bson_one_pass.specs.Put.{of_writing, recast_by, recast_node, IsPut}
 use Rattle.bson_one_pass.specs.Recast.{IsRecastAs}
 
 -- what is kept is recast as its bytes
-pub kept_put : (s : Form) (levels : ℕ) (k : ElementType) (b old new : Bytes) → IsKept s levels k b → new ≡ old ++ b → IsPut (recast_node s levels (node_in levels k b)) old new k
+pub kept_put : (s : Form) (levels : ℕ) (k : ElementType) (b old new : Bytes) → IsWrittenAsRead s levels k b → new ≡ old ++ b → IsPut (recast_node s levels (node_in levels k b)) old new k
 kept_put s levels k b old new h put =
     subst (λ o. IsPut o old new k) (sym (ap (recast_by (λ v. spell (contents v) levels)) h.read ∙ ap of_writing h.spelled)) (h.kind_is, put ∙ ap (λ (x : Bytes). old ++ x) (sym h.encoded))
 
@@ -34,7 +34,7 @@ document_of : (t : Tree) → kind t ≡ EmbeddedDocument → (ps : Pairs) × (t 
 document_of (document ps) e = (ps, refl)
 document_of t e = absurd cc
 
-pub document_kept : (s : Form) (b made : Bytes) → IsKept s max_levels EmbeddedDocument b → length b ≤ max_bytes → made ≡ b → IsRecastAs s b made
+pub document_kept : (s : Form) (b made : Bytes) → IsWrittenAsRead s max_levels EmbeddedDocument b → length b ≤ max_bytes → made ≡ b → IsRecastAs s b made
 document_kept s b made h few copied =
     let d = document_of h.tree h.kind_is in
     let is : enc (document d.0) ≡ b = ap enc (sym d.1) ∙ h.encoded in

@@ -84,7 +84,7 @@ fn keep_item(made: &mut Vec<u8>, levels: u32, element: &RawElement<'_>, key: &st
 {
     let kind = element.element_type();
     let bytes = element.slice();
-    if !is_itself(kind, bytes, levels, *made.allocator()) {
+    if !is_itself(*made.allocator(), kind, bytes, levels) {
         return None;
     }
     let place = made.len();

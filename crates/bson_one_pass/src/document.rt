@@ -48,7 +48,7 @@ fn keep_document(alloc: Global, bytes: &[u8]) -> Option<Vec<u8>>
     ensures { IfSome result (λ v. IsRecastAs (leaf Any) bytes.now v.items) }
 {
     let kind = ElementType::EmbeddedDocument;
-    if bytes.len() > MOST || !is_itself(kind, bytes, MAX_NESTING_LEVEL, alloc) {
+    if bytes.len() > MOST || !is_itself(alloc, kind, bytes, MAX_NESTING_LEVEL) {
         return None;
     }
     Vec::from_slice(alloc, bytes).ok()

@@ -11,4 +11,4 @@ pub use answer::Answer;
 pub use delivery::finish;
 pub use endings::{Endings, InputEndings};
 pub use input::read_input;
-pub use shape_word::{asked_by_word, shape_of_word};
+pub use shape_word::shape_of_word;

@@ -24,12 +24,8 @@ fn line_of(alloc: Global, e: &ParseError) -> Result<String, AllocError>
     }
 }
 
-/// The shape that a word of a command line is the notation of, or the line that refuses the word: with the place and the refusal.
-///
-/// # Errors
-///
-/// The outer error means out of memory.
-pub fn shape_of_word(alloc: Global, word: &str) -> Result<Result<Shape, String>, AllocError>
+// The shape that a word is the notation of, or the line that refuses it.
+fn parse_word(alloc: Global, word: &str) -> Result<Result<Shape, String>, AllocError>
     ensures exact { IfOk result (IsShapeOf word.now) }
 {
     match Shape::parse(alloc, word) {
@@ -41,13 +37,16 @@ pub fn shape_of_word(alloc: Global, word: &str) -> Result<Result<Shape, String>,
     }
 }
 
-/// What a word that is no option asks for, alone on the command line of a program that takes one shape: a shape, or the line that refuses it.
+/// The shape that a word of a command line is the notation of, or the line that refuses the word: with the place and the refusal.
+///
+/// It is what the word asks for, where it is no option and stands alone on the command line of a program that takes one shape.
 ///
 /// # Errors
 ///
 /// The outer error means out of memory.
-pub fn asked_by_word(alloc: Global, word: &str) -> Result<Result<Shape, String>, AllocError>
+pub fn shape_of_word(alloc: Global, word: &str) -> Result<Result<Shape, String>, AllocError>
+    ensures exact { IfOk result (IsShapeOf word.now) }
     ensures asks { (usage : Usage) → usage.is_option word.now ≡ false → IfOk result (Asked (one_shape usage) (word.now ∷ [])) }
 {
-    shape_of_word(alloc, word)
+    parse_word(alloc, word)
 }

@@ -23,7 +23,7 @@ ghost use Rattle.bson_recast_run.specs.declared.status.Status.TheVariants as sta
 use crate::recasting::{RecastError, recast};
 use crate::status::Status;
 use bson_io::{Sink, Source};
-use bson_program::{Answer, Endings, InputEndings, asked_by_word, finish, read_input};
+use bson_program::{Answer, Endings, InputEndings, finish, read_input, shape_of_word};
 use bson_shape::Shape;
 use std::alloc::{AllocError, Global};
 
@@ -46,7 +46,7 @@ fn asked(alloc: Global, words: &[String]) -> Result<Result<Shape, String>, Alloc
     ensures { IfOk result (Asked recast_program.command (map string_bytes words.now)) }
 {
     match words {
-        [word] if !word.as_str().starts_with("--") => asked_by_word(alloc, word.as_str()),
+        [word] if !word.as_str().starts_with("--") => shape_of_word(alloc, word.as_str()),
         _ => Ok(Err(String::from_str(alloc, USAGE)?)),
     }
 }

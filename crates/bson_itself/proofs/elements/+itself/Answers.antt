@@ -4,7 +4,7 @@ use Rattle.std.proofs.lemmas.List.{nil_from_length}
 use Rattle.bson_base.specs.Kind.{byte}
 use Rattle.bson_base.specs.Text.{Bytes}
 use Rattle.bson_base.specs.declared.element_type.ElementType.TheVariants as kinds
-use Rattle.bson_itself.specs.Encoded.{IsText, IsPlainBinary, IsTrueOrFalse, ArePairs, AreTrees}
+use Rattle.bson_itself.specs.Encoded.{IsTextValue, IsPlainBinary, IsTrueOrFalse, ArePairs, AreTrees}
 use Rattle.bson_itself.proofs.Left.{PairsLeft, pairs_first, pairs_end, pairs_step, TreesLeft, trees_end, trees_step, element_first, same_bytes}
 use Rattle.bson_itself.proofs.Parts.{fixed_one, made_one, text_one, binary_one, boolean_one, null_one, double_one, int32_one, int64_one, document_one, array_one}
 use Rattle.bson_itself.proofs.elements.+itself.Goals as goal
@@ -73,7 +73,7 @@ value_len-returns-in-Double-clause-itself t c =
     rw c.in-Double.is (fixed_one kinds.Double c.args.levels c.args.bytes.now 8 c.fixed_len.result c.fixed_len.ensures.are_bytes c.fixed_len.ensures.within c.fixed_len.ensures.fixed (λ part all n. double_one c.args.levels part n))
 
 pub value_len-returns-in-String-clause-itself : goal.value_len-returns-in-String-clause-itself
-value_len-returns-in-String-clause-itself t c = rw c.in-String.is (made_one kinds.String c.args.levels c.args.bytes.now c.text_len.result IsText c.text_len.ensures.text (text_one c.args.levels))
+value_len-returns-in-String-clause-itself t c = rw c.in-String.is (made_one kinds.String c.args.levels c.args.bytes.now c.text_len.result IsTextValue c.text_len.ensures.text (text_one c.args.levels))
 
 pub value_len-returns-in-Binary-clause-itself : goal.value_len-returns-in-Binary-clause-itself
 value_len-returns-in-Binary-clause-itself t c = rw c.in-Binary.is (made_one kinds.Binary c.args.levels c.args.bytes.now c.binary_len.result IsPlainBinary c.binary_len.ensures.binary (binary_one c.args.levels))

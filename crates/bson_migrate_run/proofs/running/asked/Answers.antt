@@ -11,4 +11,4 @@ returns-in-len1 c =
     let word = c.as_str.result.now in
     let is : map string_bytes c.args.words.now ≡ word ∷ [] =
     one_word c.args.words.now c.word-item.result _ c.in-len1.len_at_least c.in-len1.len_below c.word-item.is ∙ ap (λ w. w ∷ []) (sym c.as_str.ensures.value) in
-    subst (λ ws. IfOk c.asked_by_word.result (Asked (one_shape migrate_usage) ws)) (sym is) (c.asked_by_word.ensures.asks migrate_usage refl)
+    subst (λ ws. IfOk c.shape_of_word.result (Asked (one_shape migrate_usage) ws)) (sym is) (c.shape_of_word.ensures.asks migrate_usage refl)

@@ -18,4 +18,4 @@ returns-in-len1 c =
     ap (λ w. starts_with nat_eq w (codes "--")) same ∙ sym (starts_text c.starts_with.result (codes "--") judged c.starts_with.ensures.cases) ∙ not_there in
     let is : map string_bytes c.args.words.now ≡ word ∷ [] =
     one_word c.args.words.now c.word-item.result _ c.in-len1.len_at_least c.in-len1.len_below c.word-item.is ∙ ap (λ w. w ∷ []) (sym c.as_str-in-len1.ensures.value) in
-    subst (λ ws. IfOk c.asked_by_word.result (Asked (one_shape recast_usage) ws)) (sym is) (c.asked_by_word.ensures.asks recast_usage plain)
+    subst (λ ws. IfOk c.shape_of_word.result (Asked (one_shape recast_usage) ws)) (sym is) (c.shape_of_word.ensures.asks recast_usage plain)
