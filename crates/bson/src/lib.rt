@@ -379,9 +379,7 @@ pub use bson_met::Met;
 pub use bson_migrate_run::{
     MigrateError, MigrateStatus, Migration, Refused, lines_of, migrate, run_migrate,
 };
-pub use bson_program::{
-    Answer, Endings, InputEndings, finish, read_input, shape_of_word,
-};
+pub use bson_program::{Answer, Endings, InputEndings, finish, read_input, shape_of_word};
 pub use bson_rawdoc::{RawArray, RawBsonRef, RawDocument, RawDocuments, RawElement, RawIter, raw};
 pub use bson_recast_run::{RecastError, Status, recast, recast_to_buf, run};
 pub use bson_reserved as reserved;

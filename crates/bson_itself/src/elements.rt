@@ -27,7 +27,10 @@ pub fn is_itself(alloc: Global, kind: ElementType, bytes: &[u8], levels: u32) ->
     let Some(len) = value_len(alloc, kind, bytes, levels) else {
         return false;
     };
-    len == bytes.len()
+    if len != bytes.len() {
+        return false;
+    }
+    true
 }
 
 // How many bytes the value of the kind takes that begins these bytes.

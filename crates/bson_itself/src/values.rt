@@ -66,7 +66,8 @@ pub(crate) fn boolean_len(bytes: &[u8]) -> Option<usize>
     ensures boolean { IfSome result (λ n. IsTrueOrFalse (take n bytes.now)) }
 {
     match bytes {
-        [0 | 1, ..] => Some(1),
+        [0, ..] => Some(1),
+        [1, ..] => Some(1),
         _ => None,
     }
 }
