@@ -85,5 +85,6 @@ pub fn print_refusals(rt: &impl Print, alloc: Global) -> Result<(), Fail> {
 pub fn print_long_binaries(rt: &impl Print, alloc: Global) -> Result<(), Fail> {
     let bytes = vec![in alloc; 0; MAX_BINARY + 1]?;
     print_refusal(rt, alloc, Datum::Bytes(ByteStr::Borrowed(&bytes)))?;
-    print_refusal(rt, alloc, old_binary(alloc, &bytes[..MAX_BINARY - 3])?)
+    let bytes = vec![in alloc; 0; MAX_BINARY - 3]?;
+    print_refusal(rt, alloc, old_binary(alloc, &bytes)?)
 }
