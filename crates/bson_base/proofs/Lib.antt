@@ -1,5 +1,6 @@
 pub mod Outcomes
 pub mod Lengths
+pub mod Encodings
 pub mod Indexes
 pub mod KindBytes
 pub mod Rows

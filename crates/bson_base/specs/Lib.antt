@@ -11,6 +11,7 @@ pub mod Sorted
 pub mod RegexView
 pub mod BsonView
 pub mod Opened
+pub mod Encoded
 pub mod Pairs
 pub mod Next
 pub mod Same
