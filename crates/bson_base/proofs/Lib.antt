@@ -1,6 +1,7 @@
 pub mod Outcomes
 pub mod Lengths
 pub mod Encodings
+pub mod Folds
 pub mod Indexes
 pub mod KindBytes
 pub mod Rows

@@ -12,6 +12,7 @@ pub mod RegexView
 pub mod BsonView
 pub mod Opened
 pub mod Encoded
+pub mod Folded
 pub mod Pairs
 pub mod Next
 pub mod Same

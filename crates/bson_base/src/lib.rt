@@ -12,6 +12,8 @@ mod double;
 mod element_type;
 mod encoding;
 mod equality;
+mod folding;
+mod forms;
 mod iter;
 mod limits;
 mod object_id;
