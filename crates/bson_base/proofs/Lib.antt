@@ -14,5 +14,6 @@ pub mod Base64Texts
 pub mod IntegerTexts
 pub mod SubtypeTexts
 pub mod WrittenTexts
+pub mod FoldedBack
 pub mod MadeTexts
 pub mod Tests

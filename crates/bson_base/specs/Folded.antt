@@ -1,6 +1,7 @@
 -- The values that documents of wrapper keys become. Source: MongoDB's extended JSON, version 2, with `$numberDecimalBytes`; a double or a decimal in digits becomes
 -- no value.
-use Rattle.std.specs.Prelude.{ℕ, ◌&&◌, ◌^◌, nat_eq, nat_lt, length, Bool, if◌then◌else◌, List, [], ◌∷◌, ℤ, pos, negsuc, Option, Some, None, option_map, option_and_then, codes}
+use Rattle.std.specs.Prelude.{◌≡◌, ◌<◌, FitsSigned, ℕ, ◌&&◌, ◌^◌, nat_eq, nat_lt, length, Bool, if◌then◌else◌, List, [], ◌∷◌, ℤ, pos, negsuc, Option, Some, None, option_map, option_and_then, codes}
+use Rattle.std.specs.Int.{w64}
 use Rattle.std.specs.Ordering.{int_eq}
 use Rattle.std.specs.Str.{bytes_eq}
 use Rattle.uuid.specs.Text.{parsed}
@@ -8,7 +9,8 @@ use Rattle.bson_dates.specs.DateText.{date_of_text}
 use Rattle.bson_base.specs.Pairs.{lookup}
 use Rattle.bson_base.specs.Parsed.{bytes_of_digits, integer_of_text, bytes_of_base64, first_byte}
 use Rattle.bson_base.specs.Sorted.{sorted}
-use Rattle.bson_base.specs.Text.{Bytes, Utf8}
+use Rattle.bson_base.specs.Sound.{HasBytes}
+use Rattle.bson_base.specs.Text.{Bytes, AreBytes, Utf8}
 use Rattle.bson_base.specs.Tree.{Tree, double, string, document, binary, undefined, object_id, boolean, date_time, regular_expression, db_pointer, javascript_code, symbol, javascript_code_with_scope, int32, timestamp, int64, decimal128, max_key, min_key, Pairs, no_pairs, pair}
 
 -- ---- the forms of values
@@ -209,3 +211,38 @@ or_alone ps None = or_document ps (alone ps)
 -- the value that a document of exactly the keys of a form becomes, or the document
 abbrev pub fold : Pairs → Tree
 fold ps = or_alone ps (in_pair ps)
+
+-- ---- the opened documents are folded back
+
+-- The numbers and the bytes of an extended value are in the ranges of its kind, and the options of a regular expression are in order.
+abbrev pub IsInKind : Tree → Type 0
+IsInKind (object_id id) = HasBytes 12 id
+IsInKind (date_time n) = FitsSigned w64 n
+IsInKind (binary subtype bytes) = (subtype < 256) × AreBytes bytes
+IsInKind (timestamp time increment) = (time < 2 ^ 32) × (increment < 2 ^ 32)
+IsInKind (regular_expression pattern options) = sorted options ≡ options
+IsInKind (db_pointer namespace id) = HasBytes 12 id
+IsInKind (decimal128 bytes) = length bytes ≡ 16
+IsInKind t = Unit {0}
+
+-- The document that the value is opened to has a form of its own. Those of a date and of a DbPointer hold a document that is folded first.
+abbrev pub HasForm : Tree → Type 0
+HasForm (date_time n) = ⊥
+HasForm (db_pointer namespace id) = ⊥
+HasForm t = Unit {0}
+
+abbrev mutual
+  -- a document is folded from inside out
+  pub fold_inner : Tree → Tree
+  fold_inner (document ps) = fold (fold_values ps)
+  fold_inner t = t
+
+  -- the documents that are values of pairs
+  pub fold_values : Pairs → Pairs
+  fold_values no_pairs = no_pairs
+  fold_values (pair key t ps) = pair key (fold_inner t) (fold_values ps)
+
+-- the scope stays as it is where it is folded
+abbrev pub KeepsScope : Tree → Type 0
+KeepsScope (javascript_code_with_scope code scope) = fold (fold_values scope) ≡ document scope
+KeepsScope t = Unit {0}

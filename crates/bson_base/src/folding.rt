@@ -2,7 +2,9 @@ ghost use Rattle.std.specs.Prelude.{◌≡◌, IfOk, is_some, true, Some};
 ghost use Rattle.std.specs.Option.{option_map};
 ghost use Rattle.bson_base.specs.BsonView.{tree_of, pairs_of};
 ghost use Rattle.bson_base.specs.Folded as folded;
-ghost use Rattle.bson_base.specs.Folded.{fold};
+ghost use Rattle.bson_base.specs.Folded.{fold, fold_values, IsInKind, HasForm, KeepsScope};
+ghost use Rattle.bson_base.specs.Opened.{IsExtended, opened};
+ghost use Rattle.bson_base.specs.Tree.{Tree};
 
 use crate::bson::Bson;
 use crate::code_with_scope::JavaScriptCodeWithScope;
@@ -167,3 +169,13 @@ fn into_code_with_scope(code: Bson, scope: Bson) -> Bson
         _ => unreachable!(),
     }
 }
+
+/// The document that an extended value is opened to is folded back: by one fold, where it has a form of its own, and else from inside out. So is what
+/// `Bson::into_extended_document` gives.
+///
+/// The numbers and the bytes of the value are in the ranges of its kind, and the options of a regular expression are in order (`IsInKind`). A scope stays as it is
+/// where it is folded (`KeepsScope`). The call does nothing.
+pub fn law_opened_folds()
+    ensures folds { (t : Tree) → IsExtended t → IsInKind t → HasForm t → fold (opened t) ≡ t }
+    ensures inside_out { (t : Tree) → IsExtended t → IsInKind t → KeepsScope t → fold (fold_values (opened t)) ≡ t }
+{}

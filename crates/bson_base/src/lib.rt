@@ -36,6 +36,7 @@ pub use document::Document;
 pub use double::Double;
 pub use element_type::ElementType;
 pub use encoding::EncodeError;
+pub use folding::law_opened_folds;
 pub use iter::{IntoIter, Iter};
 pub use limits::{MAX_BINARY, MAX_NESTING_LEVEL};
 pub use object_id::{NotHex, ObjectId};

@@ -1,8 +1,7 @@
-use Rattle.std.proofs.Common.{rules, ◌≡◌, true, false, ap, sym, subst, ◌∙◌, string_bytes}
+use Rattle.std.proofs.Common.{rules, ◌≡◌, true, false, subst, string_bytes}
 use Rattle.std.specs.Prelude.{is_some, codes}
 use Rattle.std.specs.Str.{bytes_eq}
 use Rattle.bson_base.specs.BsonView.{tree_of, pairs_of}
-use Rattle.bson_base.specs.Folded.{value_of_keys}
 use Rattle.bson_base.specs.Tree.{pair}
 use Rattle.bson_base.proofs.Folds.{pair_known, code_first, scope_first}
 use Rattle.bson_base.proofs.folding.into_pair.Goals as goal
