@@ -24,6 +24,7 @@ pub mod ReadBack
 pub mod Rewritten
 pub mod Signed
 pub mod Codec
+pub mod Lent
 pub mod Judged
 pub mod Tame
 pub mod TameBytes
@@ -51,3 +52,6 @@ pub mod GivenExtended
 pub mod GivenAt
 pub mod TreesAgain
 pub mod BareTrees
+pub mod MendedTexts
+pub mod Mended
+pub mod LossyAgain

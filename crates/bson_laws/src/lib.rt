@@ -19,7 +19,6 @@ ghost use Rattle.bson_laws.specs.Plain.{IsPlain};
 ghost use Rattle.bson_laws.specs.Writable.{IsWritable};
 ghost use Rattle.bson_laws.specs.InRange.{IsInRange, ArePairsInRange};
 ghost use Rattle.bson_laws.specs.Encodable.{IsEncodable};
-ghost use Rattle.bson_laws.specs.Judged.{plain};
 ghost use Rattle.bson_laws.specs.Trees.{read_tree};
 ghost use Rattle.bson_laws.specs.Unmarked.{unmarked, AreOpenedAlike};
 ghost use Rattle.bson_laws.specs.Represented.{RepresentsItself};
@@ -84,7 +83,7 @@ pub fn law_datum_spells()
 /// It does nothing.
 pub fn law_opened_agrees()
     ensures opened { AreOpenedAlike }
-    ensures trees { (in_input : Bool) (t : Tree) (levels : ℕ) → depth t ≤ levels → unmarked (tree_node in_input t levels) ≡ Some t }
+    ensures trees { (at : Sight) (t : Tree) (levels : ℕ) → depth t ≤ levels → unmarked (tree_node at t levels) ≡ Some t }
 {}
 
 /// The document that an extended value is opened to represents the value: as a tree it is read as the value itself is, and refused exactly where the value is.
@@ -95,10 +94,10 @@ pub fn law_opened_agrees()
 /// reading says. The call does nothing.
 pub fn law_opened_represents()
     ensures represents { RepresentsItself }
-    ensures clean { (in_input : Bool) (t : Tree) (levels : ℕ) (x : Extended) → IsClean t → depth t ≤ levels → tree_node in_input t levels ≡ opens x
-        → read_tree plain (document (opened x)) ≡ Ok (sorted_tree t) }
-    ensures document { (in_input : Bool) (t : Tree) (levels : ℕ) → IsClean t → IsExtended t → depth (tree.document (for_trees.opened t)) ≤ levels
-        → read_tree plain (tree_node in_input (tree.document (for_trees.opened t)) levels) ≡ Ok (sorted_tree t) }
+    ensures clean { (at : Sight) (t : Tree) (levels : ℕ) (x : Extended) → IsClean t → depth t ≤ levels → tree_node at t levels ≡ opens x
+        → read_tree (document (opened x)) ≡ Ok (sorted_tree t) }
+    ensures document { (at : Sight) (t : Tree) (levels : ℕ) → IsClean t → IsExtended t → depth (tree.document (for_trees.opened t)) ≤ levels
+        → read_tree (tree_node at (tree.document (for_trees.opened t)) levels) ≡ Ok (sorted_tree t) }
 {}
 
 /// The document that a value of a plain shape means is read back, at the shape, as the normal form of the value.

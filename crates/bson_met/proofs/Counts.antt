@@ -8,7 +8,7 @@ use Rattle.bson_base.specs.declared.bson.Bson.{Bson}
 use Rattle.bson_base.specs.declared.element_type.ElementType.{ElementType}
 use Rattle.bson_rawdoc.specs.Next as next
 use Rattle.bson_rawdoc.specs.Node as node
-use Rattle.bson_rawdoc.specs.Node.{Node, nodes_with, pair_nodes, tree_nodes, opened}
+use Rattle.bson_rawdoc.specs.Node.{Sight, Node, nodes_with, pair_nodes, tree_nodes, opened}
 use Rattle.bson_rawdoc.specs.Walk.{Walk, ended, faulty, then_walk}
 use Rattle.bson_met.specs.OpenedView.{left_nodes}
 use Rattle.bson_met.specs.Sizes.{count}
@@ -20,11 +20,11 @@ count_walk see ended = refl
 count_walk see (faulty e) = refl
 count_walk see (then_walk e w) = ap suc (count_walk see w)
 
-pub count_pairs : (in_input : Bool) (levels : ℕ) (ps : Pairs) → count (pair_nodes in_input ps levels) ≡ pairs.count ps
+pub count_pairs : (in_input : Sight) (levels : ℕ) (ps : Pairs) → count (pair_nodes in_input ps levels) ≡ pairs.count ps
 count_pairs in_input levels no_pairs = refl
 count_pairs in_input levels (pair key t ps) = ap suc (count_pairs in_input levels ps)
 
-pub count_values : (in_input : Bool) (i levels : ℕ) (bs : List Bson) → count (tree_nodes in_input i (trees_of bs) levels) ≡ length bs
+pub count_values : (in_input : Sight) (i levels : ℕ) (bs : List Bson) → count (tree_nodes in_input i (trees_of bs) levels) ≡ length bs
 count_values in_input i levels [] = refl
 count_values in_input i levels (b ∷ bs) = ap suc (count_values in_input (suc i) levels bs)
 
