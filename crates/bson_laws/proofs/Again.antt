@@ -31,7 +31,7 @@ use Rattle.bson_laws.specs.Means.{key_text}
 use Rattle.bson_laws.specs.Variants.{content_of}
 use Rattle.bson_laws.specs.Views.{one_character}
 use Rattle.bson_laws.specs.Judged.{Reading, refused, faultless, judged}
-use Rattle.bson_laws.specs.Taken.{unmarked, array_of, read_integer, read_character}
+use Rattle.bson_laws.specs.Taken.{owned_under_mark, array_of, read_integer, read_character}
 use Rattle.bson_laws.specs.ReadsLeaf.{borrows, put_entry, read_any, any_items, any_entries, no_extended, read_leaf_with}
 use Rattle.bson_laws.specs.ReadsExtended.{read_extended}
 use Rattle.bson_laws.specs.Containers.{reads_items, reads_entries, unit_of, reads_key, reads_unit, read_enum}
@@ -46,7 +46,7 @@ use Rattle.bson_laws.proofs.Fitted.{Unnamed, unlike_swap, bytes_eq-refl, bytes_s
 use Rattle.bson_laws.proofs.Given.{Differs, AreApart, IsGivenAny, AreGivenItems, AreGivenEntries, IsGivenLeaf, IsGivenLeafKey, IsGivenKey, IsGiven, ItemsGiven, PartsGiven, EntriesGiven, FieldsGiven, given_leaf}
 use Rattle.bson_laws.proofs.Judged.{text_whole, by_null}
 use Rattle.bson_laws.proofs.ReadBack.{distinct_from}
-use Rattle.bson_laws.proofs.Lent.{LeafLent, IsLent, AreFieldsLent, ArePartsLent, AreVariantsLent, IsContentLent, text_lent, unmarked_same}
+use Rattle.bson_laws.proofs.Lent.{LeafLent, IsLent, AreFieldsLent, ArePartsLent, AreVariantsLent, IsContentLent, text_lent, owned_same}
 use Rattle.bson_laws.proofs.Tame.{judged_then}
 use Rattle.bson_laws.proofs.Sizes.{inside_ok, under_ok, named_ok, spell_key_ok, wide_is, binary_is}
 use Rattle.bson_laws.proofs.Free.{free_spelled, free_struct}
@@ -101,7 +101,7 @@ mutual
   any_comes at (value.str x) levels t g e = subst (AnyComes at (value.str x) levels) (ok_is (string x) t e) (text_comes at x levels g)
   any_comes at (value.bytes bs) levels t g e =
       subst (AnyComes at (value.bytes bs) levels) (binary_is _ _ 0 bs t e)
-      (value.bytes (unmarked at.under_mark (piece at.bytes bs)), refl, ap value.bytes (unmarked_same at.under_mark (piece at.bytes bs)), tt)
+      (value.bytes (owned_under_mark at.under_mark (piece at.bytes bs)), refl, ap value.bytes (owned_same at.under_mark (piece at.bytes bs)), tt)
   any_comes at value.unit levels t g e = subst (AnyComes at value.unit levels) (ok_is null t e) (value.unit, refl, refl, tt)
   any_comes at (value.sequence vs) levels t g e =
       within (AnyComes at (value.sequence vs)) array levels (spell_items 0 vs) t e

@@ -22,7 +22,7 @@ use Rattle.bson_laws.specs.Leaves.{LeafKind, anything, ignored, booleans, number
 use Rattle.bson_laws.specs.Variants.{content_of}
 use Rattle.bson_laws.specs.Views.{one_character}
 use Rattle.bson_laws.specs.Judged.{Reading, refused, with_level, faultless, judged, at_its_key, at_its_index, scope_key, passes, pass_scope, pass_nodes, ignores}
-use Rattle.bson_laws.specs.Taken.{unmarked, boolean_of, integer_of, double_of, character_of, text_of, bytes_of, null_of, buffer_of, reads_bytes, as_byte, borrow_or_own, as_text, document_of, array_of, read_integer, read_character}
+use Rattle.bson_laws.specs.Taken.{owned_under_mark, boolean_of, integer_of, double_of, character_of, text_of, bytes_of, null_of, buffer_of, reads_bytes, as_byte, borrow_or_own, as_text, document_of, array_of, read_integer, read_character}
 use Rattle.bson_laws.specs.ReadsLeaf.{borrows, put_entry, read_any, any_items, any_entries, no_extended, read_leaf_with}
 use Rattle.bson_laws.specs.Containers.{reads_items, reads_entries, unit_of, reads_unit, reads_key, reads_next, read_enum, reads_option}
 use Rattle.bson_laws.specs.Slots.{Slot, Slots, fill_slot, put_at, fill, value_or, finish, reads_places, read_structure}
@@ -141,11 +141,11 @@ mutual
 
 -- ---- pieces
 
-binary_unborrowed : (u : Bool) (b : Piece) → (unmarked u (made b.bytes)).in_input ≡ false
+binary_unborrowed : (u : Bool) (b : Piece) → (owned_under_mark u (made b.bytes)).in_input ≡ false
 binary_unborrowed true b = refl
 binary_unborrowed false b = refl
 
-binary_alike : (u : Bool) (b : Piece) → (unmarked u (made b.bytes)).bytes ≡ (unmarked u b).bytes
+binary_alike : (u : Bool) (b : Piece) → (owned_under_mark u (made b.bytes)).bytes ≡ (owned_under_mark u b).bytes
 binary_alike true b = refl
 binary_alike false b = refl
 
@@ -174,7 +174,7 @@ binary_bare l x y p un is e =
 
 pub text_bare : (l : Bool) (n : Node) (p : Piece) → text_of l (bare n) ≡ Ok p → ReadAs bytes_in (text_of l n) p.bytes
 text_bare l (string t) p e = let h = own_bare l (made t.bytes) t p refl refl e in (made t.bytes, h.0, sym h.1)
-text_bare l (bytes u b) p e = binary_bare l (unmarked u (made b.bytes)) (unmarked u b) p (binary_unborrowed u b) (binary_alike u b) e
+text_bare l (bytes u b) p e = binary_bare l (owned_under_mark u (made b.bytes)) (owned_under_mark u b) p (binary_unborrowed u b) (binary_alike u b) e
 text_bare l n p e = absurd cc
 
 bytes_bare : (n : Node) (p : Piece) → bytes_of (bare n) ≡ Ok p → ⊥
@@ -239,7 +239,7 @@ put_alike k j v w es ds p q r = put_contents k v es ∙ (λ i. put_plain (p i) (
 mutual
   any_bare : (n : Node) (m : Marked) → read_any (bare n) ≡ Ok m → ReadAs contents (read_any n) (contents m)
   any_bare (string t) m e = (value.str (t), refl, ap value.str refl ∙ ap contents (ok_is (value.str (made t.bytes)) m e))
-  any_bare (bytes u b) m e = (value.bytes (unmarked u b), refl, ap value.bytes (sym (binary_alike u b)) ∙ ap contents (ok_is (value.bytes (unmarked u (made b.bytes))) m e))
+  any_bare (bytes u b) m e = (value.bytes (owned_under_mark u b), refl, ap value.bytes (sym (binary_alike u b)) ∙ ap contents (ok_is (value.bytes (owned_under_mark u (made b.bytes))) m e))
   any_bare (array ns) m e =
       let r = map_ok value.sequence (any_items 0 (bare_nodes ns)) m e in
       let h = any_items_bare 0 ns r.0 r.1 in

@@ -25,7 +25,7 @@ use Rattle.bson_laws.specs.Leaves.{LeafKind, anything, ignored, booleans, number
 use Rattle.bson_laws.specs.Variants.{content_of}
 use Rattle.bson_laws.specs.Views.{one_character, absent}
 use Rattle.bson_laws.specs.Judged.{Reading, refused, faultless, judged, passes, ignores}
-use Rattle.bson_laws.specs.Taken.{unmarked, boolean_of, integer_of, double_of, character_of, borrow, borrow_or_own, as_text, text_of, bytes_of, buffer_of, null_of, read_integer, read_character, document_of, array_of}
+use Rattle.bson_laws.specs.Taken.{owned_under_mark, boolean_of, integer_of, double_of, character_of, borrow, borrow_or_own, as_text, text_of, bytes_of, buffer_of, null_of, read_integer, read_character, document_of, array_of}
 use Rattle.bson_laws.specs.ReadsLeaf.{borrows, put_entry, read_any, any_items, any_entries, no_extended, read_leaf_with}
 use Rattle.bson_laws.specs.Containers.{reads_items, reads_entries, unit_of, reads_unit, reads_key, read_enum, reads_option, reads_next}
 use Rattle.bson_laws.specs.Slots.{Slot, Slots, fill_slot, put_at, fill, value_or, finish, reads_places, read_structure}
@@ -209,7 +209,7 @@ borrow_is false t p e = ap (λ (x : Piece). x.bytes) (sym (ok_is (made t.bytes) 
 
 pub whole_text : (b : Bool) (n m : Node) (p : Piece) → judged n ≡ Ok m → text_of b n ≡ Ok p → is_utf8 p.bytes ≡ true
 whole_text b (node.string t) m p j e = ap is_utf8 (borrow_is b t p e) ∙ judged_text t m j
-whole_text b (node.bytes u x) m p j e = let q = bind_ok (borrow_or_own b (unmarked u x)) as_text p e in whole_binary (is_utf8 q.0.bytes) q.0 p refl q.2
+whole_text b (node.bytes u x) m p j e = let q = bind_ok (borrow_or_own b (owned_under_mark u x)) as_text p e in whole_binary (is_utf8 q.0.bytes) q.0 p refl q.2
 whole_text b n m p j e = absurd cc
 
 -- ---- entries
@@ -260,7 +260,7 @@ mutual
   any_given (node.int64 n) m v t j e = subst AnyGiven (ok_is (value.integer i64 n) v e) t
   any_given (node.double bits) m v t j e = subst AnyGiven (ok_is (value.double bits) v e) t
   any_given (node.string p) m v t j e = subst AnyGiven (ok_is (value.str p) v e) (judged_text p m j)
-  any_given (node.bytes u p) m v t j e = subst AnyGiven (ok_is (value.bytes (unmarked u p)) v e) tt
+  any_given (node.bytes u p) m v t j e = subst AnyGiven (ok_is (value.bytes (owned_under_mark u p)) v e) tt
   any_given node.null m v t j e = subst AnyGiven (ok_is value.unit v e) tt
   any_given (node.array ns) m v t j e = let r = map_ok value.sequence (any_items 0 ns) v e in subst AnyGiven r.2 (any_items_given 0 ns r.0 t r.1)
   any_given (node.document ns) m v t j e = let r = map_ok value.map (any_entries ns no_entries) v e in map_given r.0 v (any_entries_given ns no_entries r.0 t (tt, tt) r.1) r.2

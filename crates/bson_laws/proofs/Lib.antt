@@ -46,6 +46,7 @@ pub mod TreesRead
 pub mod BodyTexts
 pub mod Represented
 pub mod OpenedTrees
+pub mod RepresentedMended
 pub mod Unmarked
 pub mod GivenTrees
 pub mod GivenExtended

@@ -98,22 +98,22 @@ mutual
 
 -- ---- no fault
 
-whole : (in_input : Sight) (t : Tree) (levels : ℕ) → IsReadable t → fault (tree_node in_input t levels) ≡ None
-whole in_input (tree.string t) levels c = text_whole in_input t c
-whole in_input (tree.document ps) levels c = scope_whole in_input ps levels
-whole in_input (tree.array ts) zero c = refl
-whole in_input (tree.array ts) (suc levels) c = refl
-whole in_input (tree.binary zero b) levels c = refl
-whole in_input (tree.binary (suc n) b) levels c = refl
-whole in_input (tree.regular_expression p q) levels c = both_whole _ _ (text_whole in_input p c.0) (text_whole in_input q c.1)
-whole in_input (tree.db_pointer namespace id) levels c = text_whole in_input namespace c
-whole in_input (tree.javascript_code t) levels c = text_whole in_input t c
-whole in_input (tree.symbol t) levels c = text_whole in_input t c
-whole in_input (tree.javascript_code_with_scope code scope) levels c = both_whole _ _ (text_whole in_input code c.0) (scope_whole in_input scope levels)
-whole in_input t levels c = refl
+whole : (at : Sight) (t : Tree) (levels : ℕ) → IsReadable t → fault (tree_node at t levels) ≡ None
+whole at (tree.string t) levels c = text_whole at t c
+whole at (tree.document ps) levels c = scope_whole at ps levels
+whole at (tree.array ts) zero c = refl
+whole at (tree.array ts) (suc levels) c = refl
+whole at (tree.binary zero b) levels c = refl
+whole at (tree.binary (suc n) b) levels c = refl
+whole at (tree.regular_expression p q) levels c = both_whole _ _ (text_whole at p c.0) (text_whole at q c.1)
+whole at (tree.db_pointer namespace id) levels c = text_whole at namespace c
+whole at (tree.javascript_code t) levels c = text_whole at t c
+whole at (tree.symbol t) levels c = text_whole at t c
+whole at (tree.javascript_code_with_scope code scope) levels c = both_whole _ _ (text_whole at code c.0) (scope_whole at scope levels)
+whole at t levels c = refl
 
-pub judged_readable : (in_input : Sight) (t : Tree) (levels : ℕ) → IsReadable t → depth t ≤ levels → judged (tree_node in_input t levels) ≡ Ok (tree_node in_input t levels)
-judged_readable in_input t levels c d = ap (λ o. faultless o (tree_node in_input t levels)) (whole in_input t levels c) ∙ level_there in_input t levels d
+pub judged_readable : (at : Sight) (t : Tree) (levels : ℕ) → IsReadable t → depth t ≤ levels → judged (tree_node at t levels) ≡ Ok (tree_node at t levels)
+judged_readable at t levels c d = ap (λ o. faultless o (tree_node at t levels)) (whole at t levels c) ∙ level_there at t levels d
 
 -- ---- pairs
 
@@ -153,45 +153,45 @@ new_more (pair k u ps) done key t l n = (lacks_one k key t done (unlike_swap key
 -- ---- trees
 
 mutual
-  pub tree_again : (in_input : Sight) (t : Tree) (levels : ℕ) → IsReadable t → depth t ≤ levels → as_tree (tree_node in_input t levels) ≡ Ok (sorted_tree t)
-  tree_again in_input (tree.document ps) zero c d = absurd (omega arith)
-  tree_again in_input (tree.document ps) (suc n) c d = pairs_again in_input ps n no_pairs c (omega arith) (new_first ps)
-  tree_again in_input (tree.array ts) zero c d = absurd (omega arith)
-  tree_again in_input (tree.array ts) (suc n) c d = ap (result_map tree.array) (trees_again in_input ts 0 n c (omega arith))
-  tree_again in_input (tree.binary zero b) levels c d = refl
-  tree_again in_input (tree.binary (suc n) b) levels c d = refl
-  tree_again in_input (tree.javascript_code_with_scope code scope) zero c d = absurd (omega arith)
-  tree_again in_input (tree.javascript_code_with_scope code scope) (suc n) c d =
-      ap (λ r. result_map (tree.javascript_code_with_scope code) (under scope_key (r >>= pairs_in))) (pairs_again in_input scope n no_pairs c.1 (omega arith) (new_first scope))
-  tree_again in_input t levels c d = refl
+  pub tree_again : (at : Sight) (t : Tree) (levels : ℕ) → IsReadable t → depth t ≤ levels → as_tree (tree_node at t levels) ≡ Ok (sorted_tree t)
+  tree_again at (tree.document ps) zero c d = absurd (omega arith)
+  tree_again at (tree.document ps) (suc n) c d = pairs_again at ps n no_pairs c (omega arith) (new_first ps)
+  tree_again at (tree.array ts) zero c d = absurd (omega arith)
+  tree_again at (tree.array ts) (suc n) c d = ap (result_map tree.array) (trees_again at ts 0 n c (omega arith))
+  tree_again at (tree.binary zero b) levels c d = refl
+  tree_again at (tree.binary (suc n) b) levels c d = refl
+  tree_again at (tree.javascript_code_with_scope code scope) zero c d = absurd (omega arith)
+  tree_again at (tree.javascript_code_with_scope code scope) (suc n) c d =
+      ap (λ r. result_map (tree.javascript_code_with_scope code) (under scope_key (r >>= pairs_in))) (pairs_again at scope n no_pairs c.1 (omega arith) (new_first scope))
+  tree_again at t levels c d = refl
 
-  pairs_again : (in_input : Sight) (ps : Pairs) (n : ℕ) (done : Pairs) → ArePairsReadable ps → pairs_depth ps ≤ n → AreNew ps done
-      → document_tree (pair_nodes in_input ps n) done ≡ Ok (tree.document (joined done (sorted_pairs ps)))
-  pairs_again in_input no_pairs n done c d new = ap (λ x. Ok (tree.document x)) (sym (joined_none done))
-  pairs_again in_input (pair key t ps) n done c d new =
-      let u = tree_node in_input t n in
-      let ns = pair_nodes in_input ps n in
+  pairs_again : (at : Sight) (ps : Pairs) (n : ℕ) (done : Pairs) → ArePairsReadable ps → pairs_depth ps ≤ n → AreNew ps done
+      → document_tree (pair_nodes at ps n) done ≡ Ok (tree.document (joined done (sorted_pairs ps)))
+  pairs_again at no_pairs n done c d new = ap (λ x. Ok (tree.document x)) (sym (joined_none done))
+  pairs_again at (pair key t ps) n done c d new =
+      let u = tree_node at t n in
+      let ns = pair_nodes at ps n in
       let value = judged u >>= λ _. as_tree u in
       let others = λ (x : Tree). document_tree ns (put_pair key x done) in
-      let read : value ≡ Ok (sorted_tree t) = ap (λ r. r >>= λ _. as_tree u) (judged_readable in_input t n c.2 (omega arith)) ∙ tree_again in_input t n c.2 (omega arith) in
+      let read : value ≡ Ok (sorted_tree t) = ap (λ r. r >>= λ _. as_tree u) (judged_readable at t n c.2 (omega arith)) ∙ tree_again at t n c.2 (omega arith) in
       ap (λ m. by_key m key u value others (λ x. after_code x ns) (λ qs. after_scope qs ns)) c.0
       ∙ ap (λ r. under key r >>= others) read
       ∙ ap (document_tree ns) (put_last key (sorted_tree t) done new.0)
-      ∙ pairs_again in_input ps n (joined done (pair key (sorted_tree t) no_pairs)) c.3 (omega arith) (new_more ps done key (sorted_tree t) c.1 new.1)
+      ∙ pairs_again at ps n (joined done (pair key (sorted_tree t) no_pairs)) c.3 (omega arith) (new_more ps done key (sorted_tree t) c.1 new.1)
       ∙ ap (λ x. Ok (tree.document x)) (joined_one done key (sorted_tree t) (sorted_pairs ps))
 
-  trees_again : (in_input : Sight) (ts : Trees) (i n : ℕ) → AreTreesReadable ts → trees_depth ts ≤ n → array_trees i (tree_nodes in_input i ts n) ≡ Ok (sorted_trees ts)
-  trees_again in_input no_trees i n c d = refl
-  trees_again in_input (tree.tree t ts) i n c d =
-      let u = tree_node in_input t n in
-      let ns = tree_nodes in_input (suc i) ts n in
-      ap (λ r. under_index i (r >>= λ _. as_tree u) >>= λ x. result_map (tree.tree x) (array_trees (suc i) ns)) (judged_readable in_input t n c.0 (omega arith))
-      ∙ ap (λ r. under_index i r >>= λ x. result_map (tree.tree x) (array_trees (suc i) ns)) (tree_again in_input t n c.0 (omega arith))
-      ∙ ap (result_map (tree.tree (sorted_tree t))) (trees_again in_input ts (suc i) n c.1 (omega arith))
+  trees_again : (at : Sight) (ts : Trees) (i n : ℕ) → AreTreesReadable ts → trees_depth ts ≤ n → array_trees i (tree_nodes at i ts n) ≡ Ok (sorted_trees ts)
+  trees_again at no_trees i n c d = refl
+  trees_again at (tree.tree t ts) i n c d =
+      let u = tree_node at t n in
+      let ns = tree_nodes at (suc i) ts n in
+      ap (λ r. under_index i (r >>= λ _. as_tree u) >>= λ x. result_map (tree.tree x) (array_trees (suc i) ns)) (judged_readable at t n c.0 (omega arith))
+      ∙ ap (λ r. under_index i r >>= λ x. result_map (tree.tree x) (array_trees (suc i) ns)) (tree_again at t n c.0 (omega arith))
+      ∙ ap (result_map (tree.tree (sorted_tree t))) (trees_again at ts (suc i) n c.1 (omega arith))
 
 -- a clean tree is read as itself
-pub read_again : (in_input : Sight) (t : Tree) (levels : ℕ) → IsReadable t → depth t ≤ levels → read_tree (tree_node in_input t levels) ≡ Ok (sorted_tree t)
-read_again in_input t levels c d = ap (λ r. r >>= as_tree) (judged_readable in_input t levels c d) ∙ tree_again in_input t levels c d
+pub read_again : (at : Sight) (t : Tree) (levels : ℕ) → IsReadable t → depth t ≤ levels → read_tree (tree_node at t levels) ≡ Ok (sorted_tree t)
+read_again at t levels c d = ap (λ r. r >>= as_tree) (judged_readable at t levels c d) ∙ tree_again at t levels c d
 
 -- ---- at the leaves of extended kinds
 

@@ -13,7 +13,7 @@ use Rattle.bson_datum.specs.Cause.{raw, invalid_type}
 use Rattle.bson_datum.specs.Refusal.{under, under_index}
 use Rattle.bson_laws.specs.Leaves.{LeafKind, anything, ignored, booleans, numbers, doubles, characters, texts, byte_strings, byte_buffers, units, ExtendedLeaf, extended_values}
 use Rattle.bson_laws.specs.Judged.{Reading, refused, judged, passes}
-use Rattle.bson_laws.specs.Taken.{boolean_of, integer_of, double_of, null_of, unmarked, text_of, bytes_of, read_integer, character_of, buffer_of}
+use Rattle.bson_laws.specs.Taken.{boolean_of, integer_of, double_of, null_of, owned_under_mark, text_of, bytes_of, read_integer, character_of, buffer_of}
 
 -- the entries of a map with one more: a key that is there keeps its place and takes the value; another goes last
 abbrev pub put_entry : Marked → Marked → MarkedEntries → MarkedEntries
@@ -29,7 +29,7 @@ abbrev mutual
   read_any (int64 n) = Ok (value.integer i64 n)
   read_any (double bits) = Ok (value.double bits)
   read_any (string t) = Ok (value.str t)
-  read_any (bytes u b) = Ok (value.bytes (unmarked u b))
+  read_any (bytes u b) = Ok (value.bytes (owned_under_mark u b))
   read_any (array ns) = result_map value.sequence (any_items 0 ns)
   read_any (document ns) = result_map value.map (any_entries ns no_entries)
   read_any (extended x ns) = result_map value.map (any_entries ns no_entries)

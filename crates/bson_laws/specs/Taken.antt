@@ -46,8 +46,8 @@ array_of n = refused (invalid_type (kind_of n))
 -- ---- texts and byte strings
 
 -- a binary of subtype 0 where it is not taken as a byte string: under a mark it is not borrowed
-abbrev pub unmarked : (under_mark : Bool) → Piece → Piece
-unmarked under_mark b = if under_mark then made b.bytes else b
+abbrev pub owned_under_mark : (under_mark : Bool) → Piece → Piece
+owned_under_mark under_mark b = if under_mark then made b.bytes else b
 
 -- the characters of a text
 abbrev pub characters_of : Piece → List ℕ
@@ -68,7 +68,7 @@ as_text p = if is_utf8 p.bytes then Ok p else refused not_utf8
 -- a text, or the bytes of a binary of subtype 0 that are UTF-8; `NotBorrowed` comes before `NotUtf8`
 abbrev pub text_of : (borrows : Bool) → Node → Reading Piece
 text_of borrows (string t) = borrow_or_own borrows t
-text_of borrows (bytes u b) = borrow_or_own borrows (unmarked u b) >>= as_text
+text_of borrows (bytes u b) = borrow_or_own borrows (owned_under_mark u b) >>= as_text
 text_of borrows n = refused (invalid_type (kind_of n))
 
 -- the bytes of a binary of subtype 0, of a text, of an ObjectId, borrowed

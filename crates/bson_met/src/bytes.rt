@@ -1,7 +1,7 @@
 ghost use Rattle.std.specs.Prelude.{◌≡◌, true, IfOk};
 ghost use Rattle.bson_rawdoc.specs.Piece.{borrowed};
 ghost use Rattle.bson_datum.specs.MarkedView.{bytes_piece};
-ghost use Rattle.bson_laws.specs.Taken.{borrow, unmarked};
+ghost use Rattle.bson_laws.specs.Taken.{borrow, owned_under_mark};
 ghost use Rattle.bson_met.specs.Gives.{Reaches};
 ghost use Rattle.bson_met.specs.PieceView.{met_bytes};
 
@@ -28,7 +28,7 @@ impl<'de> MetBytes<'de> {
     /// Memory ran out.
     #[inline(always)]
     pub fn to_byte_str(self, alloc: Global) -> Result<ByteStr<'de>, AllocError>
-        ensures piece { IfOk result (λ b. bytes_piece b ≡ unmarked self.entry.under_mark (met_bytes self.entry)) }
+        ensures piece { IfOk result (λ b. bytes_piece b ≡ owned_under_mark self.entry.under_mark (met_bytes self.entry)) }
     {
         if self.in_input && !self.under_mark {
             return Ok(ByteStr::Borrowed(self.bytes));
@@ -38,8 +38,8 @@ impl<'de> MetBytes<'de> {
 
     /// The bytes, which are not borrowed where texts are mended.
     #[inline(always)]
-    pub fn unmarked(self) -> MetBytes<'de>
-        ensures unmarked { met_bytes result ≡ unmarked self.entry.under_mark (met_bytes self.entry) }
+    pub fn owned_under_mark(self) -> MetBytes<'de>
+        ensures owned_under_mark { met_bytes result ≡ owned_under_mark self.entry.under_mark (met_bytes self.entry) }
     {
         MetBytes {
             bytes: self.bytes,

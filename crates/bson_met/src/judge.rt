@@ -235,7 +235,7 @@ fn judge_tree<'de>(alloc: Global, levels: u32, value: &'de Bson) -> Reading<Valu
 fn input_bytes<'de>(bytes: &'de [u8]) -> MetBytes<'de>
     ensures piece { met_bytes result ≡ borrowed bytes.now }
     ensures bytes { result.bytes.now ≡ bytes.now }
-    ensures unmarked { result.under_mark ≡ false }
+    ensures under_mark { result.under_mark ≡ false }
 {
     MetBytes {
         bytes,
@@ -248,7 +248,7 @@ fn input_bytes<'de>(bytes: &'de [u8]) -> MetBytes<'de>
 fn own_bytes<'de>(bytes: &'de [u8]) -> MetBytes<'de>
     ensures piece { met_bytes result ≡ made bytes.now }
     ensures bytes { result.bytes.now ≡ bytes.now }
-    ensures unmarked { result.under_mark ≡ false }
+    ensures under_mark { result.under_mark ≡ false }
 {
     MetBytes {
         bytes,
