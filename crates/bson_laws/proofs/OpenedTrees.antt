@@ -12,6 +12,7 @@ use Rattle.bson_base.specs.declared.element_type.ElementType.TheVariants.{Embedd
 use Rattle.bson_rawdoc.specs.Node as node
 use Rattle.bson_rawdoc.specs.Node.{Sight, Node, Extended, object_id, date_time, regular_expression, db_pointer, javascript_code, symbol, javascript_code_with_scope, timestamp, decimal128, opens, one_level, tree_node, pair_nodes}
 use Rattle.bson_rawdoc.specs.Piece.{made}
+use Rattle.bson_datum.specs.Wrapper.{of_key}
 use Rattle.bson_laws.specs.Datum.{sorted_tree}
 use Rattle.bson_laws.specs.Trees.{as_tree, read_tree}
 use Rattle.bson_laws.proofs.Bare.{bare_sight, tree_bare}
@@ -36,6 +37,11 @@ binary_opened at subtype b zero d = absurd (omega arith)
 binary_opened at subtype b (suc zero) d = absurd (omega arith)
 binary_opened at subtype b (suc (suc m)) d = record { value = node.binary (suc subtype) (made b); left = 0; met = refl; deep = omega arith; document = refl }
 
+-- under a mark too, since a decimal's bytes are taken as bytes
+decimal_opened : (at : Sight) (b : Bytes) (m : ℕ) → read_tree (tree_node (bare_sight at) (tree.document (opened (tree.decimal128 b))) (suc m)) ≡ read_tree (node.document (node.opened (decimal128 b)))
+unfolding of_key
+decimal_opened at b m = refl
+
 is_opened : (at : Sight) (t : Tree) (levels : ℕ) → IsExtended t → depth (tree.document (opened t)) ≤ levels → IsOpened at t (opened t) levels
 is_opened at t zero e d = absurd (omega arith)
 is_opened at (tree.binary zero b) levels e d = absurd (e refl)
@@ -45,7 +51,7 @@ is_opened at (tree.binary (suc k) b) levels e d =
 is_opened at (tree.object_id id) (suc m) e d = record { value = object_id (made id); left = 0; met = refl; deep = omega arith; document = refl }
 is_opened at (tree.javascript_code c) (suc m) e d = record { value = javascript_code (made c); left = 0; met = refl; deep = omega arith; document = refl }
 is_opened at (tree.symbol s) (suc m) e d = record { value = symbol (made s); left = 0; met = refl; deep = omega arith; document = refl }
-is_opened at (tree.decimal128 b) (suc m) e d = record { value = decimal128 b; left = 0; met = refl; deep = omega arith; document = refl }
+is_opened at (tree.decimal128 b) (suc m) e d = record { value = decimal128 b; left = 0; met = refl; deep = omega arith; document = decimal_opened at b m }
 is_opened at tree.undefined (suc m) e d = record { value = node.undefined; left = 0; met = refl; deep = omega arith; document = refl }
 is_opened at tree.max_key (suc m) e d = record { value = node.max_key; left = 0; met = refl; deep = omega arith; document = refl }
 is_opened at tree.min_key (suc m) e d = record { value = node.min_key; left = 0; met = refl; deep = omega arith; document = refl }
