@@ -11,7 +11,7 @@ use Rattle.bson_datum.specs.Refusal.{at_key, under}
 use Rattle.bson_datum.specs.declared.datum.Datum.{Datum}
 use Rattle.bson_datum.specs.declared.de.Fault.{Fault}
 use Rattle.bson_datum.specs.declared.stop.Stop.{Stop}
-use Rattle.bson_laws.specs.Judged.{Reading, plain}
+use Rattle.bson_laws.specs.Judged.{Reading}
 use Rattle.bson_laws.specs.Reads.{reads_content}
 use Rattle.bson_met.specs.Gives.{Reaches}
 use Rattle.bson_met.specs.declared.value.Value as code
@@ -27,7 +27,7 @@ reaches_at see key (Err s) (Ok y) r same h = absurd same
 reaches_at see key (Err s) (Err t) r same h = stops_inside (at_key key) s t r same h
 
 -- contents that were read, at the key that names the variant
-pub contents_at_key : (own name : Utf8) (c : Content) (n : Node) (old new : Result Datum (Stop Fault)) → is_unit c ≡ false → name ≡ own → IsAtKey name old new → Reaches marked old (reads_contents name c n) → Reaches marked new (reads_content own c plain n)
+pub contents_at_key : (own name : Utf8) (c : Content) (n : Node) (old new : Result Datum (Stop Fault)) → is_unit c ≡ false → name ≡ own → IsAtKey name old new → Reaches marked old (reads_contents name c n) → Reaches marked new (reads_content own c n)
 contents_at_key own name unit_content n old new some named at h = absurd (false≢true (sym some))
 contents_at_key own name (newtype_content s) n old new some named at h =
     subst (λ (r : Reading Marked). Reaches marked new r) (λ i. under (named i) (reads_contents (named i) (newtype_content s) n)) (reaches_at marked name old new _ at h)

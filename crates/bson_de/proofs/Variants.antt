@@ -10,7 +10,7 @@ use Rattle.bson_shape.specs.ShapeView.{variants_of, variants_nodes, content_node
 use Rattle.bson_shape.specs.declared.shape.VariantShape.{VariantShape}
 use Rattle.bson_datum.specs.Marked.{Marked}
 use Rattle.bson_laws.specs.Containers.{read_first}
-use Rattle.bson_laws.specs.Judged.{Reading, plain}
+use Rattle.bson_laws.specs.Judged.{Reading}
 use Rattle.bson_laws.specs.Reads.{reads_variant, reads_content}
 use Rattle.bson_leaves.specs.Named.{variant_named}
 use Rattle.bson_leaves.proofs.Variants.{named, this_or, then_read}
@@ -18,11 +18,11 @@ use Rattle.bson_de.specs.Enums.{Pair, first_of}
 
 -- an element is read at the variant that has its key as its name
 abbrev pub content_read : Node → VariantShape → Reading Marked
-content_read n v = reads_content (named v) (shape_view.content_of v.content) plain n
+content_read n v = reads_content (named v) (shape_view.content_of v.content) n
 
-pub element_read : (vs : List VariantShape) (key : Utf8) (n : Node) → reads_variant (variants_of vs) plain key n ≡ (variant_named vs key >>= content_read n)
+pub element_read : (vs : List VariantShape) (key : Utf8) (n : Node) → reads_variant (variants_of vs) key n ≡ (variant_named vs key >>= content_read n)
 element_read [] key n = refl
-element_read (v ∷ vs) key n = then_read (bytes_eq (named v) key) v (variant_named vs key) (content_read n) (reads_variant (variants_of vs) plain key n) (element_read vs key n)
+element_read (v ∷ vs) key n = then_read (bytes_eq (named v) key) v (variant_named vs key) (content_read n) (reads_variant (variants_of vs) key n) (element_read vs key n)
 
 -- what holds of this variant, and of the one that is found among the others, holds of the one that is found
 found : (P : VariantShape → Type 0) (b : Bool) (v w : VariantShape) (q : Reading VariantShape) → this_or b v q ≡ Ok w → P v → (q ≡ Ok w → P w) → P w

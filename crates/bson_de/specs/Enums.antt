@@ -9,7 +9,7 @@ use Rattle.bson_datum.specs.Cause.{raw, unit_in_document}
 use Rattle.bson_datum.specs.Marked.{Marked}
 use Rattle.bson_datum.specs.Refusal.{here, end_of_stream}
 use Rattle.bson_datum.specs.Value as value
-use Rattle.bson_laws.specs.Judged.{Reading, refused, judged, plain}
+use Rattle.bson_laws.specs.Judged.{Reading, refused, judged}
 use Rattle.bson_laws.specs.Reads.{reads, reads_parts, slots_of}
 use Rattle.bson_laws.specs.Slots.{read_structure}
 use Rattle.bson_met.specs.MetView.{array_at}
@@ -33,6 +33,6 @@ first_of (then_node k n ns) = Ok (record { key = k; value = n })
 -- the variant of a name with its contents, read from the value that is at the name
 abbrev pub reads_contents : Utf8 → Content → Node → Reading Marked
 reads_contents name unit_content n = refused unit_in_document
-reads_contents name (newtype_content s) n = result_map (value.newtype_variant (made name)) (reads s plain n)
-reads_contents name (tuple_content ps) n = array_at n >>= λ ns. result_map (value.tuple_variant (made name)) (reads_parts ps plain 0 ns)
-reads_contents name (struct_content fs) n = judged plain n >>= λ m. result_map (value.structure_variant (made name)) (read_structure plain (slots_of fs plain) m)
+reads_contents name (newtype_content s) n = result_map (value.newtype_variant (made name)) (reads s n)
+reads_contents name (tuple_content ps) n = array_at n >>= λ ns. result_map (value.tuple_variant (made name)) (reads_parts ps 0 ns)
+reads_contents name (struct_content fs) n = judged n >>= λ m. result_map (value.structure_variant (made name)) (read_structure (slots_of fs) m)

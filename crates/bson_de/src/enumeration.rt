@@ -5,7 +5,6 @@ ghost use Rattle.bson_shape.specs.Makers.{AreDistinct, AreVariants, IsContent};
 ghost use Rattle.bson_shape.specs.ShapeView.{content_of, fields_of, parts_of, variants_of};
 ghost use Rattle.bson_datum.specs.MarkedView.{marked};
 ghost use Rattle.bson_laws.specs.Containers.{read_first};
-ghost use Rattle.bson_laws.specs.Judged.{plain};
 ghost use Rattle.bson_laws.specs.Reads.{reads, reads_content, reads_variant};
 ghost use Rattle.bson_met.specs.Gives.{Reaches};
 ghost use Rattle.bson_de.specs.AtKey.{IsAtKey};
@@ -31,7 +30,7 @@ pub(crate) fn read_enum<'de>(
 ) -> Reading<Datum<'de>>
     requires { AreVariants (variants_of variants.now) }
     ensures exact { Reaches marked result
-        (reads (form.enumeration (variants_of variants.now)) plain value.now) }
+        (reads (form.enumeration (variants_of variants.now)) value.now) }
 {
     match value.judge(alloc)? {
         Value::String(name) => {
@@ -54,7 +53,7 @@ fn read_variant<'de>(
 ) -> Reading<Datum<'de>>
     requires { AreVariants (variants_of variants.now) }
     ensures exact { Reaches marked result
-        (read_first (reads_variant (variants_of variants.now) plain) elements.entry) }
+        (read_first (reads_variant (variants_of variants.now)) elements.entry) }
 {
     let step = first_element(alloc, elements)?;
     let variant = variant_of(alloc, variants, step.key.text)?;
@@ -78,7 +77,7 @@ fn first_element<'de>(alloc: Global, mut elements: Elements<'de>) -> Reading<Ste
 fn read_content<'de>(alloc: Global, variant: &VariantShape, step: &Step<'de>) -> Reading<Datum<'de>>
     requires { IsContent (content_of variant.now.content) }
     ensures exact { Reaches marked result
-        (reads_content (string_bytes variant.now.name) (content_of variant.now.content) plain step.now.value) }
+        (reads_content (string_bytes variant.now.name) (content_of variant.now.content) step.now.value) }
 {
     let name = variant.name.as_str();
     let value = &step.value;

@@ -1,7 +1,6 @@
 // Values at leaves.
 ghost use Rattle.bson_shape.specs.Form as form;
 ghost use Rattle.bson_datum.specs.MarkedView.{marked};
-ghost use Rattle.bson_laws.specs.Judged.{plain};
 ghost use Rattle.bson_laws.specs.Reads.{reads};
 ghost use Rattle.bson_met.specs.Gives.{Reaches};
 
@@ -15,7 +14,7 @@ use std::alloc::Global;
 /// The value at a leaf.
 #[inline(always)]
 pub(crate) fn read_leaf_at<'de>(alloc: Global, leaf: Leaf, value: &Met<'de>) -> Reading<Datum<'de>>
-    ensures exact { Reaches marked result (reads (form.leaf leaf) plain value.now) }
+    ensures exact { Reaches marked result (reads (form.leaf leaf) value.now) }
 {
     if is_extended(leaf) {
         return read_extended(alloc, leaf, value);

@@ -5,7 +5,6 @@ ghost use Rattle.bson_datum.specs.MarkedView.{marked};
 ghost use Rattle.bson_datum.specs.Refusal.{under};
 ghost use Rattle.bson_datum.specs.Value.{no_entries};
 ghost use Rattle.bson_laws.specs.Containers.{reads_entries, reads_key};
-ghost use Rattle.bson_laws.specs.Judged.{plain};
 ghost use Rattle.bson_laws.specs.Reads.{reads};
 ghost use Rattle.bson_met.specs.Gives.{Reaches};
 ghost use Rattle.bson_met.specs.PieceView.{str_piece};
@@ -28,7 +27,7 @@ pub(crate) fn read_map<'de>(
     value: &Met<'de>,
 ) -> Reading<Datum<'de>>
     requires { is_text_key key.now ≡ true }
-    ensures exact { Reaches marked result (reads (form.map key.now item.now) plain value.now) }
+    ensures exact { Reaches marked result (reads (form.map key.now item.now) value.now) }
 {
     let elements = value.document(alloc)?;
     let entries = read_entries(alloc, key, item, elements)?;
@@ -45,7 +44,7 @@ fn read_entries<'de>(
 ) -> Reading<Vec<Entry<'de>>>
     requires { is_text_key key.now ≡ true }
     ensures exact { Reaches (λ v. entries_marked v.items) result
-        (reads_entries (reads_key plain key.now) (reads item.now plain) elements.entry no_entries) }
+        (reads_entries (reads_key key.now) (reads item.now) elements.entry no_entries) }
 {
     let mut entries = Entries::new(alloc, key.form());
     let mut step = elements.start();
@@ -61,7 +60,7 @@ fn read_entries<'de>(
 #[cycle(read)]
 fn read_at_key<'de>(alloc: Global, shape: &Shape, step: &Step<'de>) -> Reading<Datum<'de>>
     ensures exact { Reaches marked result
-        (under (str_piece step.now.key).bytes (reads shape.now plain step.now.value)) }
+        (under (str_piece step.now.key).bytes (reads shape.now step.now.value)) }
 {
     match read_value(alloc, shape, &step.value) {
         Ok(value) => Ok(value),

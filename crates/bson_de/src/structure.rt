@@ -3,7 +3,6 @@ ghost use Rattle.bson_shape.specs.Form as form;
 ghost use Rattle.bson_shape.specs.Makers.{AreDistinct};
 ghost use Rattle.bson_shape.specs.ShapeView.{fields_of};
 ghost use Rattle.bson_datum.specs.MarkedView.{marked};
-ghost use Rattle.bson_laws.specs.Judged.{plain};
 ghost use Rattle.bson_laws.specs.Reads.{reads, slots_of};
 ghost use Rattle.bson_laws.specs.Slots as laws;
 ghost use Rattle.bson_met.specs.Gives.{Reaches};
@@ -32,7 +31,7 @@ pub(crate) fn read_struct<'de>(
 ) -> Reading<Datum<'de>>
     requires { AreDistinct (fields_of fields.now) }
     ensures exact { Reaches marked result
-        (reads (form.structure name.now (fields_of fields.now)) plain value.now) }
+        (reads (form.structure name.now (fields_of fields.now)) value.now) }
 {
     let fields = read_fields(alloc, fields, value)?;
     Ok(named_struct(alloc, name, fields)?)
@@ -46,7 +45,7 @@ pub(crate) fn read_fields<'de>(
     value: &Met<'de>,
 ) -> Reading<Vec<Field<'de>>>
     requires { AreDistinct (fields_of fields.now) }
-    ensures exact { Reaches (λ v. fields_marked v.items) result (fields_read (slots_of (fields_of fields.now) plain) value.now) }
+    ensures exact { Reaches (λ v. fields_marked v.items) result (fields_read (slots_of (fields_of fields.now)) value.now) }
 {
     match value.judge(alloc)? {
         Value::Array(items) => read_by_place(alloc, fields, items),
@@ -66,7 +65,7 @@ fn read_by_key<'de>(
 ) -> Reading<Vec<Field<'de>>>
     requires { AreDistinct (fields_of fields.now) }
     ensures exact { Reaches (λ v. fields_marked v.items) result
-        (fields_by_key (slots_of (fields_of fields.now) plain) elements.entry) }
+        (fields_by_key (slots_of (fields_of fields.now)) elements.entry) }
 {
     let mut index = NameIndex::new(fields);
     let mut slots = Slots::new(alloc, fields)?;
@@ -89,7 +88,7 @@ fn fill_one<'de>(
     ensures items { index.new.items ≡ index.old.items }
     ensures kept { slots.new.fields ≡ slots.old.fields }
     ensures exact { Reaches (λ _. slots_view slots.new) result
-        (laws.put_at plain (str_piece step.now.key).bytes step.now.value (slots_view slots.old)) }
+        (laws.put_at (str_piece step.now.key).bytes step.now.value (slots_view slots.old)) }
 {
     let key = step.key.text;
     let fields = index.items;
@@ -122,7 +121,7 @@ fn read_by_place<'de>(
     mut elements: Items<'de>,
 ) -> Reading<Vec<Field<'de>>>
     ensures exact { Reaches (λ v. fields_marked v.items) result
-        (laws.reads_places 0 (slots_of (fields_of fields.now) plain) elements.entry) }
+        (laws.reads_places 0 (slots_of (fields_of fields.now)) elements.entry) }
 {
     let mut values = Vec::new(alloc);
     for (place, field) in fields.iter().enumerate() {

@@ -3,7 +3,6 @@ ghost use Rattle.std.specs.Prelude.{◌≡◌, IfOk};
 ghost use Rattle.bson_shape.specs.Form as form;
 ghost use Rattle.bson_shape.specs.ShapeView.{parts_of};
 ghost use Rattle.bson_datum.specs.MarkedView.{marked};
-ghost use Rattle.bson_laws.specs.Judged.{plain};
 ghost use Rattle.bson_laws.specs.Reads.{reads, reads_parts};
 ghost use Rattle.bson_met.specs.Gives.{Reaches};
 ghost use Rattle.bson_leaves.specs.ListsMarked.{items_marked};
@@ -24,7 +23,7 @@ pub(crate) fn read_tuple<'de>(
     parts: &[Shape],
     value: &Met<'de>,
 ) -> Reading<Datum<'de>>
-    ensures exact { Reaches marked result (reads (form.tuple (parts_of parts.now)) plain value.now) }
+    ensures exact { Reaches marked result (reads (form.tuple (parts_of parts.now)) value.now) }
 {
     let elements = value.array(alloc)?;
     let items = read_parts(alloc, parts, elements)?;
@@ -41,7 +40,7 @@ pub(crate) fn read_tuple_struct<'de>(
     value: &Met<'de>,
 ) -> Reading<Datum<'de>>
     ensures exact { Reaches marked result
-        (reads (form.tuple_structure name.now (parts_of parts.now)) plain value.now) }
+        (reads (form.tuple_structure name.now (parts_of parts.now)) value.now) }
 {
     let elements = value.array(alloc)?;
     let items = read_parts(alloc, parts, elements)?;
@@ -57,7 +56,7 @@ pub(crate) fn read_parts<'de>(
     mut elements: Items<'de>,
 ) -> Reading<Vec<Datum<'de>>>
     ensures exact { Reaches (λ v. items_marked v.items) result
-        (reads_parts (parts_of parts.now) plain 0 elements.entry) }
+        (reads_parts (parts_of parts.now) 0 elements.entry) }
 {
     let mut values = Vec::new(alloc);
     for (place, part) in parts.iter().enumerate() {
@@ -76,7 +75,7 @@ pub(crate) fn read_next<'de>(
     elements: &mut Items<'de>,
 ) -> Reading<Datum<'de>>
     ensures rest { IfOk result (λ _. elements.new ≡ behind_first elements.old) }
-    ensures value { Reaches marked result (next_value index (reads shape.now plain) elements.old) }
+    ensures value { Reaches marked result (next_value index (reads shape.now) elements.old) }
 {
     let value = due(alloc, index, elements)?;
     read_item(alloc, shape, index, &value)

@@ -2,7 +2,6 @@ ghost use Rattle.bson_shape.specs.Form as form;
 ghost use Rattle.bson_datum.specs.MarkedView.{marked};
 ghost use Rattle.bson_datum.specs.Refusal.{under_index};
 ghost use Rattle.bson_laws.specs.Containers.{reads_items};
-ghost use Rattle.bson_laws.specs.Judged.{plain};
 ghost use Rattle.bson_laws.specs.Reads.{reads};
 ghost use Rattle.bson_met.specs.Gives.{Reaches};
 ghost use Rattle.bson_leaves.specs.ListsMarked.{items_marked};
@@ -28,7 +27,7 @@ use std::alloc::Global;
 /// length and last byte. `Stop::NoMemory` where memory ran out. `de::Error::from_stop` makes an error of it.
 #[cycle(read)]
 pub fn read_value<'de>(alloc: Global, shape: &Shape, value: &Met<'de>) -> Reading<Datum<'de>>
-    ensures exact { Reaches marked result (reads shape.now plain value.now) }
+    ensures exact { Reaches marked result (reads shape.now value.now) }
 {
     shape.known();
     match shape.form() {
@@ -49,7 +48,7 @@ pub fn read_value<'de>(alloc: Global, shape: &Shape, value: &Met<'de>) -> Readin
 #[cycle(read)]
 #[inline(never)]
 fn read_option<'de>(alloc: Global, inner: &Shape, value: &Met<'de>) -> Reading<Datum<'de>>
-    ensures exact { Reaches marked result (reads (form.optional inner.now) plain value.now) }
+    ensures exact { Reaches marked result (reads (form.optional inner.now) value.now) }
 {
     if value.is_null() {
         return Ok(Datum::None);
@@ -67,7 +66,7 @@ fn read_newtype<'de>(
     inner: &Shape,
     value: &Met<'de>,
 ) -> Reading<Datum<'de>>
-    ensures exact { Reaches marked result (reads (form.newtype name.now inner.now) plain value.now) }
+    ensures exact { Reaches marked result (reads (form.newtype name.now inner.now) value.now) }
 {
     let value = read_value(alloc, inner, value)?;
     let value = Box::new(alloc, value)?;
@@ -78,7 +77,7 @@ fn read_newtype<'de>(
 /// The value at a unit struct of this name.
 #[inline(never)]
 fn read_unit_struct<'de>(alloc: Global, name: &str, value: &Met<'de>) -> Reading<Datum<'de>>
-    ensures exact { Reaches marked result (reads (form.unit_structure name.now) plain value.now) }
+    ensures exact { Reaches marked result (reads (form.unit_structure name.now) value.now) }
 {
     null(alloc, value)?;
     let name = Text::Owned(String::from_str(alloc, name)?);
@@ -89,7 +88,7 @@ fn read_unit_struct<'de>(alloc: Global, name: &str, value: &Met<'de>) -> Reading
 #[cycle(read)]
 #[inline(never)]
 fn read_sequence<'de>(alloc: Global, item: &Shape, value: &Met<'de>) -> Reading<Datum<'de>>
-    ensures exact { Reaches marked result (reads (form.sequence item.now) plain value.now) }
+    ensures exact { Reaches marked result (reads (form.sequence item.now) value.now) }
 {
     let elements = value.array(alloc)?;
     let items = read_items(alloc, item, elements)?;
@@ -104,7 +103,7 @@ fn read_items<'de>(
     mut elements: Items<'de>,
 ) -> Reading<Vec<Datum<'de>>>
     ensures exact { Reaches (λ v. items_marked v.items) result
-        (reads_items (reads item.now plain) 0 elements.entry) }
+        (reads_items (reads item.now) 0 elements.entry) }
 {
     let mut items = Vec::new(alloc);
     let mut index = 0;
@@ -124,7 +123,7 @@ pub(crate) fn read_item<'de>(
     index: u64,
     value: &Met<'de>,
 ) -> Reading<Datum<'de>>
-    ensures exact { Reaches marked result (under_index index (reads shape.now plain value.now)) }
+    ensures exact { Reaches marked result (under_index index (reads shape.now value.now)) }
 {
     match read_value(alloc, shape, value) {
         Ok(value) => Ok(value),

@@ -7,7 +7,7 @@ use Rattle.bson_base.specs.Text.{Utf8}
 use Rattle.bson_base.specs.Tree as tree
 use Rattle.bson_base.specs.Tree.{Tree, double, string, document, array, binary, boolean, null, int32, int64, Pairs, no_pairs, pair, Trees, no_trees, kind, enc, behind_subtype}
 use Rattle.bson_rawdoc.specs.Node as node
-use Rattle.bson_rawdoc.specs.Node.{Node, Nodes, tree_node, pair_nodes, tree_nodes}
+use Rattle.bson_rawdoc.specs.Node.{from_input, Node, Nodes, tree_node, pair_nodes, tree_nodes}
 use Rattle.bson_datum.specs.Value as value
 use Rattle.bson_datum.specs.Value.{str, no_items, item, no_entries, entry}
 use Rattle.bson_datum.specs.Marked.{Marked, MarkedItems, MarkedEntries, contents, item_contents, entry_contents}
@@ -15,7 +15,7 @@ use Rattle.bson_datum.specs.Cause.{binary_too_long}
 use Rattle.bson_datum.specs.Refusal.{under, here, unwritable, unsigned_exceeds}
 use Rattle.bson_datum.specs.Same.{same}
 use Rattle.bson_rawdoc.specs.Piece.{borrowed}
-use Rattle.bson_laws.specs.Judged.{Reading, plain, judged}
+use Rattle.bson_laws.specs.Judged.{Reading, judged}
 use Rattle.bson_laws.specs.ReadsLeaf.{put_entry, read_any, any_items, any_entries}
 use Rattle.bson_laws.specs.Spell.{spell, spell_items, spell_entries}
 use Rattle.bson_laws.proofs.Writable.{wide_small}
@@ -26,7 +26,7 @@ use Rattle.bson_itself.proofs.Names.{LacksAll, lacked_rest}
 
 -- a value without a shape, after it is judged
 abbrev pub judged_any : Node → Reading Marked
-judged_any n = judged plain n >>= λ _. read_any plain n
+judged_any n = judged n >>= λ _. read_any n
 
 -- ---- entries
 
@@ -71,16 +71,16 @@ pub record IsSame (n : Node) (t : Tree) (levels : ℕ) : Type 0 where
 
 pub record AreSameItems (ns : Nodes) (ts : Trees) (index levels : ℕ) : Type 0 where
   pub given : MarkedItems
-  pub read : any_items plain index ns ≡ Ok given
+  pub read : any_items index ns ≡ Ok given
   pub spelled : spell_items index (item_contents given) levels ≡ Ok ts
 
 pub record AreSameEntries (ns : Nodes) (ps : Pairs) (before : List Utf8) (levels : ℕ) : Type 0 where
   pub given : MarkedEntries
-  pub read : (es : MarkedEntries) → HaveKeys es before → any_entries plain ns es ≡ Ok (behind es given)
+  pub read : (es : MarkedEntries) → HaveKeys es before → any_entries ns es ≡ Ok (behind es given)
   pub spelled : spell_entries (entry_contents given) levels ≡ Ok ps
 
 abbrev pub AtLevel : Tree → ℕ → Type 0
-AtLevel t levels = IsSame (tree_node true t levels) t levels
+AtLevel t levels = IsSame (tree_node from_input t levels) t levels
 
 items_of : (ns : Nodes) (ts : Trees) (m : ℕ) → AreSameItems ns ts 0 m → IsSame (node.array ns) (array ts) (suc m)
 items_of ns ts m h = record { given = value.sequence h.given; read = ap (result_map value.sequence) h.read; spelled = ap (result_map array) h.spelled }
@@ -93,9 +93,9 @@ mutual
   same_tree (double b) levels h = record { given = value.double b; read = refl; spelled = refl }
   same_tree (string t) levels h = record { given = str (borrowed t); read = rw h refl; spelled = refl }
   same_tree (document ps) zero h = absurd h
-  same_tree (document ps) (suc m) h = entries_of (pair_nodes true ps m) ps m (same_pairs ps [] m h tt)
+  same_tree (document ps) (suc m) h = entries_of (pair_nodes from_input ps m) ps m (same_pairs ps [] m h tt)
   same_tree (array ts) zero h = absurd h
-  same_tree (array ts) (suc m) h = items_of (tree_nodes true 0 ts m) ts m (same_trees ts 0 m h)
+  same_tree (array ts) (suc m) h = items_of (tree_nodes from_input 0 ts m) ts m (same_trees ts 0 m h)
   same_tree (binary zero b) levels h = record { given = value.bytes (borrowed b); read = refl; spelled = ap (λ c. cond c (Err (here (unwritable (binary_too_long (length (behind_subtype 0 b)))))) (Ok (binary 0 b))) (le-ltb (max_binary 0) (length b) h) }
   same_tree (binary (suc n) b) levels h = absurd h
   same_tree (boolean b) levels h = record { given = value.boolean b; read = refl; spelled = refl }
@@ -104,23 +104,23 @@ mutual
   same_tree (int64 n) levels h = record { given = value.integer value.i64 n; read = refl; spelled = ap (λ b. cond b (Err (here (unsigned_exceeds n))) (Ok (int64 n))) (wide_small n h) }
   same_tree t levels h = absurd h
 
-  pub same_pairs : (ps : Pairs) (before : List Utf8) (levels : ℕ) → ArePairsThemselves ps levels → LacksAll before ps → AreSameEntries (pair_nodes true ps levels) ps before levels
+  pub same_pairs : (ps : Pairs) (before : List Utf8) (levels : ℕ) → ArePairsThemselves ps levels → LacksAll before ps → AreSameEntries (pair_nodes from_input ps levels) ps before levels
   same_pairs no_pairs before levels h lacked = record { given = no_entries; read = λ es keys. ap Ok (sym (behind_none es)); spelled = refl }
   same_pairs (pair key t ps) before levels h lacked =
       let one = same_tree t levels h.3 in
       let rest = same_pairs ps (before ++ key ∷ []) levels h.4 (lacked_rest before key t ps lacked h.2) in
-      let ns = pair_nodes true ps levels in
+      let ns = pair_nodes from_input ps levels in
       record {
         given = entry (str (borrowed key)) one.given rest.given;
         read = λ es keys.
-            ap (λ r. under key r >>= λ v. any_entries plain ns (put_entry (str (borrowed key)) v es)) one.read
-            ∙ ap (any_entries plain ns) (put_last key t ps one.given es before keys lacked)
+            ap (λ r. under key r >>= λ v. any_entries ns (put_entry (str (borrowed key)) v es)) one.read
+            ∙ ap (any_entries ns) (put_last key t ps one.given es before keys lacked)
             ∙ rest.read (behind es (entry (str (borrowed key)) one.given no_entries)) (keys_last key one.given es before keys)
             ∙ ap Ok (behind_behind (str (borrowed key)) one.given es rest.given);
         spelled = rw (h.1, one.spelled, rest.spelled) refl;
       }
 
-  pub same_trees : (ts : Trees) (index levels : ℕ) → AreTreesThemselves ts levels → AreSameItems (tree_nodes true index ts levels) ts index levels
+  pub same_trees : (ts : Trees) (index levels : ℕ) → AreTreesThemselves ts levels → AreSameItems (tree_nodes from_input index ts levels) ts index levels
   same_trees no_trees i levels h = record { given = no_items; read = refl; spelled = refl }
   same_trees (tree.tree t ts) i levels h =
       let one = same_tree t levels h.0 in
@@ -132,7 +132,7 @@ mutual
 mutual
   pub itself_coded : (t : Tree) (levels : ℕ) → IsItself t levels → IsCoded t
   itself_coded (double b) levels h = h
-  itself_coded (string t) levels h = tt
+  itself_coded (string t) levels h = h
   itself_coded (document ps) zero h = absurd h
   itself_coded (document ps) (suc m) h = pairs_coded ps m h
   itself_coded (array ts) zero h = absurd h

@@ -6,7 +6,6 @@ use Rattle.bson_base.specs.declared.element_type.ElementType.{ElementType}
 use Rattle.bson_rawdoc.specs.Node.{node_in}
 use Rattle.bson_shape.specs.Form.{Form}
 use Rattle.bson_datum.specs.Marked.{Marked, contents}
-use Rattle.bson_laws.specs.Judged.{plain}
 use Rattle.bson_laws.specs.Reads.{reads}
 use Rattle.bson_laws.specs.Spell.{spell}
 
@@ -14,7 +13,7 @@ use Rattle.bson_laws.specs.Spell.{spell}
 pub record IsWrittenAsRead (s : Form) (levels : ℕ) (k : ElementType) (b : Bytes) : Type 0 where
   pub given : Marked
   pub tree : Tree
-  pub read : reads s plain (node_in levels k b) ≡ Ok given
+  pub read : reads s (node_in levels k b) ≡ Ok given
   pub spelled : spell (contents given) levels ≡ Ok tree
   pub kind_is : kind tree ≡ k
   pub encoded : enc tree ≡ b

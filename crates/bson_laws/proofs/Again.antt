@@ -15,7 +15,7 @@ use Rattle.bson_base.specs.declared.element_type.ElementType.{ElementType}
 use Rattle.bson_base.specs.declared.element_type.ElementType.TheVariants.{Int32}
 use Rattle.bson_base.proofs.Outcomes.{some_is, ok_is, map_ok, bind_ok}
 use Rattle.bson_rawdoc.specs.Node as node
-use Rattle.bson_rawdoc.specs.Node.{Node, Nodes, tree_node, pair_nodes, tree_nodes}
+use Rattle.bson_rawdoc.specs.Node.{Sight, piece, Node, Nodes, tree_node, pair_nodes, tree_nodes}
 use Rattle.bson_rawdoc.specs.Piece.{Piece, borrowed, made}
 use Rattle.bson_shape.proofs.TextStates.{text-encode}
 use Rattle.bson_base.specs.Reserved.{reserved_kind}
@@ -24,14 +24,14 @@ use Rattle.bson_shape.specs.Makers.{is_reserved_newtype, IsShape, AreShapes, Are
 use Rattle.bson_datum.specs.Value as value
 use Rattle.bson_datum.specs.Value.{IntegerType, i8, i16, i32, i64, u8, u16, u32, u64, greatest, in_range, written_as, Value, Items, no_items, item, Entries, no_entries, entry, FieldValues, no_field_values, field_value}
 use Rattle.bson_datum.specs.Marked.{Marked, MarkedItems, MarkedEntries, MarkedFields, contents, item_contents, entry_contents, field_contents}
-use Rattle.bson_datum.specs.Cause.{out_of_range}
+use Rattle.bson_datum.specs.Cause.{out_of_range, not_borrowed}
 use Rattle.bson_datum.specs.Refusal.{at_index, here, unsigned_exceeds, under, under_index}
 use Rattle.bson_laws.specs.Leaves.{LeafKind, anything, ignored, booleans, numbers, doubles, characters, texts, byte_strings, byte_buffers, units, extended_values, leaf_kind}
 use Rattle.bson_laws.specs.Means.{key_text}
 use Rattle.bson_laws.specs.Variants.{content_of}
 use Rattle.bson_laws.specs.Views.{one_character}
-use Rattle.bson_laws.specs.Judged.{Reading, plain, refused, faultless, judged}
-use Rattle.bson_laws.specs.Taken.{array_of, read_integer, read_character}
+use Rattle.bson_laws.specs.Judged.{Reading, refused, faultless, judged}
+use Rattle.bson_laws.specs.Taken.{owned_under_mark, array_of, read_integer, read_character}
 use Rattle.bson_laws.specs.ReadsLeaf.{borrows, put_entry, read_any, any_items, any_entries, no_extended, read_leaf_with}
 use Rattle.bson_laws.specs.ReadsExtended.{read_extended}
 use Rattle.bson_laws.specs.Containers.{reads_items, reads_entries, unit_of, reads_key, reads_unit, read_enum}
@@ -45,14 +45,15 @@ use Rattle.bson_laws.proofs.Filled.{Distinct, ArePassed, seen_of, seen_at, seen_
 use Rattle.bson_laws.proofs.Fitted.{Unnamed, unlike_swap, bytes_eq-refl, bytes_same, chosen_t, chosen_f, one_again}
 use Rattle.bson_laws.proofs.Given.{Differs, AreApart, IsGivenAny, AreGivenItems, AreGivenEntries, IsGivenLeaf, IsGivenLeafKey, IsGivenKey, IsGiven, ItemsGiven, PartsGiven, EntriesGiven, FieldsGiven, given_leaf}
 use Rattle.bson_laws.proofs.Judged.{text_whole, by_null}
-use Rattle.bson_laws.proofs.ReadBack.{distinct_from, text_read}
+use Rattle.bson_laws.proofs.ReadBack.{distinct_from}
+use Rattle.bson_laws.proofs.Lent.{LeafLent, IsLent, AreFieldsLent, ArePartsLent, AreVariantsLent, IsContentLent, text_lent, owned_same}
 use Rattle.bson_laws.proofs.Tame.{judged_then}
 use Rattle.bson_laws.proofs.Sizes.{inside_ok, under_ok, named_ok, spell_key_ok, wide_is, binary_is}
 use Rattle.bson_laws.proofs.Free.{free_spelled, free_struct}
 
 -- what is read from the tree is spelled as the tree
-abbrev pub Comes : Form → ℕ → Tree → Type 0
-Comes s levels t = (m : Marked) × (reads s plain (tree_node true t levels) ≡ Ok m) × (spell (contents m) levels ≡ Ok t) × IsCoded t
+abbrev pub Comes : (at : Sight) → Form → ℕ → Tree → Type 0
+Comes at s levels t = (m : Marked) × (reads s (tree_node at t levels) ≡ Ok m) × (spell (contents m) levels ≡ Ok t) × IsCoded t
 
 -- ---- containers
 
@@ -64,11 +65,11 @@ within P container (suc n) parts t e f = let m = map_ok container (parts n) t e 
 -- ---- values without a shape
 
 abbrev reads_any : Node → Reading Marked
-reads_any n = judged plain n >>= λ _. read_any plain n
+reads_any n = judged n >>= λ _. read_any n
 
 -- it is read from the tree without a shape
-abbrev AnyComes : Value → ℕ → Tree → Type 0
-AnyComes v levels t = (m : Marked) × (reads_any (tree_node true t levels) ≡ Ok m) × (contents m ≡ v) × IsCoded t
+abbrev AnyComes : (at : Sight) → Value → ℕ → Tree → Type 0
+AnyComes at v levels t = (m : Marked) × (reads_any (tree_node at t levels) ≡ Ok m) × (contents m ≡ v) × IsCoded t
 
 -- no entry that is to come has the key of one that is there
 abbrev AreNewTo : Entries → Entries → Type 0
@@ -88,64 +89,66 @@ new_to_marked : (es : Entries) (done : MarkedEntries) (mk m : Marked) (k v : Val
 new_to_marked es done mk m k v is d n =
     subst (AreNewTo es) (sym (joined_contents done (entry mk m no_entries))) (new_to_more es (entry_contents done) (contents mk) (contents m) (subst (λ x. Differs x es) (sym is) d) n)
 
-text_comes : (x : Utf8) (levels : ℕ) → is_utf8 x ≡ true → AnyComes (value.str x) levels (string x)
-text_comes x levels h = (value.str (borrowed x), ap (λ o. faultless o (node.string (borrowed x)) >>= λ _. read_any plain (node.string (borrowed x))) (text_whole true x h), refl, tt)
+text_comes : (at : Sight) (x : Utf8) (levels : ℕ) → is_utf8 x ≡ true → AnyComes at (value.str x) levels (string x)
+text_comes at x levels h = (value.str (piece at.texts x), ap (λ o. faultless o (node.string (piece at.texts x)) >>= λ _. read_any (node.string (piece at.texts x))) (text_whole at x h), refl, h)
 
 mutual
-  any_comes : (v : Value) (levels : ℕ) (t : Tree) → IsGivenAny v → spell v levels ≡ Ok t → AnyComes v levels t
-  any_comes (value.boolean b) levels t g e = subst (AnyComes (value.boolean b) levels) (ok_is (tree.boolean b) t e) (value.boolean b, refl, refl, tt)
-  any_comes (value.integer i32 n) levels t g e = subst (AnyComes (value.integer i32 n) levels) (ok_is (int32 n) t e) (value.integer i32 n, refl, refl, g)
-  any_comes (value.integer i64 n) levels t g e = subst (AnyComes (value.integer i64 n) levels) (wide_is _ _ n t e) (value.integer i64 n, refl, refl, g)
-  any_comes (value.double bits) levels t g e = subst (AnyComes (value.double bits) levels) (ok_is (tree.double bits) t e) (value.double bits, refl, refl, g)
-  any_comes (value.str x) levels t g e = subst (AnyComes (value.str x) levels) (ok_is (string x) t e) (text_comes x levels g)
-  any_comes (value.bytes bs) levels t g e = subst (AnyComes (value.bytes bs) levels) (binary_is _ _ 0 bs t e) (value.bytes (borrowed bs), refl, refl, tt)
-  any_comes value.unit levels t g e = subst (AnyComes value.unit levels) (ok_is null t e) (value.unit, refl, refl, tt)
-  any_comes (value.sequence vs) levels t g e =
-      within (AnyComes (value.sequence vs)) array levels (spell_items 0 vs) t e
-      (λ n ts q. let h = any_items_come vs 0 n ts g q in (value.sequence h.0, ap (result_map value.sequence) h.1, ap value.sequence h.2, h.3))
-  any_comes (value.map es) levels t g e =
-      within (AnyComes (value.map es)) document levels (spell_entries es) t e
-      (λ n ps q. let h = any_entries_come es n ps no_entries g.0 g.1 (new_to_none es) q in (value.map h.0, ap (result_map value.map) h.1, ap value.map h.2, h.3))
-  any_comes v levels t g e = absurd g
+  any_comes : (at : Sight) (v : Value) (levels : ℕ) (t : Tree) → IsGivenAny v → spell v levels ≡ Ok t → AnyComes at v levels t
+  any_comes at (value.boolean b) levels t g e = subst (AnyComes at (value.boolean b) levels) (ok_is (tree.boolean b) t e) (value.boolean b, refl, refl, tt)
+  any_comes at (value.integer i32 n) levels t g e = subst (AnyComes at (value.integer i32 n) levels) (ok_is (int32 n) t e) (value.integer i32 n, refl, refl, g)
+  any_comes at (value.integer i64 n) levels t g e = subst (AnyComes at (value.integer i64 n) levels) (wide_is _ _ n t e) (value.integer i64 n, refl, refl, g)
+  any_comes at (value.double bits) levels t g e = subst (AnyComes at (value.double bits) levels) (ok_is (tree.double bits) t e) (value.double bits, refl, refl, g)
+  any_comes at (value.str x) levels t g e = subst (AnyComes at (value.str x) levels) (ok_is (string x) t e) (text_comes at x levels g)
+  any_comes at (value.bytes bs) levels t g e =
+      subst (AnyComes at (value.bytes bs) levels) (binary_is _ _ 0 bs t e)
+      (value.bytes (owned_under_mark at.under_mark (piece at.bytes bs)), refl, ap value.bytes (owned_same at.under_mark (piece at.bytes bs)), tt)
+  any_comes at value.unit levels t g e = subst (AnyComes at value.unit levels) (ok_is null t e) (value.unit, refl, refl, tt)
+  any_comes at (value.sequence vs) levels t g e =
+      within (AnyComes at (value.sequence vs)) array levels (spell_items 0 vs) t e
+      (λ n ts q. let h = any_items_come at vs 0 n ts g q in (value.sequence h.0, ap (result_map value.sequence) h.1, ap value.sequence h.2, h.3))
+  any_comes at (value.map es) levels t g e =
+      within (AnyComes at (value.map es)) document levels (spell_entries es) t e
+      (λ n ps q. let h = any_entries_come at es n ps no_entries g.0 g.1 (new_to_none es) q in (value.map h.0, ap (result_map value.map) h.1, ap value.map h.2, h.3))
+  any_comes at v levels t g e = absurd g
 
-  any_items_come : (vs : Items) (i n : ℕ) (ts : Trees) → AreGivenItems vs → spell_items i vs n ≡ Ok ts → (ms : MarkedItems) × (any_items plain i (tree_nodes true i ts n) ≡ Ok ms) × (item_contents ms ≡ vs) × AreTreesCoded ts
-  any_items_come no_items i n ts g e = subst (λ x. (ms : MarkedItems) × (any_items plain i (tree_nodes true i x n) ≡ Ok ms) × (item_contents ms ≡ no_items) × AreTreesCoded x) (ok_is no_trees ts e) (no_items, refl, refl, tt)
-  any_items_come (item v vs) i n ts g e =
+  any_items_come : (at : Sight) (vs : Items) (i n : ℕ) (ts : Trees) → AreGivenItems vs → spell_items i vs n ≡ Ok ts → (ms : MarkedItems) × (any_items i (tree_nodes at i ts n) ≡ Ok ms) × (item_contents ms ≡ vs) × AreTreesCoded ts
+  any_items_come at no_items i n ts g e = subst (λ x. (ms : MarkedItems) × (any_items i (tree_nodes at i x n) ≡ Ok ms) × (item_contents ms ≡ no_items) × AreTreesCoded x) (ok_is no_trees ts e) (no_items, refl, refl, tt)
+  any_items_come at (item v vs) i n ts g e =
       let a = bind_ok (under_index i (spell v n)) (λ t. spell_items (suc i) vs n >>= λ us. Ok (tree.tree t us)) ts e in
       let b = bind_ok (spell_items (suc i) vs n) (λ us. Ok (tree.tree a.0 us)) ts a.2 in
-      let first = any_comes v n a.0 g.0 (inside_ok (at_index i) (spell v n) a.0 a.1) in
-      let rest = any_items_come vs (suc i) n b.0 g.1 b.1 in
-      subst (λ x. (ms : MarkedItems) × (any_items plain i (tree_nodes true i x n) ≡ Ok ms) × (item_contents ms ≡ item v vs) × AreTreesCoded x) (ok_is (tree.tree a.0 b.0) ts b.2)
-      (item first.0 rest.0, ap (λ r. under_index i r >>= λ w. result_map (item w) (any_items plain (suc i) (tree_nodes true (suc i) b.0 n))) first.1 ∙ ap (result_map (item first.0)) rest.1, (λ j. item (first.2 j) (rest.2 j)), (first.3, rest.3))
+      let first = any_comes at v n a.0 g.0 (inside_ok (at_index i) (spell v n) a.0 a.1) in
+      let rest = any_items_come at vs (suc i) n b.0 g.1 b.1 in
+      subst (λ x. (ms : MarkedItems) × (any_items i (tree_nodes at i x n) ≡ Ok ms) × (item_contents ms ≡ item v vs) × AreTreesCoded x) (ok_is (tree.tree a.0 b.0) ts b.2)
+      (item first.0 rest.0, ap (λ r. under_index i r >>= λ w. result_map (item w) (any_items (suc i) (tree_nodes at (suc i) b.0 n))) first.1 ∙ ap (result_map (item first.0)) rest.1, (λ j. item (first.2 j) (rest.2 j)), (first.3, rest.3))
 
-  any_entries_come : (es : Entries) (n : ℕ) (ps : Pairs) (done : MarkedEntries) → AreApart es → AreGivenEntries es → AreNewTo es (entry_contents done) → spell_entries es n ≡ Ok ps
-      → (out : MarkedEntries) × (any_entries plain (pair_nodes true ps n) done ≡ Ok (joined done out)) × (entry_contents out ≡ es) × ArePairsCoded ps
-  any_entries_come no_entries n ps done apart g new e =
-      subst (λ x. (out : MarkedEntries) × (any_entries plain (pair_nodes true x n) done ≡ Ok (joined done out)) × (entry_contents out ≡ no_entries) × ArePairsCoded x) (ok_is no_pairs ps e) (no_entries, ap Ok (sym (joined_none done)), refl, tt)
-  any_entries_come (entry (value.str x) v es) n ps done apart g new e =
+  any_entries_come : (at : Sight) (es : Entries) (n : ℕ) (ps : Pairs) (done : MarkedEntries) → AreApart es → AreGivenEntries es → AreNewTo es (entry_contents done) → spell_entries es n ≡ Ok ps
+      → (out : MarkedEntries) × (any_entries (pair_nodes at ps n) done ≡ Ok (joined done out)) × (entry_contents out ≡ es) × ArePairsCoded ps
+  any_entries_come at no_entries n ps done apart g new e =
+      subst (λ x. (out : MarkedEntries) × (any_entries (pair_nodes at x n) done ≡ Ok (joined done out)) × (entry_contents out ≡ no_entries) × ArePairsCoded x) (ok_is no_pairs ps e) (no_entries, ap Ok (sym (joined_none done)), refl, tt)
+  any_entries_come at (entry (value.str x) v es) n ps done apart g new e =
       let a = bind_ok (spell_key (value.str x)) (λ key. under key (spell v n) >>= λ t. spell_entries es n >>= λ qs. Ok (pair key t qs)) ps e in
       let b = bind_ok (under a.0 (spell v n)) (λ t. spell_entries es n >>= λ qs. Ok (pair a.0 t qs)) ps a.2 in
       let c = bind_ok (spell_entries es n) (λ qs. Ok (pair a.0 b.0 qs)) ps b.2 in
       let is : x ≡ a.0 = some_is x a.0 (spell_key_ok (value.str x) a.0 a.1).0 in
-      let first = any_comes v n b.0 g.1 (under_ok a.0 (spell v n) b.0 b.1) in
-      let mk = value.str (borrowed a.0) in
-      let rest = any_entries_come es n c.0 (joined done (entry mk first.0 no_entries)) apart.1 g.2 (new_to_marked es done mk first.0 (value.str x) v (ap value.str (sym is)) apart.0 new.1) c.1 in
-      subst (λ y. (out : MarkedEntries) × (any_entries plain (pair_nodes true y n) done ≡ Ok (joined done out)) × (entry_contents out ≡ entry (value.str x) v es) × ArePairsCoded y) (ok_is (pair a.0 b.0 c.0) ps c.2) (
+      let first = any_comes at v n b.0 g.1 (under_ok a.0 (spell v n) b.0 b.1) in
+      let mk = value.str (piece at.texts a.0) in
+      let rest = any_entries_come at es n c.0 (joined done (entry mk first.0 no_entries)) apart.1 g.2 (new_to_marked es done mk first.0 (value.str x) v (ap value.str (sym is)) apart.0 new.1) c.1 in
+      subst (λ y. (out : MarkedEntries) × (any_entries (pair_nodes at y n) done ≡ Ok (joined done out)) × (entry_contents out ≡ entry (value.str x) v es) × ArePairsCoded y) (ok_is (pair a.0 b.0 c.0) ps c.2) (
         entry mk first.0 rest.0,
-        ap (λ r. under a.0 r >>= λ w. any_entries plain (pair_nodes true c.0 n) (put_entry mk w done)) first.1
-            ∙ ap (any_entries plain (pair_nodes true c.0 n)) (put_last mk first.0 done (subst (λ y. IsNew (value.str y) (entry_contents done)) is new.0))
+        ap (λ r. under a.0 r >>= λ w. any_entries (pair_nodes at c.0 n) (put_entry mk w done)) first.1
+            ∙ ap (any_entries (pair_nodes at c.0 n)) (put_last mk first.0 done (subst (λ y. IsNew (value.str y) (entry_contents done)) is new.0))
             ∙ rest.1
             ∙ ap Ok (joined_one done mk first.0 rest.0),
         (λ j. entry (value.str (sym is j)) (first.2 j) (rest.2 j)),
         ((ap is_utf8 (sym is) ∙ g.0.0, (spell_key_ok (value.str x) a.0 a.1).1), first.3, rest.3),
       )
-  any_entries_come (entry k v es) n ps done apart g new e = absurd g.0
+  any_entries_come at (entry k v es) n ps done apart g new e = absurd g.0
 
 -- ---- leaves
 
 -- what is spelled at the leaf is read there
-abbrev LeafComes : Bool → LeafKind → ℕ → Tree → Type 0
-LeafComes l k levels t = (m : Marked) × ((judged plain (tree_node true t levels) >>= read_leaf plain l k) ≡ Ok m) × (spell (contents m) levels ≡ Ok t) × IsCoded t
+abbrev LeafComes : (at : Sight) → Bool → LeafKind → ℕ → Tree → Type 0
+LeafComes at l k levels t = (m : Marked) × ((judged (tree_node at t levels) >>= read_leaf l k) ≡ Ok m) × (spell (contents m) levels ≡ Ok t) × IsCoded t
 
 number_wide : (k : ElementType) (n : ℤ) (t : Tree) (P : Tree → Type 0) → P (int32 n) → P (int64 n) → spell_number k n ≡ Ok t → P t
 number_wide Int32 n t P p q e = subst P (ok_is (int32 n) t e) p
@@ -191,75 +194,75 @@ number_coded u32 n t h f e = wide_coded (int_lt (greatest i64) n) n t f e
 number_coded i64 n t h f e = wide_coded (int_lt (greatest i64) n) n t f e
 number_coded u64 n t h f e = wide_coded (int_lt (greatest i64) n) n t f e
 
-number_comes : (l : Bool) (type : IntegerType) (n : ℤ) (levels : ℕ) (t : Tree) → in_range type n ≡ true → FitsSigned w64 n → spell_number (written_as type) n ≡ Ok t → LeafComes l (numbers type) levels t
-number_comes l type n levels t h f e =
-    number_wide (written_as type) n t (λ u. spell_number (written_as type) n ≡ Ok u → LeafComes l (numbers type) levels u)
+number_comes : (at : Sight) (l : Bool) (type : IntegerType) (n : ℤ) (levels : ℕ) (t : Tree) → in_range type n ≡ true → FitsSigned w64 n → spell_number (written_as type) n ≡ Ok t → LeafComes at l (numbers type) levels t
+number_comes at l type n levels t h f e =
+    number_wide (written_as type) n t (λ u. spell_number (written_as type) n ≡ Ok u → LeafComes at l (numbers type) levels u)
     (λ q. (value.integer type n, in_range_read type n h, q, number_coded type n (int32 n) h f q)) (λ q. (value.integer type n, in_range_read type n h, q, number_coded type n (int64 n) h f q)) e e
 
 character_whole : (c : ℕ) → IsScalar c → is_utf8 (encode_utf8 c) ≡ true
 character_whole c h = text-encode c h
 
-leaf_comes : (l : Bool) (k : LeafKind) (v : Value) (levels : ℕ) (t : Tree) → IsGivenLeaf k v → spell v levels ≡ Ok t → LeafComes l k levels t
-leaf_comes l anything v levels t g e =
-    let h = any_comes v levels t g e in (h.0, judged_then plain (tree_node true t levels) (read_any plain) h.0 h.1, ap (λ x. spell x levels) h.2 ∙ e, h.3)
-leaf_comes l ignored value.unit levels t g e = subst (LeafComes l ignored levels) (ok_is null t e) (value.unit, refl, refl, tt)
-leaf_comes l booleans (value.boolean b) levels t g e = subst (LeafComes l booleans levels) (ok_is (tree.boolean b) t e) (value.boolean b, refl, refl, tt)
-leaf_comes l (numbers type) (value.integer other n) levels t g e = number_comes l type n levels t g.1 g.2 (ap (λ x. spell_number (written_as x) n) (sym g.0) ∙ e)
-leaf_comes l doubles (value.double bits) levels t g e = subst (LeafComes l doubles levels) (ok_is (tree.double bits) t e) (value.double bits, refl, refl, g)
-leaf_comes l characters (value.character c) levels t g e =
-    subst (LeafComes l characters levels) (ok_is (string (encode_utf8 c)) t e) (
+leaf_comes : (at : Sight) (l : Bool) (k : LeafKind) (v : Value) (levels : ℕ) (t : Tree) → LeafLent at l k → IsGivenLeaf k v → spell v levels ≡ Ok t → LeafComes at l k levels t
+leaf_comes at l anything v levels t lent g e =
+    let h = any_comes at v levels t g e in (h.0, judged_then (tree_node at t levels) (read_any) h.0 h.1, ap (λ x. spell x levels) h.2 ∙ e, h.3)
+leaf_comes at l ignored value.unit levels t lent g e = subst (LeafComes at l ignored levels) (ok_is null t e) (value.unit, refl, refl, tt)
+leaf_comes at l booleans (value.boolean b) levels t lent g e = subst (LeafComes at l booleans levels) (ok_is (tree.boolean b) t e) (value.boolean b, refl, refl, tt)
+leaf_comes at l (numbers type) (value.integer other n) levels t lent g e = number_comes at l type n levels t g.1 g.2 (ap (λ x. spell_number (written_as x) n) (sym g.0) ∙ e)
+leaf_comes at l doubles (value.double bits) levels t lent g e = subst (LeafComes at l doubles levels) (ok_is (tree.double bits) t e) (value.double bits, refl, refl, g)
+leaf_comes at l characters (value.character c) levels t lent g e =
+    subst (LeafComes at l characters levels) (ok_is (string (encode_utf8 c)) t e) (
       value.character c,
-      ap (λ o. faultless o (node.string (borrowed (encode_utf8 c))) >>= read_leaf plain l characters) (text_whole true (encode_utf8 c) (character_whole c g)) ∙ ap (λ cs. read_character (one_character cs)) (one_again c g),
+      ap (λ o. faultless o (node.string (piece at.texts (encode_utf8 c))) >>= read_leaf l characters) (text_whole at (encode_utf8 c) (character_whole c g)) ∙ ap (λ cs. read_character (one_character cs)) (one_again c g),
       refl,
-      tt,
+      character_whole c g,
     )
-leaf_comes l texts (value.str x) levels t g e =
-    let h = text_read l x (value.str x) refl in
-    subst (LeafComes l texts levels) (ok_is (string x) t e)
-    (h.0, ap (λ o. faultless o (node.string (borrowed x)) >>= read_leaf plain l texts) (text_whole true x g) ∙ h.1, ap (λ w. spell w levels) h.2, tt)
-leaf_comes l byte_strings (value.bytes bs) levels t g e =
-    subst (λ u. spell (value.bytes bs) levels ≡ Ok u → LeafComes l byte_strings levels u) (binary_is _ _ 0 bs t e) (λ q. (value.bytes (borrowed bs), refl, q, tt)) e
-leaf_comes l byte_buffers (value.bytes bs) levels t g e =
-    subst (λ u. spell (value.bytes bs) levels ≡ Ok u → LeafComes l byte_buffers levels u) (binary_is _ _ 0 bs t e) (λ q. (value.bytes (made bs), refl, q, tt)) e
-leaf_comes l units value.unit levels t g e = subst (LeafComes l units levels) (ok_is null t e) (value.unit, refl, refl, tt)
-leaf_comes l (extended_values k) v levels t g e =
-    let h = extended_comes k v levels t g e in (h.0, judged_then plain (tree_node true t levels) (read_extended plain k) h.0 h.1, h.2, h.3)
-leaf_comes l k v levels t g e = absurd g
+leaf_comes at l texts (value.str x) levels t lent g e =
+    let h = text_lent at l x (value.str x) lent refl in
+    subst (LeafComes at l texts levels) (ok_is (string x) t e)
+    (h.0, ap (λ o. faultless o (node.string (piece at.texts x)) >>= read_leaf l texts) (text_whole at x g) ∙ h.1, ap (λ w. spell w levels) h.2, g)
+leaf_comes at l byte_strings (value.bytes bs) levels t lent g e =
+    subst (λ u. spell (value.bytes bs) levels ≡ Ok u → LeafComes at l byte_strings levels u) (binary_is _ _ 0 bs t e) (λ q. (value.bytes (piece at.bytes bs), ap (λ b. result_map value.bytes (cond b (Ok (piece at.bytes bs)) (refused not_borrowed))) lent, q, tt)) e
+leaf_comes at l byte_buffers (value.bytes bs) levels t lent g e =
+    subst (λ u. spell (value.bytes bs) levels ≡ Ok u → LeafComes at l byte_buffers levels u) (binary_is _ _ 0 bs t e) (λ q. (value.bytes (made bs), refl, q, tt)) e
+leaf_comes at l units value.unit levels t lent g e = subst (LeafComes at l units levels) (ok_is null t e) (value.unit, refl, refl, tt)
+leaf_comes at l (extended_values k) v levels t lent g e =
+    let h = extended_comes at k v levels t g e in (h.0, judged_then (tree_node at t levels) (read_extended k) h.0 h.1, h.2, h.3)
+leaf_comes at l k v levels t lent g e = absurd g
 
 -- ---- keys
 
 -- the key is read from its text
-abbrev KeyComes : (Piece → Reading Marked) → Value → Utf8 → Type 0
-KeyComes read k x = (m : Marked) × (read (borrowed x) ≡ Ok m) × (contents m ≡ k)
+abbrev KeyComes : (at : Sight) → (Piece → Reading Marked) → Value → Utf8 → Type 0
+KeyComes at read k x = (m : Marked) × (read (piece at.texts x) ≡ Ok m) × (contents m ≡ k)
 
-leaf_key_comes : (l : Bool) (k : LeafKind) (v : Value) (x : Utf8) → IsGivenLeafKey k v → key_text v ≡ Some x → KeyComes (λ key. read_leaf_with no_extended plain l k (node.string key)) v x
-leaf_key_comes l anything (value.str y) x g e = (value.str (borrowed x), refl, ap value.str (sym (some_is y x e)))
-leaf_key_comes l texts (value.str y) x g e = let h = text_read l x (value.str x) refl in (h.0, h.1, h.2 ∙ ap value.str (sym (some_is y x e)))
-leaf_key_comes l characters (value.character c) x g e = absurd cc
-leaf_key_comes l byte_strings (value.bytes bs) x g e = absurd cc
-leaf_key_comes l byte_buffers (value.bytes bs) x g e = absurd cc
-leaf_key_comes l ignored value.unit x g e = absurd cc
-leaf_key_comes l k v x g e = absurd g
+leaf_key_comes : (at : Sight) (l : Bool) (k : LeafKind) (v : Value) (x : Utf8) → LeafLent at l k → IsGivenLeafKey k v → key_text v ≡ Some x → KeyComes at (λ key. read_leaf_with no_extended l k (node.string key)) v x
+leaf_key_comes at l anything (value.str y) x lent g e = (value.str (piece at.texts x), refl, ap value.str (sym (some_is y x e)))
+leaf_key_comes at l texts (value.str y) x lent g e = let h = text_lent at l x (value.str x) lent refl in (h.0, h.1, h.2 ∙ ap value.str (sym (some_is y x e)))
+leaf_key_comes at l characters (value.character c) x lent g e = absurd cc
+leaf_key_comes at l byte_strings (value.bytes bs) x lent g e = absurd cc
+leaf_key_comes at l byte_buffers (value.bytes bs) x lent g e = absurd cc
+leaf_key_comes at l ignored value.unit x lent g e = absurd cc
+leaf_key_comes at l k v x lent g e = absurd g
 
-key_comes : (s : Form) (k : Value) (x : Utf8) → IsGivenKey s k → key_text k ≡ Some x → KeyComes (reads_key plain s) k x
-key_comes (leaf l) k x g e = leaf_key_comes (borrows l) (leaf_kind l) k x g e
-key_comes (enumeration vs) (value.unit_variant name) x g e =
+key_comes : (at : Sight) (s : Form) (k : Value) (x : Utf8) → IsLent at s → IsGivenKey s k → key_text k ≡ Some x → KeyComes at (reads_key s) k x
+key_comes at (leaf l) k x lent g e = leaf_key_comes at (borrows l) (leaf_kind l) k x lent g e
+key_comes at (enumeration vs) (value.unit_variant name) x lent g e =
     let is = some_is name x e in
     (value.unit_variant (made x), ap (unit_of x) (ap (content_of vs) (sym is) ∙ g.0), ap value.unit_variant (sym is))
-key_comes (enumeration vs) k x g e = absurd g
-key_comes s k x g e = absurd g
+key_comes at (enumeration vs) k x lent g e = absurd g
+key_comes at s k x lent g e = absurd g
 
 -- ---- variants
 
 named_content : (b : Bool) (n name : Utf8) (d c : Content) (o : Option Content) (u : Node) (q : Reading Marked) → bytes_eq n name ≡ b → cond b (Some d) o ≡ Some c
-    → (o ≡ Some c → q ≡ reads_content name c plain u) → cond b (reads_content n d plain u) q ≡ reads_content name c plain u
-named_content true n name d c o u q is e h = λ i. reads_content (bytes_same n name is i) (some_is d c e i) plain u
+    → (o ≡ Some c → q ≡ reads_content name c u) → cond b (reads_content n d u) q ≡ reads_content name c u
+named_content true n name d c o u q is e h = λ i. reads_content (bytes_same n name is i) (some_is d c e i) u
 named_content false n name d c o u q is e h = h e
 
 -- the contents of the variant that has a name
-variant_read : (vs : Variants) (name : Utf8) (c : Content) (u : Node) → content_of vs name ≡ Some c → reads_variant vs plain name u ≡ reads_content name c plain u
+variant_read : (vs : Variants) (name : Utf8) (c : Content) (u : Node) → content_of vs name ≡ Some c → reads_variant vs name u ≡ reads_content name c u
 variant_read no_variants name c u e = absurd cc
-variant_read (variant n d vs) name c u e = named_content (bytes_eq n name) n name d c (content_of vs name) u (reads_variant vs plain name u) refl e (variant_read vs name c u)
+variant_read (variant n d vs) name c u e = named_content (bytes_eq n name) n name d c (content_of vs name) u (reads_variant vs name u) refl e (variant_read vs name c u)
 
 chosen_shape : (b : Bool) (n name : Utf8) (d c : Content) (o : Option Content) → bytes_eq n name ≡ b → is_utf8 n ≡ true → IsContent d → cond b (Some d) o ≡ Some c → (o ≡ Some c → (is_utf8 name ≡ true) × IsContent c) → (is_utf8 name ≡ true) × IsContent c
 chosen_shape true n name d c o is u p e h = (ap is_utf8 (sym (bytes_same n name is)) ∙ u, subst IsContent (some_is d c e) p)
@@ -269,23 +272,31 @@ variant_shape : (vs : Variants) (name : Utf8) (c : Content) → AreVariants vs �
 variant_shape no_variants name c p e = absurd cc
 variant_shape (variant n d vs) name c p e = chosen_shape (bytes_eq n name) n name d c (content_of vs name) refl p.0 p.1 e (variant_shape vs name c p.2)
 
+chosen_lent : (at : Sight) (b : Bool) (d c : Content) (o : Option Content) → IsContentLent at d → cond b (Some d) o ≡ Some c → (o ≡ Some c → IsContentLent at c) → IsContentLent at c
+chosen_lent at true d c o h e f = subst (IsContentLent at) (some_is d c e) h
+chosen_lent at false d c o h e f = f e
+
+variant_lent : (at : Sight) (vs : Variants) (name : Utf8) (c : Content) → AreVariantsLent at vs → content_of vs name ≡ Some c → IsContentLent at c
+variant_lent at no_variants name c h e = absurd cc
+variant_lent at (variant n d vs) name c h e = chosen_lent at (bytes_eq n name) d c (content_of vs name) h.0 e (variant_lent at vs name c h.1)
+
 -- what is read for a variant is spelled as a document of one pair
-abbrev VariantComes : Variants → Utf8 → ℕ → Tree → Type 0
-VariantComes vs name n u = (m : Marked) × (reads_variant vs plain name (tree_node true u n) ≡ Ok m) × (spell (contents m) (suc n) ≡ variant_at name (suc n) (λ _. Ok u)) × IsCoded u
+abbrev VariantComes : (at : Sight) → Variants → Utf8 → ℕ → Tree → Type 0
+VariantComes at vs name n u = (m : Marked) × (reads_variant vs name (tree_node at u n) ≡ Ok m) × (spell (contents m) (suc n) ≡ variant_at name (suc n) (λ _. Ok u)) × IsCoded u
 
 abbrev one_pair : Utf8 → Tree → Writing Pairs
 one_pair name u = Ok (pair name u no_pairs)
 
-variant_comes : (vs : Variants) (name : Utf8) (levels : ℕ) (content : ℕ → Writing Tree) (t : Tree) → is_utf8 name ≡ true → variant_at name levels content ≡ Ok t → ((n : ℕ) (u : Tree) → content n ≡ Ok u → VariantComes vs name n u) → Comes (enumeration vs) levels t
-variant_comes vs name zero content t whole e each = absurd cc
-variant_comes vs name (suc n) content t whole e each =
+variant_comes : (at : Sight) (vs : Variants) (name : Utf8) (levels : ℕ) (content : ℕ → Writing Tree) (t : Tree) → is_utf8 name ≡ true → variant_at name levels content ≡ Ok t → ((n : ℕ) (u : Tree) → content n ≡ Ok u → VariantComes at vs name n u) → Comes at (enumeration vs) levels t
+variant_comes at vs name zero content t whole e each = absurd cc
+variant_comes at vs name (suc n) content t whole e each =
     let m = map_ok document (named name (content n) >>= one_pair name) t e in
     let b = bind_ok (named name (content n)) (one_pair name) m.0 m.1 in
     let ok = named_ok name (content n) b.0 b.1 in
     let there = ok.1 in
     let h = each n b.0 there in
     let is : document (pair name b.0 no_pairs) ≡ t = ap document (ok_is (pair name b.0 no_pairs) m.0 b.2) ∙ m.2 in
-    subst (λ x. variant_at name (suc n) content ≡ Ok x → Comes (enumeration vs) (suc n) x) is
+    subst (λ x. variant_at name (suc n) content ≡ Ok x → Comes at (enumeration vs) (suc n) x) is
     (λ q. (h.0, h.1, h.2 ∙ ap (λ r. result_map document (named name r >>= one_pair name)) (sym there) ∙ q, ((whole, ok.0), h.3, tt))) e
 
 -- the text of a key is a name
@@ -311,19 +322,19 @@ built_of (Ok y) f g x e = ap (result_map g) e
 built_of (Err d) f g x e = absurd cc
 
 -- the items are read from the array again
-abbrev ItemsCome : (Nodes → Reading MarkedItems) → ℕ → Tree → Type 0
-ItemsCome read n u = (ms : MarkedItems) × ((judged plain (tree_node true u n) >>= array_of >>= read) ≡ Ok ms) × (enclosed_at array n (spell_items 0 (item_contents ms)) ≡ Ok u) × IsCoded u
+abbrev ItemsCome : (at : Sight) → (Nodes → Reading MarkedItems) → ℕ → Tree → Type 0
+ItemsCome at read n u = (ms : MarkedItems) × ((judged (tree_node at u n) >>= array_of >>= read) ≡ Ok ms) × (enclosed_at array n (spell_items 0 (item_contents ms)) ≡ Ok u) × IsCoded u
 
-items_body : (read : Nodes → Reading MarkedItems) (vs : Items) (n : ℕ) (u : Tree) → enclosed_at array n (spell_items 0 vs) ≡ Ok u
-    → ((k : ℕ) (ts : Trees) → spell_items 0 vs k ≡ Ok ts → (ms : MarkedItems) × (read (tree_nodes true 0 ts k) ≡ Ok ms) × (spell_items 0 (item_contents ms) k ≡ Ok ts) × AreTreesCoded ts) → ItemsCome read n u
-items_body read vs n u e each = within (ItemsCome read) array n (spell_items 0 vs) u e (λ k ts q. let h = each k ts q in (h.0, h.1, ap (result_map array) h.2, h.3))
+items_body : (at : Sight) (read : Nodes → Reading MarkedItems) (vs : Items) (n : ℕ) (u : Tree) → enclosed_at array n (spell_items 0 vs) ≡ Ok u
+    → ((k : ℕ) (ts : Trees) → spell_items 0 vs k ≡ Ok ts → (ms : MarkedItems) × (read (tree_nodes at 0 ts k) ≡ Ok ms) × (spell_items 0 (item_contents ms) k ≡ Ok ts) × AreTreesCoded ts) → ItemsCome at read n u
+items_body at read vs n u e each = within (ItemsCome at read) array n (spell_items 0 vs) u e (λ k ts q. let h = each k ts q in (h.0, h.1, ap (result_map array) h.2, h.3))
 
 abbrev read_struct : Fields → Node → Reading MarkedFields
-read_struct fs = read_structure plain (slots_of fs plain)
+read_struct fs = read_structure (slots_of fs)
 
 -- the fields are read from the document again
-abbrev FieldsCome : Fields → ℕ → Tree → Type 0
-FieldsCome fs n u = (out : MarkedFields) × ((judged plain (tree_node true u n) >>= read_struct fs) ≡ Ok out) × (enclosed_at document n (spell_fields (field_contents out)) ≡ Ok u) × IsCoded u
+abbrev FieldsCome : (at : Sight) → Fields → ℕ → Tree → Type 0
+FieldsCome at fs n u = (out : MarkedFields) × ((judged (tree_node at u n) >>= read_struct fs) ≡ Ok out) × (enclosed_at document n (spell_fields (field_contents out)) ≡ Ok u) × IsCoded u
 
 -- ---- the fields of a struct
 
@@ -339,160 +350,160 @@ keyed_lacks no_fields (pair j t ps) key k u = absurd k
 keyed_lacks (field n s fs) no_pairs key k u = absurd k
 keyed_lacks (field n s fs) (pair j t ps) key k u = (subst (λ x. bytes_eq key x ≡ false) (sym k.0) (unlike_swap n key u.0), keyed_lacks fs ps key k.1 u.1)
 
-passed_more : (n : ℕ) (name : Utf8) (s : Form) (fs : Fields) (ps : Pairs) → ArePassed n fs ps → ArePassed n (field name s fs) ps
-passed_more n name s fs no_pairs h = tt
-passed_more n name s fs (pair k t ps) h = (h.0, (λ u. h.1 u.1), passed_more n name s fs ps h.2)
+passed_more : (at : Sight) (n : ℕ) (name : Utf8) (s : Form) (fs : Fields) (ps : Pairs) → ArePassed at n fs ps → ArePassed at n (field name s fs) ps
+passed_more at n name s fs no_pairs h = tt
+passed_more at n name s fs (pair k t ps) h = (h.0, (λ u. h.1 u.1), passed_more at n name s fs ps h.2)
 
 not_unlike : (b : Bool) → b ≡ true → b ≡ false → ⊥
 not_unlike true h e = absurd cc
 not_unlike false h e = absurd cc
 
 -- nothing is dropped
-keyed_passed : (n : ℕ) (fs : Fields) (ps : Pairs) → Distinct fs → AreKeyed fs ps → ArePassed n fs ps
-keyed_passed n no_fields no_pairs d k = tt
-keyed_passed n no_fields (pair j t ps) d k = absurd k
-keyed_passed n (field name s fs) no_pairs d k = absurd k
-keyed_passed n (field name s fs) (pair j t ps) d k = (
+keyed_passed : (at : Sight) (n : ℕ) (fs : Fields) (ps : Pairs) → Distinct fs → AreKeyed fs ps → ArePassed at n fs ps
+keyed_passed at n no_fields no_pairs d k = tt
+keyed_passed at n no_fields (pair j t ps) d k = absurd k
+keyed_passed at n (field name s fs) no_pairs d k = absurd k
+keyed_passed at n (field name s fs) (pair j t ps) d k = (
   keyed_lacks fs ps j k.1 (subst (λ x. Unnamed x fs) (sym k.0) d.0),
   (λ u. absurd (not_unlike (bytes_eq name j) (subst (λ x. bytes_eq name x ≡ true) (sym k.0) (bytes_eq-refl name)) u.0)),
-  passed_more n name s fs ps (keyed_passed n fs ps d.1 k.1),
+  passed_more at n name s fs ps (keyed_passed at n fs ps d.1 k.1),
 )
 
 -- a pair that no field takes is not seen
-seen_more : (n : ℕ) (fs : Fields) (key : Utf8) (t : Tree) (ps : Pairs) → Unnamed key fs → seen_fields n fs (pair key t ps) ≡ seen_fields n fs ps
-seen_more n no_fields key t ps u = refl
-seen_more n (field name s fs) key t ps u =
-    λ i. option_and_then (λ v. option_map (field_value (made name) v) (seen_more n fs key t ps u.1 i)) (seen_at n s (chosen_f (bytes_eq name key) t (lookup name ps) u.0 i))
+seen_more : (at : Sight) (n : ℕ) (fs : Fields) (key : Utf8) (t : Tree) (ps : Pairs) → Unnamed key fs → seen_fields at n fs (pair key t ps) ≡ seen_fields at n fs ps
+seen_more at n no_fields key t ps u = refl
+seen_more at n (field name s fs) key t ps u =
+    λ i. option_and_then (λ v. option_map (field_value (made name) v) (seen_more at n fs key t ps u.1 i)) (seen_at at n s (chosen_f (bytes_eq name key) t (lookup name ps) u.0 i))
 
 -- the fields are seen in the pairs that they are spelled as
-abbrev FieldsSeen : Fields → ℕ → Pairs → Type 0
-FieldsSeen fs n ps = (out : MarkedFields) × (seen_fields n fs ps ≡ Some out) × (spell_fields (field_contents out) n ≡ Ok ps) × AreKeyed fs ps × ArePairsCoded ps
+abbrev FieldsSeen : (at : Sight) → Fields → ℕ → Pairs → Type 0
+FieldsSeen at fs n ps = (out : MarkedFields) × (seen_fields at n fs ps ≡ Some out) × (spell_fields (field_contents out) n ≡ Ok ps) × AreKeyed fs ps × ArePairsCoded ps
 
-fields_body : (fs : Fields) (vs : FieldValues) (n : ℕ) (u : Tree) → Distinct fs → enclosed_at document n (spell_fields vs) ≡ Ok u → ((k : ℕ) (ps : Pairs) → spell_fields vs k ≡ Ok ps → FieldsSeen fs k ps) → FieldsCome fs n u
-fields_body fs vs n u d e each =
-    within (FieldsCome fs) document n (spell_fields vs) u e (λ k ps q. let h = each k ps q in (h.0, fields_seen k fs d ps h.0 (keyed_passed k fs ps d h.3) h.1, ap (result_map document) h.2, h.4))
+fields_body : (at : Sight) (fs : Fields) (vs : FieldValues) (n : ℕ) (u : Tree) → Distinct fs → enclosed_at document n (spell_fields vs) ≡ Ok u → ((k : ℕ) (ps : Pairs) → spell_fields vs k ≡ Ok ps → FieldsSeen at fs k ps) → FieldsCome at fs n u
+fields_body at fs vs n u d e each =
+    within (FieldsCome at fs) document n (spell_fields vs) u e (λ k ps q. let h = each k ps q in (h.0, fields_seen at k fs d ps h.0 (keyed_passed at k fs ps d h.3) h.1, ap (result_map document) h.2, h.4))
 
 -- ---- options
 
-option_comes : (s : Form) (t : Tree) (levels : ℕ) → Comes s levels t → Comes (optional s) levels t
-option_comes s t levels h =
-    by_null (λ r. (m : Marked) × (r ≡ Ok m) × (spell (contents m) levels ≡ Ok t) × IsCoded t) true t levels (reads s plain (tree_node true t levels))
+option_comes : (at : Sight) (s : Form) (t : Tree) (levels : ℕ) → Comes at s levels t → Comes at (optional s) levels t
+option_comes at s t levels h =
+    by_null (λ r. (m : Marked) × (r ≡ Ok m) × (spell (contents m) levels ≡ Ok t) × IsCoded t) at t levels (reads s (tree_node at t levels))
     (λ is. (value.none, refl, ap Ok (sym is), h.3)) (value.some h.0, ap (result_map value.some) h.1, h.2, h.3)
 
 -- ---- all values
 
 mutual
-  pub again : (v : Value) (s : Form) (levels : ℕ) (t : Tree) → IsShape s → IsGiven v s → spell v levels ≡ Ok t → Comes s levels t
-  again v (leaf l) levels t p g e = leaf_comes (borrows l) (leaf_kind l) v levels t (given_leaf v l g) e
-  again value.none (optional s) levels t p g e = subst (Comes (optional s) levels) (ok_is null t e) (value.none, refl, refl, tt)
-  again (value.some v) (optional s) levels t p g e = option_comes s t levels (again v s levels t p.1 g e)
-  again (value.newtype m v) (newtype n s) levels t p g e =
-      let h = again v s levels t p.1 g.1 (sym (free_spelled m v levels (ap is_reserved_newtype g.0 ∙ p.0.free)) ∙ e) in
+  pub again : (at : Sight) (v : Value) (s : Form) (levels : ℕ) (t : Tree) → IsShape s → IsLent at s → IsGiven v s → spell v levels ≡ Ok t → Comes at s levels t
+  again at v (leaf l) levels t p lent g e = leaf_comes at (borrows l) (leaf_kind l) v levels t lent (given_leaf v l g) e
+  again at value.none (optional s) levels t p lent g e = subst (Comes at (optional s) levels) (ok_is null t e) (value.none, refl, refl, tt)
+  again at (value.some v) (optional s) levels t p lent g e = option_comes at s t levels (again at v s levels t p.1 lent g e)
+  again at (value.newtype m v) (newtype n s) levels t p lent g e =
+      let h = again at v s levels t p.1 lent g.1 (sym (free_spelled m v levels (ap is_reserved_newtype g.0 ∙ p.0.free)) ∙ e) in
       (value.newtype (made n) h.0, ap (result_map (value.newtype (made n))) h.1, free_spelled n (contents h.0) levels p.0.free ∙ h.2, h.3)
-  again (value.unit_structure m) (unit_structure n) levels t p g e = subst (Comes (unit_structure n) levels) (ok_is null t e) (value.unit_structure (made n), refl, refl, tt)
-  again (value.sequence vs) (sequence s) levels t p g e =
-      let h = items_body (reads_items (reads s plain) 0) vs levels t e (λ k ts q. again_items vs s 0 k ts p.1 g q) in
-      (value.sequence h.0, built_of (judged plain (tree_node true t levels) >>= array_of) (reads_items (reads s plain) 0) value.sequence h.0 h.1, h.2, h.3)
-  again (value.map es) (map key s) levels t p g e =
-      within (Comes (map key s)) document levels (spell_entries es) t e
-      (λ n ps q. let h = again_entries es key s n ps no_entries p.2 p.3 g.0 g.1 (new_to_none es) q in (value.map h.0, ap (result_map value.map) h.1, ap (result_map document) h.2, h.3))
-  again (value.tuple vs) (tuple ps) levels t p g e =
-      let h = items_body (reads_parts ps plain 0) vs levels t e (λ k ts q. again_parts vs ps 0 k ts p.1 g q) in
-      (value.tuple h.0, built_of (judged plain (tree_node true t levels) >>= array_of) (reads_parts ps plain 0) value.tuple h.0 h.1, h.2, h.3)
-  again (value.tuple_structure m vs) (tuple_structure n ps) levels t p g e =
-      let h = items_body (reads_parts ps plain 0) vs levels t e (λ k ts q. again_parts vs ps 0 k ts p.2 g.1 q) in
-      (value.tuple_structure (made n) h.0, built_of (judged plain (tree_node true t levels) >>= array_of) (reads_parts ps plain 0) (value.tuple_structure (made n)) h.0 h.1, h.2, h.3)
-  again (value.structure m vs) (structure n fs) levels t p g e =
+  again at (value.unit_structure m) (unit_structure n) levels t p lent g e = subst (Comes at (unit_structure n) levels) (ok_is null t e) (value.unit_structure (made n), refl, refl, tt)
+  again at (value.sequence vs) (sequence s) levels t p lent g e =
+      let h = items_body at (reads_items (reads s) 0) vs levels t e (λ k ts q. again_items at vs s 0 k ts p.1 lent g q) in
+      (value.sequence h.0, built_of (judged (tree_node at t levels) >>= array_of) (reads_items (reads s) 0) value.sequence h.0 h.1, h.2, h.3)
+  again at (value.map es) (map key s) levels t p lent g e =
+      within (Comes at (map key s)) document levels (spell_entries es) t e
+      (λ n ps q. let h = again_entries at es key s n ps no_entries p.2 p.3 lent.0 lent.1 g.0 g.1 (new_to_none es) q in (value.map h.0, ap (result_map value.map) h.1, ap (result_map document) h.2, h.3))
+  again at (value.tuple vs) (tuple ps) levels t p lent g e =
+      let h = items_body at (reads_parts ps 0) vs levels t e (λ k ts q. again_parts at vs ps 0 k ts p.1 lent g q) in
+      (value.tuple h.0, built_of (judged (tree_node at t levels) >>= array_of) (reads_parts ps 0) value.tuple h.0 h.1, h.2, h.3)
+  again at (value.tuple_structure m vs) (tuple_structure n ps) levels t p lent g e =
+      let h = items_body at (reads_parts ps 0) vs levels t e (λ k ts q. again_parts at vs ps 0 k ts p.2 lent g.1 q) in
+      (value.tuple_structure (made n) h.0, built_of (judged (tree_node at t levels) >>= array_of) (reads_parts ps 0) (value.tuple_structure (made n)) h.0 h.1, h.2, h.3)
+  again at (value.structure m vs) (structure n fs) levels t p lent g e =
       let free = ap reserved_kind g.0 ∙ p.0.free in
       let spelled : enclosed_at document levels (spell_fields vs) ≡ Ok t = sym (free_struct m vs levels free) ∙ e in
-      let h = fields_body fs vs levels t (distinct_from fs p.0.distinct) spelled (λ k ps q. again_fields vs fs k ps p.1 (distinct_from fs p.0.distinct) g.1 q) in
-      (value.structure (made n) h.0, built_of (judged plain (tree_node true t levels)) (read_struct fs) (value.structure (made n)) h.0 h.1, free_struct n (field_contents h.0) levels p.0.free ∙ h.2, h.3)
-  again (value.unit_variant name) (enumeration vs) levels t p g e =
+      let h = fields_body at fs vs levels t (distinct_from fs p.0.distinct) spelled (λ k ps q. again_fields at vs fs k ps p.1 lent (distinct_from fs p.0.distinct) g.1 q) in
+      (value.structure (made n) h.0, built_of (judged (tree_node at t levels)) (read_struct fs) (value.structure (made n)) h.0 h.1, free_struct n (field_contents h.0) levels p.0.free ∙ h.2, h.3)
+  again at (value.unit_variant name) (enumeration vs) levels t p lent g e =
       let whole = (variant_shape vs name unit_content p.1 g).0 in
-      subst (Comes (enumeration vs) levels) (ok_is (string name) t e) (
+      subst (Comes at (enumeration vs) levels) (ok_is (string name) t e) (
         value.unit_variant (made name),
-        ap (λ o. faultless o (node.string (borrowed name)) >>= read_enum plain (reads_unit vs) (reads_variant vs plain)) (text_whole true name whole) ∙ ap (unit_of name) g,
+        ap (λ o. faultless o (node.string (piece at.texts name)) >>= read_enum (reads_unit vs) (reads_variant vs)) (text_whole at name whole) ∙ ap (unit_of name) g,
         refl,
-        tt,
+        whole,
       )
-  again (value.newtype_variant name v) (enumeration vs) levels t p g e =
-      variant_comes vs name levels (spell v) t (variant_shape vs name (newtype_content g.0) p.1 g.1).0 e
+  again at (value.newtype_variant name v) (enumeration vs) levels t p lent g e =
+      variant_comes at vs name levels (spell v) t (variant_shape vs name (newtype_content g.0) p.1 g.1).0 e
       (λ n u q.
-      let h = again v g.0 n u (variant_shape vs name (newtype_content g.0) p.1 g.1).1 g.2 q in (
+      let h = again at v g.0 n u (variant_shape vs name (newtype_content g.0) p.1 g.1).1 (variant_lent at vs name (newtype_content g.0) lent g.1) g.2 q in (
         value.newtype_variant (made name) h.0,
-        variant_read vs name (newtype_content g.0) (tree_node true u n) g.1 ∙ ap (λ r. under name (result_map (value.newtype_variant (made name)) r)) h.1,
+        variant_read vs name (newtype_content g.0) (tree_node at u n) g.1 ∙ ap (λ r. under name (result_map (value.newtype_variant (made name)) r)) h.1,
         ap (λ r. result_map document (named name r >>= one_pair name)) h.2,
         h.3,
       ))
-  again (value.tuple_variant name ws) (enumeration vs) levels t p g e =
-      variant_comes vs name levels (λ n. enclosed_at array n (spell_items 0 ws)) t (variant_shape vs name (tuple_content g.0) p.1 g.1).0 e
+  again at (value.tuple_variant name ws) (enumeration vs) levels t p lent g e =
+      variant_comes at vs name levels (λ n. enclosed_at array n (spell_items 0 ws)) t (variant_shape vs name (tuple_content g.0) p.1 g.1).0 e
       (λ n u q.
-      let h = items_body (reads_parts g.0 plain 0) ws n u q (λ k ts r. again_parts ws g.0 0 k ts (variant_shape vs name (tuple_content g.0) p.1 g.1).1 g.2 r) in (
+      let h = items_body at (reads_parts g.0 0) ws n u q (λ k ts r. again_parts at ws g.0 0 k ts (variant_shape vs name (tuple_content g.0) p.1 g.1).1 (variant_lent at vs name (tuple_content g.0) lent g.1) g.2 r) in (
         value.tuple_variant (made name) h.0,
-        variant_read vs name (tuple_content g.0) (tree_node true u n) g.1
-            ∙ ap (under name) (built_of (judged plain (tree_node true u n) >>= array_of) (reads_parts g.0 plain 0) (value.tuple_variant (made name)) h.0 h.1),
+        variant_read vs name (tuple_content g.0) (tree_node at u n) g.1
+            ∙ ap (under name) (built_of (judged (tree_node at u n) >>= array_of) (reads_parts g.0 0) (value.tuple_variant (made name)) h.0 h.1),
         ap (λ r. result_map document (named name r >>= one_pair name)) h.2,
         h.3,
       ))
-  again (value.structure_variant name ws) (enumeration vs) levels t p g e =
-      variant_comes vs name levels (λ n. enclosed_at document n (spell_fields ws)) t (variant_shape vs name (struct_content g.0) p.1 g.1).0 e
+  again at (value.structure_variant name ws) (enumeration vs) levels t p lent g e =
+      variant_comes at vs name levels (λ n. enclosed_at document n (spell_fields ws)) t (variant_shape vs name (struct_content g.0) p.1 g.1).0 e
       (λ n u q.
       let shape = (variant_shape vs name (struct_content g.0) p.1 g.1).1 in
       let distinct = distinct_from g.0 shape.0 in
-      let h = fields_body g.0 ws n u distinct q (λ k ps r. again_fields ws g.0 k ps shape.1 distinct g.2 r) in (
+      let h = fields_body at g.0 ws n u distinct q (λ k ps r. again_fields at ws g.0 k ps shape.1 (variant_lent at vs name (struct_content g.0) lent g.1) distinct g.2 r) in (
         value.structure_variant (made name) h.0,
-        variant_read vs name (struct_content g.0) (tree_node true u n) g.1
-            ∙ ap (under name) (built_of (judged plain (tree_node true u n)) (read_struct g.0) (value.structure_variant (made name)) h.0 h.1),
+        variant_read vs name (struct_content g.0) (tree_node at u n) g.1
+            ∙ ap (under name) (built_of (judged (tree_node at u n)) (read_struct g.0) (value.structure_variant (made name)) h.0 h.1),
         ap (λ r. result_map document (named name r >>= one_pair name)) h.2,
         h.3,
       ))
-  again v s levels t p g e = absurd g
+  again at v s levels t p lent g e = absurd g
 
-  again_items : (vs : Items) (s : Form) (i n : ℕ) (ts : Trees) → IsShape s → ItemsGiven vs s → spell_items i vs n ≡ Ok ts → (ms : MarkedItems) × (reads_items (reads s plain) i (tree_nodes true i ts n) ≡ Ok ms) × (spell_items i (item_contents ms) n ≡ Ok ts) × AreTreesCoded ts
-  again_items no_items s i n ts p g e = subst (λ x. (ms : MarkedItems) × (reads_items (reads s plain) i (tree_nodes true i x n) ≡ Ok ms) × (spell_items i (item_contents ms) n ≡ Ok x) × AreTreesCoded x) (ok_is no_trees ts e) (no_items, refl, refl, tt)
-  again_items (item v vs) s i n ts p g e =
+  again_items : (at : Sight) (vs : Items) (s : Form) (i n : ℕ) (ts : Trees) → IsShape s → IsLent at s → ItemsGiven vs s → spell_items i vs n ≡ Ok ts → (ms : MarkedItems) × (reads_items (reads s) i (tree_nodes at i ts n) ≡ Ok ms) × (spell_items i (item_contents ms) n ≡ Ok ts) × AreTreesCoded ts
+  again_items at no_items s i n ts p lent g e = subst (λ x. (ms : MarkedItems) × (reads_items (reads s) i (tree_nodes at i x n) ≡ Ok ms) × (spell_items i (item_contents ms) n ≡ Ok x) × AreTreesCoded x) (ok_is no_trees ts e) (no_items, refl, refl, tt)
+  again_items at (item v vs) s i n ts p lent g e =
       let a = bind_ok (under_index i (spell v n)) (λ t. spell_items (suc i) vs n >>= λ us. Ok (tree.tree t us)) ts e in
       let b = bind_ok (spell_items (suc i) vs n) (λ us. Ok (tree.tree a.0 us)) ts a.2 in
-      let first = again v s n a.0 p g.0 (inside_ok (at_index i) (spell v n) a.0 a.1) in
-      let rest = again_items vs s (suc i) n b.0 p g.1 b.1 in
-      subst (λ x. (ms : MarkedItems) × (reads_items (reads s plain) i (tree_nodes true i x n) ≡ Ok ms) × (spell_items i (item_contents ms) n ≡ Ok x) × AreTreesCoded x) (ok_is (tree.tree a.0 b.0) ts b.2) (
+      let first = again at v s n a.0 p lent g.0 (inside_ok (at_index i) (spell v n) a.0 a.1) in
+      let rest = again_items at vs s (suc i) n b.0 p lent g.1 b.1 in
+      subst (λ x. (ms : MarkedItems) × (reads_items (reads s) i (tree_nodes at i x n) ≡ Ok ms) × (spell_items i (item_contents ms) n ≡ Ok x) × AreTreesCoded x) (ok_is (tree.tree a.0 b.0) ts b.2) (
         item first.0 rest.0,
-        ap (λ r. under_index i r >>= λ w. result_map (item w) (reads_items (reads s plain) (suc i) (tree_nodes true (suc i) b.0 n))) first.1 ∙ ap (result_map (item first.0)) rest.1,
+        ap (λ r. under_index i r >>= λ w. result_map (item w) (reads_items (reads s) (suc i) (tree_nodes at (suc i) b.0 n))) first.1 ∙ ap (result_map (item first.0)) rest.1,
         ap (λ r. under_index i r >>= λ t. spell_items (suc i) (item_contents rest.0) n >>= λ us. Ok (tree.tree t us)) first.2 ∙ ap (λ r. r >>= λ us. Ok (tree.tree a.0 us)) rest.2,
         (first.3, rest.3),
       )
 
-  again_parts : (vs : Items) (ps : Parts) (i n : ℕ) (ts : Trees) → AreParts ps → PartsGiven vs ps → spell_items i vs n ≡ Ok ts → (ms : MarkedItems) × (reads_parts ps plain i (tree_nodes true i ts n) ≡ Ok ms) × (spell_items i (item_contents ms) n ≡ Ok ts) × AreTreesCoded ts
-  again_parts no_items no_parts i n ts p g e = (no_items, refl, e, subst AreTreesCoded (ok_is no_trees ts e) tt)
-  again_parts (item v vs) (part s ps) i n ts p g e =
+  again_parts : (at : Sight) (vs : Items) (ps : Parts) (i n : ℕ) (ts : Trees) → AreParts ps → ArePartsLent at ps → PartsGiven vs ps → spell_items i vs n ≡ Ok ts → (ms : MarkedItems) × (reads_parts ps i (tree_nodes at i ts n) ≡ Ok ms) × (spell_items i (item_contents ms) n ≡ Ok ts) × AreTreesCoded ts
+  again_parts at no_items no_parts i n ts p lent g e = (no_items, refl, e, subst AreTreesCoded (ok_is no_trees ts e) tt)
+  again_parts at (item v vs) (part s ps) i n ts p lent g e =
       let a = bind_ok (under_index i (spell v n)) (λ t. spell_items (suc i) vs n >>= λ us. Ok (tree.tree t us)) ts e in
       let b = bind_ok (spell_items (suc i) vs n) (λ us. Ok (tree.tree a.0 us)) ts a.2 in
-      let first = again v s n a.0 p.0 g.0 (inside_ok (at_index i) (spell v n) a.0 a.1) in
-      let rest = again_parts vs ps (suc i) n b.0 p.1 g.1 b.1 in
-      subst (λ x. (ms : MarkedItems) × (reads_parts (part s ps) plain i (tree_nodes true i x n) ≡ Ok ms) × (spell_items i (item_contents ms) n ≡ Ok x) × AreTreesCoded x) (ok_is (tree.tree a.0 b.0) ts b.2) (
+      let first = again at v s n a.0 p.0 lent.0 g.0 (inside_ok (at_index i) (spell v n) a.0 a.1) in
+      let rest = again_parts at vs ps (suc i) n b.0 p.1 lent.1 g.1 b.1 in
+      subst (λ x. (ms : MarkedItems) × (reads_parts (part s ps) i (tree_nodes at i x n) ≡ Ok ms) × (spell_items i (item_contents ms) n ≡ Ok x) × AreTreesCoded x) (ok_is (tree.tree a.0 b.0) ts b.2) (
         item first.0 rest.0,
-        ap (λ r. under_index i r >>= λ w. result_map (item w) (reads_parts ps plain (suc i) (tree_nodes true (suc i) b.0 n))) first.1 ∙ ap (result_map (item first.0)) rest.1,
+        ap (λ r. under_index i r >>= λ w. result_map (item w) (reads_parts ps (suc i) (tree_nodes at (suc i) b.0 n))) first.1 ∙ ap (result_map (item first.0)) rest.1,
         ap (λ r. under_index i r >>= λ t. spell_items (suc i) (item_contents rest.0) n >>= λ us. Ok (tree.tree t us)) first.2 ∙ ap (λ r. r >>= λ us. Ok (tree.tree a.0 us)) rest.2,
         (first.3, rest.3),
       )
-  again_parts vs ps i n ts p g e = absurd g
+  again_parts at vs ps i n ts p lent g e = absurd g
 
-  again_entries : (es : Entries) (key s : Form) (n : ℕ) (ps : Pairs) (done : MarkedEntries) → IsShape key → IsShape s → AreApart es → EntriesGiven es key s → AreNewTo es (entry_contents done) → spell_entries es n ≡ Ok ps
-      → (out : MarkedEntries) × (reads_entries (reads_key plain key) (reads s plain) (pair_nodes true ps n) done ≡ Ok (joined done out)) × (spell_entries (entry_contents out) n ≡ Ok ps) × ArePairsCoded ps
-  again_entries no_entries key s n ps done w p apart g new e =
-      subst (λ x. (out : MarkedEntries) × (reads_entries (reads_key plain key) (reads s plain) (pair_nodes true x n) done ≡ Ok (joined done out)) × (spell_entries (entry_contents out) n ≡ Ok x) × ArePairsCoded x) (ok_is no_pairs ps e)
+  again_entries : (at : Sight) (es : Entries) (key s : Form) (n : ℕ) (ps : Pairs) (done : MarkedEntries) → IsShape key → IsShape s → IsLent at key → IsLent at s → AreApart es → EntriesGiven es key s → AreNewTo es (entry_contents done) → spell_entries es n ≡ Ok ps
+      → (out : MarkedEntries) × (reads_entries (reads_key key) (reads s) (pair_nodes at ps n) done ≡ Ok (joined done out)) × (spell_entries (entry_contents out) n ≡ Ok ps) × ArePairsCoded ps
+  again_entries at no_entries key s n ps done w p lent_key lent apart g new e =
+      subst (λ x. (out : MarkedEntries) × (reads_entries (reads_key key) (reads s) (pair_nodes at x n) done ≡ Ok (joined done out)) × (spell_entries (entry_contents out) n ≡ Ok x) × ArePairsCoded x) (ok_is no_pairs ps e)
       (no_entries, ap Ok (sym (joined_none done)), refl, tt)
-  again_entries (entry k v es) key s n ps done w p apart g new e =
+  again_entries at (entry k v es) key s n ps done w p lent_key lent apart g new e =
       let a = bind_ok (spell_key k) (λ x. under x (spell v n) >>= λ t. spell_entries es n >>= λ qs. Ok (pair x t qs)) ps e in
       let b = bind_ok (under a.0 (spell v n)) (λ t. spell_entries es n >>= λ qs. Ok (pair a.0 t qs)) ps a.2 in
       let c = bind_ok (spell_entries es n) (λ qs. Ok (pair a.0 b.0 qs)) ps b.2 in
-      let mk = key_comes key k a.0 g.0 (spell_key_ok k a.0 a.1).0 in
-      let first = again v s n b.0 p g.1 (under_ok a.0 (spell v n) b.0 b.1) in
-      let rest = again_entries es key s n c.0 (joined done (entry mk.0 first.0 no_entries)) w p apart.1 g.2 (new_to_marked es done mk.0 first.0 k v mk.2 apart.0 new.1) c.1 in
-      let read = reads_entries (reads_key plain key) (reads s plain) (pair_nodes true c.0 n) in
-      subst (λ x. (out : MarkedEntries) × (reads_entries (reads_key plain key) (reads s plain) (pair_nodes true x n) done ≡ Ok (joined done out)) × (spell_entries (entry_contents out) n ≡ Ok x) × ArePairsCoded x) (ok_is (pair a.0 b.0 c.0) ps c.2) (
+      let mk = key_comes at key k a.0 lent_key g.0 (spell_key_ok k a.0 a.1).0 in
+      let first = again at v s n b.0 p lent g.1 (under_ok a.0 (spell v n) b.0 b.1) in
+      let rest = again_entries at es key s n c.0 (joined done (entry mk.0 first.0 no_entries)) w p lent_key lent apart.1 g.2 (new_to_marked es done mk.0 first.0 k v mk.2 apart.0 new.1) c.1 in
+      let read = reads_entries (reads_key key) (reads s) (pair_nodes at c.0 n) in
+      subst (λ x. (out : MarkedEntries) × (reads_entries (reads_key key) (reads s) (pair_nodes at x n) done ≡ Ok (joined done out)) × (spell_entries (entry_contents out) n ≡ Ok x) × ArePairsCoded x) (ok_is (pair a.0 b.0 c.0) ps c.2) (
         entry mk.0 first.0 rest.0,
-        ap (λ r. r >>= λ x. under a.0 (reads s plain (tree_node true b.0 n)) >>= λ w. read (put_entry x w done)) mk.1
+        ap (λ r. r >>= λ x. under a.0 (reads s (tree_node at b.0 n)) >>= λ w. read (put_entry x w done)) mk.1
             ∙ ap (λ r. under a.0 r >>= λ w. read (put_entry mk.0 w done)) first.1
             ∙ ap read (put_last mk.0 first.0 done (subst (λ y. IsNew y (entry_contents done)) (sym mk.2) new.0))
             ∙ rest.1
@@ -503,21 +514,21 @@ mutual
         (key_name key k a.0 w g.0 (spell_key_ok k a.0 a.1), first.3, rest.3),
       )
 
-  again_fields : (vs : FieldValues) (fs : Fields) (n : ℕ) (ps : Pairs) → AreShapes fs → Distinct fs → FieldsGiven vs fs → spell_fields vs n ≡ Ok ps → FieldsSeen fs n ps
-  again_fields no_field_values no_fields n ps p d g e = subst (FieldsSeen no_fields n) (ok_is no_pairs ps e) (no_field_values, refl, refl, tt, tt)
-  again_fields (field_value m v vs) (field name s fs) n ps p d g e =
+  again_fields : (at : Sight) (vs : FieldValues) (fs : Fields) (n : ℕ) (ps : Pairs) → AreShapes fs → AreFieldsLent at fs → Distinct fs → FieldsGiven vs fs → spell_fields vs n ≡ Ok ps → FieldsSeen at fs n ps
+  again_fields at no_field_values no_fields n ps p lent d g e = subst (FieldsSeen at no_fields n) (ok_is no_pairs ps e) (no_field_values, refl, refl, tt, tt)
+  again_fields at (field_value m v vs) (field name s fs) n ps p lent d g e =
       let a = bind_ok (named m (spell v n)) (λ t. spell_fields vs n >>= λ qs. Ok (pair m t qs)) ps e in
       let b = bind_ok (spell_fields vs n) (λ qs. Ok (pair m a.0 qs)) ps a.2 in
       let ok = named_ok m (spell v n) a.0 a.1 in
       let there = ok.1 in
-      let first = again v s n a.0 p.1 g.1 there in
-      let rest = again_fields vs fs n b.0 p.2 d.1 g.2 b.1 in
+      let first = again at v s n a.0 p.1 lent.0 g.1 there in
+      let rest = again_fields at vs fs n b.0 p.2 lent.1 d.1 g.2 b.1 in
       let same = bytes_eq-refl name in
-      subst (FieldsSeen (field name s fs) n) (ok_is (pair m a.0 b.0) ps b.2) (
+      subst (FieldsSeen at (field name s fs) n) (ok_is (pair m a.0 b.0) ps b.2) (
         field_value (made name) first.0 rest.0,
-        ap (λ o. option_and_then (λ w. option_map (field_value (made name) w) (seen_fields n fs (pair m a.0 b.0))) (seen_at n s o)) (chosen_t (bytes_eq name m) a.0 (lookup name b.0) (subst (λ x. bytes_eq name x ≡ true) (sym g.0) same))
-            ∙ ap (option_and_then (λ w. option_map (field_value (made name) w) (seen_fields n fs (pair m a.0 b.0)))) (seen_of n s a.0 first.0 first.1)
-            ∙ ap (option_map (field_value (made name) first.0)) (seen_more n fs m a.0 b.0 (subst (λ x. Unnamed x fs) (sym g.0) d.0) ∙ rest.1),
+        ap (λ o. option_and_then (λ w. option_map (field_value (made name) w) (seen_fields at n fs (pair m a.0 b.0))) (seen_at at n s o)) (chosen_t (bytes_eq name m) a.0 (lookup name b.0) (subst (λ x. bytes_eq name x ≡ true) (sym g.0) same))
+            ∙ ap (option_and_then (λ w. option_map (field_value (made name) w) (seen_fields at n fs (pair m a.0 b.0)))) (seen_of at n s a.0 first.0 first.1)
+            ∙ ap (option_map (field_value (made name) first.0)) (seen_more at n fs m a.0 b.0 (subst (λ x. Unnamed x fs) (sym g.0) d.0) ∙ rest.1),
         (λ i. named (sym g.0 i) (spell (contents first.0) n) >>= λ t. spell_fields (field_contents rest.0) n >>= λ qs. Ok (pair (sym g.0 i) t qs))
             ∙ ap (λ r. named m r >>= λ t. spell_fields (field_contents rest.0) n >>= λ qs. Ok (pair m t qs)) (first.2 ∙ sym there)
             ∙ ap (λ r. r >>= λ t. spell_fields (field_contents rest.0) n >>= λ qs. Ok (pair m t qs)) a.1
@@ -525,4 +536,4 @@ mutual
         (g.0, rest.3),
         ((ap is_utf8 g.0 ∙ p.0, ok.0), first.3, rest.4),
       )
-  again_fields vs fs n ps p d g e = absurd g
+  again_fields at vs fs n ps p lent d g e = absurd g

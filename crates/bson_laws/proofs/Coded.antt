@@ -6,7 +6,7 @@ use Rattle.std.specs.Prelude.{FitsSigned}
 use Rattle.std.specs.Str.{is_utf8}
 use Rattle.bson_base.specs.Sound.{IsClean, ArePairsClean, AreTreesClean}
 use Rattle.bson_base.specs.Text.{Utf8, has_zero}
-use Rattle.bson_base.specs.Tree.{Tree, double, document, array, object_id, date_time, regular_expression, db_pointer, javascript_code_with_scope, int32, timestamp, int64, decimal128, Pairs, no_pairs, pair, Trees, no_trees, tree}
+use Rattle.bson_base.specs.Tree.{Tree, string, javascript_code, symbol, double, document, array, object_id, date_time, regular_expression, db_pointer, javascript_code_with_scope, int32, timestamp, int64, decimal128, Pairs, no_pairs, pair, Trees, no_trees, tree}
 use Rattle.bson_base.proofs.Indexes.{decimal_plain}
 
 -- a text without a zero
@@ -19,13 +19,16 @@ decimal_name i = let h = decimal_plain i in (h.text, h.free.no_zero)
 abbrev mutual
   pub IsCoded : Tree → Type 0
   IsCoded (double bytes) = length bytes ≡ 8
+  IsCoded (string t) = is_utf8 t ≡ true
   IsCoded (document ps) = ArePairsCoded ps
   IsCoded (array ts) = AreTreesCoded ts
   IsCoded (object_id id) = length id ≡ 12
   IsCoded (date_time n) = FitsSigned w64 n
-  IsCoded (regular_expression p q) = (has_zero p ≡ false) × (has_zero q ≡ false)
-  IsCoded (db_pointer namespace id) = length id ≡ 12
-  IsCoded (javascript_code_with_scope code scope) = ArePairsCoded scope
+  IsCoded (regular_expression p q) = IsName p × IsName q
+  IsCoded (db_pointer namespace id) = (is_utf8 namespace ≡ true) × (length id ≡ 12)
+  IsCoded (javascript_code t) = is_utf8 t ≡ true
+  IsCoded (symbol t) = is_utf8 t ≡ true
+  IsCoded (javascript_code_with_scope code scope) = (is_utf8 code ≡ true) × ArePairsCoded scope
   IsCoded (int32 n) = FitsSigned w32 n
   IsCoded (timestamp time increment) = (time < 2 ^ 32) × (increment < 2 ^ 32)
   IsCoded (int64 n) = FitsSigned w64 n
@@ -44,13 +47,16 @@ abbrev mutual
 mutual
   pub clean_coded : (t : Tree) → IsClean t → IsCoded t
   clean_coded (double bytes) c = c.count
+  clean_coded (string t) c = c
   clean_coded (document ps) c = pairs_coded ps c
   clean_coded (array ts) c = trees_coded ts c
   clean_coded (object_id id) c = c.count
   clean_coded (date_time n) c = c
-  clean_coded (regular_expression p q) c = (c.0.no_zero, c.1.no_zero)
-  clean_coded (db_pointer namespace id) c = c.1.count
-  clean_coded (javascript_code_with_scope code scope) c = pairs_coded scope c.1
+  clean_coded (regular_expression p q) c = ((c.0.text, c.0.no_zero), (c.1.text, c.1.no_zero))
+  clean_coded (db_pointer namespace id) c = (c.0, c.1.count)
+  clean_coded (javascript_code t) c = c
+  clean_coded (symbol t) c = c
+  clean_coded (javascript_code_with_scope code scope) c = (c.0, pairs_coded scope c.1)
   clean_coded (int32 n) c = c
   clean_coded (timestamp time increment) c = c
   clean_coded (int64 n) c = c

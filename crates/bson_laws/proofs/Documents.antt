@@ -19,7 +19,7 @@ use Rattle.bson_datum.specs.Marked.{Marked, contents}
 use Rattle.bson_datum.specs.Cause.{raw}
 use Rattle.bson_datum.specs.Refusal.{Failure, ReadFault, bare, unreadable}
 use Rattle.bson_laws.specs.Leaves.{LeafKind, anything, ignored, extended_values, documents, leaf_kind}
-use Rattle.bson_laws.specs.Judged.{Reading, Mode, plain, judged}
+use Rattle.bson_laws.specs.Judged.{Reading, judged}
 use Rattle.bson_laws.specs.Taken.{null_of, document_of, array_of}
 use Rattle.bson_laws.specs.ReadsLeaf.{borrows, any_entries}
 use Rattle.bson_laws.specs.Containers.{reads_entries, reads_key, read_enum, reads_unit, reads_items}
@@ -48,18 +48,18 @@ IsTop n = ⊥
 abbrev IsMapping : Marked → Type 0
 IsMapping v = kind_of (contents v) ≡ EmbeddedDocument
 
-leaf_top : (mode : Mode) (l : Bool) (k : LeafKind) (n : Node) (v : Marked) → IsTop n → KeepsDocumentLeaf k → read_leaf mode l k n ≡ Ok v → IsMapping v
-leaf_top mode l anything (document ns) v t kept e = let m = map_ok value.map (any_entries mode ns no_entries) v e in subst IsMapping m.2 refl
-leaf_top mode l anything (broken k x) v t kept e = absurd cc
-leaf_top mode l anything n v t kept e = absurd t
-leaf_top mode l ignored n v t kept e = absurd kept
-leaf_top mode l (extended_values documents) (document ns) v t kept e = let m = map_ok (λ ps. datum made (tree.document ps)) (as_tree mode (document ns) >>= pairs_in) v e in subst IsMapping m.2 refl
-leaf_top mode l (extended_values documents) (broken k x) v t kept e = absurd cc
-leaf_top mode l (extended_values documents) n v t kept e = absurd t
-leaf_top mode l (extended_values k) n v t kept e = absurd kept
-leaf_top mode l k (document ns) v t kept e = absurd cc
-leaf_top mode l k (broken j x) v t kept e = absurd cc
-leaf_top mode l k n v t kept e = absurd t
+leaf_top : (l : Bool) (k : LeafKind) (n : Node) (v : Marked) → IsTop n → KeepsDocumentLeaf k → read_leaf l k n ≡ Ok v → IsMapping v
+leaf_top l anything (document ns) v t kept e = let m = map_ok value.map (any_entries ns no_entries) v e in subst IsMapping m.2 refl
+leaf_top l anything (broken k x) v t kept e = absurd cc
+leaf_top l anything n v t kept e = absurd t
+leaf_top l ignored n v t kept e = absurd kept
+leaf_top l (extended_values documents) (document ns) v t kept e = let m = map_ok (λ ps. datum made (tree.document ps)) (as_tree (document ns) >>= pairs_in) v e in subst IsMapping m.2 refl
+leaf_top l (extended_values documents) (broken k x) v t kept e = absurd cc
+leaf_top l (extended_values documents) n v t kept e = absurd t
+leaf_top l (extended_values k) n v t kept e = absurd kept
+leaf_top l k (document ns) v t kept e = absurd cc
+leaf_top l k (broken j x) v t kept e = absurd cc
+leaf_top l k n v t kept e = absurd t
 
 no_array : (n : Node) (ns : Nodes) → IsTop n → array_of n ≡ Ok ns → ⊥
 no_array (document ms) ns t e = absurd cc
@@ -71,65 +71,65 @@ no_null (document ms) x t e = absurd cc
 no_null (broken k f) x t e = absurd cc
 no_null n x t e = absurd t
 
-no_parts_there : {A : Type 0} (mode : Mode) (n : Node) (read : Nodes → Reading A) (x : A) → IsTop n → (judged mode n >>= array_of >>= read) ≡ Ok x → ⊥
-no_parts_there mode n read x t e = let d = bind_ok (judged mode n >>= array_of) read x e in no_array n d.0 t (after_judged mode n array_of d.0 d.1)
+no_parts_there : {A : Type 0} (n : Node) (read : Nodes → Reading A) (x : A) → IsTop n → (judged n >>= array_of >>= read) ≡ Ok x → ⊥
+no_parts_there n read x t e = let d = bind_ok (judged n >>= array_of) read x e in no_array n d.0 t (after_judged n array_of d.0 d.1)
 
 -- the first of two readings, or the second, is the one that is chosen
 chosen : {W : Type 0} (b : Bool) (first other : Reading Marked) (v : Marked) → (b ≡ true → first ≡ Ok v → W) → (other ≡ Ok v → W) → cond b first other ≡ Ok v → W
 chosen true first other v one rest e = one refl e
 chosen false first other v one rest e = rest e
 
-content_kind : (name : Utf8) (c : Content) (mode : Mode) (n : Node) (v : Marked) → reads_content name c mode n ≡ Ok v → IsMapping v
-content_kind name unit_content mode n v e = absurd cc
-content_kind name (newtype_content s) mode n v e =
-    let read = result_map (value.newtype_variant (made name)) (reads s mode n) in
-    let m = map_ok (value.newtype_variant (made name)) (reads s mode n) v (under_ok name read v e) in subst IsMapping m.2 refl
-content_kind name (tuple_content ps) mode n v e =
-    let d = bind_ok (judged mode n >>= array_of) (λ ns. result_map (value.tuple_variant (made name)) (reads_parts ps mode 0 ns)) v (under_ok name (judged mode n >>= array_of >>= λ ns. result_map (value.tuple_variant (made name)) (reads_parts ps mode 0 ns)) v e) in
-    let m = map_ok (value.tuple_variant (made name)) (reads_parts ps mode 0 d.0) v d.2 in subst IsMapping m.2 refl
-content_kind name (struct_content fs) mode n v e =
-    let read = read_structure mode (slots_of fs mode) in
-    let d = bind_ok (judged mode n) (λ k. result_map (value.structure_variant (made name)) (read k)) v (under_ok name (judged mode n >>= λ k. result_map (value.structure_variant (made name)) (read k)) v e) in
+content_kind : (name : Utf8) (c : Content) (n : Node) (v : Marked) → reads_content name c n ≡ Ok v → IsMapping v
+content_kind name unit_content n v e = absurd cc
+content_kind name (newtype_content s) n v e =
+    let read = result_map (value.newtype_variant (made name)) (reads s n) in
+    let m = map_ok (value.newtype_variant (made name)) (reads s n) v (under_ok name read v e) in subst IsMapping m.2 refl
+content_kind name (tuple_content ps) n v e =
+    let d = bind_ok (judged n >>= array_of) (λ ns. result_map (value.tuple_variant (made name)) (reads_parts ps 0 ns)) v (under_ok name (judged n >>= array_of >>= λ ns. result_map (value.tuple_variant (made name)) (reads_parts ps 0 ns)) v e) in
+    let m = map_ok (value.tuple_variant (made name)) (reads_parts ps 0 d.0) v d.2 in subst IsMapping m.2 refl
+content_kind name (struct_content fs) n v e =
+    let read = read_structure (slots_of fs) in
+    let d = bind_ok (judged n) (λ k. result_map (value.structure_variant (made name)) (read k)) v (under_ok name (judged n >>= λ k. result_map (value.structure_variant (made name)) (read k)) v e) in
     let m = map_ok (value.structure_variant (made name)) (read d.0) v d.2 in subst IsMapping m.2 refl
 
-variant_kind : (vs : Variants) (mode : Mode) (key : Utf8) (n : Node) (v : Marked) → reads_variant vs mode key n ≡ Ok v → IsMapping v
-variant_kind no_variants mode key n v e = absurd cc
-variant_kind (variant name c vs) mode key n v e =
-    chosen (bytes_eq name key) (reads_content name c mode n) (reads_variant vs mode key n) v (λ is q. content_kind name c mode n v q) (λ q. variant_kind vs mode key n v q) e
+variant_kind : (vs : Variants) (key : Utf8) (n : Node) (v : Marked) → reads_variant vs key n ≡ Ok v → IsMapping v
+variant_kind no_variants key n v e = absurd cc
+variant_kind (variant name c vs) key n v e =
+    chosen (bytes_eq name key) (reads_content name c n) (reads_variant vs key n) v (λ is q. content_kind name c n v q) (λ q. variant_kind vs key n v q) e
 
-enum_kind : (vs : Variants) (mode : Mode) (n : Node) (v : Marked) → IsTop n → read_enum mode (reads_unit vs) (reads_variant vs mode) n ≡ Ok v → IsMapping v
-enum_kind vs mode (document ended) v t e = absurd cc
-enum_kind vs mode (document (faulty f)) v t e = absurd cc
-enum_kind vs mode (document (then_node key n ns)) v t e = variant_kind vs mode key.bytes n v e
-enum_kind vs mode (broken k x) v t e = absurd cc
-enum_kind vs mode n v t e = absurd t
+enum_kind : (vs : Variants) (n : Node) (v : Marked) → IsTop n → read_enum (reads_unit vs) (reads_variant vs) n ≡ Ok v → IsMapping v
+enum_kind vs (document ended) v t e = absurd cc
+enum_kind vs (document (faulty f)) v t e = absurd cc
+enum_kind vs (document (then_node key n ns)) v t e = variant_kind vs key.bytes n v e
+enum_kind vs (broken k x) v t e = absurd cc
+enum_kind vs n v t e = absurd t
 
 -- an option of a document is not none
-some_top : (s : Form) (mode : Mode) (n : Node) (v : Marked) → IsTop n → ((w : Marked) → reads s mode n ≡ Ok w → IsMapping w) → reads (optional s) mode n ≡ Ok v → IsMapping v
-some_top s mode (document ns) v t inner e = let m = map_ok value.some (reads s mode (document ns)) v e in subst IsMapping m.2 (inner m.0 m.1)
-some_top s mode (broken k x) v t inner e = let m = map_ok value.some (reads s mode (broken k x)) v e in subst IsMapping m.2 (inner m.0 m.1)
-some_top s mode n v t inner e = absurd t
+some_top : (s : Form) (n : Node) (v : Marked) → IsTop n → ((w : Marked) → reads s n ≡ Ok w → IsMapping w) → reads (optional s) n ≡ Ok v → IsMapping v
+some_top s (document ns) v t inner e = let m = map_ok value.some (reads s (document ns)) v e in subst IsMapping m.2 (inner m.0 m.1)
+some_top s (broken k x) v t inner e = let m = map_ok value.some (reads s (broken k x)) v e in subst IsMapping m.2 (inner m.0 m.1)
+some_top s n v t inner e = absurd t
 
 -- what is read from a document is written as a document
-top_kind : (s : Form) (mode : Mode) (n : Node) (v : Marked) → IsTop n → IsShape s → KeepsDocument s → reads s mode n ≡ Ok v → IsMapping v
-top_kind (leaf l) mode n v t p kept e = leaf_top mode (borrows l) (leaf_kind l) n v t kept (after_judged mode n (read_leaf mode (borrows l) (leaf_kind l)) v e)
-top_kind (optional s) mode n v t p kept e = some_top s mode n v t (λ w h. top_kind s mode n w t p.1 kept h) e
-top_kind (newtype name s) mode n v t p kept e =
-    let m = map_ok (value.newtype (made name)) (reads s mode n) v e in
-    subst IsMapping m.2 (free_kind name (contents m.0) p.0.free ∙ top_kind s mode n m.0 t p.1 kept m.1)
-top_kind (unit_structure name) mode n v t p kept e =
-    let d = bind_ok (judged mode n >>= null_of) (λ _. Ok (value.unit_structure (made name))) v e in absurd (no_null n d.0 t (after_judged mode n null_of d.0 d.1))
-top_kind (sequence s) mode n v t p kept e = absurd (no_parts_there mode n (λ ns. result_map value.sequence (reads_items (reads s mode) 0 ns)) v t e)
-top_kind (tuple ps) mode n v t p kept e = absurd (no_parts_there mode n (λ ns. result_map value.tuple (reads_parts ps mode 0 ns)) v t e)
-top_kind (tuple_structure name ps) mode n v t p kept e = absurd (no_parts_there mode n (λ ns. result_map (value.tuple_structure (made name)) (reads_parts ps mode 0 ns)) v t e)
-top_kind (enumeration vs) mode n v t p kept e = enum_kind vs mode n v t (after_judged mode n (read_enum mode (reads_unit vs) (reads_variant vs mode)) v e)
-top_kind (map key s) mode n v t p kept e =
-    let entries = λ (ns : Nodes). reads_entries (reads_key mode key) (reads s mode) ns no_entries in
-    let d = bind_ok (judged mode n >>= document_of) (λ ns. result_map value.map (entries ns)) v e in
+top_kind : (s : Form) (n : Node) (v : Marked) → IsTop n → IsShape s → KeepsDocument s → reads s n ≡ Ok v → IsMapping v
+top_kind (leaf l) n v t p kept e = leaf_top (borrows l) (leaf_kind l) n v t kept (after_judged n (read_leaf (borrows l) (leaf_kind l)) v e)
+top_kind (optional s) n v t p kept e = some_top s n v t (λ w h. top_kind s n w t p.1 kept h) e
+top_kind (newtype name s) n v t p kept e =
+    let m = map_ok (value.newtype (made name)) (reads s n) v e in
+    subst IsMapping m.2 (free_kind name (contents m.0) p.0.free ∙ top_kind s n m.0 t p.1 kept m.1)
+top_kind (unit_structure name) n v t p kept e =
+    let d = bind_ok (judged n >>= null_of) (λ _. Ok (value.unit_structure (made name))) v e in absurd (no_null n d.0 t (after_judged n null_of d.0 d.1))
+top_kind (sequence s) n v t p kept e = absurd (no_parts_there n (λ ns. result_map value.sequence (reads_items (reads s) 0 ns)) v t e)
+top_kind (tuple ps) n v t p kept e = absurd (no_parts_there n (λ ns. result_map value.tuple (reads_parts ps 0 ns)) v t e)
+top_kind (tuple_structure name ps) n v t p kept e = absurd (no_parts_there n (λ ns. result_map (value.tuple_structure (made name)) (reads_parts ps 0 ns)) v t e)
+top_kind (enumeration vs) n v t p kept e = enum_kind vs n v t (after_judged n (read_enum (reads_unit vs) (reads_variant vs)) v e)
+top_kind (map key s) n v t p kept e =
+    let entries = λ (ns : Nodes). reads_entries (reads_key key) (reads s) ns no_entries in
+    let d = bind_ok (judged n >>= document_of) (λ ns. result_map value.map (entries ns)) v e in
     let m = map_ok value.map (entries d.0) v d.2 in subst IsMapping m.2 refl
-top_kind (structure name fs) mode n v t p kept e =
-    let read = read_structure mode (slots_of fs mode) in
-    let d = bind_ok (judged mode n) (λ k. result_map (value.structure (made name)) (read k)) v e in
+top_kind (structure name fs) n v t p kept e =
+    let read = read_structure (slots_of fs) in
+    let d = bind_ok (judged n) (λ k. result_map (value.structure (made name)) (read k)) v e in
     let m = map_ok (value.structure (made name)) (read d.0) v d.2 in
     subst IsMapping m.2 (ap reserved_or_document p.0.free)
 
@@ -150,18 +150,18 @@ same_bytes false false true x y e = absurd cc
 same_bytes false false false x y e = ok_is x y e
 
 abbrev read_in : Form → Result Bytes raw_error.Error → Result Marked (Failure ReadFault)
-read_in s r = elim r [ Ok b ↦ answered (reads s plain (node_in max_levels EmbeddedDocument b)) | Err f ↦ Err (bare (unreadable (raw f))) ]
+read_in s r = elim r [ Ok b ↦ answered (reads s (node_in max_levels EmbeddedDocument b)) | Err f ↦ Err (bare (unreadable (raw f))) ]
 
 -- what is read from a document's bytes is read from the node that they are
 pub node_read : (s : Form) (bytes : Bytes) (d : Value) → AreBytes bytes → reads_document s bytes ≡ Ok d
-    → (b : Bytes) × (m : Marked) × IsTame (node_in max_levels EmbeddedDocument b) × (reads s plain (node_in max_levels EmbeddedDocument b) ≡ Ok m) × (contents m ≡ d)
+    → (b : Bytes) × (m : Marked) × IsTame (node_in max_levels EmbeddedDocument b) × (reads s (node_in max_levels EmbeddedDocument b) ≡ Ok m) × (contents m ≡ d)
 node_read s bytes d h e = by_case (envelope bytes) (λ b q. same_bytes _ _ _ bytes b q) e where
   by_case : (r : Result Bytes raw_error.Error) → ((b : Bytes) → r ≡ Ok b → bytes ≡ b) → result_map contents (read_in s r) ≡ Ok d
-      → (b : Bytes) × (m : Marked) × IsTame (node_in max_levels EmbeddedDocument b) × (reads s plain (node_in max_levels EmbeddedDocument b) ≡ Ok m) × (contents m ≡ d)
+      → (b : Bytes) × (m : Marked) × IsTame (node_in max_levels EmbeddedDocument b) × (reads s (node_in max_levels EmbeddedDocument b) ≡ Ok m) × (contents m ≡ d)
   by_case (Ok b) same q =
       let n = node_in max_levels EmbeddedDocument b in
-      let m = map_ok contents (answered (reads s plain n)) d q in
-      (b, m.0, seen_tame max_levels EmbeddedDocument b (subst AreBytes (same b refl) h) tt, answered_is (reads s plain n) m.0 m.1, m.2)
+      let m = map_ok contents (answered (reads s n)) d q in
+      (b, m.0, seen_tame max_levels EmbeddedDocument b (subst AreBytes (same b refl) h) tt, answered_is (reads s n) m.0 m.1, m.2)
   by_case (Err f) same q = absurd cc
 
 -- what is read is written, unless it is too large
@@ -169,7 +169,7 @@ pub document_written : (s : Form) (bytes : Bytes) (d : Value) → IsShape s → 
 document_written s bytes d p c h e =
     let r = node_read s bytes d h e in
     let n = node_in max_levels EmbeddedDocument r.0 in
-    let top = top_kind s plain n r.1 (closed_top (is_closed r.0) _ _) p c.document r.3 in
+    let top = top_kind s n r.1 (closed_top (is_closed r.0) _ _) p c.document r.3 in
     subst (λ v. IsWrittenUnlessLarge (spell_document v)) r.4 (subst (λ k. IsWrittenUnlessLarge (at_top k (spell (contents r.1) max_levels))) (sym top) (written (contents r.1) s p c.keys (reads_given s n r.1 r.2 r.3) max_levels))
 
 -- what is read is never refused for a number

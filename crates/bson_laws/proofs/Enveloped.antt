@@ -15,7 +15,6 @@ use Rattle.bson_shape.specs.Form.{Form}
 use Rattle.bson_datum.specs.Cause.{raw}
 use Rattle.bson_datum.specs.Marked.{Marked}
 use Rattle.bson_datum.specs.Refusal.{ReadFault, unreadable, Failure, bare}
-use Rattle.bson_laws.specs.Judged.{plain}
 use Rattle.bson_laws.specs.Reads.{reads, answered, reads_marked}
 
 -- bytes that are framed as a document are closed
@@ -33,15 +32,15 @@ closed_is b e = ap (λ c. cond c (document (nodes_with (node_in 199) (walk b))) 
 
 -- the bytes of an envelope, or its fault
 abbrev reads_enveloped : Form → Result Bytes Error → Result Marked (Failure ReadFault)
-reads_enveloped s (Ok d) = answered (reads s plain (node_in max_levels EmbeddedDocument d))
+reads_enveloped s (Ok d) = answered (reads s (node_in max_levels EmbeddedDocument d))
 reads_enveloped s (Err e) = Err (bare (unreadable (raw e)))
 
 enveloped : (s : Form) (b : Bytes) (r : Result Bytes Error) → envelope b ≡ r → reads_marked s b ≡ reads_enveloped s r
-enveloped s b (Ok d) e = ap (λ r. elim r [ Ok d ↦ answered (reads s plain (node_in max_levels EmbeddedDocument d)) | Err e ↦ Err (bare (unreadable (raw e))) ]) e
-enveloped s b (Err f) e = ap (λ r. elim r [ Ok d ↦ answered (reads s plain (node_in max_levels EmbeddedDocument d)) | Err e ↦ Err (bare (unreadable (raw e))) ]) e
+enveloped s b (Ok d) e = ap (λ r. elim r [ Ok d ↦ answered (reads s (node_in max_levels EmbeddedDocument d)) | Err e ↦ Err (bare (unreadable (raw e))) ]) e
+enveloped s b (Err f) e = ap (λ r. elim r [ Ok d ↦ answered (reads s (node_in max_levels EmbeddedDocument d)) | Err e ↦ Err (bare (unreadable (raw e))) ]) e
 
 -- a document that passes the test of its envelope
-pub document_read : (s : Form) (b d : Bytes) → envelope b ≡ Ok d → reads_marked s b ≡ answered (reads s plain (inner_node max_levels EmbeddedDocument d))
+pub document_read : (s : Form) (b d : Bytes) → envelope b ≡ Ok d → reads_marked s b ≡ answered (reads s (inner_node max_levels EmbeddedDocument d))
 document_read s b d e =
     let f = frame b d e in
-    enveloped s b (Ok d) e ∙ ap (λ n. answered (reads s plain n)) (subst (λ x. node_in max_levels EmbeddedDocument x ≡ inner_node max_levels EmbeddedDocument x) f.0 (closed_is b f.1))
+    enveloped s b (Ok d) e ∙ ap (λ n. answered (reads s n)) (subst (λ x. node_in max_levels EmbeddedDocument x ≡ inner_node max_levels EmbeddedDocument x) f.0 (closed_is b f.1))

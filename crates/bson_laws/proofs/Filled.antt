@@ -8,13 +8,13 @@ use Rattle.bson_base.specs.Outcome.{◌>>=◌, result_map}
 use Rattle.bson_base.specs.Sound.{Lacks}
 use Rattle.bson_base.specs.Tree.{Tree, Pairs, no_pairs, pair}
 use Rattle.bson_base.proofs.Outcomes.{some_is, some_map, some_then}
-use Rattle.bson_rawdoc.specs.Node.{tree_node, pair_nodes}
+use Rattle.bson_rawdoc.specs.Node.{Sight, tree_node, pair_nodes}
 use Rattle.bson_rawdoc.specs.Piece.{made}
 use Rattle.bson_shape.specs.Form.{Form, Fields, no_fields, field}
 use Rattle.bson_datum.specs.Value.{no_field_values, field_value}
 use Rattle.bson_datum.specs.Marked.{Marked, MarkedFields}
 use Rattle.bson_datum.specs.Refusal.{under}
-use Rattle.bson_laws.specs.Judged.{Reading, plain, ignores}
+use Rattle.bson_laws.specs.Judged.{Reading, ignores}
 use Rattle.bson_laws.specs.Slots.{Slot, Slots, fill_slot, put_at, fill, value_or, finish}
 use Rattle.bson_laws.specs.Reads.{reads, slots_of}
 use Rattle.bson_laws.specs.Views.{absent}
@@ -32,21 +32,21 @@ ok_is_of (Ok y) x e = ap Ok (some_is y x e)
 ok_is_of (Err f) x e = absurd cc
 
 -- what a tree is read as at a shape, with so many levels left
-abbrev pub seen : ℕ → Form → Tree → Option Marked
-seen levels s t = ok_of (reads s plain (tree_node true t levels))
+abbrev pub seen : (at : Sight) → ℕ → Form → Tree → Option Marked
+seen at levels s t = ok_of (reads s (tree_node at t levels))
 
-pub seen_of : (levels : ℕ) (s : Form) (t : Tree) (v : Marked) → reads s plain (tree_node true t levels) ≡ Ok v → seen levels s t ≡ Some v
-seen_of levels s t v e = ap ok_of e
+pub seen_of : (at : Sight) (levels : ℕ) (s : Form) (t : Tree) (v : Marked) → reads s (tree_node at t levels) ≡ Ok v → seen at levels s t ≡ Some v
+seen_of at levels s t v e = ap ok_of e
 
 -- a field's value: what is at its key is read, and what is missing has a value where the shape is an option
-abbrev pub seen_at : ℕ → Form → Option Tree → Option Marked
-seen_at levels s None = absent s
-seen_at levels s (Some t) = seen levels s t
+abbrev pub seen_at : (at : Sight) → ℕ → Form → Option Tree → Option Marked
+seen_at at levels s None = absent s
+seen_at at levels s (Some t) = seen at levels s t
 
 -- what the fields are read as
-abbrev pub seen_fields : ℕ → Fields → Pairs → Option MarkedFields
-seen_fields levels no_fields ps = Some no_field_values
-seen_fields levels (field n s fs) ps = option_and_then (λ v. option_map (field_value (made n) v) (seen_fields levels fs ps)) (seen_at levels s (lookup n ps))
+abbrev pub seen_fields : (at : Sight) → ℕ → Fields → Pairs → Option MarkedFields
+seen_fields at levels no_fields ps = Some no_field_values
+seen_fields at levels (field n s fs) ps = option_and_then (λ v. option_map (field_value (made n) v) (seen_fields at levels fs ps)) (seen_at at levels s (lookup n ps))
 
 -- no two fields have one name
 abbrev pub Distinct : Fields → Type 0
@@ -60,15 +60,15 @@ abbrev AreApart : List Utf8 → Type 0
 AreApart [] = Unit {0}
 AreApart (name ∷ names) = IsNone name names × AreApart names
 
-none_from : (fs : Fields) (key : Utf8) → Unnamed key fs → IsNone key (names_of (slots_of fs plain))
+none_from : (fs : Fields) (key : Utf8) → Unnamed key fs → IsNone key (names_of (slots_of fs))
 none_from no_fields key u = tt
 none_from (field n s fs) key u = (u.0, none_from fs key u.1)
 
-unnamed_from : (fs : Fields) (key : Utf8) → IsNone key (names_of (slots_of fs plain)) → Unnamed key fs
+unnamed_from : (fs : Fields) (key : Utf8) → IsNone key (names_of (slots_of fs)) → Unnamed key fs
 unnamed_from no_fields key u = tt
 unnamed_from (field n s fs) key u = (u.0, unnamed_from fs key u.1)
 
-apart_from : (fs : Fields) → Distinct fs → AreApart (names_of (slots_of fs plain))
+apart_from : (fs : Fields) → Distinct fs → AreApart (names_of (slots_of fs))
 apart_from no_fields d = tt
 apart_from (field n s fs) d = (none_from fs n d.0, apart_from fs d.1)
 
@@ -83,13 +83,13 @@ still_there n k t u ps l e = by_case (bytes_eq n k) refl where
   by_case true same = absurd (let none = ap (λ j. lookup j ps) (bytes_same n k same) ∙ lookup_lacks k ps l in let both : None ≡ Some u = sym none ∙ e in cc)
   by_case false same = e
 
-module _ (levels : ℕ) where
+module _ (at : Sight) (levels : ℕ) where
   -- ---- slots after pairs
 
   -- the value of a slot after what is at its key
   abbrev value_after : Slot → Option Tree → Option Marked
   value_after slot None = slot.value
-  value_after slot (Some t) = ok_of (slot.read (tree_node true t levels))
+  value_after slot (Some t) = ok_of (slot.read (tree_node at t levels))
 
   abbrev after : Pairs → Slot → Slot
   after ps slot = record slot { value = value_after slot (lookup slot.name ps) }
@@ -100,7 +100,7 @@ module _ (levels : ℕ) where
 
   -- what is at the key of a slot finds it free, and is read
   abbrev IsReady : Pairs → Slot → Type 0
-  IsReady ps slot = (t : Tree) → lookup slot.name ps ≡ Some t → (slot.value ≡ None) × ((v : Marked) × (slot.read (tree_node true t levels) ≡ Ok v))
+  IsReady ps slot = (t : Tree) → lookup slot.name ps ≡ Some t → (slot.value ≡ None) × ((v : Marked) × (slot.read (tree_node at t levels) ≡ Ok v))
 
   abbrev AreReady : Pairs → Slots → Type 0
   AreReady ps [] = Unit {0}
@@ -123,12 +123,12 @@ module _ (levels : ℕ) where
 
   record Put (k : Utf8) (t : Tree) (ps : Pairs) (slots : Slots) : Type 0 where
     pub out : Slots
-    pub put : put_at plain k (tree_node true t levels) slots ≡ Ok out
+    pub put : put_at k (tree_node at t levels) slots ≡ Ok out
     pub names : names_of out ≡ names_of slots
     pub ready : AreReady ps out
     pub after : all_after ps out ≡ all_after (pair k t ps) slots
 
-  put_ready : (k : Utf8) (t : Tree) (ps : Pairs) (slots : Slots) → Lacks k ps → AreApart (names_of slots) → AreReady (pair k t ps) slots → (IsNone k (names_of slots) → ignores plain (tree_node true t levels) ≡ Ok tt) → Put k t ps slots
+  put_ready : (k : Utf8) (t : Tree) (ps : Pairs) (slots : Slots) → Lacks k ps → AreApart (names_of slots) → AreReady (pair k t ps) slots → (IsNone k (names_of slots) → ignores (tree_node at t levels) ≡ Ok tt) → Put k t ps slots
   put_ready k t ps [] l d r passed = record { out = []; put = ap (λ q. under k q >>= λ _. Ok []) (passed tt); names = refl; ready = tt; after = refl }
   put_ready k t ps (slot ∷ slots) l d r passed = by_case (λ unlike. put_ready k t ps slots l d.1 r.1 (λ none. passed (unlike, none))) (bytes_eq slot.name k) refl where
     by_case : (bytes_eq slot.name k ≡ false → Put k t ps slots) → (b : Bool) → bytes_eq slot.name k ≡ b → Put k t ps (slot ∷ slots)
@@ -141,8 +141,8 @@ module _ (levels : ℕ) where
         let filled = record slot { value = Some v } in
         record {
           out = filled ∷ slots;
-          put = ap (λ b. cond b (result_map (λ x. x ∷ slots) (fill_slot k (tree_node true t levels) slot slot.value)) (result_map (λ xs. slot ∷ xs) (put_at plain k (tree_node true t levels) slots))) same
-              ∙ ap (λ o. result_map (λ x. x ∷ slots) (fill_slot k (tree_node true t levels) slot o)) free.0
+          put = ap (λ b. cond b (result_map (λ x. x ∷ slots) (fill_slot k (tree_node at t levels) slot slot.value)) (result_map (λ xs. slot ∷ xs) (put_at k (tree_node at t levels) slots))) same
+              ∙ ap (λ o. result_map (λ x. x ∷ slots) (fill_slot k (tree_node at t levels) slot o)) free.0
               ∙ ap (λ q. result_map (λ x. x ∷ slots) (under k q >>= λ w. Ok (record slot { value = Some w }))) free.1.1;
           names = refl;
           ready = (λ u e. absurd (let both : None ≡ Some u = sym gone ∙ e in cc), ready_less k t ps slots l r.1);
@@ -154,7 +154,7 @@ module _ (levels : ℕ) where
         let p = later unlike in
         record {
           out = slot ∷ p.out;
-          put = ap (λ b. cond b (result_map (λ x. x ∷ slots) (fill_slot k (tree_node true t levels) slot slot.value)) (result_map (λ xs. slot ∷ xs) (put_at plain k (tree_node true t levels) slots))) unlike ∙ ap (result_map (λ xs. slot ∷ xs)) p.put;
+          put = ap (λ b. cond b (result_map (λ x. x ∷ slots) (fill_slot k (tree_node at t levels) slot slot.value)) (result_map (λ xs. slot ∷ xs) (put_at k (tree_node at t levels) slots))) unlike ∙ ap (result_map (λ xs. slot ∷ xs)) p.put;
           names = ap (λ xs. slot.name ∷ xs) p.names;
           ready = (λ u e. r.0 u (still_there slot.name k t u ps l e), p.ready);
           after = λ i. record slot { value = value_after slot (sym (chosen_f (bytes_eq slot.name k) t (lookup slot.name ps) unlike) i) } ∷ p.after i;
@@ -165,31 +165,31 @@ module _ (levels : ℕ) where
   -- no key occurs twice, and what no field takes is passed
   abbrev pub ArePassed : Fields → Pairs → Type 0
   ArePassed fs no_pairs = Unit {0}
-  ArePassed fs (pair k t ps) = Lacks k ps × (Unnamed k fs → ignores plain (tree_node true t levels) ≡ Ok tt) × ArePassed fs ps
+  ArePassed fs (pair k t ps) = Lacks k ps × (Unnamed k fs → ignores (tree_node at t levels) ≡ Ok tt) × ArePassed fs ps
 
-  fill_again : (fs : Fields) (ps : Pairs) (slots : Slots) → names_of slots ≡ names_of (slots_of fs plain) → AreApart (names_of slots) → ArePassed fs ps → AreReady ps slots → fill plain (pair_nodes true ps levels) slots ≡ Ok (all_after ps slots)
+  fill_again : (fs : Fields) (ps : Pairs) (slots : Slots) → names_of slots ≡ names_of (slots_of fs) → AreApart (names_of slots) → ArePassed fs ps → AreReady ps slots → fill (pair_nodes at ps levels) slots ≡ Ok (all_after ps slots)
   fill_again fs no_pairs slots is d c r = ap Ok (after_none slots)
   fill_again fs (pair k t ps) slots is d c r =
       let p = put_ready k t ps slots c.0 d r (λ none. c.1 (unnamed_from fs k (subst (IsNone k) is none))) in
-      ap (λ q. q >>= fill plain (pair_nodes true ps levels)) p.put ∙ fill_again fs ps p.out (p.names ∙ is) (subst AreApart (sym p.names) d) c.2 p.ready ∙ ap Ok p.after
+      ap (λ q. q >>= fill (pair_nodes at ps levels)) p.put ∙ fill_again fs ps p.out (p.names ∙ is) (subst AreApart (sym p.names) d) c.2 p.ready ∙ ap Ok p.after
 
   -- what a field is at what is at its key, or at nothing, is its value in the end
-  one_seen : (n : Utf8) (s : Form) (o : Option Tree) (v : Marked) → seen_at levels s o ≡ Some v → value_or n (absent s) (value_after (record { name = n; missing = absent s; read = reads s plain; value = None }) o) ≡ Ok v
+  one_seen : (n : Utf8) (s : Form) (o : Option Tree) (v : Marked) → seen_at at levels s o ≡ Some v → value_or n (absent s) (value_after (record { name = n; missing = absent s; read = reads s; value = None }) o) ≡ Ok v
   one_seen n s None v e = ap (λ m. value_or n m None) e
   one_seen n s (Some t) v e = ap (value_or n (absent s)) e
 
-  all_seen : (fs : Fields) (ps : Pairs) (vs : MarkedFields) → seen_fields levels fs ps ≡ Some vs → AreReady ps (slots_of fs plain) × (finish (all_after ps (slots_of fs plain)) ≡ Ok vs)
+  all_seen : (fs : Fields) (ps : Pairs) (vs : MarkedFields) → seen_fields at levels fs ps ≡ Some vs → AreReady ps (slots_of fs) × (finish (all_after ps (slots_of fs)) ≡ Ok vs)
   all_seen no_fields ps vs e = (tt, ap Ok (some_is no_field_values vs e))
   all_seen (field n s fs) ps vs e =
-      let a = some_then (λ v. option_map (field_value (made n) v) (seen_fields levels fs ps)) (seen_at levels s (lookup n ps)) vs e in
-      let b = some_map (field_value (made n) a.0) (seen_fields levels fs ps) vs a.2 in
+      let a = some_then (λ v. option_map (field_value (made n) v) (seen_fields at levels fs ps)) (seen_at at levels s (lookup n ps)) vs e in
+      let b = some_map (field_value (made n) a.0) (seen_fields at levels fs ps) vs a.2 in
       let rest = all_seen fs ps b.0 b.1 in (
-        (λ t there. (refl, (a.0, ok_is_of (reads s plain (tree_node true t levels)) a.0 (ap (seen_at levels s) (sym there) ∙ a.1))), rest.0),
-        ap (λ r. r >>= λ v. result_map (field_value (made n) v) (finish (all_after ps (slots_of fs plain)))) (one_seen n s (lookup n ps) a.0 a.1) ∙ ap (result_map (field_value (made n) a.0)) rest.1 ∙ ap Ok b.2,
+        (λ t there. (refl, (a.0, ok_is_of (reads s (tree_node at t levels)) a.0 (ap (seen_at at levels s) (sym there) ∙ a.1))), rest.0),
+        ap (λ r. r >>= λ v. result_map (field_value (made n) v) (finish (all_after ps (slots_of fs)))) (one_seen n s (lookup n ps) a.0 a.1) ∙ ap (result_map (field_value (made n) a.0)) rest.1 ∙ ap Ok b.2,
       )
 
   -- the fields are read as what is seen at their keys
-  pub fields_seen : (fs : Fields) → Distinct fs → (ps : Pairs) (vs : MarkedFields) → ArePassed fs ps → seen_fields levels fs ps ≡ Some vs → (fill plain (pair_nodes true ps levels) (slots_of fs plain) >>= finish) ≡ Ok vs
+  pub fields_seen : (fs : Fields) → Distinct fs → (ps : Pairs) (vs : MarkedFields) → ArePassed fs ps → seen_fields at levels fs ps ≡ Some vs → (fill (pair_nodes at ps levels) (slots_of fs) >>= finish) ≡ Ok vs
   fields_seen fs distinct ps vs c e =
       let all = all_seen fs ps vs e in
-      ap (λ r. r >>= finish) (fill_again fs ps (slots_of fs plain) refl (apart_from fs distinct) c all.0) ∙ all.1
+      ap (λ r. r >>= finish) (fill_again fs ps (slots_of fs) refl (apart_from fs distinct) c all.0) ∙ all.1

@@ -24,8 +24,8 @@ use Rattle.bson_datum.specs.Refusal.{at_index, under, under_index}
 use Rattle.bson_laws.specs.Leaves.{LeafKind, anything, ignored, booleans, numbers, doubles, characters, texts, byte_strings, byte_buffers, units, ExtendedLeaf, extended_values, leaf_kind}
 use Rattle.bson_laws.specs.Variants.{content_of}
 use Rattle.bson_laws.specs.Views.{one_character, absent}
-use Rattle.bson_laws.specs.Judged.{Reading, plain, refused, faultless, judged, passes, ignores, Mode}
-use Rattle.bson_laws.specs.Taken.{boolean_of, integer_of, double_of, character_of, borrow, borrow_or_own, as_text, text_of, bytes_of, buffer_of, null_of, read_integer, read_character, document_of, array_of}
+use Rattle.bson_laws.specs.Judged.{Reading, refused, faultless, judged, passes, ignores}
+use Rattle.bson_laws.specs.Taken.{owned_under_mark, boolean_of, integer_of, double_of, character_of, borrow, borrow_or_own, as_text, text_of, bytes_of, buffer_of, null_of, read_integer, read_character, document_of, array_of}
 use Rattle.bson_laws.specs.ReadsLeaf.{borrows, put_entry, read_any, any_items, any_entries, no_extended, read_leaf_with}
 use Rattle.bson_laws.specs.Containers.{reads_items, reads_entries, unit_of, reads_unit, reads_key, read_enum, reads_option, reads_next}
 use Rattle.bson_laws.specs.Slots.{Slot, Slots, fill_slot, put_at, fill, value_or, finish, reads_places, read_structure}
@@ -192,7 +192,7 @@ faulty_or true n m e = refl
 faulty_or false n m e = absurd cc
 
 -- a text that is judged without a refusal is UTF-8
-pub judged_text : (p : Piece) (m : Node) → judged plain (node.string p) ≡ Ok m → is_utf8 p.bytes ≡ true
+pub judged_text : (p : Piece) (m : Node) → judged (node.string p) ≡ Ok m → is_utf8 p.bytes ≡ true
 judged_text p m e = faulty_or (is_utf8 p.bytes) (node.string p) m e
 
 whole_binary : (b : Bool) (p q : Piece) → is_utf8 p.bytes ≡ b → cond b (Ok p) (refused not_utf8) ≡ Ok q → is_utf8 q.bytes ≡ true
@@ -207,9 +207,9 @@ borrow_is true t p e = held t.in_input e where
   held false q = absurd cc
 borrow_is false t p e = ap (λ (x : Piece). x.bytes) (sym (ok_is (made t.bytes) p e))
 
-pub whole_text : (b : Bool) (n m : Node) (p : Piece) → judged plain n ≡ Ok m → text_of plain b n ≡ Ok p → is_utf8 p.bytes ≡ true
+pub whole_text : (b : Bool) (n m : Node) (p : Piece) → judged n ≡ Ok m → text_of b n ≡ Ok p → is_utf8 p.bytes ≡ true
 whole_text b (node.string t) m p j e = ap is_utf8 (borrow_is b t p e) ∙ judged_text t m j
-whole_text b (node.bytes x) m p j e = let q = bind_ok (borrow_or_own b x) as_text p e in whole_binary (is_utf8 q.0.bytes) q.0 p refl q.2
+whole_text b (node.bytes u x) m p j e = let q = bind_ok (borrow_or_own b (owned_under_mark u x)) as_text p e in whole_binary (is_utf8 q.0.bytes) q.0 p refl q.2
 whole_text b n m p j e = absurd cc
 
 -- ---- entries
@@ -254,35 +254,35 @@ map_given : (es : MarkedEntries) (v : Marked) → MapGiven es → value.map es �
 map_given es v h e = subst AnyGiven e (h.0, given_entries (entry_contents es) h.1)
 
 mutual
-  any_given : (n m : Node) (v : Marked) → IsTame n → judged plain n ≡ Ok m → read_any plain n ≡ Ok v → AnyGiven v
+  any_given : (n m : Node) (v : Marked) → IsTame n → judged n ≡ Ok m → read_any n ≡ Ok v → AnyGiven v
   any_given (node.boolean b) m v t j e = subst AnyGiven (ok_is (value.boolean b) v e) tt
   any_given (node.int32 n) m v t j e = subst AnyGiven (ok_is (value.integer i32 n) v e) t
   any_given (node.int64 n) m v t j e = subst AnyGiven (ok_is (value.integer i64 n) v e) t
   any_given (node.double bits) m v t j e = subst AnyGiven (ok_is (value.double bits) v e) t
   any_given (node.string p) m v t j e = subst AnyGiven (ok_is (value.str p) v e) (judged_text p m j)
-  any_given (node.bytes p) m v t j e = subst AnyGiven (ok_is (value.bytes p) v e) tt
+  any_given (node.bytes u p) m v t j e = subst AnyGiven (ok_is (value.bytes (owned_under_mark u p)) v e) tt
   any_given node.null m v t j e = subst AnyGiven (ok_is value.unit v e) tt
-  any_given (node.array ns) m v t j e = let r = map_ok value.sequence (any_items plain 0 ns) v e in subst AnyGiven r.2 (any_items_given 0 ns r.0 t r.1)
-  any_given (node.document ns) m v t j e = let r = map_ok value.map (any_entries plain ns no_entries) v e in map_given r.0 v (any_entries_given ns no_entries r.0 t (tt, tt) r.1) r.2
-  any_given (node.extended x ns) m v t j e = let r = map_ok value.map (any_entries plain ns no_entries) v e in map_given r.0 v (any_entries_given ns no_entries r.0 t.1 (tt, tt) r.1) r.2
+  any_given (node.array ns) m v t j e = let r = map_ok value.sequence (any_items 0 ns) v e in subst AnyGiven r.2 (any_items_given 0 ns r.0 t r.1)
+  any_given (node.document ns) m v t j e = let r = map_ok value.map (any_entries ns no_entries) v e in map_given r.0 v (any_entries_given ns no_entries r.0 t (tt, tt) r.1) r.2
+  any_given (node.extended x ns) m v t j e = let r = map_ok value.map (any_entries ns no_entries) v e in map_given r.0 v (any_entries_given ns no_entries r.0 t.1 (tt, tt) r.1) r.2
   any_given n m v t j e = absurd cc
 
-  any_items_given : (i : ℕ) (ns : Nodes) (vs : MarkedItems) → AreTame ns → any_items plain i ns ≡ Ok vs → AreGivenItems (item_contents vs)
+  any_items_given : (i : ℕ) (ns : Nodes) (vs : MarkedItems) → AreTame ns → any_items i ns ≡ Ok vs → AreGivenItems (item_contents vs)
   any_items_given i ended vs t e = subst (λ x. AreGivenItems (item_contents x)) (ok_is no_items vs e) tt
   any_items_given i (faulty f) vs t e = absurd cc
   any_items_given i (then_node key n ns) vs t e =
-      let a = bind_ok (under_index i (judged plain n >>= λ _. read_any plain n)) (λ v. result_map (item v) (any_items plain (suc i) ns)) vs e in
-      let b = map_ok (item a.0) (any_items plain (suc i) ns) vs a.2 in
-      let first = bind_ok (judged plain n) (λ _. read_any plain n) a.0 (inside_ok (at_index i) (judged plain n >>= λ _. read_any plain n) a.0 a.1) in
+      let a = bind_ok (under_index i (judged n >>= λ _. read_any n)) (λ v. result_map (item v) (any_items (suc i) ns)) vs e in
+      let b = map_ok (item a.0) (any_items (suc i) ns) vs a.2 in
+      let first = bind_ok (judged n) (λ _. read_any n) a.0 (inside_ok (at_index i) (judged n >>= λ _. read_any n) a.0 a.1) in
       subst (λ x. AreGivenItems (item_contents x)) b.2 (any_given n first.0 a.0 t.1 first.1 first.2, any_items_given (suc i) ns b.0 t.2 b.1)
 
-  any_entries_given : (ns : Nodes) (es out : MarkedEntries) → AreTame ns → MapGiven es → any_entries plain ns es ≡ Ok out → MapGiven out
+  any_entries_given : (ns : Nodes) (es out : MarkedEntries) → AreTame ns → MapGiven es → any_entries ns es ≡ Ok out → MapGiven out
   any_entries_given ended es out t h e = subst MapGiven (ok_is es out e) h
   any_entries_given (faulty f) es out t h e = absurd cc
   any_entries_given (then_node key n ns) es out t h e =
       let k = value.str key in
-      let a = bind_ok (under key.bytes (judged plain n >>= λ _. read_any plain n)) (λ v. any_entries plain ns (put_entry k v es)) out e in
-      let first = bind_ok (judged plain n) (λ _. read_any plain n) a.0 (under_ok key.bytes (judged plain n >>= λ _. read_any plain n) a.0 a.1) in
+      let a = bind_ok (under key.bytes (judged n >>= λ _. read_any n)) (λ v. any_entries ns (put_entry k v es)) out e in
+      let first = bind_ok (judged n) (λ _. read_any n) a.0 (under_ok key.bytes (judged n >>= λ _. read_any n) a.0 a.1) in
       any_entries_given ns (put_entry k a.0 es) out t.2 (put_apart k a.0 es h.0, put_so IsGivenText IsGivenAny k a.0 es t.0 (any_given n first.0 a.0 t.1 first.1 first.2) h.1) a.2
 
 -- ---- leaves
@@ -311,7 +311,7 @@ double_sized : (n : Node) (b : Bytes) → IsTame n → double_of n ≡ Ok b → 
 double_sized (node.double bits) b t e = subst (λ (x : Bytes). length x ≡ 8) (ok_is bits b e) t
 double_sized n b t e = absurd cc
 
-character_read : (n m : Node) (v : Marked) → judged plain n ≡ Ok m → character_of plain n ≡ Ok v → LeafGiven characters v
+character_read : (n m : Node) (v : Marked) → judged n ≡ Ok m → character_of n ≡ Ok v → LeafGiven characters v
 character_read (node.string t) m v j e =
     character_given (chars t.bytes) (one_character (chars t.bytes)) v (λ c is. one_scalar (chars t.bytes) c (scalars-chars t.bytes (IsUtf8-from_is_utf8 t.bytes (judged_text t m j))) is) e
 character_read n m v j e = absurd cc
@@ -321,7 +321,7 @@ character_read n m v j e = absurd cc
 abbrev LeafKeyGiven : LeafKind → Marked → Type 0
 LeafKeyGiven k v = IsGivenLeafKey k (contents v)
 
-leaf_key_given : (l : Bool) (k : LeafKind) (key : Piece) (v : Marked) → IsName key.bytes → read_leaf_with no_extended plain l k (node.string key) ≡ Ok v → LeafKeyGiven k v
+leaf_key_given : (l : Bool) (k : LeafKind) (key : Piece) (v : Marked) → IsName key.bytes → read_leaf_with no_extended l k (node.string key) ≡ Ok v → LeafKeyGiven k v
 leaf_key_given l anything key v h e = subst (LeafKeyGiven anything) (ok_is (value.str key) v e) h
 leaf_key_given l ignored key v h e = subst (LeafKeyGiven ignored) (ok_is value.unit v e) tt
 leaf_key_given l characters key v h e = by_case (one_character (chars key.bytes)) e where
@@ -343,7 +343,7 @@ unit_key_given vs name None v z is e = absurd cc
 unit_key_given vs name (Some unit_content) v z is e = subst (λ x. IsGivenKey (enumeration vs) (contents x)) (ok_is (value.unit_variant (made name)) v e) (is, z)
 unit_key_given vs name (Some c) v z is e = absurd cc
 
-key_given : (s : Form) (key : Piece) (v : Marked) → IsName key.bytes → reads_key plain s key ≡ Ok v → IsGivenKey s (contents v)
+key_given : (s : Form) (key : Piece) (v : Marked) → IsName key.bytes → reads_key s key ≡ Ok v → IsGivenKey s (contents v)
 key_given (leaf l) key v h e = leaf_key_given (borrows l) (leaf_kind l) key v h e
 key_given (enumeration vs) key v h e = unit_key_given vs key.bytes (content_of vs key.bytes) v h.1 refl e
 key_given s key v h e = absurd cc
@@ -379,12 +379,12 @@ next_read i read others (then_node key n ns) x t e =
     (n, a.0, ns, t.1, t.2, inside_ok (at_index i) (read n) a.0 a.1, a.2)
 
 -- what is read from a judged array: its elements, and what is built of them
-array_read : {A : Type 0} (mode : Mode) (build : A → Marked) (parts : Nodes → Reading A) (n : Node) (v : Marked) → IsTame n → (judged mode n >>= array_of >>= λ ns. result_map build (parts ns)) ≡ Ok v
+array_read : {A : Type 0} (build : A → Marked) (parts : Nodes → Reading A) (n : Node) (v : Marked) → IsTame n → (judged n >>= array_of >>= λ ns. result_map build (parts ns)) ≡ Ok v
     → (ns : Nodes) × (x : A) × AreTame ns × (parts ns ≡ Ok x) × (build x ≡ v)
-array_read mode build parts n v t e =
-    let d = bind_ok (judged mode n >>= array_of) (λ ns. result_map build (parts ns)) v e in
+array_read build parts n v t e =
+    let d = bind_ok (judged n >>= array_of) (λ ns. result_map build (parts ns)) v e in
     let m = map_ok build (parts d.0) v d.2 in
-    (d.0, m.0, array_tame n d.0 t (after_judged mode n array_of d.0 d.1), m.1, m.2)
+    (d.0, m.0, array_tame n d.0 t (after_judged n array_of d.0 d.1), m.1, m.2)
 
 -- ---- fields
 
@@ -431,22 +431,22 @@ filled_given key name n s slot out None t h e =
     })
 filled_given key name n s slot out (Some v) t h e = absurd cc
 
-put_given : (key : Utf8) (n : Node) (fs : Fields) (slots out : Slots) → IsTame n → AreSlotsOf fs slots → put_at plain key n slots ≡ Ok out → AreSlotsOf fs out
-put_given key n no_fields [] out t h e = let b = bind_ok (under key (ignores plain n)) (λ _. Ok []) out e in subst (AreSlotsOf no_fields) (ok_is [] out b.2) tt
+put_given : (key : Utf8) (n : Node) (fs : Fields) (slots out : Slots) → IsTame n → AreSlotsOf fs slots → put_at key n slots ≡ Ok out → AreSlotsOf fs out
+put_given key n no_fields [] out t h e = let b = bind_ok (under key (ignores n)) (λ _. Ok []) out e in subst (AreSlotsOf no_fields) (ok_is [] out b.2) tt
 put_given key n no_fields (slot ∷ slots) out t h e = absurd h
 put_given key n (field name s fs) [] out t h e = absurd h
 put_given key n (field name s fs) (slot ∷ slots) out t h e = by_case (bytes_eq slot.name key) (λ xs q. put_given key n fs slots xs t h.1 q) e where
-  by_case : (b : Bool) → ((xs : Slots) → put_at plain key n slots ≡ Ok xs → AreSlotsOf fs xs) → cond b (result_map (λ x. x ∷ slots) (fill_slot key n slot slot.value)) (result_map (λ xs. slot ∷ xs) (put_at plain key n slots)) ≡ Ok out → AreSlotsOf (field name s fs) out
+  by_case : (b : Bool) → ((xs : Slots) → put_at key n slots ≡ Ok xs → AreSlotsOf fs xs) → cond b (result_map (λ x. x ∷ slots) (fill_slot key n slot slot.value)) (result_map (λ xs. slot ∷ xs) (put_at key n slots)) ≡ Ok out → AreSlotsOf (field name s fs) out
   by_case true later q =
       let m = map_ok (λ x. x ∷ slots) (fill_slot key n slot slot.value) out q in
       subst (AreSlotsOf (field name s fs)) m.2 (filled_given key name n s slot m.0 slot.value t h.0 m.1, h.1)
-  by_case false later q = let m = map_ok (λ xs. slot ∷ xs) (put_at plain key n slots) out q in subst (AreSlotsOf (field name s fs)) m.2 (h.0, later m.0 m.1)
+  by_case false later q = let m = map_ok (λ xs. slot ∷ xs) (put_at key n slots) out q in subst (AreSlotsOf (field name s fs)) m.2 (h.0, later m.0 m.1)
 
-fill_given : (ns : Nodes) (fs : Fields) (slots out : Slots) → AreTame ns → AreSlotsOf fs slots → fill plain ns slots ≡ Ok out → AreSlotsOf fs out
+fill_given : (ns : Nodes) (fs : Fields) (slots out : Slots) → AreTame ns → AreSlotsOf fs slots → fill ns slots ≡ Ok out → AreSlotsOf fs out
 fill_given ended fs slots out t h e = subst (AreSlotsOf fs) (ok_is slots out e) h
 fill_given (faulty f) fs slots out t h e = absurd cc
 fill_given (then_node key n ns) fs slots out t h e =
-    let b = bind_ok (put_at plain key.bytes n slots) (fill plain ns) out e in
+    let b = bind_ok (put_at key.bytes n slots) (fill ns) out e in
     fill_given ns fs b.0 out t.2 (put_given key.bytes n fs slots b.0 t.1 h b.1) b.2
 
 places_given : (fs : Fields) (slots : Slots) (i : ℕ) (ns : Nodes) (vs : MarkedFields) → AreTame ns → AreSlotsOf fs slots → reads_places i slots ns ≡ Ok vs → StructGiven fs vs
@@ -458,10 +458,10 @@ places_given (field n s fs) (slot ∷ slots) i ns vs t h e =
     let m = map_ok (field_value (made slot.name) r.1) (reads_places (suc i) slots r.2) vs r.6 in
     subst (StructGiven (field n s fs)) m.2 (h.0.name_is, h.0.each r.0 r.1 r.3 r.5, places_given fs slots (suc i) r.2 m.0 r.4 h.1 m.1)
 
-keyed_given : (fs : Fields) (slots : Slots) (ns : Nodes) (vs : MarkedFields) → AreTame ns → AreSlotsOf fs slots → (fill plain ns slots >>= finish) ≡ Ok vs → StructGiven fs vs
-keyed_given fs slots ns vs t h e = let b = bind_ok (fill plain ns slots) finish vs e in finish_given fs b.0 vs (fill_given ns fs slots b.0 t h b.1) b.2
+keyed_given : (fs : Fields) (slots : Slots) (ns : Nodes) (vs : MarkedFields) → AreTame ns → AreSlotsOf fs slots → (fill ns slots >>= finish) ≡ Ok vs → StructGiven fs vs
+keyed_given fs slots ns vs t h e = let b = bind_ok (fill ns slots) finish vs e in finish_given fs b.0 vs (fill_given ns fs slots b.0 t h b.1) b.2
 
-structure_given : (fs : Fields) (slots : Slots) (n : Node) (vs : MarkedFields) → IsTame n → AreSlotsOf fs slots → read_structure plain slots n ≡ Ok vs → StructGiven fs vs
+structure_given : (fs : Fields) (slots : Slots) (n : Node) (vs : MarkedFields) → IsTame n → AreSlotsOf fs slots → read_structure slots n ≡ Ok vs → StructGiven fs vs
 structure_given fs slots (node.array ns) vs t h e = places_given fs slots 0 ns vs t h e
 structure_given fs slots (node.document ns) vs t h e = keyed_given fs slots ns vs t h e
 structure_given fs slots (node.extended x ns) vs t h e = keyed_given fs slots ns vs t.1 h e
@@ -496,108 +496,108 @@ option_given s n r v inner e = let m = map_ok value.some r v e in subst (λ x. I
 -- ---- at every form
 
 -- Where what is read at the leaves of extended kinds is given there, what is read at every form is given.
-module _ (at_extended : Mode → ExtendedLeaf → Node → Reading Marked)
-    (each_extended : (k : ExtendedLeaf) (n m : Node) (v : Marked) → IsTame n → judged plain n ≡ Ok m → at_extended plain k n ≡ Ok v → IsGivenExtended k (contents v)) where
-  abbrev reads : Form → Mode → Node → Reading Marked
+module _ (at_extended : ExtendedLeaf → Node → Reading Marked)
+    (each_extended : (k : ExtendedLeaf) (n m : Node) (v : Marked) → IsTame n → judged n ≡ Ok m → at_extended k n ≡ Ok v → IsGivenExtended k (contents v)) where
+  abbrev reads : Form → Node → Reading Marked
   reads = shaped.reads at_extended
 
-  abbrev reads_parts : Parts → Mode → ℕ → Nodes → Reading MarkedItems
+  abbrev reads_parts : Parts → ℕ → Nodes → Reading MarkedItems
   reads_parts = shaped.reads_parts at_extended
 
-  abbrev slots_of : Fields → Mode → Slots
+  abbrev slots_of : Fields → Slots
   slots_of = shaped.slots_of at_extended
 
-  abbrev reads_variant : Variants → Mode → Utf8 → Node → Reading Marked
+  abbrev reads_variant : Variants → Utf8 → Node → Reading Marked
   reads_variant = shaped.reads_variant at_extended
 
-  abbrev reads_content : Utf8 → Content → Mode → Node → Reading Marked
+  abbrev reads_content : Utf8 → Content → Node → Reading Marked
   reads_content = shaped.reads_content at_extended
 
-  leaf_given : (l : Bool) (k : LeafKind) (n m : Node) (v : Marked) → IsTame n → judged plain n ≡ Ok m → read_leaf_with at_extended plain l k n ≡ Ok v → LeafGiven k v
+  leaf_given : (l : Bool) (k : LeafKind) (n m : Node) (v : Marked) → IsTame n → judged n ≡ Ok m → read_leaf_with at_extended l k n ≡ Ok v → LeafGiven k v
   leaf_given l anything n m v t j e = any_given n m v t j e
-  leaf_given l ignored n m v t j e = let r = map_ok (λ _. value.unit) (passes plain n) v e in subst (LeafGiven ignored) r.2 tt
+  leaf_given l ignored n m v t j e = let r = map_ok (λ _. value.unit) (passes n) v e in subst (LeafGiven ignored) r.2 tt
   leaf_given l booleans n m v t j e = let r = map_ok value.boolean (boolean_of n) v e in subst (LeafGiven booleans) r.2 tt
   leaf_given l (numbers type) n m v t j e = let b = bind_ok (integer_of n) (read_integer type) v e in number_given type b.0 (in_range type b.0) v (integer_fits n b.0 t b.1) refl b.2
   leaf_given l doubles n m v t j e = let r = map_ok value.double (double_of n) v e in subst (LeafGiven doubles) r.2 (double_sized n r.0 t r.1)
   leaf_given l characters n m v t j e = character_read n m v j e
-  leaf_given l texts n m v t j e = let r = map_ok value.str (text_of plain l n) v e in subst (LeafGiven texts) r.2 (whole_text l n m r.0 j r.1)
-  leaf_given l byte_strings n m v t j e = let r = map_ok value.bytes (bytes_of plain n) v e in subst (LeafGiven byte_strings) r.2 tt
-  leaf_given l byte_buffers n m v t j e = let r = map_ok (λ b. value.bytes (made b)) (buffer_of plain n) v e in subst (LeafGiven byte_buffers) r.2 tt
+  leaf_given l texts n m v t j e = let r = map_ok value.str (text_of l n) v e in subst (LeafGiven texts) r.2 (whole_text l n m r.0 j r.1)
+  leaf_given l byte_strings n m v t j e = let r = map_ok value.bytes (bytes_of n) v e in subst (LeafGiven byte_strings) r.2 tt
+  leaf_given l byte_buffers n m v t j e = let r = map_ok (λ b. value.bytes (made b)) (buffer_of n) v e in subst (LeafGiven byte_buffers) r.2 tt
   leaf_given l units n m v t j e = let r = map_ok (λ _. value.unit) (null_of n) v e in subst (LeafGiven units) r.2 tt
   leaf_given l (extended_values k) n m v t j e = each_extended k n m v t j e
 
-  entries_so : (key s : Form) → EachGiven (reads s plain) s → (ns : Nodes) (es out : MarkedEntries) → AreTame ns → EntriesSo key s es → reads_entries (reads_key plain key) (reads s plain) ns es ≡ Ok out → EntriesSo key s out
+  entries_so : (key s : Form) → EachGiven (reads s) s → (ns : Nodes) (es out : MarkedEntries) → AreTame ns → EntriesSo key s es → reads_entries (reads_key key) (reads s) ns es ≡ Ok out → EntriesSo key s out
   entries_so key s each ended es out t h e = subst (EntriesSo key s) (ok_is es out e) h
   entries_so key s each (faulty f) es out t h e = absurd cc
   entries_so key s each (then_node k n ns) es out t h e =
-      let a = bind_ok (reads_key plain key k) (λ x. under k.bytes (reads s plain n) >>= λ v. reads_entries (reads_key plain key) (reads s plain) ns (put_entry x v es)) out e in
-      let b = bind_ok (under k.bytes (reads s plain n)) (λ v. reads_entries (reads_key plain key) (reads s plain) ns (put_entry a.0 v es)) out a.2 in
-      let there = put_so (IsGivenKey key) (λ v. IsGiven v s) a.0 b.0 es (key_given key k a.0 t.0 a.1) (each n b.0 t.1 (under_ok k.bytes (reads s plain n) b.0 b.1)) h.1 in
+      let a = bind_ok (reads_key key k) (λ x. under k.bytes (reads s n) >>= λ v. reads_entries (reads_key key) (reads s) ns (put_entry x v es)) out e in
+      let b = bind_ok (under k.bytes (reads s n)) (λ v. reads_entries (reads_key key) (reads s) ns (put_entry a.0 v es)) out a.2 in
+      let there = put_so (IsGivenKey key) (λ v. IsGiven v s) a.0 b.0 es (key_given key k a.0 t.0 a.1) (each n b.0 t.1 (under_ok k.bytes (reads s n) b.0 b.1)) h.1 in
       entries_so key s each ns (put_entry a.0 b.0 es) out t.2 (put_apart a.0 b.0 es h.0, there) b.2
 
-  enum_given : (vs : Variants) → ((key : Utf8) (n : Node) (v : Marked) → IsTame n → reads_variant vs plain key n ≡ Ok v → VariantGiven (content_of vs key) key v) → (n : Node) (v : Marked) → IsTame n → read_enum plain (reads_unit vs) (reads_variant vs plain) n ≡ Ok v → IsGiven (contents v) (enumeration vs)
+  enum_given : (vs : Variants) → ((key : Utf8) (n : Node) (v : Marked) → IsTame n → reads_variant vs key n ≡ Ok v → VariantGiven (content_of vs key) key v) → (n : Node) (v : Marked) → IsTame n → read_enum (reads_unit vs) (reads_variant vs) n ≡ Ok v → IsGiven (contents v) (enumeration vs)
   enum_given vs each (node.string p) v t e = unit_given vs p.bytes (content_of vs p.bytes) v refl e
   enum_given vs each (node.document (then_node key n ns)) v t e = let g = each key.bytes n v t.1 e in variant_given vs key.bytes g.0 v t.0.1 g.1 g.2
   enum_given vs each (node.extended x (then_node key n ns)) v t e = let g = each key.bytes n v t.1.1 e in variant_given vs key.bytes g.0 v t.1.0.1 g.1 g.2
   enum_given vs each n v t e = absurd cc
 
   mutual
-    pub reads_given : (s : Form) (n : Node) (v : Marked) → IsTame n → reads s plain n ≡ Ok v → IsGiven (contents v) s
+    pub reads_given : (s : Form) (n : Node) (v : Marked) → IsTame n → reads s n ≡ Ok v → IsGiven (contents v) s
     reads_given (leaf l) n v t e =
-        let b = bind_ok (judged plain n) (read_leaf_with at_extended plain (borrows l) (leaf_kind l)) v e in
-        leaf_given_at l (contents v) (leaf_given (borrows l) (leaf_kind l) n b.0 v t b.1 (after_judged plain n (read_leaf_with at_extended plain (borrows l) (leaf_kind l)) v e))
-    reads_given (optional s) n v t e = option_given s n (reads s plain n) v (λ w h. reads_given s n w t h) e
-    reads_given (newtype name s) n v t e = let m = map_ok (value.newtype (made name)) (reads s plain n) v e in subst (λ x. IsGiven (contents x) (newtype name s)) m.2 (refl, reads_given s n m.0 t m.1)
+        let b = bind_ok (judged n) (read_leaf_with at_extended (borrows l) (leaf_kind l)) v e in
+        leaf_given_at l (contents v) (leaf_given (borrows l) (leaf_kind l) n b.0 v t b.1 (after_judged n (read_leaf_with at_extended (borrows l) (leaf_kind l)) v e))
+    reads_given (optional s) n v t e = option_given s n (reads s n) v (λ w h. reads_given s n w t h) e
+    reads_given (newtype name s) n v t e = let m = map_ok (value.newtype (made name)) (reads s n) v e in subst (λ x. IsGiven (contents x) (newtype name s)) m.2 (refl, reads_given s n m.0 t m.1)
     reads_given (unit_structure name) n v t e =
-        let d = bind_ok (judged plain n >>= null_of) (λ _. Ok (value.unit_structure (made name))) v e in
+        let d = bind_ok (judged n >>= null_of) (λ _. Ok (value.unit_structure (made name))) v e in
         subst (λ x. IsGiven (contents x) (unit_structure name)) (ok_is (value.unit_structure (made name)) v d.2) refl
     reads_given (sequence s) n v t e =
-        let r = array_read plain value.sequence (reads_items (reads s plain) 0) n v t e in
-        subst (λ x. IsGiven (contents x) (sequence s)) r.4 (items_given (reads s plain) s (λ m w q h. reads_given s m w q h) 0 r.0 r.1 r.2 r.3)
+        let r = array_read value.sequence (reads_items (reads s) 0) n v t e in
+        subst (λ x. IsGiven (contents x) (sequence s)) r.4 (items_given (reads s) s (λ m w q h. reads_given s m w q h) 0 r.0 r.1 r.2 r.3)
     reads_given (map key s) n v t e =
-        let entries = λ (ns : Nodes). reads_entries (reads_key plain key) (reads s plain) ns no_entries in
-        let d = bind_ok (judged plain n >>= document_of) (λ ns. result_map value.map (entries ns)) v e in
+        let entries = λ (ns : Nodes). reads_entries (reads_key key) (reads s) ns no_entries in
+        let d = bind_ok (judged n >>= document_of) (λ ns. result_map value.map (entries ns)) v e in
         let m = map_ok value.map (entries d.0) v d.2 in
-        let tame = document_tame n d.0 t (after_judged plain n document_of d.0 d.1) in
+        let tame = document_tame n d.0 t (after_judged n document_of d.0 d.1) in
         let g = entries_so key s (λ k w q h. reads_given s k w q h) d.0 no_entries m.0 tame (tt, tt) m.1 in
         subst (λ x. IsGiven (contents x) (map key s)) m.2 (g.0, entries_given key s (entry_contents m.0) g.1)
     reads_given (tuple ps) n v t e =
-        let r = array_read plain value.tuple (reads_parts ps plain 0) n v t e in
+        let r = array_read value.tuple (reads_parts ps 0) n v t e in
         subst (λ x. IsGiven (contents x) (tuple ps)) r.4 (reads_parts_given ps 0 r.0 r.1 r.2 r.3)
     reads_given (tuple_structure name ps) n v t e =
-        let r = array_read plain (value.tuple_structure (made name)) (reads_parts ps plain 0) n v t e in
+        let r = array_read (value.tuple_structure (made name)) (reads_parts ps 0) n v t e in
         subst (λ x. IsGiven (contents x) (tuple_structure name ps)) r.4 (refl, reads_parts_given ps 0 r.0 r.1 r.2 r.3)
-    reads_given (enumeration vs) n v t e = enum_given vs (λ key m w q h. reads_variant_given vs key m w q h) n v t (after_judged plain n (read_enum plain (reads_unit vs) (reads_variant vs plain)) v e)
+    reads_given (enumeration vs) n v t e = enum_given vs (λ key m w q h. reads_variant_given vs key m w q h) n v t (after_judged n (read_enum (reads_unit vs) (reads_variant vs)) v e)
     reads_given (structure name fs) n v t e =
-        let read = read_structure plain (slots_of fs plain) in
-        let m = map_ok (value.structure (made name)) (read n) v (after_judged plain n (λ k. result_map (value.structure (made name)) (read k)) v e) in
-        subst (λ x. IsGiven (contents x) (structure name fs)) m.2 (refl, structure_given fs (slots_of fs plain) n m.0 t (slots_given fs) m.1)
+        let read = read_structure (slots_of fs) in
+        let m = map_ok (value.structure (made name)) (read n) v (after_judged n (λ k. result_map (value.structure (made name)) (read k)) v e) in
+        subst (λ x. IsGiven (contents x) (structure name fs)) m.2 (refl, structure_given fs (slots_of fs) n m.0 t (slots_given fs) m.1)
 
-    slots_given : (fs : Fields) → AreSlotsOf fs (slots_of fs plain)
+    slots_given : (fs : Fields) → AreSlotsOf fs (slots_of fs)
     slots_given no_fields = tt
     slots_given (field name s fs) = (record { name_is = refl; missing_is = refl; each = λ n v t e. reads_given s n v t e; value = λ v is. absurd cc }, slots_given fs)
 
-    reads_parts_given : (ps : Parts) (i : ℕ) (ns : Nodes) (vs : MarkedItems) → AreTame ns → reads_parts ps plain i ns ≡ Ok vs → PartsGiven (item_contents vs) ps
+    reads_parts_given : (ps : Parts) (i : ℕ) (ns : Nodes) (vs : MarkedItems) → AreTame ns → reads_parts ps i ns ≡ Ok vs → PartsGiven (item_contents vs) ps
     reads_parts_given no_parts i ns vs t e = subst (λ x. PartsGiven (item_contents x) no_parts) (ok_is no_items vs e) tt
     reads_parts_given (part s ps) i ns vs t e =
-        let r = next_read i (reads s plain) (λ v rest. result_map (item v) (reads_parts ps plain (suc i) rest)) ns vs t e in
-        let m = map_ok (item r.1) (reads_parts ps plain (suc i) r.2) vs r.6 in
+        let r = next_read i (reads s) (λ v rest. result_map (item v) (reads_parts ps (suc i) rest)) ns vs t e in
+        let m = map_ok (item r.1) (reads_parts ps (suc i) r.2) vs r.6 in
         subst (λ x. PartsGiven (item_contents x) (part s ps)) m.2 (reads_given s r.0 r.1 r.3 r.5, reads_parts_given ps (suc i) r.2 m.0 r.4 m.1)
 
-    reads_variant_given : (vs : Variants) (key : Utf8) (n : Node) (v : Marked) → IsTame n → reads_variant vs plain key n ≡ Ok v → VariantGiven (content_of vs key) key v
+    reads_variant_given : (vs : Variants) (key : Utf8) (n : Node) (v : Marked) → IsTame n → reads_variant vs key n ≡ Ok v → VariantGiven (content_of vs key) key v
     reads_variant_given no_variants key n v t e = absurd cc
     reads_variant_given (variant name c vs) key n v t e =
-        chosen_given (bytes_eq name key) name key c (content_of vs key) v (reads_content name c plain n) (reads_variant vs plain key n) refl (λ q. reads_content_given name c n v t q) (λ q. reads_variant_given vs key n v t q) e
+        chosen_given (bytes_eq name key) name key c (content_of vs key) v (reads_content name c n) (reads_variant vs key n) refl (λ q. reads_content_given name c n v t q) (λ q. reads_variant_given vs key n v t q) e
 
-    reads_content_given : (name : Utf8) (c : Content) (n : Node) (v : Marked) → IsTame n → reads_content name c plain n ≡ Ok v → ContentGiven name c v
+    reads_content_given : (name : Utf8) (c : Content) (n : Node) (v : Marked) → IsTame n → reads_content name c n ≡ Ok v → ContentGiven name c v
     reads_content_given name unit_content n v t e = absurd cc
     reads_content_given name (newtype_content s) n v t e =
-        let m = map_ok (value.newtype_variant (made name)) (reads s plain n) v (under_ok name (result_map (value.newtype_variant (made name)) (reads s plain n)) v e) in
+        let m = map_ok (value.newtype_variant (made name)) (reads s n) v (under_ok name (result_map (value.newtype_variant (made name)) (reads s n)) v e) in
         (contents m.0, ap contents (sym m.2), reads_given s n m.0 t m.1)
     reads_content_given name (tuple_content ps) n v t e =
-        let r = array_read plain (value.tuple_variant (made name)) (reads_parts ps plain 0) n v t (under_ok name (judged plain n >>= array_of >>= λ ns. result_map (value.tuple_variant (made name)) (reads_parts ps plain 0 ns)) v e) in
+        let r = array_read (value.tuple_variant (made name)) (reads_parts ps 0) n v t (under_ok name (judged n >>= array_of >>= λ ns. result_map (value.tuple_variant (made name)) (reads_parts ps 0 ns)) v e) in
         (item_contents r.1, ap contents (sym r.4), reads_parts_given ps 0 r.0 r.1 r.2 r.3)
     reads_content_given name (struct_content fs) n v t e =
-        let read = read_structure plain (slots_of fs plain) in
-        let m = map_ok (value.structure_variant (made name)) (read n) v (after_judged plain n (λ k. result_map (value.structure_variant (made name)) (read k)) v (under_ok name (judged plain n >>= λ k. result_map (value.structure_variant (made name)) (read k)) v e)) in
-        (field_contents m.0, ap contents (sym m.2), structure_given fs (slots_of fs plain) n m.0 t (slots_given fs) m.1)
+        let read = read_structure (slots_of fs) in
+        let m = map_ok (value.structure_variant (made name)) (read n) v (after_judged n (λ k. result_map (value.structure_variant (made name)) (read k)) v (under_ok name (judged n >>= λ k. result_map (value.structure_variant (made name)) (read k)) v e)) in
+        (field_contents m.0, ap contents (sym m.2), structure_given fs (slots_of fs) n m.0 t (slots_given fs) m.1)

@@ -38,7 +38,7 @@ use Rattle.bson_datum.specs.declared.wrapper.Wrapper.TheVariants.{Oid, Symbol, N
 use Rattle.bson_laws.specs.Datum.{datum, itself, uuid_datum}
 use Rattle.bson_laws.specs.Leaves as leaf_kinds
 use Rattle.bson_laws.specs.Leaves.{ExtendedLeaf, object_ids, uuids, of_kind, documents, leaf_kind}
-use Rattle.bson_laws.specs.Judged.{Reading, plain, refused, faultless, judged, scope_key}
+use Rattle.bson_laws.specs.Judged.{Reading, refused, faultless, judged, scope_key}
 use Rattle.bson_laws.specs.ReadsLeaf.{no_extended}
 use Rattle.bson_laws.specs.ReadsExtended.{tree_of_kind, with_length, object_id_at, or_bad_uuid, uuid_in, uuid_at, read_extended}
 use Rattle.bson_laws.specs.Shaped.{reads}
@@ -58,12 +58,12 @@ use Rattle.bson_laws.specs.Trees.{put_pair}
 
 -- ---- bodies
 
-body_given : (s : Form) (n : Node) (v : Marked) → IsTame n → reads no_extended s plain n ≡ Ok v → IsGiven (contents v) s
+body_given : (s : Form) (n : Node) (v : Marked) → IsTame n → reads no_extended s n ≡ Ok v → IsGiven (contents v) s
 body_given = given.reads_given no_extended (λ k n m v t j e. absurd cc)
 
 -- a body whose trees are given
 abbrev MakesGiven : Body → Type 0
-MakesGiven b = (n : Node) (t : Tree) → IsTame n → b plain n ≡ Ok (Some t) → IsGivenTree t
+MakesGiven b = (n : Node) (t : Tree) → IsTame n → b n ≡ Ok (Some t) → IsGivenTree t
 
 -- what is made of what is given at a shape is given
 abbrev Makes : Form → (Value → Option Tree) → Type 0
@@ -71,7 +71,7 @@ Makes s make = (v : Value) (t : Tree) → IsGiven v s → make v ≡ Some t → 
 
 at_makes : (s : Form) (make : Value → Option Tree) → Makes s make → MakesGiven (at s make)
 at_makes s make h n t tame e =
-    let m = map_ok (λ (v : Marked). make (contents v)) (reads no_extended s plain n) (Some t) e in
+    let m = map_ok (λ (v : Marked). make (contents v)) (reads no_extended s n) (Some t) e in
     h (contents m.0) t (body_given s n m.0 tame m.1) m.2
 
 text_makes : (f : Utf8 → Option Tree) → ((x : Utf8) (t : Tree) → is_utf8 x ≡ true → f x ≡ Some t → IsGivenTree t) → Makes text (a_text f)
@@ -122,20 +122,20 @@ whole_or true e = refl
 whole_or false e = absurd cc
 
 -- a text without a fault is UTF-8
-unfaulted : (p : Piece) → node.text_fault false p ≡ None → is_utf8 p.bytes ≡ true
+unfaulted : (p : Piece) → node.text_fault p ≡ None → is_utf8 p.bytes ≡ true
 unfaulted p e = whole_or (is_utf8 p.bytes) e
 
 -- ---- texts
 
-text_given : (n : Node) (x : Utf8) → text_at plain n ≡ Ok x → is_utf8 x ≡ true
+text_given : (n : Node) (x : Utf8) → text_at n ≡ Ok x → is_utf8 x ≡ true
 text_given n x e =
-    let m = map_ok (λ (t : Piece). t.bytes) (judged plain n >>= text_of plain false) x e in
-    let j = bind_ok (judged plain n) (text_of plain false) m.0 m.1 in
-    let is : n ≡ j.0 = judged_is plain n j.0 j.1 in
-    ap is_utf8 (sym m.2) ∙ whole_text false j.0 j.0 m.0 (ap (judged plain) (sym is) ∙ j.1) j.2
+    let m = map_ok (λ (t : Piece). t.bytes) (judged n >>= text_of false) x e in
+    let j = bind_ok (judged n) (text_of false) m.0 m.1 in
+    let is : n ≡ j.0 = judged_is n j.0 j.1 in
+    ap is_utf8 (sym m.2) ∙ whole_text false j.0 j.0 m.0 (ap judged (sym is) ∙ j.1) j.2
 
 text_body_makes : (f : Utf8 → Option Tree) → ((x : Utf8) (t : Tree) → is_utf8 x ≡ true → f x ≡ Some t → IsGivenTree t) → MakesGiven (text_body f)
-text_body_makes f h n t tame e = let m = map_ok f (text_at plain n) (Some t) e in h m.0 t (text_given n m.0 m.1) m.2
+text_body_makes f h n t tame e = let m = map_ok f (text_at n) (Some t) e in h m.0 t (text_given n m.0 m.1) m.2
 
 -- ---- numbers
 
@@ -161,10 +161,10 @@ length_made n make b true t is h e = subst IsGivenTree (some_is (make b) t e) (h
 length_made n make b false t is h e = absurd cc
 
 id_makes : MakesGiven (judging oid_body)
-id_makes n t tame e = by_kind n tame (after_judged plain n (oid_body plain) (Some t) e) where
-  by_kind : (m : Node) → IsTame m → oid_body plain m ≡ Ok (Some t) → IsGivenTree t
+id_makes n t tame e = by_kind n tame (after_judged n (oid_body) (Some t) e) where
+  by_kind : (m : Node) → IsTame m → oid_body m ≡ Ok (Some t) → IsGivenTree t
   by_kind (node.string p) k q = id_made p.bytes t (ok_is (id_of_text p.bytes) (Some t) q)
-  by_kind (node.bytes b) k q = length_made 12 tree.object_id b.bytes (nat_eq (length b.bytes) 12) t refl (λ h. (h, k)) (ok_is (of_length 12 tree.object_id b.bytes) (Some t) q)
+  by_kind (node.bytes u b) k q = length_made 12 tree.object_id b.bytes (nat_eq (length b.bytes) 12) t refl (λ h. (h, k)) (ok_is (of_length 12 tree.object_id b.bytes) (Some t) q)
   by_kind m k q = absurd cc
 
 date_given : (o : Option ℤ) (t : Tree) → ((n : ℤ) → o ≡ Some n → FitsSigned w64 n) → option_map tree.date_time o ≡ Some t → IsGivenTree t
@@ -177,8 +177,8 @@ date_body_makes =
     (text_makes (λ x. option_map tree.date_time (integer_of_text x)) (λ x t g e. date_given (integer_of_text x) t (integer_fits x) e)))
 
 date_makes : MakesGiven (judging date_body)
-date_makes n t tame e = by_kind n tame (after_judged plain n (date_body plain) (Some t) e) where
-  by_kind : (m : Node) → IsTame m → date_body plain m ≡ Ok (Some t) → IsGivenTree t
+date_makes n t tame e = by_kind n tame (after_judged n (date_body) (Some t) e) where
+  by_kind : (m : Node) → IsTame m → date_body m ≡ Ok (Some t) → IsGivenTree t
   by_kind (node.string p) k q = date_given (date_of_text p.bytes) t (date_fits p.bytes) (ok_is (option_map tree.date_time (date_of_text p.bytes)) (Some t) q)
   by_kind m k q = date_body_makes m t k q
 
@@ -285,13 +285,13 @@ pairs_of_given t ps g e = absurd cc
 -- ---- what comes after a scope
 
 scope_code : (key : Utf8) (b : Bool) (n : Node) (ps : Pairs) (t : Tree) → ArePairsGiven ps
-    → cond b (result_map (λ x. tree.javascript_code_with_scope x ps) (under key (text_at plain n))) (refused (unknown_field key)) ≡ Ok t → IsGivenTree t
+    → cond b (result_map (λ x. tree.javascript_code_with_scope x ps) (under key (text_at n))) (refused (unknown_field key)) ≡ Ok t → IsGivenTree t
 scope_code key true n ps t g e =
-    let m = map_ok (λ x. tree.javascript_code_with_scope x ps) (under key (text_at plain n)) t e in
-    subst IsGivenTree m.2 (text_given n m.0 (under_ok key (text_at plain n) m.0 m.1), g)
+    let m = map_ok (λ x. tree.javascript_code_with_scope x ps) (under key (text_at n)) t e in
+    subst IsGivenTree m.2 (text_given n m.0 (under_ok key (text_at n) m.0 m.1), g)
 scope_code key false n ps t g e = absurd cc
 
-after_scope_given : (ns : Nodes) (ps : Pairs) (t : Tree) → ArePairsGiven ps → after_scope plain ps ns ≡ Ok t → IsGivenTree t
+after_scope_given : (ns : Nodes) (ps : Pairs) (t : Tree) → ArePairsGiven ps → after_scope ps ns ≡ Ok t → IsGivenTree t
 after_scope_given ended ps t g e = absurd cc
 after_scope_given (faulty f) ps t g e = absurd cc
 after_scope_given (then_node key n ns) ps t g e = scope_code key.bytes (bytes_eq key.bytes code_key) n ps t g e
@@ -299,7 +299,7 @@ after_scope_given (then_node key n ns) ps t g e = scope_code key.bytes (bytes_eq
 -- ---- trees
 
 abbrev reads_tree : Node → Reading Tree
-reads_tree n = judged plain n >>= λ _. as_tree plain n
+reads_tree n = judged n >>= λ _. as_tree n
 
 -- a value that is read as a tree is given
 abbrev ValueGiven : Node → Type 0
@@ -307,20 +307,20 @@ ValueGiven n = (t : Tree) → reads_tree n ≡ Ok t → IsGivenTree t
 
 -- what is made of an element and of those behind it
 meant_given : (w : Wrapper) (m : Meaning) (key : Utf8) (n : Node) (code : Utf8 → Reading Tree) (ns : Nodes) (t : Tree) → MeaningMakes m → IsTame n → ValueGiven n → ((x : Utf8) → is_utf8 x ≡ true → code x ≡ Ok t → IsGivenTree t)
-    → by_meaning w m key plain n (reads_tree n) code (λ qs. after_scope plain qs ns) ≡ Ok t → IsGivenTree t
+    → by_meaning w m key n (reads_tree n) code (λ qs. after_scope qs ns) ≡ Ok t → IsGivenTree t
 meant_given w (body b) key n code ns t makes tame each coded e =
-    let a = bind_ok (b plain n) (or_bad w) t (under_ok key (b plain n >>= or_bad w) t e) in
+    let a = bind_ok (b n) (or_bad w) t (under_ok key (b n >>= or_bad w) t e) in
     makes n t tame (a.1 ∙ ap Ok (made_of w a.0 t a.2))
 meant_given w meanings.code key n code ns t makes tame each coded e =
-    let a = bind_ok (under key (text_at plain n)) code t e in coded a.0 (text_given n a.0 (under_ok key (text_at plain n) a.0 a.1)) a.2
+    let a = bind_ok (under key (text_at n)) code t e in coded a.0 (text_given n a.0 (under_ok key (text_at n) a.0 a.1)) a.2
 meant_given w scope key n code ns t makes tame each coded e =
-    let a = bind_ok (under key (reads_tree n >>= pairs_in)) (λ qs. after_scope plain qs ns) t e in
+    let a = bind_ok (under key (reads_tree n >>= pairs_in)) (λ qs. after_scope qs ns) t e in
     let b = bind_ok (reads_tree n) pairs_in a.0 (under_ok key (reads_tree n >>= pairs_in) a.0 a.1) in
     after_scope_given ns a.0 t (pairs_of_given b.0 a.0 (each b.0 b.1) b.2) a.2
 
 keyed_given : (o : Option Wrapper) (key : Utf8) (n : Node) (others : Tree → Reading Tree) (code : Utf8 → Reading Tree) (ns : Nodes) (t : Tree) → of_key key ≡ o → IsTame n → ValueGiven n
     → ((u : Tree) → of_key key ≡ None → IsGivenTree u → others u ≡ Ok t → IsGivenTree t) → ((x : Utf8) → is_utf8 x ≡ true → code x ≡ Ok t → IsGivenTree t)
-    → by_key o key plain n (reads_tree n) others code (λ qs. after_scope plain qs ns) ≡ Ok t → IsGivenTree t
+    → by_key o key n (reads_tree n) others code (λ qs. after_scope qs ns) ≡ Ok t → IsGivenTree t
 keyed_given None key n others code ns t is tame each rest coded e =
     let a = bind_ok (under key (reads_tree n)) others t e in rest a.0 is (each a.0 (under_ok key (reads_tree n) a.0 a.1)) a.2
 keyed_given (Some w) key n others code ns t is tame each rest coded e = meant_given w (meaning w) key n code ns t (wrapper_makes w) tame each coded e
@@ -334,36 +334,36 @@ code_scope true key x n t g each e =
 code_scope false key x n t g each e = absurd cc
 
 -- a value is given where it is once it is judged
-value_given : (n : Node) → ((m : Node) (t : Tree) → judged plain n ≡ Ok m → as_tree plain n ≡ Ok t → IsGivenTree t) → ValueGiven n
-value_given n h t e = let j = bind_ok (judged plain n) (λ _. as_tree plain n) t e in h j.0 t j.1 j.2
+value_given : (n : Node) → ((m : Node) (t : Tree) → judged n ≡ Ok m → as_tree n ≡ Ok t → IsGivenTree t) → ValueGiven n
+value_given n h t e = let j = bind_ok (judged n) (λ _. as_tree n) t e in h j.0 t j.1 j.2
 
 mutual
-  tree_given : (n m : Node) (t : Tree) → IsTame n → judged plain n ≡ Ok m → as_tree plain n ≡ Ok t → IsGivenTree t
+  tree_given : (n m : Node) (t : Tree) → IsTame n → judged n ≡ Ok m → as_tree n ≡ Ok t → IsGivenTree t
   tree_given (node.double bits) m t k j e = subst IsGivenTree (ok_is (tree.double bits) t e) k
   tree_given (node.string p) m t k j e = subst IsGivenTree (ok_is (tree.string p.bytes) t e) (judged_text p m j)
   tree_given (node.document ns) m t k j e = document_given ns no_pairs t k tt e
-  tree_given (node.array ns) m t k j e = let r = map_ok tree.array (array_trees plain 0 ns) t e in subst IsGivenTree r.2 (items_given 0 ns r.0 k r.1)
-  tree_given (node.bytes b) m t k j e = subst IsGivenTree (ok_is (tree.binary 0 b.bytes) t e) tt
+  tree_given (node.array ns) m t k j e = let r = map_ok tree.array (array_trees 0 ns) t e in subst IsGivenTree r.2 (items_given 0 ns r.0 k r.1)
+  tree_given (node.bytes u b) m t k j e = subst IsGivenTree (ok_is (tree.binary 0 b.bytes) t e) tt
   tree_given (node.boolean b) m t k j e = subst IsGivenTree (ok_is (tree.boolean b) t e) tt
   tree_given node.null m t k j e = subst IsGivenTree (ok_is tree.null t e) tt
   tree_given (node.int32 n) m t k j e = subst IsGivenTree (ok_is (tree.int32 n) t e) k
   tree_given (node.int64 n) m t k j e = subst IsGivenTree (ok_is (tree.int64 n) t e) k
-  tree_given (node.extended x ns) m t k j e = extended_value_given x t k.0 (no_fault (extended_fault false x) (node.extended x ns) m j) e
+  tree_given (node.extended x ns) m t k j e = extended_value_given x t k.0 (no_fault (extended_fault x) (node.extended x ns) m j) e
   tree_given n m t k j e = absurd cc
 
-  extended_value_given : (x : Extended) (t : Tree) → IsTameValue x → extended_fault false x ≡ None → extended_tree plain x ≡ Ok t → IsGivenTree t
+  extended_value_given : (x : Extended) (t : Tree) → IsTameValue x → extended_fault x ≡ None → extended_tree x ≡ Ok t → IsGivenTree t
   extended_value_given (node.binary s b) t k f e = subst IsGivenTree (ok_is (tree.binary s b.bytes) t e) (binary_given s b.bytes k.0 k.1)
   extended_value_given node.undefined t k f e = subst IsGivenTree (ok_is tree.undefined t e) tt
   extended_value_given (node.object_id id) t k f e = subst IsGivenTree (ok_is (tree.object_id id.bytes) t e) k
   extended_value_given (node.date_time n) t k f e = subst IsGivenTree (ok_is (tree.date_time n) t e) k
   extended_value_given (node.regular_expression p q) t k f e =
-      let b = neither_fault (node.text_fault false p) (node.text_fault false q) f in
+      let b = neither_fault (node.text_fault p) (node.text_fault q) f in
       regex_made p.bytes q.bytes t (unfaulted p b.0) (unfaulted q b.1) (ap Some (ok_is (tree.regular_expression p.bytes (sorted q.bytes)) t e))
   extended_value_given (node.db_pointer namespace id) t k f e = subst IsGivenTree (ok_is (tree.db_pointer namespace.bytes id) t e) (unfaulted namespace f, k.0, k.1)
   extended_value_given (node.javascript_code p) t k f e = subst IsGivenTree (ok_is (tree.javascript_code p.bytes) t e) (unfaulted p f)
   extended_value_given (node.symbol p) t k f e = subst IsGivenTree (ok_is (tree.symbol p.bytes) t e) (unfaulted p f)
   extended_value_given (node.javascript_code_with_scope p n) t k f e =
-      let b = neither_fault (node.text_fault false p) (fault false n) f in
+      let b = neither_fault (node.text_fault p) (fault n) f in
       let m = map_ok (tree.javascript_code_with_scope p.bytes) (under scope_key (reads_tree n >>= pairs_in)) t e in
       let r = bind_ok (reads_tree n) pairs_in m.0 (under_ok scope_key (reads_tree n >>= pairs_in) m.0 m.1) in
       subst IsGivenTree m.2 (unfaulted p b.0, pairs_of_given r.0 m.0 (value_given n (λ m u j q. tree_given n m u k j q) r.0 r.1) r.2)
@@ -372,22 +372,22 @@ mutual
   extended_value_given node.max_key t k f e = subst IsGivenTree (ok_is tree.max_key t e) tt
   extended_value_given node.min_key t k f e = subst IsGivenTree (ok_is tree.min_key t e) tt
 
-  items_given : (i : ℕ) (ns : Nodes) (ts : Trees) → AreTame ns → array_trees plain i ns ≡ Ok ts → AreTreesGiven ts
+  items_given : (i : ℕ) (ns : Nodes) (ts : Trees) → AreTame ns → array_trees i ns ≡ Ok ts → AreTreesGiven ts
   items_given i ended ts k e = subst AreTreesGiven (ok_is no_trees ts e) tt
   items_given i (faulty f) ts k e = absurd cc
   items_given i (then_node key n ns) ts k e =
-      let a = bind_ok (under_index i (reads_tree n)) (λ t. result_map (tree.tree t) (array_trees plain (suc i) ns)) ts e in
-      let b = map_ok (tree.tree a.0) (array_trees plain (suc i) ns) ts a.2 in
+      let a = bind_ok (under_index i (reads_tree n)) (λ t. result_map (tree.tree t) (array_trees (suc i) ns)) ts e in
+      let b = map_ok (tree.tree a.0) (array_trees (suc i) ns) ts a.2 in
       subst AreTreesGiven b.2 (value_given n (λ m u j q. tree_given n m u k.1 j q) a.0 (inside_ok (at_index i) (reads_tree n) a.0 a.1), items_given (suc i) ns b.0 k.2 b.1)
 
-  document_given : (ns : Nodes) (ps : Pairs) (t : Tree) → AreTame ns → ArePairsGiven ps → document_tree plain ns ps ≡ Ok t → IsGivenTree t
+  document_given : (ns : Nodes) (ps : Pairs) (t : Tree) → AreTame ns → ArePairsGiven ps → document_tree ns ps ≡ Ok t → IsGivenTree t
   document_given ended ps t k g e = subst IsGivenTree (ok_is (tree.document ps) t e) g
   document_given (faulty f) ps t k g e = absurd cc
   document_given (then_node key n ns) ps t k g e =
-      keyed_given (of_key key.bytes) key.bytes n (λ u. document_tree plain ns (put_pair key.bytes u ps)) (λ x. after_code plain x ns) ns t refl k.1 (value_given n (λ m u j q. tree_given n m u k.1 j q))
+      keyed_given (of_key key.bytes) key.bytes n (λ u. document_tree ns (put_pair key.bytes u ps)) (λ x. after_code x ns) ns t refl k.1 (value_given n (λ m u j q. tree_given n m u k.1 j q))
       (λ u none h q. document_given ns (put_pair key.bytes u ps) t k.2 (put_given key.bytes u ps k.0 none h g) q) (λ x h q. after_code_given x ns t h k.2 q) e
 
-  after_code_given : (x : Utf8) (ns : Nodes) (t : Tree) → is_utf8 x ≡ true → AreTame ns → after_code plain x ns ≡ Ok t → IsGivenTree t
+  after_code_given : (x : Utf8) (ns : Nodes) (t : Tree) → is_utf8 x ≡ true → AreTame ns → after_code x ns ≡ Ok t → IsGivenTree t
   after_code_given x ended t g k e = subst IsGivenTree (ok_is (tree.javascript_code x) t e) g
   after_code_given x (faulty f) t g k e = absurd cc
   after_code_given x (then_node key n ns) t g k e = code_scope (bytes_eq key.bytes scope_key) key.bytes x n t g (value_given n (λ m u j q. tree_given n m u k.1 j q)) e
@@ -427,13 +427,13 @@ id_of_kind : (t : Tree) → IsGivenTree t → nat_eq (byte (kind t)) (byte kinds
 id_of_kind (tree.object_id id) g e = (id, g, refl)
 id_of_kind t g e = absurd cc
 
-id_given : (n m : Node) (t : Tree) → IsTame n → judged plain n ≡ Ok m → object_id_at plain n ≡ Ok t → IsId t
+id_given : (n m : Node) (t : Tree) → IsTame n → judged n ≡ Ok m → object_id_at n ≡ Ok t → IsId t
 id_given (node.extended (node.object_id id) ns) m t k j e = (id.bytes, k.0, sym (ok_is (tree.object_id id.bytes) t e))
 id_given (node.string p) m t k j e =
     let s = some_map tree.object_id (bytes_of_digits 12 p.bytes) t (made_of Oid (id_of_text p.bytes) t e) in (s.0, digits_sized 12 p.bytes s.0 s.1, sym s.2)
-id_given (node.bytes b) m t k j e = let r = map_ok tree.object_id (with_length 12 b.bytes) t e in (r.0, (long_is 12 b.bytes r.0 r.1, subst AreBytes (long_same 12 b.bytes r.0 r.1) k), sym r.2)
+id_given (node.bytes u b) m t k j e = let r = map_ok tree.object_id (with_length 12 b.bytes) t e in (r.0, (long_is 12 b.bytes r.0 r.1, subst AreBytes (long_same 12 b.bytes r.0 r.1) k), sym r.2)
 id_given (node.document ns) m t k j e =
-    let a = bind_ok (as_tree plain (node.document ns)) (tree_of_kind kinds.ObjectId) t e in
+    let a = bind_ok (as_tree (node.document ns)) (tree_of_kind kinds.ObjectId) t e in
     let is = kind_is kinds.ObjectId a.0 t a.2 in
     id_of_kind t (subst IsGivenTree is.0 (tree_given (node.document ns) m a.0 k j a.1)) is.1
 id_given n m t k j e = absurd cc
@@ -455,22 +455,22 @@ uuid_subtype : (c : Bool) (s : ℕ) (x b : Bytes) (r : Reading Bytes) → (r ≡
 uuid_subtype true s x b r other e = long_is 16 x b e
 uuid_subtype false s x b r other e = absurd (other e)
 
-uuid_given : (n : Node) (b : Bytes) → uuid_at plain n ≡ Ok b → length b ≡ 16
+uuid_given : (n : Node) (b : Bytes) → uuid_at n ≡ Ok b → length b ≡ 16
 uuid_given (node.extended (node.binary s x) ns) b e = uuid_subtype (nat_eq s 4) s x.bytes b _ (λ q. cc) e
 uuid_given (node.string p) b e = (uuid_sized p.bytes b (uuid_text (parsed p.bytes) b e)).0
-uuid_given (node.document ns) b e = let a = bind_ok (as_tree plain (node.document ns)) uuid_in b e in uuid_of_tree a.0 b a.2
+uuid_given (node.document ns) b e = let a = bind_ok (as_tree (node.document ns)) uuid_in b e in uuid_of_tree a.0 b a.2
 uuid_given n b e = absurd cc
 
-pub extended_given : (k : ExtendedLeaf) (n m : Node) (v : Marked) → IsTame n → judged plain n ≡ Ok m → read_extended plain k n ≡ Ok v → IsGivenExtended k (contents v)
+pub extended_given : (k : ExtendedLeaf) (n m : Node) (v : Marked) → IsTame n → judged n ≡ Ok m → read_extended k n ≡ Ok v → IsGivenExtended k (contents v)
 extended_given object_ids n m v k j e =
-    let d = datum_given IsId (object_id_at plain n) v (λ t q. id_given n m t k j q) e in (d.1.0, d.1.1, d.2 ∙ ap (datum itself) d.1.2)
-extended_given uuids n m v k j e = let r = map_ok (uuid_datum made) (uuid_at plain n) v e in (r.0, uuid_given n r.0 r.1, ap contents (sym r.2))
+    let d = datum_given IsId (object_id_at n) v (λ t q. id_given n m t k j q) e in (d.1.0, d.1.1, d.2 ∙ ap (datum itself) d.1.2)
+extended_given uuids n m v k j e = let r = map_ok (uuid_datum made) (uuid_at n) v e in (r.0, uuid_given n r.0 r.1, ap contents (sym r.2))
 extended_given (of_kind kind) n m v k j e =
-    let d = datum_given (λ t. IsGivenTree t × (nat_eq (byte (tree.kind t)) (byte kind) ≡ true)) (as_tree plain n >>= tree_of_kind kind) v
-    (λ t q. let a = bind_ok (as_tree plain n) (tree_of_kind kind) t q in let is = kind_is kind a.0 t a.2 in (subst IsGivenTree is.0 (tree_given n m a.0 k j a.1), is.1)) e in
+    let d = datum_given (λ t. IsGivenTree t × (nat_eq (byte (tree.kind t)) (byte kind) ≡ true)) (as_tree n >>= tree_of_kind kind) v
+    (λ t q. let a = bind_ok (as_tree n) (tree_of_kind kind) t q in let is = kind_is kind a.0 t a.2 in (subst IsGivenTree is.0 (tree_given n m a.0 k j a.1), is.1)) e in
     (d.0, d.1.1, d.1.0, d.2)
-extended_given leaf_kinds.trees n m v k j e = datum_given IsGivenTree (as_tree plain n) v (λ t q. tree_given n m t k j q) e
+extended_given leaf_kinds.trees n m v k j e = datum_given IsGivenTree (as_tree n) v (λ t q. tree_given n m t k j q) e
 extended_given documents n m v k j e =
-    let r = map_ok (λ ps. datum made (tree.document ps)) (as_tree plain n >>= pairs_in) v e in
-    let a = bind_ok (as_tree plain n) pairs_in r.0 r.1 in
+    let r = map_ok (λ ps. datum made (tree.document ps)) (as_tree n >>= pairs_in) v e in
+    let a = bind_ok (as_tree n) pairs_in r.0 r.1 in
     (r.0, pairs_of_given a.0 r.0 (tree_given n m a.0 k j a.1) a.2, ap contents (sym r.2) ∙ datum_contents (tree.document r.0))

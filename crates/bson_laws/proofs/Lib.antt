@@ -24,6 +24,7 @@ pub mod ReadBack
 pub mod Rewritten
 pub mod Signed
 pub mod Codec
+pub mod Lent
 pub mod Judged
 pub mod Tame
 pub mod TameBytes
@@ -45,9 +46,13 @@ pub mod TreesRead
 pub mod BodyTexts
 pub mod Represented
 pub mod OpenedTrees
+pub mod RepresentedMended
 pub mod Unmarked
 pub mod GivenTrees
 pub mod GivenExtended
 pub mod GivenAt
 pub mod TreesAgain
 pub mod BareTrees
+pub mod MendedTexts
+pub mod Mended
+pub mod LossyAgain

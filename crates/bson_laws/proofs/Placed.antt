@@ -5,7 +5,7 @@ use Rattle.bson_base.specs.Text.{Utf8}
 use Rattle.bson_base.specs.Outcome.{◌>>=◌, result_map}
 use Rattle.bson_rawdoc.specs.Node.{Node}
 use Rattle.bson_datum.specs.Refusal.{under}
-use Rattle.bson_laws.specs.Judged.{Mode, Reading, ignores}
+use Rattle.bson_laws.specs.Judged.{Reading, ignores}
 use Rattle.bson_laws.specs.Slots.{Slot, Slots, fill_slot, put_at}
 
 abbrev pub names_of : Slots → List Utf8
@@ -32,19 +32,19 @@ mapped_twice f g (Ok x) = refl
 mapped_twice f g (Err e) = refl
 
 -- an element whose key is no name is dropped
-pub put_none : (mode : Mode) (key : Utf8) (n : Node) (slots : Slots) → IsNone key (names_of slots) → put_at mode key n slots ≡ (under key (ignores mode n) >>= λ _. Ok slots)
-put_none mode key n [] h = refl
-put_none mode key n (slot ∷ slots) h =
-    ap (λ b. cond b (result_map (λ x. x ∷ slots) (fill_slot key n slot slot.value)) (result_map (λ xs. slot ∷ xs) (put_at mode key n slots))) h.0
-    ∙ ap (result_map (λ xs. slot ∷ xs)) (put_none mode key n slots h.1)
-    ∙ mapped_then (λ xs. slot ∷ xs) (under key (ignores mode n)) slots
+pub put_none : (key : Utf8) (n : Node) (slots : Slots) → IsNone key (names_of slots) → put_at key n slots ≡ (under key (ignores n) >>= λ _. Ok slots)
+put_none key n [] h = refl
+put_none key n (slot ∷ slots) h =
+    ap (λ b. cond b (result_map (λ x. x ∷ slots) (fill_slot key n slot slot.value)) (result_map (λ xs. slot ∷ xs) (put_at key n slots))) h.0
+    ∙ ap (result_map (λ xs. slot ∷ xs)) (put_none key n slots h.1)
+    ∙ mapped_then (λ xs. slot ∷ xs) (under key (ignores n)) slots
 
 -- an element whose key is a name goes to the slot at the place of the name
-pub put_first : (mode : Mode) (key : Utf8) (n : Node) (slots : Slots) (i : ℕ) (default : Slot) → IsFirst key (names_of slots) i
-    → put_at mode key n slots ≡ result_map (λ filled. set slots i filled) (fill_slot key n (get_or slots i default) (get_or slots i default).value)
-put_first mode key n [] i default h = absurd h
-put_first mode key n (slot ∷ slots) zero default h = ap (λ b. cond b (result_map (λ x. x ∷ slots) (fill_slot key n slot slot.value)) (result_map (λ xs. slot ∷ xs) (put_at mode key n slots))) h
-put_first mode key n (slot ∷ slots) (suc i) default h =
-    ap (λ b. cond b (result_map (λ x. x ∷ slots) (fill_slot key n slot slot.value)) (result_map (λ xs. slot ∷ xs) (put_at mode key n slots))) h.0
-    ∙ ap (result_map (λ xs. slot ∷ xs)) (put_first mode key n slots i default h.1)
+pub put_first : (key : Utf8) (n : Node) (slots : Slots) (i : ℕ) (default : Slot) → IsFirst key (names_of slots) i
+    → put_at key n slots ≡ result_map (λ filled. set slots i filled) (fill_slot key n (get_or slots i default) (get_or slots i default).value)
+put_first key n [] i default h = absurd h
+put_first key n (slot ∷ slots) zero default h = ap (λ b. cond b (result_map (λ x. x ∷ slots) (fill_slot key n slot slot.value)) (result_map (λ xs. slot ∷ xs) (put_at key n slots))) h
+put_first key n (slot ∷ slots) (suc i) default h =
+    ap (λ b. cond b (result_map (λ x. x ∷ slots) (fill_slot key n slot slot.value)) (result_map (λ xs. slot ∷ xs) (put_at key n slots))) h.0
+    ∙ ap (result_map (λ xs. slot ∷ xs)) (put_first key n slots i default h.1)
     ∙ mapped_twice (λ xs. slot ∷ xs) (λ filled. set slots i filled) (fill_slot key n (get_or slots i default) (get_or slots i default).value)

@@ -6,14 +6,13 @@ use Rattle.bson_base.specs.Text.{Bytes, AreBytes}
 use Rattle.bson_base.specs.Tree.{Tree, document, kind, enc}
 use Rattle.bson_base.specs.declared.element_type.ElementType.{ElementType}
 use Rattle.bson_base.specs.declared.element_type.ElementType.TheVariants.{EmbeddedDocument}
-use Rattle.bson_rawdoc.specs.Node.{node_in, tree_node}
+use Rattle.bson_rawdoc.specs.Node.{from_input, from_memory, node_in, tree_node}
 use Rattle.bson_shape.specs.Form.{Form}
 use Rattle.bson_shape.specs.Makers.{IsShape}
 use Rattle.bson_datum.specs.Cause.{raw}
 use Rattle.bson_datum.specs.Marked.{Marked, contents}
 use Rattle.bson_datum.specs.Refusal.{bare, unreadable}
 use Rattle.bson_datum.specs.Value.{Value, kind_of}
-use Rattle.bson_laws.specs.Judged.{plain}
 use Rattle.bson_laws.specs.Reads.{reads, answered, reads_document}
 use Rattle.bson_laws.specs.Spell.{Writing, at_top, spell, spell_document, size}
 use Rattle.bson_laws.proofs.Again.{again}
@@ -22,6 +21,7 @@ use Rattle.bson_laws.proofs.BareTrees.{reads_bare}
 use Rattle.bson_laws.proofs.Codec.{seen_again}
 use Rattle.bson_laws.proofs.Coded.{IsCoded}
 use Rattle.bson_laws.proofs.Documents.{node_read}
+use Rattle.bson_laws.proofs.Lent.{lent_from_input}
 use Rattle.bson_laws.proofs.GivenAt.{reads_given}
 use Rattle.bson_laws.proofs.ReadBack.{envelope_again}
 use Rattle.bson_laws.proofs.Sizes.{spell_kind, length-spell}
@@ -35,10 +35,10 @@ pub document_size : (d : Value) (t : Tree) → spell_document d ≡ Ok t → siz
 document_size d t e = sym (length-spell false d max_levels t (top_ok (kind_of d) (spell d max_levels) t e).1)
 
 -- a document is read from its bytes as from itself
-coded_read : (s : Form) (t : Tree) (m : Marked) → IsCoded t → kind t ≡ EmbeddedDocument → length (enc t) < 2 ^ 31 → reads s plain (tree_node true t max_levels) ≡ Ok m → reads_document s (enc t) ≡ Ok (contents m)
+coded_read : (s : Form) (t : Tree) (m : Marked) → IsCoded t → kind t ≡ EmbeddedDocument → length (enc t) < 2 ^ 31 → reads s (tree_node from_input t max_levels) ≡ Ok m → reads_document s (enc t) ≡ Ok (contents m)
 coded_read s (document ps) m c k small e =
-    ap (λ r. result_map contents (elim r [ Ok b ↦ answered (reads s plain (node_in max_levels EmbeddedDocument b)) | Err f ↦ Err (bare (unreadable (raw f))) ])) (envelope_again ps small)
-    ∙ ap (λ n. result_map contents (answered (reads s plain n))) (seen_again max_levels (document ps) c small)
+    ap (λ r. result_map contents (elim r [ Ok b ↦ answered (reads s (node_in max_levels EmbeddedDocument b)) | Err f ↦ Err (bare (unreadable (raw f))) ])) (envelope_again ps small)
+    ∙ ap (λ n. result_map contents (answered (reads s n))) (seen_again max_levels (document ps) c small)
     ∙ ap (λ q. result_map contents (answered q)) e
 coded_read s t m c k small e = absurd cc
 
@@ -49,7 +49,7 @@ document_again s bytes d t p h e q l =
     let r = node_read s bytes d h e in
     let top = top_ok (kind_of d) (spell d max_levels) t q in
     let given = reads_given s (node_in max_levels EmbeddedDocument r.0) r.1 r.2 r.3 in
-    let k = again (contents r.1) s max_levels t p given (ap (λ v. spell v max_levels) r.4 ∙ top.1) in
+    let k = again from_input (contents r.1) s max_levels t p (lent_from_input s) given (ap (λ v. spell v max_levels) r.4 ∙ top.1) in
     let is : kind t ≡ EmbeddedDocument = spell_kind false d max_levels t top.1 ∙ top.0 in (
       contents k.0,
       coded_read s t k.0 k.3 is (omega (arith, l)) k.1,
@@ -57,7 +57,7 @@ document_again s bytes d t p h e q l =
     )
 
 -- what is read of a finished tree, of which nothing is in the input, is read from its bytes
-pub tree_read : (s : Form) (t : Tree) (m : Marked) → IsCoded t → kind t ≡ EmbeddedDocument → length (enc t) < 2 ^ 31 → reads s plain (tree_node false t max_levels) ≡ Ok m → reads_document s (enc t) ≡ Ok (contents m)
+pub tree_read : (s : Form) (t : Tree) (m : Marked) → IsCoded t → kind t ≡ EmbeddedDocument → length (enc t) < 2 ^ 31 → reads s (tree_node from_memory t max_levels) ≡ Ok m → reads_document s (enc t) ≡ Ok (contents m)
 tree_read s t m c k small e =
-    let h = reads_bare s plain (tree_node true t max_levels) m (ap (reads s plain) (tree_bare t max_levels) ∙ e) in
+    let h = reads_bare s (tree_node from_input t max_levels) m (ap (reads s) (tree_bare from_input t max_levels) ∙ e) in
     coded_read s t h.0 c k small h.1 ∙ ap Ok h.2

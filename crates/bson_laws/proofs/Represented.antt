@@ -13,7 +13,7 @@ use Rattle.bson_base.specs.Tree as tree
 use Rattle.bson_base.specs.Tree.{Tree, depth}
 use Rattle.bson_base.specs.declared.element_type.ElementType.TheVariants.{EmbeddedDocument}
 use Rattle.bson_base.proofs.WrittenTexts.{digits_read, integer_read, base64_read}
-use Rattle.bson_rawdoc.specs.Node.{Node, string, document, int64, extended, Extended, binary, undefined, object_id, date_time, regular_expression, db_pointer, javascript_code, symbol, javascript_code_with_scope, timestamp, decimal128, max_key, min_key, Nodes, ended, one, made_text, or_else, text_fault, fault, opened, opens, piece, one_level, tree_node, pair_nodes}
+use Rattle.bson_rawdoc.specs.Node.{Sight, Node, string, document, int64, extended, Extended, binary, undefined, object_id, date_time, regular_expression, db_pointer, javascript_code, symbol, javascript_code_with_scope, timestamp, decimal128, max_key, min_key, Nodes, ended, one, made_text, or_else, text_fault, fault, opened, opens, piece, one_level, tree_node, pair_nodes}
 use Rattle.bson_rawdoc.specs.Piece.{Piece, made}
 use Rattle.bson_rawdoc.specs.declared.raw.Error.{Error}
 use Rattle.bson_shape.specs.Form.{leaf}
@@ -26,14 +26,14 @@ use Rattle.bson_datum.specs.Wrapper.{of_key}
 use Rattle.bson_datum.specs.declared.wrapper.Wrapper.{Wrapper}
 use Rattle.bson_datum.specs.declared.wrapper.Wrapper.TheVariants as wrappers
 use Rattle.bson_laws.specs.Datum.{sorted_tree}
-use Rattle.bson_laws.specs.Judged.{Mode, Reading, plain, faultless, scope_key}
+use Rattle.bson_laws.specs.Judged.{Reading, faultless, scope_key}
 use Rattle.bson_laws.specs.Leaves.{texts}
 use Rattle.bson_laws.specs.ReadsLeaf.{no_extended, read_leaf_with}
 use Rattle.bson_laws.specs.Represented.{HasRanges, RepresentsItself}
-use Rattle.bson_laws.specs.Taken.{text_in, text_of}
+use Rattle.bson_laws.specs.Taken.{text_of}
 use Rattle.bson_laws.specs.Trees.{or_bad, pairs_in, as_tree, after_code, read_tree}
 use Rattle.bson_laws.specs.Wrapped.{text, with_field, id_of_text, one_byte, binary_of_texts, oid_body, a_text, a_field, two_fields, two_texts, two_numbers}
-use Rattle.bson_laws.proofs.BodyTexts.{made_judged, made_unmended, made_read, unsigned_read, struct_of_one, field_read, both_read, fields_read, fields_read_turned}
+use Rattle.bson_laws.proofs.BodyTexts.{made_judged, made_read, unsigned_read, struct_of_one, field_read, both_read, fields_read, fields_read_turned}
 use Rattle.bson_base.proofs.MadeTexts.{digits_are_text, base64_is_text, number_is_text}
 use Rattle.bson_laws.proofs.ParsedSizes.{ok_there}
 use Rattle.bson_laws.proofs.TreesRead.{clean_readable, read_again}
@@ -48,82 +48,81 @@ as_body key w r = under key (r >>= or_bad w)
 
 -- ---- values whose parts are all made
 
-oid_represented : (mode : Mode) (id : Piece) → HasBytes 12 id.bytes → read_tree mode (document (opened (object_id id))) ≡ Ok (tree.object_id id.bytes)
+oid_represented : (id : Piece) → HasBytes 12 id.bytes → read_tree (document (opened (object_id id))) ≡ Ok (tree.object_id id.bytes)
 unfolding of_key
-oid_represented mode id h =
+oid_represented id h =
     let text = digits id.bytes in
     let utf8 = digits_are_text id.bytes in
-    ap (λ r. as_body (codes "$oid") wrappers.Oid (r >>= oid_body mode)) (made_judged mode text utf8)
-    ∙ ap (λ x. as_body (codes "$oid") wrappers.Oid (Ok (id_of_text x))) (made_unmended mode text utf8)
+    ap (λ r. as_body (codes "$oid") wrappers.Oid (r >>= oid_body)) (made_judged text utf8)
     ∙ ap (λ o. as_body (codes "$oid") wrappers.Oid (Ok (option_map tree.object_id o))) (digits_read 12 id.bytes h.count h.are_bytes)
 
-date_represented : (mode : Mode) (n : ℤ) → FitsSigned w64 n → read_tree mode (document (opened (date_time n))) ≡ Ok (tree.date_time n)
+date_represented : (n : ℤ) → FitsSigned w64 n → read_tree (document (opened (date_time n))) ≡ Ok (tree.date_time n)
 unfolding of_key
-date_represented mode n h =
+date_represented n h =
     ap (λ r. as_body (codes "$date") wrappers.Date (result_map (λ v. a_field (a_text (λ t. option_map tree.date_time (integer_of_text t))) (contents v)) r))
-    (field_read (codes "$numberLong") text mode (made_text (number_text n)) (value.str (made (number_text n))) refl (made_read mode (number_text n) (number_is_text n h)))
+    (field_read (codes "$numberLong") text (made_text (number_text n)) (value.str (made (number_text n))) refl (made_read (number_text n) (number_is_text n h)))
     ∙ ap (λ o. as_body (codes "$date") wrappers.Date (Ok (option_map tree.date_time o))) (integer_read n h)
 
 one_made : (n : ℕ) → n < 256 → AreBytes (n ∷ [])
 one_made n h = All-cons (λ b. b < 256) n [] h (All-nil (λ b. b < 256))
 
-binary_represented : (mode : Mode) (subtype : ℕ) (b : Piece) → subtype < 256 → AreBytes b.bytes → read_tree mode (document (opened (binary subtype b))) ≡ Ok (tree.binary subtype b.bytes)
+binary_represented : (subtype : ℕ) (b : Piece) → subtype < 256 → AreBytes b.bytes → read_tree (document (opened (binary subtype b))) ≡ Ok (tree.binary subtype b.bytes)
 unfolding of_key
-binary_represented mode subtype b small bytes =
+binary_represented subtype b small bytes =
     let first = base64_text b.bytes in
     let second = digits (subtype ∷ []) in
     ap (λ r. as_body (codes "$binary") wrappers.Binary (result_map (λ v. two_texts binary_of_texts (contents v)) r))
-    (fields_read_turned (codes "base64") text (codes "subType") text mode (made_text first) (made_text second) refl refl refl (value.str (made first)) (value.str (made second))
-    (made_read mode first (base64_is_text b.bytes)) (made_read mode second (digits_are_text (subtype ∷ []))))
+    (fields_read_turned (codes "base64") text (codes "subType") text (made_text first) (made_text second) refl refl refl (value.str (made first)) (value.str (made second))
+    (made_read first (base64_is_text b.bytes)) (made_read second (digits_are_text (subtype ∷ []))))
     ∙ ap (λ o. as_body (codes "$binary") wrappers.Binary (Ok (option_and_then (λ x. option_map (λ n. tree.binary n x) (option_and_then one_byte (bytes_of_digits 1 second))) o))) (base64_read b.bytes bytes)
     ∙ ap (λ o. as_body (codes "$binary") wrappers.Binary (Ok (option_map (λ n. tree.binary n b.bytes) (option_and_then one_byte o)))) (digits_read 1 (subtype ∷ []) refl (one_made subtype small))
 
-timestamp_represented : (mode : Mode) (time increment : ℕ) → time < 2 ^ 32 → increment < 2 ^ 32 → read_tree mode (document (opened (timestamp time increment))) ≡ Ok (tree.timestamp time increment)
+timestamp_represented : (time increment : ℕ) → time < 2 ^ 32 → increment < 2 ^ 32 → read_tree (document (opened (timestamp time increment))) ≡ Ok (tree.timestamp time increment)
 unfolding of_key
-timestamp_represented mode time increment h k =
+timestamp_represented time increment h k =
     ap (λ r. as_body (codes "$timestamp") wrappers.Timestamp (result_map (λ v. two_numbers (λ t i. Some (tree.timestamp (unsigned_abs t) (unsigned_abs i))) (contents v)) r))
-    (fields_read (codes "t") (leaf U32) (codes "i") (leaf U32) mode (int64 (pos time)) (int64 (pos increment)) refl refl refl (Ok (value.integer u32 (pos time))) (Ok (value.integer u32 (pos increment)))
-    (unsigned_read mode time h) (unsigned_read mode increment k))
+    (fields_read (codes "t") (leaf U32) (codes "i") (leaf U32) (int64 (pos time)) (int64 (pos increment)) refl refl refl (Ok (value.integer u32 (pos time))) (Ok (value.integer u32 (pos increment)))
+    (unsigned_read time h) (unsigned_read increment k))
 
-decimal_represented : (mode : Mode) (b : Bytes) → length b ≡ 16 → read_tree mode (document (opened (decimal128 b))) ≡ Ok (tree.decimal128 b)
+decimal_represented : (b : Bytes) → length b ≡ 16 → read_tree (document (opened (decimal128 b))) ≡ Ok (tree.decimal128 b)
 unfolding of_key
-decimal_represented mode b h = ap (λ n. as_body (codes "$numberDecimalBytes") wrappers.NumberDecimalBytes (Ok (cond (nat_eq n 16) (Some (tree.decimal128 b)) None))) h
+decimal_represented b h = ap (λ n. as_body (codes "$numberDecimalBytes") wrappers.NumberDecimalBytes (Ok (cond (nat_eq n 16) (Some (tree.decimal128 b)) None))) h
 
 -- ---- values with texts, which may have faults
 
 -- a text, by its fault
-abbrev text_read : Mode → Piece → Option Error → Reading Piece
-text_read mode p o = faultless o (string p) >>= text_of mode false
+abbrev text_read : Piece → Option Error → Reading Piece
+text_read p o = faultless o (string p) >>= text_of false
 
-abbrev text_value : Mode → Piece → Option Error → Reading Marked
-text_value mode p o = faultless o (string p) >>= read_leaf_with no_extended mode false texts
+abbrev text_value : Piece → Option Error → Reading Marked
+text_value p o = faultless o (string p) >>= read_leaf_with no_extended false texts
 
-code_represented : (mode : Mode) (p : Piece) → given (read_tree mode (document (opened (javascript_code p)))) ≡ given (read_tree mode (opens (javascript_code p)))
+code_represented : (p : Piece) → given (read_tree (document (opened (javascript_code p)))) ≡ given (read_tree (opens (javascript_code p)))
 unfolding of_key
-code_represented mode p = by_fault (text_fault mode.lossy p)
+code_represented p = by_fault (text_fault p)
   where
-    by_fault : (o : Option Error) → given (under (codes "$code") (result_map (λ (t : Piece). t.bytes) (text_read mode p o)) >>= λ t. after_code mode t ended) ≡ given (faultless o (opens (javascript_code p)) >>= as_tree mode)
+    by_fault : (o : Option Error) → given (under (codes "$code") (result_map (λ (t : Piece). t.bytes) (text_read p o)) >>= λ t. after_code t ended) ≡ given (faultless o (opens (javascript_code p)) >>= as_tree)
     by_fault None = refl
     by_fault (Some e) = refl
 
-symbol_represented : (mode : Mode) (p : Piece) → given (read_tree mode (document (opened (symbol p)))) ≡ given (read_tree mode (opens (symbol p)))
+symbol_represented : (p : Piece) → given (read_tree (document (opened (symbol p)))) ≡ given (read_tree (opens (symbol p)))
 unfolding of_key
-symbol_represented mode p = by_fault (text_fault mode.lossy p)
+symbol_represented p = by_fault (text_fault p)
   where
-    by_fault : (o : Option Error) → given (as_body (codes "$symbol") wrappers.Symbol (result_map (λ t. Some (tree.symbol t)) (result_map (λ (t : Piece). t.bytes) (text_read mode p o)))) ≡ given (faultless o (opens (symbol p)) >>= as_tree mode)
+    by_fault : (o : Option Error) → given (as_body (codes "$symbol") wrappers.Symbol (result_map (λ t. Some (tree.symbol t)) (result_map (λ (t : Piece). t.bytes) (text_read p o)))) ≡ given (faultless o (opens (symbol p)) >>= as_tree)
     by_fault None = refl
     by_fault (Some e) = refl
 
-expression_represented : (mode : Mode) (p q : Piece) → given (read_tree mode (document (opened (regular_expression p q)))) ≡ given (read_tree mode (opens (regular_expression p q)))
+expression_represented : (p q : Piece) → given (read_tree (document (opened (regular_expression p q)))) ≡ given (read_tree (opens (regular_expression p q)))
 unfolding of_key
-expression_represented mode p q =
+expression_represented p q =
     ap (λ r. given (as_body (codes "$regularExpression") wrappers.RegularExpression (result_map (λ v. two_texts (λ x o. Some (tree.regular_expression x (sorted o))) (contents v)) r)))
-    (fields_read (codes "pattern") text (codes "options") text mode (string p) (string q) refl refl refl (text_value mode p (text_fault mode.lossy p)) (text_value mode q (text_fault mode.lossy q)) refl refl)
-    ∙ by_faults (text_fault mode.lossy p) (text_fault mode.lossy q)
+    (fields_read (codes "pattern") text (codes "options") text (string p) (string q) refl refl refl (text_value p (text_fault p)) (text_value q (text_fault q)) refl refl)
+    ∙ by_faults (text_fault p) (text_fault q)
   where
     by_faults : (o e : Option Error)
-        → given (as_body (codes "$regularExpression") wrappers.RegularExpression (result_map (λ v. two_texts (λ x o. Some (tree.regular_expression x (sorted o))) (contents v)) (both_read (codes "pattern") (text_value mode p o) (codes "options") (text_value mode q e))))
-        ≡ given (faultless (or_else o e) (opens (regular_expression p q)) >>= as_tree mode)
+        → given (as_body (codes "$regularExpression") wrappers.RegularExpression (result_map (λ v. two_texts (λ x o. Some (tree.regular_expression x (sorted o))) (contents v)) (both_read (codes "pattern") (text_value p o) (codes "options") (text_value q e))))
+        ≡ given (faultless (or_else o e) (opens (regular_expression p q)) >>= as_tree)
     by_faults None None = refl
     by_faults None (Some f) = refl
     by_faults (Some f) e = refl
@@ -131,65 +130,65 @@ expression_represented mode p q =
 abbrev pointer_of : Value → Option Tree
 pointer_of = two_fields (λ v w. a_text (λ t. a_field (a_text (λ id. option_map (tree.db_pointer t) (bytes_of_digits 12 id))) w) v)
 
-pointer_represented : (mode : Mode) (p : Piece) (id : Bytes) → HasBytes 12 id → given (read_tree mode (document (opened (db_pointer p id)))) ≡ given (read_tree mode (opens (db_pointer p id)))
+pointer_represented : (p : Piece) (id : Bytes) → HasBytes 12 id → given (read_tree (document (opened (db_pointer p id)))) ≡ given (read_tree (opens (db_pointer p id)))
 unfolding of_key
-pointer_represented mode p id h =
+pointer_represented p id h =
     ap (λ r. given (as_body (codes "$dbPointer") wrappers.DbPointer (result_map (λ v. pointer_of (contents v)) r)))
-    (fields_read (codes "$ref") text (codes "$id") (with_field (codes "$oid") text) mode (string p) (document (one (codes "$oid") (made_text (digits id)))) refl refl refl
-    (text_value mode p (text_fault mode.lossy p)) (Ok (struct_of_one (codes "$oid") (value.str (made (digits id))))) refl
-    (field_read (codes "$oid") text mode (made_text (digits id)) (value.str (made (digits id))) refl (made_read mode (digits id) (digits_are_text id))))
-    ∙ by_fault (text_fault mode.lossy p)
+    (fields_read (codes "$ref") text (codes "$id") (with_field (codes "$oid") text) (string p) (document (one (codes "$oid") (made_text (digits id)))) refl refl refl
+    (text_value p (text_fault p)) (Ok (struct_of_one (codes "$oid") (value.str (made (digits id))))) refl
+    (field_read (codes "$oid") text (made_text (digits id)) (value.str (made (digits id))) refl (made_read (digits id) (digits_are_text id))))
+    ∙ by_fault (text_fault p)
   where
     by_fault : (o : Option Error)
-        → given (as_body (codes "$dbPointer") wrappers.DbPointer (result_map (λ v. pointer_of (contents v)) (both_read (codes "$ref") (text_value mode p o) (codes "$id") (Ok (struct_of_one (codes "$oid") (value.str (made (digits id))))))))
-        ≡ given (faultless o (opens (db_pointer p id)) >>= as_tree mode)
-    by_fault None = ap (λ x. given (as_body (codes "$dbPointer") wrappers.DbPointer (Ok (option_map (tree.db_pointer (text_in mode p).bytes) x)))) (digits_read 12 id h.count h.are_bytes)
+        → given (as_body (codes "$dbPointer") wrappers.DbPointer (result_map (λ v. pointer_of (contents v)) (both_read (codes "$ref") (text_value p o) (codes "$id") (Ok (struct_of_one (codes "$oid") (value.str (made (digits id))))))))
+        ≡ given (faultless o (opens (db_pointer p id)) >>= as_tree)
+    by_fault None = ap (λ x. given (as_body (codes "$dbPointer") wrappers.DbPointer (Ok (option_map (tree.db_pointer p.bytes) x)))) (digits_read 12 id h.count h.are_bytes)
     by_fault (Some e) = refl
 
 -- a code, by its fault and that of its scope
-scope_represented : (mode : Mode) (p : Piece) (scope : Node) → given (read_tree mode (document (opened (javascript_code_with_scope p scope)))) ≡ given (read_tree mode (opens (javascript_code_with_scope p scope)))
+scope_represented : (p : Piece) (scope : Node) → given (read_tree (document (opened (javascript_code_with_scope p scope)))) ≡ given (read_tree (opens (javascript_code_with_scope p scope)))
 unfolding of_key
-scope_represented mode p scope = by_fault (text_fault mode.lossy p)
+scope_represented p scope = by_fault (text_fault p)
   where
-    by_scope : (o : Option Error) → fault mode.lossy scope ≡ o
-        → given (after_code mode (text_in mode p).bytes (one scope_key scope)) ≡ given (faultless o (opens (javascript_code_with_scope p scope)) >>= as_tree mode)
+    by_scope : (o : Option Error) → fault scope ≡ o
+        → given (after_code p.bytes (one scope_key scope)) ≡ given (faultless o (opens (javascript_code_with_scope p scope)) >>= as_tree)
     by_scope None e = refl
-    by_scope (Some f) e = ap (λ o. given (result_map (tree.javascript_code_with_scope (text_in mode p).bytes) (under scope_key ((faultless o scope >>= λ _. as_tree mode scope) >>= pairs_in)))) e
+    by_scope (Some f) e = ap (λ o. given (result_map (tree.javascript_code_with_scope p.bytes) (under scope_key ((faultless o scope >>= λ _. as_tree scope) >>= pairs_in)))) e
 
     by_fault : (o : Option Error)
-        → given (under (codes "$code") (result_map (λ (t : Piece). t.bytes) (text_read mode p o)) >>= λ t. after_code mode t (one scope_key scope))
-        ≡ given (faultless (or_else o (fault mode.lossy scope)) (opens (javascript_code_with_scope p scope)) >>= as_tree mode)
-    by_fault None = by_scope (fault mode.lossy scope) refl
+        → given (under (codes "$code") (result_map (λ (t : Piece). t.bytes) (text_read p o)) >>= λ t. after_code t (one scope_key scope))
+        ≡ given (faultless (or_else o (fault scope)) (opens (javascript_code_with_scope p scope)) >>= as_tree)
+    by_fault None = by_scope (fault scope) refl
     by_fault (Some e) = refl
 
 -- ---- all values
 
-undefined_represented : (mode : Mode) → read_tree mode (document (opened undefined)) ≡ Ok tree.undefined
+undefined_represented : read_tree (document (opened undefined)) ≡ Ok tree.undefined
 unfolding of_key
-undefined_represented mode = refl
+undefined_represented = refl
 
-max_represented : (mode : Mode) → read_tree mode (document (opened max_key)) ≡ Ok tree.max_key
+max_represented : read_tree (document (opened max_key)) ≡ Ok tree.max_key
 unfolding of_key
-max_represented mode = refl
+max_represented = refl
 
-min_represented : (mode : Mode) → read_tree mode (document (opened min_key)) ≡ Ok tree.min_key
+min_represented : read_tree (document (opened min_key)) ≡ Ok tree.min_key
 unfolding of_key
-min_represented mode = refl
+min_represented = refl
 
 pub represents_itself : RepresentsItself
-represents_itself mode (binary subtype b) h = ap given (binary_represented mode subtype b h.0 h.1)
-represents_itself mode undefined h = ap given (undefined_represented mode)
-represents_itself mode (object_id id) h = ap given (oid_represented mode id h)
-represents_itself mode (date_time n) h = ap given (date_represented mode n h)
-represents_itself mode (regular_expression p q) h = expression_represented mode p q
-represents_itself mode (db_pointer p id) h = pointer_represented mode p id h
-represents_itself mode (javascript_code p) h = code_represented mode p
-represents_itself mode (symbol p) h = symbol_represented mode p
-represents_itself mode (javascript_code_with_scope p scope) h = scope_represented mode p scope
-represents_itself mode (timestamp time increment) h = ap given (timestamp_represented mode time increment h.0 h.1)
-represents_itself mode (decimal128 b) h = ap given (decimal_represented mode b h)
-represents_itself mode max_key h = ap given (max_represented mode)
-represents_itself mode min_key h = ap given (min_represented mode)
+represents_itself (binary subtype b) h = ap given (binary_represented subtype b h.0 h.1)
+represents_itself undefined h = ap given undefined_represented
+represents_itself (object_id id) h = ap given (oid_represented id h)
+represents_itself (date_time n) h = ap given (date_represented n h)
+represents_itself (regular_expression p q) h = expression_represented p q
+represents_itself (db_pointer p id) h = pointer_represented p id h
+represents_itself (javascript_code p) h = code_represented p
+represents_itself (symbol p) h = symbol_represented p
+represents_itself (javascript_code_with_scope p scope) h = scope_represented p scope
+represents_itself (timestamp time increment) h = ap given (timestamp_represented time increment h.0 h.1)
+represents_itself (decimal128 b) h = ap given (decimal_represented b h)
+represents_itself max_key h = ap given max_represented
+represents_itself min_key h = ap given min_represented
 
 -- ---- clean values
 
@@ -200,29 +199,29 @@ extended_is x y ns ms e = cc
 same_ranges : (x y : Extended) → opens x ≡ opens y → HasRanges x → HasRanges y
 same_ranges x y e h = subst HasRanges (extended_is x y (opened x) (opened y) e) h
 
-clean_ranges : (in_input : Bool) (t : Tree) (levels : ℕ) (x : Extended) → IsClean t → tree_node in_input t levels ≡ opens x → HasRanges x
-clean_ranges in_input (tree.document ps) zero x c e = absurd cc
-clean_ranges in_input (tree.document ps) (suc n) x c e = absurd cc
-clean_ranges in_input (tree.array ts) zero x c e = absurd cc
-clean_ranges in_input (tree.array ts) (suc n) x c e = absurd cc
-clean_ranges in_input (tree.binary zero b) levels x c e = absurd cc
-clean_ranges in_input (tree.binary (suc n) b) levels x c e = same_ranges (binary (suc n) (piece in_input b)) x e (c.is_byte, c.are_bytes)
-clean_ranges in_input tree.undefined levels x c e = same_ranges undefined x e tt
-clean_ranges in_input (tree.object_id id) levels x c e = same_ranges (object_id (piece in_input id)) x e c
-clean_ranges in_input (tree.date_time n) levels x c e = same_ranges (date_time n) x e c
-clean_ranges in_input (tree.regular_expression p q) levels x c e = same_ranges (regular_expression (piece in_input p) (piece in_input q)) x e tt
-clean_ranges in_input (tree.db_pointer namespace id) levels x c e = same_ranges (db_pointer (piece in_input namespace) id) x e c.1
-clean_ranges in_input (tree.javascript_code t) levels x c e = same_ranges (javascript_code (piece in_input t)) x e tt
-clean_ranges in_input (tree.symbol t) levels x c e = same_ranges (symbol (piece in_input t)) x e tt
-clean_ranges in_input (tree.javascript_code_with_scope code scope) levels x c e =
-    same_ranges (javascript_code_with_scope (piece in_input code) (one_level EmbeddedDocument (pair_nodes in_input scope) levels)) x e tt
-clean_ranges in_input (tree.timestamp time increment) levels x c e = same_ranges (timestamp time increment) x e c
-clean_ranges in_input (tree.decimal128 b) levels x c e = same_ranges (decimal128 b) x e c.count
-clean_ranges in_input tree.max_key levels x c e = same_ranges max_key x e tt
-clean_ranges in_input tree.min_key levels x c e = same_ranges min_key x e tt
-clean_ranges in_input t levels x c e = absurd cc
+clean_ranges : (at : Sight) (t : Tree) (levels : ℕ) (x : Extended) → IsClean t → tree_node at t levels ≡ opens x → HasRanges x
+clean_ranges at (tree.document ps) zero x c e = absurd cc
+clean_ranges at (tree.document ps) (suc n) x c e = absurd cc
+clean_ranges at (tree.array ts) zero x c e = absurd cc
+clean_ranges at (tree.array ts) (suc n) x c e = absurd cc
+clean_ranges at (tree.binary zero b) levels x c e = absurd cc
+clean_ranges at (tree.binary (suc n) b) levels x c e = same_ranges (binary (suc n) (piece at.bytes b)) x e (c.is_byte, c.are_bytes)
+clean_ranges at tree.undefined levels x c e = same_ranges undefined x e tt
+clean_ranges at (tree.object_id id) levels x c e = same_ranges (object_id (piece at.bytes id)) x e c
+clean_ranges at (tree.date_time n) levels x c e = same_ranges (date_time n) x e c
+clean_ranges at (tree.regular_expression p q) levels x c e = same_ranges (regular_expression (piece at.texts p) (piece at.texts q)) x e tt
+clean_ranges at (tree.db_pointer namespace id) levels x c e = same_ranges (db_pointer (piece at.texts namespace) id) x e c.1
+clean_ranges at (tree.javascript_code t) levels x c e = same_ranges (javascript_code (piece at.texts t)) x e tt
+clean_ranges at (tree.symbol t) levels x c e = same_ranges (symbol (piece at.texts t)) x e tt
+clean_ranges at (tree.javascript_code_with_scope code scope) levels x c e =
+    same_ranges (javascript_code_with_scope (piece at.texts code) (one_level EmbeddedDocument (pair_nodes at scope) levels)) x e tt
+clean_ranges at (tree.timestamp time increment) levels x c e = same_ranges (timestamp time increment) x e c
+clean_ranges at (tree.decimal128 b) levels x c e = same_ranges (decimal128 b) x e c.count
+clean_ranges at tree.max_key levels x c e = same_ranges max_key x e tt
+clean_ranges at tree.min_key levels x c e = same_ranges min_key x e tt
+clean_ranges at t levels x c e = absurd cc
 
-pub clean_represented : (in_input : Bool) (t : Tree) (levels : ℕ) (x : Extended) → IsClean t → depth t ≤ levels → tree_node in_input t levels ≡ opens x → read_tree plain (document (opened x)) ≡ Ok (sorted_tree t)
-clean_represented in_input t levels x c d e =
-    let read : read_tree plain (opens x) ≡ Ok (sorted_tree t) = ap (read_tree plain) (sym e) ∙ read_again in_input t levels (clean_readable t c) d in
-    ok_there (read_tree plain (document (opened x))) (sorted_tree t) (represents_itself plain x (clean_ranges in_input t levels x c e) ∙ ap given read)
+pub clean_represented : (at : Sight) (t : Tree) (levels : ℕ) (x : Extended) → IsClean t → depth t ≤ levels → tree_node at t levels ≡ opens x → read_tree (document (opened x)) ≡ Ok (sorted_tree t)
+clean_represented at t levels x c d e =
+    let read : read_tree (opens x) ≡ Ok (sorted_tree t) = ap read_tree (sym e) ∙ read_again at t levels (clean_readable t c) d in
+    ok_there (read_tree (document (opened x))) (sorted_tree t) (represents_itself x (clean_ranges at t levels x c e) ∙ ap given read)

@@ -7,7 +7,7 @@ use Rattle.bson_base.specs.Text.{AreBytes}
 use Rattle.bson_base.proofs.Outcomes.{ok_is, bind_ok}
 use Rattle.bson_rawdoc.specs.Node.{Node, double, bytes, binary, document, array, int32, int64, extended, too_deep, Extended, object_id, date_time, db_pointer, javascript_code_with_scope, timestamp, decimal128, Nodes, ended, faulty, then_node, fault}
 use Rattle.bson_rawdoc.specs.declared.raw.Error.{Error}
-use Rattle.bson_laws.specs.Judged.{Reading, Mode, with_level, faultless, judged}
+use Rattle.bson_laws.specs.Judged.{Reading, with_level, faultless, judged}
 use Rattle.bson_laws.specs.Taken.{document_of, array_of}
 use Rattle.bson_laws.proofs.Coded.{IsName}
 
@@ -16,7 +16,7 @@ abbrev mutual
   IsTame (double bits) = length bits ≡ 8
   IsTame (int32 n) = FitsSigned w32 n
   IsTame (int64 n) = FitsSigned w64 n
-  IsTame (bytes b) = AreBytes b.bytes
+  IsTame (bytes u b) = AreBytes b.bytes
   IsTame (document ns) = AreTame ns
   IsTame (array ns) = AreTame ns
   IsTame (extended x ns) = IsTameValue x × AreTame ns
@@ -48,16 +48,16 @@ faultless_is : (o : Option Error) (n m : Node) → faultless o n ≡ Ok m → n 
 faultless_is None n m e = level_is n m e
 faultless_is (Some f) n m e = absurd cc
 
-pub judged_is : (mode : Mode) (n m : Node) → judged mode n ≡ Ok m → n ≡ m
-judged_is mode n m e = faultless_is (fault mode.lossy n) n m e
+pub judged_is : (n m : Node) → judged n ≡ Ok m → n ≡ m
+judged_is n m e = faultless_is (fault n) n m e
 
 -- what is read from a judged value is read from the value
-pub after_judged : {A : Type 0} (mode : Mode) (n : Node) (read : Node → Reading A) (x : A) → (judged mode n >>= read) ≡ Ok x → read n ≡ Ok x
-after_judged mode n read x e = let j = bind_ok (judged mode n) read x e in subst (λ m. read m ≡ Ok x) (sym (judged_is mode n j.0 j.1)) j.2
+pub after_judged : {A : Type 0} (n : Node) (read : Node → Reading A) (x : A) → (judged n >>= read) ≡ Ok x → read n ≡ Ok x
+after_judged n read x e = let j = bind_ok (judged n) read x e in subst (λ m. read m ≡ Ok x) (sym (judged_is n j.0 j.1)) j.2
 
 -- and what is read from the value is read from the judged one
-pub judged_then : {A : Type 0} (mode : Mode) (n : Node) (read : Node → Reading A) (x : A) → (judged mode n >>= λ _. read n) ≡ Ok x → (judged mode n >>= read) ≡ Ok x
-judged_then mode n read x e = let j = bind_ok (judged mode n) (λ _. read n) x e in ap (λ r. r >>= read) j.1 ∙ ap read (sym (judged_is mode n j.0 j.1)) ∙ j.2
+pub judged_then : {A : Type 0} (n : Node) (read : Node → Reading A) (x : A) → (judged n >>= λ _. read n) ≡ Ok x → (judged n >>= read) ≡ Ok x
+judged_then n read x e = let j = bind_ok (judged n) (λ _. read n) x e in ap (λ r. r >>= read) j.1 ∙ ap read (sym (judged_is n j.0 j.1)) ∙ j.2
 
 -- ---- documents and arrays
 

@@ -8,7 +8,7 @@ use Rattle.bson_base.specs.Tree as tree
 use Rattle.bson_base.specs.Tree.{Tree, Pairs, no_pairs, pair, Trees, no_trees, kind, depth, pairs_depth, trees_depth}
 use Rattle.bson_base.specs.declared.element_type.ElementType.{ElementType}
 use Rattle.bson_base.proofs.Outcomes.{some_is, ok_is, map_ok, bind_ok}
-use Rattle.bson_rawdoc.specs.Node.{tree_node}
+use Rattle.bson_rawdoc.specs.Node.{Sight, tree_node}
 use Rattle.bson_rawdoc.specs.Piece.{made}
 use Rattle.bson_datum.specs.Cause.{wrong_kind, invalid_length}
 use Rattle.bson_datum.specs.Marked.{Marked, contents}
@@ -19,7 +19,7 @@ use Rattle.bson_reserved.specs.Written.{Writing, with_scope}
 use Rattle.bson_laws.specs.Datum.{datum, itself, pair_data, tree_data, uuid_datum}
 use Rattle.bson_laws.specs.Leaves as leaf_kinds
 use Rattle.bson_laws.specs.Leaves.{ExtendedLeaf, object_ids, uuids, of_kind, documents}
-use Rattle.bson_laws.specs.Judged.{Reading, plain, refused, judged}
+use Rattle.bson_laws.specs.Judged.{Reading, refused, judged}
 use Rattle.bson_laws.specs.Trees.{as_tree, pairs_in}
 use Rattle.bson_laws.specs.ReadsExtended.{tree_of_kind, read_extended}
 use Rattle.bson_laws.specs.Spell.{enclosed_at, spell_key, spell, spell_items, spell_entries}
@@ -44,7 +44,7 @@ within P container (suc n) parts t e f = let m = map_ok container (parts n) t e 
 mutual
   pub datum_spelled : (t : Tree) (levels : ℕ) (u : Tree) → IsGivenTree t → spell (datum itself t) levels ≡ Ok u → SpelledAs levels t u
   datum_spelled (tree.double bits) levels u g e = (sym (ok_is (tree.double bits) u e), omega arith, g)
-  datum_spelled (tree.string x) levels u g e = (sym (ok_is (tree.string x) u e), omega arith, tt)
+  datum_spelled (tree.string x) levels u g e = (sym (ok_is (tree.string x) u e), omega arith, g)
   datum_spelled (tree.document ps) levels u g e =
       within (λ n x. SpelledAs n (tree.document ps) x) tree.document levels (spell_entries (pair_data itself ps)) u e
       (λ n qs q. let h = pairs_spelled ps n qs g q in (ap tree.document h.0, omega (arith, h.1), h.2))
@@ -58,17 +58,17 @@ mutual
   datum_spelled (tree.boolean b) levels u g e = (sym (ok_is (tree.boolean b) u e), omega arith, tt)
   datum_spelled (tree.date_time n) levels u g e = (taken_whole (tree.date_time n) u _ (accepted (tree.date_time n) g) refl e, omega arith, g)
   datum_spelled tree.null levels u g e = (sym (ok_is tree.null u e), omega arith, tt)
-  datum_spelled (tree.regular_expression p q) levels u g e = let h = expression_spelled p q u e in (h.0 ∙ ap (tree.regular_expression p) g.2, omega arith, (h.1, h.2))
-  datum_spelled (tree.db_pointer namespace id) levels u g e = (taken_whole (tree.db_pointer namespace id) u _ (accepted (tree.db_pointer namespace id) (g.1, g.2)) refl e, omega arith, g.1)
-  datum_spelled (tree.javascript_code x) levels u g e = (taken_whole (tree.javascript_code x) u _ (accepted (tree.javascript_code x) tt) refl e, omega arith, tt)
-  datum_spelled (tree.symbol x) levels u g e = (taken_whole (tree.symbol x) u _ (accepted (tree.symbol x) tt) refl e, omega arith, tt)
+  datum_spelled (tree.regular_expression p q) levels u g e = let h = expression_spelled p q u e in (h.0 ∙ ap (tree.regular_expression p) g.2, omega arith, ((g.0, h.1), (g.1, h.2)))
+  datum_spelled (tree.db_pointer namespace id) levels u g e = (taken_whole (tree.db_pointer namespace id) u _ (accepted (tree.db_pointer namespace id) (g.1, g.2)) refl e, omega arith, (g.0, g.1))
+  datum_spelled (tree.javascript_code x) levels u g e = (taken_whole (tree.javascript_code x) u _ (accepted (tree.javascript_code x) tt) refl e, omega arith, g)
+  datum_spelled (tree.symbol x) levels u g e = (taken_whole (tree.symbol x) u _ (accepted (tree.symbol x) tt) refl e, omega arith, g)
   datum_spelled (tree.javascript_code_with_scope code scope) levels u g e =
       let parts = spell_entries (pair_data itself scope) in
       let t = tree.javascript_code_with_scope code scope in
       let m = map_ok (with_scope code) (under (codes "$scope") (enclosed_at tree.document levels parts)) u e in
       subst (SpelledAs levels t) m.2
       (within (λ n x. SpelledAs n t (with_scope code x)) tree.document levels parts m.0 (under_ok (codes "$scope") (enclosed_at tree.document levels parts) m.0 m.1)
-      (λ n qs q. let h = pairs_spelled scope n qs g.1 q in (ap (tree.javascript_code_with_scope code) h.0, omega (arith, h.1), h.2)))
+      (λ n qs q. let h = pairs_spelled scope n qs g.1 q in (ap (tree.javascript_code_with_scope code) h.0, omega (arith, h.1), (g.0, h.2))))
   datum_spelled (tree.int32 n) levels u g e = (sym (ok_is (tree.int32 n) u e), omega arith, g)
   datum_spelled (tree.timestamp time increment) levels u g e = (taken_whole (tree.timestamp time increment) u _ (accepted (tree.timestamp time increment) g) refl e, omega arith, g)
   datum_spelled (tree.int64 n) levels u g e = (sym (wide_is _ _ n u e), omega arith, g)
@@ -101,13 +101,13 @@ mutual
 -- ---- what is read again
 
 -- a tree that is given is read as itself
-pub reads_itself : (t : Tree) (levels : ℕ) → IsGivenTree t → depth t ≤ levels → (judged plain (tree_node true t levels) >>= λ _. as_tree plain (tree_node true t levels)) ≡ Ok t
-reads_itself t levels g d =
-    ap (λ r. r >>= λ _. as_tree plain (tree_node true t levels)) (judged_readable true t levels (given_readable t g) d) ∙ tree_again true t levels (given_readable t g) d ∙ ap Ok (given_sorted t g)
+pub reads_itself : (at : Sight) (t : Tree) (levels : ℕ) → IsGivenTree t → depth t ≤ levels → (judged (tree_node at t levels) >>= λ _. as_tree (tree_node at t levels)) ≡ Ok t
+reads_itself at t levels g d =
+    ap (λ r. r >>= λ _. as_tree (tree_node at t levels)) (judged_readable at t levels (given_readable t g) d) ∙ tree_again at t levels (given_readable t g) d ∙ ap Ok (given_sorted t g)
 
 -- what is given at the leaf and spelled is read again there, as what is spelled as the same
-abbrev pub Comes : ExtendedLeaf → ℕ → Tree → Type 0
-Comes k levels t = (m : Marked) × ((judged plain (tree_node true t levels) >>= λ _. read_extended plain k (tree_node true t levels)) ≡ Ok m) × (spell (contents m) levels ≡ Ok t) × IsCoded t
+abbrev pub Comes : (at : Sight) → ExtendedLeaf → ℕ → Tree → Type 0
+Comes at k levels t = (m : Marked) × ((judged (tree_node at t levels) >>= λ _. read_extended k (tree_node at t levels)) ≡ Ok m) × (spell (contents m) levels ≡ Ok t) × IsCoded t
 
 of_judged : {A : Type 0} (r : Reading A) (s : Reading Tree) (f : Reading Tree → Reading Marked) (t : Tree) (m : Marked) → (r >>= λ _. s) ≡ Ok t → (s ≡ Ok t → f s ≡ Ok m) → (r >>= λ _. f s) ≡ Ok m
 of_judged (Ok x) s f t m e h = h e
@@ -120,42 +120,42 @@ spelled_same P t u v levels g is e f =
     let h = datum_spelled t levels u g q in
     subst (P levels) (sym h.0) (f h.1 h.2 (ap (λ x. spell x levels) (datum_contents t) ∙ q ∙ ap Ok h.0))
 
-uuid_kept : (b : Bytes) → length b ≡ 16 → read_extended plain uuids (tree_node true (tree.binary 4 b) 0) ≡ Ok (uuid_datum made b)
-uuid_kept b h = ap (λ n. result_map (uuid_datum made) (cond (nat_eq n 16) (Ok b) (refused (invalid_length n)))) h
+uuid_kept : (at : Sight) (b : Bytes) → length b ≡ 16 → read_extended uuids (tree_node at (tree.binary 4 b) 0) ≡ Ok (uuid_datum made b)
+uuid_kept at b h = ap (λ n. result_map (uuid_datum made) (cond (nat_eq n 16) (Ok b) (refused (invalid_length n)))) h
 
 kind_kept : (k : ElementType) (t : Tree) → nat_eq (byte (kind t)) (byte k) ≡ true → tree_of_kind k t ≡ Ok t
 kind_kept k t e = ap (λ b. cond b (Ok t) (refused (wrong_kind (kind t)))) e
 
-pub extended_comes : (k : ExtendedLeaf) (v : Value) (levels : ℕ) (t : Tree) → IsGivenExtended k v → spell v levels ≡ Ok t → Comes k levels t
-extended_comes object_ids v levels t g e =
-    spelled_same (Comes object_ids) (tree.object_id g.0) t v levels g.1 g.2 e (λ d c s. (datum made (tree.object_id g.0), refl, s, c))
-extended_comes uuids v levels t g e =
+pub extended_comes : (at : Sight) (k : ExtendedLeaf) (v : Value) (levels : ℕ) (t : Tree) → IsGivenExtended k v → spell v levels ≡ Ok t → Comes at k levels t
+extended_comes at object_ids v levels t g e =
+    spelled_same (Comes at object_ids) (tree.object_id g.0) t v levels g.1 g.2 e (λ d c s. (datum made (tree.object_id g.0), refl, s, c))
+extended_comes at uuids v levels t g e =
     let q : spell (uuid_datum itself g.0) levels ≡ Ok t = ap (λ x. spell x levels) (sym g.2) ∙ e in
     let is : t ≡ tree.binary 4 g.0 = sym (binary_is _ _ 4 g.0 t q) in
-    subst (λ u. spell (uuid_datum itself g.0) levels ≡ Ok u → Comes uuids levels u) (sym is) (λ r. (uuid_datum made g.0, uuid_kept g.0 g.1, r, tt)) q
-extended_comes (of_kind k) v levels t g e =
-    spelled_same (Comes (of_kind k)) g.0 t v levels g.2 g.3 e
+    subst (λ u. spell (uuid_datum itself g.0) levels ≡ Ok u → Comes at uuids levels u) (sym is) (λ r. (uuid_datum made g.0, uuid_kept at g.0 g.1, r, tt)) q
+extended_comes at (of_kind k) v levels t g e =
+    spelled_same (Comes at (of_kind k)) g.0 t v levels g.2 g.3 e
     (λ d c s. (
       datum made g.0,
-      of_judged (judged plain (tree_node true g.0 levels)) (as_tree plain (tree_node true g.0 levels)) (λ r. result_map (datum made) (r >>= tree_of_kind k)) g.0 (datum made g.0) (reads_itself g.0 levels g.2 d)
+      of_judged (judged (tree_node at g.0 levels)) (as_tree (tree_node at g.0 levels)) (λ r. result_map (datum made) (r >>= tree_of_kind k)) g.0 (datum made g.0) (reads_itself at g.0 levels g.2 d)
           (λ q. ap (λ r. result_map (datum made) (r >>= tree_of_kind k)) q ∙ ap (result_map (datum made)) (kind_kept k g.0 g.1)),
       s,
       c,
     ))
-extended_comes leaf_kinds.trees v levels t g e =
-    spelled_same (Comes leaf_kinds.trees) g.0 t v levels g.1 g.2 e
+extended_comes at leaf_kinds.trees v levels t g e =
+    spelled_same (Comes at leaf_kinds.trees) g.0 t v levels g.1 g.2 e
     (λ d c s. (
       datum made g.0,
-      of_judged (judged plain (tree_node true g.0 levels)) (as_tree plain (tree_node true g.0 levels)) (result_map (datum made)) g.0 (datum made g.0) (reads_itself g.0 levels g.1 d) (λ q. ap (result_map (datum made)) q),
+      of_judged (judged (tree_node at g.0 levels)) (as_tree (tree_node at g.0 levels)) (result_map (datum made)) g.0 (datum made g.0) (reads_itself at g.0 levels g.1 d) (λ q. ap (result_map (datum made)) q),
       s,
       c,
     ))
-extended_comes documents v levels t g e =
+extended_comes at documents v levels t g e =
     let u = tree.document g.0 in
-    spelled_same (Comes documents) u t v levels g.1 g.2 e
+    spelled_same (Comes at documents) u t v levels g.1 g.2 e
     (λ d c s. (
       datum made u,
-      of_judged (judged plain (tree_node true u levels)) (as_tree plain (tree_node true u levels)) (λ r. result_map (λ ps. datum made (tree.document ps)) (r >>= pairs_in)) u (datum made u) (reads_itself u levels g.1 d)
+      of_judged (judged (tree_node at u levels)) (as_tree (tree_node at u levels)) (λ r. result_map (λ ps. datum made (tree.document ps)) (r >>= pairs_in)) u (datum made u) (reads_itself at u levels g.1 d)
           (λ q. ap (λ r. result_map (λ ps. datum made (tree.document ps)) (r >>= pairs_in)) q),
       s,
       c,

@@ -10,7 +10,7 @@ use Rattle.bson_base.specs.Sound.{Lacks, IsClean, ArePairsClean, AreTreesClean}
 use Rattle.bson_base.specs.Tree as tree
 use Rattle.bson_base.specs.Tree.{Tree, Pairs, no_pairs, pair, Trees, no_trees, kind, depth, pairs_depth, trees_depth}
 use Rattle.bson_base.proofs.Outcomes.{some_is}
-use Rattle.bson_rawdoc.specs.Node.{fault, tree_node, pair_nodes, tree_nodes}
+use Rattle.bson_rawdoc.specs.Node.{from_input, Sight, fault, tree_node, pair_nodes, tree_nodes}
 use Rattle.bson_rawdoc.specs.Piece.{made}
 use Rattle.bson_datum.specs.Cause.{wrong_kind, invalid_length}
 use Rattle.bson_datum.specs.Marked.{contents}
@@ -22,7 +22,7 @@ use Rattle.bson_datum.specs.declared.wrapper.Wrapper.{Wrapper}
 use Rattle.bson_laws.specs.Datum.{datum, uuid_datum, itself, sorted_tree, sorted_pairs, sorted_trees}
 use Rattle.bson_laws.specs.Leaves as leaf_kinds
 use Rattle.bson_laws.specs.Leaves.{ExtendedLeaf, object_ids, uuids, of_kind, documents}
-use Rattle.bson_laws.specs.Judged.{Reading, plain, refused, judged, faultless, scope_key}
+use Rattle.bson_laws.specs.Judged.{Reading, refused, judged, faultless, scope_key}
 use Rattle.bson_laws.specs.Trees.{pairs_in, put_pair, by_key, after_scope, after_code, as_tree, array_trees, document_tree, read_tree}
 use Rattle.bson_laws.specs.ReadsExtended.{tree_of_kind, read_extended}
 use Rattle.bson_laws.specs.Views.{views_extended}
@@ -98,22 +98,22 @@ mutual
 
 -- ---- no fault
 
-whole : (in_input : Bool) (t : Tree) (levels : ℕ) → IsReadable t → fault false (tree_node in_input t levels) ≡ None
-whole in_input (tree.string t) levels c = text_whole in_input t c
-whole in_input (tree.document ps) levels c = scope_whole in_input ps levels
-whole in_input (tree.array ts) zero c = refl
-whole in_input (tree.array ts) (suc levels) c = refl
-whole in_input (tree.binary zero b) levels c = refl
-whole in_input (tree.binary (suc n) b) levels c = refl
-whole in_input (tree.regular_expression p q) levels c = both_whole _ _ (text_whole in_input p c.0) (text_whole in_input q c.1)
-whole in_input (tree.db_pointer namespace id) levels c = text_whole in_input namespace c
-whole in_input (tree.javascript_code t) levels c = text_whole in_input t c
-whole in_input (tree.symbol t) levels c = text_whole in_input t c
-whole in_input (tree.javascript_code_with_scope code scope) levels c = both_whole _ _ (text_whole in_input code c.0) (scope_whole in_input scope levels)
-whole in_input t levels c = refl
+whole : (at : Sight) (t : Tree) (levels : ℕ) → IsReadable t → fault (tree_node at t levels) ≡ None
+whole at (tree.string t) levels c = text_whole at t c
+whole at (tree.document ps) levels c = scope_whole at ps levels
+whole at (tree.array ts) zero c = refl
+whole at (tree.array ts) (suc levels) c = refl
+whole at (tree.binary zero b) levels c = refl
+whole at (tree.binary (suc n) b) levels c = refl
+whole at (tree.regular_expression p q) levels c = both_whole _ _ (text_whole at p c.0) (text_whole at q c.1)
+whole at (tree.db_pointer namespace id) levels c = text_whole at namespace c
+whole at (tree.javascript_code t) levels c = text_whole at t c
+whole at (tree.symbol t) levels c = text_whole at t c
+whole at (tree.javascript_code_with_scope code scope) levels c = both_whole _ _ (text_whole at code c.0) (scope_whole at scope levels)
+whole at t levels c = refl
 
-pub judged_readable : (in_input : Bool) (t : Tree) (levels : ℕ) → IsReadable t → depth t ≤ levels → judged plain (tree_node in_input t levels) ≡ Ok (tree_node in_input t levels)
-judged_readable in_input t levels c d = ap (λ o. faultless o (tree_node in_input t levels)) (whole in_input t levels c) ∙ level_there in_input t levels d
+pub judged_readable : (at : Sight) (t : Tree) (levels : ℕ) → IsReadable t → depth t ≤ levels → judged (tree_node at t levels) ≡ Ok (tree_node at t levels)
+judged_readable at t levels c d = ap (λ o. faultless o (tree_node at t levels)) (whole at t levels c) ∙ level_there at t levels d
 
 -- ---- pairs
 
@@ -153,45 +153,45 @@ new_more (pair k u ps) done key t l n = (lacks_one k key t done (unlike_swap key
 -- ---- trees
 
 mutual
-  pub tree_again : (in_input : Bool) (t : Tree) (levels : ℕ) → IsReadable t → depth t ≤ levels → as_tree plain (tree_node in_input t levels) ≡ Ok (sorted_tree t)
-  tree_again in_input (tree.document ps) zero c d = absurd (omega arith)
-  tree_again in_input (tree.document ps) (suc n) c d = pairs_again in_input ps n no_pairs c (omega arith) (new_first ps)
-  tree_again in_input (tree.array ts) zero c d = absurd (omega arith)
-  tree_again in_input (tree.array ts) (suc n) c d = ap (result_map tree.array) (trees_again in_input ts 0 n c (omega arith))
-  tree_again in_input (tree.binary zero b) levels c d = refl
-  tree_again in_input (tree.binary (suc n) b) levels c d = refl
-  tree_again in_input (tree.javascript_code_with_scope code scope) zero c d = absurd (omega arith)
-  tree_again in_input (tree.javascript_code_with_scope code scope) (suc n) c d =
-      ap (λ r. result_map (tree.javascript_code_with_scope code) (under scope_key (r >>= pairs_in))) (pairs_again in_input scope n no_pairs c.1 (omega arith) (new_first scope))
-  tree_again in_input t levels c d = refl
+  pub tree_again : (at : Sight) (t : Tree) (levels : ℕ) → IsReadable t → depth t ≤ levels → as_tree (tree_node at t levels) ≡ Ok (sorted_tree t)
+  tree_again at (tree.document ps) zero c d = absurd (omega arith)
+  tree_again at (tree.document ps) (suc n) c d = pairs_again at ps n no_pairs c (omega arith) (new_first ps)
+  tree_again at (tree.array ts) zero c d = absurd (omega arith)
+  tree_again at (tree.array ts) (suc n) c d = ap (result_map tree.array) (trees_again at ts 0 n c (omega arith))
+  tree_again at (tree.binary zero b) levels c d = refl
+  tree_again at (tree.binary (suc n) b) levels c d = refl
+  tree_again at (tree.javascript_code_with_scope code scope) zero c d = absurd (omega arith)
+  tree_again at (tree.javascript_code_with_scope code scope) (suc n) c d =
+      ap (λ r. result_map (tree.javascript_code_with_scope code) (under scope_key (r >>= pairs_in))) (pairs_again at scope n no_pairs c.1 (omega arith) (new_first scope))
+  tree_again at t levels c d = refl
 
-  pairs_again : (in_input : Bool) (ps : Pairs) (n : ℕ) (done : Pairs) → ArePairsReadable ps → pairs_depth ps ≤ n → AreNew ps done
-      → document_tree plain (pair_nodes in_input ps n) done ≡ Ok (tree.document (joined done (sorted_pairs ps)))
-  pairs_again in_input no_pairs n done c d new = ap (λ x. Ok (tree.document x)) (sym (joined_none done))
-  pairs_again in_input (pair key t ps) n done c d new =
-      let u = tree_node in_input t n in
-      let ns = pair_nodes in_input ps n in
-      let value = judged plain u >>= λ _. as_tree plain u in
-      let others = λ (x : Tree). document_tree plain ns (put_pair key x done) in
-      let read : value ≡ Ok (sorted_tree t) = ap (λ r. r >>= λ _. as_tree plain u) (judged_readable in_input t n c.2 (omega arith)) ∙ tree_again in_input t n c.2 (omega arith) in
-      ap (λ m. by_key m key plain u value others (λ x. after_code plain x ns) (λ qs. after_scope plain qs ns)) c.0
+  pairs_again : (at : Sight) (ps : Pairs) (n : ℕ) (done : Pairs) → ArePairsReadable ps → pairs_depth ps ≤ n → AreNew ps done
+      → document_tree (pair_nodes at ps n) done ≡ Ok (tree.document (joined done (sorted_pairs ps)))
+  pairs_again at no_pairs n done c d new = ap (λ x. Ok (tree.document x)) (sym (joined_none done))
+  pairs_again at (pair key t ps) n done c d new =
+      let u = tree_node at t n in
+      let ns = pair_nodes at ps n in
+      let value = judged u >>= λ _. as_tree u in
+      let others = λ (x : Tree). document_tree ns (put_pair key x done) in
+      let read : value ≡ Ok (sorted_tree t) = ap (λ r. r >>= λ _. as_tree u) (judged_readable at t n c.2 (omega arith)) ∙ tree_again at t n c.2 (omega arith) in
+      ap (λ m. by_key m key u value others (λ x. after_code x ns) (λ qs. after_scope qs ns)) c.0
       ∙ ap (λ r. under key r >>= others) read
-      ∙ ap (document_tree plain ns) (put_last key (sorted_tree t) done new.0)
-      ∙ pairs_again in_input ps n (joined done (pair key (sorted_tree t) no_pairs)) c.3 (omega arith) (new_more ps done key (sorted_tree t) c.1 new.1)
+      ∙ ap (document_tree ns) (put_last key (sorted_tree t) done new.0)
+      ∙ pairs_again at ps n (joined done (pair key (sorted_tree t) no_pairs)) c.3 (omega arith) (new_more ps done key (sorted_tree t) c.1 new.1)
       ∙ ap (λ x. Ok (tree.document x)) (joined_one done key (sorted_tree t) (sorted_pairs ps))
 
-  trees_again : (in_input : Bool) (ts : Trees) (i n : ℕ) → AreTreesReadable ts → trees_depth ts ≤ n → array_trees plain i (tree_nodes in_input i ts n) ≡ Ok (sorted_trees ts)
-  trees_again in_input no_trees i n c d = refl
-  trees_again in_input (tree.tree t ts) i n c d =
-      let u = tree_node in_input t n in
-      let ns = tree_nodes in_input (suc i) ts n in
-      ap (λ r. under_index i (r >>= λ _. as_tree plain u) >>= λ x. result_map (tree.tree x) (array_trees plain (suc i) ns)) (judged_readable in_input t n c.0 (omega arith))
-      ∙ ap (λ r. under_index i r >>= λ x. result_map (tree.tree x) (array_trees plain (suc i) ns)) (tree_again in_input t n c.0 (omega arith))
-      ∙ ap (result_map (tree.tree (sorted_tree t))) (trees_again in_input ts (suc i) n c.1 (omega arith))
+  trees_again : (at : Sight) (ts : Trees) (i n : ℕ) → AreTreesReadable ts → trees_depth ts ≤ n → array_trees i (tree_nodes at i ts n) ≡ Ok (sorted_trees ts)
+  trees_again at no_trees i n c d = refl
+  trees_again at (tree.tree t ts) i n c d =
+      let u = tree_node at t n in
+      let ns = tree_nodes at (suc i) ts n in
+      ap (λ r. under_index i (r >>= λ _. as_tree u) >>= λ x. result_map (tree.tree x) (array_trees (suc i) ns)) (judged_readable at t n c.0 (omega arith))
+      ∙ ap (λ r. under_index i r >>= λ x. result_map (tree.tree x) (array_trees (suc i) ns)) (tree_again at t n c.0 (omega arith))
+      ∙ ap (result_map (tree.tree (sorted_tree t))) (trees_again at ts (suc i) n c.1 (omega arith))
 
 -- a clean tree is read as itself
-pub read_again : (in_input : Bool) (t : Tree) (levels : ℕ) → IsReadable t → depth t ≤ levels → read_tree plain (tree_node in_input t levels) ≡ Ok (sorted_tree t)
-read_again in_input t levels c d = ap (λ r. r >>= as_tree plain) (judged_readable in_input t levels c d) ∙ tree_again in_input t levels c d
+pub read_again : (at : Sight) (t : Tree) (levels : ℕ) → IsReadable t → depth t ≤ levels → read_tree (tree_node at t levels) ≡ Ok (sorted_tree t)
+read_again at t levels c d = ap (λ r. r >>= as_tree) (judged_readable at t levels c d) ∙ tree_again at t levels c d
 
 -- ---- at the leaves of extended kinds
 
@@ -205,18 +205,18 @@ uuid_again true false bs v r e = absurd cc
 uuid_again false b bs v r e = absurd cc
 
 -- what a clean tree is there is read from it
-pub extended_again : (k : ExtendedLeaf) (t : Tree) (v : Value) (levels : ℕ) → IsClean t → depth t ≤ levels → views_extended k t ≡ Some v → ReadAs contents (read_extended plain k (tree_node true t levels)) v
+pub extended_again : (k : ExtendedLeaf) (t : Tree) (v : Value) (levels : ℕ) → IsClean t → depth t ≤ levels → views_extended k t ≡ Some v → ReadAs contents (read_extended k (tree_node from_input t levels)) v
 extended_again object_ids (tree.object_id id) v levels c d e = (datum made (tree.object_id id), refl, some_is (datum itself (tree.object_id id)) v e)
 extended_again object_ids t v levels c d e = absurd cc
 extended_again uuids (tree.binary zero b) v levels c d e = absurd cc
 extended_again uuids (tree.binary (suc n) b) v levels c d e = uuid_again (nat_eq (suc n) 4) (nat_eq (length b) 16) b v _ e
 extended_again uuids t v levels c d e = absurd cc
 extended_again (of_kind k) t v levels c d e =
-    subst (λ (r : Reading Tree). ReadAs contents (result_map (datum made) (r >>= tree_of_kind k)) v) (sym (tree_again true t levels (clean_readable t c) d))
+    subst (λ (r : Reading Tree). ReadAs contents (result_map (datum made) (r >>= tree_of_kind k)) v) (sym (tree_again from_input t levels (clean_readable t c) d))
     (kind_again (nat_eq (byte (kind (sorted_tree t))) (byte k)) t v (ap (λ j. cond (nat_eq (byte j) (byte k)) (Some (datum itself (sorted_tree t))) None) (sorted_kind t) ∙ e))
 extended_again leaf_kinds.trees t v levels c d e =
-    (datum made (sorted_tree t), ap (result_map (datum made)) (tree_again true t levels (clean_readable t c) d), datum_contents (sorted_tree t) ∙ some_is (datum itself (sorted_tree t)) v e)
+    (datum made (sorted_tree t), ap (result_map (datum made)) (tree_again from_input t levels (clean_readable t c) d), datum_contents (sorted_tree t) ∙ some_is (datum itself (sorted_tree t)) v e)
 extended_again documents (tree.document ps) v levels c d e =
     let u = sorted_tree (tree.document ps) in
-    (datum made u, ap (λ r. result_map (λ qs. datum made (tree.document qs)) (r >>= pairs_in)) (tree_again true (tree.document ps) levels (clean_readable (tree.document ps) c) d), datum_contents u ∙ some_is (datum itself u) v e)
+    (datum made u, ap (λ r. result_map (λ qs. datum made (tree.document qs)) (r >>= pairs_in)) (tree_again from_input (tree.document ps) levels (clean_readable (tree.document ps) c) d), datum_contents u ∙ some_is (datum itself u) v e)
 extended_again documents t v levels c d e = absurd cc

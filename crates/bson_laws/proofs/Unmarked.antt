@@ -10,34 +10,34 @@ use Rattle.bson_base.specs.Tree as tree
 use Rattle.bson_base.specs.Tree.{Tree, Pairs, no_pairs, pair, Trees, no_trees, depth, pairs_depth, trees_depth}
 use Rattle.bson_base.proofs.Outcomes.{some_is, some_then}
 use Rattle.bson_rawdoc.specs.Node as for_nodes
-use Rattle.bson_rawdoc.specs.Node.{Node, Extended, binary, undefined, object_id, date_time, regular_expression, db_pointer, javascript_code, symbol, javascript_code_with_scope, timestamp, decimal128, max_key, min_key, tree_node, pair_nodes, tree_nodes}
+use Rattle.bson_rawdoc.specs.Node.{Node, Extended, binary, undefined, object_id, date_time, regular_expression, db_pointer, javascript_code, symbol, javascript_code_with_scope, timestamp, decimal128, max_key, min_key, Sight, tree_node, pair_nodes, tree_nodes}
 use Rattle.bson_rawdoc.specs.Piece.{Piece, made}
 use Rattle.bson_laws.specs.Unmarked.{with_document, unmarked, unmarked_pairs, unmarked_trees, AreOpenedAlike}
 
 -- ---- trees
 
 mutual
-  pub tree_unmarked : (in_input : Bool) (t : Tree) (levels : ℕ) → depth t ≤ levels → unmarked (tree_node in_input t levels) ≡ Some t
-  tree_unmarked in_input (tree.document ps) zero d = absurd (omega arith)
-  tree_unmarked in_input (tree.document ps) (suc n) d = ap (option_map tree.document) (pairs_unmarked in_input ps n (omega arith))
-  tree_unmarked in_input (tree.array ts) zero d = absurd (omega arith)
-  tree_unmarked in_input (tree.array ts) (suc n) d = ap (option_map tree.array) (trees_unmarked in_input ts 0 n (omega arith))
-  tree_unmarked in_input (tree.binary zero b) levels d = refl
-  tree_unmarked in_input (tree.binary (suc k) b) levels d = refl
-  tree_unmarked in_input (tree.javascript_code_with_scope code scope) zero d = absurd (omega arith)
-  tree_unmarked in_input (tree.javascript_code_with_scope code scope) (suc n) d =
-      ap (λ o. option_and_then (with_document code) (option_map tree.document o)) (pairs_unmarked in_input scope n (omega arith))
-  tree_unmarked in_input t levels d = refl
+  pub tree_unmarked : (at : Sight) (t : Tree) (levels : ℕ) → depth t ≤ levels → unmarked (tree_node at t levels) ≡ Some t
+  tree_unmarked at (tree.document ps) zero d = absurd (omega arith)
+  tree_unmarked at (tree.document ps) (suc n) d = ap (option_map tree.document) (pairs_unmarked at ps n (omega arith))
+  tree_unmarked at (tree.array ts) zero d = absurd (omega arith)
+  tree_unmarked at (tree.array ts) (suc n) d = ap (option_map tree.array) (trees_unmarked at ts 0 n (omega arith))
+  tree_unmarked at (tree.binary zero b) levels d = refl
+  tree_unmarked at (tree.binary (suc k) b) levels d = refl
+  tree_unmarked at (tree.javascript_code_with_scope code scope) zero d = absurd (omega arith)
+  tree_unmarked at (tree.javascript_code_with_scope code scope) (suc n) d =
+      ap (λ o. option_and_then (with_document code) (option_map tree.document o)) (pairs_unmarked at scope n (omega arith))
+  tree_unmarked at t levels d = refl
 
-  pairs_unmarked : (in_input : Bool) (ps : Pairs) (n : ℕ) → pairs_depth ps ≤ n → unmarked_pairs (pair_nodes in_input ps n) ≡ Some ps
-  pairs_unmarked in_input no_pairs n d = refl
-  pairs_unmarked in_input (pair key t ps) n d =
-      λ i. option_and_then (λ u. option_map (pair key u) (pairs_unmarked in_input ps n (omega arith) i)) (tree_unmarked in_input t n (omega arith) i)
+  pairs_unmarked : (at : Sight) (ps : Pairs) (n : ℕ) → pairs_depth ps ≤ n → unmarked_pairs (pair_nodes at ps n) ≡ Some ps
+  pairs_unmarked at no_pairs n d = refl
+  pairs_unmarked at (pair key t ps) n d =
+      λ i. option_and_then (λ u. option_map (pair key u) (pairs_unmarked at ps n (omega arith) i)) (tree_unmarked at t n (omega arith) i)
 
-  trees_unmarked : (in_input : Bool) (ts : Trees) (j n : ℕ) → trees_depth ts ≤ n → unmarked_trees (tree_nodes in_input j ts n) ≡ Some ts
-  trees_unmarked in_input no_trees j n d = refl
-  trees_unmarked in_input (tree.tree t ts) j n d =
-      λ i. option_and_then (λ u. option_map (tree.tree u) (trees_unmarked in_input ts (suc j) n (omega arith) i)) (tree_unmarked in_input t n (omega arith) i)
+  trees_unmarked : (at : Sight) (ts : Trees) (j n : ℕ) → trees_depth ts ≤ n → unmarked_trees (tree_nodes at j ts n) ≡ Some ts
+  trees_unmarked at no_trees j n d = refl
+  trees_unmarked at (tree.tree t ts) j n d =
+      λ i. option_and_then (λ u. option_map (tree.tree u) (trees_unmarked at ts (suc j) n (omega arith) i)) (tree_unmarked at t n (omega arith) i)
 
 -- ---- opened documents
 

@@ -7,14 +7,13 @@ use Rattle.bson_base.specs.Sound.{IsClean}
 use Rattle.bson_base.specs.Tree.{Tree, double, string, document, array, binary, boolean, null, javascript_code_with_scope, int32, int64, Pairs, no_pairs, pair, Trees, no_trees, tree, depth}
 use Rattle.bson_base.proofs.Outcomes.{some_is, some_map}
 use Rattle.bson_rawdoc.specs.Node as node
-use Rattle.bson_rawdoc.specs.Node.{Node, Nodes, tree_node, pair_nodes, tree_nodes}
+use Rattle.bson_rawdoc.specs.Node.{from_input, Node, Nodes, tree_node, pair_nodes, tree_nodes}
 use Rattle.bson_rawdoc.specs.Piece.{Piece, borrowed}
 use Rattle.bson_datum.specs.Value as value
 use Rattle.bson_datum.specs.Value.{i32, i64, Value, Items, item, Entries, no_entries, entry}
 use Rattle.bson_datum.specs.Marked.{Marked, MarkedEntries, contents}
 use Rattle.bson_datum.specs.Refusal.{under, under_index}
-use Rattle.bson_laws.specs.Judged.{Reading, Mode, plain, judged}
-use Rattle.bson_laws.specs.Taken.{unmended}
+use Rattle.bson_laws.specs.Judged.{Reading, judged}
 use Rattle.bson_laws.specs.ReadsLeaf.{put_entry, read_any, any_items, any_entries}
 use Rattle.bson_laws.specs.Containers.{reads_items, reads_entries}
 use Rattle.bson_laws.specs.Views.{views_any, views_any_items, views_any_entries, views_items, views_entries}
@@ -36,26 +35,26 @@ viewed_entries no_pairs = refl
 viewed_entries (pair key t ps) = ap (λ o. option_and_then (λ v. option_map (entry (value.str key) v) o) (views_any t)) (viewed_entries ps)
 
 -- a value, judged and read without a shape
-abbrev pub reads_any : Mode → Node → Reading Marked
-reads_any mode n = judged mode n >>= λ _. read_any mode n
+abbrev pub reads_any : Node → Reading Marked
+reads_any n = judged n >>= λ _. read_any n
 
-abbrev pub key_text : Mode → Piece → Reading Marked
-key_text mode key = Ok (value.str (unmended mode key))
+abbrev pub key_text : Piece → Reading Marked
+key_text key = Ok (value.str key)
 
-pub items_any : (mode : Mode) (i : ℕ) (ns : Nodes) → any_items mode i ns ≡ reads_items (reads_any mode) i ns
-items_any mode i node.ended = refl
-items_any mode i (node.faulty e) = refl
-items_any mode i (node.then_node key n ns) = ap (λ r. under_index i (reads_any mode n) >>= λ v. result_map (item v) r) (items_any mode (suc i) ns)
+pub items_any : (i : ℕ) (ns : Nodes) → any_items i ns ≡ reads_items (reads_any) i ns
+items_any i node.ended = refl
+items_any i (node.faulty e) = refl
+items_any i (node.then_node key n ns) = ap (λ r. under_index i (reads_any n) >>= λ v. result_map (item v) r) (items_any (suc i) ns)
 
-pub entries_any : (mode : Mode) (ns : Nodes) (es : MarkedEntries) → any_entries mode ns es ≡ reads_entries (key_text mode) (reads_any mode) ns es
-entries_any mode node.ended es = refl
-entries_any mode (node.faulty e) es = refl
-entries_any mode (node.then_node key n ns) es = λ i. under key.bytes (reads_any mode n) >>= λ v. entries_any mode ns (put_entry (value.str (unmended mode key)) v es) i
+pub entries_any : (ns : Nodes) (es : MarkedEntries) → any_entries ns es ≡ reads_entries (key_text) (reads_any) ns es
+entries_any node.ended es = refl
+entries_any (node.faulty e) es = refl
+entries_any (node.then_node key n ns) es = λ i. under key.bytes (reads_any n) >>= λ v. entries_any ns (put_entry (value.str key) v es) i
 
 -- ---- values
 
 -- a tree that holds no value is read
-flat_again : (t : Tree) (v : Value) (levels : ℕ) → depth t ≤ 0 → views_any t ≡ Some v → ReadAs contents (read_any plain (tree_node true t levels)) v
+flat_again : (t : Tree) (v : Value) (levels : ℕ) → depth t ≤ 0 → views_any t ≡ Some v → ReadAs contents (read_any (tree_node from_input t levels)) v
 flat_again (boolean x) v levels d e = (value.boolean x, refl, some_is (value.boolean x) v e)
 flat_again (int32 n) v levels d e = (value.integer i32 n, refl, some_is (value.integer i32 n) v e)
 flat_again (int64 n) v levels d e = (value.integer i64 n, refl, some_is (value.integer i64 n) v e)
@@ -67,17 +66,17 @@ flat_again (array ts) v levels d e = absurd (omega arith)
 flat_again (document ps) v levels d e = absurd (omega arith)
 flat_again t v levels d e = absurd cc
 
-pub any_again : (levels : ℕ) (t : Tree) (v : Value) → IsClean t → depth t ≤ levels → views_any t ≡ Some v → ReadAs contents (read_any plain (tree_node true t levels)) v
+pub any_again : (levels : ℕ) (t : Tree) (v : Value) → IsClean t → depth t ≤ levels → views_any t ≡ Some v → ReadAs contents (read_any (tree_node from_input t levels)) v
 any_again zero t v c d e = flat_again t v zero d e
 any_again (suc n) (array ts) v c d e =
     let m = some_map value.sequence (views_any_items ts) v e in
-    let each : ReadsBack views_any (reads_any plain) n = λ u w c' d' h. let r = any_again n u w c' d' h in (r.0, ap (λ x. x >>= λ _. read_any plain (tree_node true u n)) (judged_again true u n c' d') ∙ r.1, r.2) in
-    let h = items_again views_any (reads_any plain) n each 0 ts m.0 c (omega arith) (sym (viewed_items ts) ∙ m.1) in
-    (value.sequence h.0, ap (result_map value.sequence) (items_any plain 0 (tree_nodes true 0 ts n) ∙ h.1), ap value.sequence h.2 ∙ m.2)
+    let each : ReadsBack views_any (reads_any) n = λ u w c' d' h. let r = any_again n u w c' d' h in (r.0, ap (λ x. x >>= λ _. read_any (tree_node from_input u n)) (judged_again from_input u n c' d') ∙ r.1, r.2) in
+    let h = items_again views_any (reads_any) n each 0 ts m.0 c (omega arith) (sym (viewed_items ts) ∙ m.1) in
+    (value.sequence h.0, ap (result_map value.sequence) (items_any 0 (tree_nodes from_input 0 ts n) ∙ h.1), ap value.sequence h.2 ∙ m.2)
 any_again (suc n) (document ps) v c d e =
     let m = some_map value.map (views_any_entries ps) v e in
-    let each : ReadsBack views_any (reads_any plain) n = λ u w c' d' h. let r = any_again n u w c' d' h in (r.0, ap (λ x. x >>= λ _. read_any plain (tree_node true u n)) (judged_again true u n c' d') ∙ r.1, r.2) in
-    let h = entries_again value.str (λ a b. refl) view_text (key_text plain) views_any (reads_any plain) n (λ key k is. (sym (some_is (value.str key) k is), (value.str (borrowed key), refl, refl))) each ps no_entries m.0 c (omega arith) (new_first value.str ps) (sym (viewed_entries ps) ∙ m.1) in
-    (value.map h.0, ap (result_map value.map) (entries_any plain (pair_nodes true ps n) no_entries ∙ h.1), ap value.map h.2 ∙ m.2)
+    let each : ReadsBack views_any (reads_any) n = λ u w c' d' h. let r = any_again n u w c' d' h in (r.0, ap (λ x. x >>= λ _. read_any (tree_node from_input u n)) (judged_again from_input u n c' d') ∙ r.1, r.2) in
+    let h = entries_again value.str (λ a b. refl) view_text (key_text) views_any (reads_any) n (λ key k is. (sym (some_is (value.str key) k is), (value.str (borrowed key), refl, refl))) each ps no_entries m.0 c (omega arith) (new_first value.str ps) (sym (viewed_entries ps) ∙ m.1) in
+    (value.map h.0, ap (result_map value.map) (entries_any (pair_nodes from_input ps n) no_entries ∙ h.1), ap value.map h.2 ∙ m.2)
 any_again (suc n) (javascript_code_with_scope code scope) v c d e = absurd cc
 any_again (suc n) t v c d e = flat_again t v (suc n) (omega arith) e

@@ -13,8 +13,8 @@ use Rattle.bson_datum.specs.Cause.{raw, invalid_type, invalid_length, unknown_va
 use Rattle.bson_datum.specs.Refusal.{end_of_stream, here, under, under_index}
 use Rattle.bson_laws.specs.Leaves.{leaf_kind}
 use Rattle.bson_laws.specs.Variants.{content_of}
-use Rattle.bson_laws.specs.Judged.{Mode, Reading, refused, plain}
-use Rattle.bson_laws.specs.Taken.{text_in, unmended, document_of}
+use Rattle.bson_laws.specs.Judged.{Reading, refused}
+use Rattle.bson_laws.specs.Taken.{document_of}
 use Rattle.bson_laws.specs.ReadsLeaf.{put_entry, borrows, no_extended, read_leaf_with}
 
 -- ---- options
@@ -57,18 +57,18 @@ read_first contents (faulty e) = refused (raw e)
 read_first contents (then_node key n ns) = contents key.bytes n
 
 -- a text at the unit variant that it names, a document at the variant with contents that its first key names
-abbrev pub read_enum : Mode → (Piece → Reading Marked) → (Utf8 → Node → Reading Marked) → Node → Reading Marked
-read_enum mode unit contents (string name) = unit (text_in mode name)
-read_enum mode unit contents n = document_of n >>= read_first contents
+abbrev pub read_enum : (Piece → Reading Marked) → (Utf8 → Node → Reading Marked) → Node → Reading Marked
+read_enum unit contents (string name) = unit name
+read_enum unit contents n = document_of n >>= read_first contents
 
 -- ---- maps
 
 -- the key of a map, read at the shape of keys as the text of an element would be; it is never replaced, and its refusal is that of the map. The makers of maps
 -- let through `str`, `string`, `char` and enums of unit variants; no other shape of keys occurs
-abbrev pub reads_key : Mode → Form → Piece → Reading Marked
-reads_key mode (leaf l) key = read_leaf_with no_extended plain (borrows l) (leaf_kind l) (string (unmended mode key))
-reads_key mode (enumeration vs) key = reads_unit vs key
-reads_key mode s key = refused (invalid_type String)
+abbrev pub reads_key : Form → Piece → Reading Marked
+reads_key (leaf l) key = read_leaf_with no_extended (borrows l) (leaf_kind l) (string key)
+reads_key (enumeration vs) key = reads_unit vs key
+reads_key s key = refused (invalid_type String)
 
 -- The entries of a map from the elements of a document, put to those before them, up to the fault that ends the list. A key is read before its
 -- value, and its refusal is that of the document.

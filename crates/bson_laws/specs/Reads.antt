@@ -11,7 +11,7 @@ use Rattle.bson_datum.specs.Value.{Value}
 use Rattle.bson_datum.specs.Marked.{Marked, MarkedItems, contents}
 use Rattle.bson_datum.specs.Cause.{raw}
 use Rattle.bson_datum.specs.Refusal.{ReadFault, unreadable, Failure, bare, with_path}
-use Rattle.bson_laws.specs.Judged.{Reading, Mode, plain}
+use Rattle.bson_laws.specs.Judged.{Reading}
 use Rattle.bson_laws.specs.Leaves.{LeafKind}
 use Rattle.bson_laws.specs.ReadsLeaf.{read_leaf_with}
 use Rattle.bson_laws.specs.ReadsExtended.{read_extended}
@@ -19,25 +19,25 @@ use Rattle.bson_laws.specs.Shaped as shaped
 use Rattle.bson_laws.specs.Slots.{Slots}
 
 -- a judged value at a leaf of this kind, which borrows its text or not
-abbrev pub read_leaf : Mode → (is_borrowing : Bool) → LeafKind → Node → Reading Marked
+abbrev pub read_leaf : (is_borrowing : Bool) → LeafKind → Node → Reading Marked
 read_leaf = read_leaf_with read_extended
 
 -- the value that a node is at a shape
-abbrev pub reads : Form → Mode → Node → Reading Marked
+abbrev pub reads : Form → Node → Reading Marked
 reads = shaped.reads read_extended
 
 -- ---- its parts: those of a tuple, the fields of a struct, a variant, the contents of a variant
 
-abbrev pub reads_parts : Parts → Mode → ℕ → Nodes → Reading MarkedItems
+abbrev pub reads_parts : Parts → ℕ → Nodes → Reading MarkedItems
 reads_parts = shaped.reads_parts read_extended
 
-abbrev pub slots_of : Fields → Mode → Slots
+abbrev pub slots_of : Fields → Slots
 slots_of = shaped.slots_of read_extended
 
-abbrev pub reads_variant : Variants → Mode → Utf8 → Node → Reading Marked
+abbrev pub reads_variant : Variants → Utf8 → Node → Reading Marked
 reads_variant = shaped.reads_variant read_extended
 
-abbrev pub reads_content : Utf8 → Content → Mode → Node → Reading Marked
+abbrev pub reads_content : Utf8 → Content → Node → Reading Marked
 reads_content = shaped.reads_content read_extended
 
 -- ---- whole documents
@@ -49,7 +49,7 @@ answered (Err r) = Err (with_path r)
 
 -- The bytes of a whole document at a shape: a fault of the envelope has no path, every other refusal has one.
 abbrev pub reads_marked : Form → Bytes → Result Marked (Failure ReadFault)
-reads_marked s b = elim (envelope b) [ Ok d ↦ answered (reads s plain (node_in max_levels EmbeddedDocument d)) | Err e ↦ Err (bare (unreadable (raw e))) ]
+reads_marked s b = elim (envelope b) [ Ok d ↦ answered (reads s (node_in max_levels EmbeddedDocument d)) | Err e ↦ Err (bare (unreadable (raw e))) ]
 
 -- the same without marks
 abbrev pub reads_document : Form → Bytes → Result Value (Failure ReadFault)

@@ -15,9 +15,8 @@ use Rattle.bson_datum.specs.Cause.{invalid_type, invalid_length, bad_body, wrong
 use Rattle.bson_datum.specs.Marked.{Marked}
 use Rattle.bson_datum.specs.declared.wrapper.Wrapper.TheVariants.{Oid, Uuid}
 use Rattle.bson_laws.specs.Datum.{datum, uuid_datum}
-use Rattle.bson_laws.specs.Judged.{Mode, Reading, refused}
+use Rattle.bson_laws.specs.Judged.{Reading, refused}
 use Rattle.bson_laws.specs.Leaves.{ExtendedLeaf, object_ids, uuids, of_kind, trees, documents}
-use Rattle.bson_laws.specs.Taken.{text_in}
 use Rattle.bson_laws.specs.Trees.{as_tree, pairs_in, or_bad}
 use Rattle.bson_laws.specs.Wrapped.{id_of_text}
 
@@ -30,12 +29,12 @@ abbrev pub with_length : ℕ → Bytes → Reading Bytes
 with_length n b = if nat_eq (length b) n then Ok b else refused (invalid_length (length b))
 
 -- an ObjectId, its digits, its twelve bytes, or a document that stands for one
-abbrev pub object_id_at : Mode → Node → Reading Tree
-object_id_at mode (extended (object_id id) ns) = Ok (tree.object_id id.bytes)
-object_id_at mode (string t) = or_bad Oid (id_of_text (text_in mode t).bytes)
-object_id_at mode (bytes b) = result_map tree.object_id (with_length 12 b.bytes)
-object_id_at mode (document ns) = as_tree mode (document ns) >>= tree_of_kind kinds.ObjectId
-object_id_at mode n = refused (invalid_type (kind_of n))
+abbrev pub object_id_at : Node → Reading Tree
+object_id_at (extended (object_id id) ns) = Ok (tree.object_id id.bytes)
+object_id_at (string t) = or_bad Oid (id_of_text t.bytes)
+object_id_at (bytes u b) = result_map tree.object_id (with_length 12 b.bytes)
+object_id_at (document ns) = as_tree (document ns) >>= tree_of_kind kinds.ObjectId
+object_id_at n = refused (invalid_type (kind_of n))
 
 abbrev pub or_bad_uuid : Option Bytes → Reading Bytes
 or_bad_uuid (Some b) = Ok b
@@ -47,17 +46,17 @@ uuid_in (tree.binary subtype b) = if (nat_eq subtype 0 || nat_eq subtype 4) && n
 uuid_in t = refused (wrong_kind (kind t))
 
 -- a binary of subtype 4, the text of a UUID, or a document that stands for a binary
-abbrev pub uuid_at : Mode → Node → Reading Bytes
-uuid_at mode (bytes b) = refused (cause.subtype 0)
-uuid_at mode (extended (binary subtype b) ns) = if nat_eq subtype 4 then with_length 16 b.bytes else refused (cause.subtype subtype)
-uuid_at mode (string t) = or_bad_uuid (parsed (text_in mode t).bytes)
-uuid_at mode (document ns) = as_tree mode (document ns) >>= uuid_in
-uuid_at mode n = refused (invalid_type (kind_of n))
+abbrev pub uuid_at : Node → Reading Bytes
+uuid_at (bytes u b) = refused (cause.subtype 0)
+uuid_at (extended (binary subtype b) ns) = if nat_eq subtype 4 then with_length 16 b.bytes else refused (cause.subtype subtype)
+uuid_at (string t) = or_bad_uuid (parsed t.bytes)
+uuid_at (document ns) = as_tree (document ns) >>= uuid_in
+uuid_at n = refused (invalid_type (kind_of n))
 
 -- A judged value at an extended leaf. All texts and byte strings of what is read are owned.
-abbrev pub read_extended : Mode → ExtendedLeaf → Node → Reading Marked
-read_extended mode object_ids n = result_map (datum made) (object_id_at mode n)
-read_extended mode uuids n = result_map (uuid_datum made) (uuid_at mode n)
-read_extended mode (of_kind k) n = result_map (datum made) (as_tree mode n >>= tree_of_kind k)
-read_extended mode trees n = result_map (datum made) (as_tree mode n)
-read_extended mode documents n = result_map (λ ps. datum made (tree.document ps)) (as_tree mode n >>= pairs_in)
+abbrev pub read_extended : ExtendedLeaf → Node → Reading Marked
+read_extended object_ids n = result_map (datum made) (object_id_at n)
+read_extended uuids n = result_map (uuid_datum made) (uuid_at n)
+read_extended (of_kind k) n = result_map (datum made) (as_tree n >>= tree_of_kind k)
+read_extended trees n = result_map (datum made) (as_tree n)
+read_extended documents n = result_map (λ ps. datum made (tree.document ps)) (as_tree n >>= pairs_in)

@@ -9,7 +9,7 @@ use Rattle.bson_datum.specs.Value.{no_field_values, field_value}
 use Rattle.bson_datum.specs.Marked.{Marked, MarkedFields}
 use Rattle.bson_datum.specs.Cause.{raw, missing_field, duplicate_field}
 use Rattle.bson_datum.specs.Refusal.{under}
-use Rattle.bson_laws.specs.Judged.{Mode, Reading, refused, ignores}
+use Rattle.bson_laws.specs.Judged.{Reading, refused, ignores}
 use Rattle.bson_laws.specs.Taken.{document_of}
 use Rattle.bson_laws.specs.Containers.{reads_next}
 
@@ -35,17 +35,17 @@ fill_slot key n slot None = under key (slot.read n) >>= λ v. Ok (record slot { 
 fill_slot key n slot (Some v) = refused (duplicate_field key)
 
 -- an element at the slot that has its key as its name, or dropped where none has
-abbrev pub put_at : Mode → Utf8 → Node → Slots → Reading Slots
-put_at mode key n [] = under key (ignores mode n) >>= λ _. Ok []
-put_at mode key n (slot ∷ slots) =
+abbrev pub put_at : Utf8 → Node → Slots → Reading Slots
+put_at key n [] = under key (ignores n) >>= λ _. Ok []
+put_at key n (slot ∷ slots) =
     if bytes_eq slot.name key then result_map (λ filled. filled ∷ slots) (fill_slot key n slot slot.value)
-    else result_map (λ others. slot ∷ others) (put_at mode key n slots)
+    else result_map (λ others. slot ∷ others) (put_at key n slots)
 
 -- the elements one after another, up to the fault that ends their list
-abbrev pub fill : Mode → Nodes → Slots → Reading Slots
-fill mode ended slots = Ok slots
-fill mode (faulty e) slots = refused (raw e)
-fill mode (then_node key n ns) slots = put_at mode key.bytes n slots >>= fill mode ns
+abbrev pub fill : Nodes → Slots → Reading Slots
+fill ended slots = Ok slots
+fill (faulty e) slots = refused (raw e)
+fill (then_node key n ns) slots = put_at key.bytes n slots >>= fill ns
 
 -- the value that was read for a field, or else the one that stands for a missing field
 abbrev pub value_or : Utf8 → (missing value : Option Marked) → Reading Marked
@@ -68,6 +68,6 @@ reads_places i (slot ∷ slots) ns = reads_next i slot.read (λ v rest. result_m
 -- ---- either
 
 -- a struct takes the elements of an array by their places, and those of a document by their keys
-abbrev pub read_structure : Mode → Slots → Node → Reading MarkedFields
-read_structure mode slots (array ns) = reads_places 0 slots ns
-read_structure mode slots n = document_of n >>= λ ns. fill mode ns slots >>= finish
+abbrev pub read_structure : Slots → Node → Reading MarkedFields
+read_structure slots (array ns) = reads_places 0 slots ns
+read_structure slots n = document_of n >>= λ ns. fill ns slots >>= finish

@@ -1,7 +1,6 @@
 -- What a judged value is taken as. Source: serde's data model, over the node that the value is.
 use Rattle.std.specs.Prelude.{unsigned_abs, ℕ, suc, List, [], ◌∷◌, Bool, true, false, if◌then◌else◌, ℤ, Option, Some, None, Ok}
 use Rattle.std.specs.Str.{is_utf8, chars}
-use Rattle.std.specs.Str.Lossy.{utf8_lossy}
 use Rattle.bson_base.specs.Text.{Bytes}
 use Rattle.bson_base.specs.Outcome.{◌>>=◌, result_map}
 use Rattle.bson_rawdoc.specs.Node.{Node, double, string, document, array, bytes, boolean, null, int32, int64, extended, object_id, Nodes, ended, faulty, then_node, kind_of}
@@ -12,7 +11,7 @@ use Rattle.bson_datum.specs.Marked.{Marked}
 use Rattle.bson_datum.specs.Cause.{raw, invalid_type, out_of_range, not_one_char, not_utf8, not_borrowed}
 use Rattle.bson_datum.specs.Refusal.{under_index}
 use Rattle.bson_laws.specs.Views.{one_character}
-use Rattle.bson_laws.specs.Judged.{Mode, Reading, refused, judged}
+use Rattle.bson_laws.specs.Judged.{Reading, refused, judged}
 
 -- ---- kinds that are taken as they are
 
@@ -46,17 +45,13 @@ array_of n = refused (invalid_type (kind_of n))
 
 -- ---- texts and byte strings
 
--- a text as it is read: where texts are mended it is made anew
-abbrev pub text_in : Mode → Piece → Piece
-text_in mode t = if mode.lossy then made (utf8_lossy t.bytes) else t
+-- a binary of subtype 0 where it is not taken as a byte string: under a mark it is not borrowed
+abbrev pub owned_under_mark : (under_mark : Bool) → Piece → Piece
+owned_under_mark under_mark b = if under_mark then made b.bytes else b
 
--- a key or a binary as it is read: it is never mended, but where texts are, it is not borrowed
-abbrev pub unmended : Mode → Piece → Piece
-unmended mode p = if mode.lossy then made p.bytes else p
-
--- the characters of a text, mended where texts are
-abbrev pub characters_of : Mode → Piece → List ℕ
-characters_of mode t = chars (text_in mode t).bytes
+-- the characters of a text
+abbrev pub characters_of : Piece → List ℕ
+characters_of t = chars t.bytes
 
 -- a part of the input, which alone can be borrowed
 abbrev pub borrow : Piece → Reading Piece
@@ -71,17 +66,17 @@ abbrev pub as_text : Piece → Reading Piece
 as_text p = if is_utf8 p.bytes then Ok p else refused not_utf8
 
 -- a text, or the bytes of a binary of subtype 0 that are UTF-8; `NotBorrowed` comes before `NotUtf8`
-abbrev pub text_of : Mode → (borrows : Bool) → Node → Reading Piece
-text_of mode borrows (string t) = borrow_or_own borrows (text_in mode t)
-text_of mode borrows (bytes b) = borrow_or_own borrows (unmended mode b) >>= as_text
-text_of mode borrows n = refused (invalid_type (kind_of n))
+abbrev pub text_of : (borrows : Bool) → Node → Reading Piece
+text_of borrows (string t) = borrow_or_own borrows t
+text_of borrows (bytes u b) = borrow_or_own borrows (owned_under_mark u b) >>= as_text
+text_of borrows n = refused (invalid_type (kind_of n))
 
 -- the bytes of a binary of subtype 0, of a text, of an ObjectId, borrowed
-abbrev pub bytes_of : Mode → Node → Reading Piece
-bytes_of mode (bytes b) = borrow b
-bytes_of mode (string t) = borrow (text_in mode t)
-bytes_of mode (extended (object_id id) ns) = borrow id
-bytes_of mode n = refused (invalid_type (kind_of n))
+abbrev pub bytes_of : Node → Reading Piece
+bytes_of (bytes u b) = borrow b
+bytes_of (string t) = borrow t
+bytes_of (extended (object_id id) ns) = borrow id
+bytes_of n = refused (invalid_type (kind_of n))
 
 -- ---- numbers and characters
 
@@ -93,9 +88,9 @@ abbrev pub read_character : Option ℕ → Reading Marked
 read_character (Some c) = Ok (value.character c)
 read_character None = refused not_one_char
 
-abbrev pub character_of : Mode → Node → Reading Marked
-character_of mode (string t) = read_character (one_character (characters_of mode t))
-character_of mode n = refused (invalid_type (kind_of n))
+abbrev pub character_of : Node → Reading Marked
+character_of (string t) = read_character (one_character (characters_of t))
+character_of n = refused (invalid_type (kind_of n))
 
 -- ---- bytes that may be given as numbers
 
@@ -104,14 +99,14 @@ abbrev pub as_byte : ℤ → Reading ℕ
 as_byte n = if in_range u8 n then Ok (unsigned_abs n) else refused (out_of_range n)
 
 -- the bytes that the elements of an array from this index on are, up to the fault that ends their list
-abbrev pub reads_bytes : Mode → ℕ → Nodes → Reading Bytes
-reads_bytes mode i ended = Ok []
-reads_bytes mode i (faulty e) = refused (raw e)
-reads_bytes mode i (then_node key n ns) = under_index i (judged mode n >>= integer_of >>= as_byte) >>= λ b. result_map (λ bs. b ∷ bs) (reads_bytes mode (suc i) ns)
+abbrev pub reads_bytes : ℕ → Nodes → Reading Bytes
+reads_bytes i ended = Ok []
+reads_bytes i (faulty e) = refused (raw e)
+reads_bytes i (then_node key n ns) = under_index i (judged n >>= integer_of >>= as_byte) >>= λ b. result_map (λ bs. b ∷ bs) (reads_bytes (suc i) ns)
 
 -- the bytes of a binary of subtype 0, of a text, of an array of numbers
-abbrev pub buffer_of : Mode → Node → Reading Bytes
-buffer_of mode (bytes b) = Ok b.bytes
-buffer_of mode (string t) = Ok (text_in mode t).bytes
-buffer_of mode (array ns) = reads_bytes mode 0 ns
-buffer_of mode n = refused (invalid_type (kind_of n))
+abbrev pub buffer_of : Node → Reading Bytes
+buffer_of (bytes u b) = Ok b.bytes
+buffer_of (string t) = Ok t.bytes
+buffer_of (array ns) = reads_bytes 0 ns
+buffer_of n = refused (invalid_type (kind_of n))

@@ -11,8 +11,7 @@ use Rattle.bson_datum.specs.Cause.{raw, invalid_type, unknown_field, missing_fie
 use Rattle.bson_datum.specs.Refusal.{under, under_index}
 use Rattle.bson_datum.specs.Wrapper.{of_key}
 use Rattle.bson_datum.specs.declared.wrapper.Wrapper.{Wrapper}
-use Rattle.bson_laws.specs.Judged.{Mode, Reading, refused, judged, scope_key}
-use Rattle.bson_laws.specs.Taken.{text_in}
+use Rattle.bson_laws.specs.Judged.{Reading, refused, judged, scope_key}
 use Rattle.bson_laws.specs.Wrapped.{Meaning, body, code, scope, meaning, text_at}
 
 -- ---- parts
@@ -40,79 +39,79 @@ put_pair key t (pair k old ps) = if bytes_eq key k then pair k t ps else pair k 
 
 -- A document with a wrapper key. Its value is the body of the document, and further elements stay unread; or the text of a code or a scope, and the document is
 -- read on as such.
-abbrev pub by_meaning : Wrapper → Meaning → Utf8 → Mode → Node → (value : Reading Tree) → (with_code : Utf8 → Reading Tree) → (with_scope : Pairs → Reading Tree) → Reading Tree
-by_meaning w (body read) key mode n value with_code with_scope = under key (read mode n >>= or_bad w)
-by_meaning w code key mode n value with_code with_scope = under key (text_at mode n) >>= with_code
-by_meaning w scope key mode n value with_code with_scope = under key (value >>= pairs_in) >>= with_scope
+abbrev pub by_meaning : Wrapper → Meaning → Utf8 → Node → (value : Reading Tree) → (with_code : Utf8 → Reading Tree) → (with_scope : Pairs → Reading Tree) → Reading Tree
+by_meaning w (body read) key n value with_code with_scope = under key (read n >>= or_bad w)
+by_meaning w code key n value with_code with_scope = under key (text_at n) >>= with_code
+by_meaning w scope key n value with_code with_scope = under key (value >>= pairs_in) >>= with_scope
 
 -- An element of a document: the value of any other key is a tree, and the document is read on.
-abbrev pub by_key : Option Wrapper → Utf8 → Mode → Node → (value : Reading Tree) → (others : Tree → Reading Tree) → (with_code : Utf8 → Reading Tree) → (with_scope : Pairs → Reading Tree) → Reading Tree
-by_key None key mode n value others with_code with_scope = under key value >>= others
-by_key (Some w) key mode n value others with_code with_scope = by_meaning w (meaning w) key mode n value with_code with_scope
+abbrev pub by_key : Option Wrapper → Utf8 → Node → (value : Reading Tree) → (others : Tree → Reading Tree) → (with_code : Utf8 → Reading Tree) → (with_scope : Pairs → Reading Tree) → Reading Tree
+by_key None key n value others with_code with_scope = under key value >>= others
+by_key (Some w) key n value others with_code with_scope = by_meaning w (meaning w) key n value with_code with_scope
 
 -- after a scope: its code
-abbrev pub after_scope : Mode → Pairs → Nodes → Reading Tree
-after_scope mode ps ended = refused (missing_field code_key)
-after_scope mode ps (faulty e) = refused (raw e)
-after_scope mode ps (then_node key n ns) =
-    if bytes_eq key.bytes code_key then result_map (λ t. tree.javascript_code_with_scope t ps) (under key.bytes (text_at mode n)) else refused (unknown_field key.bytes)
+abbrev pub after_scope : Pairs → Nodes → Reading Tree
+after_scope ps ended = refused (missing_field code_key)
+after_scope ps (faulty e) = refused (raw e)
+after_scope ps (then_node key n ns) =
+    if bytes_eq key.bytes code_key then result_map (λ t. tree.javascript_code_with_scope t ps) (under key.bytes (text_at n)) else refused (unknown_field key.bytes)
 
 -- ---- values
 
 abbrev mutual
   -- a judged value as a tree
-  pub as_tree : Mode → Node → Reading Tree
-  as_tree mode (double bits) = Ok (tree.double bits)
-  as_tree mode (string t) = Ok (tree.string (text_in mode t).bytes)
-  as_tree mode (document ns) = document_tree mode ns no_pairs
-  as_tree mode (array ns) = result_map tree.array (array_trees mode 0 ns)
-  as_tree mode (bytes b) = Ok (tree.binary 0 b.bytes)
-  as_tree mode (boolean b) = Ok (tree.boolean b)
-  as_tree mode null = Ok tree.null
-  as_tree mode (int32 n) = Ok (tree.int32 n)
-  as_tree mode (int64 n) = Ok (tree.int64 n)
-  as_tree mode (extended x ns) = extended_tree mode x
-  as_tree mode n = refused (invalid_type (kind_of n))
+  pub as_tree : Node → Reading Tree
+  as_tree (double bits) = Ok (tree.double bits)
+  as_tree (string t) = Ok (tree.string t.bytes)
+  as_tree (document ns) = document_tree ns no_pairs
+  as_tree (array ns) = result_map tree.array (array_trees 0 ns)
+  as_tree (bytes u b) = Ok (tree.binary 0 b.bytes)
+  as_tree (boolean b) = Ok (tree.boolean b)
+  as_tree null = Ok tree.null
+  as_tree (int32 n) = Ok (tree.int32 n)
+  as_tree (int64 n) = Ok (tree.int64 n)
+  as_tree (extended x ns) = extended_tree x
+  as_tree n = refused (invalid_type (kind_of n))
 
   -- an extended value as it is, the options of a regular expression sorted by character; a scope is a document
-  pub extended_tree : Mode → Extended → Reading Tree
-  extended_tree mode (binary subtype b) = Ok (tree.binary subtype b.bytes)
-  extended_tree mode undefined = Ok tree.undefined
-  extended_tree mode (object_id id) = Ok (tree.object_id id.bytes)
-  extended_tree mode (date_time n) = Ok (tree.date_time n)
-  extended_tree mode (regular_expression pattern options) = Ok (tree.regular_expression (text_in mode pattern).bytes (sorted (text_in mode options).bytes))
-  extended_tree mode (db_pointer namespace id) = Ok (tree.db_pointer (text_in mode namespace).bytes id)
-  extended_tree mode (javascript_code t) = Ok (tree.javascript_code (text_in mode t).bytes)
-  extended_tree mode (symbol t) = Ok (tree.symbol (text_in mode t).bytes)
-  extended_tree mode (javascript_code_with_scope t n) =
-      result_map (tree.javascript_code_with_scope (text_in mode t).bytes) (under scope_key ((judged mode n >>= λ _. as_tree mode n) >>= pairs_in))
-  extended_tree mode (timestamp time increment) = Ok (tree.timestamp time increment)
-  extended_tree mode (decimal128 b) = Ok (tree.decimal128 b)
-  extended_tree mode max_key = Ok tree.max_key
-  extended_tree mode min_key = Ok tree.min_key
+  pub extended_tree : Extended → Reading Tree
+  extended_tree (binary subtype b) = Ok (tree.binary subtype b.bytes)
+  extended_tree undefined = Ok tree.undefined
+  extended_tree (object_id id) = Ok (tree.object_id id.bytes)
+  extended_tree (date_time n) = Ok (tree.date_time n)
+  extended_tree (regular_expression pattern options) = Ok (tree.regular_expression pattern.bytes (sorted options.bytes))
+  extended_tree (db_pointer namespace id) = Ok (tree.db_pointer namespace.bytes id)
+  extended_tree (javascript_code t) = Ok (tree.javascript_code t.bytes)
+  extended_tree (symbol t) = Ok (tree.symbol t.bytes)
+  extended_tree (javascript_code_with_scope t n) =
+      result_map (tree.javascript_code_with_scope t.bytes) (under scope_key ((judged n >>= λ _. as_tree n) >>= pairs_in))
+  extended_tree (timestamp time increment) = Ok (tree.timestamp time increment)
+  extended_tree (decimal128 b) = Ok (tree.decimal128 b)
+  extended_tree max_key = Ok tree.max_key
+  extended_tree min_key = Ok tree.min_key
 
   -- the values of an array from this index on, up to the fault that ends their list
-  pub array_trees : Mode → ℕ → Nodes → Reading Trees
-  array_trees mode i ended = Ok no_trees
-  array_trees mode i (faulty e) = refused (raw e)
-  array_trees mode i (then_node key n ns) = under_index i (judged mode n >>= λ _. as_tree mode n) >>= λ t. result_map (tree.tree t) (array_trees mode (suc i) ns)
+  pub array_trees : ℕ → Nodes → Reading Trees
+  array_trees i ended = Ok no_trees
+  array_trees i (faulty e) = refused (raw e)
+  array_trees i (then_node key n ns) = under_index i (judged n >>= λ _. as_tree n) >>= λ t. result_map (tree.tree t) (array_trees (suc i) ns)
 
   -- the elements of a document after the pairs of those before them, up to the fault that ends their list
-  pub document_tree : Mode → Nodes → Pairs → Reading Tree
-  document_tree mode ended ps = Ok (tree.document ps)
-  document_tree mode (faulty e) ps = refused (raw e)
-  document_tree mode (then_node key n ns) ps =
-      by_key (of_key key.bytes) key.bytes mode n (judged mode n >>= λ _. as_tree mode n) (λ t. document_tree mode ns (put_pair key.bytes t ps)) (λ t. after_code mode t ns)
-      (λ qs. after_scope mode qs ns)
+  pub document_tree : Nodes → Pairs → Reading Tree
+  document_tree ended ps = Ok (tree.document ps)
+  document_tree (faulty e) ps = refused (raw e)
+  document_tree (then_node key n ns) ps =
+      by_key (of_key key.bytes) key.bytes n (judged n >>= λ _. as_tree n) (λ t. document_tree ns (put_pair key.bytes t ps)) (λ t. after_code t ns)
+      (λ qs. after_scope qs ns)
 
   -- after the text of a code: nothing, or its scope
-  pub after_code : Mode → Utf8 → Nodes → Reading Tree
-  after_code mode t ended = Ok (tree.javascript_code t)
-  after_code mode t (faulty e) = refused (raw e)
-  after_code mode t (then_node key n ns) =
-      if bytes_eq key.bytes scope_key then result_map (tree.javascript_code_with_scope t) (under key.bytes ((judged mode n >>= λ _. as_tree mode n) >>= pairs_in))
+  pub after_code : Utf8 → Nodes → Reading Tree
+  after_code t ended = Ok (tree.javascript_code t)
+  after_code t (faulty e) = refused (raw e)
+  after_code t (then_node key n ns) =
+      if bytes_eq key.bytes scope_key then result_map (tree.javascript_code_with_scope t) (under key.bytes ((judged n >>= λ _. as_tree n) >>= pairs_in))
       else refused (unknown_field key.bytes)
 
 -- a value as a tree
-abbrev pub read_tree : Mode → Node → Reading Tree
-read_tree mode n = judged mode n >>= as_tree mode
+abbrev pub read_tree : Node → Reading Tree
+read_tree n = judged n >>= as_tree

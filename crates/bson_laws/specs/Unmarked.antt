@@ -20,7 +20,7 @@ abbrev mutual
   unmarked (string t) = Some (tree.string t.bytes)
   unmarked (document ns) = option_map tree.document (unmarked_pairs ns)
   unmarked (array ns) = option_map tree.array (unmarked_trees ns)
-  unmarked (bytes b) = Some (tree.binary 0 b.bytes)
+  unmarked (bytes u b) = Some (tree.binary 0 b.bytes)
   unmarked (boolean b) = Some (tree.boolean b)
   unmarked null = Some tree.null
   unmarked (int32 n) = Some (tree.int32 n)

@@ -20,10 +20,10 @@ use Rattle.bson_datum.specs.Value as value
 use Rattle.bson_datum.specs.Value.{i32, in_range, Value, no_field_values, field_value}
 use Rattle.bson_datum.specs.declared.wrapper.Wrapper.{Wrapper}
 use Rattle.bson_datum.specs.declared.wrapper.Wrapper.TheVariants.{Oid, Symbol, NumberInt, NumberLong, NumberDouble, Binary, Uuid, Code, Scope, Timestamp, RegularExpression, DbPointer, Date, MinKey, MaxKey, Undefined, NumberDecimal, NumberDecimalBytes}
-use Rattle.bson_laws.specs.Judged.{Mode, Reading, refused, judged}
+use Rattle.bson_laws.specs.Judged.{Reading, refused, judged}
 use Rattle.bson_laws.specs.ReadsLeaf.{no_extended}
 use Rattle.bson_laws.specs.Shaped.{reads}
-use Rattle.bson_laws.specs.Taken.{text_in, text_of}
+use Rattle.bson_laws.specs.Taken.{text_of}
 
 -- ---- what texts and bytes stand for
 
@@ -113,33 +113,33 @@ with_fields name s other r = structure [] (field name s (field other r no_fields
 
 -- what the value of a wrapper key is read as: a tree, or none where it is not valid
 abbrev pub Body : Type 0
-Body = Mode → Node → Reading (Option Tree)
+Body = Node → Reading (Option Tree)
 
 -- a value read at `string`
-abbrev pub text_at : Mode → Node → Reading Utf8
-text_at mode n = result_map (λ t. t.bytes) (judged mode n >>= text_of mode false)
+abbrev pub text_at : Node → Reading Utf8
+text_at n = result_map (λ t. t.bytes) (judged n >>= text_of false)
 
 abbrev pub text_body : (Utf8 → Option Tree) → Body
-text_body make mode n = result_map make (text_at mode n)
+text_body make n = result_map make (text_at n)
 
 -- a value read at a shape as every other value is, and what is made of it
 abbrev pub at : Form → (Value → Option Tree) → Body
-at s make mode n = result_map (λ v. make (contents v)) (reads no_extended s mode n)
+at s make n = result_map (λ v. make (contents v)) (reads no_extended s n)
 
 -- a judged value that is a text of 24 hexadecimal digits, or twelve bytes
 abbrev pub oid_body : Body
-oid_body mode (string t) = Ok (id_of_text (text_in mode t).bytes)
-oid_body mode (bytes b) = Ok (of_length 12 tree.object_id b.bytes)
-oid_body mode n = refused (invalid_type (kind_of n))
+oid_body (string t) = Ok (id_of_text t.bytes)
+oid_body (bytes u b) = Ok (of_length 12 tree.object_id b.bytes)
+oid_body n = refused (invalid_type (kind_of n))
 
 -- a judged value that is the text of a date, or else milliseconds in a struct
 abbrev pub date_body : Body
-date_body mode (string t) = Ok (option_map tree.date_time (date_of_text (text_in mode t).bytes))
-date_body mode n = at (with_field (codes "$numberLong") text) (a_field (a_text (λ t. option_map tree.date_time (integer_of_text t)))) mode n
+date_body (string t) = Ok (option_map tree.date_time (date_of_text t.bytes))
+date_body n = at (with_field (codes "$numberLong") text) (a_field (a_text (λ t. option_map tree.date_time (integer_of_text t)))) n
 
 -- a value, judged first
 abbrev pub judging : Body → Body
-judging body mode n = judged mode n >>= body mode
+judging body n = judged n >>= body
 
 -- how a document with a wrapper key is read
 pub data Meaning : Type 0 where

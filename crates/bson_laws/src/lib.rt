@@ -8,7 +8,7 @@ ghost use Rattle.bson_base.specs.Sound.{IsClean, IsSound, HasBytes, max_bytes};
 ghost use Rattle.bson_base.specs.Text.{Bytes, Utf8, AreBytes};
 ghost use Rattle.bson_base.specs.Tree as tree;
 ghost use Rattle.bson_base.specs.Tree.{Tree, Pairs, binary, javascript_code_with_scope, enc, kind, depth};
-ghost use Rattle.bson_rawdoc.specs.Node.{Extended, document, opened, opens, tree_node};
+ghost use Rattle.bson_rawdoc.specs.Node.{Sight, Extended, document, opened, opens, tree_node};
 ghost use Rattle.bson_shape.specs.Form.{Form};
 ghost use Rattle.bson_shape.specs.Makers.{IsShape};
 ghost use Rattle.bson_datum.specs.Value.{Value, kind_as};
@@ -19,10 +19,9 @@ ghost use Rattle.bson_laws.specs.Plain.{IsPlain};
 ghost use Rattle.bson_laws.specs.Writable.{IsWritable};
 ghost use Rattle.bson_laws.specs.InRange.{IsInRange, ArePairsInRange};
 ghost use Rattle.bson_laws.specs.Encodable.{IsEncodable};
-ghost use Rattle.bson_laws.specs.Judged.{plain};
 ghost use Rattle.bson_laws.specs.Trees.{read_tree};
 ghost use Rattle.bson_laws.specs.Unmarked.{unmarked, AreOpenedAlike};
-ghost use Rattle.bson_laws.specs.Represented.{RepresentsItself};
+ghost use Rattle.bson_laws.specs.Represented.{RepresentsItself, RepresentsItselfMended};
 ghost use Rattle.bson_laws.specs.Reads.{reads_document};
 ghost use Rattle.bson_laws.specs.Datum.{datum, uuid_datum, itself, sorted_tree};
 ghost use Rattle.bson_laws.specs.Spell.{IsWrittenUnlessLarge, HoldsNumbers, spell_as, spell_document, size_as};
@@ -84,21 +83,21 @@ pub fn law_datum_spells()
 /// It does nothing.
 pub fn law_opened_agrees()
     ensures opened { AreOpenedAlike }
-    ensures trees { (in_input : Bool) (t : Tree) (levels : ℕ) → depth t ≤ levels → unmarked (tree_node in_input t levels) ≡ Some t }
+    ensures trees { (at : Sight) (t : Tree) (levels : ℕ) → depth t ≤ levels → unmarked (tree_node at t levels) ≡ Some t }
 {}
 
 /// The document that an extended value is opened to represents the value: as a tree it is read as the value itself is, and refused exactly where the value is.
 /// Of a clean value that is the value with the options of its regular expressions in order, and so is what is read of the document that
 /// `Bson::into_extended_document` gives for it.
 ///
-/// The numbers and the bytes of the value are in the ranges of its kind (`HasRanges`); texts are replaced where they are ill-formed, or not, as the mode of
-/// reading says. The call does nothing.
+/// The numbers and the bytes of the value are in the ranges of its kind (`HasRanges`). It is so too where texts are mended. The call does nothing.
 pub fn law_opened_represents()
     ensures represents { RepresentsItself }
-    ensures clean { (in_input : Bool) (t : Tree) (levels : ℕ) (x : Extended) → IsClean t → depth t ≤ levels → tree_node in_input t levels ≡ opens x
-        → read_tree plain (document (opened x)) ≡ Ok (sorted_tree t) }
-    ensures document { (in_input : Bool) (t : Tree) (levels : ℕ) → IsClean t → IsExtended t → depth (tree.document (for_trees.opened t)) ≤ levels
-        → read_tree plain (tree_node in_input (tree.document (for_trees.opened t)) levels) ≡ Ok (sorted_tree t) }
+    ensures mended { RepresentsItselfMended }
+    ensures clean { (at : Sight) (t : Tree) (levels : ℕ) (x : Extended) → IsClean t → depth t ≤ levels → tree_node at t levels ≡ opens x
+        → read_tree (document (opened x)) ≡ Ok (sorted_tree t) }
+    ensures document { (at : Sight) (t : Tree) (levels : ℕ) → IsClean t → IsExtended t → depth (tree.document (for_trees.opened t)) ≤ levels
+        → read_tree (tree_node at (tree.document (for_trees.opened t)) levels) ≡ Ok (sorted_tree t) }
 {}
 
 /// The document that a value of a plain shape means is read back, at the shape, as the normal form of the value.

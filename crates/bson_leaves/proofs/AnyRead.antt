@@ -14,7 +14,7 @@ use Rattle.bson_datum.specs.declared.de.Fault.{Fault}
 use Rattle.bson_datum.specs.declared.stop.Stop.{Stop}
 use Rattle.bson_datum.specs.Value as value
 use Rattle.bson_datum.specs.Value.{no_entries}
-use Rattle.bson_laws.specs.Judged.{Reading, judged, plain, with_level}
+use Rattle.bson_laws.specs.Judged.{Reading, judged, with_level}
 use Rattle.bson_laws.specs.ReadsLeaf.{any_entries}
 use Rattle.bson_laws.specs.Taken.{document_of}
 use Rattle.bson_laws.proofs.Tame.{judged_is}
@@ -50,8 +50,8 @@ any_inner_document_is (suc levels) b = refl
 
 -- a value that is opened
 pub any_opened_is : (levels : ℕ) (k : ElementType) (b : Bytes) (v : RawValue) → Ok v ≡ value_in k b → is_opened v ≡ true → any_within levels v ≡ result_map value.map (any_entries_at (node_in levels k b))
-any_opened_is levels k b v e o = opened_is v o ∙ ap (λ r. result_map value.map ((r >>= document_of) >>= λ ms. any_entries plain ms no_entries)) (sym (judged_good levels k b v e)) where
-  opened_is : (v : RawValue) → is_opened v ≡ true → any_within levels v ≡ result_map value.map ((with_level (value_node (inner_node levels) v) >>= document_of) >>= λ ms. any_entries plain ms no_entries)
+any_opened_is levels k b v e o = opened_is v o ∙ ap (λ r. result_map value.map ((r >>= document_of) >>= λ ms. any_entries ms no_entries)) (sym (judged_good levels k b v e)) where
+  opened_is : (v : RawValue) → is_opened v ≡ true → any_within levels v ≡ result_map value.map ((with_level (value_node (inner_node levels) v) >>= document_of) >>= λ ms. any_entries ms no_entries)
   opened_is raws.undefined o = refl
   opened_is (raws.object_id id) o = refl
   opened_is (raws.date_time n) o = refl
@@ -92,7 +92,7 @@ document_of_smaller (extended x ms) ns e = let same : ms ≡ ns = cc in omega (a
 document_of_smaller m ns e = absurd cc
 
 pub document_smaller : (n : Node) (ns : Nodes) → document_at n ≡ Ok ns → sizes ns < size n
-document_smaller n ns e = let j = bind_ok (judged plain n) document_of ns e in omega (arith, document_of_smaller j.0 ns j.2, ap size (judged_is plain n j.0 j.1))
+document_smaller n ns e = let j = bind_ok (judged n) document_of ns e in omega (arith, document_of_smaller j.0 ns j.2, ap size (judged_is n j.0 j.1))
 
 -- what is made of an answer is what the code makes of its own
 pub reaches_map : {X Y Z : Type 0} (see : X → Y) (f : Y → Z) (r : Result X (Stop Fault)) (x : Reading Y) → Reaches see r x → Reaches (λ v. f (see v)) r (result_map f x)

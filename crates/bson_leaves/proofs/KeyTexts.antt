@@ -17,7 +17,7 @@ use Rattle.bson_datum.specs.Marked.{Marked, contents}
 use Rattle.bson_datum.specs.Value as value
 use Rattle.bson_datum.specs.Value.{Value, character, unit_variant}
 use Rattle.bson_laws.specs.Containers.{reads_key, unit_of}
-use Rattle.bson_laws.specs.Judged.{Reading, plain, refused}
+use Rattle.bson_laws.specs.Judged.{Reading, refused}
 use Rattle.bson_laws.specs.Taken.{read_character}
 use Rattle.bson_laws.specs.Views.{one_character}
 use Rattle.bson_laws.specs.Variants.{content_of}
@@ -62,13 +62,13 @@ borrowed_str : (b : Bool) (p : Piece) (k : Marked) → result_map value.str (con
 borrowed_str true p k e = let same : value.str p ≡ k = cc in ap (λ v. Ok (contents v)) same
 borrowed_str false p k e = absurd cc
 
-leaf_valued : (l : Leaf) (p : Piece) (k : Marked) → is_text l ≡ true → reads_key plain (leaf l) p ≡ Ok k → key_value (leaf l) p.bytes ≡ Ok (contents k)
+leaf_valued : (l : Leaf) (p : Piece) (k : Marked) → is_text l ≡ true → reads_key (leaf l) p ≡ Ok k → key_value (leaf l) p.bytes ≡ Ok (contents k)
 leaf_valued Str p k text e = borrowed_str p.in_input p k e
 leaf_valued String p k text e = ap (result_map contents) e
 leaf_valued Char p k text e = ap (result_map contents) e
 leaf_valued l p k text e = absurd (false≢true text)
 
-pub key_valued : (s : Form) (p : Piece) (k : Marked) → is_text_key s ≡ true → reads_key plain s p ≡ Ok k → key_value s p.bytes ≡ Ok (contents k)
+pub key_valued : (s : Form) (p : Piece) (k : Marked) → is_text_key s ≡ true → reads_key s p ≡ Ok k → key_value s p.bytes ≡ Ok (contents k)
 key_valued (leaf l) p k text e = leaf_valued l p k text e
 key_valued (enumeration vs) p k text e = ap (result_map contents) e
 key_valued s p k text e = absurd (false≢true text)

@@ -14,7 +14,7 @@ use Rattle.bson_datum.specs.declared.de.Fault.{Fault}
 use Rattle.bson_datum.specs.declared.stop.Stop.{Stop}
 use Rattle.bson_datum.specs.declared.datum.Datum.{Datum}
 use Rattle.bson_laws.specs.Containers.{reads_items, reads_entries}
-use Rattle.bson_laws.specs.Judged.{Reading, Mode, plain, judged, faultless, with_level, ignores, passes, pass_nodes}
+use Rattle.bson_laws.specs.Judged.{Reading, judged, faultless, with_level, ignores, passes, pass_nodes}
 use Rattle.bson_laws.specs.ReadsLeaf.{put_entry, read_any, any_items, any_entries}
 use Rattle.bson_laws.specs.Taken.{reads_bytes}
 use Rattle.bson_met.proofs.Refusals.{StopsAs, stops_bind}
@@ -43,8 +43,8 @@ faultless_then : {A : Type 0} (o : Option Error) (n : Node) (read : Node → Rea
 faultless_then None n read = level_then n read
 faultless_then (Some e) n read = refl
 
-pub judged_same : {A : Type 0} (mode : Mode) (n : Node) (read : Node → Reading A) → (judged mode n >>= read) ≡ (judged mode n >>= λ _. read n)
-judged_same mode n read = faultless_then (fault mode.lossy n) n read
+pub judged_same : {A : Type 0} (n : Node) (read : Node → Reading A) → (judged n >>= read) ≡ (judged n >>= λ _. read n)
+judged_same n read = faultless_then (fault n) n read
 
 -- ---- items
 
@@ -90,11 +90,11 @@ pub items_push : (ds : List Datum) (d : Datum) → items_marked (ds ++ d ∷ [])
 items_push [] d = refl
 items_push (e ∷ ds) d = ap (item (marked e)) (items_push ds d)
 
-pub any_items_are : (i : ℕ) (ns : Nodes) → any_items plain i ns ≡ reads_items any_at i ns
+pub any_items_are : (i : ℕ) (ns : Nodes) → any_items i ns ≡ reads_items any_at i ns
 any_items_are i ended = refl
 any_items_are i (faulty e) = refl
 any_items_are i (then_node k n ns) =
-    (λ j. under_index i (sym (judged_same plain n (read_any plain)) j) >>= λ v. result_map (item v) (any_items_are (suc i) ns j))
+    (λ j. under_index i (sym (judged_same n (read_any)) j) >>= λ v. result_map (item v) (any_items_are (suc i) ns j))
 
 -- an item that was read, and one that is refused
 pub item_done : (read : Node → Reading Marked) (i : ℕ) (k : Piece) (n : Node) (is : MarkedItems) (v : Marked) → under_index i (read n) ≡ Ok v → items_by read i k n is ≡ Ok (add is v)
@@ -121,12 +121,12 @@ entries_each read_key read i (then_node k n ns) es =
 abbrev pub as_str : Piece → Reading Marked
 as_str k = Ok (value.str k)
 
-pub any_entries_are : (ns : Nodes) (es : MarkedEntries) → any_entries plain ns es ≡ reads_entries as_str any_at ns es
+pub any_entries_are : (ns : Nodes) (es : MarkedEntries) → any_entries ns es ≡ reads_entries as_str any_at ns es
 any_entries_are ended es = refl
 any_entries_are (faulty e) es = refl
 any_entries_are (then_node k n ns) es =
-    ap (λ r. under k.bytes r >>= λ v. any_entries plain ns (put_entry (value.str k) v es)) (sym (judged_same plain n (read_any plain)))
-    ∙ bind_same (under k.bytes (any_at n)) (λ v. any_entries plain ns (put_entry (value.str k) v es)) (λ v. reads_entries as_str any_at ns (put_entry (value.str k) v es)) (λ v. any_entries_are ns (put_entry (value.str k) v es))
+    ap (λ r. under k.bytes r >>= λ v. any_entries ns (put_entry (value.str k) v es)) (sym (judged_same n (read_any)))
+    ∙ bind_same (under k.bytes (any_at n)) (λ v. any_entries ns (put_entry (value.str k) v es)) (λ v. reads_entries as_str any_at ns (put_entry (value.str k) v es)) (λ v. any_entries_are ns (put_entry (value.str k) v es))
 
 -- an entry that was read
 pub entry_done : (read_key : Piece → Reading Marked) (read : Node → Reading Marked) (i : ℕ) (k : Piece) (n : Node) (es : MarkedEntries) (key v : Marked) → read_key k ≡ Ok key → under k.bytes (read n) ≡ Ok v → entries_by read_key read i k n es ≡ Ok (put_entry key v es)
@@ -143,18 +143,18 @@ entry_stops read_key read i k n es key t named h =
 
 -- ---- values that are dropped
 
-pub ignored_at : (n : Node) → pass_at n ≡ ignores plain n
-ignored_at n = judged_same plain n (passes plain)
+pub ignored_at : (n : Node) → pass_at n ≡ ignores n
+ignored_at n = judged_same n (passes)
 
 abbrev pub pass_by : (ℕ → Piece → Segment) → Action (Unit {0})
 pass_by place i k n u = inside (place i k) (pass_at n)
 
-pub pass_each : (place : ℕ → Piece → Segment) (i : ℕ) (ns : Nodes) → each (pass_by place) i ns tt ≡ pass_nodes plain place i ns
+pub pass_each : (place : ℕ → Piece → Segment) (i : ℕ) (ns : Nodes) → each (pass_by place) i ns tt ≡ pass_nodes place i ns
 pass_each place i ended = refl
 pass_each place i (faulty e) = refl
 pass_each place i (then_node k n ns) =
-    bind_same (inside (place i k) (pass_at n)) (each (pass_by place) (suc i) ns) (λ _. pass_nodes plain place (suc i) ns) (λ _. pass_each place (suc i) ns)
-    ∙ ap (λ r. inside (place i k) r >>= λ _. pass_nodes plain place (suc i) ns) (ignored_at n)
+    bind_same (inside (place i k) (pass_at n)) (each (pass_by place) (suc i) ns) (λ _. pass_nodes place (suc i) ns) (λ _. pass_each place (suc i) ns)
+    ∙ ap (λ r. inside (place i k) r >>= λ _. pass_nodes place (suc i) ns) (ignored_at n)
 
 -- ---- bytes
 
@@ -167,14 +167,14 @@ one_byte bs (Err e) rest more h = refl
 one_byte bs (Ok b) (Err e) more h = h b
 one_byte bs (Ok b) (Ok x) more h = h b ∙ ap Ok (append_assoc bs (b ∷ []) x)
 
-bytes_each_from : (i : ℕ) (ns : Nodes) (bs : Bytes) → each bytes_by i ns bs ≡ result_map (λ cs. bs ++ cs) (reads_bytes plain i ns)
+bytes_each_from : (i : ℕ) (ns : Nodes) (bs : Bytes) → each bytes_by i ns bs ≡ result_map (λ cs. bs ++ cs) (reads_bytes i ns)
 bytes_each_from i ended bs = ap Ok (sym (append-nil bs))
 bytes_each_from i (faulty e) bs = refl
-bytes_each_from i (then_node k n ns) bs = one_byte bs (under_index i (byte_at n)) (reads_bytes plain (suc i) ns) (each bytes_by (suc i) ns) (λ b. bytes_each_from (suc i) ns (bs ++ b ∷ []))
+bytes_each_from i (then_node k n ns) bs = one_byte bs (under_index i (byte_at n)) (reads_bytes (suc i) ns) (each bytes_by (suc i) ns) (λ b. bytes_each_from (suc i) ns (bs ++ b ∷ []))
 
 all_bytes : (r : Reading Bytes) → result_map (λ cs. [] ++ cs) r ≡ r
 all_bytes (Ok x) = refl
 all_bytes (Err e) = refl
 
-pub bytes_each : (ns : Nodes) → each bytes_by 0 ns [] ≡ reads_bytes plain 0 ns
-bytes_each ns = bytes_each_from 0 ns [] ∙ all_bytes (reads_bytes plain 0 ns)
+pub bytes_each : (ns : Nodes) → each bytes_by 0 ns [] ≡ reads_bytes 0 ns
+bytes_each ns = bytes_each_from 0 ns [] ∙ all_bytes (reads_bytes 0 ns)

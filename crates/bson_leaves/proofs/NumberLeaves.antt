@@ -10,7 +10,7 @@ use Rattle.bson_datum.specs.Cause.{out_of_range}
 use Rattle.bson_datum.specs.Value.{IntegerType, in_range}
 use Rattle.bson_laws.specs.Leaves.{LeafKind, numbers, leaf_kind}
 use Rattle.bson_datum.specs.Marked.{Marked}
-use Rattle.bson_laws.specs.Judged.{Reading, judged, plain, refused}
+use Rattle.bson_laws.specs.Judged.{Reading, judged, refused}
 use Rattle.bson_laws.specs.ReadsLeaf.{borrows}
 use Rattle.bson_laws.specs.Reads.{reads, read_leaf}
 use Rattle.bson_laws.specs.Taken.{integer_of}
@@ -34,11 +34,11 @@ then_twice : {A B C : Type 0} (r : Reading A) (f : A → Reading B) (g : B → R
 then_twice (Ok x) f g = refl
 then_twice (Err e) f g = refl
 
-by_kind : (k : LeafKind) (type : IntegerType) (b : Bool) (n : Node) → k ≡ numbers type → (judged plain n >>= read_leaf plain b k) ≡ reads_number k n
-by_kind k type b n e = subst (λ x. (judged plain n >>= read_leaf plain b x) ≡ reads_number x n) (sym e) (then_twice (judged plain n) integer_of (number_at (numbers type)))
+by_kind : (k : LeafKind) (type : IntegerType) (b : Bool) (n : Node) → k ≡ numbers type → (judged n >>= read_leaf b k) ≡ reads_number k n
+by_kind k type b n e = subst (λ x. (judged n >>= read_leaf b x) ≡ reads_number x n) (sym e) (then_twice (judged n) integer_of (number_at (numbers type)))
 
 -- a value at one of them is read as a number
-pub number_read : (l : Leaf) (n : Node) → TakesNumbers l → reads (leaf l) plain n ≡ reads_number (leaf_kind l) n
+pub number_read : (l : Leaf) (n : Node) → TakesNumbers l → reads (leaf l) n ≡ reads_number (leaf_kind l) n
 number_read l n takes = let type = type_of l takes in by_kind (leaf_kind l) type.0 (borrows l) n type.1
 
 -- a number that is one of the leaf's type is not refused there

@@ -5,17 +5,17 @@ use Rattle.bson_rawdoc.specs.Node.{Node, inner_node, value_node}
 use Rattle.bson_rawdoc.specs.RawValue.{RawValue, double, string, document, array, binary, boolean, null, int32, int64}
 use Rattle.bson_datum.specs.Marked.{Marked, MarkedItems, MarkedEntries}
 use Rattle.bson_datum.specs.Value.{no_entries}
-use Rattle.bson_laws.specs.Judged.{Reading, judged, plain, with_level}
+use Rattle.bson_laws.specs.Judged.{Reading, judged, with_level}
 use Rattle.bson_laws.specs.ReadsLeaf.{read_any, any_items, any_entries}
 use Rattle.bson_met.specs.MetView.{array_at, document_at}
 
 -- a value, judged and read without a shape
 abbrev pub any_at : Node → Reading Marked
-any_at n = judged plain n >>= read_any plain
+any_at n = judged n >>= read_any
 
 -- a value of the input without a fault, where so many levels are left for it
 abbrev pub any_within : ℕ → RawValue → Reading Marked
-any_within levels v = with_level (value_node (inner_node levels) v) >>= read_any plain
+any_within levels v = with_level (value_node (inner_node levels) v) >>= read_any
 
 -- a value of the input that is read as the document that it is opened to
 abbrev pub is_opened : RawValue → Bool
@@ -32,8 +32,8 @@ is_opened v = true
 
 -- the values in the array that a node is
 abbrev pub any_items_at : Node → Reading MarkedItems
-any_items_at n = array_at n >>= any_items plain 0
+any_items_at n = array_at n >>= any_items 0
 
 -- the entries of the document that a node is or is opened to
 abbrev pub any_entries_at : Node → Reading MarkedEntries
-any_entries_at n = document_at n >>= λ ns. any_entries plain ns no_entries
+any_entries_at n = document_at n >>= λ ns. any_entries ns no_entries

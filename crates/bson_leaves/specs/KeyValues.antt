@@ -6,8 +6,8 @@ use Rattle.bson_shape.specs.Form.{Form}
 use Rattle.bson_datum.specs.Marked.{contents}
 use Rattle.bson_datum.specs.Value.{Value}
 use Rattle.bson_laws.specs.Containers.{reads_key}
-use Rattle.bson_laws.specs.Judged.{Reading, plain}
+use Rattle.bson_laws.specs.Judged.{Reading}
 
 -- the key that a text is at this form of keys, wherever the text is
 abbrev pub key_value : Form → Utf8 → Reading Value
-key_value s t = result_map contents (reads_key plain s (borrowed t))
+key_value s t = result_map contents (reads_key s (borrowed t))

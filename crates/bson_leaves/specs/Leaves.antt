@@ -7,26 +7,26 @@ use Rattle.bson_rawdoc.specs.Piece.{Piece, made}
 use Rattle.bson_datum.specs.Cause.{out_of_range}
 use Rattle.bson_datum.specs.Marked.{Marked}
 use Rattle.bson_datum.specs.Value.{in_range, integer}
-use Rattle.bson_laws.specs.Judged.{Reading, refused, judged, plain}
+use Rattle.bson_laws.specs.Judged.{Reading, refused, judged}
 use Rattle.bson_laws.specs.Leaves.{LeafKind, numbers}
 use Rattle.bson_laws.specs.Taken.{null_of, text_of, bytes_of, character_of, buffer_of, borrow, as_text, as_byte, read_integer}
 use Rattle.bson_met.specs.MetView.{integer_at}
 
 -- a value, judged and taken as a text, as a byte string and so on
 abbrev pub text_at : (borrows : Bool) → Node → Reading Piece
-text_at borrows n = judged plain n >>= text_of plain borrows
+text_at borrows n = judged n >>= text_of borrows
 
 abbrev pub bytes_at : Node → Reading Piece
-bytes_at n = judged plain n >>= bytes_of plain
+bytes_at n = judged n >>= bytes_of
 
 abbrev pub buffer_at : Node → Reading Bytes
-buffer_at n = judged plain n >>= buffer_of plain
+buffer_at n = judged n >>= buffer_of
 
 abbrev pub character_at : Node → Reading Marked
-character_at n = judged plain n >>= character_of plain
+character_at n = judged n >>= character_of
 
 abbrev pub null_at : Node → Reading (Unit {0})
-null_at n = judged plain n >>= null_of
+null_at n = judged n >>= null_of
 
 abbrev pub byte_at : Node → Reading ℕ
 byte_at n = integer_at n >>= as_byte

@@ -1,8 +1,8 @@
 -- What contracts see of a value that is dropped.
 use Rattle.bson_base.specs.Outcome.{◌>>=◌}
 use Rattle.bson_rawdoc.specs.Node.{Node}
-use Rattle.bson_laws.specs.Judged.{Reading, judged, passes, plain}
+use Rattle.bson_laws.specs.Judged.{Reading, judged, passes}
 
 -- a value, judged and walked to its end
 abbrev pub pass_at : Node → Reading (Unit {0})
-pass_at n = judged plain n >>= passes plain
+pass_at n = judged n >>= passes

@@ -8,7 +8,6 @@ ghost use Rattle.bson_rawdoc.specs.ValueView.{raw_value};
 ghost use Rattle.bson_datum.specs.MarkedView.{marked};
 ghost use Rattle.bson_datum.specs.Value as values;
 ghost use Rattle.bson_datum.specs.Value.{no_entries};
-ghost use Rattle.bson_laws.specs.Judged.{plain};
 ghost use Rattle.bson_laws.specs.ReadsLeaf as laws;
 ghost use Rattle.bson_leaves.specs.Any.{any_at, any_within, is_opened, any_items_at, any_entries_at};
 ghost use Rattle.bson_leaves.specs.ListsMarked.{items_marked, entries_marked};
@@ -71,7 +70,7 @@ fn any_elsewhere<'de>(alloc: Global, value: &Met<'de>) -> Reading<Datum<'de>>
 #[cycle(any)]
 #[inline(never)]
 fn any_items<'de>(alloc: Global, mut elements: Items<'de>) -> Reading<Vec<Datum<'de>>>
-    ensures exact { Reaches (λ v. items_marked v.items) result (laws.any_items plain 0 elements.entry) }
+    ensures exact { Reaches (λ v. items_marked v.items) result (laws.any_items 0 elements.entry) }
 {
     let mut items = Vec::new(alloc);
     let mut index = 0;
@@ -91,7 +90,7 @@ fn any_items<'de>(alloc: Global, mut elements: Items<'de>) -> Reading<Vec<Datum<
 #[inline(never)]
 fn any_entries<'de>(alloc: Global, mut elements: Elements<'de>) -> Reading<Vec<Entry<'de>>>
     ensures exact { Reaches (λ v. entries_marked v.items) result
-        (laws.any_entries plain elements.entry no_entries) }
+        (laws.any_entries elements.entry no_entries) }
 {
     let mut entries = Entries::new(alloc, Form::Leaf(Leaf::Str));
     let mut step = elements.start();

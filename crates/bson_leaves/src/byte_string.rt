@@ -1,7 +1,6 @@
 // Byte strings, borrowed and owned.
 ghost use Rattle.bson_rawdoc.specs.Node.{opens};
 ghost use Rattle.bson_rawdoc.specs.Piece.{borrowed};
-ghost use Rattle.bson_laws.specs.Judged.{plain};
 ghost use Rattle.bson_laws.specs.Taken.{bytes_of, reads_bytes};
 ghost use Rattle.bson_met.specs.Gives.{Reaches};
 ghost use Rattle.bson_met.specs.OpenedView.{extended_view};
@@ -26,7 +25,7 @@ pub(crate) fn borrow_bytes<'de>(alloc: Global, value: &Met<'de>) -> Reading<&'de
 
 /// The bytes of an ObjectId, borrowed.
 fn borrow_id<'de>(alloc: Global, value: Extended<'de>) -> Reading<&'de [u8]>
-    ensures { Reaches (λ b. borrowed b.now) result (bytes_of plain (opens (extended_view value.entry))) }
+    ensures { Reaches (λ b. borrowed b.now) result (bytes_of (opens (extended_view value.entry))) }
 {
     match value {
         Extended::ObjectId(bytes) => bytes.borrow(alloc),
@@ -49,7 +48,7 @@ pub fn buffer(alloc: Global, value: &Met<'_>) -> Reading<Vec<u8>>
 
 /// The bytes that the numbers of an array are.
 fn bytes_of_items(alloc: Global, mut items: Items<'_>) -> Reading<Vec<u8>>
-    ensures { Reaches (λ v. v.items) result (reads_bytes plain 0 items.entry) }
+    ensures { Reaches (λ v. v.items) result (reads_bytes 0 items.entry) }
 {
     let mut bytes = Vec::new(alloc);
     let mut index = 0;

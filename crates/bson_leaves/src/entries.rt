@@ -8,7 +8,6 @@ ghost use Rattle.bson_datum.specs.Marked.{contents};
 ghost use Rattle.bson_datum.specs.MarkedView.{marked};
 ghost use Rattle.bson_datum.specs.Value as value;
 ghost use Rattle.bson_laws.specs.Containers.{reads_key};
-ghost use Rattle.bson_laws.specs.Judged.{plain};
 ghost use Rattle.bson_laws.specs.ReadsLeaf.{put_entry};
 ghost use Rattle.bson_met.specs.Gives.{Reaches};
 ghost use Rattle.bson_met.specs.PieceView.{str_piece};
@@ -55,7 +54,7 @@ impl<'s, 'de> Entries<'s, 'de> {
     #[inline(always)]
     pub fn read_key(&self, key: MetStr<'de>) -> Reading<Datum<'de>>
         requires { is_text_key (form_view (key_form self.now)) ≡ true }
-        ensures exact { Reaches marked result (reads_key plain (form_view (key_form self.now)) (str_piece key.entry)) }
+        ensures exact { Reaches marked result (reads_key (form_view (key_form self.now)) (str_piece key.entry)) }
     {
         let alloc = *self.entries.allocator();
         match self.key {
@@ -126,7 +125,7 @@ fn discard(_entry: Entry<'_>) {}
 #[inline(always)]
 fn leaf_key<'de>(alloc: Global, leaf: Leaf, key: MetStr<'de>) -> Reading<Datum<'de>>
     requires { is_text leaf ≡ true }
-    ensures exact { Reaches marked result (reads_key plain (form.leaf leaf) (str_piece key.entry)) }
+    ensures exact { Reaches marked result (reads_key (form.leaf leaf) (str_piece key.entry)) }
 {
     match leaf {
         Leaf::Char => character(alloc, key.text),

@@ -1,6 +1,6 @@
 // Values that are dropped.
 ghost use Rattle.bson_laws.specs.Judged as reads;
-ghost use Rattle.bson_laws.specs.Judged.{plain, at_its_key, at_its_index};
+ghost use Rattle.bson_laws.specs.Judged.{at_its_key, at_its_index};
 ghost use Rattle.bson_leaves.specs.Passes.{pass_at};
 ghost use Rattle.bson_met.specs.Gives.{Reaches};
 ghost use Rattle.bson_met.specs.OpenedView.{extended_view};
@@ -51,7 +51,7 @@ fn ignore_other(alloc: Global, value: &Met<'_>) -> Reading<()>
 #[cycle(ignore)]
 #[inline(never)]
 fn ignore_scope(alloc: Global, value: Extended<'_>) -> Reading<()>
-    ensures exact { Reaches (λ u. u) result (reads.pass_scope plain (extended_view value.entry)) }
+    ensures exact { Reaches (λ u. u) result (reads.pass_scope (extended_view value.entry)) }
 {
     let Extended::JavaScriptCodeWithScope(_, scope) = value else {
         return Ok(());
@@ -66,7 +66,7 @@ fn ignore_scope(alloc: Global, value: Extended<'_>) -> Reading<()>
 #[cycle(ignore)]
 #[inline(never)]
 fn ignore_elements(alloc: Global, mut elements: Elements<'_>) -> Reading<()>
-    ensures exact { Reaches (λ u. u) result (reads.pass_nodes plain at_its_key 0 elements.entry) }
+    ensures exact { Reaches (λ u. u) result (reads.pass_nodes at_its_key 0 elements.entry) }
 {
     let mut step = elements.start();
     'step: while elements.advance(alloc, &mut step)? {
@@ -81,7 +81,7 @@ fn ignore_elements(alloc: Global, mut elements: Elements<'_>) -> Reading<()>
 #[cycle(ignore)]
 #[inline(never)]
 fn ignore_items(alloc: Global, mut items: Items<'_>) -> Reading<()>
-    ensures exact { Reaches (λ u. u) result (reads.pass_nodes plain at_its_index 0 items.entry) }
+    ensures exact { Reaches (λ u. u) result (reads.pass_nodes at_its_index 0 items.entry) }
 {
     let mut index = 0;
     let mut value = items.start();

@@ -2,7 +2,6 @@
 ghost use Rattle.std.specs.Prelude.{◌≡◌, false, option_map};
 ghost use Rattle.bson_shape.specs.Form as form;
 ghost use Rattle.bson_datum.specs.MarkedView.{marked};
-ghost use Rattle.bson_laws.specs.Judged.{plain};
 ghost use Rattle.bson_laws.specs.Leaves.{leaf_kind};
 ghost use Rattle.bson_laws.specs.Reads.{reads};
 ghost use Rattle.bson_met.specs.Gives.{Reaches};
@@ -44,7 +43,7 @@ pub fn is_extended(leaf: Leaf) -> bool
 #[inline(always)]
 pub fn read_leaf<'de>(alloc: Global, leaf: Leaf, value: &Met<'de>) -> Reading<Datum<'de>>
     requires { leaves.is_extended leaf ≡ false }
-    ensures exact { Reaches marked result (reads (form.leaf leaf) plain value.now) }
+    ensures exact { Reaches marked result (reads (form.leaf leaf) value.now) }
 {
     match leaf {
         Leaf::I8
@@ -72,7 +71,7 @@ pub fn read_leaf<'de>(alloc: Global, leaf: Leaf, value: &Met<'de>) -> Reading<Da
 /// The boolean that a value is.
 #[inline(never)]
 fn boolean<'de>(alloc: Global, value: &Met<'de>) -> Reading<Datum<'de>>
-    ensures exact { Reaches marked result (reads (form.leaf Leaf.Bool) plain value.now) }
+    ensures exact { Reaches marked result (reads (form.leaf Leaf.Bool) value.now) }
 {
     match value.judge(alloc)? {
         Value::Boolean(boolean) => Ok(Datum::Bool(boolean)),
@@ -83,7 +82,7 @@ fn boolean<'de>(alloc: Global, value: &Met<'de>) -> Reading<Datum<'de>>
 /// The double that a value is.
 #[inline(never)]
 fn double<'de>(alloc: Global, value: &Met<'de>) -> Reading<Datum<'de>>
-    ensures exact { Reaches marked result (reads (form.leaf Leaf.Double) plain value.now) }
+    ensures exact { Reaches marked result (reads (form.leaf Leaf.Double) value.now) }
 {
     match value.judge(alloc)? {
         Value::Double(double) => Ok(Datum::Double(double)),
@@ -93,7 +92,7 @@ fn double<'de>(alloc: Global, value: &Met<'de>) -> Reading<Datum<'de>>
 
 /// A copy of the text that a value is.
 fn owned_string<'de>(alloc: Global, value: &Met<'de>) -> Reading<Datum<'de>>
-    ensures exact { Reaches marked result (reads (form.leaf Leaf.String) plain value.now) }
+    ensures exact { Reaches marked result (reads (form.leaf Leaf.String) value.now) }
 {
     let text = own_text(alloc, value)?;
     Ok(Datum::Str(Text::Owned(text)))
@@ -101,7 +100,7 @@ fn owned_string<'de>(alloc: Global, value: &Met<'de>) -> Reading<Datum<'de>>
 
 /// The text that a value is, borrowed.
 fn borrowed_str<'de>(alloc: Global, value: &Met<'de>) -> Reading<Datum<'de>>
-    ensures exact { Reaches marked result (reads (form.leaf Leaf.Str) plain value.now) }
+    ensures exact { Reaches marked result (reads (form.leaf Leaf.Str) value.now) }
 {
     let text = borrow_text(alloc, value)?;
     Ok(Datum::Str(Text::Borrowed(text)))
@@ -110,7 +109,7 @@ fn borrowed_str<'de>(alloc: Global, value: &Met<'de>) -> Reading<Datum<'de>>
 /// The bytes that a value is, borrowed.
 #[inline(never)]
 fn borrowed_bytes<'de>(alloc: Global, value: &Met<'de>) -> Reading<Datum<'de>>
-    ensures exact { Reaches marked result (reads (form.leaf Leaf.Bytes) plain value.now) }
+    ensures exact { Reaches marked result (reads (form.leaf Leaf.Bytes) value.now) }
 {
     let bytes = borrow_bytes(alloc, value)?;
     Ok(Datum::Bytes(ByteStr::Borrowed(bytes)))
@@ -119,7 +118,7 @@ fn borrowed_bytes<'de>(alloc: Global, value: &Met<'de>) -> Reading<Datum<'de>>
 /// A copy of the bytes that a value is, or the bytes that the numbers of an array are.
 #[inline(never)]
 fn byte_buf<'de>(alloc: Global, value: &Met<'de>) -> Reading<Datum<'de>>
-    ensures exact { Reaches marked result (reads (form.leaf Leaf.ByteBuf) plain value.now) }
+    ensures exact { Reaches marked result (reads (form.leaf Leaf.ByteBuf) value.now) }
 {
     let bytes = buffer(alloc, value)?;
     Ok(Datum::Bytes(ByteStr::Owned(bytes)))
@@ -128,7 +127,7 @@ fn byte_buf<'de>(alloc: Global, value: &Met<'de>) -> Reading<Datum<'de>>
 /// The unit, where a value is null.
 #[inline(never)]
 fn unit<'de>(alloc: Global, value: &Met<'de>) -> Reading<Datum<'de>>
-    ensures exact { Reaches marked result (reads (form.leaf Leaf.Unit) plain value.now) }
+    ensures exact { Reaches marked result (reads (form.leaf Leaf.Unit) value.now) }
 {
     match null(alloc, value) {
         Ok(()) => Ok(Datum::Unit),
@@ -139,7 +138,7 @@ fn unit<'de>(alloc: Global, value: &Met<'de>) -> Reading<Datum<'de>>
 /// The unit, where a value can be walked to its end.
 #[inline(never)]
 fn ignored<'de>(alloc: Global, value: &Met<'de>) -> Reading<Datum<'de>>
-    ensures exact { Reaches marked result (reads (form.leaf Leaf.Ignored) plain value.now) }
+    ensures exact { Reaches marked result (reads (form.leaf Leaf.Ignored) value.now) }
 {
     match ignore(alloc, value) {
         Ok(()) => Ok(Datum::Unit),

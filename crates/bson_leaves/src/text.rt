@@ -30,7 +30,7 @@ fn borrow_other_text<'de>(alloc: Global, value: &Met<'de>) -> Reading<&'de str>
 {
     match value.judge(alloc)? {
         Value::String(text) => text.borrow(alloc),
-        Value::Bytes(bytes) => borrow_utf8(alloc, bytes),
+        Value::Bytes(bytes) => borrow_utf8(alloc, bytes.owned_under_mark()),
         other => Err(refused(alloc, Cause::InvalidType(other.kind()))),
     }
 }
@@ -53,7 +53,7 @@ fn own_other_text(alloc: Global, value: &Met<'_>) -> Reading<String>
 {
     match value.judge(alloc)? {
         Value::String(text) => Ok(text.to_string(alloc)?),
-        Value::Bytes(bytes) => own_utf8(alloc, bytes),
+        Value::Bytes(bytes) => own_utf8(alloc, bytes.owned_under_mark()),
         other => Err(refused(alloc, Cause::InvalidType(other.kind()))),
     }
 }

@@ -6,7 +6,7 @@ use Rattle.bson_base.specs.declared.element_type.ElementType.TheVariants.{Embedd
 use Rattle.bson_rawdoc.specs.DocumentView.{document_bytes}
 use Rattle.bson_base.specs.Made.{digits, number_text, base64_text}
 use Rattle.bson_rawdoc.specs.Node as node
-use Rattle.bson_rawdoc.specs.Node.{Node, Nodes, one, two, made_text, opened, inner_node, one_level, pair_nodes}
+use Rattle.bson_rawdoc.specs.Node.{from_memory, Node, Nodes, one, two, made_text, opened, inner_node, one_level, pair_nodes}
 use Rattle.bson_rawdoc.specs.Piece.{made}
 use Rattle.bson_met.specs.PieceView.{met_bytes, str_piece, met_text}
 use Rattle.bson_met.specs.declared.opened.Names.{Names}
@@ -23,7 +23,7 @@ use Rattle.bson_met.specs.declared.opened.Made.TheVariants as mades
 -- the names of a scope, with so many levels left for them
 abbrev pub names_node : ℕ → Names → Node
 names_node levels (Bytes d) = inner_node levels EmbeddedDocument (document_bytes d)
-names_node levels (Pairs d) = one_level EmbeddedDocument (pair_nodes false (pairs_of d.now)) levels
+names_node levels (Pairs d) = one_level EmbeddedDocument (pair_nodes from_memory (pairs_of d.now)) levels
 
 abbrev pub scope_node : Scope → Node
 scope_node s = names_node s.levels s.names
@@ -64,7 +64,7 @@ opened_nodes o = left_nodes o.place (extended_view o.value)
 
 abbrev pub made_node : Made → Node
 made_node (mades.Text t) = node.string (met_text t)
-made_node (mades.Bytes b) = node.bytes (made b.bytes.now)
+made_node (mades.Bytes b) = node.bytes false (made b.bytes.now)
 made_node mades.True = node.boolean true
 made_node mades.One = node.int32 (pos 1)
 made_node (mades.Long n) = node.int64 (pos n)

@@ -1,7 +1,7 @@
 ghost use Rattle.std.specs.Prelude.{◌≡◌, true, IfOk};
 ghost use Rattle.bson_rawdoc.specs.Piece.{borrowed};
 ghost use Rattle.bson_datum.specs.MarkedView.{bytes_piece};
-ghost use Rattle.bson_laws.specs.Taken.{borrow};
+ghost use Rattle.bson_laws.specs.Taken.{borrow, owned_under_mark};
 ghost use Rattle.bson_met.specs.Gives.{Reaches};
 ghost use Rattle.bson_met.specs.PieceView.{met_bytes};
 
@@ -16,22 +16,36 @@ pub struct MetBytes<'de> {
     pub bytes: &'de [u8],
     /// Whether they are in the input, so that they can be borrowed.
     pub in_input: bool,
+    /// Whether texts are mended there: then only a byte string is borrowed.
+    pub under_mark: bool,
 }
 
 impl<'de> MetBytes<'de> {
-    /// The bytes, borrowed where they are in the input.
+    /// The bytes, borrowed where they are in the input and no text is mended.
     ///
     /// # Errors
     ///
     /// Memory ran out.
     #[inline(always)]
     pub fn to_byte_str(self, alloc: Global) -> Result<ByteStr<'de>, AllocError>
-        ensures piece { IfOk result (λ b. bytes_piece b ≡ met_bytes self.entry) }
+        ensures piece { IfOk result (λ b. bytes_piece b ≡ owned_under_mark self.entry.under_mark (met_bytes self.entry)) }
     {
-        if self.in_input {
+        if self.in_input && !self.under_mark {
             return Ok(ByteStr::Borrowed(self.bytes));
         }
         Ok(ByteStr::Owned(self.bytes.to_vec(alloc)?))
+    }
+
+    /// The bytes, which are not borrowed where texts are mended.
+    #[inline(always)]
+    pub fn owned_under_mark(self) -> MetBytes<'de>
+        ensures owned_under_mark { met_bytes result ≡ owned_under_mark self.entry.under_mark (met_bytes self.entry) }
+    {
+        MetBytes {
+            bytes: self.bytes,
+            in_input: self.in_input && !self.under_mark,
+            under_mark: false,
+        }
     }
 
     /// The bytes, where they can be borrowed.

@@ -3,7 +3,7 @@ ghost use Rattle.bson_base.specs.BsonView.{pairs_of};
 ghost use Rattle.bson_base.specs.declared.element_type.ElementType.TheVariants as kinds;
 ghost use Rattle.bson_rawdoc.specs.DocumentView.{document_bytes};
 ghost use Rattle.bson_rawdoc.specs.Node as node;
-ghost use Rattle.bson_rawdoc.specs.Node.{node_in, nodes_with, inner_node, one_level, pair_nodes, opened};
+ghost use Rattle.bson_rawdoc.specs.Node.{from_memory, node_in, nodes_with, inner_node, one_level, pair_nodes, opened};
 ghost use Rattle.bson_laws.specs.Judged.{with_level};
 ghost use Rattle.bson_met.specs.ElementsView.{source_nodes};
 ghost use Rattle.bson_met.specs.Gives.{Reaches};
@@ -91,7 +91,7 @@ impl<'de> Elements<'de> {
         document: &'de Document,
     ) -> Reading<Elements<'de>>
         ensures { Reaches node.document result
-            (with_level (one_level kinds.EmbeddedDocument (pair_nodes false (pairs_of document.now)) levels)) }
+            (with_level (one_level kinds.EmbeddedDocument (pair_nodes from_memory (pairs_of document.now)) levels)) }
     {
         if levels == 0 {
             return Err(refused(alloc, Cause::TooDeep));
@@ -172,7 +172,7 @@ fn advance_in_bytes<'de>(
 /// The next value of a document of a tree, put into the step.
 #[inline(never)]
 fn advance_in_pairs<'de>(levels: u32, pairs: &mut Iter<'de>, step: &mut Step<'de>) -> bool
-    ensures { IsTaken (pair_nodes false pairs.old levels) result step.new (pair_nodes false pairs.new levels) }
+    ensures { IsTaken (pair_nodes from_memory pairs.old levels) result step.new (pair_nodes from_memory pairs.new levels) }
 {
     match pairs.next() {
         Some((key, value)) => {

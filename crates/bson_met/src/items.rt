@@ -3,7 +3,7 @@ ghost use Rattle.bson_base.specs.BsonView.{trees_of};
 ghost use Rattle.bson_base.specs.declared.element_type.ElementType.TheVariants as kinds;
 ghost use Rattle.bson_rawdoc.specs.DocumentView.{array_bytes};
 ghost use Rattle.bson_rawdoc.specs.Node as node;
-ghost use Rattle.bson_rawdoc.specs.Node.{node_in, nodes_with, inner_node, one_level, tree_nodes};
+ghost use Rattle.bson_rawdoc.specs.Node.{from_memory, node_in, nodes_with, inner_node, one_level, tree_nodes};
 ghost use Rattle.bson_laws.specs.Judged.{with_level};
 ghost use Rattle.bson_met.specs.ItemsView.{array_nodes, value_nodes};
 ghost use Rattle.bson_met.specs.Gives.{Reaches};
@@ -81,7 +81,7 @@ impl<'de> Items<'de> {
         values: &'de Vec<Bson>,
     ) -> Reading<Items<'de>>
         ensures { Reaches node.array result
-            (with_level (one_level kinds.Array (tree_nodes false 0 (trees_of values.now.items)) levels)) }
+            (with_level (one_level kinds.Array (tree_nodes from_memory 0 (trees_of values.now.items)) levels)) }
     {
         if levels == 0 {
             return Err(refused(alloc, Cause::TooDeep));

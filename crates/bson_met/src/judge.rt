@@ -4,12 +4,12 @@ ghost use Rattle.std.specs.Str.{is_utf8};
 ghost use Rattle.bson_base.specs.BsonView.{tree_of, pairs_of};
 ghost use Rattle.bson_base.specs.declared.element_type.ElementType.TheVariants as kinds;
 ghost use Rattle.bson_rawdoc.specs.DocumentView.{document_bytes};
-ghost use Rattle.bson_rawdoc.specs.Node.{node_in, inner_node, value_node, one_level, pair_nodes, tree_node};
+ghost use Rattle.bson_rawdoc.specs.Node.{from_memory, node_in, inner_node, value_node, one_level, pair_nodes, tree_node};
 ghost use Rattle.bson_rawdoc.specs.JsonKinds.{is_of_json};
 ghost use Rattle.bson_rawdoc.specs.Piece.{borrowed, made};
 ghost use Rattle.bson_rawdoc.specs.RawValue.{kind_of, value_in};
 ghost use Rattle.bson_rawdoc.specs.ValueView.{raw_value};
-ghost use Rattle.bson_laws.specs.Judged.{judged, plain, with_level};
+ghost use Rattle.bson_laws.specs.Judged.{judged, with_level};
 ghost use Rattle.bson_met.specs.Gives.{Reaches};
 ghost use Rattle.bson_met.specs.MetView.{what_node};
 ghost use Rattle.bson_met.specs.OpenedView.{made_node};
@@ -36,7 +36,7 @@ pub(crate) fn judge_element<'de>(
     levels: u32,
     element: &RawElement<'de>,
 ) -> Reading<Value<'de>>
-    ensures { Reaches value_view result (judged plain (node_in levels element.now.kind element.now.value)) }
+    ensures { Reaches value_view result (judged (node_in levels element.now.kind element.now.value)) }
 {
     match element.value() {
         Ok(value) => Ok(judge_raw(alloc, levels, element, value)?),
@@ -47,7 +47,7 @@ pub(crate) fn judge_element<'de>(
 /// A value, wherever it comes from.
 #[inline(never)]
 pub(crate) fn judge_beyond<'de>(alloc: Global, levels: u32, what: &What<'de>) -> Reading<Value<'de>>
-    ensures { Reaches value_view result (judged plain (what_node levels what.now)) }
+    ensures { Reaches value_view result (judged (what_node levels what.now)) }
 {
     match what {
         What::Element(element) => Ok(judge_element(alloc, levels, element)?),
@@ -65,7 +65,7 @@ fn judge_document<'de>(
     document: RawDocument<'de>,
 ) -> Reading<Value<'de>>
     ensures { Reaches value_view result
-        (judged plain (inner_node levels kinds.EmbeddedDocument (document_bytes document.entry))) }
+        (judged (inner_node levels kinds.EmbeddedDocument (document_bytes document.entry))) }
 {
     let elements = Elements::in_document(alloc, levels, document)?;
     Ok(Value::Document(elements))
@@ -74,7 +74,7 @@ fn judge_document<'de>(
 /// A document of a tree.
 fn judge_pairs<'de>(alloc: Global, levels: u32, document: &'de Document) -> Reading<Value<'de>>
     ensures { Reaches value_view result
-        (judged plain (one_level kinds.EmbeddedDocument (pair_nodes false (pairs_of document.now)) levels)) }
+        (judged (one_level kinds.EmbeddedDocument (pair_nodes from_memory (pairs_of document.now)) levels)) }
 {
     let elements = Elements::in_pairs(alloc, levels, document)?;
     Ok(Value::Document(elements))
@@ -83,7 +83,7 @@ fn judge_pairs<'de>(alloc: Global, levels: u32, document: &'de Document) -> Read
 /// A value in a document that another value is opened to.
 #[inline(never)]
 fn judge_made<'de>(made: Made<'de>) -> Value<'de>
-    ensures { judged plain (made_node made.entry) ≡ Ok (value_view result) }
+    ensures { judged (made_node made.entry) ≡ Ok (value_view result) }
 {
     match made {
         Made::Text(text) => {
@@ -93,6 +93,7 @@ fn judge_made<'de>(made: Made<'de>) -> Value<'de>
         Made::Bytes(bytes) => Value::Bytes(MetBytes {
             bytes: bytes.bytes,
             in_input: false,
+            under_mark: false,
         }),
         Made::True => Value::Boolean(true),
         Made::One => Value::Int32(1),
@@ -175,7 +176,7 @@ fn extended<'de>(levels: u32, element: &RawElement<'de>, value: RawBsonRef<'de>)
 #[tactic(auto, using(bson_base::proofs::Rows::row_items))]
 #[inline(never)]
 fn judge_tree<'de>(alloc: Global, levels: u32, value: &'de Bson) -> Reading<Value<'de>>
-    ensures { Reaches value_view result (judged plain (tree_node false (tree_of value.now) levels)) }
+    ensures { Reaches value_view result (judged (tree_node from_memory (tree_of value.now) levels)) }
 {
     match value {
         Bson::Int32(number) => Ok(Value::Int32(*number)),
@@ -234,10 +235,12 @@ fn judge_tree<'de>(alloc: Global, levels: u32, value: &'de Bson) -> Reading<Valu
 fn input_bytes<'de>(bytes: &'de [u8]) -> MetBytes<'de>
     ensures piece { met_bytes result ≡ borrowed bytes.now }
     ensures bytes { result.bytes.now ≡ bytes.now }
+    ensures under_mark { result.under_mark ≡ false }
 {
     MetBytes {
         bytes,
         in_input: true,
+        under_mark: false,
     }
 }
 
@@ -245,10 +248,12 @@ fn input_bytes<'de>(bytes: &'de [u8]) -> MetBytes<'de>
 fn own_bytes<'de>(bytes: &'de [u8]) -> MetBytes<'de>
     ensures piece { met_bytes result ≡ made bytes.now }
     ensures bytes { result.bytes.now ≡ bytes.now }
+    ensures under_mark { result.under_mark ≡ false }
 {
     MetBytes {
         bytes,
         in_input: false,
+        under_mark: false,
     }
 }
 

@@ -3,8 +3,8 @@ ghost use Rattle.bson_base.specs.BsonView.{tree_of};
 ghost use Rattle.bson_base.specs.declared.element_type.ElementType.TheVariants as kinds;
 ghost use Rattle.bson_rawdoc.specs.DocumentView.{document_bytes};
 ghost use Rattle.bson_rawdoc.specs.Node as node;
-ghost use Rattle.bson_rawdoc.specs.Node.{node_in, inner_node, tree_node};
-ghost use Rattle.bson_laws.specs.Judged.{judged, plain};
+ghost use Rattle.bson_rawdoc.specs.Node.{from_memory, node_in, inner_node, tree_node};
+ghost use Rattle.bson_laws.specs.Judged.{judged};
 ghost use Rattle.bson_met.specs.Gives.{Reaches};
 ghost use Rattle.bson_met.specs.Nulls.{is_null, is_null_kind};
 ghost use Rattle.bson_met.specs.MetView.{what_node, document_at, array_at, integer_at};
@@ -71,7 +71,7 @@ impl<'de> Met<'de> {
 
     /// A value of a tree, with so many levels left for it.
     pub fn of_tree(levels: u32, value: &'de Bson) -> Met<'de>
-        ensures node { result ≡ tree_node false (tree_of value.now) levels }
+        ensures node { result ≡ tree_node from_memory (tree_of value.now) levels }
     {
         Met {
             levels,
@@ -169,7 +169,7 @@ impl<'de> Met<'de> {
     /// being a document or an array.
     #[inline(always)]
     pub fn judge(&self, alloc: Global) -> Reading<Value<'de>>
-        ensures judged { Reaches value_view result (judged plain self.now) }
+        ensures judged { Reaches value_view result (judged self.now) }
     {
         if let What::Element(element) = &self.what {
             return Ok(judge_element(alloc, self.levels, element)?);
@@ -180,7 +180,7 @@ impl<'de> Met<'de> {
     /// The value, judged, where it is a scalar of the input that JSON has too.
     #[inline(always)]
     pub fn scalar(&self, alloc: Global) -> Reading<Scalar<'de>>
-        ensures scalar { IsSeen result (judged plain self.now) }
+        ensures scalar { IsSeen result (judged self.now) }
     {
         match &self.what {
             What::Element(element) => scalar_in(alloc, self.levels, element),

@@ -17,7 +17,7 @@ use Rattle.bson_shape.specs.declared.shape.FieldShape.{FieldShape}
 use Rattle.bson_shape.proofs.Names.{field_names_are}
 use Rattle.bson_datum.specs.Marked.{Marked, field_contents}
 use Rattle.bson_datum.specs.Value.{none}
-use Rattle.bson_laws.specs.Judged.{plain, ignores}
+use Rattle.bson_laws.specs.Judged.{ignores}
 use Rattle.bson_laws.specs.Reads.{reads, slots_of}
 use Rattle.bson_laws.specs.Slots.{Slots, fill, finish, put_at, value_or}
 use Rattle.bson_laws.specs.Spell.{spell_fields}
@@ -71,7 +71,7 @@ field_at (g ∷ fs) (suc i) f key lt got same = field_at fs i f key (omega (arit
 -- ---- elements that are found
 
 -- no element was found
-none_read : (levels : ℕ) (fs : List FieldShape) (values : List (Option Marked)) → AreReadAs levels fs (replicate (length fs) None) values → slots_with fs values ≡ slots_of (fields_of fs) plain
+none_read : (levels : ℕ) (fs : List FieldShape) (values : List (Option Marked)) → AreReadAs levels fs (replicate (length fs) None) values → slots_with fs values ≡ slots_of (fields_of fs)
 none_read levels [] values h = refl
 none_read levels (f ∷ fs) [] h = absurd h
 none_read levels (f ∷ fs) (None ∷ values) h = ap (λ ss. slot_of f ∷ ss) (none_read levels fs values h.1)
@@ -84,14 +84,14 @@ names-with levels (f ∷ fs) (e ∷ es) [] h = absurd h
 names-with levels (f ∷ fs) (e ∷ es) (v ∷ values) h = ap (λ ns. name_of f ∷ ns) (names-with levels fs es values h.1)
 
 -- an element that slots behind others take
-put_behind : (key : Utf8) (n : Node) (front old new : Slots) → LacksName key (names front) → put_at plain key n old ≡ Ok new → put_at plain key n (front ++ old) ≡ Ok (front ++ new)
+put_behind : (key : Utf8) (n : Node) (front old new : Slots) → LacksName key (names front) → put_at key n old ≡ Ok new → put_at key n (front ++ old) ≡ Ok (front ++ new)
 put_behind key n [] old new free h = h
 put_behind key n (s ∷ front) old new free h = rw (free.0, put_behind key n front old new free.1 h) refl
 
 -- a field that had no element has this one
 noted : (levels : ℕ) (e : Element) (fs : List FieldShape) (i : ℕ) (es : List (Option Element)) (after : List (Option Marked)) → LacksName e.key (map name_of (take i fs)) → IsField fs i e.key → i < length es → get_or es i None ≡ None
     → AreReadAs levels fs (set es i (Some e)) after
-    → (before : List (Option Marked)) × AreReadAs levels fs es before × (put_at plain e.key (node_in levels e.kind e.value) (slots_with fs before) ≡ Ok (slots_with fs after))
+    → (before : List (Option Marked)) × AreReadAs levels fs es before × (put_at e.key (node_in levels e.kind e.value) (slots_with fs before) ≡ Ok (slots_with fs after))
 noted levels e [] i es after lacks at lt empty h = absurd at
 noted levels e (f ∷ fs) i [] after lacks at lt empty h = absurd (omega (arith, lt))
 noted levels e (f ∷ fs) zero (o ∷ es) [] lacks at lt empty h = absurd h
@@ -111,7 +111,7 @@ element_noted levels front fs e i es distinct at lt empty after h =
     (r.0, r.1, λ slots named. put_behind e.key (node_in levels e.kind e.value) slots (slots_with fs r.0) (slots_with fs after) (subst (LacksName e.key) named (lacks_front front fs i e.key d at)) r.2)
 
 -- an element that no field has
-pub element_dropped : (levels : ℕ) (front fs : List FieldShape) (e : Element) (es : List (Option Element)) → is_free e.key fs ≡ true → is_free e.key front ≡ true → ignores plain (node_in levels e.kind e.value) ≡ Ok tt → IsNoted levels front fs e es es
+pub element_dropped : (levels : ℕ) (front fs : List FieldShape) (e : Element) (es : List (Option Element)) → is_free e.key fs ≡ true → is_free e.key front ≡ true → ignores (node_in levels e.kind e.value) ≡ Ok tt → IsNoted levels front fs e es es
 element_dropped levels front fs e es free free_front passed after h = (
   after,
   h,
@@ -123,7 +123,7 @@ element_dropped levels front fs e es free free_front passed after h = (
 
 -- no element is looked at yet
 pub found_none : (levels : ℕ) (front fs : List FieldShape) (whole : Nodes) (es : List (Option Element)) → es ≡ replicate (length fs) None → AreFound levels front fs whole whole es
-found_none levels front fs whole es is values h slots named = ap (λ ss. fill plain whole (slots ++ ss)) (sym (none_read levels fs values (subst (λ l. AreReadAs levels fs l values) is h)))
+found_none levels front fs whole es is values h slots named = ap (λ ss. fill whole (slots ++ ss)) (sym (none_read levels fs values (subst (λ l. AreReadAs levels fs l values) is h)))
 
 -- one element more
 pub found_step : (levels : ℕ) (front fs : List FieldShape) (whole : Nodes) (old_walk new_walk : Walk) (e : Element) (old new : List (Option Element)) → AreFound levels front fs whole (nodes_with (node_in levels) old_walk) old → old_walk ≡ then_walk e new_walk
@@ -131,8 +131,8 @@ pub found_step : (levels : ℕ) (front fs : List FieldShape) (whole : Nodes) (ol
 found_step levels front fs whole old_walk new_walk e old new found step is values h slots named =
     let before = is values h in
     found before.0 before.1 slots named
-    ∙ ap (λ w. fill plain (nodes_with (node_in levels) w) (slots ++ slots_with fs before.0)) step
-    ∙ ap (λ r. r >>= fill plain (nodes_with (node_in levels) new_walk)) (before.2 slots named)
+    ∙ ap (λ w. fill (nodes_with (node_in levels) w) (slots ++ slots_with fs before.0)) step
+    ∙ ap (λ r. r >>= fill (nodes_with (node_in levels) new_walk)) (before.2 slots named)
 
 -- ---- what is written
 
@@ -162,7 +162,7 @@ left_less levels fs es i old made new f o left lt got within found one values mo
 -- a field that has an element
 element_put : (levels : ℕ) (f : FieldShape) (e : Element) (made new : Bytes) → has_zero (name_of f) ≡ false → IsElementPut (recast_node f.shape levels (node_in levels e.kind e.value)) (name_of f) made new → IsFoundPut levels f (Some e) made new
 element_put levels f e made new closed put =
-    let q = read_by levels (name_of f) made new (reads f.shape plain (node_in levels e.kind e.value)) put in
+    let q = read_by levels (name_of f) made new (reads f.shape (node_in levels e.kind e.value)) put in
     (Some q.0, element (kind q.1) (name_of f) (enc q.1), q.2, record { value = q.0; tree = q.1; given = refl; spelled = q.3; closed = closed; bytes_are = refl }, q.4)
 
 pub if_element_put : {A : Type 0} (levels : ℕ) (f : FieldShape) (e : Element) (made new : Bytes) (r : Option A) → IfSome r (λ _. has_zero (name_of f) ≡ false) → IfSome r (λ _. IsElementPut (recast_node f.shape levels (node_in levels e.kind e.value)) (name_of f) made new)
@@ -194,7 +194,7 @@ found_put fs levels whole place old made new old_walk new_walk e es p step found
     let rest = drop place fs in
     fields_end levels whole (p.front ++ slots_with rest h.0) old (p.bytes ++ h.1) new
     (p.left
-    ∙ ap (λ w. recast_fields (p.front ++ slots_of (fields_of rest) plain) levels (nodes_with (node_in levels) w)) step
+    ∙ ap (λ w. recast_fields (p.front ++ slots_of (fields_of rest)) levels (nodes_with (node_in levels) w)) step
     ∙ ap (λ r. recast_by (λ vs. spell_fields (field_contents vs) levels) (r >>= finish)) (found h.0 h.2 p.front p.names_are))
     (written_both levels p.front (slots_with rest h.0) p.bytes h.1 p.written h.3) (h.4 ∙ ap (λ b. b ++ h.1) p.put ∙ append_assoc old p.bytes h.1)
 

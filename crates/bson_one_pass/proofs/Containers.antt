@@ -13,7 +13,7 @@ use Rattle.bson_shape.specs.Form.{Form, sequence}
 use Rattle.bson_datum.specs.Marked.{contents, item_contents}
 use Rattle.bson_datum.specs.Value as value
 use Rattle.bson_laws.specs.Containers.{reads_items}
-use Rattle.bson_laws.specs.Judged.{Reading, plain}
+use Rattle.bson_laws.specs.Judged.{Reading}
 use Rattle.bson_laws.specs.Reads.{reads}
 use Rattle.bson_laws.specs.Spell.{Writing, spell, spell_items}
 use Rattle.bson_one_pass.specs.Put.{of_writing, recast_by, recast_node, recast_items, ArePut, IsPut, AreItemsPut, ArePairsPut}
@@ -53,7 +53,7 @@ pub array_put : (s : Form) (levels m : ℕ) (b old begun filled ended : Bytes) �
 array_put s levels m b old begun filled ended e wraps h =
     let ns = nodes_with (node_in m) (walk b) in
     elements_put (sequence s) (recast_items s m 0 ns) levels m b old begun filled ended
-    (recast_mapped (λ v. spell (contents v) (suc m)) value.sequence (λ vs. spell_items 0 (item_contents vs) m) tree.array (reads_items (reads s plain) 0 ns) (λ vs. refl)) e wraps h
+    (recast_mapped (λ v. spell (contents v) (suc m)) value.sequence (λ vs. spell_items 0 (item_contents vs) m) tree.array (reads_items (reads s) 0 ns) (λ vs. refl)) e wraps h
 
 -- ---- structs
 

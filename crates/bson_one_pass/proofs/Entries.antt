@@ -19,7 +19,6 @@ use Rattle.bson_datum.specs.Same.{same}
 use Rattle.bson_datum.specs.Value as value
 use Rattle.bson_datum.specs.Value.{str, no_entries, entry}
 use Rattle.bson_laws.specs.Containers.{reads_key, reads_entries}
-use Rattle.bson_laws.specs.Judged.{plain}
 use Rattle.bson_laws.specs.Reads.{reads}
 use Rattle.bson_laws.specs.ReadsLeaf.{put_entry}
 use Rattle.bson_laws.specs.Spell.{spell, spell_entries}
@@ -34,7 +33,7 @@ use Rattle.bson_one_pass.proofs.Places.{read_by}
 -- a key that is read as a text
 record IsKey (key : Leaf) (name : Utf8) : Type 0 where
   pub value : Marked
-  pub read : reads_key plain (leaf key) (borrowed name) ≡ Ok value
+  pub read : reads_key (leaf key) (borrowed name) ≡ Ok value
   pub text : contents value ≡ str name
 
 key_read : (key : Leaf) (name : Utf8) → takes_keys key ≡ true → IsKey key name
@@ -86,7 +85,7 @@ pub record AreEntriesPut (key : Leaf) (s : Form) (levels : ℕ) (whole : Option 
   pub written : AreEntries levels before names bytes
   pub put : made ≡ old ++ bytes
 
-entry_read : (key : Leaf) (s : Form) (levels : ℕ) (before : MarkedEntries) (name : Utf8) (n : Node) (ns : Nodes) (k v : Marked) → reads_key plain (leaf key) (borrowed name) ≡ Ok k → reads s plain n ≡ Ok v
+entry_read : (key : Leaf) (s : Form) (levels : ℕ) (before : MarkedEntries) (name : Utf8) (n : Node) (ns : Nodes) (k v : Marked) → reads_key (leaf key) (borrowed name) ≡ Ok k → reads s n ≡ Ok v
     → recast_entries key s before levels (then_node (borrowed name) n ns) ≡ recast_entries key s (put_entry k v before) levels ns
 entry_read key s levels before name n ns k v is read = rw (is, read) refl
 
@@ -97,7 +96,7 @@ pub entry_step : (key : Leaf) (s : Form) (levels : ℕ) (whole : Option Pairs) (
 entry_step key s levels whole names name old_walk new_walk e old made new takes step p key_is new_key closed h =
     let n = node_in levels e.kind e.value in
     let ns = nodes_with (node_in levels) new_walk in
-    let q = read_by levels name.now made new (reads s plain n) h in
+    let q = read_by levels name.now made new (reads s n) h in
     let k = key_read key name.now takes in
     let el = element (kind q.1) name.now (enc q.1) in
     record {
@@ -124,4 +123,4 @@ pub map_put : (key : Leaf) (s : Form) (levels m : ℕ) (b old begun filled new :
     → ArePairsPut (recast_entries key s no_entries m (nodes_with (node_in m) (walk b))) begun filled → IsPut (recast_node (form.map (leaf key) s) levels (inner_node levels kinds.EmbeddedDocument b)) old new kinds.EmbeddedDocument
 map_put key s levels m b old begun filled new e wraps h =
     pairs_put (form.map (leaf key) s) (recast_entries key s no_entries m (nodes_with (node_in m) (walk b))) levels m b old begun filled new
-    (recast_mapped (λ v. spell (contents v) (suc m)) value.map (λ es. spell_entries (entry_contents es) m) tree.document (reads_entries (reads_key plain (leaf key)) (reads s plain) (nodes_with (node_in m) (walk b)) no_entries) (λ es. refl)) e wraps h
+    (recast_mapped (λ v. spell (contents v) (suc m)) value.map (λ es. spell_entries (entry_contents es) m) tree.document (reads_entries (reads_key (leaf key)) (reads s) (nodes_with (node_in m) (walk b)) no_entries) (λ es. refl)) e wraps h

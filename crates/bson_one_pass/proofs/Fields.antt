@@ -8,7 +8,7 @@ use Rattle.bson_rawdoc.specs.Node.{Node, Nodes, ended, then_node}
 use Rattle.bson_rawdoc.specs.Piece.{Piece}
 use Rattle.bson_datum.specs.Marked.{Marked, MarkedFields, field_contents}
 use Rattle.bson_datum.specs.Value.{no_field_values, field_value}
-use Rattle.bson_laws.specs.Judged.{plain, ignores}
+use Rattle.bson_laws.specs.Judged.{ignores}
 use Rattle.bson_laws.specs.Slots.{Slot, Slots, put_at, finish}
 use Rattle.bson_laws.specs.Spell.{spell_fields}
 use Rattle.bson_one_pass.specs.Found.{names, IsWritten, AreWritten}
@@ -32,12 +32,12 @@ abbrev pub filled : Slot → Marked → Slot
 filled s v = record s { value = Some v }
 
 -- an element that no slot takes
-pub put_dropped : (key : Utf8) (n : Node) (ss : Slots) → Lacks key ss → ignores plain n ≡ Ok tt → put_at plain key n ss ≡ Ok ss
+pub put_dropped : (key : Utf8) (n : Node) (ss : Slots) → Lacks key ss → ignores n ≡ Ok tt → put_at key n ss ≡ Ok ss
 put_dropped key n [] free h = rw h refl
 put_dropped key n (s ∷ ss) free h = rw (free.0, put_dropped key n ss free.1 h) refl
 
 -- an element that a slot without a value takes, behind others
-pub put_due : (key : Utf8) (n : Node) (front back : Slots) (s : Slot) (v : Marked) → Lacks key front → bytes_eq s.name key ≡ true → s.value ≡ None → s.read n ≡ Ok v → put_at plain key n (front ++ s ∷ back) ≡ Ok (front ++ filled s v ∷ back)
+pub put_due : (key : Utf8) (n : Node) (front back : Slots) (s : Slot) (v : Marked) → Lacks key front → bytes_eq s.name key ≡ true → s.value ≡ None → s.read n ≡ Ok v → put_at key n (front ++ s ∷ back) ≡ Ok (front ++ filled s v ∷ back)
 put_due key n [] back s v free same empty read = rw (same, empty, read) refl
 put_due key n (f ∷ front) back s v free same empty read = rw (free.0, put_due key n front back s v free.1 same empty read) refl
 
@@ -78,5 +78,5 @@ fields_end levels whole ss old bytes new is h put =
     subst (λ (o : Option Pairs). ArePairsPut o old new) (sym (is ∙ left)) (put ∙ ap (λ b. old ++ b) all.bytes_are)
 
 -- an element was put
-pub fields_step : (levels : ℕ) (key : Piece) (n : Node) (ns : Nodes) (old new : Slots) → put_at plain key.bytes n old ≡ Ok new → recast_fields old levels (then_node key n ns) ≡ recast_fields new levels ns
+pub fields_step : (levels : ℕ) (key : Piece) (n : Node) (ns : Nodes) (old new : Slots) → put_at key.bytes n old ≡ Ok new → recast_fields old levels (then_node key n ns) ≡ recast_fields new levels ns
 fields_step levels key n ns old new h = rw h refl

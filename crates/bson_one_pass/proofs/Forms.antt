@@ -13,7 +13,7 @@ use Rattle.bson_shape.specs.ShapeView.{variants_of}
 use Rattle.bson_shape.specs.declared.shape.VariantShape.{VariantShape}
 use Rattle.bson_datum.specs.Marked.{Marked, contents}
 use Rattle.bson_datum.specs.Value as value
-use Rattle.bson_laws.specs.Judged.{Reading, plain}
+use Rattle.bson_laws.specs.Judged.{Reading}
 use Rattle.bson_laws.specs.Reads.{reads}
 use Rattle.bson_laws.specs.Spell.{spell}
 use Rattle.bson_laws.specs.Variants.{content_of}
@@ -30,7 +30,7 @@ newtype_by name levels (Ok v) free = ap of_writing (free_spelled name (contents 
 
 -- a newtype of a name that is not reserved is written as its value
 pub newtype_is : (name : Utf8) (s : Form) (levels : ℕ) (n : Node) → is_reserved_newtype name ≡ false → recast_node (newtype name s) levels n ≡ recast_node s levels n
-newtype_is name s levels n free = newtype_by name levels (reads s plain n) free
+newtype_is name s levels n free = newtype_by name levels (reads s n) free
 
 -- ---- unit variants
 

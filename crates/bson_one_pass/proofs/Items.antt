@@ -14,7 +14,7 @@ use Rattle.bson_datum.specs.Marked.{Marked, MarkedItems, contents, item_contents
 use Rattle.bson_datum.specs.Refusal.{under_index}
 use Rattle.bson_datum.specs.Value.{item}
 use Rattle.bson_laws.specs.Containers.{reads_items}
-use Rattle.bson_laws.specs.Judged.{Reading, plain}
+use Rattle.bson_laws.specs.Judged.{Reading}
 use Rattle.bson_laws.specs.Reads.{reads}
 use Rattle.bson_laws.specs.Spell.{Writing, spell, spell_items}
 use Rattle.bson_one_pass.specs.Put.{of_writing, recast_by, recast_node, recast_items, IsElementPut, AreItemsPut}
@@ -33,7 +33,7 @@ items_by levels i (Ok v) (Ok vs) t h = spelled_by i (spell (contents v) levels) 
 -- an element and then the others
 pub items_step : (s : Form) (levels i : ℕ) (key : Piece) (n : Node) (ns : Nodes) (t : Tree) → recast_node s levels n ≡ Some t
     → recast_items s levels i (then_node key n ns) ≡ option_map (tree t) (recast_items s levels (suc i) ns)
-items_step s levels i key n ns t h = items_by levels i (reads s plain n) (reads_items (reads s plain) (suc i) ns) t h
+items_step s levels i key n ns t h = items_by levels i (reads s n) (reads_items (reads s) (suc i) ns) t h
 
 -- What is left of an array, from an index on: with it behind what was made, the whole is made.
 abbrev pub AreLeft : (whole left : Option Trees) → (index : ℕ) → (old made : Bytes) → Type 0

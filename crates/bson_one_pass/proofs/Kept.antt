@@ -14,7 +14,6 @@ use Rattle.bson_shape.specs.Form.{Form}
 use Rattle.bson_datum.specs.Cause.{raw}
 use Rattle.bson_datum.specs.Marked.{contents}
 use Rattle.bson_datum.specs.Refusal.{bare, unreadable}
-use Rattle.bson_laws.specs.Judged.{plain}
 use Rattle.bson_laws.specs.Reads.{reads, answered}
 use Rattle.bson_laws.specs.Spell.{spell, at_top}
 use Rattle.bson_laws.proofs.ReadBack.{envelope_again}
@@ -43,7 +42,7 @@ document_kept s b made h few copied =
     record {
       value = contents h.given;
       tree = h.tree;
-      read = ap (λ r. result_map contents (elim r [ Ok d ↦ answered (reads s plain (node_in max_levels EmbeddedDocument d)) | Err e ↦ Err (bare (unreadable (raw e))) ])) framed ∙ ap (λ q. result_map contents (answered q)) h.read;
+      read = ap (λ r. result_map contents (elim r [ Ok d ↦ answered (reads s (node_in max_levels EmbeddedDocument d)) | Err e ↦ Err (bare (unreadable (raw e))) ])) framed ∙ ap (λ q. result_map contents (answered q)) h.read;
       spelled = ap (λ k. at_top k (spell (contents h.given) max_levels)) (sym (spell_kind false (contents h.given) max_levels h.tree h.spelled) ∙ h.kind_is) ∙ h.spelled;
       encoded = h.encoded ∙ sym copied;
       fits = subst (λ (x : Bytes). length x ≤ max_bytes) (sym copied) few;

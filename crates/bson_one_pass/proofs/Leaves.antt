@@ -16,7 +16,7 @@ use Rattle.bson_shape.specs.Form.{leaf}
 use Rattle.bson_shape.specs.declared.leaf.Leaf.TheVariants as leaves
 use Rattle.bson_datum.specs.Marked.{contents}
 use Rattle.bson_laws.specs.Datum.{datum, sorted_tree}
-use Rattle.bson_laws.specs.Judged.{plain, ignores}
+use Rattle.bson_laws.specs.Judged.{ignores}
 use Rattle.bson_laws.specs.Spell.{spell}
 use Rattle.bson_laws.proofs.DatumContents.{datum_contents}
 use Rattle.bson_laws.proofs.DatumSpelled.{datum_spelled}
@@ -43,12 +43,12 @@ pub if_put : {P : Type 0} (r : Option ElementType) (o : Option Tree) (t : Tree) 
 if_put None o t old new reads put clean = tt
 if_put (Some k) o t old new reads put clean = subst (λ p. IsPut p old new k) (sym (reads clean)) put
 
-pub binary_read : (subtype : ℕ) (bytes : Bytes) (levels : ℕ) → IsBinary subtype bytes → recast_node (leaf leaves.Binary) levels (node.binary_node subtype (borrowed bytes)) ≡ Some (tree.binary subtype bytes)
+pub binary_read : (subtype : ℕ) (bytes : Bytes) (levels : ℕ) → IsBinary subtype bytes → recast_node (leaf leaves.Binary) levels (node.binary_node false subtype (borrowed bytes)) ≡ Some (tree.binary subtype bytes)
 binary_read zero bytes levels clean = tree_written (tree.binary 0 bytes) levels clean (omega arith)
 binary_read (suc n) bytes levels clean = tree_written (tree.binary (suc n) bytes) levels clean (omega arith)
 
 -- a binary that no field takes
-pub binary_passed : (subtype : ℕ) (bytes : Bytes) → ignores plain (node.binary_node subtype (borrowed bytes)) ≡ Ok tt
+pub binary_passed : (subtype : ℕ) (bytes : Bytes) → ignores (node.binary_node false subtype (borrowed bytes)) ≡ Ok tt
 binary_passed zero bytes = refl
 binary_passed (suc n) bytes = refl
 

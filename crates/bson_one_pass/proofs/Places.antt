@@ -18,7 +18,7 @@ use Rattle.bson_shape.specs.declared.shape.FieldShape.{FieldShape}
 use Rattle.bson_shape.proofs.Names.{repeat_found, field_names_are}
 use Rattle.bson_datum.specs.Marked.{Marked, contents}
 use Rattle.bson_datum.specs.Value.{none}
-use Rattle.bson_laws.specs.Judged.{Reading, plain, ignores}
+use Rattle.bson_laws.specs.Judged.{Reading, ignores}
 use Rattle.bson_laws.specs.Reads.{reads, slots_of}
 use Rattle.bson_laws.specs.Slots.{Slot, Slots, value_or}
 use Rattle.bson_laws.specs.Spell.{Writing, spell}
@@ -37,13 +37,13 @@ pub record AreUnderWay (fs : List FieldShape) (levels : ℕ) (whole : Option Pai
   pub front : Slots
   pub bytes : Bytes
   pub names_are : map name_of (take place fs) ≡ names front
-  pub left : whole ≡ recast_fields (front ++ slots_of (fields_of (drop place fs)) plain) levels ns
+  pub left : whole ≡ recast_fields (front ++ slots_of (fields_of (drop place fs))) levels ns
   pub written : AreWritten levels front bytes
   pub put : made ≡ old ++ bytes
 
 -- ---- names
 
-names-slots : (fs : List FieldShape) → names (slots_of (fields_of fs) plain) ≡ map name_of fs
+names-slots : (fs : List FieldShape) → names (slots_of (fields_of fs)) ≡ map name_of fs
 names-slots [] = refl
 names-slots (f ∷ fs) = ap (λ ns. name_of f ∷ ns) (names-slots fs)
 
@@ -103,9 +103,9 @@ module _ (fs : List FieldShape) (levels : ℕ) (whole : Option Pairs) (place : �
       map_more name_of fs place f lt ∙ ap (λ ns. ns ++ name_of (get_or fs place f) ∷ []) before ∙ ap (λ g. names front ++ name_of g ∷ []) (sym got) ∙ ap (λ n. names front ++ n ∷ []) (sym named) ∙ sym (names-push front s)
 
   -- the names of all slots are those of the fields
-  all_names : (front : Slots) → map name_of (take place fs) ≡ names front → names (front ++ slots_of (fields_of (drop place fs)) plain) ≡ map name_of fs
+  all_names : (front : Slots) → map name_of (take place fs) ≡ names front → names (front ++ slots_of (fields_of (drop place fs))) ≡ map name_of fs
   all_names front before =
-      names-append front (slots_of (fields_of (drop place fs)) plain)
+      names-append front (slots_of (fields_of (drop place fs)))
       ∙ (λ j. sym before j ++ names-slots (drop place fs) j)
       ∙ sym (map-append name_of (take place fs) (drop place fs))
       ∙ ap (map name_of) (take-append-drop place fs)
@@ -117,9 +117,9 @@ module _ (fs : List FieldShape) (levels : ℕ) (whole : Option Pairs) (place : �
   due_step old_walk new_walk e f new p step lt got same distinct closed h =
       let n = node_in levels e.kind e.value in
       let ns = nodes_with (node_in levels) new_walk in
-      let q = read_by levels (name_of f) made new (reads f.shape plain n) h in
+      let q = read_by levels (name_of f) made new (reads f.shape n) h in
       let s = slot_of f in
-      let back = slots_of (fields_of (drop (suc place) fs)) plain in
+      let back = slots_of (fields_of (drop (suc place) fs)) in
       let el = element (kind q.1) (name_of f) (enc q.1) in
       let lacks : LacksName e.key (names p.front) =
       subst (λ k. LacksName k (names p.front)) (same_name (name_of f) e.key same) (subst (LacksName (name_of f)) p.names_are (lacks_of (name_of f) (map name_of (take place fs)) (none_before fs place f lt got distinct))) in
@@ -128,22 +128,22 @@ module _ (fs : List FieldShape) (levels : ℕ) (whole : Option Pairs) (place : �
         bytes = p.bytes ++ el;
         names_are = one_more p.front (filled s q.0) f lt got refl p.names_are;
         left = p.left
-            ∙ ap (λ w. recast_fields (p.front ++ slots_of (fields_of (drop place fs)) plain) levels (nodes_with (node_in levels) w)) step
-            ∙ ap (λ xs. recast_fields (p.front ++ slots_of (fields_of xs) plain) levels (then_node (borrowed e.key) n ns)) (left_there f lt got)
+            ∙ ap (λ w. recast_fields (p.front ++ slots_of (fields_of (drop place fs))) levels (nodes_with (node_in levels) w)) step
+            ∙ ap (λ xs. recast_fields (p.front ++ slots_of (fields_of xs)) levels (then_node (borrowed e.key) n ns)) (left_there f lt got)
             ∙ fields_step levels (borrowed e.key) n ns (p.front ++ s ∷ back) (p.front ++ filled s q.0 ∷ back) (put_due e.key n p.front back s q.0 lacks same refl q.2)
             ∙ ap (λ ss. recast_fields ss levels ns) (sym (append_assoc p.front (filled s q.0 ∷ []) back))
-            ∙ ap (λ k. recast_fields ((p.front ++ filled s q.0 ∷ []) ++ slots_of (fields_of (drop k fs)) plain) levels ns) (sym (add-one place));
+            ∙ ap (λ k. recast_fields ((p.front ++ filled s q.0 ∷ []) ++ slots_of (fields_of (drop k fs))) levels ns) (sym (add-one place));
         written = written_more levels p.front (filled s q.0) p.bytes el p.written (record { value = q.0; tree = q.1; given = refl; spelled = q.3; closed = closed; bytes_are = refl });
         put = q.4 ∙ ap (λ b. b ++ el) p.put ∙ append_assoc old p.bytes el;
       }
 
   -- an element that no field has
   pub dropped_step : (old_walk new_walk : Walk) (e : Element) → AreUnderWay fs levels whole (nodes_with (node_in levels) old_walk) place old made → old_walk ≡ then_walk e new_walk → is_free e.key fs ≡ true
-      → ignores plain (node_in levels e.kind e.value) ≡ Ok tt → AreUnderWay fs levels whole (nodes_with (node_in levels) new_walk) place old made
+      → ignores (node_in levels e.kind e.value) ≡ Ok tt → AreUnderWay fs levels whole (nodes_with (node_in levels) new_walk) place old made
   dropped_step old_walk new_walk e p step free passed =
       let n = node_in levels e.kind e.value in
       let ns = nodes_with (node_in levels) new_walk in
-      let ss = p.front ++ slots_of (fields_of (drop place fs)) plain in
+      let ss = p.front ++ slots_of (fields_of (drop place fs)) in
       record {
         front = p.front;
         bytes = p.bytes;
@@ -160,16 +160,16 @@ module _ (fs : List FieldShape) (levels : ℕ) (whole : Option Pairs) (place : �
       → new ≡ made ++ element Null (name_of f) [] → AreUnderWay fs levels whole ended (place + 1) old new
   missing_step f new p lt got closed none_there h =
       let s = slot_of f in
-      let back = slots_of (fields_of (drop (suc place) fs)) plain in
+      let back = slots_of (fields_of (drop (suc place) fs)) in
       let el = element Null (name_of f) [] in
       record {
         front = p.front ++ s ∷ [];
         bytes = p.bytes ++ el;
         names_are = one_more p.front s f lt got refl p.names_are;
         left = p.left
-            ∙ ap (λ xs. recast_fields (p.front ++ slots_of (fields_of xs) plain) levels ended) (left_there f lt got)
+            ∙ ap (λ xs. recast_fields (p.front ++ slots_of (fields_of xs)) levels ended) (left_there f lt got)
             ∙ ap (λ ss. recast_fields ss levels ended) (sym (append_assoc p.front (s ∷ []) back))
-            ∙ ap (λ k. recast_fields ((p.front ++ s ∷ []) ++ slots_of (fields_of (drop k fs)) plain) levels ended) (sym (add-one place));
+            ∙ ap (λ k. recast_fields ((p.front ++ s ∷ []) ++ slots_of (fields_of (drop k fs))) levels ended) (sym (add-one place));
         written = written_more levels p.front s p.bytes el p.written (record { value = none; tree = null; given = ap (λ m. value_or (name_of f) m None) none_there; spelled = refl; closed = closed; bytes_are = refl });
         put = h ∙ ap (λ b. b ++ el) p.put ∙ append_assoc old p.bytes el;
       }
@@ -178,4 +178,4 @@ module _ (fs : List FieldShape) (levels : ℕ) (whole : Option Pairs) (place : �
   pub places_end : AreUnderWay fs levels whole ended place old made → length fs ≤ place → ArePairsPut whole old made
   places_end p all =
       fields_end levels whole p.front old p.bytes made
-      (p.left ∙ ap (λ xs. recast_fields (p.front ++ slots_of (fields_of xs) plain) levels ended) (drop_all place fs all) ∙ ap (λ ss. recast_fields ss levels ended) (append-nil p.front)) p.written p.put
+      (p.left ∙ ap (λ xs. recast_fields (p.front ++ slots_of (fields_of xs)) levels ended) (drop_all place fs all) ∙ ap (λ ss. recast_fields ss levels ended) (append-nil p.front)) p.written p.put

@@ -16,7 +16,6 @@ use Rattle.bson_shape.specs.Form.{Form, Parts, part, tuple, tuple_structure}
 use Rattle.bson_shape.specs.ShapeView.{parts_of}
 use Rattle.bson_datum.specs.Marked.{Marked, MarkedItems, contents, item_contents}
 use Rattle.bson_datum.specs.Value as value
-use Rattle.bson_laws.specs.Judged.{plain}
 use Rattle.bson_laws.specs.Reads.{reads, reads_parts}
 use Rattle.bson_laws.specs.Spell.{spell, spell_items}
 use Rattle.bson_one_pass.specs.Put.{recast_by, recast_node, recast_parts, IsPut, IsElementPut, AreItemsPut}
@@ -26,7 +25,7 @@ use Rattle.bson_one_pass.proofs.Items.{items_by, AreLeft, left_next, left_none}
 -- a part and then the others
 parts_step : (s : Form) (ps : Parts) (levels i : ℕ) (key : Piece) (n : Node) (ns : Nodes) (t : Tree) → recast_node s levels n ≡ Some t
     → recast_parts (part s ps) levels i (then_node key n ns) ≡ option_map (tree.tree t) (recast_parts ps levels (suc i) ns)
-parts_step s ps levels i key n ns t h = items_by levels i (reads s plain n) (reads_parts ps plain (suc i) ns) t h
+parts_step s ps levels i key n ns t h = items_by levels i (reads s n) (reads_parts ps (suc i) ns) t h
 
 -- a part was put
 part_put : (s : Form) (ps : Parts) (levels i : ℕ) (old_walk new_walk : Walk) (e : Element) (whole : Option Trees) (key : Utf8) (old made new : Bytes) → old_walk ≡ then_walk e new_walk → key ≡ decimal i
@@ -59,8 +58,8 @@ parts_put ss levels i w whole old made all h =
 
 -- an array of parts, as what the value around them is written as
 parts_by : (wrap_value : MarkedItems → Marked) (ps : Parts) (m : ℕ) (b : Bytes) → ((vs : MarkedItems) → spell (contents (wrap_value vs)) (suc m) ≡ result_map tree.array (spell_items 0 (item_contents vs) m))
-    → recast_by (λ v. spell (contents v) (suc m)) (result_map wrap_value (reads_parts ps plain 0 (nodes_with (node_in m) (walk b)))) ≡ option_map tree.array (recast_parts ps m 0 (nodes_with (node_in m) (walk b)))
-parts_by wrap_value ps m b is = recast_mapped (λ v. spell (contents v) (suc m)) wrap_value (λ vs. spell_items 0 (item_contents vs) m) tree.array (reads_parts ps plain 0 (nodes_with (node_in m) (walk b))) is
+    → recast_by (λ v. spell (contents v) (suc m)) (result_map wrap_value (reads_parts ps 0 (nodes_with (node_in m) (walk b)))) ≡ option_map tree.array (recast_parts ps m 0 (nodes_with (node_in m) (walk b)))
+parts_by wrap_value ps m b is = recast_mapped (λ v. spell (contents v) (suc m)) wrap_value (λ vs. spell_items 0 (item_contents vs) m) tree.array (reads_parts ps 0 (nodes_with (node_in m) (walk b))) is
 
 pub tuple_put : (ps : Parts) (levels m : ℕ) (b old begun filled ended : Bytes) → levels ≡ suc m → ((b : Bytes) → filled ≡ begun ++ b → ended ≡ old ++ enclosed b) → AreItemsPut (recast_parts ps m 0 (nodes_with (node_in m) (walk b))) 0 begun filled
     → IsPut (recast_node (tuple ps) levels (inner_node levels kinds.Array b)) old ended kinds.Array

@@ -9,7 +9,7 @@ use Rattle.bson_rawdoc.specs.Envelope.{envelope}
 use Rattle.bson_rawdoc.specs.Node.{inner_node}
 use Rattle.bson_shape.specs.Form.{Form}
 use Rattle.bson_datum.specs.Marked.{Marked, contents}
-use Rattle.bson_laws.specs.Judged.{Reading, plain}
+use Rattle.bson_laws.specs.Judged.{Reading}
 use Rattle.bson_laws.specs.Reads.{reads, answered, reads_document}
 use Rattle.bson_laws.specs.Spell.{Writing, spell, at_top, spell_document}
 use Rattle.bson_laws.proofs.Enveloped.{document_read}
@@ -30,4 +30,4 @@ read_by s b made (Ok v) is h few =
 
 -- a whole document that was recast
 pub document_put : (s : Form) (b d made : Bytes) → envelope b ≡ Ok d → IsPut (recast_node s max_levels (inner_node max_levels EmbeddedDocument d)) [] made EmbeddedDocument → length made ≤ max_bytes → IsRecastAs s b made
-document_put s b d made e h few = read_by s b made (reads s plain (inner_node max_levels EmbeddedDocument d)) (ap (result_map contents) (document_read s b d e)) h few
+document_put s b d made e h few = read_by s b made (reads s (inner_node max_levels EmbeddedDocument d)) (ap (result_map contents) (document_read s b d e)) h few

@@ -8,7 +8,6 @@ use Rattle.bson_rawdoc.specs.Walk.{Element}
 use Rattle.bson_shape.specs.ShapeView.{fields_of}
 use Rattle.bson_shape.specs.declared.shape.FieldShape.{FieldShape}
 use Rattle.bson_datum.specs.Marked.{Marked, contents}
-use Rattle.bson_laws.specs.Judged.{plain}
 use Rattle.bson_laws.specs.Reads.{reads, slots_of}
 use Rattle.bson_laws.specs.Slots.{Slot, Slots, fill, put_at, value_or}
 use Rattle.bson_laws.specs.Spell.{spell}
@@ -48,7 +47,7 @@ abbrev pub IsReadAs : (levels : ℕ) → FieldShape → Option Element → Optio
 IsReadAs levels f None None = Unit {0}
 IsReadAs levels f None (Some v) = ⊥
 IsReadAs levels f (Some e) None = ⊥
-IsReadAs levels f (Some e) (Some v) = reads f.shape plain (node_in levels e.kind e.value) ≡ Ok v
+IsReadAs levels f (Some e) (Some v) = reads f.shape (node_in levels e.kind e.value) ≡ Ok v
 
 -- the same for each field
 abbrev pub AreReadAs : (levels : ℕ) → List FieldShape → List (Option Element) → List (Option Marked) → Type 0
@@ -61,12 +60,12 @@ AreReadAs levels (f ∷ fs) (e ∷ es) (v ∷ vs) = IsReadAs levels f e v × Are
 -- this element fills the slots of the fields up to its value, behind slots in front of them.
 abbrev pub IsNoted : (levels : ℕ) → (front fields : List FieldShape) → Element → (old new : List (Option Element)) → Type 0
 IsNoted levels front fs e old new = (after : List (Option Marked)) → AreReadAs levels fs new after → (before : List (Option Marked)) × AreReadAs levels fs old before
-    × ((slots : Slots) → map name_of front ≡ names slots → put_at plain e.key (node_in levels e.kind e.value) (slots ++ slots_with fs before) ≡ Ok (slots ++ slots_with fs after))
+    × ((slots : Slots) → map name_of front ≡ names slots → put_at e.key (node_in levels e.kind e.value) (slots ++ slots_with fs before) ≡ Ok (slots ++ slots_with fs after))
 
 -- Elements were found for fields, behind slots of fields in front. Where these are read as values, the elements fill the slots as those that are left fill the slots with these values.
 abbrev pub AreFound : (levels : ℕ) → (front fields : List FieldShape) → (whole left : Nodes) → (found : List (Option Element)) → Type 0
 AreFound levels front fs whole left found = (values : List (Option Marked)) → AreReadAs levels fs found values → (slots : Slots) → map name_of front ≡ names slots
-    → fill plain whole (slots ++ slots_of (fields_of fs) plain) ≡ fill plain left (slots ++ slots_with fs values)
+    → fill whole (slots ++ slots_of (fields_of fs)) ≡ fill left (slots ++ slots_with fs values)
 
 -- ---- what is written
 

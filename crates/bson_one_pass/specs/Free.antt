@@ -11,7 +11,7 @@ use Rattle.bson_shape.specs.declared.leaf.Leaf.TheVariants as leaves
 use Rattle.bson_shape.specs.declared.shape.FieldShape.{FieldShape}
 use Rattle.bson_shape.specs.declared.shape.VariantShape.{VariantShape}
 use Rattle.bson_datum.specs.Refusal.{Segment}
-use Rattle.bson_laws.specs.Judged.{plain, pass_nodes}
+use Rattle.bson_laws.specs.Judged.{pass_nodes}
 
 -- the key is the name of none of these fields
 abbrev pub is_free : Utf8 → List FieldShape → Bool
@@ -31,4 +31,4 @@ takes_keys l = false
 
 -- nothing in these values is at fault, wherever their elements are
 abbrev pub ArePassed : Nodes → Type 0
-ArePassed ns = (place : ℕ → Piece → Segment) (i : ℕ) → pass_nodes plain place i ns ≡ Ok tt
+ArePassed ns = (place : ℕ → Piece → Segment) (i : ℕ) → pass_nodes place i ns ≡ Ok tt

@@ -10,7 +10,7 @@ use Rattle.bson_shape.specs.Form.{Form, leaf, Parts}
 use Rattle.bson_shape.specs.declared.leaf.Leaf.{Leaf}
 use Rattle.bson_datum.specs.Marked.{MarkedEntries, contents, item_contents, entry_contents, field_contents}
 use Rattle.bson_laws.specs.Containers.{reads_items, reads_key, reads_entries}
-use Rattle.bson_laws.specs.Judged.{Reading, plain}
+use Rattle.bson_laws.specs.Judged.{Reading}
 use Rattle.bson_laws.specs.Reads.{reads, reads_parts}
 use Rattle.bson_laws.specs.Slots.{Slots, fill, finish}
 use Rattle.bson_laws.specs.Spell.{Writing, spell, spell_items, spell_entries, spell_fields}
@@ -27,23 +27,23 @@ recast_by write (Err r) = None
 
 -- the tree of a value, with so many levels left
 abbrev pub recast_node : Form → (levels : ℕ) → Node → Option Tree
-recast_node s levels n = recast_by (λ v. spell (contents v) levels) (reads s plain n)
+recast_node s levels n = recast_by (λ v. spell (contents v) levels) (reads s n)
 
 -- the trees of the elements of an array from this index on
 abbrev pub recast_items : Form → (levels index : ℕ) → Nodes → Option Trees
-recast_items s levels i ns = recast_by (λ vs. spell_items i (item_contents vs) levels) (reads_items (reads s plain) i ns)
+recast_items s levels i ns = recast_by (λ vs. spell_items i (item_contents vs) levels) (reads_items (reads s) i ns)
 
 -- the trees of the parts of a tuple from the elements of an array from this index on
 abbrev pub recast_parts : Parts → (levels index : ℕ) → Nodes → Option Trees
-recast_parts ps levels i ns = recast_by (λ vs. spell_items i (item_contents vs) levels) (reads_parts ps plain i ns)
+recast_parts ps levels i ns = recast_by (λ vs. spell_items i (item_contents vs) levels) (reads_parts ps i ns)
 
 -- the pairs of the fields of a struct from the elements of a document, put to what the slots have
 abbrev pub recast_fields : Slots → (levels : ℕ) → Nodes → Option Pairs
-recast_fields slots levels ns = recast_by (λ vs. spell_fields (field_contents vs) levels) (fill plain ns slots >>= finish)
+recast_fields slots levels ns = recast_by (λ vs. spell_fields (field_contents vs) levels) (fill ns slots >>= finish)
 
 -- the pairs of the entries of a map from the elements of a document, put to those before them
 abbrev pub recast_entries : Leaf → Form → MarkedEntries → (levels : ℕ) → Nodes → Option Pairs
-recast_entries key s before levels ns = recast_by (λ es. spell_entries (entry_contents es) levels) (reads_entries (reads_key plain (leaf key)) (reads s plain) ns before)
+recast_entries key s before levels ns = recast_by (λ es. spell_entries (entry_contents es) levels) (reads_entries (reads_key (leaf key)) (reads s) ns before)
 
 -- the bytes of what there is were appended
 abbrev pub ArePut : {A : Type 0} (bytes : A → Bytes) → Option A → (old new : Bytes) → Type 0

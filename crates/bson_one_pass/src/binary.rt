@@ -1,5 +1,5 @@
 // Binaries at the leaves that take them.
-ghost use Rattle.std.specs.Prelude.{◌≡◌, ◌++◌, IfSome, Some};
+ghost use Rattle.std.specs.Prelude.{◌≡◌, ◌++◌, false, IfSome, Some};
 ghost use Rattle.bson_base.specs.Sound.{IsBinary};
 ghost use Rattle.bson_base.specs.Tree.{binary, after_length};
 ghost use Rattle.bson_rawdoc.specs.Node.{binary_node};
@@ -20,7 +20,7 @@ pub(crate) fn recast_binary(
     subtype: BinarySubtype,
     bytes: &[u8],
 ) -> Option<ElementType>
-    ensures { IfSome result (IsPut (recast_node (form.leaf leaf) levels (binary_node subtype.0 (borrowed bytes.now))) made.old.items made.new.items) }
+    ensures { IfSome result (IsPut (recast_node (form.leaf leaf) levels (binary_node false subtype.0 (borrowed bytes.now))) made.old.items made.new.items) }
 {
     match (leaf, subtype.0) {
         (Leaf::Binary, subtype) => put_binary(made, subtype, bytes),

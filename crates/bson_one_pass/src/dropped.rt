@@ -1,10 +1,10 @@
 // Values that no field takes: they are walked to their end, and dropped.
-ghost use Rattle.std.specs.Prelude.{◌≡◌, ◌≤◌, ◌-◌, Ok, true, IfSome, IsTrue};
+ghost use Rattle.std.specs.Prelude.{◌≡◌, ◌≤◌, ◌-◌, Ok, true, false, IfSome, IsTrue};
 ghost use Rattle.std.specs.Str.{is_utf8};
 ghost use Rattle.bson_rawdoc.specs.Node.{binary_node, inner_node, node_in, nodes_with, value_node};
 ghost use Rattle.bson_rawdoc.specs.Piece.{borrowed};
 ghost use Rattle.bson_rawdoc.specs.ValueView.{raw_value};
-ghost use Rattle.bson_laws.specs.Judged.{plain, ignores};
+ghost use Rattle.bson_laws.specs.Judged.{ignores};
 ghost use Rattle.bson_one_pass.specs.Free.{ArePassed};
 
 use crate::array::value_of;
@@ -14,7 +14,7 @@ use bson_rawdoc::{RawBsonRef, RawElement, RawIter};
 /// Whether nothing in a value is at fault, with so many levels left.
 #[cycle(dropped)]
 pub(crate) fn is_passed(value: &RawBsonRef<'_>, levels: u32) -> bool
-    ensures { IsTrue result → ignores plain (value_node (inner_node levels) (raw_value value.now)) ≡ Ok tt }
+    ensures { IsTrue result → ignores (value_node (inner_node levels) (raw_value value.now)) ≡ Ok tt }
 {
     match value {
         RawBsonRef::Double(_)
@@ -75,14 +75,14 @@ fn is_text(text: &str) -> bool
 
 // Nothing in a binary is at fault.
 fn is_binary(subtype: BinarySubtype, bytes: &[u8]) -> bool
-    ensures { ignores plain (binary_node subtype.0 (borrowed bytes.now)) ≡ Ok tt }
+    ensures { ignores (binary_node false subtype.0 (borrowed bytes.now)) ≡ Ok tt }
 {
     true
 }
 
 /// The value of an element that no field has: it is walked to its end, and dropped. `None` where something in it is at fault.
 pub(crate) fn drop_value(levels: u32, element: &RawElement<'_>) -> Option<()>
-    ensures { IfSome result (λ _. ignores plain (node_in levels element.now.kind element.now.value) ≡ Ok tt) }
+    ensures { IfSome result (λ _. ignores (node_in levels element.now.kind element.now.value) ≡ Ok tt) }
 {
     let value = value_of(element, levels)?;
     if is_passed(&value, levels) {

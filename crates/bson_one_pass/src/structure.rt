@@ -11,7 +11,6 @@ ghost use Rattle.bson_shape.specs.Form.{structure};
 ghost use Rattle.bson_shape.specs.Makers.{AreDistinct};
 ghost use Rattle.bson_shape.specs.ShapeView.{fields_of};
 ghost use Rattle.bson_datum.specs.Value.{none};
-ghost use Rattle.bson_laws.specs.Judged.{plain};
 ghost use Rattle.bson_laws.specs.Reads.{slots_of};
 ghost use Rattle.bson_laws.specs.Views.{absent};
 ghost use Rattle.bson_one_pass.specs.Found.{IsFoundPut, AreFoundPut};
@@ -62,7 +61,7 @@ fn recast_fields(
     mut elements: RawIter<'_>,
 ) -> Option<()>
     requires distinct { AreDistinct (fields_of fields.now) }
-    ensures { IfSome result (λ _. ArePairsPut (recast_fields (slots_of (fields_of fields.now) plain) levels (nodes_with (node_in levels) elements.entry))
+    ensures { IfSome result (λ _. ArePairsPut (recast_fields (slots_of (fields_of fields.now)) levels (nodes_with (node_in levels) elements.entry))
         made.old.items made.new.items) }
 {
     let mut place = 0;

@@ -20,15 +20,15 @@ use Rattle.bson_rawdoc.specs.declared.raw.Error.TheVariants.{NotUtf8, TextUnclos
 
 -- What is seen is the node, which has no fault; what is refused is the fault of the node.
 abbrev pub Sees : {A : Type 0} → (A → Node) → Result A Error → Node → Type 0
-Sees make (Ok x) n = (n ≡ make x) × (fault false n ≡ None)
-Sees make (Err e) n = fault false n ≡ Some e
+Sees make (Ok x) n = (n ≡ make x) × (fault n ≡ None)
+Sees make (Err e) n = fault n ≡ Some e
 
 mapped : {A B : Type 0} (f : A → B) (make : B → Node) (r : Result A Error) (n : Node) → Sees (λ x. make (f x)) r n → Sees make (result_map f r) n
 mapped f make (Ok x) n h = h
 mapped f make (Err e) n h = h
 
 -- a value whose node has no fault, where there is one
-plainly : {A : Type 0} (k : ElementType) (make : A → Node) (r : Result A Error) → ((x : A) → fault false (make x) ≡ None) → Sees make r (or_broken k make r)
+plainly : {A : Type 0} (k : ElementType) (make : A → Node) (r : Result A Error) → ((x : A) → fault (make x) ≡ None) → Sees make r (or_broken k make r)
 plainly k make (Ok x) h = (refl, h x)
 plainly k make (Err e) h = refl
 
@@ -36,7 +36,7 @@ plainly k make (Err e) h = refl
 
 -- the fault of the node is that of the text
 abbrev HasTextFault : (Piece → Node) → Type 0
-HasTextFault make = (p : Piece) → fault false (make p) ≡ text_fault false p
+HasTextFault make = (p : Piece) → fault (make p) ≡ text_fault p
 
 text_either : (make : Piece → Node) → HasTextFault make → (b : Bytes) (u : Bool) → is_utf8 b ≡ u → Sees (λ t. make (borrowed t)) (cond u (Ok b) (Err NotUtf8)) (make (borrowed b))
 text_either make same b true e = (refl, same (borrowed b) ∙ ap (λ x. cond x None (Some NotUtf8)) e)
@@ -57,7 +57,7 @@ regex_either : (p q : Bytes) (u w : Bool) → is_utf8 p ≡ u → is_utf8 q ≡ 
     → Sees (λ (r : Utf8 × Utf8). pattern_node (borrowed r.0, borrowed r.1)) (cond u (Ok p) (Err NotUtf8) >>= λ pattern. result_map (λ options. (pattern, options)) (cond w (Ok q) (Err NotUtf8))) (pattern_node (borrowed p, borrowed q))
 regex_either p q true true e d = (refl, (λ i. or_else (cond (e i) None (Some NotUtf8)) (cond (d i) None (Some NotUtf8))))
 regex_either p q true false e d = λ i. or_else (cond (e i) None (Some NotUtf8)) (cond (d i) None (Some NotUtf8))
-regex_either p q false w e d = ap (λ x. or_else (cond x None (Some NotUtf8)) (text_fault false (borrowed q))) e
+regex_either p q false w e d = ap (λ x. or_else (cond x None (Some NotUtf8)) (text_fault (borrowed q))) e
 
 regex_seen : (o : Option (Bytes × Bytes)) → Sees (λ (r : Utf8 × Utf8). pattern_node (borrowed r.0, borrowed r.1)) (regex_of o) (or_broken kinds.RegularExpression pattern_node (two_bytes o))
 regex_seen None = refl
@@ -77,11 +77,11 @@ pointer_seen b = by_case (is_closed front) where
 
 -- ---- all kinds, where documents, arrays and scopes are made so
 
-binary_whole : (subtype : ℕ) (b : Piece) → fault false (binary_node subtype b) ≡ None
+binary_whole : (subtype : ℕ) (b : Piece) → fault (binary_node false subtype b) ≡ None
 binary_whole zero b = refl
 binary_whole (suc subtype) b = refl
 
-module _ (inner : ElementType → Bytes → Node) (whole : (k : ElementType) (b : Bytes) → fault false (inner k b) ≡ None) where
+module _ (inner : ElementType → Bytes → Node) (whole : (k : ElementType) (b : Bytes) → fault (inner k b) ≡ None) where
   -- the same, of bytes that are closed or not
   abbrev container : ElementType → Bytes → Node
   container k b = closed_node k b (inner k b)
@@ -102,12 +102,12 @@ module _ (inner : ElementType → Bytes → Node) (whole : (k : ElementType) (b 
       → Sees scoped (cond c (cond u (Ok x) (Err NotUtf8)) (Err TextUnclosed) >>= λ code. result_map (λ t. (code, t)) (cond d (Ok s) (Err ValueUnclosed)))
       (or_broken kinds.JavaScriptCodeWithScope scoped_node (result_map (λ code. (code, s)) (cond c (Ok (borrowed x)) (Err TextUnclosed))))
   parts_seen x s false u d e g = refl
-  parts_seen x s true false d e g = ap (λ z. or_else (cond z None (Some NotUtf8)) (fault false (container kinds.EmbeddedDocument s))) e
+  parts_seen x s true false d e g = ap (λ z. or_else (cond z None (Some NotUtf8)) (fault (container kinds.EmbeddedDocument s))) e
   parts_seen x s true true true e g = (
     ap (λ z. opens (javascript_code_with_scope (borrowed x) (cond z (inner kinds.EmbeddedDocument s) (broken kinds.EmbeddedDocument ValueUnclosed)))) g,
-    (λ i. or_else (cond (e i) None (Some NotUtf8)) (fault false (cond (g i) (inner kinds.EmbeddedDocument s) (broken kinds.EmbeddedDocument ValueUnclosed)))) ∙ whole kinds.EmbeddedDocument s,
+    (λ i. or_else (cond (e i) None (Some NotUtf8)) (fault (cond (g i) (inner kinds.EmbeddedDocument s) (broken kinds.EmbeddedDocument ValueUnclosed)))) ∙ whole kinds.EmbeddedDocument s,
   )
-  parts_seen x s true true false e g = λ i. or_else (cond (e i) None (Some NotUtf8)) (fault false (cond (g i) (inner kinds.EmbeddedDocument s) (broken kinds.EmbeddedDocument ValueUnclosed)))
+  parts_seen x s true true false e g = λ i. or_else (cond (e i) None (Some NotUtf8)) (fault (cond (g i) (inner kinds.EmbeddedDocument s) (broken kinds.EmbeddedDocument ValueUnclosed)))
 
   scoped_seen : (n : ℤ) (b : Bytes) → Sees scoped (scoped_code n b) (or_broken kinds.JavaScriptCodeWithScope scoped_node (scoped_bytes n b))
   scoped_seen (negsuc n) b = refl
@@ -129,7 +129,7 @@ module _ (inner : ElementType → Bytes → Node) (whole : (k : ElementType) (b 
   node_seen kinds.String b = mapped raw.string (value_node inner) (text_in b) _ (text_seen kinds.String string (λ p. refl) b)
   node_seen kinds.EmbeddedDocument b = mapped raw.document (value_node inner) (closed_in b) _ (container_seen kinds.EmbeddedDocument b)
   node_seen kinds.Array b = mapped raw.array (value_node inner) (closed_in b) _ (container_seen kinds.Array b)
-  node_seen kinds.Binary b = mapped (λ (x : ℕ × Bytes). raw.binary x.0 x.1) (value_node inner) (binary_in b) _ (plainly kinds.Binary (λ x. binary_node x.0 (borrowed x.1)) (binary_in b) (λ x. binary_whole x.0 (borrowed x.1)))
+  node_seen kinds.Binary b = mapped (λ (x : ℕ × Bytes). raw.binary x.0 x.1) (value_node inner) (binary_in b) _ (plainly kinds.Binary (λ x. binary_node false x.0 (borrowed x.1)) (binary_in b) (λ x. binary_whole x.0 (borrowed x.1)))
   node_seen kinds.Undefined b = (refl, refl)
   node_seen kinds.ObjectId b = (refl, refl)
   node_seen kinds.Boolean b = mapped raw.boolean (value_node inner) (boolean_of (get_or b 0 0)) _ (plainly kinds.Boolean boolean (boolean_of (get_or b 0 0)) (λ x. refl))
@@ -150,7 +150,7 @@ module _ (inner : ElementType → Bytes → Node) (whole : (k : ElementType) (b 
 
 -- ---- elements
 
-holding_whole : (levels : ℕ) (k : ElementType) (b : Bytes) → fault false (holding k (nodes_with (node_in levels) (walk b))) ≡ None
+holding_whole : (levels : ℕ) (k : ElementType) (b : Bytes) → fault (holding k (nodes_with (node_in levels) (walk b))) ≡ None
 holding_whole levels kinds.EmbeddedDocument b = refl
 holding_whole levels k b = refl
 

@@ -1,9 +1,10 @@
 -- A value as a reader meets it: in bytes, in a `Bson`, or made by opening. Source: bsonspec.org, version 1.1; the opened forms after MongoDB's extended JSON, but for
 -- `$numberDecimalBytes`, the order of `$binary`, and the Int64s of `$timestamp`.
-use Rattle.std.specs.Prelude.{ℕ, zero, suc, [], ◌∷◌, ℤ, pos, Bool, true, ◌||◌, drop, take, get_or, length, nat_lt, ◌+◌, ◌-◌, negsuc, if◌then◌else◌, Option, Some, None, Result, Ok, Err, codes}
+use Rattle.std.specs.Prelude.{ℕ, zero, suc, [], ◌∷◌, ℤ, pos, Bool, true, false, ◌||◌, drop, take, get_or, length, nat_lt, ◌+◌, ◌-◌, negsuc, if◌then◌else◌, Option, Some, None, Result, Ok, Err, codes}
 use Rattle.std.specs.Fmt.{decimal}
 use Rattle.std.specs.Ordering.{int_eq}
 use Rattle.std.specs.Str.{is_utf8}
+use Rattle.std.specs.Str.Lossy.{utf8_lossy}
 use Rattle.bson_base.specs.Text.{Bytes, Utf8}
 use Rattle.bson_base.specs.Outcome.{result_map}
 use Rattle.bson_base.specs.Tree as trees
@@ -25,14 +26,14 @@ use Rattle.bson_rawdoc.specs.declared.raw.Error.TheVariants.{BadExtent, NotUtf8,
 -- ---- values
 
 mutual
-  -- A value. Its texts are not judged yet: a reader refuses one that is not UTF-8, or mends it.
+  -- A value. Its texts are not judged yet: a reader refuses one that is not UTF-8, where it is not mended.
   pub data Node : Type 0 where
     double : Bytes → Node
     string : Piece → Node
     document : Nodes → Node
     array : Nodes → Node
-    -- a binary of subtype 0
-    bytes : Piece → Node
+    -- a binary of subtype 0; where texts are mended it is borrowed as a byte string alone
+    bytes : (under_mark : Bool) → Piece → Node
     boolean : Bool → Node
     null : Node
     int32 : ℤ → Node
@@ -87,7 +88,7 @@ kind_of (double bits) = kinds.Double
 kind_of (string t) = kinds.String
 kind_of (document ns) = kinds.EmbeddedDocument
 kind_of (array ns) = kinds.Array
-kind_of (bytes b) = kinds.Binary
+kind_of (bytes u b) = kinds.Binary
 kind_of (boolean b) = kinds.Boolean
 kind_of null = kinds.Null
 kind_of (int32 n) = kinds.Int32
@@ -103,24 +104,24 @@ abbrev pub or_else : Option Error → Option Error → Option Error
 or_else (Some e) o = Some e
 or_else None o = o
 
--- a text that is not UTF-8 is at fault, where texts are not mended
-abbrev pub text_fault : (lossy : Bool) → Piece → Option Error
-text_fault lossy t = if lossy || is_utf8 t.bytes then None else Some NotUtf8
+-- a text that is not UTF-8 is at fault
+abbrev pub text_fault : Piece → Option Error
+text_fault t = if is_utf8 t.bytes then None else Some NotUtf8
 
 abbrev mutual
-  pub fault : (lossy : Bool) → Node → Option Error
-  fault lossy (string t) = text_fault lossy t
-  fault lossy (extended x ns) = extended_fault lossy x
-  fault lossy (broken k e) = Some e
-  fault lossy n = None
+  pub fault : Node → Option Error
+  fault (string t) = text_fault t
+  fault (extended x ns) = extended_fault x
+  fault (broken k e) = Some e
+  fault n = None
 
-  pub extended_fault : (lossy : Bool) → Extended → Option Error
-  extended_fault lossy (regular_expression pattern options) = or_else (text_fault lossy pattern) (text_fault lossy options)
-  extended_fault lossy (db_pointer namespace id) = text_fault lossy namespace
-  extended_fault lossy (javascript_code t) = text_fault lossy t
-  extended_fault lossy (symbol t) = text_fault lossy t
-  extended_fault lossy (javascript_code_with_scope code scope) = or_else (text_fault lossy code) (fault lossy scope)
-  extended_fault lossy x = None
+  pub extended_fault : Extended → Option Error
+  extended_fault (regular_expression pattern options) = or_else (text_fault pattern) (text_fault options)
+  extended_fault (db_pointer namespace id) = text_fault namespace
+  extended_fault (javascript_code t) = text_fault t
+  extended_fault (symbol t) = text_fault t
+  extended_fault (javascript_code_with_scope code scope) = or_else (text_fault code) (fault scope)
+  extended_fault x = None
 
 -- ---- the documents that extended values are opened to
 
@@ -148,7 +149,7 @@ opened (javascript_code t) = one (codes "$code") (string t)
 opened (javascript_code_with_scope code scope) = two (codes "$code") (string code) (codes "$scope") scope
 opened (symbol t) = one (codes "$symbol") (string t)
 opened (db_pointer namespace id) = one (codes "$dbPointer") (document (two (codes "$ref") (string namespace) (codes "$id") (document (one (codes "$oid") (made_text (digits id))))))
-opened (decimal128 b) = one (codes "$numberDecimalBytes") (bytes (made b))
+opened (decimal128 b) = one (codes "$numberDecimalBytes") (bytes false (made b))
 opened undefined = one (codes "$undefined") (boolean true)
 opened max_key = one (codes "$maxKey") (int32 (pos 1))
 opened min_key = one (codes "$minKey") (int32 (pos 1))
@@ -157,9 +158,39 @@ opened min_key = one (codes "$minKey") (int32 (pos 1))
 abbrev pub opens : Extended → Node
 opens x = extended x (opened x)
 
-abbrev pub binary_node : (subtype : ℕ) → Piece → Node
-binary_node zero b = bytes b
-binary_node (suc subtype) b = opens (binary (suc subtype) b)
+abbrev pub binary_node : (under_mark : Bool) → (subtype : ℕ) → Piece → Node
+binary_node under_mark zero b = bytes under_mark b
+binary_node under_mark (suc subtype) b = opens (binary (suc subtype) b)
+
+-- ---- values whose texts are mended
+
+-- a text in which U+FFFD stands for each ill-formed sequence, as `String::from_utf8_lossy` writes it; it is not in the input
+abbrev pub mended_text : Piece → Piece
+mended_text t = made (utf8_lossy t.bytes)
+
+abbrev mutual
+  -- The value as it is read where texts are mended. No text and no key of it is in the input, and a binary is borrowed as a byte string alone. Keys are not
+  -- mended, since one that is no text ends its list. What else is wrong with a value stays wrong.
+  pub mended : Node → Node
+  mended (string t) = string (mended_text t)
+  mended (document ns) = document (mended_nodes ns)
+  mended (array ns) = array (mended_nodes ns)
+  mended (bytes u b) = bytes true b
+  mended (extended x ns) = opens (mended_value x)
+  mended n = n
+
+  pub mended_value : Extended → Extended
+  mended_value (regular_expression pattern options) = regular_expression (mended_text pattern) (mended_text options)
+  mended_value (db_pointer namespace id) = db_pointer (mended_text namespace) id
+  mended_value (javascript_code t) = javascript_code (mended_text t)
+  mended_value (symbol t) = symbol (mended_text t)
+  mended_value (javascript_code_with_scope code scope) = javascript_code_with_scope (mended_text code) (mended scope)
+  mended_value x = x
+
+  pub mended_nodes : Nodes → Nodes
+  mended_nodes ended = ended
+  mended_nodes (faulty e) = faulty e
+  mended_nodes (then_node key n ns) = then_node (made key.bytes) (mended n) (mended_nodes ns)
 
 -- ---- values in bytes
 
@@ -196,7 +227,7 @@ node_with container kinds.Double b = double b
 node_with container kinds.String b = or_broken kinds.String string (text_bytes b)
 node_with container kinds.EmbeddedDocument b = container kinds.EmbeddedDocument b
 node_with container kinds.Array b = container kinds.Array b
-node_with container kinds.Binary b = or_broken kinds.Binary (λ p. binary_node p.0 (borrowed p.1)) (binary_in b)
+node_with container kinds.Binary b = or_broken kinds.Binary (λ p. binary_node false p.0 (borrowed p.1)) (binary_in b)
 node_with container kinds.Undefined b = opens undefined
 node_with container kinds.ObjectId b = opens (object_id (borrowed b))
 node_with container kinds.Boolean b = or_broken kinds.Boolean boolean (boolean_of (get_or b 0 0))
@@ -248,7 +279,7 @@ value_node inner (raw.double bits) = double bits
 value_node inner (raw.string t) = string (borrowed t)
 value_node inner (raw.document b) = inner kinds.EmbeddedDocument b
 value_node inner (raw.array b) = inner kinds.Array b
-value_node inner (raw.binary subtype b) = binary_node subtype (borrowed b)
+value_node inner (raw.binary subtype b) = binary_node false subtype (borrowed b)
 value_node inner raw.undefined = opens undefined
 value_node inner (raw.object_id id) = opens (object_id (borrowed id))
 value_node inner (raw.boolean b) = boolean b
@@ -268,6 +299,24 @@ value_node inner raw.min_key = opens min_key
 
 -- ---- values of a finished tree
 
+-- what of a finished tree is in the input: its texts and keys, its byte strings; and whether it is under a mark, where texts are mended
+pub record Sight : Type 0 where
+  pub texts : Bool
+  pub bytes : Bool
+  pub under_mark : Bool
+
+-- a tree of the input
+abbrev pub from_input : Sight
+from_input = record { texts = true; bytes = true; under_mark = false }
+
+-- a tree of the input, where texts are mended
+abbrev pub from_marked : Sight
+from_marked = record { texts = false; bytes = true; under_mark = true }
+
+-- a tree in memory
+abbrev pub from_memory : Sight
+from_memory = record { texts = false; bytes = false; under_mark = false }
+
 -- a text or byte string of a finished tree, which is in the input or not
 abbrev pub piece : Bool → Bytes → Piece
 piece in_input b = record { bytes = b; in_input = in_input }
@@ -279,34 +328,34 @@ one_level k ns (suc levels) = holding k (ns levels)
 
 abbrev mutual
   -- the value that a tree is, with so many levels of documents left
-  pub tree_node : (in_input : Bool) → Tree → (levels : ℕ) → Node
-  tree_node in_input (trees.double bits) levels = double bits
-  tree_node in_input (trees.string t) levels = string (piece in_input t)
-  tree_node in_input (trees.document ps) levels = one_level kinds.EmbeddedDocument (pair_nodes in_input ps) levels
-  tree_node in_input (trees.array ts) levels = one_level kinds.Array (tree_nodes in_input 0 ts) levels
-  tree_node in_input (trees.binary subtype b) levels = binary_node subtype (piece in_input b)
-  tree_node in_input trees.undefined levels = opens undefined
-  tree_node in_input (trees.object_id id) levels = opens (object_id (piece in_input id))
-  tree_node in_input (trees.boolean b) levels = boolean b
-  tree_node in_input (trees.date_time n) levels = opens (date_time n)
-  tree_node in_input trees.null levels = null
-  tree_node in_input (trees.regular_expression pattern options) levels = opens (regular_expression (piece in_input pattern) (piece in_input options))
-  tree_node in_input (trees.db_pointer namespace id) levels = opens (db_pointer (piece in_input namespace) id)
-  tree_node in_input (trees.javascript_code t) levels = opens (javascript_code (piece in_input t))
-  tree_node in_input (trees.symbol t) levels = opens (symbol (piece in_input t))
-  tree_node in_input (trees.javascript_code_with_scope code scope) levels = opens (javascript_code_with_scope (piece in_input code) (one_level kinds.EmbeddedDocument (pair_nodes in_input scope) levels))
-  tree_node in_input (trees.int32 n) levels = int32 n
-  tree_node in_input (trees.timestamp time increment) levels = opens (timestamp time increment)
-  tree_node in_input (trees.int64 n) levels = int64 n
-  tree_node in_input (trees.decimal128 b) levels = opens (decimal128 b)
-  tree_node in_input trees.max_key levels = opens max_key
-  tree_node in_input trees.min_key levels = opens min_key
+  pub tree_node : (at : Sight) → Tree → (levels : ℕ) → Node
+  tree_node at (trees.double bits) levels = double bits
+  tree_node at (trees.string t) levels = string (piece at.texts t)
+  tree_node at (trees.document ps) levels = one_level kinds.EmbeddedDocument (pair_nodes at ps) levels
+  tree_node at (trees.array ts) levels = one_level kinds.Array (tree_nodes at 0 ts) levels
+  tree_node at (trees.binary subtype b) levels = binary_node at.under_mark subtype (piece at.bytes b)
+  tree_node at trees.undefined levels = opens undefined
+  tree_node at (trees.object_id id) levels = opens (object_id (piece at.bytes id))
+  tree_node at (trees.boolean b) levels = boolean b
+  tree_node at (trees.date_time n) levels = opens (date_time n)
+  tree_node at trees.null levels = null
+  tree_node at (trees.regular_expression pattern options) levels = opens (regular_expression (piece at.texts pattern) (piece at.texts options))
+  tree_node at (trees.db_pointer namespace id) levels = opens (db_pointer (piece at.texts namespace) id)
+  tree_node at (trees.javascript_code t) levels = opens (javascript_code (piece at.texts t))
+  tree_node at (trees.symbol t) levels = opens (symbol (piece at.texts t))
+  tree_node at (trees.javascript_code_with_scope code scope) levels = opens (javascript_code_with_scope (piece at.texts code) (one_level kinds.EmbeddedDocument (pair_nodes at scope) levels))
+  tree_node at (trees.int32 n) levels = int32 n
+  tree_node at (trees.timestamp time increment) levels = opens (timestamp time increment)
+  tree_node at (trees.int64 n) levels = int64 n
+  tree_node at (trees.decimal128 b) levels = opens (decimal128 b)
+  tree_node at trees.max_key levels = opens max_key
+  tree_node at trees.min_key levels = opens min_key
 
-  pub pair_nodes : (in_input : Bool) → Pairs → (levels : ℕ) → Nodes
-  pair_nodes in_input no_pairs levels = ended
-  pair_nodes in_input (pair key t ps) levels = then_node (piece in_input key) (tree_node in_input t levels) (pair_nodes in_input ps levels)
+  pub pair_nodes : (at : Sight) → Pairs → (levels : ℕ) → Nodes
+  pair_nodes at no_pairs levels = ended
+  pair_nodes at (pair key t ps) levels = then_node (piece at.texts key) (tree_node at t levels) (pair_nodes at ps levels)
 
   -- the elements of an array have their decimal indexes as keys
-  pub tree_nodes : (in_input : Bool) → (index : ℕ) → Trees → (levels : ℕ) → Nodes
-  tree_nodes in_input i no_trees levels = ended
-  tree_nodes in_input i (tree t ts) levels = then_node (piece in_input (decimal i)) (tree_node in_input t levels) (tree_nodes in_input (suc i) ts levels)
+  pub tree_nodes : (at : Sight) → (index : ℕ) → Trees → (levels : ℕ) → Nodes
+  tree_nodes at i no_trees levels = ended
+  tree_nodes at i (tree t ts) levels = then_node (piece at.texts (decimal i)) (tree_node at t levels) (tree_nodes at (suc i) ts levels)

@@ -18,7 +18,6 @@ use Rattle.bson_datum.specs.Cause.{raw}
 use Rattle.bson_datum.specs.Marked.{contents}
 use Rattle.bson_datum.specs.Refusal.{ReadFault, Failure, bare, unreadable}
 use Rattle.bson_datum.specs.Value.{Value}
-use Rattle.bson_laws.specs.Judged.{plain}
 use Rattle.bson_laws.specs.Reads.{reads, answered, reads_document}
 use Rattle.bson_laws.specs.Spell.{Writing, spell_document, size}
 use Rattle.bson_laws.proofs.ReadAgain.{document_again, document_size}
@@ -121,7 +120,7 @@ run_again first second given out answers done are told empty holds again words i
 
 -- bytes that are read are framed as a document
 read_framed : (s : Form) (bytes : Bytes) (d : Value) (r : Result Bytes Error) → envelope bytes ≡ r
-    → result_map contents (elim r [ Ok b ↦ answered (reads s plain (node_in max_levels EmbeddedDocument b)) | Err f ↦ Err (bare (unreadable (raw f))) ]) ≡ Ok d → (b : Bytes) × (envelope bytes ≡ Ok b)
+    → result_map contents (elim r [ Ok b ↦ answered (reads s (node_in max_levels EmbeddedDocument b)) | Err f ↦ Err (bare (unreadable (raw f))) ]) ≡ Ok d → (b : Bytes) × (envelope bytes ≡ Ok b)
 read_framed s bytes d (Ok b) is h = (b, is)
 read_framed s bytes d (Err f) is h = absurd cc
 

@@ -13,7 +13,7 @@ use Rattle.bson_datum.specs.declared.datum.Datum.{Datum}
 use Rattle.bson_datum.specs.declared.datum.Field.{Field}
 use Rattle.bson_datum.specs.declared.de.Fault.{Fault}
 use Rattle.bson_datum.specs.declared.stop.Stop.{Stop}
-use Rattle.bson_laws.specs.Judged.{Reading, plain, refused, ignores}
+use Rattle.bson_laws.specs.Judged.{Reading, refused, ignores}
 use Rattle.bson_laws.specs.Reads.{reads}
 use Rattle.bson_laws.specs.Slots.{Slot, Slots, fill_slot, put_at}
 use Rattle.bson_laws.proofs.Placed.{names_of, IsFirst, IsNone, put_first, put_none}
@@ -81,10 +81,10 @@ none_from None e = refl
 none_from (Some v) e = absurd cc
 
 slot_new : (key : Utf8) (n : Node) (slots : Slots) (i : ℕ) (default : Slot) → IsFirst key (names_of slots) i → is_some (value_at slots i) ≡ false
-    → put_at plain key n slots ≡ (under key ((get_or slots i default).read n) >>= λ v. Ok (with_value slots i v))
+    → put_at key n slots ≡ (under key ((get_or slots i default).read n) >>= λ v. Ok (with_value slots i v))
 slot_new key n slots i default first new =
     let slot = get_or slots i default in
-    put_first plain key n slots i default first
+    put_first key n slots i default first
     ∙ ap (λ o. result_map (λ filled. set slots i filled) (fill_slot key n slot o)) (sym (slot_value slots i default (first_within key slots i first)) ∙ none_from (value_at slots i) new)
     ∙ set_filled slots i slot (under key (slot.read n))
     ∙ with_sets slots i default (under key (slot.read n))
@@ -94,9 +94,9 @@ twice : (key : Utf8) (n : Node) (slots : Slots) (i : ℕ) (slot : Slot) (o : Opt
 twice key n slots i slot None e = absurd cc
 twice key n slots i slot (Some v) e = refl
 
-slot_again : (key : Utf8) (n : Node) (slots : Slots) (i : ℕ) (default : Slot) → IsFirst key (names_of slots) i → is_some (value_at slots i) ≡ true → put_at plain key n slots ≡ refused (duplicate_field key)
+slot_again : (key : Utf8) (n : Node) (slots : Slots) (i : ℕ) (default : Slot) → IsFirst key (names_of slots) i → is_some (value_at slots i) ≡ true → put_at key n slots ≡ refused (duplicate_field key)
 slot_again key n slots i default first old =
-    put_first plain key n slots i default first
+    put_first key n slots i default first
     ∙ twice key n slots i (get_or slots i default) (get_or slots i default).value (ap is_some (sym (slot_value slots i default (first_within key slots i first))) ∙ old)
 
 -- ---- the slots of fields
@@ -107,7 +107,7 @@ names_are (f ∷ fs) (x ∷ first) later = ap (λ names. string_bytes f.name ∷
 names_are (f ∷ fs) [] (v ∷ later) = ap (λ names. string_bytes f.name ∷ names) (names_are fs [] later)
 names_are (f ∷ fs) [] [] = ap (λ names. string_bytes f.name ∷ names) (names_are fs [] [])
 
-pub slot_reads : (fs : List FieldShape) (first : List Field) (later : List (Option Datum)) (i : ℕ) (d : FieldShape) → (get_or (field_slots fs first later) i (slot_of d None)).read ≡ reads (get_or fs i d).shape plain
+pub slot_reads : (fs : List FieldShape) (first : List Field) (later : List (Option Datum)) (i : ℕ) (d : FieldShape) → (get_or (field_slots fs first later) i (slot_of d None)).read ≡ reads (get_or fs i d).shape
 slot_reads [] first later i d = refl
 slot_reads (f ∷ fs) (x ∷ first) later zero d = refl
 slot_reads (f ∷ fs) (x ∷ first) later (suc i) d = slot_reads fs first later i d
@@ -125,29 +125,29 @@ first_key s key i e = first_at key (names_of (slots_view s)) i (ap (λ names. pl
 
 -- the key is the name of a field that has no value: the value is read at the field's shape
 module _ (s : code.Slots) (key : Utf8) (n : Node) (i : ℕ) (d : FieldShape) (place : key_place s key ≡ Some i) (unfilled : is_some (value_at (slots_view s) i) ≡ false) where
-  pub put_unfilled : put_at plain key n (slots_view s) ≡ (under key (reads (get_or s.fields.now i d).shape plain n) >>= λ v. Ok (with_value (slots_view s) i v))
+  pub put_unfilled : put_at key n (slots_view s) ≡ (under key (reads (get_or s.fields.now i d).shape n) >>= λ v. Ok (with_value (slots_view s) i v))
   put_unfilled =
       slot_new key n (slots_view s) i (slot_of d None) (first_key s key i place) unfilled
       ∙ ap (λ (read : Node → Reading Marked). under key (read n) >>= λ v. Ok (with_value (slots_view s) i v)) (slot_reads s.fields.now s.first.items s.later.items i d)
 
-  pub value_put : (v : Marked) → under key (reads (get_or s.fields.now i d).shape plain n) ≡ Ok v → put_at plain key n (slots_view s) ≡ Ok (with_value (slots_view s) i v)
+  pub value_put : (v : Marked) → under key (reads (get_or s.fields.now i d).shape n) ≡ Ok v → put_at key n (slots_view s) ≡ Ok (with_value (slots_view s) i v)
   value_put v e = put_unfilled ∙ ap (λ r. r >>= λ x. Ok (with_value (slots_view s) i x)) e
 
-  pub value_refused : (t : Stop Fault) → StopsAs t (under key (reads (get_or s.fields.now i d).shape plain n)) → StopsAs t (put_at plain key n (slots_view s))
-  value_refused t h = subst (λ (r : Reading Slots). StopsAs t r) (sym put_unfilled) (stops_bind t (under key (reads (get_or s.fields.now i d).shape plain n)) (λ v. Ok (with_value (slots_view s) i v)) h)
+  pub value_refused : (t : Stop Fault) → StopsAs t (under key (reads (get_or s.fields.now i d).shape n)) → StopsAs t (put_at key n (slots_view s))
+  value_refused t h = subst (λ (r : Reading Slots). StopsAs t r) (sym put_unfilled) (stops_bind t (under key (reads (get_or s.fields.now i d).shape n)) (λ v. Ok (with_value (slots_view s) i v)) h)
 
 -- the key is the name of a field that has a value: the element is refused
 module _ (s : code.Slots) (key : Utf8) (n : Node) (i : ℕ) (place : key_place s key ≡ Some i) (filled : is_some (value_at (slots_view s) i) ≡ true) (default : Slot) where
-  pub put_filled : put_at plain key n (slots_view s) ≡ refused (duplicate_field key)
+  pub put_filled : put_at key n (slots_view s) ≡ refused (duplicate_field key)
   put_filled = slot_again key n (slots_view s) i default (first_key s key i place) filled
 
 -- the key is the name of no field: the element is dropped
 module _ (s : code.Slots) (key : Utf8) (n : Node) (unknown : key_place s key ≡ None) where
-  pub put_unknown : put_at plain key n (slots_view s) ≡ (under key (ignores plain n) >>= λ _. Ok (slots_view s))
-  put_unknown = put_none plain key n (slots_view s) (none_is key (names_of (slots_view s)) (ap (λ names. place_of names key) (names_are s.fields.now s.first.items s.later.items) ∙ unknown))
+  pub put_unknown : put_at key n (slots_view s) ≡ (under key (ignores n) >>= λ _. Ok (slots_view s))
+  put_unknown = put_none key n (slots_view s) (none_is key (names_of (slots_view s)) (ap (λ names. place_of names key) (names_are s.fields.now s.first.items s.later.items) ∙ unknown))
 
-  pub unknown_dropped : (u : Unit {0}) → under key (ignores plain n) ≡ Ok u → put_at plain key n (slots_view s) ≡ Ok (slots_view s)
+  pub unknown_dropped : (u : Unit {0}) → under key (ignores n) ≡ Ok u → put_at key n (slots_view s) ≡ Ok (slots_view s)
   unknown_dropped u e = put_unknown ∙ ap (λ r. r >>= λ _. Ok (slots_view s)) e
 
-  pub unknown_refused : (t : Stop Fault) → StopsAs t (under key (ignores plain n)) → StopsAs t (put_at plain key n (slots_view s))
-  unknown_refused t h = subst (λ (r : Reading Slots). StopsAs t r) (sym put_unknown) (stops_bind t (under key (ignores plain n)) (λ _. Ok (slots_view s)) h)
+  pub unknown_refused : (t : Stop Fault) → StopsAs t (under key (ignores n)) → StopsAs t (put_at key n (slots_view s))
+  unknown_refused t h = subst (λ (r : Reading Slots). StopsAs t r) (sym put_unknown) (stops_bind t (under key (ignores n)) (λ _. Ok (slots_view s)) h)

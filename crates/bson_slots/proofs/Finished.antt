@@ -11,7 +11,6 @@ use Rattle.bson_datum.specs.declared.datum.Datum.{Datum}
 use Rattle.bson_datum.specs.declared.datum.Field.{Field}
 use Rattle.bson_datum.specs.declared.de.Fault.{Fault}
 use Rattle.bson_datum.specs.declared.stop.Stop.{Stop}
-use Rattle.bson_laws.specs.Judged.{plain}
 use Rattle.bson_laws.specs.Reads.{slots_of}
 use Rattle.bson_laws.specs.Slots.{finish, value_or}
 use Rattle.bson_laws.specs.Views.{absent}
@@ -19,7 +18,7 @@ use Rattle.bson_slots.specs.FieldSlots.{AreFirst, IsNamed, field_slots, fields_m
 use Rattle.bson_met.proofs.Refusals.{StopsAs, stops_bind, stops_map}
 
 -- no value yet
-pub none_yet : (fs : List FieldShape) → field_slots fs [] [] ≡ slots_of (fields_of fs) plain
+pub none_yet : (fs : List FieldShape) → field_slots fs [] [] ≡ slots_of (fields_of fs)
 none_yet [] = refl
 none_yet (f ∷ fs) = ap (λ r. slot_of f None ∷ r) (none_yet fs)
 

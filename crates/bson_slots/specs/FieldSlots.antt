@@ -9,7 +9,6 @@ use Rattle.bson_datum.specs.TextView.{text_view}
 use Rattle.bson_datum.specs.Value.{no_field_values, field_value}
 use Rattle.bson_datum.specs.declared.datum.Datum.{Datum}
 use Rattle.bson_datum.specs.declared.datum.Field.{Field}
-use Rattle.bson_laws.specs.Judged.{plain}
 use Rattle.bson_laws.specs.Reads.{reads}
 use Rattle.bson_laws.specs.Slots.{Slot, Slots}
 use Rattle.bson_laws.specs.Views.{absent}
@@ -30,7 +29,7 @@ with_value (slot ∷ slots) (suc i) v = slot ∷ with_value slots i v
 
 -- the slot of a field
 abbrev pub slot_of : FieldShape → Option Marked → Slot
-slot_of f value = record { name = string_bytes f.name; missing = absent f.shape; read = reads f.shape plain; value = value }
+slot_of f value = record { name = string_bytes f.name; missing = absent f.shape; read = reads f.shape; value = value }
 
 -- The slots of fields. The first have their values, those behind them what stands for each in the second list, and the others none.
 abbrev pub field_slots : List FieldShape → (first : List Field) → (later : List (Option Datum)) → Slots

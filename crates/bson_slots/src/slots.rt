@@ -3,7 +3,6 @@ ghost use Rattle.std.specs.Bool.{OnTrue};
 ghost use Rattle.bson_shape.specs.ShapeView.{fields_of};
 ghost use Rattle.bson_datum.specs.MarkedView.{marked};
 ghost use Rattle.bson_datum.specs.declared.datum.Datum.{Datum};
-ghost use Rattle.bson_laws.specs.Judged.{plain};
 ghost use Rattle.bson_laws.specs.Reads.{slots_of};
 ghost use Rattle.bson_laws.specs.Slots as laws;
 ghost use Rattle.bson_laws.specs.Views.{absent};
@@ -42,7 +41,7 @@ impl<'s, 'de> Slots<'s, 'de> {
     /// Memory ran out.
     #[tactic(auto, using(crate::proofs::Finished::none_yet))]
     pub fn new(alloc: Global, fields: &'s [FieldShape]) -> Result<Slots<'s, 'de>, AllocError>
-        ensures empty { IfOk result (λ s. slots_view s ≡ slots_of (fields_of fields.now) plain) }
+        ensures empty { IfOk result (λ s. slots_view s ≡ slots_of (fields_of fields.now)) }
         ensures fields { IfOk result (λ s. s.fields ≡ fields.entry) }
     {
         let first = Vec::with_capacity(alloc, fields.len())?;

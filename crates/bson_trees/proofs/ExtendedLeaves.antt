@@ -15,7 +15,7 @@ use Rattle.bson_datum.specs.Value as value
 use Rattle.bson_datum.specs.declared.de.Fault.{Fault}
 use Rattle.bson_datum.specs.declared.stop.Stop.{Stop}
 use Rattle.bson_laws.specs.Datum.{datum, pair_data}
-use Rattle.bson_laws.specs.Judged.{Reading, refused, judged, plain}
+use Rattle.bson_laws.specs.Judged.{Reading, refused, judged}
 use Rattle.bson_laws.specs.ReadsExtended.{tree_of_kind}
 use Rattle.bson_laws.specs.Trees.{as_tree, read_tree, pairs_in}
 use Rattle.bson_laws.proofs.DatumNormal.{same_kind, own_kind}
@@ -31,12 +31,12 @@ then_made (Err e) f g h = refl
 
 -- ---- kinds
 
-pub kind_read : (k : ElementType) (n : Node) (t : Tree) → read_tree plain n ≡ Ok t → kind_from k n ≡ kind_of_tree k t
-kind_read k n t e = then_made (judged plain n) (as_tree plain) (tree_of_kind k) (datum made) ∙ ap (λ r. result_map (datum made) (r >>= tree_of_kind k)) e
+pub kind_read : (k : ElementType) (n : Node) (t : Tree) → read_tree n ≡ Ok t → kind_from k n ≡ kind_of_tree k t
+kind_read k n t e = then_made (judged n) (as_tree) (tree_of_kind k) (datum made) ∙ ap (λ r. result_map (datum made) (r >>= tree_of_kind k)) e
 
 pub kind_stops : (k : ElementType) (n : Node) (s : Stop Fault) → StopsAs s (tree_at n) → StopsAs s (kind_from k n)
 kind_stops k n s h =
-    subst (λ (r : Reading Marked). StopsAs s r) (sym (then_made (judged plain n) (as_tree plain) (tree_of_kind k) (datum made))) (stops_through s (datum made) (read_tree plain n) (tree_of_kind k) (datum made) h)
+    subst (λ (r : Reading Marked). StopsAs s r) (sym (then_made (judged n) (as_tree) (tree_of_kind k) (datum made))) (stops_through s (datum made) (read_tree n) (tree_of_kind k) (datum made) h)
 
 abbrev choice : Tree → Bool → Reading Marked
 choice t b = result_map (datum made) (cond b (Ok t) (refused (wrong_kind (kind t))))
@@ -58,8 +58,8 @@ as_map ps = datum made (tree.document ps)
 
 pub document_read : (n : Node) (es : MarkedEntries) → entries_at n ≡ Ok es → documents_from n ≡ Ok (value.map es)
 document_read n es e =
-    let m = map_ok (pair_data made) (read_tree plain n >>= pairs_in) es e in then_made (judged plain n) (as_tree plain) pairs_in as_map ∙ ap (result_map as_map) m.1 ∙ ap (λ x. Ok (value.map x)) m.2
+    let m = map_ok (pair_data made) (read_tree n >>= pairs_in) es e in then_made (judged n) (as_tree) pairs_in as_map ∙ ap (result_map as_map) m.1 ∙ ap (λ x. Ok (value.map x)) m.2
 
 pub document_stops : (n : Node) (s : Stop Fault) → StopsAs s (entries_at n) → StopsAs s (documents_from n)
 document_stops n s h =
-    subst (λ (r : Reading Marked). StopsAs s r) (sym (then_made (judged plain n) (as_tree plain) pairs_in as_map)) (map_stops s (pair_data made) (read_tree plain n >>= pairs_in) as_map h)
+    subst (λ (r : Reading Marked). StopsAs s r) (sym (then_made (judged n) (as_tree) pairs_in as_map)) (map_stops s (pair_data made) (read_tree n >>= pairs_in) as_map h)

@@ -26,7 +26,7 @@ use Rattle.bson_datum.specs.declared.stop.Stop.{Stop}
 use Rattle.bson_datum.specs.declared.wrapper.Wrapper.{Wrapper}
 use Rattle.bson_laws.specs.Containers.{reads_items}
 use Rattle.bson_laws.specs.Datum.{datum, itself, pair_data, tree_data}
-use Rattle.bson_laws.specs.Judged.{Reading, refused, judged, plain, scope_key}
+use Rattle.bson_laws.specs.Judged.{Reading, refused, judged, scope_key}
 use Rattle.bson_laws.specs.ReadsLeaf.{put_entry}
 use Rattle.bson_laws.specs.Trees.{as_tree, read_tree, array_trees, document_tree, after_code, after_scope, by_key, by_meaning, put_pair, pairs_in}
 use Rattle.bson_laws.specs.Wrapped.{Meaning, body, code, scope}
@@ -84,12 +84,12 @@ one_item i (Ok t) (Ok ts) = refl
 one_item i (Ok t) (Err e) = refl
 one_item i (Err e) rest = refl
 
-pub trees_are : (i : ℕ) (ns : Nodes) → result_map (tree_data made) (array_trees plain i ns) ≡ reads_items tree_at i ns
+pub trees_are : (i : ℕ) (ns : Nodes) → result_map (tree_data made) (array_trees i ns) ≡ reads_items tree_at i ns
 trees_are i ended = refl
 trees_are i (faulty e) = refl
 trees_are i (then_node k n ns) =
-    ap (λ r. result_map (tree_data made) (under_index i r >>= λ t. result_map (tree.tree t) (array_trees plain (suc i) ns))) (sym (judged_same plain n (as_tree plain)))
-    ∙ one_item i (read_tree plain n) (array_trees plain (suc i) ns)
+    ap (λ r. result_map (tree_data made) (under_index i r >>= λ t. result_map (tree.tree t) (array_trees (suc i) ns))) (sym (judged_same n (as_tree)))
+    ∙ one_item i (read_tree n) (array_trees (suc i) ns)
     ∙ ap (λ rest. under_index i (tree_at n) >>= λ v. result_map (item v) rest) (trees_are (suc i) ns)
 
 pub array_made : (r : Reading Trees) (is : MarkedItems) → result_map (tree_data made) r ≡ Ok is → result_map (datum made) (result_map tree.array r) ≡ Ok (value.sequence is)
@@ -113,34 +113,34 @@ put_data key t (pair k old ps) = chosen (bytes_eq key k) (pair k t ps) (pair k o
 
 module _ (k : Piece) (n : Node) (ns : Nodes) (ps : Pairs) where
   abbrev on : Option Wrapper → Reading Tree → Reading Tree
-  on w r = by_key w k.bytes plain n r (λ t. document_tree plain ns (put_pair k.bytes t ps)) (λ t. after_code plain t ns) (λ qs. after_scope plain qs ns)
+  on w r = by_key w k.bytes n r (λ t. document_tree ns (put_pair k.bytes t ps)) (λ t. after_code t ns) (λ qs. after_scope qs ns)
 
-  on_judged : document_tree plain (then_node k n ns) ps ≡ on (of_key k.bytes) (read_tree plain n)
-  on_judged = ap (on (of_key k.bytes)) (sym (judged_same plain n (as_tree plain)))
+  on_judged : document_tree (then_node k n ns) ps ≡ on (of_key k.bytes) (read_tree n)
+  on_judged = ap (on (of_key k.bytes)) (sym (judged_same n (as_tree)))
 
   -- an element whose key is no wrapper key
   pub pair_read : None ≡ of_key k.bytes → (v : Marked) → tree_under k.bytes n ≡ Ok v
-      → (qs : Pairs) × (document_tree plain (then_node k n ns) ps ≡ document_tree plain ns qs) × (put_entry (value.str (made k.bytes)) v (pair_data made ps) ≡ pair_data made qs)
+      → (qs : Pairs) × (document_tree (then_node k n ns) ps ≡ document_tree ns qs) × (put_entry (value.str (made k.bytes)) v (pair_data made ps) ≡ pair_data made qs)
   pair_read none v e =
-      let m = map_ok (datum made) (read_tree plain n) v (under_ok k.bytes (tree_at n) v e) in (
+      let m = map_ok (datum made) (read_tree n) v (under_ok k.bytes (tree_at n) v e) in (
         put_pair k.bytes m.0 ps,
         on_judged ∙ (λ i. on (sym none i) (m.1 i)),
         ap (λ x. put_entry (value.str (made k.bytes)) x (pair_data made ps)) (sym m.2) ∙ put_data k.bytes m.0 ps,
       )
 
   -- one that is refused
-  pub pair_stops_tree : None ≡ of_key k.bytes → (s : Stop Fault) → StopsAs s (tree_under k.bytes n) → StopsAs s (document_tree plain (then_node k n ns) ps)
+  pub pair_stops_tree : None ≡ of_key k.bytes → (s : Stop Fault) → StopsAs s (tree_under k.bytes n) → StopsAs s (document_tree (then_node k n ns) ps)
   pair_stops_tree none s h =
-      let here = bind_stops s (datum made) (under k.bytes (read_tree plain n)) (λ t. document_tree plain ns (put_pair k.bytes t ps))
-      (subst (λ (r : Reading Marked). StopsAs s r) (under_map k.bytes (datum made) (read_tree plain n)) h) in
-      subst (λ (r : Reading Tree). StopsAs s r) (sym (on_judged ∙ ap (λ w. on w (read_tree plain n)) (sym none))) here
+      let here = bind_stops s (datum made) (under k.bytes (read_tree n)) (λ t. document_tree ns (put_pair k.bytes t ps))
+      (subst (λ (r : Reading Marked). StopsAs s r) (under_map k.bytes (datum made) (read_tree n)) h) in
+      subst (λ (r : Reading Tree). StopsAs s r) (sym (on_judged ∙ ap (λ w. on w (read_tree n)) (sym none))) here
 
   pub pair_stops : None ≡ of_key k.bytes → (s : Stop Fault) → StopsAs s (tree_under k.bytes n) → StopsAs s (elements_from (then_node k n ns) ps)
-  pair_stops none s h = stops_map s (datum made) (document_tree plain (then_node k n ns) ps) (pair_stops_tree none s h)
+  pair_stops none s h = stops_map s (datum made) (document_tree (then_node k n ns) ps) (pair_stops_tree none s h)
 
   -- one whose key is a wrapper key
-  pub wrapped_whole : (w : Wrapper) → Some w ≡ of_key k.bytes → wrapped_tree w k.bytes n ns ≡ document_tree plain (then_node k n ns) ps
-  wrapped_whole w some = sym (on_judged ∙ ap (λ x. on x (read_tree plain n)) (sym some))
+  pub wrapped_whole : (w : Wrapper) → Some w ≡ of_key k.bytes → wrapped_tree w k.bytes n ns ≡ document_tree (then_node k n ns) ps
+  wrapped_whole w some = sym (on_judged ∙ ap (λ x. on x (read_tree n)) (sym some))
 
   pub wrapped_read : (w : Wrapper) → Some w ≡ of_key k.bytes → wrapped_at w k.bytes n ns ≡ elements_from (then_node k n ns) ps
   wrapped_read w some = ap (result_map (datum made)) (wrapped_whole w some)
@@ -149,32 +149,32 @@ module _ (k : Piece) (n : Node) (ns : Nodes) (ps : Pairs) where
 
 -- the value of a key that has a body
 pub body_wrapped : (w : Wrapper) (m : Meaning) (key : Utf8) (n : Node) (r : Reading Tree) (f : Utf8 → Reading Tree) (g : Pairs → Reading Tree) → is_body m ≡ true
-    → body_at w (body_of m) key n ≡ result_map (datum made) (by_meaning w m key plain n r f g)
+    → body_at w (body_of m) key n ≡ result_map (datum made) (by_meaning w m key n r f g)
 body_wrapped w (body read) key n r f g e = refl
 body_wrapped w code key n r f g e = absurd cc
 body_wrapped w scope key n r f g e = absurd cc
 
 -- a scope, and then what comes after it
 pub scope_then : (key : Utf8) (n : Node) (ns : Nodes) (es : MarkedEntries) → scope_at key n ≡ Ok es
-    → (ps : Pairs) × (es ≡ pair_data made ps) × (scope_from ps ns ≡ result_map (datum made) (under key (read_tree plain n >>= pairs_in) >>= λ x. after_scope plain x ns))
+    → (ps : Pairs) × (es ≡ pair_data made ps) × (scope_from ps ns ≡ result_map (datum made) (under key (read_tree n >>= pairs_in) >>= λ x. after_scope x ns))
 scope_then key n ns es e =
-    let inner = read_tree plain n >>= pairs_in in
+    let inner = read_tree n >>= pairs_in in
     let m = map_ok (pair_data made) inner es (under_ok key (result_map (pair_data made) inner) es e) in (
       m.0,
       sym m.2,
-      ap (λ (r : Reading Pairs). result_map (datum made) (under key r >>= λ x. after_scope plain x ns)) (sym m.1),
+      ap (λ (r : Reading Pairs). result_map (datum made) (under key r >>= λ x. after_scope x ns)) (sym m.1),
     )
 
-pub scope_stops : (key : Utf8) (n : Node) (s : Stop Fault) {C D : Type 0} (h : Pairs → Reading C) (g : C → D) → StopsAs s (scope_at key n) → StopsAs s (result_map g (under key (read_tree plain n >>= pairs_in) >>= h))
+pub scope_stops : (key : Utf8) (n : Node) (s : Stop Fault) {C D : Type 0} (h : Pairs → Reading C) (g : C → D) → StopsAs s (scope_at key n) → StopsAs s (result_map g (under key (read_tree n >>= pairs_in) >>= h))
 scope_stops key n s h g e =
-    let inner = read_tree plain n >>= pairs_in in
+    let inner = read_tree n >>= pairs_in in
     stops_through s (pair_data made) (under key inner) h g (subst (λ (r : Reading MarkedEntries). StopsAs s r) (under_map key (pair_data made) inner) e)
 
 -- ---- code with a scope
 
 module _ (t key : Utf8) (n : Node) where
   abbrev pairs_there : Reading Pairs
-  pairs_there = under key (read_tree plain n >>= pairs_in)
+  pairs_there = under key (read_tree n >>= pairs_in)
 
   -- the code with the scope that the value is
   abbrev pub scoped : Reading Marked
@@ -182,23 +182,23 @@ module _ (t key : Utf8) (n : Node) where
 
   pub scoped_read : (es : MarkedEntries) → scope_at key n ≡ Ok es → scoped ≡ Ok (scoped_datum t es)
   scoped_read es e =
-      let m = map_ok (pair_data made) (read_tree plain n >>= pairs_in) es (under_ok key (entries_at n) es e) in
+      let m = map_ok (pair_data made) (read_tree n >>= pairs_in) es (under_ok key (entries_at n) es e) in
       ap (λ (r : Reading Pairs). result_map (datum made) (result_map (tree.javascript_code_with_scope t) (under key r))) m.1 ∙ ap (λ x. Ok (scoped_datum t x)) m.2
 
   pub scoped_stops : (s : Stop Fault) → StopsAs s (scope_at key n) → StopsAs s scoped
   scoped_stops s h =
       map_through (stop_view read_fault s) (pair_data made) pairs_there (tree.javascript_code_with_scope t) (datum made)
-      (subst (λ (r : Reading MarkedEntries). StopsAs s r) (under_map key (pair_data made) (read_tree plain n >>= pairs_in)) h)
+      (subst (λ (r : Reading MarkedEntries). StopsAs s r) (under_map key (pair_data made) (read_tree n >>= pairs_in)) h)
 
 -- the text of a code, behind which its scope comes
 pub code_scoped : (t : Utf8) (k : Piece) (n : Node) (ns : Nodes) → bytes_eq k.bytes scope_key ≡ true → code_from t (then_node k n ns) ≡ scoped t k.bytes n
 code_scoped t k n ns e =
-    ap (λ b. result_map (datum made) (cond b (result_map (tree.javascript_code_with_scope t) (under k.bytes ((judged plain n >>= λ _. as_tree plain n) >>= pairs_in))) (refused (unknown_field k.bytes)))) e
-    ∙ ap (λ r. result_map (datum made) (result_map (tree.javascript_code_with_scope t) (under k.bytes (r >>= pairs_in)))) (sym (judged_same plain n (as_tree plain)))
+    ap (λ b. result_map (datum made) (cond b (result_map (tree.javascript_code_with_scope t) (under k.bytes ((judged n >>= λ _. as_tree n) >>= pairs_in))) (refused (unknown_field k.bytes)))) e
+    ∙ ap (λ r. result_map (datum made) (result_map (tree.javascript_code_with_scope t) (under k.bytes (r >>= pairs_in)))) (sym (judged_same n (as_tree)))
 
 -- a code with a scope as it is
 pub extended_scoped : (p : Piece) (n : Node) → extended_at (node.javascript_code_with_scope p n) ≡ scoped p.bytes scope_key n
-extended_scoped p n = ap (λ r. result_map (datum made) (result_map (tree.javascript_code_with_scope p.bytes) (under scope_key (r >>= pairs_in)))) (sym (judged_same plain n (as_tree plain)))
+extended_scoped p n = ap (λ r. result_map (datum made) (result_map (tree.javascript_code_with_scope p.bytes) (under scope_key (r >>= pairs_in)))) (sym (judged_same n (as_tree)))
 
 -- ---- the end of a list
 

@@ -22,7 +22,7 @@ use Rattle.bson_datum.specs.Value as value
 use Rattle.bson_datum.specs.Value.{Value, no_field_values, field_value, in_range, i32}
 use Rattle.bson_datum.specs.declared.wrapper.Wrapper.{Wrapper}
 use Rattle.bson_datum.specs.declared.wrapper.Wrapper.TheVariants.{Oid, Symbol, NumberInt, NumberLong, NumberDouble, Binary, Uuid, Code, Scope, Timestamp, RegularExpression, DbPointer, Date, MinKey, MaxKey, Undefined, NumberDecimal, NumberDecimalBytes}
-use Rattle.bson_laws.specs.Judged.{Reading, refused, judged, plain, scope_key}
+use Rattle.bson_laws.specs.Judged.{Reading, refused, judged, scope_key}
 use Rattle.bson_laws.specs.ReadsLeaf.{no_extended}
 use Rattle.bson_laws.specs.ReadsExtended.{uuid_in}
 use Rattle.bson_laws.specs.Shaped.{reads}
@@ -41,7 +41,7 @@ abbrev MakesOther : {X : Type 0} → (X → Option Tree) → Type 0
 MakesOther {X = X} make = (x : X) (t : Tree) → make x ≡ Some t → is_binary t ≡ false
 
 abbrev BodyOther : Body → Type 0
-BodyOther read = (n : Node) (t : Tree) → read plain n ≡ Ok (Some t) → is_binary t ≡ false
+BodyOther read = (n : Node) (t : Tree) → read n ≡ Ok (Some t) → is_binary t ≡ false
 
 some_other : (u t : Tree) → is_binary u ≡ false → Some u ≡ Some t → is_binary t ≡ false
 some_other u t other e = ap is_binary (sym (some_is u t e)) ∙ other
@@ -80,13 +80,13 @@ fields_other make h v t e = absurd cc
 -- ---- bodies
 
 text_body_other : (make : Utf8 → Option Tree) → MakesOther make → BodyOther (text_body make)
-text_body_other make h n t e = let m = map_ok make (text_at plain n) (Some t) e in h m.0 t m.2
+text_body_other make h n t e = let m = map_ok make (text_at n) (Some t) e in h m.0 t m.2
 
 at_other : (s : Form) (make : Value → Option Tree) → MakesOther make → BodyOther (at s make)
-at_other s make h n t e = let m = map_ok (λ v. make (contents v)) (reads no_extended s plain n) (Some t) e in h (contents m.0) t m.2
+at_other s make h n t e = let m = map_ok (λ v. make (contents v)) (reads no_extended s n) (Some t) e in h (contents m.0) t m.2
 
 judging_other : (read : Body) → BodyOther read → BodyOther (judging read)
-judging_other read h n t e = let m = bind_ok (judged plain n) (read plain) (Some t) e in h m.0 t m.2
+judging_other read h n t e = let m = bind_ok (judged n) (read) (Some t) e in h m.0 t m.2
 
 id_other : MakesOther id_of_text
 id_other x t e = mapped_other tree.object_id (bytes_of_digits 12 x) t (λ b. refl) e
@@ -96,7 +96,7 @@ length_other n make h b t e = chosen_other (nat_eq (length b) n) (make b) t (h b
 
 oid_other : BodyOther oid_body
 oid_other (string x) t e = id_other x.bytes t (ok_is (id_of_text x.bytes) (Some t) e)
-oid_other (bytes b) t e = length_other 12 tree.object_id (λ c. refl) b.bytes t (ok_is (of_length 12 tree.object_id b.bytes) (Some t) e)
+oid_other (bytes u b) t e = length_other 12 tree.object_id (λ c. refl) b.bytes t (ok_is (of_length 12 tree.object_id b.bytes) (Some t) e)
 oid_other n t e = absurd cc
 
 millis_other : MakesOther (λ x. option_map tree.date_time (integer_of_text x))
@@ -179,17 +179,17 @@ scoped_other : {A : Type 0} (b : Bool) (f : A → Tree) (r : Reading A) (c : Cau
 scoped_other true f r c t h e = let m = map_ok f r t e in ap is_binary (sym m.2) ∙ h m.0
 scoped_other false f r c t h e = absurd cc
 
-code_other : (x : Utf8) (ns : Nodes) (t : Tree) → after_code plain x ns ≡ Ok t → is_binary t ≡ false
+code_other : (x : Utf8) (ns : Nodes) (t : Tree) → after_code x ns ≡ Ok t → is_binary t ≡ false
 code_other x ended t e = ok_other (tree.javascript_code x) t refl e
 code_other x (faulty f) t e = absurd cc
 code_other x (then_node k n ns) t e =
-    scoped_other (bytes_eq k.bytes scope_key) (tree.javascript_code_with_scope x) (under k.bytes ((judged plain n >>= λ _. as_tree plain n) >>= pairs_in)) (unknown_field k.bytes) t (λ ps. refl) e
+    scoped_other (bytes_eq k.bytes scope_key) (tree.javascript_code_with_scope x) (under k.bytes ((judged n >>= λ _. as_tree n) >>= pairs_in)) (unknown_field k.bytes) t (λ ps. refl) e
 
-scope_other : (ps : Pairs) (ns : Nodes) (t : Tree) → after_scope plain ps ns ≡ Ok t → is_binary t ≡ false
+scope_other : (ps : Pairs) (ns : Nodes) (t : Tree) → after_scope ps ns ≡ Ok t → is_binary t ≡ false
 scope_other ps ended t e = absurd cc
 scope_other ps (faulty f) t e = absurd cc
 scope_other ps (then_node k n ns) t e =
-    scoped_other (bytes_eq k.bytes code_key) (λ x. tree.javascript_code_with_scope x ps) (under k.bytes (text_at plain n)) (unknown_field k.bytes) t (λ x. refl) e
+    scoped_other (bytes_eq k.bytes code_key) (λ x. tree.javascript_code_with_scope x ps) (under k.bytes (text_at n)) (unknown_field k.bytes) t (λ x. refl) e
 
 -- ---- wrapper keys
 
@@ -198,14 +198,14 @@ valid_is w (Some u) t e = ap Some (ok_is u t e)
 valid_is w None t e = absurd cc
 
 by_other : (w : Wrapper) (m : Meaning) (key : Utf8) (n : Node) (ns : Nodes) (r : Reading Tree) (t : Tree) → BodyOther (body_of m)
-    → by_meaning w m key plain n r (λ x. after_code plain x ns) (λ ps. after_scope plain ps ns) ≡ Ok t → is_binary t ≡ false
+    → by_meaning w m key n r (λ x. after_code x ns) (λ ps. after_scope ps ns) ≡ Ok t → is_binary t ≡ false
 by_other w (body read) key n ns r t h e =
-    let m = bind_ok (read plain n) (or_bad w) t (under_ok key (read plain n >>= or_bad w) t e) in h n t (m.1 ∙ ap Ok (valid_is w m.0 t m.2))
-by_other w code key n ns r t h e = let m = bind_ok (under key (text_at plain n)) (λ x. after_code plain x ns) t e in code_other m.0 ns t m.2
-by_other w scope key n ns r t h e = let m = bind_ok (under key (r >>= pairs_in)) (λ ps. after_scope plain ps ns) t e in scope_other m.0 ns t m.2
+    let m = bind_ok (read n) (or_bad w) t (under_ok key (read n >>= or_bad w) t e) in h n t (m.1 ∙ ap Ok (valid_is w m.0 t m.2))
+by_other w code key n ns r t h e = let m = bind_ok (under key (text_at n)) (λ x. after_code x ns) t e in code_other m.0 ns t m.2
+by_other w scope key n ns r t h e = let m = bind_ok (under key (r >>= pairs_in)) (λ ps. after_scope ps ns) t e in scope_other m.0 ns t m.2
 
 pub wrapped_other : (w : Wrapper) → makes_binary w ≡ false → (key : Utf8) (n : Node) (ns : Nodes) (r : Reading Tree) (t : Tree)
-    → by_meaning w (meaning w) key plain n r (λ x. after_code plain x ns) (λ ps. after_scope plain ps ns) ≡ Ok t → is_binary t ≡ false
+    → by_meaning w (meaning w) key n r (λ x. after_code x ns) (λ ps. after_scope ps ns) ≡ Ok t → is_binary t ≡ false
 wrapped_other w other key n ns r t e = by_other w (meaning w) key n ns r t (body_other w other) e
 
 -- a tree that is no binary is no UUID

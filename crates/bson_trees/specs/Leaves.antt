@@ -11,7 +11,7 @@ use Rattle.bson_datum.specs.Marked.{Marked}
 use Rattle.bson_datum.specs.declared.wrapper.Wrapper.{Wrapper}
 use Rattle.bson_datum.specs.declared.wrapper.Wrapper.TheVariants.{Oid, Binary, Uuid}
 use Rattle.bson_laws.specs.Datum.{datum, uuid_datum}
-use Rattle.bson_laws.specs.Judged.{Reading, judged, plain}
+use Rattle.bson_laws.specs.Judged.{Reading, judged}
 use Rattle.bson_laws.specs.ReadsExtended.{object_id_at, uuid_at, uuid_in, tree_of_kind, with_length}
 use Rattle.bson_laws.specs.Trees.{as_tree, document_tree, pairs_in, or_bad}
 use Rattle.bson_laws.specs.Wrapped.{id_of_text}
@@ -19,18 +19,18 @@ use Rattle.bson_trees.specs.Trees.{tree_under, wrapped_tree}
 
 -- a value of a kind, and a tree of it
 abbrev pub kind_from : ElementType → Node → Reading Marked
-kind_from k n = judged plain n >>= λ m. result_map (datum made) (as_tree plain m >>= tree_of_kind k)
+kind_from k n = judged n >>= λ m. result_map (datum made) (as_tree m >>= tree_of_kind k)
 
 abbrev pub kind_of_tree : ElementType → Tree → Reading Marked
 kind_of_tree k t = result_map (datum made) (tree_of_kind k t)
 
 -- a document
 abbrev pub documents_from : Node → Reading Marked
-documents_from n = judged plain n >>= λ m. result_map (λ ps. datum made (tree.document ps)) (as_tree plain m >>= pairs_in)
+documents_from n = judged n >>= λ m. result_map (λ ps. datum made (tree.document ps)) (as_tree m >>= pairs_in)
 
 -- an ObjectId, that of digits, and that of bytes
 abbrev pub object_id_from : Node → Reading Marked
-object_id_from n = judged plain n >>= λ m. result_map (datum made) (object_id_at plain m)
+object_id_from n = judged n >>= λ m. result_map (datum made) (object_id_at m)
 
 abbrev pub id_of_digits : Utf8 → Reading Marked
 id_of_digits t = result_map (datum made) (or_bad Oid (id_of_text t))
@@ -41,14 +41,14 @@ id_of_bytes b = result_map (datum made) (result_map tree.object_id (with_length 
 -- ---- UUIDs
 
 abbrev pub uuid_from : Node → Reading Bytes
-uuid_from n = judged plain n >>= uuid_at plain
+uuid_from n = judged n >>= uuid_at
 
 abbrev pub uuid_datum_from : Node → Reading Marked
-uuid_datum_from n = judged plain n >>= λ m. result_map (uuid_datum made) (uuid_at plain m)
+uuid_datum_from n = judged n >>= λ m. result_map (uuid_datum made) (uuid_at m)
 
 -- from the elements of a document, after the pairs of those before them
 abbrev pub uuid_elements : Nodes → Pairs → Reading Bytes
-uuid_elements ns ps = document_tree plain ns ps >>= uuid_in
+uuid_elements ns ps = document_tree ns ps >>= uuid_in
 
 -- from a wrapper key on: the key, its value, and the elements behind it
 abbrev pub uuid_wrapped : Wrapper → Utf8 → Node → Nodes → Reading Bytes

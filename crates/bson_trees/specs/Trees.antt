@@ -12,13 +12,13 @@ use Rattle.bson_datum.specs.Refusal.{under}
 use Rattle.bson_datum.specs.Value as value
 use Rattle.bson_datum.specs.declared.wrapper.Wrapper.{Wrapper}
 use Rattle.bson_laws.specs.Datum.{datum, pair_data, tree_data}
-use Rattle.bson_laws.specs.Judged.{Reading, plain}
+use Rattle.bson_laws.specs.Judged.{Reading}
 use Rattle.bson_laws.specs.Trees.{read_tree, extended_tree, array_trees, document_tree, after_code, after_scope, by_meaning, pairs_in}
 use Rattle.bson_laws.specs.Wrapped.{meaning}
 
 -- a value as a tree, seen as data
 abbrev pub tree_at : Node → Reading Marked
-tree_at n = result_map (datum made) (read_tree plain n)
+tree_at n = result_map (datum made) (read_tree n)
 
 -- the value at a key
 abbrev pub tree_under : Utf8 → Node → Reading Marked
@@ -26,29 +26,29 @@ tree_under key n = under key (tree_at n)
 
 -- the values of an array
 abbrev pub items_from : Nodes → Reading MarkedItems
-items_from ns = result_map (tree_data made) (array_trees plain 0 ns)
+items_from ns = result_map (tree_data made) (array_trees 0 ns)
 
 -- the elements of a document, after the pairs of those before them
 abbrev pub elements_from : Nodes → Pairs → Reading Marked
-elements_from ns ps = result_map (datum made) (document_tree plain ns ps)
+elements_from ns ps = result_map (datum made) (document_tree ns ps)
 
 -- a document from a wrapper key on: the key, its value, and the elements behind it
 abbrev pub wrapped_tree : Wrapper → Utf8 → Node → Nodes → Reading Tree
-wrapped_tree w key n ns = by_meaning w (meaning w) key plain n (read_tree plain n) (λ t. after_code plain t ns) (λ ps. after_scope plain ps ns)
+wrapped_tree w key n ns = by_meaning w (meaning w) key n (read_tree n) (λ t. after_code t ns) (λ ps. after_scope ps ns)
 
 abbrev pub wrapped_at : Wrapper → Utf8 → Node → Nodes → Reading Marked
 wrapped_at w key n ns = result_map (datum made) (wrapped_tree w key n ns)
 
 -- a code and a scope, from what comes after them
 abbrev pub code_from : Utf8 → Nodes → Reading Marked
-code_from t ns = result_map (datum made) (after_code plain t ns)
+code_from t ns = result_map (datum made) (after_code t ns)
 
 abbrev pub scope_from : Pairs → Nodes → Reading Marked
-scope_from ps ns = result_map (datum made) (after_scope plain ps ns)
+scope_from ps ns = result_map (datum made) (after_scope ps ns)
 
 -- the entries of the document that a value is as a tree, and of one at a key
 abbrev pub entries_at : Node → Reading MarkedEntries
-entries_at n = result_map (pair_data made) (read_tree plain n >>= pairs_in)
+entries_at n = result_map (pair_data made) (read_tree n >>= pairs_in)
 
 abbrev pub scope_at : Utf8 → Node → Reading MarkedEntries
 scope_at key n = under key (entries_at n)
@@ -59,7 +59,7 @@ is_map v = false
 
 -- an extended value
 abbrev pub extended_at : Extended → Reading Marked
-extended_at x = result_map (datum made) (extended_tree plain x)
+extended_at x = result_map (datum made) (extended_tree x)
 
 -- ---- extended values without values in them
 

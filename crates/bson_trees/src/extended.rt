@@ -5,7 +5,6 @@ ghost use Rattle.bson_rawdoc.specs.Piece.{made};
 ghost use Rattle.bson_shape.specs.Form as form;
 ghost use Rattle.bson_datum.specs.MarkedView.{marked};
 ghost use Rattle.bson_laws.specs.Datum.{datum};
-ghost use Rattle.bson_laws.specs.Judged.{plain};
 ghost use Rattle.bson_laws.specs.Reads.{reads};
 ghost use Rattle.bson_leaves.specs.Extended.{is_extended};
 ghost use Rattle.bson_met.specs.Gives.{Reaches};
@@ -35,7 +34,7 @@ const ID_LENGTH: usize = 12;
 #[inline(never)]
 pub fn read_extended<'de>(alloc: Global, leaf: Leaf, value: &Met<'de>) -> Reading<Datum<'de>>
     requires extended { is_extended leaf ≡ true }
-    ensures exact { Reaches marked result (reads (form.leaf leaf) plain value.now) }
+    ensures exact { Reaches marked result (reads (form.leaf leaf) value.now) }
 {
     match leaf {
         Leaf::ObjectId => object_id(alloc, value),

@@ -2,7 +2,6 @@
 ghost use Rattle.std.specs.Prelude.{◌≡◌, string_bytes, true, IfOk};
 ghost use Rattle.bson_datum.specs.MarkedView.{marked};
 ghost use Rattle.bson_datum.specs.Refusal.{under};
-ghost use Rattle.bson_laws.specs.Judged.{plain};
 ghost use Rattle.bson_laws.specs.Wrapped.{text_at};
 ghost use Rattle.bson_met.specs.Gives.{Reaches};
 ghost use Rattle.bson_met.specs.OpenedView.{extended_view};
@@ -17,7 +16,7 @@ use std::alloc::{AllocError, Global};
 
 /// The text of an element, seen from its document.
 pub(crate) fn text_under(alloc: Global, step: &Step<'_>) -> Reading<String>
-    ensures exact { Reaches string_bytes result (under (str_piece step.now.key).bytes (text_at plain step.now.value)) }
+    ensures exact { Reaches string_bytes result (under (str_piece step.now.key).bytes (text_at step.now.value)) }
 {
     match own_text(alloc, &step.value) {
         Ok(text) => Ok(text),

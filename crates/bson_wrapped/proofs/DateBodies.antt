@@ -6,7 +6,7 @@ use Rattle.bson_base.specs.Parsed.{integer_of_text}
 use Rattle.bson_base.specs.Tree as tree
 use Rattle.bson_rawdoc.specs.Node.{Node}
 use Rattle.bson_datum.specs.Value.{Value}
-use Rattle.bson_laws.specs.Judged.{judged, plain}
+use Rattle.bson_laws.specs.Judged.{judged}
 use Rattle.bson_laws.specs.Wrapped.{Body, judging, date_body, at, with_field, text, a_field, a_text}
 use Rattle.bson_laws.proofs.Tame.{judged_is}
 use Rattle.bson_met.specs.ValueView.{value_view}
@@ -22,11 +22,11 @@ in_millis = a_field (a_text (λ t. option_map tree.date_time (integer_of_text t)
 abbrev pub number_body : Body
 number_body = at (with_field (codes "$numberLong") text) in_millis
 
-other_body : (v : met.Value) → ((t : MetText) → v ≡ String t → ⊥) → date_body plain (value_view v) ≡ number_body plain (value_view v)
+other_body : (v : met.Value) → ((t : MetText) → v ≡ String t → ⊥) → date_body (value_view v) ≡ number_body (value_view v)
 other_body (String t) h = absurd (h t refl)
 other_body v h = refl
 
 -- a value that is no text is read as milliseconds in a struct
-pub date_number : (n : Node) (v : met.Value) → judged plain n ≡ Ok (value_view v) → ((t : MetText) → v ≡ String t → ⊥) → made_by (judging date_body) n ≡ made_by number_body n
+pub date_number : (n : Node) (v : met.Value) → judged n ≡ Ok (value_view v) → ((t : MetText) → v ≡ String t → ⊥) → made_by (judging date_body) n ≡ made_by number_body n
 date_number n v e h =
-    ap (λ r. result_map as_datum (r >>= date_body plain)) e ∙ ap (result_map as_datum) (other_body v h) ∙ ap (λ m. made_by number_body m) (sym (judged_is plain n (value_view v) e))
+    ap (λ r. result_map as_datum (r >>= date_body)) e ∙ ap (result_map as_datum) (other_body v h) ∙ ap (λ m. made_by number_body m) (sym (judged_is n (value_view v) e))

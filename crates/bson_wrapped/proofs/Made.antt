@@ -23,7 +23,7 @@ use Rattle.bson_datum.specs.declared.stop.Stop.{Stop}
 use Rattle.bson_datum.specs.declared.wrapper.Wrapper.{Wrapper}
 use Rattle.bson_datum.specs.declared.wrapper.Wrapper.TheVariants.{Symbol, NumberInt, NumberLong, NumberDouble, Uuid, NumberDecimal}
 use Rattle.bson_laws.specs.Datum.{datum, two, wrapped, nameless}
-use Rattle.bson_laws.specs.Judged.{Reading, refused, judged, plain}
+use Rattle.bson_laws.specs.Judged.{Reading, refused, judged}
 use Rattle.bson_laws.specs.ReadsLeaf.{no_extended}
 use Rattle.bson_laws.specs.Shaped.{reads, slots_of}
 use Rattle.bson_laws.specs.Slots.{read_structure}
@@ -63,11 +63,11 @@ mapped f (Err e) take = refl
 -- ---- bodies at shapes
 
 -- a body at a shape: what is made of the value that is read, and what stops it
-pub at_done : (s : Form) (make : Value → Option Tree) (n : Node) (v : Marked) → reads no_extended s plain n ≡ Ok v → made_by (at s make) n ≡ Ok (as_datum (make (contents v)))
+pub at_done : (s : Form) (make : Value → Option Tree) (n : Node) (v : Marked) → reads no_extended s n ≡ Ok v → made_by (at s make) n ≡ Ok (as_datum (make (contents v)))
 at_done s make n v e = ap (λ r. result_map as_datum (result_map (λ x. make (contents x)) r)) e
 
-pub at_stops : (s : Form) (make : Value → Option Tree) (n : Node) (stop : Stop Fault) → StopsAs stop (reads no_extended s plain n) → StopsAs stop (made_by (at s make) n)
-at_stops s make n stop h = stops_map stop as_datum (result_map (λ x. make (contents x)) (reads no_extended s plain n)) (stops_map stop (λ x. make (contents x)) (reads no_extended s plain n) h)
+pub at_stops : (s : Form) (make : Value → Option Tree) (n : Node) (stop : Stop Fault) → StopsAs stop (reads no_extended s n) → StopsAs stop (made_by (at s make) n)
+at_stops s make n stop h = stops_map stop as_datum (result_map (λ x. make (contents x)) (reads no_extended s n)) (stops_map stop (λ x. make (contents x)) (reads no_extended s n) h)
 
 -- a binary of a subtype other than 0 is a struct
 pub binary_made : (n : ℕ) (b : Bytes) → 0 < n
@@ -78,12 +78,12 @@ binary_made (suc n) b above = refl
 -- a body that is bytes
 pub buffer_done : (make : Value → Option Tree) (n : Node) (b : Bytes) → buffer_at n ≡ Ok b → made_by (at (leaf ByteBuf) make) n ≡ Ok (as_datum (make (value.bytes b)))
 buffer_done make n b e =
-    let see : Bytes → Marked = λ x. value.bytes (made x) in at_done (leaf ByteBuf) make n (see b) (mapped see (judged plain n) (buffer_of plain) ∙ ap (result_map see) e)
+    let see : Bytes → Marked = λ x. value.bytes (made x) in at_done (leaf ByteBuf) make n (see b) (mapped see (judged n) (buffer_of) ∙ ap (result_map see) e)
 
 pub buffer_stops : (make : Value → Option Tree) (n : Node) (stop : Stop Fault) → StopsAs stop (buffer_at n) → StopsAs stop (made_by (at (leaf ByteBuf) make) n)
 buffer_stops make n stop h =
     let see : Bytes → Marked = λ x. value.bytes (made x) in
-    at_stops (leaf ByteBuf) make n stop (subst (λ (r : Reading Marked). StopsAs stop r) (sym (mapped see (judged plain n) (buffer_of plain))) (stops_map stop see (buffer_at n) h))
+    at_stops (leaf ByteBuf) make n stop (subst (λ (r : Reading Marked). StopsAs stop r) (sym (mapped see (judged n) (buffer_of))) (stops_map stop see (buffer_at n) h))
 
 -- a body that is a struct
 module _ (fs : Fields) (make : Value → Option Tree) (n : Node) where
@@ -91,24 +91,24 @@ module _ (fs : Fields) (make : Value → Option Tree) (n : Node) where
   all vs = value.structure (made []) vs
 
   abbrev given : Reading MarkedFields
-  given = fields_read (slots_of no_extended fs plain) n
+  given = fields_read (slots_of no_extended fs) n
 
   -- the tree that is read
-  pub fields_read_done : (vs : MarkedFields) → given ≡ Ok vs → at (structure [] fs) make plain n ≡ Ok (make (contents (all vs)))
+  pub fields_read_done : (vs : MarkedFields) → given ≡ Ok vs → at (structure [] fs) make n ≡ Ok (make (contents (all vs)))
   fields_read_done vs e =
-      ap (result_map (λ v. make (contents v))) (mapped all (judged plain n) (read_structure plain (slots_of no_extended fs plain)) ∙ ap (result_map all) e)
+      ap (result_map (λ v. make (contents v))) (mapped all (judged n) (read_structure (slots_of no_extended fs)) ∙ ap (result_map all) e)
 
-  pub fields_read_stop : (stop : Stop Fault) → StopsAs stop given → StopsAs stop (at (structure [] fs) make plain n)
+  pub fields_read_stop : (stop : Stop Fault) → StopsAs stop given → StopsAs stop (at (structure [] fs) make n)
   fields_read_stop stop h =
-      stops_map stop (λ v. make (contents v)) (reads no_extended (structure [] fs) plain n)
-      (subst (λ (r : Reading Marked). StopsAs stop r) (sym (mapped all (judged plain n) (read_structure plain (slots_of no_extended fs plain)))) (stops_map stop all given h))
+      stops_map stop (λ v. make (contents v)) (reads no_extended (structure [] fs) n)
+      (subst (λ (r : Reading Marked). StopsAs stop r) (sym (mapped all (judged n) (read_structure (slots_of no_extended fs)))) (stops_map stop all given h))
 
   -- the same as data
   pub fields_done : (vs : MarkedFields) → given ≡ Ok vs → made_by (at (structure [] fs) make) n ≡ Ok (as_datum (make (contents (all vs))))
   fields_done vs e = ap (result_map as_datum) (fields_read_done vs e)
 
   pub fields_stop : (stop : Stop Fault) → StopsAs stop given → StopsAs stop (made_by (at (structure [] fs) make) n)
-  fields_stop stop h = stops_map stop as_datum (at (structure [] fs) make plain n) (fields_read_stop stop h)
+  fields_stop stop h = stops_map stop as_datum (at (structure [] fs) make n) (fields_read_stop stop h)
 
 -- a wrapper key whose value is a text
 pub text_meant : (w : Wrapper) → takes_text w ≡ true → text_body (tree_of_text w) ≡ body_of (meaning w)
@@ -125,7 +125,7 @@ text_meant w e = absurd cc
 module _ (w : Wrapper) (read : Body) (n : Node) where
   pub valid : (v : Marked) → made_by read n ≡ Ok (Some v) → valid_at w read n ≡ Ok v
   valid v e =
-      let m = map_ok as_datum (read plain n) (Some v) e in
+      let m = map_ok as_datum (read n) (Some v) e in
       let t = some_map (datum made) m.0 v m.2 in
       ap (λ r. result_map (datum made) (r >>= or_bad w)) (m.1 ∙ ap Ok t.1) ∙ ap Ok t.2
 
@@ -135,11 +135,11 @@ module _ (w : Wrapper) (read : Body) (n : Node) where
 
   pub invalid : made_by read n ≡ Ok None → valid_at w read n ≡ refused (bad_body w)
   invalid e =
-      let m = map_ok as_datum (read plain n) None e in
+      let m = map_ok as_datum (read n) None e in
       ap (λ r. result_map (datum made) (r >>= or_bad w)) (m.1 ∙ ap Ok (none_is m.0 m.2))
 
   pub valid_stops : (s : Stop Fault) → StopsAs s (made_by read n) → StopsAs s (valid_at w read n)
-  valid_stops s h = stops_through s as_datum (read plain n) (or_bad w) (datum made) h
+  valid_stops s h = stops_through s as_datum (read n) (or_bad w) (datum made) h
 
   pub valid_under : (key : Utf8) → under key (valid_at w read n) ≡ body_at w read key n
-  valid_under key = under_map key (datum made) (read plain n >>= or_bad w)
+  valid_under key = under_map key (datum made) (read n >>= or_bad w)

@@ -7,7 +7,7 @@ use Rattle.bson_datum.specs.Marked.{Marked}
 use Rattle.bson_datum.specs.Value.{IntegerType, in_range, integer}
 use Rattle.bson_datum.specs.declared.de.Fault.{Fault}
 use Rattle.bson_datum.specs.declared.stop.Stop.{Stop}
-use Rattle.bson_laws.specs.Judged.{Reading, judged, plain, refused}
+use Rattle.bson_laws.specs.Judged.{Reading, judged, refused}
 use Rattle.bson_laws.specs.Leaves.{numbers}
 use Rattle.bson_laws.specs.Taken.{integer_of, read_integer}
 use Rattle.bson_met.specs.MetView.{integer_at}
@@ -16,7 +16,7 @@ use Rattle.bson_leaves.specs.Leaves.{number_as}
 
 -- a value at a leaf of numbers
 abbrev pub number_of : IntegerType → Node → Reading Marked
-number_of type n = judged plain n >>= λ m. integer_of m >>= read_integer type
+number_of type n = judged n >>= λ m. integer_of m >>= read_integer type
 
 then_twice : {A B C : Type 0} (r : Reading A) (f : A → Reading B) (g : B → Reading C) → (r >>= λ x. f x >>= g) ≡ ((r >>= f) >>= g)
 then_twice (Ok x) f g = refl
@@ -27,7 +27,7 @@ no_value = None
 
 module _ (type : IntegerType) (n : Node) where
   is_read : number_of type n ≡ (integer_at n >>= read_integer type)
-  is_read = then_twice (judged plain n) integer_of (read_integer type)
+  is_read = then_twice (judged n) integer_of (read_integer type)
 
   pub number_stops : (s : Stop Fault) → StopsAs s (integer_at n) → StopsAs s (number_of type n)
   number_stops s h = subst (λ (r : Reading Marked). StopsAs s r) (sym is_read) (stops_bind s (integer_at n) (read_integer type) h)

@@ -15,7 +15,7 @@ use Rattle.bson_datum.specs.declared.datum.Datum.{Datum}
 use Rattle.bson_datum.specs.declared.wrapper.Wrapper.{Wrapper}
 use Rattle.bson_datum.specs.declared.wrapper.Wrapper.TheVariants.{Symbol, NumberInt, NumberLong, NumberDouble, Uuid, NumberDecimal}
 use Rattle.bson_laws.specs.Datum.{datum}
-use Rattle.bson_laws.specs.Judged.{Reading, plain}
+use Rattle.bson_laws.specs.Judged.{Reading}
 use Rattle.bson_laws.specs.Trees.{or_bad}
 use Rattle.bson_laws.specs.Wrapped.{Body, Meaning, body, code, scope, int32_of, double_of_text}
 
@@ -62,20 +62,20 @@ is_body scope = false
 -- the body, and none where there is none
 abbrev pub body_of : Meaning → Body
 body_of (body read) = read
-body_of code = λ mode n. Ok None
-body_of scope = λ mode n. Ok None
+body_of code = λ n. Ok None
+body_of scope = λ n. Ok None
 
 -- what is read from a body, as data
 abbrev pub made_by : Body → Node → Reading (Option Marked)
-made_by read n = result_map as_datum (read plain n)
+made_by read n = result_map as_datum (read n)
 
 -- the tree that is read from a body, where it is valid, and the same as data
 abbrev pub valid_tree : Wrapper → Body → Node → Reading Tree
-valid_tree w read n = read plain n >>= or_bad w
+valid_tree w read n = read n >>= or_bad w
 
 abbrev pub valid_at : Wrapper → Body → Node → Reading Marked
-valid_at w read n = result_map (datum made) (read plain n >>= or_bad w)
+valid_at w read n = result_map (datum made) (read n >>= or_bad w)
 
 -- the value of a document with a wrapper key that has a body, read from the value at the key
 abbrev pub body_at : Wrapper → Body → Utf8 → Node → Reading Marked
-body_at w read key n = result_map (datum made) (under key (read plain n >>= or_bad w))
+body_at w read key n = result_map (datum made) (under key (read n >>= or_bad w))

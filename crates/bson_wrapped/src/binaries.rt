@@ -2,7 +2,6 @@
 ghost use Rattle.std.specs.Prelude.{option_map};
 ghost use Rattle.bson_base.specs.Tree as tree;
 ghost use Rattle.bson_datum.specs.Refusal.{under};
-ghost use Rattle.bson_laws.specs.Judged.{plain};
 ghost use Rattle.bson_laws.specs.Wrapped.{meaning};
 ghost use Rattle.bson_met.specs.Gives.{Reaches};
 ghost use Rattle.bson_met.specs.PieceView.{str_piece};
@@ -45,7 +44,7 @@ fn valid_binary(alloc: Global, value: &Met<'_>) -> Reading<(BinarySubtype, Vec<u
 /// A binary: base64, and the digits of its subtype; `None` where these stand for none.
 pub(crate) fn binary(alloc: Global, value: &Met<'_>) -> Reading<Option<(BinarySubtype, Vec<u8>)>>
     ensures exact { Reaches (λ o. option_map (λ p. tree.binary p.0.0 p.1.items) o) result
-        (body_of (meaning Wrapper.Binary) plain value.now) }
+        (body_of (meaning Wrapper.Binary) value.now) }
 {
     let (base64, subtype): (String, String) = two_fields(alloc, "base64", "subType", value)?;
     Ok(binary_of_texts(alloc, base64.as_str(), subtype.as_str())?)

@@ -49,6 +49,7 @@ fn elsewhere(bytes: &[u8]) -> MetBytes<'_>
     MetBytes {
         bytes,
         in_input: false,
+        under_mark: false,
     }
 }
 

@@ -8,7 +8,6 @@ ghost use Rattle.bson_shape.specs.declared.leaf.Leaf.TheVariants as leaves;
 ghost use Rattle.bson_datum.specs.Marked.{Marked};
 ghost use Rattle.bson_datum.specs.Value as values;
 ghost use Rattle.bson_laws.specs.Datum.{one, two};
-ghost use Rattle.bson_laws.specs.Judged.{plain};
 ghost use Rattle.bson_laws.specs.Leaves.{numbers};
 ghost use Rattle.bson_laws.specs.ReadsLeaf.{no_extended};
 ghost use Rattle.bson_laws.specs.Shaped.{reads};
@@ -38,7 +37,7 @@ pub(crate) trait FieldValue: Drop {
 
     /// The value at its shape.
     fn read(alloc: Global, value: &Met<'_>) -> Reading<Self>
-        ensures exact { Reaches seen result (reads no_extended form plain value.now) };
+        ensures exact { Reaches seen result (reads no_extended form value.now) };
 }
 
 impl FieldValue for String {
@@ -154,7 +153,7 @@ pub(crate) fn two_fields<A: FieldValue, B: FieldValue>(
 /// The value of the next element of an array, which is at this index.
 fn next_item<T: FieldValue>(alloc: Global, index: u64, items: &mut Items<'_>) -> Reading<T>
     ensures rest { IfOk result (λ _. items.new ≡ behind_first items.old) }
-    ensures value { Reaches T.seen result (next_value index (reads no_extended T.form plain) items.old) }
+    ensures value { Reaches T.seen result (next_value index (reads no_extended T.form) items.old) }
 {
     let value = due(alloc, index, items)?;
     match T::read(alloc, &value) {

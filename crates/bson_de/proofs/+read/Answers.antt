@@ -16,7 +16,7 @@ use Rattle.bson_datum.specs.Value as value
 use Rattle.bson_datum.specs.declared.text.Text.TheVariants.{Owned}
 use Rattle.bson_datum.specs.Value.{no_entries}
 use Rattle.bson_laws.specs.Containers.{reads_items, reads_entries, reads_key}
-use Rattle.bson_laws.specs.Judged.{Reading, plain, judged, refused, ignores}
+use Rattle.bson_laws.specs.Judged.{Reading, judged, refused, ignores}
 use Rattle.bson_laws.specs.Reads.{reads, reads_parts, reads_variant, reads_content, slots_of}
 use Rattle.bson_laws.specs.Slots.{Slot, Slots, read_structure, reads_places}
 use Rattle.bson_met.specs.Gives.{Reaches}
@@ -44,12 +44,12 @@ use Rattle.bson_de.proofs.+read.Goals as goal
 
 pub value::read_items-step-init : goal.value::read_items-step-init
 value::read_items-step-init t c =
-    let read = reads c.args.item.now plain in
+    let read = reads c.args.item.now in
     (omega (arith, c.start-value.ensures.few), (λ i. each (items_by read) 0 c.args.elements (items_marked (c.new-items.ensures.items i))) ∙ items_each read c.args.elements)
 
 pub value::read_items-step-preserved : goal.value::read_items-step-preserved
 value::read_items-step-preserved t c =
-    let read = reads c.args.item.now plain in
+    let read = reads c.args.item.now in
     let v = c.advance.new.value in
     let i = c.step.index in
     let old = items_marked c.step.items.items in
@@ -62,23 +62,23 @@ value::read_items-step-preserved t c =
 
 pub value::read_sequence-returns : goal.value::read_sequence-returns
 value::read_sequence-returns t c = record {
-  exact = ap (λ r. r >>= λ ns. result_map value.sequence (reads_items (reads c.args.item.now plain) 0 ns)) c.in_ok-elements.ensures.array ∙ ap (result_map value.sequence) c.in_ok-items.ensures.exact ∙ ap Ok (sym (marked-Seq c.in_ok-items.items));
+  exact = ap (λ r. r >>= λ ns. result_map value.sequence (reads_items (reads c.args.item.now) 0 ns)) c.in_ok-elements.ensures.array ∙ ap (result_map value.sequence) c.in_ok-items.ensures.exact ∙ ap Ok (sym (marked-Seq c.in_ok-items.items));
 }
 
 pub tuple::read_tuple-returns : goal.tuple::read_tuple-returns
 tuple::read_tuple-returns t c = record {
-  exact = ap (λ r. r >>= λ ns. result_map value.tuple (reads_parts (parts_of c.args.parts.now) plain 0 ns)) c.in_ok-elements.ensures.array ∙ ap (result_map value.tuple) c.in_ok-items.ensures.exact ∙ ap Ok (sym (marked-Tuple c.in_ok-items.items));
+  exact = ap (λ r. r >>= λ ns. result_map value.tuple (reads_parts (parts_of c.args.parts.now) 0 ns)) c.in_ok-elements.ensures.array ∙ ap (result_map value.tuple) c.in_ok-items.ensures.exact ∙ ap Ok (sym (marked-Tuple c.in_ok-items.items));
 }
 
 pub map::read_map-returns : goal.map::read_map-returns
 map::read_map-returns t c = record {
-  exact = ap (λ r. r >>= λ ns. result_map value.map (reads_entries (reads_key plain c.args.key.now) (reads c.args.item.now plain) ns no_entries)) c.in_ok-elements.ensures.document ∙ ap (result_map value.map) c.in_ok-entries.ensures.exact ∙ ap Ok (sym (marked-Map c.in_ok-entries.entries));
+  exact = ap (λ r. r >>= λ ns. result_map value.map (reads_entries (reads_key c.args.key.now) (reads c.args.item.now) ns no_entries)) c.in_ok-elements.ensures.document ∙ ap (result_map value.map) c.in_ok-entries.ensures.exact ∙ ap Ok (sym (marked-Map c.in_ok-entries.entries));
 }
 
 pub tuple::read_parts-loop-place-init : goal.tuple::read_parts-loop-place-init
 tuple::read_parts-loop-place-init t c =
     let ps = parts_of c.args.parts.now in
-    (λ i. result_map (items_before (c.new-values.ensures.items i)) (reads_parts ps plain 0 c.args.elements)) ∙ all_left (reads_parts ps plain 0 c.args.elements)
+    (λ i. result_map (items_before (c.new-values.ensures.items i)) (reads_parts ps 0 c.args.elements)) ∙ all_left (reads_parts ps 0 c.args.elements)
 
 pub tuple::read_parts-read_next-requires : goal.tuple::read_parts-read_next-requires
 tuple::read_parts-read_next-requires t c =
@@ -126,7 +126,7 @@ enumeration::read_variant-read_content-requires t c =
 
 pub value::read_items-returns-in_err-read_item : goal.value::read_items-returns-in_err-read_item
 value::read_items-returns-in_err-read_item t c =
-    let read = reads c.args.item.now plain in
+    let read = reads c.args.item.now in
     let v = c.advance.new.value in
     let i = c.step.index in
     let old = items_marked c.step.items.items in
@@ -146,7 +146,7 @@ tuple::read_tuple_struct-returns t c =
     let name = c.args.name.now in
     let ps = parts_of c.args.parts.now in
     record {
-      exact = ap (λ r. r >>= λ ns. result_map (value.tuple_structure (made name)) (reads_parts ps plain 0 ns)) c.in_ok-elements.ensures.array ∙ ap (result_map (value.tuple_structure (made name))) c.in_ok-items.ensures.exact
+      exact = ap (λ r. r >>= λ ns. result_map (value.tuple_structure (made name)) (reads_parts ps 0 ns)) c.in_ok-elements.ensures.array ∙ ap (result_map (value.tuple_structure (made name))) c.in_ok-items.ensures.exact
           ∙ ap (λ n. Ok (value.tuple_structure (made n) (items_marked c.in_ok-items.items.items))) (sym c.in_ok-from_str.ensures.ok) ∙ ap Ok (sym (marked-TupleStruct (Owned c.in_ok-from_str.field-0) c.in_ok-items.items));
     }
 
@@ -155,14 +155,14 @@ enumeration::read_tuple_variant-returns t c =
     let name = c.args.name.now in
     let ps = parts_of c.args.parts.now in
     record {
-      exact = ap (λ r. r >>= λ ns. result_map (value.tuple_variant (made name)) (reads_parts ps plain 0 ns)) c.in_ok-elements.ensures.array ∙ ap (result_map (value.tuple_variant (made name))) c.in_ok-items.ensures.exact
+      exact = ap (λ r. r >>= λ ns. result_map (value.tuple_variant (made name)) (reads_parts ps 0 ns)) c.in_ok-elements.ensures.array ∙ ap (result_map (value.tuple_variant (made name))) c.in_ok-items.ensures.exact
           ∙ ap (λ n. Ok (value.tuple_variant (made n) (items_marked c.in_ok-items.items.items))) (sym c.in_ok-from_str.ensures.ok) ∙ ap Ok (sym (marked-TupleVariant (Owned c.in_ok-from_str.field-0) c.in_ok-items.items));
     }
 
 pub map::read_entries-step-init : goal.map::read_entries-step-init
 map::read_entries-step-init t c =
-    let read_key = reads_key plain c.args.key.now in
-    let read = reads c.args.item.now plain in (
+    let read_key = reads_key c.args.key.now in
+    let read = reads c.args.item.now in (
       c.new-entries.ensures.indexed,
       ap form_view c.new-entries.ensures.key ∙ c.form.ensures.form,
       (λ i. each (entries_by read_key read) 0 c.args.elements (entries_marked (c.new-entries.ensures.none i))) ∙ entries_each read_key read 0 c.args.elements no_entries,
@@ -178,14 +178,14 @@ map::read_entries-put-requires t c =
 
 pub map::read_entries-step-preserved : goal.map::read_entries-step-preserved
 map::read_entries-step-preserved t c =
-    let read_key = reads_key plain c.args.key.now in
-    let read = reads c.args.item.now plain in
+    let read_key = reads_key c.args.key.now in
+    let read = reads c.args.item.now in
     let s = c.advance.new.step in
     let k = str_piece s.key in
     let old = entries_marked (entries_of c.step.entries) in
     let put = c.in_ok-put.ensures in
     let first = step_is _ _ c.in_ok-advance.field-0 s c.in_ok-advance.ensures.advanced c.if-branch.true in
-    let named : read_key k ≡ Ok (marked c.in_ok-key.key) = ap (λ f. reads_key plain f k) (sym c.step.invariant.1) ∙ c.in_ok-key.ensures.exact in (
+    let named : read_key k ≡ Ok (marked c.in_ok-key.key) = ap (λ f. reads_key f k) (sym c.step.invariant.1) ∙ c.in_ok-key.ensures.exact in (
       put.indexed,
       ap form_view put.key ∙ c.step.invariant.1,
       ap (each (entries_by read_key read) 0 c.advance.new.self) put.entries
@@ -195,27 +195,27 @@ map::read_entries-step-preserved t c =
 
 pub map::read_entries-returns-in_err-key : goal.map::read_entries-returns-in_err-key
 map::read_entries-returns-in_err-key t c =
-    let read_key = reads_key plain c.args.key.now in
-    let read = reads c.args.item.now plain in
+    let read_key = reads_key c.args.key.now in
+    let read = reads c.args.item.now in
     let s = c.advance.new.step in
     let k = str_piece s.key in
     let old = entries_marked (entries_of c.step.entries) in
     let stop = c.in_err-key.field-0.0 in
     let first = step_is _ _ c.in_ok-advance.field-0 s c.in_ok-advance.ensures.advanced c.if-branch.true in
-    let refused_key = subst (λ f. StopsAs stop (reads_key plain f k)) c.step.invariant.1 c.in_err-key.ensures.exact in
+    let refused_key = subst (λ f. StopsAs stop (reads_key f k)) c.step.invariant.1 c.in_err-key.ensures.exact in
     let here = each_stop (entries_by read_key read) 0 c.step.elements old _ c.step.invariant.2 k s.value c.advance.new.self stop first (key_stops read_key read 0 k s.value old stop refused_key) in
     record { exact = search (rules, here) }
 
 pub map::read_entries-returns-in_err-value : goal.map::read_entries-returns-in_err-value
 map::read_entries-returns-in_err-value t c =
-    let read_key = reads_key plain c.args.key.now in
-    let read = reads c.args.item.now plain in
+    let read_key = reads_key c.args.key.now in
+    let read = reads c.args.item.now in
     let s = c.advance.new.step in
     let k = str_piece s.key in
     let old = entries_marked (entries_of c.step.entries) in
     let stop = c.in_err-value.field-0.0 in
     let first = step_is _ _ c.in_ok-advance.field-0 s c.in_ok-advance.ensures.advanced c.if-branch.true in
-    let named : read_key k ≡ Ok (marked c.in_ok-key.key) = ap (λ f. reads_key plain f k) (sym c.step.invariant.1) ∙ c.in_ok-key.ensures.exact in
+    let named : read_key k ≡ Ok (marked c.in_ok-key.key) = ap (λ f. reads_key f k) (sym c.step.invariant.1) ∙ c.in_ok-key.ensures.exact in
     let here = each_stop (entries_by read_key read) 0 c.step.elements old _ c.step.invariant.2 k s.value c.advance.new.self stop first (entry_stops read_key read 0 k s.value old (marked c.in_ok-key.key) stop named c.in_err-value.ensures.exact) in
     record { exact = search (rules, here) }
 
@@ -224,7 +224,7 @@ enumeration::read_variant-returns t c =
     let vs = c.args.variants.now in
     let s = c.in_ok-step.step in
     let ns = c.args.elements in
-    let parts = first_read (reads_variant (variants_of vs) plain) ns ∙ ap (λ r. r >>= λ p. reads_variant (variants_of vs) plain p.key.bytes p.value) c.in_ok-step.ensures ∙ element_read vs (str_piece s.key).bytes s.value in
+    let parts = first_read (reads_variant (variants_of vs)) ns ∙ ap (λ r. r >>= λ p. reads_variant (variants_of vs) p.key.bytes p.value) c.in_ok-step.ensures ∙ element_read vs (str_piece s.key).bytes s.value in
     record { exact = subst (λ (r : Reading Marked). Reaches marked c.read_content.result r) (sym (parts ∙ ap (λ r. r >>= content_read s.value) c.in_ok-variant.ensures)) c.read_content.ensures.exact }
 
 pub enumeration::read_variant-returns-in_err-variant : goal.enumeration::read_variant-returns-in_err-variant
@@ -232,7 +232,7 @@ enumeration::read_variant-returns-in_err-variant t c =
     let vs = c.args.variants.now in
     let s = c.in_ok-step.step in
     let ns = c.args.elements in
-    let parts = first_read (reads_variant (variants_of vs) plain) ns ∙ ap (λ r. r >>= λ p. reads_variant (variants_of vs) plain p.key.bytes p.value) c.in_ok-step.ensures ∙ element_read vs (str_piece s.key).bytes s.value in
+    let parts = first_read (reads_variant (variants_of vs)) ns ∙ ap (λ r. r >>= λ p. reads_variant (variants_of vs) p.key.bytes p.value) c.in_ok-step.ensures ∙ element_read vs (str_piece s.key).bytes s.value in
     let here : Reaches marked c.from_residual-in_err-variant.result (variant_named vs (str_piece s.key).bytes >>= content_read s.value) = search rules in
     record { exact = subst (λ (r : Reading Marked). Reaches marked c.from_residual-in_err-variant.result r) (sym parts) here }
 
@@ -241,7 +241,7 @@ enumeration::read_content-returns-in-Tuple t c =
     let own = string_bytes c.args.variant.now.name in
     let content : tuple_content (parts_of c.deref.result.now) ≡ content_of c.args.variant.now.content = ap (λ xs. tuple_content (parts_of xs)) c.deref.ensures.value ∙ ap content_of (sym c.in-Tuple.is) in
     record {
-      exact = subst (λ k. Reaches marked c.at_key-in-Tuple.result (reads_content own k plain c.args.step.now.value)) content
+      exact = subst (λ k. Reaches marked c.at_key-in-Tuple.result (reads_content own k c.args.step.now.value)) content
           (contents_at_key own c.as_str-name.result.now (tuple_content (parts_of c.deref.result.now)) c.args.step.now.value c.read_tuple_variant.result c.at_key-in-Tuple.result refl c.as_str-name.ensures.value c.at_key-in-Tuple.ensures c.read_tuple_variant.ensures.exact);
     }
 
@@ -250,7 +250,7 @@ enumeration::read_content-returns-in-Struct t c =
     let own = string_bytes c.args.variant.now.name in
     let content : struct_content (fields_of c.deref-in-Struct.result.now) ≡ content_of c.args.variant.now.content = ap (λ xs. struct_content (fields_of xs)) c.deref-in-Struct.ensures.value ∙ ap content_of (sym c.in-Struct.is) in
     record {
-      exact = subst (λ k. Reaches marked c.at_key-in-Struct.result (reads_content own k plain c.args.step.now.value)) content
+      exact = subst (λ k. Reaches marked c.at_key-in-Struct.result (reads_content own k c.args.step.now.value)) content
           (contents_at_key own c.as_str-name.result.now (struct_content (fields_of c.deref-in-Struct.result.now)) c.args.step.now.value c.read_struct_variant.result c.at_key-in-Struct.result refl c.as_str-name.ensures.value c.at_key-in-Struct.ensures c.read_struct_variant.ensures.exact);
     }
 
@@ -259,7 +259,7 @@ structure::read_by_key-new-index-requires t c = ap has_repeat (field_names_are c
 
 pub structure::read_by_key-step-init : goal.structure::read_by_key-step-init
 structure::read_by_key-step-init t c =
-    let slots = slots_of (fields_of c.args.fields.now) plain in (
+    let slots = slots_of (fields_of c.args.fields.now) in (
       ap (λ (fs : Bor (List FieldShape)). fs.now) c.new-index.ensures,
       ap (λ (fs : Bor (List FieldShape)). fs.now) c.in_ok-slots.ensures.fields,
       ap (each slots_by 0 c.args.elements) c.in_ok-slots.ensures.empty ∙ fill_each 0 c.args.elements slots,
@@ -282,7 +282,7 @@ structure::fill_one-returns-in_ok-put-in-Ok-clause-exact t c =
     let slots = c.args.slots.now in
     let place = ap (λ xs. place_of (map (λ (f : FieldShape). string_bytes f.name) xs) key) c.requires ∙ sym c.in-Some.ensures.place in
     let f = c.index-fields-place.result in
-    let at = ap (λ xs. under key (reads (get_or xs i f).shape plain s.value)) c.requires in
+    let at = ap (λ xs. under key (reads (get_or xs i f).shape s.value)) c.requires in
     value_put slots key s.value i f place (sym c.if-is_filled.ensures) (marked c.in-Ok.value) (at ∙ ap (under key) c.in-Ok.ensures.exact) ∙ ap Ok (sym c.in_ok-put-in-Ok.ensures.put)
 
 pub structure::fill_one-returns-in-Err-read_value-clause-exact : goal.structure::fill_one-returns-in-Err-read_value-clause-exact
@@ -294,8 +294,8 @@ structure::fill_one-returns-in-Err-read_value-clause-exact t c =
     let place = ap (λ xs. place_of (map (λ (f : FieldShape). string_bytes f.name) xs) key) c.requires ∙ sym c.in-Some.ensures.place in
     let f = c.index-fields-place.result in
     let stop = c.under_key-in-Err-read_value.result in
-    let here = stops_inside (at_key key) c.in-Err-read_value.stop stop (reads (get_or c.args.index.now.items.now i f).shape plain s.value) c.under_key-in-Err-read_value.ensures.under c.in-Err-read_value.ensures.exact in
-    value_refused slots key s.value i f place (sym c.if-is_filled.ensures) stop (subst (λ xs. StopsAs stop (under key (reads (get_or xs i f).shape plain s.value))) (sym c.requires) here)
+    let here = stops_inside (at_key key) c.in-Err-read_value.stop stop (reads (get_or c.args.index.now.items.now i f).shape s.value) c.under_key-in-Err-read_value.ensures.under c.in-Err-read_value.ensures.exact in
+    value_refused slots key s.value i f place (sym c.if-is_filled.ensures) stop (subst (λ xs. StopsAs stop (under key (reads (get_or xs i f).shape s.value))) (sym c.requires) here)
 
 pub structure::fill_one-returns-then-is_filled-clause-exact : goal.structure::fill_one-returns-then-is_filled-clause-exact
 structure::fill_one-returns-then-is_filled-clause-exact t c =
@@ -315,7 +315,7 @@ structure::fill_one-returns-in-Err-clause-exact t c =
     let slots = c.args.slots.now in
     let unknown = ap (λ xs. place_of (map (λ (f : FieldShape). string_bytes f.name) xs) key) c.requires ∙ sym c.in_default.ensures.place in
     let here = subst (λ (r : Reading (Unit {0})). StopsAs c.in-Err.stop r) (ignored_at s.value) c.in-Err.ensures.exact in
-    unknown_refused slots key s.value unknown c.under_key.result (stops_inside (at_key key) c.in-Err.stop c.under_key.result (ignores plain s.value) c.under_key.ensures.under here)
+    unknown_refused slots key s.value unknown c.under_key.result (stops_inside (at_key key) c.in-Err.stop c.under_key.result (ignores s.value) c.under_key.ensures.under here)
 
 pub structure::fill_one-returns-in_default-clause-exact : goal.structure::fill_one-returns-in_default-clause-exact
 structure::fill_one-returns-in_default-clause-exact t c =
@@ -327,33 +327,33 @@ structure::fill_one-returns-in_default-clause-exact t c =
 
 pub structure::read_struct-returns : goal.structure::read_struct-returns
 structure::read_struct-returns t c = record {
-  exact = taken (value.structure (made c.args.name.now)) (judged plain c.args.value.now) (read_structure plain (slots_of (fields_of c.args.fields.now) plain)) _ c.in_ok-fields.ensures.exact ∙ ap Ok (sym c.in_ok-named_struct.ensures.marked);
+  exact = taken (value.structure (made c.args.name.now)) (judged c.args.value.now) (read_structure (slots_of (fields_of c.args.fields.now))) _ c.in_ok-fields.ensures.exact ∙ ap Ok (sym c.in_ok-named_struct.ensures.marked);
 }
 
 pub structure::read_struct-returns-in_err-fields : goal.structure::read_struct-returns-in_err-fields
 structure::read_struct-returns-in_err-fields t c =
-    let here = not_taken (value.structure (made c.args.name.now)) (judged plain c.args.value.now) (read_structure plain (slots_of (fields_of c.args.fields.now) plain)) c.in_err-fields.field-0.0 c.in_err-fields.ensures.exact in
+    let here = not_taken (value.structure (made c.args.name.now)) (judged c.args.value.now) (read_structure (slots_of (fields_of c.args.fields.now))) c.in_err-fields.field-0.0 c.in_err-fields.ensures.exact in
     record { exact = search (rules, here) }
 
 pub enumeration::read_struct_variant-returns : goal.enumeration::read_struct_variant-returns
 enumeration::read_struct_variant-returns t c = record {
-  exact = taken (value.structure_variant (made c.args.name.now)) (judged plain c.args.value.now) (read_structure plain (slots_of (fields_of c.args.fields.now) plain)) _ c.in_ok-fields.ensures.exact ∙ ap Ok (sym c.in_ok-named_struct_variant.ensures.marked);
+  exact = taken (value.structure_variant (made c.args.name.now)) (judged c.args.value.now) (read_structure (slots_of (fields_of c.args.fields.now))) _ c.in_ok-fields.ensures.exact ∙ ap Ok (sym c.in_ok-named_struct_variant.ensures.marked);
 }
 
 pub enumeration::read_struct_variant-returns-in_err-fields : goal.enumeration::read_struct_variant-returns-in_err-fields
 enumeration::read_struct_variant-returns-in_err-fields t c =
-    let here = not_taken (value.structure_variant (made c.args.name.now)) (judged plain c.args.value.now) (read_structure plain (slots_of (fields_of c.args.fields.now) plain)) c.in_err-fields.field-0.0 c.in_err-fields.ensures.exact in
+    let here = not_taken (value.structure_variant (made c.args.name.now)) (judged c.args.value.now) (read_structure (slots_of (fields_of c.args.fields.now))) c.in_err-fields.field-0.0 c.in_err-fields.ensures.exact in
     record { exact = search (rules, here) }
 
 pub map::read_entries-read_key-requires : goal.map::read_entries-read_key-requires
 map::read_entries-read_key-requires t c = c.step.invariant.0.text
 
 pub value::read_option-returns-then-is_null : goal.value::read_option-returns-then-is_null
-value::read_option-returns-then-is_null t c = record { exact = option_null c.args.value.now (reads c.args.inner.now plain c.args.value.now) (sym c.if-is_null.ensures.null) }
+value::read_option-returns-then-is_null t c = record { exact = option_null c.args.value.now (reads c.args.inner.now c.args.value.now) (sym c.if-is_null.ensures.null) }
 
 pub structure::read_by_place-loop-place-init : goal.structure::read_by_place-loop-place-init
 structure::read_by_place-loop-place-init t c =
-    let slots = slots_of (fields_of c.args.fields.now) plain in
+    let slots = slots_of (fields_of c.args.fields.now) in
     (λ i. result_map (values_before (c.new-values.ensures.items i)) (reads_places 0 slots c.args.elements)) ∙ no_values (reads_places 0 slots c.args.elements)
 
 pub structure::read_by_place-loop-place-preserved : goal.structure::read_by_place-loop-place-preserved

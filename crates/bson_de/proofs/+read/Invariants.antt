@@ -3,7 +3,6 @@ use Rattle.bson_base.specs.Outcome.{result_map}
 use Rattle.bson_shape.specs.ShapeView.{form_view, content_of, fields_of, parts_of, variants_of, nodes, fields_nodes, parts_nodes, variants_nodes, content_nodes}
 use Rattle.bson_datum.specs.Value.{no_entries}
 use Rattle.bson_laws.specs.Containers.{reads_items, reads_entries, reads_key}
-use Rattle.bson_laws.specs.Judged.{plain}
 use Rattle.bson_laws.specs.Reads.{reads, reads_parts, slots_of}
 use Rattle.bson_laws.specs.Slots.{fill, reads_places}
 use Rattle.bson_met.specs.Sizes.{count}
@@ -38,7 +37,7 @@ decreases-value::read_sequence l = 8 * nodes l.item.now + 3
 -- the items so far, and what is left of the array, are all that is in it
 abbrev pub invariant-value::read_items-step : goal.invariant-value::read_items-step
 invariant-value::read_items-step l =
-    let read = reads l.item plain in
+    let read = reads l.item in
     (l.index + count l.elements < 2 ^ 64) × (each (items_by read) l.index l.elements (items_marked l.items.items) ≡ reads_items read 0 l.fn.elements)
 
 abbrev pub decreases-value::read_items-step : goal.decreases-value::read_items-step
@@ -59,7 +58,7 @@ decreases-tuple::read_tuple_struct l = 8 * parts_nodes (parts_of l.parts.now) + 
 -- the values so far, and those of the parts that are left, are all
 abbrev pub invariant-tuple::read_parts-loop-place : goal.invariant-tuple::read_parts-loop-place
 invariant-tuple::read_parts-loop-place l =
-    result_map (items_before l.values.items) (reads_parts (parts_of (drop l.place l.parts)) plain l.place l.elements) ≡ reads_parts (parts_of l.parts) plain 0 l.fn.elements
+    result_map (items_before l.values.items) (reads_parts (parts_of (drop l.place l.parts)) l.place l.elements) ≡ reads_parts (parts_of l.parts) 0 l.fn.elements
 
 abbrev pub decreases-map::read_at_key : goal.decreases-map::read_at_key
 decreases-map::read_at_key l = 8 * nodes l.shape.now + 1
@@ -74,7 +73,7 @@ decreases-map::read_map l = 8 * nodes l.item.now + 3
 abbrev pub invariant-map::read_entries-step : goal.invariant-map::read_entries-step
 invariant-map::read_entries-step l =
     IsIndexed l.entries × (form_view (key_form l.entries) ≡ l.fn.key)
-    × (each (entries_by (reads_key plain l.fn.key) (reads l.item plain)) 0 l.elements (entries_marked (entries_of l.entries)) ≡ reads_entries (reads_key plain l.fn.key) (reads l.item plain) l.fn.elements no_entries)
+    × (each (entries_by (reads_key l.fn.key) (reads l.item)) 0 l.elements (entries_marked (entries_of l.entries)) ≡ reads_entries (reads_key l.fn.key) (reads l.item) l.fn.elements no_entries)
 
 abbrev pub decreases-map::read_entries-step : goal.decreases-map::read_entries-step
 decreases-map::read_entries-step l = count l.elements
@@ -115,7 +114,7 @@ decreases-structure::read_struct l = 8 * fields_nodes (fields_of l.fields.now) +
 -- what is left of the document fills the slots so far as the whole document fills empty ones
 abbrev pub invariant-structure::read_by_key-step : goal.invariant-structure::read_by_key-step
 invariant-structure::read_by_key-step l =
-    (l.index.items.now ≡ l.fields) × (l.slots.fields.now ≡ l.fields) × (each slots_by 0 l.elements (slots_view l.slots) ≡ fill plain l.fn.elements (slots_of (fields_of l.fields) plain))
+    (l.index.items.now ≡ l.fields) × (l.slots.fields.now ≡ l.fields) × (each slots_by 0 l.elements (slots_view l.slots) ≡ fill l.fn.elements (slots_of (fields_of l.fields)))
 
 abbrev pub decreases-structure::read_by_key-step : goal.decreases-structure::read_by_key-step
 decreases-structure::read_by_key-step l = count l.elements
@@ -123,4 +122,4 @@ decreases-structure::read_by_key-step l = count l.elements
 -- the values so far, and those of the fields that are left, are all
 abbrev pub invariant-structure::read_by_place-loop-place : goal.invariant-structure::read_by_place-loop-place
 invariant-structure::read_by_place-loop-place l =
-    result_map (values_before l.values.items) (reads_places l.place (slots_of (fields_of (drop l.place l.fields)) plain) l.elements) ≡ reads_places 0 (slots_of (fields_of l.fields) plain) l.fn.elements
+    result_map (values_before l.values.items) (reads_places l.place (slots_of (fields_of (drop l.place l.fields))) l.elements) ≡ reads_places 0 (slots_of (fields_of l.fields)) l.fn.elements

@@ -11,7 +11,6 @@ use Rattle.bson_shape.specs.ShapeView.{fields_of, parts_of, nodes, fields_nodes}
 use Rattle.bson_shape.specs.declared.shape.FieldShape.{FieldShape}
 use Rattle.bson_shape.proofs.Shapes.{field_smaller, part_smaller}
 use Rattle.bson_datum.specs.Value.{no_entries}
-use Rattle.bson_laws.specs.Judged.{plain}
 use Rattle.bson_laws.specs.Reads.{slots_of}
 use Rattle.bson_one_pass.specs.Put.{recast_node, recast_items, recast_parts, recast_entries, recast_fields}
 use Rattle.bson_one_pass.proofs.Containers.{array_put}
@@ -88,7 +87,7 @@ structure::recast_fields-loop-element-preserved-then-eq t c =
     let written = c.in_ok-recast_field-in-Some-get.ensures in
     let same = ap (λ x. bytes_eq x e.key) (sym c.as_str.ensures.value) ∙ ap (λ k. bytes_eq c.as_str.result.now k) (sym c.key.ensures.key) ∙ sym c.eq.ensures ∙ c.if-eq.true in (
       omega (arith, found.3.0),
-      due_step fs levels (recast_fields (slots_of (fields_of fs) plain) levels (nodes_with (node_in levels) c.args.elements)) c.loop-element.place c.args.made.now.items c.loop-element.made.items c.loop-element.elements c.next.new.self e
+      due_step fs levels (recast_fields (slots_of (fields_of fs)) levels (nodes_with (node_in levels) c.args.elements)) c.loop-element.place c.args.made.now.items c.loop-element.made.items c.loop-element.elements c.next.new.self e
           c.in-Some-get.field.now c.recast_field.new.made.items c.loop-element.invariant.1 step found.3.0 found.1 same c.requires.distinct written.name written.put,
     )
 
@@ -98,7 +97,7 @@ structure::recast_fields-loop-element-preserved t c =
     let levels = c.args.levels in
     let step = rw c.in-Ok.is at c.in-Some.ensures.steps in (
       c.loop-element.invariant.0,
-      dropped_step fs levels (recast_fields (slots_of (fields_of fs) plain) levels (nodes_with (node_in levels) c.args.elements)) c.loop-element.place c.args.made.now.items c.loop-element.made.items c.loop-element.elements c.next.new.self
+      dropped_step fs levels (recast_fields (slots_of (fields_of fs)) levels (nodes_with (node_in levels) c.args.elements)) c.loop-element.place c.args.made.now.items c.loop-element.made.items c.loop-element.elements c.next.new.self
           c.in-Ok.element c.loop-element.invariant.1 step (search rules) c.in_ok-drop_value-in_default-2.ensures,
     )
 
@@ -109,7 +108,7 @@ structure::recast_fields-loop-field-preserved t c =
     let found = c.in-Some-get-2.ensures.lookup in
     let put = c.in_ok-put_missing.ensures in (
       omega (arith, found.3.0),
-      missing_step fs levels (recast_fields (slots_of (fields_of fs) plain) levels (nodes_with (node_in levels) c.args.elements)) c.loop-field.place c.args.made.now.items c.loop-field.made.items c.in-Some-get-2.field.now
+      missing_step fs levels (recast_fields (slots_of (fields_of fs)) levels (nodes_with (node_in levels) c.args.elements)) c.loop-field.place c.args.made.now.items c.loop-field.made.items c.in-Some-get-2.field.now
           c.put_missing.new.made.items c.loop-field.invariant.1 found.3.0 found.1 put.name put.absent put.put,
     )
 
@@ -117,7 +116,7 @@ pub structure::recast_fields-returns : goal.structure::recast_fields-returns
 structure::recast_fields-returns t c =
     let fs = c.args.fields.now in
     let levels = c.args.levels in
-    places_end fs levels (recast_fields (slots_of (fields_of fs) plain) levels (nodes_with (node_in levels) c.args.elements)) c.loop-field.place c.args.made.now.items c.loop-field.made.items c.loop-field.invariant.1 (search rules)
+    places_end fs levels (recast_fields (slots_of (fields_of fs)) levels (nodes_with (node_in levels) c.args.elements)) c.loop-field.place c.args.made.now.items c.loop-field.made.items c.loop-field.invariant.1 (search rules)
 
 pub tuple::recast_parts-recast_item-requires : goal.tuple::recast_parts-recast_item-requires
 tuple::recast_parts-recast_item-requires t c =
@@ -242,5 +241,5 @@ structure::recast_fields-returns-in_default-3 t c =
     let step = rw c.in-Ok.is at c.in-Some.ensures.steps in
     let found = rw (c.split_at.ensures.front, c.split_at.ensures.back) at c.in_ok-found-in_default-3.ensures in
     let put = rw (c.split_at.ensures.back, c.deref.ensures.value) at c.put_found.ensures in
-    if_found_put fs levels (recast_fields (slots_of (fields_of fs) plain) levels (nodes_with (node_in levels) c.args.elements)) c.loop-element.place c.args.made.now.items c.loop-element.made.items c.put_found.new.made.items c.loop-element.elements
+    if_found_put fs levels (recast_fields (slots_of (fields_of fs)) levels (nodes_with (node_in levels) c.args.elements)) c.loop-element.place c.args.made.now.items c.loop-element.made.items c.put_found.new.made.items c.loop-element.elements
     c.next.new.self c.in-Ok.element c.in_ok-found-in_default-3.found.items c.put_found.result c.loop-element.invariant.1 step found put

@@ -7,7 +7,6 @@ use Rattle.bson_rawdoc.specs.Next.{steps}
 use Rattle.bson_rawdoc.specs.Node.{ended, node_in, nodes_with}
 use Rattle.bson_shape.specs.ShapeView.{fields_of, parts_of, nodes, fields_nodes, parts_nodes}
 use Rattle.bson_datum.specs.Value.{no_entries}
-use Rattle.bson_laws.specs.Judged.{plain}
 use Rattle.bson_laws.specs.Reads.{slots_of}
 use Rattle.bson_one_pass.specs.Put.{recast_items, recast_parts, recast_entries, recast_fields}
 use Rattle.bson_one_pass.proofs.Places.{AreUnderWay}
@@ -69,7 +68,7 @@ invariant-array::recast_items-loop-element l =
 abbrev pub invariant-structure::recast_fields-loop-element : goal.invariant-structure::recast_fields-loop-element
 invariant-structure::recast_fields-loop-element l =
     (l.place ≤ length l.fields)
-    × AreUnderWay l.fields l.levels (recast_fields (slots_of (fields_of l.fields) plain) l.levels (nodes_with (node_in l.levels) l.fn.elements)) (nodes_with (node_in l.levels) l.elements) l.place l.initial.made.items l.made.items
+    × AreUnderWay l.fields l.levels (recast_fields (slots_of (fields_of l.fields)) l.levels (nodes_with (node_in l.levels) l.fn.elements)) (nodes_with (node_in l.levels) l.elements) l.place l.initial.made.items l.made.items
 
 abbrev pub decreases-structure::recast_fields-loop-element : goal.decreases-structure::recast_fields-loop-element
 decreases-structure::recast_fields-loop-element l = steps l.elements
@@ -82,7 +81,7 @@ decreases-structure::put_found-loop-field l = length l.fields - l.place
 
 abbrev pub invariant-structure::recast_fields-loop-field : goal.invariant-structure::recast_fields-loop-field
 invariant-structure::recast_fields-loop-field l =
-    (l.place ≤ length l.fields) × AreUnderWay l.fields l.levels (recast_fields (slots_of (fields_of l.fields) plain) l.levels (nodes_with (node_in l.levels) l.fn.elements)) ended l.place l.fn.made.items l.made.items
+    (l.place ≤ length l.fields) × AreUnderWay l.fields l.levels (recast_fields (slots_of (fields_of l.fields)) l.levels (nodes_with (node_in l.levels) l.fn.elements)) ended l.place l.fn.made.items l.made.items
 
 abbrev pub decreases-structure::recast_fields-loop-field : goal.decreases-structure::recast_fields-loop-field
 decreases-structure::recast_fields-loop-field l = length l.fields - l.place

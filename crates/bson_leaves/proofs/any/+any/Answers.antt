@@ -15,7 +15,7 @@ use Rattle.bson_datum.specs.Stop.{IsUnderKey}
 use Rattle.bson_datum.specs.Value as value
 use Rattle.bson_datum.specs.Value.{no_entries}
 use Rattle.bson_shape.specs.ShapeView.{form_view}
-use Rattle.bson_laws.specs.Judged.{Reading, plain}
+use Rattle.bson_laws.specs.Judged.{Reading}
 use Rattle.bson_laws.specs.ReadsLeaf.{read_any, any_entries}
 use Rattle.bson_laws.proofs.Tame.{judged_is}
 use Rattle.bson_met.specs.Gives.{Reaches}
@@ -211,19 +211,19 @@ pub any_element-returns-in-Ok : goal.any_element-returns-in-Ok
 any_element-returns-in-Ok t c =
     let e = c.args.element.now in
     let good = judged_good c.args.levels e.kind e.value (raw_value c.in-Ok.value) c.in-Ok.ensures.value in
-    record { exact = subst (λ (r : Reading Marked). Reaches marked c.any_value.result r) (sym (ap (λ r. r >>= read_any plain) good)) c.any_value.ensures.exact }
+    record { exact = subst (λ (r : Reading Marked). Reaches marked c.any_value.result r) (sym (ap (λ r. r >>= read_any) good)) c.any_value.ensures.exact }
 
 pub any_element-returns-in-Err : goal.any_element-returns-in-Err
 any_element-returns-in-Err t c =
     let e = c.args.element.now in
     let bad = judged_bad c.args.levels e.kind e.value c.in-Err.fault c.in-Err.ensures.value in
-    record { exact = subst (λ (r : Reading Marked). StopsAs c.refused.result r) (sym (ap (λ r. r >>= read_any plain) bad)) (refused_stops Marked (raw c.in-Err.fault) c.refused.result c.refused.ensures.here) }
+    record { exact = subst (λ (r : Reading Marked). StopsAs c.refused.result r) (sym (ap (λ r. r >>= read_any) bad)) (refused_stops Marked (raw c.in-Err.fault) c.refused.result c.refused.ensures.here) }
 
 pub any_elsewhere-any_items-requires : goal.any_elsewhere-any_items-requires
 any_elsewhere-any_items-requires t c =
     let n = c.args.value.now in
     let ns = c.in-Array.items in
-    let same : size n ≡ suc (sizes ns) = ap size (judged_is plain n _ c.in_ok-boolean.ensures.judged ∙ ap value_view c.in-Array.is) in
+    let same : size n ≡ suc (sizes ns) = ap size (judged_is n _ c.in_ok-boolean.ensures.judged ∙ ap value_view c.in-Array.is) in
     let less : 5 * sizes ns < 5 * size n + 3 = omega (arith, same) in
     (search rules, tt)
 
@@ -231,7 +231,7 @@ pub any_elsewhere-any_entries-requires : goal.any_elsewhere-any_entries-requires
 any_elsewhere-any_entries-requires t c =
     let n = c.args.value.now in
     let ns = c.in-Document.elements in
-    let same : size n ≡ suc (sizes ns) = ap size (judged_is plain n _ c.in_ok-boolean.ensures.judged ∙ ap value_view c.in-Document.is) in
+    let same : size n ≡ suc (sizes ns) = ap size (judged_is n _ c.in_ok-boolean.ensures.judged ∙ ap value_view c.in-Document.is) in
     let less : 5 * sizes ns < 5 * size n + 3 = omega (arith, same) in
     (search rules, tt)
 
@@ -239,26 +239,26 @@ pub any_elsewhere-any_entries-requires-in-Extended : goal.any_elsewhere-any_entr
 any_elsewhere-any_entries-requires-in-Extended t c =
     let n = c.args.value.now in
     let x = extended_view c.in-Extended.value in
-    let same : size n ≡ suc (scope_size x + sizes (opened x)) = ap size (judged_is plain n _ c.in_ok-boolean.ensures.judged ∙ ap value_view c.in-Extended.is) in
+    let same : size n ≡ suc (scope_size x + sizes (opened x)) = ap size (judged_is n _ c.in_ok-boolean.ensures.judged ∙ ap value_view c.in-Extended.is) in
     let less : 5 * sizes c.of_extended.result < 5 * size n + 3 = omega (arith, same, ap sizes c.of_extended.ensures.opened) in
     (search rules, tt)
 
 pub any_elsewhere-returns-in_ok-any_items-in-Array : goal.any_elsewhere-returns-in_ok-any_items-in-Array
 any_elsewhere-returns-in_ok-any_items-in-Array t c = record {
-  exact = ap (λ r. r >>= read_any plain) (c.in_ok-boolean.ensures.judged ∙ ap (λ v. Ok (value_view v)) c.in-Array.is) ∙ ap (result_map value.sequence) c.in_ok-any_items-in-Array.ensures.exact
+  exact = ap (λ r. r >>= read_any) (c.in_ok-boolean.ensures.judged ∙ ap (λ v. Ok (value_view v)) c.in-Array.is) ∙ ap (result_map value.sequence) c.in_ok-any_items-in-Array.ensures.exact
       ∙ ap Ok (sym (marked-Seq c.in_ok-any_items-in-Array.field-0));
 }
 
 pub any_elsewhere-returns-in_ok-any_entries-in-Document : goal.any_elsewhere-returns-in_ok-any_entries-in-Document
 any_elsewhere-returns-in_ok-any_entries-in-Document t c = record {
-  exact = ap (λ r. r >>= read_any plain) (c.in_ok-boolean.ensures.judged ∙ ap (λ v. Ok (value_view v)) c.in-Document.is) ∙ ap (result_map value.map) c.in_ok-any_entries-in-Document.ensures.exact
+  exact = ap (λ r. r >>= read_any) (c.in_ok-boolean.ensures.judged ∙ ap (λ v. Ok (value_view v)) c.in-Document.is) ∙ ap (result_map value.map) c.in_ok-any_entries-in-Document.ensures.exact
       ∙ ap Ok (sym (marked-Map c.in_ok-any_entries-in-Document.field-0));
 }
 
 pub any_elsewhere-returns-in_ok-any_entries-in-Extended : goal.any_elsewhere-returns-in_ok-any_entries-in-Extended
 any_elsewhere-returns-in_ok-any_entries-in-Extended t c = record {
-  exact = ap (λ r. r >>= read_any plain) (c.in_ok-boolean.ensures.judged ∙ ap (λ v. Ok (value_view v)) c.in-Extended.is)
-      ∙ ap (result_map value.map) (ap (λ ns. any_entries plain ns no_entries) (sym c.of_extended.ensures.opened) ∙ c.in_ok-any_entries-in-Extended.ensures.exact) ∙ ap Ok (sym (marked-Map c.in_ok-any_entries-in-Extended.field-0));
+  exact = ap (λ r. r >>= read_any) (c.in_ok-boolean.ensures.judged ∙ ap (λ v. Ok (value_view v)) c.in-Extended.is)
+      ∙ ap (result_map value.map) (ap (λ ns. any_entries ns no_entries) (sym c.of_extended.ensures.opened) ∙ c.in_ok-any_entries-in-Extended.ensures.exact) ∙ ap Ok (sym (marked-Map c.in_ok-any_entries-in-Extended.field-0));
 }
 
 pub any_opened-any_entries-requires : goal.any_opened-any_entries-requires

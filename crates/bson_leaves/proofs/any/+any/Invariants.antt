@@ -7,7 +7,6 @@ use Rattle.bson_shape.specs.Form.{leaf}
 use Rattle.bson_shape.specs.ShapeView.{form_view}
 use Rattle.bson_shape.specs.declared.leaf.Leaf.TheVariants.{Str}
 use Rattle.bson_datum.specs.Value.{no_entries}
-use Rattle.bson_laws.specs.Judged.{plain}
 use Rattle.bson_laws.specs.ReadsLeaf.{any_items, any_entries}
 use Rattle.bson_met.specs.Sizes.{size, sizes, count}
 use Rattle.bson_leaves.specs.Any.{any_at, any_items_at, any_entries_at}
@@ -50,7 +49,7 @@ decreases-any_document l = 5 * size (inner_node l.levels EmbeddedDocument (docum
 -- the items so far, and what is left of the array, are all that is in it
 abbrev pub invariant-any_items-step : goal.invariant-any_items-step
 invariant-any_items-step l =
-    (l.index + count l.elements < 2 ^ 64) × (sizes l.elements ≤ sizes l.fn.elements) × (each (items_by any_at) l.index l.elements (items_marked l.items.items) ≡ any_items plain 0 l.fn.elements)
+    (l.index + count l.elements < 2 ^ 64) × (sizes l.elements ≤ sizes l.fn.elements) × (each (items_by any_at) l.index l.elements (items_marked l.items.items) ≡ any_items 0 l.fn.elements)
 
 abbrev pub decreases-any_items-step : goal.decreases-any_items-step
 decreases-any_items-step l = count l.elements
@@ -59,7 +58,7 @@ decreases-any_items-step l = count l.elements
 abbrev pub invariant-any_entries-step : goal.invariant-any_entries-step
 invariant-any_entries-step l =
     (sizes l.elements ≤ sizes l.fn.elements) × IsIndexed l.entries × (form_view l.entries.key ≡ leaf Str)
-    × (each (entries_by as_str any_at) 0 l.elements (entries_marked l.entries.entries.items) ≡ any_entries plain l.fn.elements no_entries)
+    × (each (entries_by as_str any_at) 0 l.elements (entries_marked l.entries.entries.items) ≡ any_entries l.fn.elements no_entries)
 
 abbrev pub decreases-any_entries-step : goal.decreases-any_entries-step
 decreases-any_entries-step l = count l.elements

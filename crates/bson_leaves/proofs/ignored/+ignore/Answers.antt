@@ -1,7 +1,7 @@
 use Rattle.std.proofs.Common.{rules, refl, ◌≡◌, suc, ◌+◌, ◌*◌, ◌<◌, ap, sym, subst, ◌∙◌, arith}
 use Rattle.bson_datum.specs.Refusal.{at_key, under}
 use Rattle.bson_rawdoc.specs.Node.{opened}
-use Rattle.bson_laws.specs.Judged.{Reading, plain, at_its_key, at_its_index, scope_key, pass_scope}
+use Rattle.bson_laws.specs.Judged.{Reading, at_its_key, at_its_index, scope_key, pass_scope}
 use Rattle.bson_laws.proofs.Tame.{judged_is}
 use Rattle.bson_met.specs.OpenedView.{extended_view, scope_node}
 use Rattle.bson_met.specs.PieceView.{str_piece}
@@ -16,14 +16,14 @@ use Rattle.bson_leaves.proofs.ignored.+ignore.Goals as goal
 pub ignore_other-ignore_elements-requires : goal.ignore_other-ignore_elements-requires
 ignore_other-ignore_elements-requires t c =
     let n = c.args.value.now in
-    let same : size n ≡ suc (sizes c.in-Document.elements) = ap size (judged_is plain n _ c.in_ok-elements.ensures.judged ∙ ap value_view c.in-Document.is) in
+    let same : size n ≡ suc (sizes c.in-Document.elements) = ap size (judged_is n _ c.in_ok-elements.ensures.judged ∙ ap value_view c.in-Document.is) in
     let less : 3 * sizes c.in-Document.elements < 3 * size n = omega (arith, same) in
     (search rules, tt)
 
 pub ignore_other-ignore_items-requires : goal.ignore_other-ignore_items-requires
 ignore_other-ignore_items-requires t c =
     let n = c.args.value.now in
-    let same : size n ≡ suc (sizes c.in-Array.items) = ap size (judged_is plain n _ c.in_ok-elements.ensures.judged ∙ ap value_view c.in-Array.is) in
+    let same : size n ≡ suc (sizes c.in-Array.items) = ap size (judged_is n _ c.in_ok-elements.ensures.judged ∙ ap value_view c.in-Array.is) in
     let less : 3 * sizes c.in-Array.items < 3 * size n = omega (arith, same) in
     (search rules, tt)
 
@@ -31,7 +31,7 @@ pub ignore_other-ignore_scope-requires : goal.ignore_other-ignore_scope-requires
 ignore_other-ignore_scope-requires t c =
     let n = c.args.value.now in
     let x = extended_view c.in-Extended.value in
-    let same : size n ≡ suc (scope_size x + sizes (opened x)) = ap size (judged_is plain n _ c.in_ok-elements.ensures.judged ∙ ap value_view c.in-Extended.is) in
+    let same : size n ≡ suc (scope_size x + sizes (opened x)) = ap size (judged_is n _ c.in_ok-elements.ensures.judged ∙ ap value_view c.in-Extended.is) in
     let less : 3 * scope_size x + 2 < 3 * size n = omega (arith, same) in
     (search rules, tt)
 
@@ -53,13 +53,13 @@ pub ignore_scope-returns-in-Ok : goal.ignore_scope-returns-in-Ok
 ignore_scope-returns-in-Ok t c =
     let n = scope_node c.in-JavaScriptCodeWithScope.scope in
     let done = sym (ignored_at n) ∙ ap pass_at (sym c.of_scope.ensures.node) ∙ c.in-Ok.ensures.exact in
-    record { exact = ap (λ v. pass_scope plain (extended_view v)) c.in-JavaScriptCodeWithScope.is ∙ ap (under scope_key) done }
+    record { exact = ap (λ v. pass_scope (extended_view v)) c.in-JavaScriptCodeWithScope.is ∙ ap (under scope_key) done }
 
 pub ignore_scope-returns-in-Err : goal.ignore_scope-returns-in-Err
 ignore_scope-returns-in-Err t c =
     let n = scope_node c.in-JavaScriptCodeWithScope.scope in
     let here = subst (λ (r : Reading (Unit {0})). StopsAs c.in-Err.stop r) (ap pass_at c.of_scope.ensures.node ∙ ignored_at n) c.in-Err.ensures.exact in
     record {
-      exact = subst (λ (r : Reading (Unit {0})). StopsAs c.under_key.result r) (sym (ap (λ v. pass_scope plain (extended_view v)) c.in-JavaScriptCodeWithScope.is))
+      exact = subst (λ (r : Reading (Unit {0})). StopsAs c.under_key.result r) (sym (ap (λ v. pass_scope (extended_view v)) c.in-JavaScriptCodeWithScope.is))
           (stops_inside (at_key scope_key) c.in-Err.stop c.under_key.result _ c.under_key.ensures.under here);
     }

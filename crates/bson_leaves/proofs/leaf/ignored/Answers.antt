@@ -1,10 +1,10 @@
 use Rattle.bson_datum.specs.Value as value
-use Rattle.bson_laws.specs.Judged.{judged, plain, passes}
+use Rattle.bson_laws.specs.Judged.{judged, passes}
 use Rattle.bson_leaves.proofs.Mapped.{taken, not_taken}
 use Rattle.bson_leaves.proofs.leaf.ignored.Goals as goal
 
 pub returns-in-Ok : goal.returns-in-Ok
-returns-in-Ok c = record { exact = taken (λ _. value.unit) (judged plain c.args.value.now) (passes plain) _ c.in-Ok.ensures.exact }
+returns-in-Ok c = record { exact = taken (λ _. value.unit) (judged c.args.value.now) (passes) _ c.in-Ok.ensures.exact }
 
 pub returns-in-Err : goal.returns-in-Err
-returns-in-Err c = record { exact = not_taken (λ _. value.unit) (judged plain c.args.value.now) (passes plain) c.in-Err.stop c.in-Err.ensures.exact }
+returns-in-Err c = record { exact = not_taken (λ _. value.unit) (judged c.args.value.now) (passes) c.in-Err.stop c.in-Err.ensures.exact }

@@ -1,7 +1,7 @@
 use Rattle.std.proofs.Common.{◌≡◌, ◌-◌, Ok, ap, subst, ◌∙◌, refl, arith}
 use Rattle.bson_rawdoc.specs.Node.{node_in, nodes_with}
 use Rattle.bson_rawdoc.specs.Walk.{walk}
-use Rattle.bson_laws.specs.Judged.{plain, ignores}
+use Rattle.bson_laws.specs.Judged.{ignores}
 use Rattle.bson_one_pass.specs.Free.{ArePassed}
 use Rattle.bson_one_pass.proofs.Passed.{passed_step, document_passed, array_passed, scoped_passed}
 use Rattle.bson_one_pass.proofs.dropped.+dropped.Goals as goal
@@ -11,7 +11,7 @@ are_passed-loop-element-preserved t c =
     let m = c.args.levels - 1 in
     let e = c.in-Ok.element in
     let step = rw c.in-Ok.is at c.in-Some.ensures.steps in
-    let ignored : ignores plain (node_in m e.kind e.value) ≡ Ok tt = ap (ignores plain) c.in-Some-value_of.ensures ∙ c.if-not-is_passed.ensures refl in (
+    let ignored : ignores (node_in m e.kind e.value) ≡ Ok tt = ap ignores c.in-Some-value_of.ensures ∙ c.if-not-is_passed.ensures refl in (
       tt,
       tt,
       λ rest. c.loop-element.invariant.2 (passed_step m c.loop-element.element-iterator c.next.new.self e step ignored rest),

@@ -4,7 +4,7 @@ use Rattle.bson_rawdoc.specs.Piece.{made}
 use Rattle.bson_datum.specs.Marked.{Marked}
 use Rattle.bson_datum.specs.MarkedView.{marked}
 use Rattle.bson_laws.specs.Datum.{datum}
-use Rattle.bson_laws.specs.Judged.{Reading, plain}
+use Rattle.bson_laws.specs.Judged.{Reading}
 use Rattle.bson_laws.specs.Trees.{read_tree}
 use Rattle.bson_met.specs.Gives.{Reaches}
 use Rattle.bson_trees.proofs.ExtendedLeaves.{kind_read, kind_stops}
@@ -16,5 +16,5 @@ returns-in_err-value c = let here = kind_stops c.args.kind c.args.value.now c.in
 pub returns : goal.returns
 returns c =
     let n = c.args.value.now in
-    let m = map_ok (datum made) (read_tree plain n) (marked c.in_ok-value.value) c.in_ok-value.ensures.exact in
+    let m = map_ok (datum made) (read_tree n) (marked c.in_ok-value.value) c.in_ok-value.ensures.exact in
     record { exact = subst (λ (r : Reading Marked). Reaches marked c.with_kind.result r) (sym (kind_read c.args.kind n m.0 m.1)) (c.with_kind.ensures.exact m.0 m.2) }

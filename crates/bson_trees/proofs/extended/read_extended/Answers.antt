@@ -4,7 +4,7 @@ use Rattle.bson_shape.specs.Form.{leaf}
 use Rattle.bson_datum.specs.Marked.{Marked}
 use Rattle.bson_datum.specs.MarkedView.{marked}
 use Rattle.bson_laws.specs.Datum.{datum}
-use Rattle.bson_laws.specs.Judged.{Reading, judged, plain}
+use Rattle.bson_laws.specs.Judged.{Reading, judged}
 use Rattle.bson_laws.specs.Reads.{reads}
 use Rattle.bson_laws.specs.Trees.{as_tree}
 use Rattle.bson_met.specs.Gives.{Reaches}
@@ -12,39 +12,39 @@ use Rattle.bson_wrapped.proofs.Made.{mapped}
 use Rattle.bson_trees.proofs.extended.read_extended.Goals as goal
 
 pub returns-in-ObjectId : goal.returns-in-ObjectId
-returns-in-ObjectId c = record { exact = subst (λ l. Reaches marked c.object_id.result (reads (leaf l) plain c.args.value.now)) (sym c.in-ObjectId.is) c.object_id.ensures.exact }
+returns-in-ObjectId c = record { exact = subst (λ l. Reaches marked c.object_id.result (reads (leaf l) c.args.value.now)) (sym c.in-ObjectId.is) c.object_id.ensures.exact }
 
 pub returns-in-Uuid : goal.returns-in-Uuid
-returns-in-Uuid c = record { exact = subst (λ l. Reaches marked c.uuid.result (reads (leaf l) plain c.args.value.now)) (sym c.in-Uuid.is) c.uuid.ensures.exact }
+returns-in-Uuid c = record { exact = subst (λ l. Reaches marked c.uuid.result (reads (leaf l) c.args.value.now)) (sym c.in-Uuid.is) c.uuid.ensures.exact }
 
 pub returns-in-Document : goal.returns-in-Document
-returns-in-Document c = record { exact = subst (λ l. Reaches marked c.document.result (reads (leaf l) plain c.args.value.now)) (sym c.in-Document.is) c.document.ensures.exact }
+returns-in-Document c = record { exact = subst (λ l. Reaches marked c.document.result (reads (leaf l) c.args.value.now)) (sym c.in-Document.is) c.document.ensures.exact }
 
 pub returns-in-Bson : goal.returns-in-Bson
 returns-in-Bson c =
     let n = c.args.value.now in
     record {
-      exact = subst (λ l. Reaches marked c.read_tree.result (reads (leaf l) plain n)) (sym c.in-Bson.is)
-          (subst (λ (r : Reading Marked). Reaches marked c.read_tree.result r) (sym (mapped (datum made) (judged plain n) (as_tree plain))) c.read_tree.ensures.exact);
+      exact = subst (λ l. Reaches marked c.read_tree.result (reads (leaf l) n)) (sym c.in-Bson.is)
+          (subst (λ (r : Reading Marked). Reaches marked c.read_tree.result r) (sym (mapped (datum made) (judged n) (as_tree))) c.read_tree.ensures.exact);
     }
 
 pub returns-in-DateTime : goal.returns-in-DateTime
-returns-in-DateTime c = record { exact = subst (λ l. Reaches marked c.of_kind.result (reads (leaf l) plain c.args.value.now)) (sym c.in-DateTime.is) c.of_kind.ensures.exact }
+returns-in-DateTime c = record { exact = subst (λ l. Reaches marked c.of_kind.result (reads (leaf l) c.args.value.now)) (sym c.in-DateTime.is) c.of_kind.ensures.exact }
 
 pub returns-in-Binary : goal.returns-in-Binary
-returns-in-Binary c = record { exact = subst (λ l. Reaches marked c.of_kind-in-Binary.result (reads (leaf l) plain c.args.value.now)) (sym c.in-Binary.is) c.of_kind-in-Binary.ensures.exact }
+returns-in-Binary c = record { exact = subst (λ l. Reaches marked c.of_kind-in-Binary.result (reads (leaf l) c.args.value.now)) (sym c.in-Binary.is) c.of_kind-in-Binary.ensures.exact }
 
 pub returns-in-Timestamp : goal.returns-in-Timestamp
-returns-in-Timestamp c = record { exact = subst (λ l. Reaches marked c.of_kind-in-Timestamp.result (reads (leaf l) plain c.args.value.now)) (sym c.in-Timestamp.is) c.of_kind-in-Timestamp.ensures.exact }
+returns-in-Timestamp c = record { exact = subst (λ l. Reaches marked c.of_kind-in-Timestamp.result (reads (leaf l) c.args.value.now)) (sym c.in-Timestamp.is) c.of_kind-in-Timestamp.ensures.exact }
 
 pub returns-in-Regex : goal.returns-in-Regex
-returns-in-Regex c = record { exact = subst (λ l. Reaches marked c.of_kind-in-Regex.result (reads (leaf l) plain c.args.value.now)) (sym c.in-Regex.is) c.of_kind-in-Regex.ensures.exact }
+returns-in-Regex c = record { exact = subst (λ l. Reaches marked c.of_kind-in-Regex.result (reads (leaf l) c.args.value.now)) (sym c.in-Regex.is) c.of_kind-in-Regex.ensures.exact }
 
 pub returns-in-CodeWithScope : goal.returns-in-CodeWithScope
-returns-in-CodeWithScope c = record { exact = subst (λ l. Reaches marked c.of_kind-in-CodeWithScope.result (reads (leaf l) plain c.args.value.now)) (sym c.in-CodeWithScope.is) c.of_kind-in-CodeWithScope.ensures.exact }
+returns-in-CodeWithScope c = record { exact = subst (λ l. Reaches marked c.of_kind-in-CodeWithScope.result (reads (leaf l) c.args.value.now)) (sym c.in-CodeWithScope.is) c.of_kind-in-CodeWithScope.ensures.exact }
 
 pub returns-in-Decimal128 : goal.returns-in-Decimal128
-returns-in-Decimal128 c = record { exact = subst (λ l. Reaches marked c.of_kind-in-Decimal128.result (reads (leaf l) plain c.args.value.now)) (sym c.in-Decimal128.is) c.of_kind-in-Decimal128.ensures.exact }
+returns-in-Decimal128 c = record { exact = subst (λ l. Reaches marked c.of_kind-in-Decimal128.result (reads (leaf l) c.args.value.now)) (sym c.in-Decimal128.is) c.of_kind-in-Decimal128.ensures.exact }
 
 pub returns-in-DbPointer : goal.returns-in-DbPointer
-returns-in-DbPointer c = record { exact = subst (λ l. Reaches marked c.of_kind-in-DbPointer.result (reads (leaf l) plain c.args.value.now)) (sym c.in-DbPointer.is) c.of_kind-in-DbPointer.ensures.exact }
+returns-in-DbPointer c = record { exact = subst (λ l. Reaches marked c.of_kind-in-DbPointer.result (reads (leaf l) c.args.value.now)) (sym c.in-DbPointer.is) c.of_kind-in-DbPointer.ensures.exact }

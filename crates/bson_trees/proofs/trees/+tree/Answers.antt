@@ -12,7 +12,7 @@ use Rattle.bson_datum.specs.MarkedView.{marked}
 use Rattle.bson_datum.specs.Refusal.{at_index, under, under_index}
 use Rattle.bson_datum.specs.Value as value
 use Rattle.bson_laws.specs.Datum.{datum, pair_data}
-use Rattle.bson_laws.specs.Judged.{Reading, plain, scope_key}
+use Rattle.bson_laws.specs.Judged.{Reading, scope_key}
 use Rattle.bson_laws.specs.ReadsLeaf.{put_entry}
 use Rattle.bson_laws.specs.Trees as laws
 use Rattle.bson_laws.specs.Trees.{as_tree, read_tree, array_trees, pairs_in}
@@ -167,7 +167,7 @@ read_extended_value-returns t c =
 pub read_entries-returns : goal.read_entries-returns
 read_entries-returns t c =
     let n = c.args.value.now in
-    let m = map_ok (datum made) (read_tree plain n) _ c.in_ok-value.ensures.exact in
+    let m = map_ok (datum made) (read_tree n) _ c.in_ok-value.ensures.exact in
     record {
       exact = subst (λ (r : Reading Tree). Reaches (λ v. entries_marked v.items) c.entries_of.result (result_map (pair_data made) (r >>= pairs_in))) (sym m.1) (c.entries_of.ensures.exact m.0 m.2);
     }
@@ -175,14 +175,14 @@ read_entries-returns t c =
 pub read_entries-returns-in_err-value : goal.read_entries-returns-in_err-value
 read_entries-returns-in_err-value t c =
     let stop = c.in_err-value.field-0.0 in
-    let here = stops_through stop (datum made) (read_tree plain c.args.value.now) pairs_in (pair_data made) c.in_err-value.ensures.exact in
+    let here = stops_through stop (datum made) (read_tree c.args.value.now) pairs_in (pair_data made) c.in_err-value.ensures.exact in
     record { exact = search (rules, here) }
 
 pub read_tree-read_items-requires : goal.read_tree-read_items-requires
 read_tree-read_items-requires t c =
     let n = c.args.value.now in
     let ns = c.in-Array.items in
-    let same : size n ≡ suc (sizes ns) = ap size (judged_is plain n _ c.in_ok-boolean.ensures.judged ∙ ap value_view c.in-Array.is) in
+    let same : size n ≡ suc (sizes ns) = ap size (judged_is n _ c.in_ok-boolean.ensures.judged ∙ ap value_view c.in-Array.is) in
     let less : 8 * sizes ns < 8 * size n + 1 = omega (arith, same) in
     (search rules, tt)
 
@@ -190,7 +190,7 @@ pub read_tree-read_elements-requires : goal.read_tree-read_elements-requires
 read_tree-read_elements-requires t c =
     let n = c.args.value.now in
     let ns = c.in-Document.elements in
-    let same : size n ≡ suc (sizes ns) = ap size (judged_is plain n _ c.in_ok-boolean.ensures.judged ∙ ap value_view c.in-Document.is) in
+    let same : size n ≡ suc (sizes ns) = ap size (judged_is n _ c.in_ok-boolean.ensures.judged ∙ ap value_view c.in-Document.is) in
     let less : 8 * sizes ns < 8 * size n + 1 = omega (arith, same) in
     (search rules, tt)
 
@@ -198,21 +198,21 @@ pub read_tree-read_extended_value-requires : goal.read_tree-read_extended_value-
 read_tree-read_extended_value-requires t c =
     let n = c.args.value.now in
     let x = extended_view c.in-Extended.value in
-    let same : size n ≡ suc (scope_size x + sizes (opened x)) = ap size (judged_is plain n _ c.in_ok-boolean.ensures.judged ∙ ap value_view c.in-Extended.is) in
+    let same : size n ≡ suc (scope_size x + sizes (opened x)) = ap size (judged_is n _ c.in_ok-boolean.ensures.judged ∙ ap value_view c.in-Extended.is) in
     let less : 8 * scope_size x + 5 < 8 * size n + 1 = omega (arith, same) in
     (search rules, tt)
 
 pub read_tree-returns-in_ok-read_items-in-Array : goal.read_tree-returns-in_ok-read_items-in-Array
 read_tree-returns-in_ok-read_items-in-Array t c = record {
-  exact = ap (λ r. result_map (datum made) (r >>= as_tree plain)) (c.in_ok-boolean.ensures.judged ∙ ap (λ v. Ok (value_view v)) c.in-Array.is)
-      ∙ array_made (array_trees plain 0 c.in-Array.items) _ c.in_ok-read_items-in-Array.ensures.exact ∙ ap Ok (sym (marked-Seq c.in_ok-read_items-in-Array.field-0));
+  exact = ap (λ r. result_map (datum made) (r >>= as_tree)) (c.in_ok-boolean.ensures.judged ∙ ap (λ v. Ok (value_view v)) c.in-Array.is)
+      ∙ array_made (array_trees 0 c.in-Array.items) _ c.in_ok-read_items-in-Array.ensures.exact ∙ ap Ok (sym (marked-Seq c.in_ok-read_items-in-Array.field-0));
 }
 
 pub read_tree-returns-in_err-read_items-in-Array : goal.read_tree-returns-in_err-read_items-in-Array
 read_tree-returns-in_err-read_items-in-Array t c =
     let stop = c.in_err-read_items-in-Array.field-0.0 in
-    let whole = ap (λ r. result_map (datum made) (r >>= as_tree plain)) (c.in_ok-boolean.ensures.judged ∙ ap (λ v. Ok (value_view v)) c.in-Array.is) in
-    let here = subst (λ (r : Reading Marked). StopsAs stop r) (sym whole) (array_stops stop (array_trees plain 0 c.in-Array.items) c.in_err-read_items-in-Array.ensures.exact) in
+    let whole = ap (λ r. result_map (datum made) (r >>= as_tree)) (c.in_ok-boolean.ensures.judged ∙ ap (λ v. Ok (value_view v)) c.in-Array.is) in
+    let here = subst (λ (r : Reading Marked). StopsAs stop r) (sym whole) (array_stops stop (array_trees 0 c.in-Array.items) c.in_err-read_items-in-Array.ensures.exact) in
     record { exact = search (rules, here) }
 
 pub read_wrapped-returns-in_err-scope-in-Scope : goal.read_wrapped-returns-in_err-scope-in-Scope
@@ -221,7 +221,7 @@ read_wrapped-returns-in_err-scope-in-Scope t c =
     let key = (str_piece s.key).bytes in
     let ns = c.args.rest in
     let stop = c.in_err-scope-in-Scope.field-0.0 in
-    let here = subst (λ w. StopsAs stop (wrapped_at w key s.value ns)) (sym c.in-Scope.is) (scope_stops key s.value stop (λ ps. laws.after_scope plain ps ns) (datum made) c.in_err-scope-in-Scope.ensures.exact) in
+    let here = subst (λ w. StopsAs stop (wrapped_at w key s.value ns)) (sym c.in-Scope.is) (scope_stops key s.value stop (λ ps. laws.after_scope ps ns) (datum made) c.in_err-scope-in-Scope.ensures.exact) in
     record { exact = search (rules, here) }
 
 pub read_wrapped-returns-in_ok-scope-in-Scope : goal.read_wrapped-returns-in_ok-scope-in-Scope
@@ -242,5 +242,5 @@ read_wrapped-returns-in_default t c =
     let there : is_body (meaning w) ≡ true = search rules in
     record {
       exact = subst (λ (r : Reading Marked). Reaches marked c.read_body.result r)
-          (body_wrapped w (meaning w) key s.value (read_tree plain s.value) (λ x. laws.after_code plain x c.args.rest) (λ ps. laws.after_scope plain ps c.args.rest) there) c.read_body.ensures.exact;
+          (body_wrapped w (meaning w) key s.value (read_tree s.value) (λ x. laws.after_code x c.args.rest) (λ ps. laws.after_scope ps c.args.rest) there) c.read_body.ensures.exact;
     }

@@ -9,7 +9,7 @@ use Rattle.bson_datum.specs.ErrorView.{read_fault}
 use Rattle.bson_datum.specs.MarkedView.{marked}
 use Rattle.bson_datum.specs.Stop.{stop_view}
 use Rattle.bson_laws.specs.Datum.{datum}
-use Rattle.bson_laws.specs.Judged.{Reading, plain}
+use Rattle.bson_laws.specs.Judged.{Reading}
 use Rattle.bson_laws.specs.ReadsExtended.{uuid_in}
 use Rattle.bson_laws.specs.Trees.{read_tree}
 use Rattle.bson_met.specs.Gives.{IsRefusedOrNoMemory}
@@ -36,7 +36,7 @@ returns c =
     let stop = c.refused.result in
     let whole = wrapped_tree w key s.value c.args.rest in
     let m = map_ok (datum made) whole (marked d) c.in_ok-value.ensures.exact in
-    let other = other_uuid m.0 (wrapped_other w c.requires.other key s.value c.args.rest (read_tree plain s.value) m.0 m.1) in
+    let other = other_uuid m.0 (wrapped_other w c.requires.other key s.value c.args.rest (read_tree s.value) m.0 m.1) in
     record {
       exact = subst (λ (r : Reading Bytes). StopsAs stop r) (sym (ap (λ (r : Reading Tree). r >>= uuid_in) m.1 ∙ other))
           (refused_stops Bytes (wrong_kind (kind m.0)) stop

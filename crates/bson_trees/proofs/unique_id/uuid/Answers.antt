@@ -3,7 +3,7 @@ use Rattle.bson_base.specs.Outcome.{result_map}
 use Rattle.bson_rawdoc.specs.Piece.{made}
 use Rattle.bson_datum.specs.Marked.{Marked}
 use Rattle.bson_laws.specs.Datum.{uuid_datum}
-use Rattle.bson_laws.specs.Judged.{Reading, judged, plain}
+use Rattle.bson_laws.specs.Judged.{Reading, judged}
 use Rattle.bson_laws.specs.ReadsExtended.{uuid_at}
 use Rattle.bson_met.proofs.Refusals.{StopsAs, stops_map}
 use Rattle.bson_wrapped.proofs.Made.{mapped}
@@ -14,10 +14,10 @@ pub returns-in_err-id : goal.returns-in_err-id
 returns-in_err-id c =
     let n = c.args.value.now in
     let stop = c.in_err-id.field-0.0 in
-    let here = subst (λ (r : Reading Marked). StopsAs stop r) (sym (mapped (uuid_datum made) (judged plain n) (uuid_at plain))) (stops_map stop (uuid_datum made) (uuid_from n) c.in_err-id.ensures.exact) in
+    let here = subst (λ (r : Reading Marked). StopsAs stop r) (sym (mapped (uuid_datum made) (judged n) (uuid_at))) (stops_map stop (uuid_datum made) (uuid_from n) c.in_err-id.ensures.exact) in
     record { exact = search (rules, here) }
 
 pub returns : goal.returns
 returns c =
     let n = c.args.value.now in
-    record { exact = mapped (uuid_datum made) (judged plain n) (uuid_at plain) ∙ ap (result_map (uuid_datum made)) c.in_ok-id.ensures.exact ∙ ap Ok (sym c.in_ok-uuid.ensures.datum) }
+    record { exact = mapped (uuid_datum made) (judged n) (uuid_at) ∙ ap (result_map (uuid_datum made)) c.in_ok-id.ensures.exact ∙ ap Ok (sym c.in_ok-uuid.ensures.datum) }

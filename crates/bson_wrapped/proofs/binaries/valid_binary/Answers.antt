@@ -5,7 +5,7 @@ use Rattle.bson_base.specs.Tree as tree
 use Rattle.bson_base.specs.Tree.{Tree}
 use Rattle.bson_datum.specs.Cause.{bad_body}
 use Rattle.bson_datum.specs.declared.wrapper.Wrapper.TheVariants.{Binary}
-use Rattle.bson_laws.specs.Judged.{Reading, plain}
+use Rattle.bson_laws.specs.Judged.{Reading}
 use Rattle.bson_laws.specs.Trees.{or_bad}
 use Rattle.bson_laws.specs.Wrapped.{meaning}
 use Rattle.bson_met.proofs.Refusals.{StopsAs, stops_bind, refused_stops}
@@ -14,7 +14,7 @@ use Rattle.bson_wrapped.proofs.binaries.valid_binary.Goals as goal
 
 pub returns-in_err-binary : goal.returns-in_err-binary
 returns-in_err-binary c =
-    let here = stops_bind c.in_err-binary.field-0.0 (body_of (meaning Binary) plain c.args.value.now) (or_bad Binary) c.in_err-binary.ensures.exact in record { exact = search (rules, here) }
+    let here = stops_bind c.in_err-binary.field-0.0 (body_of (meaning Binary) c.args.value.now) (or_bad Binary) c.in_err-binary.ensures.exact in record { exact = search (rules, here) }
 
 pub returns-in-Some : goal.returns-in-Some
 returns-in-Some c = record { exact = ap (λ r. r >>= or_bad Binary) (c.in_ok-binary.ensures.exact ∙ ap (λ o. Ok (option_map (λ p. tree.binary p.0.0 p.1.items) o)) c.in-Some.is) }

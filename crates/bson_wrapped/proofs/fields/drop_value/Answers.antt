@@ -1,6 +1,6 @@
 use Rattle.std.proofs.Common.{sym, subst, ap, ◌∙◌}
 use Rattle.bson_datum.specs.Refusal.{at_key, under}
-use Rattle.bson_laws.specs.Judged.{Reading, ignores, plain}
+use Rattle.bson_laws.specs.Judged.{Reading, ignores}
 use Rattle.bson_met.specs.PieceView.{str_piece}
 use Rattle.bson_met.proofs.Refusals.{StopsAs, stops_inside}
 use Rattle.bson_leaves.proofs.Loops.{ignored_at}
@@ -15,4 +15,4 @@ pub returns-in-Err : goal.returns-in-Err
 returns-in-Err c =
     let s = c.args.step.now in
     let here = subst (λ (r : Reading (Unit {0})). StopsAs c.in-Err.stop r) (ignored_at s.value) c.in-Err.ensures.exact in
-    record { exact = stops_inside (at_key (str_piece s.key).bytes) c.in-Err.stop c.under_key.result (ignores plain s.value) c.under_key.ensures.under here }
+    record { exact = stops_inside (at_key (str_piece s.key).bytes) c.in-Err.stop c.under_key.result (ignores s.value) c.under_key.ensures.under here }

@@ -1,6 +1,5 @@
 use Rattle.std.proofs.Common.{◌≡◌, [], ◌∷◌}
 use Rattle.std.specs.Prelude.{option_map}
-use Rattle.bson_laws.specs.Judged.{plain}
 use Rattle.bson_laws.specs.Slots.{fill}
 use Rattle.bson_met.specs.Sizes.{count}
 use Rattle.bson_leaves.proofs.Each.{each}
@@ -12,7 +11,7 @@ use Rattle.bson_wrapped.proofs.fields.two_by_key.Given as goal
 abbrev pub invariant-step : goal.invariant-step
 invariant-step g l =
     each slots_by 0 l.elements (field_slot g.A.FieldValue.form l.first (option_map g.A.FieldValue.seen l.one) ∷ field_slot g.B.FieldValue.form l.second (option_map g.B.FieldValue.seen l.other) ∷ [])
-    ≡ fill plain l.fn.elements (two_slots g.A.FieldValue.form l.first g.B.FieldValue.form l.second)
+    ≡ fill l.fn.elements (two_slots g.A.FieldValue.form l.first g.B.FieldValue.form l.second)
 
 abbrev pub decreases-step : goal.decreases-step
 decreases-step g l = count l.elements

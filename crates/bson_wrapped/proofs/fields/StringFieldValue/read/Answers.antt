@@ -3,7 +3,7 @@ use Rattle.bson_datum.specs.Marked.{Marked}
 use Rattle.bson_datum.specs.Value as value
 use Rattle.bson_rawdoc.specs.Piece.{made}
 use Rattle.std.specs.Prelude.{string_bytes}
-use Rattle.bson_laws.specs.Judged.{Reading, judged, plain}
+use Rattle.bson_laws.specs.Judged.{Reading, judged}
 use Rattle.bson_laws.specs.Taken.{text_of}
 use Rattle.bson_met.specs.Gives.{Reaches}
 use Rattle.bson_leaves.proofs.AnyRead.{reaches_map}
@@ -15,6 +15,6 @@ pub returns : goal.returns
 returns c =
     let n = c.args.value.now in
     record {
-      exact = subst (λ (r : Reading Marked). Reaches (λ s. value.str (made (string_bytes s))) c.own_text.result r) (sym (mapped value.str (judged plain n) (text_of plain false)))
+      exact = subst (λ (r : Reading Marked). Reaches (λ s. value.str (made (string_bytes s))) c.own_text.result r) (sym (mapped value.str (judged n) (text_of false)))
           (reaches_map (λ s. made (string_bytes s)) value.str c.own_text.result (text_at false n) c.own_text.ensures);
     }
