@@ -65,8 +65,8 @@ pub use Rattle.bson_datum.specs.Value
 pub use Rattle.bson_datum.specs.View
 pub use Rattle.bson_datum.specs.Wrapper
 pub use Rattle.bson_reserved.specs.AcceptedView
-pub use Rattle.bson_reserved.specs.Unwrap
-pub use Rattle.bson_reserved.specs.UuidBytes
+pub use Rattle.bson_laws.specs.Unwrap
+pub use Rattle.bson_laws.specs.UuidBytes
 pub use Rattle.bson_laws.specs.Datum
 pub use Rattle.bson_laws.specs.Encodable
 pub use Rattle.bson_laws.specs.Fits
