@@ -87,7 +87,7 @@ pub use Rattle.bson_met.specs.Nulls
 pub use Rattle.bson_met.specs.OpenedView
 pub use Rattle.bson_met.specs.ScalarView
 pub use Rattle.bson_met.specs.ValueView as MetValueView
-pub use Rattle.bson_leaves.specs.ListsMarked
+pub use Rattle.bson_texts.specs.ListsMarked
 pub use Rattle.bson_wrapped.specs.Data
 pub use Rattle.bson_de_raw.specs.Gives
 pub use Rattle.bson_ser_stream.specs.Writing

@@ -9,7 +9,7 @@ ghost use Rattle.bson_laws.specs.Judged.{plain};
 ghost use Rattle.bson_laws.specs.Reads.{reads};
 ghost use Rattle.bson_met.specs.Gives.{Reaches};
 ghost use Rattle.bson_met.specs.PieceView.{str_piece};
-ghost use Rattle.bson_leaves.specs.ListsMarked.{entries_marked};
+ghost use Rattle.bson_texts.specs.ListsMarked.{entries_marked};
 
 use crate::value::read_value;
 use bson_datum::{Datum, Entry};

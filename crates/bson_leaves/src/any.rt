@@ -11,7 +11,7 @@ ghost use Rattle.bson_datum.specs.Value.{no_entries};
 ghost use Rattle.bson_laws.specs.Judged.{plain};
 ghost use Rattle.bson_laws.specs.ReadsLeaf as laws;
 ghost use Rattle.bson_leaves.specs.Any.{any_at, any_within, is_opened, any_items_at, any_entries_at};
-ghost use Rattle.bson_leaves.specs.ListsMarked.{items_marked, entries_marked};
+ghost use Rattle.bson_texts.specs.ListsMarked.{items_marked, entries_marked};
 ghost use Rattle.bson_leaves.specs.Next.{IsNextElement};
 ghost use Rattle.bson_met.specs.Gives.{Reaches};
 

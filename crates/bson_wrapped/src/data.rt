@@ -9,7 +9,7 @@ ghost use Rattle.bson_datum.specs.Value as values;
 ghost use Rattle.bson_laws.specs.Datum.{datum, uuid_datum, one, two, wrapped};
 ghost use Rattle.bson_met.specs.PieceView.{met_text};
 ghost use Rattle.bson_wrapped.specs.Data.{scoped_datum};
-ghost use Rattle.bson_leaves.specs.ListsMarked.{entries_marked};
+ghost use Rattle.bson_texts.specs.ListsMarked.{entries_marked};
 
 use bson_base::{BinarySubtype, DateTime, Decimal128, ObjectId, Regex, Timestamp, Uuid};
 use bson_datum::{ByteStr, Datum, Entry, Field, Text};
@@ -218,7 +218,7 @@ pub fn code<'de>(alloc: Global, code: String) -> Result<Datum<'de>, AllocError>
 /// # Errors
 ///
 /// Memory ran out.
-#[tactic(auto, using(bson_leaves::proofs::MarkedLists::row_entries))]
+#[tactic(auto, using(bson_texts::proofs::MarkedLists::row_entries))]
 pub fn scoped_code<'de>(
     alloc: Global,
     code: String,

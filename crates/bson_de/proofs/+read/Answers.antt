@@ -28,15 +28,15 @@ use Rattle.bson_slots.specs.SlotsView.{slots_view}
 use Rattle.bson_slots.proofs.Elements.{value_put, value_refused, put_filled, unknown_dropped, unknown_refused}
 use Rattle.bson_leaves.specs.EntriesView.{key_form, entries_of}
 use Rattle.bson_leaves.specs.Named.{variant_named}
-use Rattle.bson_leaves.specs.ListsMarked.{items_marked, entries_marked}
-use Rattle.bson_leaves.proofs.Each.{each, step_is, item_is, each_step, each_next, each_stop}
+use Rattle.bson_texts.specs.ListsMarked.{items_marked, entries_marked}
+use Rattle.bson_texts.proofs.Each.{each, step_is, item_is, each_step, each_next, each_stop}
 use Rattle.bson_de.proofs.FieldPlaces.{values_before, places_step, places_stop, places_end, all_left as no_values}
 use Rattle.bson_leaves.proofs.KeyTexts.{key_valued}
-use Rattle.bson_leaves.proofs.Loops.{items_by, items_each, items_push, item_done, item_stops, entries_by, entries_each, entry_done, key_stops, entry_stops, ignored_at}
-use Rattle.bson_leaves.proofs.Mapped.{taken, not_taken}
-use Rattle.bson_leaves.proofs.SlotsFilled.{slots_by, fill_each}
+use Rattle.bson_texts.proofs.Loops.{items_by, items_each, items_push, item_done, item_stops, entries_by, entries_each, entry_done, key_stops, entry_stops, ignored_at}
+use Rattle.bson_texts.proofs.Mapped.{taken, not_taken}
+use Rattle.bson_texts.proofs.SlotsFilled.{slots_by, fill_each}
 use Rattle.bson_de.proofs.Nulls.{option_null}
-use Rattle.bson_leaves.proofs.MarkedLists.{marked-Seq, marked-Tuple, marked-TupleStruct, marked-TupleVariant, marked-Map}
+use Rattle.bson_texts.proofs.MarkedLists.{marked-Seq, marked-Tuple, marked-TupleStruct, marked-TupleVariant, marked-Map}
 use Rattle.bson_de.proofs.Parts.{items_before, parts_step, parts_stop, parts_end, all_left}
 use Rattle.bson_de.proofs.VariantContents.{contents_at_key}
 use Rattle.bson_de.proofs.Variants.{first_read, element_read, content_read, named_smaller, named_content}
