@@ -51,8 +51,13 @@ fn read_entries<'de>(
     let mut step = elements.start();
     'step: while elements.advance(alloc, &mut step)? {
         let key = entries.read_key(step.key)?;
-        let value = read_at_key(alloc, item, &step)?;
-        entries.put(step.key.text, key, value)?;
+        match read_at_key(alloc, item, &step) {
+            Ok(value) => entries.put(step.key.text, key, value)?,
+            Err(stop) => {
+                drop(key);
+                return Err(stop);
+            }
+        }
     }
     Ok(entries.finish())
 }

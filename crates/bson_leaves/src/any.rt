@@ -97,8 +97,9 @@ fn any_entries<'de>(alloc: Global, mut elements: Elements<'de>) -> Reading<Vec<E
     let mut step = elements.start();
     'step: while elements.advance(alloc, &mut step)? {
         let key = step.key;
+        let name = key.to_text(alloc)?;
         match read_any(alloc, &step.value) {
-            Ok(value) => entries.put(key.text, Datum::Str(key.to_text(alloc)?), value)?,
+            Ok(value) => entries.put(key.text, Datum::Str(name), value)?,
             Err(stop) => return Err(stop.under_key(key.text)),
         }
     }

@@ -23,7 +23,9 @@ pub(crate) fn entries_of<'de>(alloc: Global, value: Datum<'de>) -> Reading<Vec<E
     if is_map(&value) {
         return Ok(entries_in(value));
     }
-    Err(refused(alloc, Cause::InvalidType(value.element_type())))
+    let found = value.element_type();
+    drop(value);
+    Err(refused(alloc, Cause::InvalidType(found)))
 }
 
 /// Whether the value is a map.

@@ -73,8 +73,8 @@ pub(crate) fn read_elements<'de>(alloc: Global, mut elements: Elements<'de>) -> 
         if let Some(wrapper) = Wrapper::from_key(step.key.text) {
             return read_wrapped(alloc, wrapper, &step, elements);
         }
-        let value = read_under(alloc, &step)?;
         let key = String::from_str(alloc, step.key.text)?;
+        let value = read_under(alloc, &step)?;
         entries.put(step.key.text, Datum::Str(Text::Owned(key)), value)?;
     }
     Ok(Datum::Map(entries.finish()))

@@ -79,7 +79,7 @@ any_entries-step-init t c =
 pub any_entries-put-requires : goal.any_entries-put-requires
 any_entries-put-requires t c = record {
   indexed = c.step.invariant.1;
-  key = ap (λ s. key_value s c.advance.new.step.key.text.now) c.step.invariant.2 ∙ ap (λ p. Ok (value.str p.bytes)) (sym c.in_ok-to_text-in-Ok.ensures.piece);
+  key = ap (λ s. key_value s c.advance.new.step.key.text.now) c.step.invariant.2 ∙ ap (λ p. Ok (value.str p.bytes)) (sym c.in_ok-name.ensures.piece);
 }
 
 pub any_entries-step-preserved : goal.any_entries-step-preserved
@@ -94,7 +94,7 @@ any_entries-step-preserved t c =
       ap form_view put.key ∙ c.step.invariant.2,
       ap (each (entries_by as_str any_at) 0 c.advance.new.self) put.entries
           ∙ each_next (entries_by as_str any_at) 0 c.step.elements old _ c.step.invariant.3 (λ j k n x. refl) (str_piece s.key) s.value c.advance.new.self _ first
-          (entry_done as_str any_at 0 (str_piece s.key) s.value old _ v (ap (λ p. Ok (value.str p)) (sym c.in_ok-to_text-in-Ok.ensures.piece)) (ap (under (str_piece s.key).bytes) c.in-Ok.ensures.exact)),
+          (entry_done as_str any_at 0 (str_piece s.key) s.value old _ v (ap (λ p. Ok (value.str p)) (sym c.in_ok-name.ensures.piece)) (ap (under (str_piece s.key).bytes) c.in-Ok.ensures.exact)),
     )
 
 pub any_entries-returns-in-Err : goal.any_entries-returns-in-Err
