@@ -65,8 +65,8 @@ pub use Rattle.bson_datum.specs.Value
 pub use Rattle.bson_datum.specs.View
 pub use Rattle.bson_datum.specs.Wrapper
 pub use Rattle.bson_reserved.specs.AcceptedView
-pub use Rattle.bson_reserved.specs.Unwrap
-pub use Rattle.bson_reserved.specs.UuidBytes
+pub use Rattle.bson_laws.specs.Unwrap
+pub use Rattle.bson_laws.specs.UuidBytes
 pub use Rattle.bson_laws.specs.Datum
 pub use Rattle.bson_laws.specs.Encodable
 pub use Rattle.bson_laws.specs.Fits
@@ -87,7 +87,7 @@ pub use Rattle.bson_met.specs.Nulls
 pub use Rattle.bson_met.specs.OpenedView
 pub use Rattle.bson_met.specs.ScalarView
 pub use Rattle.bson_met.specs.ValueView as MetValueView
-pub use Rattle.bson_leaves.specs.ListsMarked
+pub use Rattle.bson_texts.specs.ListsMarked
 pub use Rattle.bson_wrapped.specs.Data
 pub use Rattle.bson_de_raw.specs.Gives
 pub use Rattle.bson_ser_stream.specs.Writing

@@ -3,7 +3,7 @@ ghost use Rattle.std.specs.Prelude.{◌≡◌, IfOk, Some, string_bytes};
 ghost use Rattle.bson_shape.specs.Refusals.{place_of, refusal_text};
 ghost use Rattle.bson_buffers.specs.Judged.{IsJudged};
 
-use bson_datum::{ParseError, Shape};
+use bson_shape::{ParseError, Shape};
 use std::alloc::{AllocError, Global};
 
 /// Why bytes are no shape.

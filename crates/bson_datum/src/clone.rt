@@ -2,8 +2,8 @@ ghost use Rattle.std.specs.Prelude.{◌≡◌, ◌∷◌, IfOk, false};
 ghost use Rattle.bson_datum.specs.TextView.{text_view};
 ghost use Rattle.bson_datum.specs.ByteStrView.{bytes_view};
 ghost use Rattle.bson_datum.specs.Value.{newtype, newtype_variant, tuple_structure, tuple_variant, structure, structure_variant};
-ghost use Rattle.bson_datum.specs.View.{view, items_view, entries_view, fields_view};
-ghost use Rattle.bson_datum.specs.Borrowed.{text_borrowed, bytes_borrowed, borrowed_parts, items_borrowed, entries_borrowed, fields_borrowed, NoneBorrowed, IsOwned};
+ghost use Rattle.bson_datum.specs.View.{view, items_view, entry_view, entries_view, field_view, fields_view};
+ghost use Rattle.bson_datum.specs.Borrowed.{text_borrowed, bytes_borrowed, borrowed_parts, items_borrowed, entry_borrowed, entries_borrowed, field_borrowed, fields_borrowed, NoneBorrowed, IsOwned};
 
 use crate::{ByteStr, Datum, Entry, Field, Text};
 use std::alloc::{AllocError, Global};
@@ -275,12 +275,25 @@ fn copy_entries<'a>(alloc: Global, entries: &[Entry<'a>]) -> Result<Vec<Entry<'a
 {
     let mut copies = Vec::with_capacity(alloc, entries.len())?;
     for entry in entries {
-        copies.push(Entry {
-            key: copy(alloc, &entry.key)?,
-            value: copy(alloc, &entry.value)?,
-        })?;
+        copies.push(copy_entry(alloc, entry)?)?;
     }
     Ok(copies)
+}
+
+// The same entry again.
+#[cycle(copy)]
+fn copy_entry<'a>(alloc: Global, entry: &Entry<'a>) -> Result<Entry<'a>, AllocError>
+    ensures equal { IfOk result (λ e. entry_view e ≡ entry_view entry.now) }
+    ensures borrowed { IfOk result (λ e. entry_borrowed e ≡ entry_borrowed entry.now) }
+{
+    let key = copy(alloc, &entry.key)?;
+    match copy(alloc, &entry.value) {
+        Ok(value) => Ok(Entry { key, value }),
+        Err(error) => {
+            drop(key);
+            Err(error)
+        }
+    }
 }
 
 // The same fields again.
@@ -291,12 +304,20 @@ fn copy_fields<'a>(alloc: Global, fields: &[Field<'a>]) -> Result<Vec<Field<'a>>
 {
     let mut copies = Vec::with_capacity(alloc, fields.len())?;
     for field in fields {
-        copies.push(Field {
-            name: field.name.try_clone(alloc)?,
-            value: copy(alloc, &field.value)?,
-        })?;
+        copies.push(copy_field(alloc, field)?)?;
     }
     Ok(copies)
+}
+
+// The same field again.
+#[cycle(copy)]
+fn copy_field<'a>(alloc: Global, field: &Field<'a>) -> Result<Field<'a>, AllocError>
+    ensures equal { IfOk result (λ f. field_view f ≡ field_view field.now) }
+    ensures borrowed { IfOk result (λ f. field_borrowed f ≡ field_borrowed field.now) }
+{
+    let name = field.name.try_clone(alloc)?;
+    let value = copy(alloc, &field.value)?;
+    Ok(Field { name, value })
 }
 
 // The same datum, with nothing borrowed in it.
@@ -476,12 +497,32 @@ fn owned_entries<'x>(alloc: Global, entries: Vec<Entry<'_>>) -> Result<Vec<Entry
 {
     let mut copies = Vec::with_capacity(alloc, entries.len())?;
     for entry in entries {
-        copies.push(Entry {
-            key: owned(alloc, entry.key)?,
-            value: owned(alloc, entry.value)?,
-        })?;
+        copies.push(owned_entry(alloc, entry)?)?;
     }
     Ok(copies)
+}
+
+// The same entry, with nothing borrowed in it.
+#[cycle(owned)]
+fn owned_entry<'x>(alloc: Global, entry: Entry<'_>) -> Result<Entry<'x>, AllocError>
+    ensures equal { IfOk result (λ e. entry_view e ≡ entry_view entry.entry) }
+    ensures owned { IfOk result (λ e. NoneBorrowed (entry_borrowed e)) }
+{
+    let Entry { key, value } = entry;
+    let key = match owned(alloc, key) {
+        Ok(key) => key,
+        Err(error) => {
+            drop(value);
+            return Err(error);
+        }
+    };
+    match owned(alloc, value) {
+        Ok(value) => Ok(Entry { key, value }),
+        Err(error) => {
+            drop(key);
+            Err(error)
+        }
+    }
 }
 
 // The same fields, with nothing borrowed in them.
@@ -492,10 +533,24 @@ fn owned_fields<'x>(alloc: Global, fields: Vec<Field<'_>>) -> Result<Vec<Field<'
 {
     let mut copies = Vec::with_capacity(alloc, fields.len())?;
     for field in fields {
-        copies.push(Field {
-            name: field.name.into_owned(alloc)?,
-            value: owned(alloc, field.value)?,
-        })?;
+        copies.push(owned_field(alloc, field)?)?;
     }
     Ok(copies)
+}
+
+// The same field, with nothing borrowed in it.
+#[cycle(owned)]
+fn owned_field<'x>(alloc: Global, field: Field<'_>) -> Result<Field<'x>, AllocError>
+    ensures equal { IfOk result (λ f. field_view f ≡ field_view field.entry) }
+    ensures owned { IfOk result (λ f. NoneBorrowed (field_borrowed f)) }
+{
+    let Field { name, value } = field;
+    let value = owned(alloc, value)?;
+    match name.into_owned(alloc) {
+        Ok(name) => Ok(Field { name, value }),
+        Err(error) => {
+            drop(value);
+            Err(error)
+        }
+    }
 }

@@ -15,7 +15,7 @@ use Rattle.bson_datum.specs.declared.stop.Stop.{Stop}
 use Rattle.bson_laws.specs.Judged.{Reading}
 use Rattle.bson_laws.specs.Reads.{reads, reads_parts}
 use Rattle.bson_met.proofs.Refusals.{StopsAs, stops_bind, stops_map}
-use Rattle.bson_leaves.specs.ListsMarked.{items_marked}
+use Rattle.bson_texts.specs.ListsMarked.{items_marked}
 use Rattle.bson_slots.specs.NextValue.{next_value, behind_first}
 use Rattle.bson_slots.proofs.DueNext.{next_parts}
 

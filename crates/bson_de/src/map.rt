@@ -8,7 +8,7 @@ ghost use Rattle.bson_laws.specs.Containers.{reads_entries, reads_key};
 ghost use Rattle.bson_laws.specs.Reads.{reads};
 ghost use Rattle.bson_met.specs.Gives.{Reaches};
 ghost use Rattle.bson_met.specs.PieceView.{str_piece};
-ghost use Rattle.bson_leaves.specs.ListsMarked.{entries_marked};
+ghost use Rattle.bson_texts.specs.ListsMarked.{entries_marked};
 
 use crate::value::read_value;
 use bson_datum::{Datum, Entry};
@@ -50,8 +50,13 @@ fn read_entries<'de>(
     let mut step = elements.start();
     'step: while elements.advance(alloc, &mut step)? {
         let key = entries.read_key(step.key)?;
-        let value = read_at_key(alloc, item, &step)?;
-        entries.put(step.key.text, key, value)?;
+        match read_at_key(alloc, item, &step) {
+            Ok(value) => entries.put(step.key.text, key, value)?,
+            Err(stop) => {
+                drop(key);
+                return Err(stop);
+            }
+        }
     }
     Ok(entries.finish())
 }

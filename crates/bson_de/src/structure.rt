@@ -14,10 +14,10 @@ ghost use Rattle.bson_slots.specs.FieldsRead.{fields_read, fields_by_key};
 use crate::tuple::read_next;
 use crate::value::read_value;
 use bson_datum::{Cause, Datum, Field};
-use bson_leaves::ignore;
 use bson_met::{Elements, Items, Met, Reading, Step, Value, refused};
 use bson_shape::FieldShape;
 use bson_slots::{NameIndex, Slots, named_field, named_struct};
+use bson_texts::ignore;
 use std::alloc::Global;
 
 /// The value at a struct of this name with these fields.

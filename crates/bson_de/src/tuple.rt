@@ -5,7 +5,7 @@ ghost use Rattle.bson_shape.specs.ShapeView.{parts_of};
 ghost use Rattle.bson_datum.specs.MarkedView.{marked};
 ghost use Rattle.bson_laws.specs.Reads.{reads, reads_parts};
 ghost use Rattle.bson_met.specs.Gives.{Reaches};
-ghost use Rattle.bson_leaves.specs.ListsMarked.{items_marked};
+ghost use Rattle.bson_texts.specs.ListsMarked.{items_marked};
 ghost use Rattle.bson_slots.specs.NextValue.{next_value, behind_first};
 
 use crate::value::read_item;

@@ -4,7 +4,7 @@ ghost use Rattle.bson_datum.specs.Refusal.{under_index};
 ghost use Rattle.bson_laws.specs.Containers.{reads_items};
 ghost use Rattle.bson_laws.specs.Reads.{reads};
 ghost use Rattle.bson_met.specs.Gives.{Reaches};
-ghost use Rattle.bson_leaves.specs.ListsMarked.{items_marked};
+ghost use Rattle.bson_texts.specs.ListsMarked.{items_marked};
 
 use crate::enumeration::read_enum;
 use crate::leaf::read_leaf_at;

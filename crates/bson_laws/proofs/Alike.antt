@@ -4,7 +4,7 @@ use Rattle.std.specs.Prelude.{option_and_then, codes}
 use Rattle.std.specs.Str.{bytes_eq}
 use Rattle.bson_base.specs.Text.{Utf8}
 use Rattle.bson_datum.specs.Value.{Value, str, map, Entries}
-use Rattle.bson_reserved.specs.Unwrap.{Part, a_key, a_value, next_key, next_text, next_map, end_as, scoped_code}
+use Rattle.bson_laws.specs.Unwrap.{Part, a_key, a_value, next_key, next_text, next_map, end_as, scoped_code}
 
 -- as many parts, with the same keys and the same values, which are written alike
 abbrev pub AreAlike : {S T : Type 0} → (Value → S → T → Type 0) → List (Part S) → List (Part T) → Type 0

@@ -11,7 +11,7 @@ use Rattle.bson_base.proofs.KindBytes.{of_byte-byte}
 use Rattle.bson_base.proofs.Outcomes.{some_is, some_map, some_then, ok_is}
 use Rattle.bson_datum.specs.Value as value
 use Rattle.bson_datum.specs.Value.{item, entry}
-use Rattle.bson_reserved.specs.Written.{Writing, with_scope, spell_whole}
+use Rattle.bson_laws.specs.Written.{Writing, with_scope, spell_whole}
 use Rattle.bson_laws.specs.Datum.{datum, itself, two, pair_data, tree_data, sorted_tree, sorted_pairs, sorted_trees}
 use Rattle.bson_laws.specs.InRange.{IsInRange, ArePairsInRange, AreTreesInRange}
 use Rattle.bson_laws.specs.Means.{unwrapped_means, means, means_items, means_entries, norm, norm_items, norm_entries}

@@ -21,8 +21,8 @@ use Rattle.bson_base.proofs.WrittenTexts.{digits_read, subtype_read, integer_rea
 use Rattle.bson_datum.specs.Value as value
 use Rattle.bson_datum.specs.Value.{i64, Value, FieldValues}
 use Rattle.bson_datum.specs.Refusal.{here, invalid_cstring, unsigned_exceeds, under, under_index}
-use Rattle.bson_reserved.specs.Unwrap.{Part, a_value, next_key, next_unsigned, end_as, unwrap, or_else}
-use Rattle.bson_reserved.specs.Written.{with_scope, zero_free}
+use Rattle.bson_laws.specs.Unwrap.{Part, a_value, next_key, next_unsigned, end_as, unwrap, or_else}
+use Rattle.bson_laws.specs.Written.{with_scope, zero_free}
 use Rattle.bson_laws.specs.Datum.{itself, datum, pair_data, tree_data, uuid_datum, sorted_tree, sorted_pairs, sorted_trees}
 use Rattle.bson_laws.specs.Encodable.{IsEncodable, ArePairsEncodable, AreTreesEncodable}
 use Rattle.bson_laws.specs.InRange.{IsInRange, ArePairsInRange, AreTreesInRange}

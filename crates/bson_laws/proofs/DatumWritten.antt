@@ -10,7 +10,7 @@ use Rattle.bson_base.specs.Tree.{Tree, Pairs, no_pairs, pair, Trees, no_trees, d
 use Rattle.bson_base.proofs.Outcomes.{some_is, ok_is, map_ok, bind_ok}
 use Rattle.bson_datum.specs.Refusal.{WriteFault, Refusal, at_index, under, under_index}
 use Rattle.bson_datum.specs.Value as value
-use Rattle.bson_reserved.specs.Written.{with_scope, spell_binary, spell_whole, spell_unwrapped}
+use Rattle.bson_laws.specs.Written.{with_scope, spell_binary, spell_whole, spell_unwrapped}
 use Rattle.bson_laws.specs.Datum.{datum, itself, pair_data, tree_data, sorted_tree, sorted_pairs, sorted_trees}
 use Rattle.bson_laws.specs.Encodable.{IsEncodable, ArePairsEncodable, AreTreesEncodable}
 use Rattle.bson_laws.specs.InRange.{IsInRange, ArePairsInRange, AreTreesInRange}

@@ -9,8 +9,8 @@ use Rattle.bson_base.specs.Tree.{binary, document}
 use Rattle.bson_base.specs.declared.element_type.ElementType.TheVariants.{Binary}
 use Rattle.bson_shape.specs.Makers.{reserved_newtypes, is_reserved_newtype}
 use Rattle.bson_datum.specs.Value.{Value, newtype, structure, FieldValues, uuid_newtype, readable_newtype, readable_inside, kind_as, kind_of}
-use Rattle.bson_reserved.specs.Unwrap.{unwrap, scoped_code}
-use Rattle.bson_reserved.specs.UuidBytes.{uuid_bytes}
+use Rattle.bson_laws.specs.Unwrap.{unwrap, scoped_code}
+use Rattle.bson_laws.specs.UuidBytes.{uuid_bytes}
 use Rattle.bson_laws.specs.Means.{norm_struct, norm, norm_fields, struct_means, reserved_means, means, means_fields, means_list}
 use Rattle.bson_laws.specs.Spell.{spell_uuid, enclosed_at, struct_at, reserved_at, spell_as, spell_list, spell, spell_fields}
 

@@ -19,9 +19,9 @@ use Rattle.bson_datum.specs.Refusal.{Segment, unwritable, here, inside, under, a
 use Rattle.bson_laws.specs.Means.{key_text}
 use Rattle.bson_laws.specs.Leaves.{LeafKind, anything, ignored, booleans, numbers, doubles, characters, texts, byte_strings, byte_buffers, units, ExtendedLeaf, object_ids, uuids, of_kind, trees, documents, extended_values, leaf_kind}
 use Rattle.bson_laws.specs.Datum.{datum, itself, pair_data, tree_data}
-use Rattle.bson_reserved.specs.Unwrap.{Part, unwrap, scoped_code}
-use Rattle.bson_reserved.specs.UuidBytes.{uuid_bytes}
-use Rattle.bson_reserved.specs.Written.{zero_free, with_scope}
+use Rattle.bson_laws.specs.Unwrap.{Part, unwrap, scoped_code}
+use Rattle.bson_laws.specs.UuidBytes.{uuid_bytes}
+use Rattle.bson_laws.specs.Written.{zero_free, with_scope}
 use Rattle.bson_laws.specs.Spell.{Writing, spell_binary, spell_whole, spell_unwrapped, spell_scoped, spell_uuid, struct_at, reserved_at, enclosed_at, variant_at, named, written_key, spell_key, spell_number, spell_as, spell_items_as, spell_entries_as, spell_fields_as, spell_list, spell_part, spell, at_top, HoldsNumbers}
 use Rattle.bson_laws.proofs.Alike.{AreAlike, Both, SameScope, scopes_alike}
 use Rattle.bson_laws.proofs.Given.{IsGivenAny, AreGivenItems, AreGivenEntries, IsGivenLeaf, IsGiven, ItemsGiven, PartsGiven, EntriesGiven, FieldsGiven, given_leaf}

@@ -16,9 +16,9 @@ use Rattle.bson_base.proofs.Outcomes.{some_map, some_then}
 use Rattle.bson_shape.specs.Makers.{is_reserved_newtype}
 use Rattle.bson_datum.specs.Value.{written_as, Value, boolean, integer, double, character, str, bytes, none, some, unit, unit_structure, newtype, sequence, map, structure, unit_variant, newtype_variant, tuple, tuple_structure, tuple_variant, structure_variant, mode, Items, no_items, item, Entries, no_entries, entry, FieldValues, no_field_values, field_value, uuid_newtype, readable_inside}
 use Rattle.bson_datum.specs.Refusal.{WriteFault, Refusal, here, invalid_cstring, under, under_index}
-use Rattle.bson_reserved.specs.Unwrap.{Part, unwrap, scoped_code}
-use Rattle.bson_reserved.specs.UuidBytes.{uuid_bytes}
-use Rattle.bson_reserved.specs.Written.{with_scope}
+use Rattle.bson_laws.specs.Unwrap.{Part, unwrap, scoped_code}
+use Rattle.bson_laws.specs.UuidBytes.{uuid_bytes}
+use Rattle.bson_laws.specs.Written.{with_scope}
 use Rattle.bson_laws.specs.Means.{under_name, key_text, scoped_means, reserved_means, struct_means, means_entries, number_of, means, means_items, means_fields, means_list, means_part}
 use Rattle.bson_laws.specs.Spell.{named, variant_at, written_key, spell_entries, Writing, spell_number, spell_binary, spell_whole, spell_unwrapped, spell_scoped, spell_uuid, enclosed_at, struct_at, reserved_at, spell_as, spell_list, spell_part, spell, spell_items, spell_fields, at_top, spell_document, size}
 use Rattle.bson_laws.proofs.Alike.{AreAlike, Both, SameScope, scopes_alike}

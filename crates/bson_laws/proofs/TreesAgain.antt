@@ -15,7 +15,7 @@ use Rattle.bson_datum.specs.Marked.{Marked, contents}
 use Rattle.bson_datum.specs.Refusal.{at_index, under, under_index}
 use Rattle.bson_datum.specs.Value as value
 use Rattle.bson_datum.specs.Value.{Value}
-use Rattle.bson_reserved.specs.Written.{Writing, with_scope}
+use Rattle.bson_laws.specs.Written.{Writing, with_scope}
 use Rattle.bson_laws.specs.Datum.{datum, itself, pair_data, tree_data, uuid_datum}
 use Rattle.bson_laws.specs.Leaves as leaf_kinds
 use Rattle.bson_laws.specs.Leaves.{ExtendedLeaf, object_ids, uuids, of_kind, documents}

@@ -29,8 +29,8 @@ use Rattle.bson_laws.specs.Datum.{datum, itself, uuid_datum, sorted_tree}
 use Rattle.bson_laws.specs.Judged.{refused}
 use Rattle.bson_laws.specs.Variants.{content_of}
 use Rattle.bson_laws.specs.Views.{views_extended, one_character, views_any, views_any_items, views_any_entries, views_leaf, views_leaf_key, views_items, views_key, views_entries, absent, views_at, views, views_fields, views_parts, views_variant, views_content}
-use Rattle.bson_reserved.specs.Unwrap.{unwrap, scoped_code}
-use Rattle.bson_reserved.specs.Written.{with_scope}
+use Rattle.bson_laws.specs.Unwrap.{unwrap, scoped_code}
+use Rattle.bson_laws.specs.Written.{with_scope}
 use Rattle.bson_laws.specs.Spell.{Writing, spell_whole}
 use Rattle.bson_laws.specs.Means.{number_of, some_or_none, under_name, reserved_means, struct_means, means_list, means, means_items, means_entries, means_fields, norm, norm_items, norm_entries, norm_fields}
 use Rattle.bson_laws.specs.Fits.{IsTreeValue, IsValueOfKind, IsUuidValue, FitsExtended, IsText, IsAny, AreAnyItems, AreAnyEntries, FitsLeaf, FitsLeafKey, FitsKey, Fits, ItemsFit, PartsFit, EntriesFit, FieldsFit}

@@ -1,3 +1,6 @@
+pub mod Unwrap
+pub mod UuidBytes
+pub mod Written
 pub mod Leaves
 pub mod Variants
 pub mod Datum

@@ -11,9 +11,9 @@ use Rattle.bson_base.specs.Tree as tree
 use Rattle.bson_base.specs.Tree.{Tree, string, document, array, binary, null, int32, int64, Pairs, no_pairs, pair, Trees, no_trees}
 use Rattle.bson_shape.specs.Makers.{is_reserved_newtype}
 use Rattle.bson_datum.specs.Value.{i64, greatest, written_as, Value, boolean, integer, double, character, str, bytes, none, some, unit, unit_structure, newtype, sequence, map, structure, unit_variant, newtype_variant, tuple, tuple_structure, tuple_variant, structure_variant, mode, uuid_newtype, Items, no_items, item, Entries, no_entries, entry, FieldValues, no_field_values, field_value}
-use Rattle.bson_reserved.specs.Unwrap.{Part, a_key, a_value, unwrap, scoped_code}
-use Rattle.bson_reserved.specs.UuidBytes.{uuid_bytes}
-use Rattle.bson_reserved.specs.Written.{with_scope, spell_whole}
+use Rattle.bson_laws.specs.Unwrap.{Part, a_key, a_value, unwrap, scoped_code}
+use Rattle.bson_laws.specs.UuidBytes.{uuid_bytes}
+use Rattle.bson_laws.specs.Written.{with_scope, spell_whole}
 
 -- a number as a value of a kind; an Int64 is none that is greater than the greatest of `i64`
 abbrev pub number_of : ElementType → ℤ → Option Tree

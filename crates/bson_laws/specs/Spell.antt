@@ -15,9 +15,9 @@ use Rattle.bson_datum.specs.Value.{i64, greatest, written_as, Value, boolean, in
 use Rattle.bson_datum.specs.Cause.{too_deep, binary_too_long, top_level}
 use Rattle.bson_datum.specs.Refusal.{WriteFault, unwritable, invalid_document_key, invalid_cstring, unsigned_exceeds, here, under, under_index}
 use Rattle.bson_laws.specs.Means.{number_of, key_text}
-use Rattle.bson_reserved.specs.UuidBytes.{uuid_bytes}
-use Rattle.bson_reserved.specs.Unwrap.{Part, a_key, a_value, unwrap, scoped_code}
-pub use Rattle.bson_reserved.specs.Written.{Writing, spell_binary, spell_whole, spell_unwrapped, spell_scoped, spell_uuid, written_size}
+use Rattle.bson_laws.specs.UuidBytes.{uuid_bytes}
+use Rattle.bson_laws.specs.Unwrap.{Part, a_key, a_value, unwrap, scoped_code}
+pub use Rattle.bson_laws.specs.Written.{Writing, spell_binary, spell_whole, spell_unwrapped, spell_scoped, spell_uuid, written_size}
 
 -- a document or an array takes one of the levels that are left, and its parts are written with the others
 abbrev pub enclosed_at : {A : Type 0} → (A → Tree) → ℕ → (ℕ → Writing A) → Writing Tree

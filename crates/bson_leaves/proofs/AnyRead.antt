@@ -1,30 +1,49 @@
 -- Values without a shape, by the items of arrays and the entries of documents.
-use Rattle.std.proofs.Common.{◌≡◌, ℕ, zero, suc, ◌-◌, ◌<◌, true, Option, Some, None, Result, Ok, Err, refl, ap, sym, ◌∙◌, arith}
+use Rattle.std.proofs.Common.{◌≡◌, ℕ, zero, suc, ◌-◌, ◌<◌, true, Option, Some, None, Ok, refl, ap, sym, ◌∙◌, arith}
 use Rattle.bson_base.specs.Text.{Bytes}
 use Rattle.bson_base.specs.Outcome.{◌>>=◌, result_map}
 use Rattle.bson_base.proofs.Outcomes.{bind_ok}
 use Rattle.bson_base.specs.declared.element_type.ElementType.{ElementType}
 use Rattle.bson_base.specs.declared.element_type.ElementType.TheVariants as kinds
-use Rattle.bson_rawdoc.specs.Node.{Node, document, array, extended, Nodes, then_node, nodes_with, node_in, inner_node, value_node}
-use Rattle.bson_rawdoc.specs.Piece.{borrowed}
+use Rattle.bson_rawdoc.specs.Node.{Node, document, array, extended, Nodes, ended, faulty, then_node, nodes_with, node_in, inner_node, value_node}
+use Rattle.bson_rawdoc.specs.Piece.{Piece, borrowed}
 use Rattle.bson_rawdoc.specs.RawValue as raws
 use Rattle.bson_rawdoc.specs.RawValue.{RawValue, value_in}
 use Rattle.bson_rawdoc.specs.Walk.{Element, Walk, then_walk, walk}
-use Rattle.bson_datum.specs.declared.de.Fault.{Fault}
-use Rattle.bson_datum.specs.declared.stop.Stop.{Stop}
+use Rattle.bson_datum.specs.Marked.{Marked, MarkedEntries}
+use Rattle.bson_datum.specs.Refusal.{under, under_index}
 use Rattle.bson_datum.specs.Value as value
-use Rattle.bson_datum.specs.Value.{no_entries}
+use Rattle.bson_datum.specs.Value.{item, no_entries}
+use Rattle.bson_laws.specs.Containers.{reads_items, reads_entries}
 use Rattle.bson_laws.specs.Judged.{Reading, judged, with_level}
-use Rattle.bson_laws.specs.ReadsLeaf.{any_entries}
+use Rattle.bson_laws.specs.ReadsLeaf.{put_entry, read_any, any_items, any_entries}
 use Rattle.bson_laws.specs.Taken.{document_of}
 use Rattle.bson_laws.proofs.Tame.{judged_is}
 use Rattle.bson_met.specs.MetView.{document_at}
 use Rattle.bson_met.specs.Sizes.{size, sizes}
-use Rattle.bson_met.specs.Gives.{Reaches}
-use Rattle.bson_met.proofs.Refusals.{stops_map}
 use Rattle.bson_met.proofs.Judging.{judged_good}
+use Rattle.bson_texts.proofs.Loops.{bind_same, judged_same}
 use Rattle.bson_leaves.specs.Any.{any_at, any_within, is_opened, any_items_at, any_entries_at}
 use Rattle.bson_leaves.specs.Next.{IsNextElement}
+
+-- ---- items and entries
+
+pub any_items_are : (i : ℕ) (ns : Nodes) → any_items i ns ≡ reads_items any_at i ns
+any_items_are i ended = refl
+any_items_are i (faulty e) = refl
+any_items_are i (then_node k n ns) =
+    (λ j. under_index i (sym (judged_same n (read_any)) j) >>= λ v. result_map (item v) (any_items_are (suc i) ns j))
+
+-- a key that is read as a text of the same marks
+abbrev pub as_str : Piece → Reading Marked
+as_str k = Ok (value.str k)
+
+pub any_entries_are : (ns : Nodes) (es : MarkedEntries) → any_entries ns es ≡ reads_entries as_str any_at ns es
+any_entries_are ended es = refl
+any_entries_are (faulty e) es = refl
+any_entries_are (then_node k n ns) es =
+    ap (λ r. under k.bytes r >>= λ v. any_entries ns (put_entry (value.str k) v es)) (sym (judged_same n (read_any)))
+    ∙ bind_same (under k.bytes (any_at n)) (λ v. any_entries ns (put_entry (value.str k) v es)) (λ v. reads_entries as_str any_at ns (put_entry (value.str k) v es)) (λ v. any_entries_are ns (put_entry (value.str k) v es))
 
 -- ---- values of the input
 
@@ -93,8 +112,3 @@ document_of_smaller m ns e = absurd cc
 
 pub document_smaller : (n : Node) (ns : Nodes) → document_at n ≡ Ok ns → sizes ns < size n
 document_smaller n ns e = let j = bind_ok (judged n) document_of ns e in omega (arith, document_of_smaller j.0 ns j.2, ap size (judged_is n j.0 j.1))
-
--- what is made of an answer is what the code makes of its own
-pub reaches_map : {X Y Z : Type 0} (see : X → Y) (f : Y → Z) (r : Result X (Stop Fault)) (x : Reading Y) → Reaches see r x → Reaches (λ v. f (see v)) r (result_map f x)
-reaches_map see f (Ok v) x h = ap (result_map f) h
-reaches_map see f (Err s) x h = stops_map s f x h

@@ -15,7 +15,7 @@ use Rattle.bson_datum.specs.Marked.{Marked, MarkedEntries, contents}
 use Rattle.bson_datum.specs.Value.{Value, entry}
 use Rattle.bson_datum.specs.MarkedView.{marked}
 use Rattle.bson_leaves.specs.KeyValues.{key_value}
-use Rattle.bson_leaves.specs.ListsMarked.{entries_marked}
+use Rattle.bson_texts.specs.ListsMarked.{entries_marked}
 use Rattle.bson_datum.specs.declared.datum.Entry.{Entry}
 use Rattle.bson_laws.specs.ReadsLeaf.{put_entry}
 use Rattle.std.specs.Prelude.{option_map}

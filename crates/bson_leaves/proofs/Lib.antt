@@ -1,12 +1,5 @@
 pub mod AnyRead
-pub mod Characters
-pub mod Each
 pub mod KeyedEntries
 pub mod KeyTexts
-pub mod Loops
-pub mod Mapped
-pub mod MarkedLists
 pub mod NumberLeaves
-pub mod SlotsFilled
-pub mod Texts
 pub mod Variants

@@ -15,7 +15,7 @@ use Rattle.bson_laws.specs.ReadsLeaf.{borrows}
 use Rattle.bson_laws.specs.Reads.{reads, read_leaf}
 use Rattle.bson_laws.specs.Taken.{integer_of}
 use Rattle.bson_met.specs.MetView.{integer_at}
-use Rattle.bson_leaves.specs.Leaves.{number_as, number_at, reads_number}
+use Rattle.bson_texts.specs.Leaves.{number_as, number_at, reads_number}
 
 abbrev TakesNumbers : Leaf → Type 0
 TakesNumbers l = (l ≡ I8) ⊎ (l ≡ I16) ⊎ (l ≡ I32) ⊎ (l ≡ I64) ⊎ (l ≡ U8) ⊎ (l ≡ U16) ⊎ (l ≡ U32) ⊎ (l ≡ U64)

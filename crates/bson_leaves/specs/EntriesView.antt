@@ -10,7 +10,7 @@ use Rattle.bson_datum.specs.Marked.{MarkedEntries, contents}
 use Rattle.bson_datum.specs.Value.{Value, no_entries, entry}
 use Rattle.bson_datum.specs.declared.datum.Entry.{Entry}
 use Rattle.bson_leaves.specs.KeyValues.{key_value}
-use Rattle.bson_leaves.specs.ListsMarked.{entries_marked}
+use Rattle.bson_texts.specs.ListsMarked.{entries_marked}
 use Rattle.bson_keys.specs.KeysView.{key_place, HasPlacesBelow}
 use Rattle.bson_leaves.specs.declared.entries.Entries as code
 

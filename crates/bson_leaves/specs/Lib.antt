@@ -2,8 +2,5 @@ pub mod Any
 pub mod EntriesView
 pub mod Extended
 pub mod KeyValues
-pub mod Leaves
-pub mod ListsMarked
 pub mod Named
 pub mod Next
-pub mod Passes

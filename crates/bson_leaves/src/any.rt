@@ -10,7 +10,7 @@ ghost use Rattle.bson_datum.specs.Value as values;
 ghost use Rattle.bson_datum.specs.Value.{no_entries};
 ghost use Rattle.bson_laws.specs.ReadsLeaf as laws;
 ghost use Rattle.bson_leaves.specs.Any.{any_at, any_within, is_opened, any_items_at, any_entries_at};
-ghost use Rattle.bson_leaves.specs.ListsMarked.{items_marked, entries_marked};
+ghost use Rattle.bson_texts.specs.ListsMarked.{items_marked, entries_marked};
 ghost use Rattle.bson_leaves.specs.Next.{IsNextElement};
 ghost use Rattle.bson_met.specs.Gives.{Reaches};
 
@@ -96,8 +96,9 @@ fn any_entries<'de>(alloc: Global, mut elements: Elements<'de>) -> Reading<Vec<E
     let mut step = elements.start();
     'step: while elements.advance(alloc, &mut step)? {
         let key = step.key;
+        let name = key.to_text(alloc)?;
         match read_any(alloc, &step.value) {
-            Ok(value) => entries.put(key.text, Datum::Str(key.to_text(alloc)?), value)?,
+            Ok(value) => entries.put(key.text, Datum::Str(name), value)?,
             Err(stop) => return Err(stop.under_key(key.text)),
         }
     }

@@ -12,14 +12,14 @@ ghost use Rattle.bson_laws.specs.ReadsLeaf.{put_entry};
 ghost use Rattle.bson_met.specs.Gives.{Reaches};
 ghost use Rattle.bson_met.specs.PieceView.{str_piece};
 ghost use Rattle.bson_leaves.specs.KeyValues.{key_value};
-ghost use Rattle.bson_leaves.specs.ListsMarked.{entries_marked};
+ghost use Rattle.bson_texts.specs.ListsMarked.{entries_marked};
 
-use crate::text::character;
 use crate::unit::unit_of;
 use bson_datum::{Datum, Entry, Text};
 use bson_keys::Keys;
 use bson_met::{MetStr, Reading};
 use bson_shape::{Form, Leaf};
+use bson_texts::character;
 use std::alloc::{AllocError, Global};
 
 /// The entries of a map that is read. No two have one key.

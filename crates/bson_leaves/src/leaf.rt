@@ -6,15 +6,13 @@ ghost use Rattle.bson_laws.specs.Leaves.{leaf_kind};
 ghost use Rattle.bson_laws.specs.Reads.{reads};
 ghost use Rattle.bson_met.specs.Gives.{Reaches};
 ghost use Rattle.bson_leaves.specs.Extended as leaves;
-ghost use Rattle.bson_leaves.specs.Leaves.{number_as, reads_number, null_at};
+ghost use Rattle.bson_texts.specs.Leaves.{number_as, reads_number, null_at};
 
 use crate::any::any_leaf;
-use crate::byte_string::{borrow_bytes, buffer};
-use crate::ignored::ignore;
-use crate::text::{borrow_text, character_leaf, own_text};
 use bson_datum::{ByteStr, Cause, Datum, Text};
 use bson_met::{Met, Reading, Value, refused};
 use bson_shape::Leaf;
+use bson_texts::{borrow_bytes, borrow_text, buffer, character_leaf, ignore, own_text};
 use std::alloc::Global;
 
 /// Whether serde's data model lacks the values of a leaf.

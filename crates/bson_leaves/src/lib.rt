@@ -2,16 +2,10 @@
 #![tactic(auto)]
 
 mod any;
-mod byte_string;
 mod entries;
-mod ignored;
 mod leaf;
-mod text;
 mod unit;
 
-pub use byte_string::buffer;
 pub use entries::Entries;
-pub use ignored::ignore;
 pub use leaf::{is_extended, null, read_leaf};
-pub use text::own_text;
 pub use unit::{unit_of, variant_of};

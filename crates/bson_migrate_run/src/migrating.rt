@@ -4,10 +4,10 @@ ghost use Rattle.bson_recast_run.specs.Recasting.{recast_of};
 ghost use Rattle.bson_migrate_run.specs.Migrating.{migration_of, migrated, IsMigration};
 ghost use Rattle.bson_migrate_run.specs.Step.{IsOneMigrated};
 
-use bson_datum::Shape;
 use bson_io::Out;
 use bson_rawdoc::RawDocuments;
 use bson_recast_run::{RecastError, recast_to_buf};
+use bson_shape::Shape;
 use std::alloc::{AllocError, Global};
 use std::error::Error;
 use std::fmt;

@@ -11,11 +11,12 @@ ghost use Rattle.bson_laws.specs.Writable.{IsWritable};
 ghost use Rattle.bson_de_raw.specs.Gives.{Gives};
 ghost use Rattle.bson_recast_run.specs.Recasting.{recast_of, writes, IsRecast, IsAppended, GivesBytes, IsForSize, IsForNoNumber, IfUnwritten};
 
-use bson_datum::{Datum, Shape, de, ser};
+use bson_datum::{Datum, de, ser};
 use bson_de_raw::from_slice_at;
 use bson_io::{Out, Steps, Tally};
 use bson_one_pass::recast_at_once;
 use bson_ser_stream::to_buf;
+use bson_shape::Shape;
 use std::alloc::{AllocError, Global};
 use std::error::Error;
 use std::fmt;

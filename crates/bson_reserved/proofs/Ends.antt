@@ -2,7 +2,7 @@
 use Rattle.std.proofs.Common.{◌≡◌, List, [], ◌∷◌, refl}
 use Rattle.std.specs.Prelude.{option_map, IfSome}
 use Rattle.bson_datum.specs.Value.{Value}
-use Rattle.bson_reserved.specs.Unwrap.{Part, end_as}
+use Rattle.bson_laws.specs.Unwrap.{Part, end_as}
 
 pub map_ends : {A B : Type 0} (view : A → B) (a : A) (list : List (Part Value)) → option_map view (end_as a list) ≡ end_as (view a) list
 map_ends view a [] = refl

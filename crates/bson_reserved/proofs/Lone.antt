@@ -4,7 +4,7 @@ use Rattle.std.specs.Prelude.{is_some}
 use Rattle.bson_base.specs.Text.{Utf8}
 use Rattle.bson_datum.specs.View.{fields_view}
 use Rattle.bson_datum.specs.declared.datum.Field.{Field}
-use Rattle.bson_reserved.specs.Unwrap.{lone_field}
+use Rattle.bson_laws.specs.Unwrap.{lone_field}
 
 pub not_lone : (name : Utf8) (field : Field) (rest : List Field) → false ≡ (length rest == 0) → false ≡ is_some (lone_field name (fields_view (field ∷ rest)))
 not_lone name field [] e = e ∙ cc

@@ -2,8 +2,8 @@
 use Rattle.std.specs.Prelude.{List, map}
 use Rattle.bson_datum.specs.Value.{Value}
 use Rattle.bson_datum.specs.View.{view}
-use Rattle.bson_reserved.specs.Unwrap as unwrap
-use Rattle.bson_reserved.specs.Unwrap.{a_key, a_value}
+use Rattle.bson_laws.specs.Unwrap as unwrap
+use Rattle.bson_laws.specs.Unwrap.{a_key, a_value}
 use Rattle.bson_reserved.specs.declared.list.Part.{Part}
 use Rattle.bson_reserved.specs.declared.list.Part.TheVariants.{Key}
 use Rattle.bson_reserved.specs.declared.list.Part.TheVariants as part

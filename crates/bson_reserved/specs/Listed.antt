@@ -5,8 +5,8 @@ use Rattle.bson_base.specs.Tree.{Tree}
 use Rattle.bson_base.specs.declared.element_type.ElementType.{ElementType}
 use Rattle.bson_base.specs.declared.element_type.ElementType.TheVariants.{Binary, ObjectId, DateTime, RegularExpression, DbPointer, JavaScriptCode, Symbol, Timestamp, Decimal128}
 use Rattle.bson_datum.specs.Value.{Value}
-use Rattle.bson_reserved.specs.Unwrap as unwrap
-use Rattle.bson_reserved.specs.Unwrap.{object_id_list, date_time_list, binary_list, timestamp_list, text_list, regular_expression_list, db_pointer_list, decimal128_list}
+use Rattle.bson_laws.specs.Unwrap as unwrap
+use Rattle.bson_laws.specs.Unwrap.{object_id_list, date_time_list, binary_list, timestamp_list, text_list, regular_expression_list, db_pointer_list, decimal128_list}
 use Rattle.bson_reserved.specs.ListView.{parts_view}
 use Rattle.bson_reserved.specs.declared.list.Full.{Full}
 use Rattle.bson_reserved.specs.declared.list.Part.{Part}

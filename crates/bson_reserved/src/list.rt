@@ -2,7 +2,7 @@ ghost use Rattle.std.specs.Prelude.{◌≡◌, ◌<◌, ◌≤◌, [], ◌∷◌
 ghost use Rattle.bson_datum.specs.TextView.{text_view};
 ghost use Rattle.bson_datum.specs.View.{view, fields_view};
 ghost use Rattle.bson_datum.specs.declared.datum.Datum.TheViews.{size-Datum, size-Field};
-ghost use Rattle.bson_reserved.specs.Unwrap.{a_key, listed, listed_part};
+ghost use Rattle.bson_laws.specs.Unwrap.{a_key, listed, listed_part};
 ghost use Rattle.bson_reserved.specs.ListView.{part_view, parts_view};
 ghost use Rattle.bson_reserved.specs.Listed.{Lists, max_parts};
 ghost use Rattle.bson_reserved.specs.Prover.Sized.{fields_size, part_size, parts_size};

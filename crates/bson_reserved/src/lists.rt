@@ -2,7 +2,7 @@
 ghost use Rattle.std.specs.Prelude.{◌≡◌, IsSome, IfSome, option_map, option_and_then};
 ghost use Rattle.bson_base.specs.Instant.{millis};
 ghost use Rattle.bson_base.specs.Tree as tree;
-ghost use Rattle.bson_reserved.specs.Unwrap as unwrap;
+ghost use Rattle.bson_laws.specs.Unwrap as unwrap;
 ghost use Rattle.bson_reserved.specs.ListView.{parts_view};
 ghost use Rattle.bson_reserved.specs.AcceptedView.{accepted_view, accepted_kind, base64_view};
 

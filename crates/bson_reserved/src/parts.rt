@@ -1,7 +1,7 @@
 // The first part of a list of keys and values, and the rest of the list; `None` where the list begins otherwise.
 ghost use Rattle.std.specs.Prelude.{◌≡◌, ◌≤◌, IfSome, option_map};
 ghost use Rattle.bson_datum.specs.View.{view};
-ghost use Rattle.bson_reserved.specs.Unwrap as unwrap;
+ghost use Rattle.bson_laws.specs.Unwrap as unwrap;
 ghost use Rattle.bson_reserved.specs.ListView.{parts_view};
 ghost use Rattle.bson_reserved.specs.AcceptedView.{IsMap};
 ghost use Rattle.bson_reserved.specs.Prover.Sized.{parts_size, IsWithin};

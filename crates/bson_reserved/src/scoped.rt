@@ -1,7 +1,7 @@
 ghost use Rattle.std.specs.Prelude.{◌≡◌, [], IfSome, option_map};
 ghost use Rattle.bson_datum.specs.View.{view, fields_view};
-ghost use Rattle.bson_reserved.specs.Unwrap as unwrap;
-ghost use Rattle.bson_reserved.specs.Unwrap.{listed};
+ghost use Rattle.bson_laws.specs.Unwrap as unwrap;
+ghost use Rattle.bson_laws.specs.Unwrap.{listed};
 ghost use Rattle.bson_reserved.specs.ListView.{parts_view};
 ghost use Rattle.bson_reserved.specs.AcceptedView.{IsMap};
 ghost use Rattle.bson_reserved.specs.Prover.Sized.{fields_size, parts_size, IsWithin};

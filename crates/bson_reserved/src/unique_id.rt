@@ -2,7 +2,7 @@ ghost use Rattle.std.specs.Prelude.{◌≡◌, IfSome, option_map};
 ghost use Rattle.bson_shape.specs.Makers.{is_reserved_newtype};
 ghost use Rattle.bson_datum.specs.View.{view};
 ghost use Rattle.bson_reserved.specs.AcceptedView.{uuid_view, is_of_text};
-ghost use Rattle.bson_reserved.specs.UuidBytes as uuid;
+ghost use Rattle.bson_laws.specs.UuidBytes as uuid;
 
 use bson_base::Uuid;
 use bson_datum::Datum;

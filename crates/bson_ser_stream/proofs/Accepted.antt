@@ -3,7 +3,7 @@ use Rattle.std.proofs.Common.{◌≡◌, ℕ, Result, sym, subst}
 use Rattle.bson_base.specs.declared.element_type.ElementType.{ElementType}
 use Rattle.bson_io.specs.Output.{Output}
 use Rattle.bson_reserved.specs.AcceptedView.{accepted_view, accepted_kind}
-use Rattle.bson_reserved.specs.Written.{spell_unwrapped, written_size}
+use Rattle.bson_laws.specs.Written.{spell_unwrapped, written_size}
 use Rattle.bson_reserved.specs.declared.accepted.Accepted.{Accepted}
 use Rattle.bson_ser_stream.specs.Halting.{Puts}
 use Rattle.bson_writing.specs.declared.halt.Halt.{Halt}

@@ -13,7 +13,7 @@ use Rattle.bson_datum.proofs.Views.{view-Seq, view-Tuple, view-TupleStruct}
 use Rattle.bson_datum.specs.declared.text.Text.{Text}
 use Rattle.bson_datum.specs.declared.datum.Datum.{Datum, Seq, Tuple, TupleStruct}
 use Rattle.bson_io.specs.Output.{Output}
-use Rattle.bson_reserved.specs.Unwrap.{unwrap, scoped_code}
+use Rattle.bson_laws.specs.Unwrap.{unwrap, scoped_code}
 use Rattle.bson_laws.specs.Spell.{struct_at, struct_size, reserved_at, reserved_size, enclosed_at, spell_as, spell_fields_as, spell_list, size_as, size_fields_as, size_list}
 use Rattle.bson_ser_stream.specs.Halting.{Puts}
 use Rattle.bson_writing.specs.declared.halt.Halt.{Halt}

@@ -11,7 +11,7 @@ use Rattle.bson_base.specs.declared.element_type.ElementType.{ElementType}
 use Rattle.bson_base.proofs.Base64Texts.{base64_ok, length-text}
 use Rattle.bson_datum.specs.Refusal.{Refusal, WriteFault}
 use Rattle.bson_io.specs.Output.{Output, Appended}
-use Rattle.bson_reserved.specs.Written.{Writing, spell_unwrapped, written_size}
+use Rattle.bson_laws.specs.Written.{Writing, spell_unwrapped, written_size}
 use Rattle.bson_ser_stream.specs.Binary.{binary_front}
 use Rattle.bson_ser_stream.specs.Decoding.{Decodes, IsFault}
 use Rattle.bson_writing.specs.Halting.{IsOutOfMemory}

@@ -10,7 +10,7 @@ use Rattle.bson_base.proofs.Lengths.{length-le32, length-binary}
 use Rattle.bson_datum.specs.Cause.{binary_too_long}
 use Rattle.bson_datum.specs.Refusal.{Refusal, WriteFault, unwritable, here}
 use Rattle.bson_io.specs.Output.{Output, Appended}
-use Rattle.bson_reserved.specs.Written.{Writing, spell_binary}
+use Rattle.bson_laws.specs.Written.{Writing, spell_binary}
 use Rattle.bson_ser_stream.specs.Binary.{behind_length, second_length, binary_front}
 use Rattle.bson_ser_stream.proofs.Ended.{length_bytes}
 use Rattle.bson_ser_stream.proofs.Repeated.{appended_both}

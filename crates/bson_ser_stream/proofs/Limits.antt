@@ -14,9 +14,9 @@ use Rattle.bson_datum.specs.Cause.{Cause, binary_too_long, too_long}
 use Rattle.bson_datum.specs.Refusal.{WriteFault, unwritable, invalid_document_key, invalid_cstring, unsigned_exceeds, Refusal, Segment, at_key, at_index, here, inside, under_index, under, Failure, no_memory, bare, placed, with_path}
 use Rattle.bson_datum.specs.Value.{i64, greatest, written_as, Value, boolean, integer, double, character, str, bytes, none, some, unit, unit_structure, newtype, sequence, map, structure, unit_variant, newtype_variant, tuple, tuple_structure, tuple_variant, structure_variant, mode, Items, no_items, item, Entries, no_entries, entry, FieldValues, no_field_values, field_value, kind_of, uuid_newtype, readable_inside}
 use Rattle.bson_laws.specs.Means.{key_text}
-use Rattle.bson_reserved.specs.Unwrap.{Part, unwrap, scoped_code}
-use Rattle.bson_reserved.specs.UuidBytes.{uuid_bytes}
-use Rattle.bson_reserved.specs.Written.{with_scope}
+use Rattle.bson_laws.specs.Unwrap.{Part, unwrap, scoped_code}
+use Rattle.bson_laws.specs.UuidBytes.{uuid_bytes}
+use Rattle.bson_laws.specs.Written.{with_scope}
 use Rattle.bson_laws.specs.Spell.{Writing, spell_number, spell_binary, spell_whole, spell_unwrapped, spell_scoped, spell_uuid, enclosed_at, struct_at, reserved_at, named, variant_at, written_key, spell_key, spell_as, spell_items_as, spell_entries_as, spell_fields_as, spell_list, spell_part, spell, at_top, spell_document, size}
 use Rattle.bson_laws.proofs.Alike.{AreAlike, Both, SameScope, scopes_alike}
 use Rattle.bson_datum.specs.Stop.{IsPlaced}

@@ -12,7 +12,7 @@ use Rattle.bson_datum.specs.Refusal.{WriteFault, here}
 use Rattle.bson_datum.specs.declared.stop.Stop.TheVariants.{Refused, NoMemory}
 use Rattle.bson_io.specs.Output as output
 use Rattle.bson_io.specs.Output.{Output}
-use Rattle.bson_reserved.specs.Written.{Writing, written_size}
+use Rattle.bson_laws.specs.Written.{Writing, written_size}
 use Rattle.bson_ser_stream.specs.Writing.{with_tree}
 use Rattle.bson_writing.specs.Halting.{IsOutOfMemory, IsHereOrMemory, Halts}
 use Rattle.bson_ser_stream.specs.Halting.{Grows, Puts}

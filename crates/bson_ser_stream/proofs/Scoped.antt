@@ -11,10 +11,10 @@ use Rattle.bson_base.proofs.Lengths.{length-le32, length-text}
 use Rattle.bson_base.proofs.Outcomes.{map_ok}
 use Rattle.bson_datum.specs.Refusal.{Refusal, WriteFault, under}
 use Rattle.bson_io.specs.Output.{Output, Appended, patched}
-use Rattle.bson_reserved.specs.Written.{with_scope}
+use Rattle.bson_laws.specs.Written.{with_scope}
 use Rattle.bson_datum.specs.Value.{Value, map, FieldValues}
 use Rattle.bson_reserved.specs.AcceptedView.{IsMap}
-use Rattle.bson_reserved.specs.Unwrap.{listed, scoped_code}
+use Rattle.bson_laws.specs.Unwrap.{listed, scoped_code}
 use Rattle.bson_laws.specs.Spell.{Writing, spell_scoped, scoped_size, enclosed_at, spell_as, spell_entries_as, spell_list, size_as, size_list}
 use Rattle.bson_laws.proofs.Listed.{scope_spelled, scope_sized}
 use Rattle.bson_laws.proofs.Sizes.{ok_is, under_ok, length-spell}

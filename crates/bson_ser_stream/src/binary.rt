@@ -3,7 +3,7 @@ ghost use Rattle.std.specs.Prelude.{◌≡◌, ◌<◌, ◌≤◌, ◌+◌, ◌^
 ghost use Rattle.bson_base.specs.Parsed.{bytes_of_base64};
 ghost use Rattle.bson_base.specs.Tree.{binary};
 ghost use Rattle.bson_io.specs.Output.{Appended};
-ghost use Rattle.bson_reserved.specs.Written.{spell_binary, spell_unwrapped, written_size};
+ghost use Rattle.bson_laws.specs.Written.{spell_binary, spell_unwrapped, written_size};
 ghost use Rattle.bson_ser_stream.specs.Binary.{behind_length, binary_front, Fills};
 ghost use Rattle.bson_ser_stream.specs.Halting.{Puts, Grows};
 ghost use Rattle.bson_ser_stream.specs.Decoding.{IsFault};

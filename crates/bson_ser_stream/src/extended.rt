@@ -2,7 +2,7 @@
 ghost use Rattle.std.specs.Prelude.{◌+◌, length, Ok};
 ghost use Rattle.bson_base.specs.Instant.{millis};
 ghost use Rattle.bson_base.specs.Tree.{object_id, date_time, regular_expression, db_pointer, javascript_code, symbol, timestamp, decimal128};
-ghost use Rattle.bson_reserved.specs.Written.{spell_whole, written_size};
+ghost use Rattle.bson_laws.specs.Written.{spell_whole, written_size};
 ghost use Rattle.bson_ser_stream.specs.Halting.{Puts};
 
 use crate::scalar::{push_text, put_closed};

@@ -3,9 +3,9 @@
 ghost use Rattle.std.specs.Prelude.{◌≡◌, length};
 ghost use Rattle.bson_datum.specs.View.{view, fields_view};
 ghost use Rattle.bson_reserved.specs.AcceptedView.{accepted_view, accepted_kind};
-ghost use Rattle.bson_reserved.specs.Unwrap.{unwrap};
-ghost use Rattle.bson_reserved.specs.UuidBytes.{uuid_bytes};
-ghost use Rattle.bson_reserved.specs.Written.{spell_unwrapped, spell_uuid, written_size};
+ghost use Rattle.bson_laws.specs.Unwrap.{unwrap};
+ghost use Rattle.bson_laws.specs.UuidBytes.{uuid_bytes};
+ghost use Rattle.bson_laws.specs.Written.{spell_unwrapped, spell_uuid, written_size};
 ghost use Rattle.bson_ser_stream.specs.Halting.{Puts};
 
 use crate::binary::{put_base64, put_binary};

@@ -3,7 +3,7 @@ ghost use Rattle.std.specs.Prelude.{◌≤◌, ◌+◌, ◌++◌, length, encode
 ghost use Rattle.bson_base.specs.Sound.{max_bytes};
 ghost use Rattle.bson_base.specs.Tree.{boolean, double, string, int32, int64, closed_text};
 ghost use Rattle.bson_io.specs.Output.{Appended};
-ghost use Rattle.bson_reserved.specs.Written.{spell_binary};
+ghost use Rattle.bson_laws.specs.Written.{spell_binary};
 ghost use Rattle.bson_laws.specs.Spell.{spell_number};
 ghost use Rattle.bson_writing.specs.Halting.{Gives};
 ghost use Rattle.bson_ser_stream.specs.Halting.{Puts, Grows};

@@ -22,8 +22,16 @@ pub fn named_field<'de>(
     ensures name { IfOk result (λ x. text_piece x.name ≡ made name.now) }
     ensures value { IfOk result (λ x. x.value ≡ value.entry) }
 {
-    let name = Text::Owned(String::from_str(alloc, name)?);
-    Ok(Field { name, value })
+    match String::from_str(alloc, name) {
+        Ok(name) => Ok(Field {
+            name: Text::Owned(name),
+            value,
+        }),
+        Err(error) => {
+            drop(value);
+            Err(error)
+        }
+    }
 }
 
 /// The struct of this name with these fields. The name is copied.

@@ -36,7 +36,7 @@ use Rattle.bson_met.specs.Gives.{RefusesAs}
 use Rattle.bson_met.specs.Next.{IsAdvanced}
 use Rattle.bson_met.specs.declared.elements.Step.{Step}
 use Rattle.bson_met.proofs.Refusals.{StopsAs, stops_map}
-use Rattle.bson_leaves.proofs.Loops.{judged_same}
+use Rattle.bson_texts.proofs.Loops.{judged_same}
 use Rattle.bson_wrapped.specs.Bodies.{is_body, body_of, body_at}
 use Rattle.bson_wrapped.specs.Data.{scoped_datum}
 use Rattle.bson_wrapped.proofs.Made.{err_is, stops_through, under_map}

@@ -68,6 +68,7 @@ fn with_kind<'de>(alloc: Global, kind: ElementType, value: Datum<'de>) -> Readin
     if found == kind {
         return Ok(value);
     }
+    drop(value);
     Err(refused(alloc, Cause::WrongKind(found)))
 }
 

@@ -8,7 +8,7 @@ ghost use Rattle.bson_datum.specs.Value as values;
 ghost use Rattle.bson_laws.specs.Datum.{datum, pair_data};
 ghost use Rattle.bson_laws.specs.Trees.{pairs_in};
 ghost use Rattle.bson_met.specs.Gives.{Reaches};
-ghost use Rattle.bson_leaves.specs.ListsMarked.{entries_marked};
+ghost use Rattle.bson_texts.specs.ListsMarked.{entries_marked};
 ghost use Rattle.bson_trees.specs.Trees.{is_map};
 
 use bson_datum::{Cause, Datum, Entry};
@@ -23,7 +23,9 @@ pub(crate) fn entries_of<'de>(alloc: Global, value: Datum<'de>) -> Reading<Vec<E
     if is_map(&value) {
         return Ok(entries_in(value));
     }
-    Err(refused(alloc, Cause::InvalidType(value.element_type())))
+    let found = value.element_type();
+    drop(value);
+    Err(refused(alloc, Cause::InvalidType(found)))
 }
 
 /// Whether the value is a map.
@@ -34,7 +36,7 @@ fn is_map(value: &Datum<'_>) -> bool
 }
 
 /// The entries of a map.
-#[tactic(auto, using(bson_leaves::proofs::MarkedLists::row_entries))]
+#[tactic(auto, using(bson_texts::proofs::MarkedLists::row_entries))]
 fn entries_in<'de>(value: Datum<'de>) -> Vec<Entry<'de>>
     requires map { is_map (marked value) ≡ true }
     ensures { values.map (entries_marked result.items) ≡ marked value.entry }

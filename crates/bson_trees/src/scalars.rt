@@ -9,8 +9,8 @@ ghost use Rattle.bson_met.specs.PieceView.{str_piece};
 ghost use Rattle.bson_trees.specs.Trees.{scalar_at, is_scalar};
 
 use bson_datum::Datum;
-use bson_leaves::own_text;
 use bson_met::{Extended, Reading, Step};
+use bson_texts::own_text;
 use bson_wrapped::data;
 use std::alloc::{AllocError, Global};
 

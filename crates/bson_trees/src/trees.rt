@@ -7,7 +7,7 @@ ghost use Rattle.bson_laws.specs.Datum.{pair_data};
 ghost use Rattle.bson_met.specs.Gives.{Reaches};
 ghost use Rattle.bson_met.specs.OpenedView.{extended_view};
 ghost use Rattle.bson_met.specs.PieceView.{str_piece};
-ghost use Rattle.bson_leaves.specs.ListsMarked.{entries_marked, items_marked};
+ghost use Rattle.bson_texts.specs.ListsMarked.{entries_marked, items_marked};
 ghost use Rattle.bson_trees.specs.Trees.{tree_at, tree_under, items_from, elements_from, wrapped_at, code_from, scope_from, entries_at, scope_at, extended_at};
 
 use crate::maps::entries_of;
@@ -73,8 +73,8 @@ pub(crate) fn read_elements<'de>(alloc: Global, mut elements: Elements<'de>) -> 
         if let Some(wrapper) = Wrapper::from_key(step.key.text) {
             return read_wrapped(alloc, wrapper, &step, elements);
         }
-        let value = read_under(alloc, &step)?;
         let key = String::from_str(alloc, step.key.text)?;
+        let value = read_under(alloc, &step)?;
         entries.put(step.key.text, Datum::Str(Text::Owned(key)), value)?;
     }
     Ok(Datum::Map(entries.finish()))

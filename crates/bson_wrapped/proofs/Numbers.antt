@@ -12,7 +12,7 @@ use Rattle.bson_laws.specs.Leaves.{numbers}
 use Rattle.bson_laws.specs.Taken.{integer_of, read_integer}
 use Rattle.bson_met.specs.MetView.{integer_at}
 use Rattle.bson_met.proofs.Refusals.{StopsAs, stops_bind}
-use Rattle.bson_leaves.specs.Leaves.{number_as}
+use Rattle.bson_texts.specs.Leaves.{number_as}
 
 -- a value at a leaf of numbers
 abbrev pub number_of : IntegerType → Node → Reading Marked

@@ -11,8 +11,8 @@ use crate::fields::two_fields;
 use crate::values::binary_of_texts;
 use bson_base::{BinarySubtype, Uuid};
 use bson_datum::{Cause, Wrapper};
-use bson_leaves::own_text;
 use bson_met::{Met, Reading, Step, refused};
+use bson_texts::own_text;
 use std::alloc::Global;
 
 /// The binary that a document with the key `$binary` stands for, read from the value at the key.

@@ -14,8 +14,8 @@ use crate::values::{
 use crate::{binaries, data};
 use bson_base::Timestamp;
 use bson_datum::{Cause, Datum, Wrapper};
-use bson_leaves::{buffer, own_text};
 use bson_met::{Met, Reading, Step, Value, refused};
+use bson_texts::{buffer, own_text};
 use std::alloc::Global;
 
 /// The value of a document whose first wrapper key is this one, read from the value at the key.

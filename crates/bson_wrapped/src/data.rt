@@ -4,12 +4,13 @@ ghost use Rattle.bson_base.specs.Instant.{millis};
 ghost use Rattle.bson_base.specs.Sorted.{sorted};
 ghost use Rattle.bson_base.specs.Tree as tree;
 ghost use Rattle.bson_rawdoc.specs.Piece.{made};
-ghost use Rattle.bson_datum.specs.MarkedView.{marked};
+ghost use Rattle.bson_datum.specs.MarkedView.{marked, text_piece};
 ghost use Rattle.bson_datum.specs.Value as values;
 ghost use Rattle.bson_laws.specs.Datum.{datum, uuid_datum, one, two, wrapped};
 ghost use Rattle.bson_met.specs.PieceView.{met_text};
+ghost use Rattle.bson_slots.specs.FieldSlots.{fields_marked};
+ghost use Rattle.bson_texts.specs.ListsMarked.{entries_marked};
 ghost use Rattle.bson_wrapped.specs.Data.{scoped_datum};
-ghost use Rattle.bson_leaves.specs.ListsMarked.{entries_marked};
 
 use bson_base::{BinarySubtype, DateTime, Decimal128, ObjectId, Regex, Timestamp, Uuid};
 use bson_datum::{ByteStr, Datum, Entry, Field, Text};
@@ -76,10 +77,32 @@ fn struct_of_two<'de>(
     ensures { IfOk result (λ d. marked d ≡ values.structure (made name.now)
         (two made first.entry.0.now (marked first.entry.1) second.entry.0.now (marked second.entry.1))) }
 {
-    let first = named_field(alloc, first.0, first.1)?;
-    let second = named_field(alloc, second.0, second.1)?;
-    let fields = vec![in alloc; first, second]?;
+    let fields = match named_field(alloc, first.0, first.1) {
+        Ok(first) => two_fields(alloc, first, second)?,
+        Err(error) => {
+            drop(second);
+            return Err(error);
+        }
+    };
     named_struct(alloc, name, fields)
+}
+
+/// The fields of a struct: one that is made, and one of this name with this value.
+fn two_fields<'de>(
+    alloc: Global,
+    first: Field<'de>,
+    second: (&str, Datum<'de>),
+) -> Result<Vec<Field<'de>>, AllocError>
+    ensures { IfOk result (λ v. fields_marked v.items ≡ values.field_value (text_piece first.entry.name)
+        (marked first.entry.value) (one made second.entry.0.now (marked second.entry.1))) }
+{
+    match named_field(alloc, second.0, second.1) {
+        Ok(second) => vec![in alloc; first, second],
+        Err(error) => {
+            drop(first);
+            Err(error)
+        }
+    }
 }
 
 /// The struct of a reserved name whose one field has the same name.
@@ -219,7 +242,7 @@ pub fn code<'de>(alloc: Global, code: String) -> Result<Datum<'de>, AllocError>
 /// # Errors
 ///
 /// Memory ran out.
-#[tactic(auto, using(bson_leaves::proofs::MarkedLists::row_entries))]
+#[tactic(auto, using(bson_texts::proofs::MarkedLists::row_entries))]
 pub fn scoped_code<'de>(
     alloc: Global,
     code: String,

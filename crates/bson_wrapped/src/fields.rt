@@ -14,7 +14,7 @@ ghost use Rattle.bson_laws.specs.Shaped.{reads};
 ghost use Rattle.bson_laws.specs.Slots.{fill_slot, value_or};
 ghost use Rattle.bson_laws.specs.Views.{absent};
 ghost use Rattle.bson_laws.specs.Wrapped.{with_field};
-ghost use Rattle.bson_leaves.specs.Leaves.{number_as};
+ghost use Rattle.bson_texts.specs.Leaves.{number_as};
 ghost use Rattle.bson_met.specs.Gives.{Reaches};
 ghost use Rattle.bson_met.specs.PieceView.{str_piece};
 ghost use Rattle.bson_slots.specs.FieldsRead.{fields_read, fields_by_key};
@@ -22,9 +22,9 @@ ghost use Rattle.bson_slots.specs.NextValue.{next_value, behind_first};
 ghost use Rattle.bson_wrapped.specs.Fields.{field_slot, one_slot, two_slots, drop_at};
 
 use bson_datum::Cause;
-use bson_leaves::{ignore, own_text};
 use bson_met::{Elements, Items, Met, Reading, Step, Value, refused};
 use bson_slots::due;
+use bson_texts::{ignore, own_text};
 use std::alloc::Global;
 
 /// A value that a field has.

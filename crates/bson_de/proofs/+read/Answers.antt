@@ -28,15 +28,15 @@ use Rattle.bson_slots.specs.SlotsView.{slots_view}
 use Rattle.bson_slots.proofs.Elements.{value_put, value_refused, put_filled, unknown_dropped, unknown_refused}
 use Rattle.bson_leaves.specs.EntriesView.{key_form, entries_of}
 use Rattle.bson_leaves.specs.Named.{variant_named}
-use Rattle.bson_leaves.specs.ListsMarked.{items_marked, entries_marked}
-use Rattle.bson_leaves.proofs.Each.{each, step_is, item_is, each_step, each_next, each_stop}
+use Rattle.bson_texts.specs.ListsMarked.{items_marked, entries_marked}
+use Rattle.bson_texts.proofs.Each.{each, step_is, item_is, each_step, each_next, each_stop}
 use Rattle.bson_de.proofs.FieldPlaces.{values_before, places_step, places_stop, places_end, all_left as no_values}
 use Rattle.bson_leaves.proofs.KeyTexts.{key_valued}
-use Rattle.bson_leaves.proofs.Loops.{items_by, items_each, items_push, item_done, item_stops, entries_by, entries_each, entry_done, key_stops, entry_stops, ignored_at}
-use Rattle.bson_leaves.proofs.Mapped.{taken, not_taken}
-use Rattle.bson_leaves.proofs.SlotsFilled.{slots_by, fill_each}
+use Rattle.bson_texts.proofs.Loops.{items_by, items_each, items_push, item_done, item_stops, entries_by, entries_each, entry_done, key_stops, entry_stops, ignored_at}
+use Rattle.bson_texts.proofs.Mapped.{taken, not_taken}
+use Rattle.bson_texts.proofs.SlotsFilled.{slots_by, fill_each}
 use Rattle.bson_de.proofs.Nulls.{option_null}
-use Rattle.bson_leaves.proofs.MarkedLists.{marked-Seq, marked-Tuple, marked-TupleStruct, marked-TupleVariant, marked-Map}
+use Rattle.bson_texts.proofs.MarkedLists.{marked-Seq, marked-Tuple, marked-TupleStruct, marked-TupleVariant, marked-Map}
 use Rattle.bson_de.proofs.Parts.{items_before, parts_step, parts_stop, parts_end, all_left}
 use Rattle.bson_de.proofs.VariantContents.{contents_at_key}
 use Rattle.bson_de.proofs.Variants.{first_read, element_read, content_read, named_smaller, named_content}
@@ -183,14 +183,14 @@ map::read_entries-step-preserved t c =
     let s = c.advance.new.step in
     let k = str_piece s.key in
     let old = entries_marked (entries_of c.step.entries) in
-    let put = c.in_ok-put.ensures in
+    let put = c.in_ok-put-in-Ok.ensures in
     let first = step_is _ _ c.in_ok-advance.field-0 s c.in_ok-advance.ensures.advanced c.if-branch.true in
     let named : read_key k ≡ Ok (marked c.in_ok-key.key) = ap (λ f. reads_key f k) (sym c.step.invariant.1) ∙ c.in_ok-key.ensures.exact in (
       put.indexed,
       ap form_view put.key ∙ c.step.invariant.1,
       ap (each (entries_by read_key read) 0 c.advance.new.self) put.entries
           ∙ each_next (entries_by read_key read) 0 c.step.elements old _ c.step.invariant.2 (λ j l n x. refl) k s.value c.advance.new.self _ first
-          (entry_done read_key read 0 k s.value old (marked c.in_ok-key.key) (marked c.in_ok-value.value) named c.in_ok-value.ensures.exact),
+          (entry_done read_key read 0 k s.value old (marked c.in_ok-key.key) (marked c.in-Ok.value) named c.in-Ok.ensures.exact),
     )
 
 pub map::read_entries-returns-in_err-key : goal.map::read_entries-returns-in_err-key
@@ -206,17 +206,17 @@ map::read_entries-returns-in_err-key t c =
     let here = each_stop (entries_by read_key read) 0 c.step.elements old _ c.step.invariant.2 k s.value c.advance.new.self stop first (key_stops read_key read 0 k s.value old stop refused_key) in
     record { exact = search (rules, here) }
 
-pub map::read_entries-returns-in_err-value : goal.map::read_entries-returns-in_err-value
-map::read_entries-returns-in_err-value t c =
+pub map::read_entries-returns-in-Err : goal.map::read_entries-returns-in-Err
+map::read_entries-returns-in-Err t c =
     let read_key = reads_key c.args.key.now in
     let read = reads c.args.item.now in
     let s = c.advance.new.step in
     let k = str_piece s.key in
     let old = entries_marked (entries_of c.step.entries) in
-    let stop = c.in_err-value.field-0.0 in
+    let stop = c.in-Err.stop in
     let first = step_is _ _ c.in_ok-advance.field-0 s c.in_ok-advance.ensures.advanced c.if-branch.true in
     let named : read_key k ≡ Ok (marked c.in_ok-key.key) = ap (λ f. reads_key f k) (sym c.step.invariant.1) ∙ c.in_ok-key.ensures.exact in
-    let here = each_stop (entries_by read_key read) 0 c.step.elements old _ c.step.invariant.2 k s.value c.advance.new.self stop first (entry_stops read_key read 0 k s.value old (marked c.in_ok-key.key) stop named c.in_err-value.ensures.exact) in
+    let here = each_stop (entries_by read_key read) 0 c.step.elements old _ c.step.invariant.2 k s.value c.advance.new.self stop first (entry_stops read_key read 0 k s.value old (marked c.in_ok-key.key) stop named c.in-Err.ensures.exact) in
     record { exact = search (rules, here) }
 
 pub enumeration::read_variant-returns : goal.enumeration::read_variant-returns

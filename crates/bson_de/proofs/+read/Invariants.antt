@@ -8,11 +8,11 @@ use Rattle.bson_laws.specs.Slots.{fill, reads_places}
 use Rattle.bson_met.specs.Sizes.{count}
 use Rattle.bson_slots.specs.SlotsView.{slots_view}
 use Rattle.bson_leaves.specs.EntriesView.{IsIndexed, key_form, entries_of}
-use Rattle.bson_leaves.specs.ListsMarked.{items_marked, entries_marked}
-use Rattle.bson_leaves.proofs.Each.{each}
-use Rattle.bson_leaves.proofs.SlotsFilled.{slots_by}
+use Rattle.bson_texts.specs.ListsMarked.{items_marked, entries_marked}
+use Rattle.bson_texts.proofs.Each.{each}
+use Rattle.bson_texts.proofs.SlotsFilled.{slots_by}
 use Rattle.bson_de.proofs.FieldPlaces.{values_before}
-use Rattle.bson_leaves.proofs.Loops.{items_by, entries_by}
+use Rattle.bson_texts.proofs.Loops.{items_by, entries_by}
 use Rattle.bson_de.proofs.Parts.{items_before}
 use Rattle.bson_de.proofs.+read.Given as goal
 

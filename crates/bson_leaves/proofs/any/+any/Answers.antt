@@ -28,11 +28,12 @@ use Rattle.bson_met.proofs.Judging.{seen, judged_good, judged_bad}
 use Rattle.bson_met.proofs.Refusals.{StopsAs, stops_inside, refused_stops}
 use Rattle.bson_leaves.specs.Any.{any_at, any_within, any_items_at, any_entries_at}
 use Rattle.bson_leaves.specs.KeyValues.{key_value}
-use Rattle.bson_leaves.specs.ListsMarked.{items_marked, entries_marked}
-use Rattle.bson_leaves.proofs.AnyRead.{array_within, document_within, any_array_is, any_document_is, any_inner_document_is, any_opened_is, reaches_map, next_is, walk_first, document_smaller}
-use Rattle.bson_leaves.proofs.Each.{each, step_is, item_is, each_step, each_next, each_stop}
-use Rattle.bson_leaves.proofs.Loops.{items_by, items_each, items_push, any_items_are, item_done, item_stops, entries_by, as_str, entries_each, any_entries_are, entry_done, entry_stops}
-use Rattle.bson_leaves.proofs.MarkedLists.{marked-Seq, marked-Map}
+use Rattle.bson_texts.specs.ListsMarked.{items_marked, entries_marked}
+use Rattle.bson_leaves.proofs.AnyRead.{array_within, document_within, any_array_is, any_document_is, any_inner_document_is, any_opened_is, any_items_are, as_str, any_entries_are, next_is, walk_first, document_smaller}
+use Rattle.bson_texts.proofs.Each.{each, step_is, item_is, each_step, each_next, each_stop}
+use Rattle.bson_texts.proofs.Loops.{items_by, items_each, items_push, item_done, item_stops, entries_by, entries_each, entry_done, entry_stops}
+use Rattle.bson_texts.proofs.Mapped.{reaches_map}
+use Rattle.bson_texts.proofs.MarkedLists.{marked-Seq, marked-Map}
 use Rattle.bson_leaves.proofs.any.+any.Goals as goal
 
 pub any_items-step-init : goal.any_items-step-init
@@ -78,7 +79,7 @@ any_entries-step-init t c =
 pub any_entries-put-requires : goal.any_entries-put-requires
 any_entries-put-requires t c = record {
   indexed = c.step.invariant.1;
-  key = ap (λ s. key_value s c.advance.new.step.key.text.now) c.step.invariant.2 ∙ ap (λ p. Ok (value.str p.bytes)) (sym c.in_ok-to_text-in-Ok.ensures.piece);
+  key = ap (λ s. key_value s c.advance.new.step.key.text.now) c.step.invariant.2 ∙ ap (λ p. Ok (value.str p.bytes)) (sym c.in_ok-name.ensures.piece);
 }
 
 pub any_entries-step-preserved : goal.any_entries-step-preserved
@@ -93,7 +94,7 @@ any_entries-step-preserved t c =
       ap form_view put.key ∙ c.step.invariant.2,
       ap (each (entries_by as_str any_at) 0 c.advance.new.self) put.entries
           ∙ each_next (entries_by as_str any_at) 0 c.step.elements old _ c.step.invariant.3 (λ j k n x. refl) (str_piece s.key) s.value c.advance.new.self _ first
-          (entry_done as_str any_at 0 (str_piece s.key) s.value old _ v (ap (λ p. Ok (value.str p)) (sym c.in_ok-to_text-in-Ok.ensures.piece)) (ap (under (str_piece s.key).bytes) c.in-Ok.ensures.exact)),
+          (entry_done as_str any_at 0 (str_piece s.key) s.value old _ v (ap (λ p. Ok (value.str p)) (sym c.in_ok-name.ensures.piece)) (ap (under (str_piece s.key).bytes) c.in-Ok.ensures.exact)),
     )
 
 pub any_entries-returns-in-Err : goal.any_entries-returns-in-Err

@@ -11,9 +11,10 @@ use Rattle.bson_laws.specs.ReadsLeaf.{any_items, any_entries}
 use Rattle.bson_met.specs.Sizes.{size, sizes, count}
 use Rattle.bson_leaves.specs.Any.{any_at, any_items_at, any_entries_at}
 use Rattle.bson_leaves.specs.EntriesView.{IsIndexed}
-use Rattle.bson_leaves.specs.ListsMarked.{items_marked, entries_marked}
-use Rattle.bson_leaves.proofs.Each.{each}
-use Rattle.bson_leaves.proofs.Loops.{items_by, entries_by, as_str}
+use Rattle.bson_texts.specs.ListsMarked.{items_marked, entries_marked}
+use Rattle.bson_texts.proofs.Each.{each}
+use Rattle.bson_leaves.proofs.AnyRead.{as_str}
+use Rattle.bson_texts.proofs.Loops.{items_by, entries_by}
 use Rattle.bson_leaves.proofs.any.+any.Given as goal
 
 abbrev pub decreases-read_any : goal.decreases-read_any

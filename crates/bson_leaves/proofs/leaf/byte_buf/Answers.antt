@@ -3,7 +3,7 @@ use Rattle.bson_rawdoc.specs.Piece.{made}
 use Rattle.bson_datum.specs.Value as value
 use Rattle.bson_laws.specs.Judged.{judged}
 use Rattle.bson_laws.specs.Taken.{buffer_of}
-use Rattle.bson_leaves.proofs.Mapped.{taken, not_taken}
+use Rattle.bson_texts.proofs.Mapped.{taken, not_taken}
 use Rattle.bson_leaves.proofs.leaf.byte_buf.Goals as goal
 
 pub returns : goal.returns

@@ -1,6 +1,6 @@
 use Rattle.bson_datum.specs.Value as value
 use Rattle.bson_laws.specs.Judged.{judged, passes}
-use Rattle.bson_leaves.proofs.Mapped.{taken, not_taken}
+use Rattle.bson_texts.proofs.Mapped.{taken, not_taken}
 use Rattle.bson_leaves.proofs.leaf.ignored.Goals as goal
 
 pub returns-in-Ok : goal.returns-in-Ok

@@ -2,7 +2,7 @@ use Rattle.std.proofs.Common.{◌≡◌, Some, SFits, rules, subst, w64}
 use Rattle.std.proofs.lemmas.Int.{to_z-of_z}
 use Rattle.bson_datum.specs.MarkedView.{marked}
 use Rattle.bson_laws.specs.Leaves.{leaf_kind}
-use Rattle.bson_leaves.specs.Leaves.{number_as}
+use Rattle.bson_texts.specs.Leaves.{number_as}
 use Rattle.bson_leaves.proofs.NumberLeaves.{number_given}
 use Rattle.bson_leaves.proofs.leaf.number.Goals as goal
 

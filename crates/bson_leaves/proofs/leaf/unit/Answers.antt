@@ -1,7 +1,7 @@
 use Rattle.bson_datum.specs.Value as value
 use Rattle.bson_laws.specs.Judged.{judged}
 use Rattle.bson_laws.specs.Taken.{null_of}
-use Rattle.bson_leaves.proofs.Mapped.{taken, not_taken}
+use Rattle.bson_texts.proofs.Mapped.{taken, not_taken}
 use Rattle.bson_leaves.proofs.leaf.unit.Goals as goal
 
 pub returns-in-Ok : goal.returns-in-Ok

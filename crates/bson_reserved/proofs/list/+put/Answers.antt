@@ -3,7 +3,7 @@ use Rattle.bson_datum.specs.TextView.{text_view}
 use Rattle.bson_datum.specs.View.{view, fields_view}
 use Rattle.bson_datum.specs.declared.datum.Datum.TheViews.{size-Datum}
 use Rattle.bson_datum.proofs.Views.{view-Struct}
-use Rattle.bson_reserved.specs.Unwrap.{a_key, listed, listed_part}
+use Rattle.bson_laws.specs.Unwrap.{a_key, listed, listed_part}
 use Rattle.bson_reserved.specs.ListView.{parts_view}
 use Rattle.bson_reserved.specs.Listed.{Lists}
 use Rattle.bson_reserved.specs.Prover.Sized.{fields_size}

@@ -2,7 +2,7 @@
 use Rattle.std.proofs.Common.{◌≡◌, ◌≤◌, ◌++◌, List, drop, max}
 use Rattle.bson_datum.specs.Value.{Value}
 use Rattle.bson_datum.specs.View.{fields_view}
-use Rattle.bson_reserved.specs.Unwrap.{Part, listed}
+use Rattle.bson_laws.specs.Unwrap.{Part, listed}
 use Rattle.bson_reserved.specs.ListView.{parts_view}
 use Rattle.bson_reserved.specs.Prover.Sized.{fields_size, parts_size}
 use Rattle.bson_reserved.proofs.list.+put.Given as goal

@@ -17,7 +17,7 @@ use Rattle.bson_ser_stream.proofs.Growth.{Grows-trans, Grows-appended}
 use Rattle.bson_ser_stream.proofs.Elements.{wrote_element}
 use Rattle.bson_ser_stream.proofs.Variants.{one_field, wrote_pair, puts_variant}
 use Rattle.bson_ser_stream.proofs.Arms.{puts_as, puts_array, puts_struct, puts_reserved}
-use Rattle.bson_reserved.specs.Unwrap.{scoped_code}
+use Rattle.bson_laws.specs.Unwrap.{scoped_code}
 use Rattle.bson_laws.specs.Spell.{spell_scoped, scoped_size, spell_as, spell_items_as, spell_entries_as, spell_fields_as, spell_list, size_as, size_items_as, size_entries_as, size_fields_as, size_list}
 use Rattle.bson_base.specs.Tree.{document, array, elements, array_elements}
 use Rattle.std.specs.Fmt.{decimal}

@@ -1,6 +1,6 @@
 use Rattle.std.proofs.Common.{Ok, ap, sym, ◌∙◌, rules}
-use Rattle.bson_leaves.specs.ListsMarked.{entries_marked}
-use Rattle.bson_leaves.proofs.MarkedLists.{marked-Map}
+use Rattle.bson_texts.specs.ListsMarked.{entries_marked}
+use Rattle.bson_texts.proofs.MarkedLists.{marked-Map}
 use Rattle.bson_trees.proofs.ExtendedLeaves.{document_read, document_stops}
 use Rattle.bson_trees.proofs.extended.document.Goals as goal
 

@@ -24,10 +24,10 @@ use Rattle.bson_met.specs.PieceView.{str_piece}
 use Rattle.bson_met.specs.Sizes.{count, size, sizes, scope_size}
 use Rattle.bson_met.specs.ValueView.{value_view}
 use Rattle.bson_met.proofs.Refusals.{StopsAs, stops_inside}
-use Rattle.bson_leaves.specs.ListsMarked.{items_marked, entries_marked}
-use Rattle.bson_leaves.proofs.Each.{each, step_is, item_is, each_step, each_stop}
-use Rattle.bson_leaves.proofs.Loops.{items_by, items_each, items_push, item_done, item_stops}
-use Rattle.bson_leaves.proofs.MarkedLists.{marked-Seq, marked-Map}
+use Rattle.bson_texts.specs.ListsMarked.{items_marked, entries_marked}
+use Rattle.bson_texts.proofs.Each.{each, step_is, item_is, each_step, each_stop}
+use Rattle.bson_texts.proofs.Loops.{items_by, items_each, items_push, item_done, item_stops}
+use Rattle.bson_texts.proofs.MarkedLists.{marked-Seq, marked-Map}
 use Rattle.bson_wrapped.specs.Bodies.{is_body}
 use Rattle.bson_wrapped.specs.Data.{scoped_datum}
 use Rattle.bson_wrapped.proofs.Made.{stops_through}

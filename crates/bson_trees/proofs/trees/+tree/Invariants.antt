@@ -8,9 +8,9 @@ use Rattle.bson_laws.specs.Datum.{pair_data}
 use Rattle.bson_met.specs.OpenedView.{extended_view}
 use Rattle.bson_met.specs.Sizes.{count, size, sizes, scope_size}
 use Rattle.bson_leaves.specs.EntriesView.{IsIndexed, key_form, entries_of}
-use Rattle.bson_leaves.specs.ListsMarked.{items_marked, entries_marked}
-use Rattle.bson_leaves.proofs.Each.{each}
-use Rattle.bson_leaves.proofs.Loops.{items_by}
+use Rattle.bson_texts.specs.ListsMarked.{items_marked, entries_marked}
+use Rattle.bson_texts.proofs.Each.{each}
+use Rattle.bson_texts.proofs.Loops.{items_by}
 use Rattle.bson_trees.specs.Trees.{tree_at, items_from, elements_from}
 use Rattle.bson_trees.proofs.trees.+tree.Given as goal
 

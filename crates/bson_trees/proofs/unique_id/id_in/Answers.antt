@@ -10,7 +10,7 @@ use Rattle.bson_laws.specs.ReadsExtended.{uuid_in}
 use Rattle.bson_met.specs.Gives.{Reaches}
 use Rattle.bson_met.specs.PieceView.{str_piece}
 use Rattle.bson_met.proofs.Refusals.{StopsAs, stops_bind, refused_stops}
-use Rattle.bson_leaves.proofs.Each.{step_is}
+use Rattle.bson_texts.proofs.Each.{step_is}
 use Rattle.bson_trees.specs.Trees.{tree_under}
 use Rattle.bson_trees.specs.Leaves.{uuid_elements}
 use Rattle.bson_trees.proofs.TreeData.{stops_back, pair_read, pair_stops_tree, wrapped_whole, list_ends}

@@ -10,7 +10,7 @@ use Rattle.bson_datum.specs.declared.wrapper.Wrapper.TheVariants.{Uuid}
 use Rattle.bson_laws.specs.Judged.{Reading}
 use Rattle.bson_laws.specs.Trees.{or_bad}
 use Rattle.bson_met.proofs.Refusals.{stops_bind, stops_map}
-use Rattle.bson_leaves.specs.Leaves.{text_at}
+use Rattle.bson_texts.specs.Leaves.{text_at}
 use Rattle.bson_wrapped.proofs.binaries.valid_uuid.Goals as goal
 
 abbrev make : Utf8 → Option Tree

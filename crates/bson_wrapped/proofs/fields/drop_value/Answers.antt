@@ -3,7 +3,7 @@ use Rattle.bson_datum.specs.Refusal.{at_key, under}
 use Rattle.bson_laws.specs.Judged.{Reading, ignores}
 use Rattle.bson_met.specs.PieceView.{str_piece}
 use Rattle.bson_met.proofs.Refusals.{StopsAs, stops_inside}
-use Rattle.bson_leaves.proofs.Loops.{ignored_at}
+use Rattle.bson_texts.proofs.Loops.{ignored_at}
 use Rattle.bson_wrapped.proofs.fields.drop_value.Goals as goal
 
 pub returns-in-Ok : goal.returns-in-Ok

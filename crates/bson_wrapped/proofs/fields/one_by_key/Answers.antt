@@ -1,9 +1,9 @@
 use Rattle.std.proofs.Common.{[], ◌∷◌, refl, sym, ◌∙◌}
 use Rattle.std.specs.Prelude.{option_map}
 use Rattle.bson_met.specs.PieceView.{str_piece}
-use Rattle.bson_leaves.proofs.Each.{step_is, each_next}
+use Rattle.bson_texts.proofs.Each.{step_is, each_next}
 use Rattle.bson_wrapped.specs.Fields.{field_slot, one_slot}
-use Rattle.bson_leaves.proofs.SlotsFilled.{slots_by, fill_each}
+use Rattle.bson_texts.proofs.SlotsFilled.{slots_by, fill_each}
 use Rattle.bson_wrapped.proofs.Filled.{put_here, put_further, put_dropped}
 use Rattle.bson_wrapped.proofs.fields.one_by_key.Goals as goal
 

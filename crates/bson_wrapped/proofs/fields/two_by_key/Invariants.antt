@@ -2,9 +2,9 @@ use Rattle.std.proofs.Common.{◌≡◌, [], ◌∷◌}
 use Rattle.std.specs.Prelude.{option_map}
 use Rattle.bson_laws.specs.Slots.{fill}
 use Rattle.bson_met.specs.Sizes.{count}
-use Rattle.bson_leaves.proofs.Each.{each}
+use Rattle.bson_texts.proofs.Each.{each}
 use Rattle.bson_wrapped.specs.Fields.{field_slot, two_slots}
-use Rattle.bson_leaves.proofs.SlotsFilled.{slots_by}
+use Rattle.bson_texts.proofs.SlotsFilled.{slots_by}
 use Rattle.bson_wrapped.proofs.fields.two_by_key.Given as goal
 
 -- what is left of the document, put to the values so far, is all that is in it

@@ -2,7 +2,7 @@ use Rattle.std.proofs.Common.{ap, refl, ◌∙◌, arith}
 use Rattle.bson_datum.specs.MarkedView.{marked}
 use Rattle.bson_datum.specs.declared.datum.Entry.{Entry}
 use Rattle.bson_laws.specs.ReadsLeaf.{put_entry}
-use Rattle.bson_leaves.specs.ListsMarked.{entries_marked}
+use Rattle.bson_texts.specs.ListsMarked.{entries_marked}
 use Rattle.bson_leaves.proofs.KeyedEntries.{known_within, known_put, known_indexed, new_put, new_indexed}
 use Rattle.bson_leaves.proofs.entries.Entries.put.Goals as goal
 

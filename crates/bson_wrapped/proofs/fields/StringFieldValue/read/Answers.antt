@@ -6,8 +6,8 @@ use Rattle.std.specs.Prelude.{string_bytes}
 use Rattle.bson_laws.specs.Judged.{Reading, judged}
 use Rattle.bson_laws.specs.Taken.{text_of}
 use Rattle.bson_met.specs.Gives.{Reaches}
-use Rattle.bson_leaves.proofs.AnyRead.{reaches_map}
-use Rattle.bson_leaves.specs.Leaves.{text_at}
+use Rattle.bson_texts.proofs.Mapped.{reaches_map}
+use Rattle.bson_texts.specs.Leaves.{text_at}
 use Rattle.bson_wrapped.proofs.Made.{mapped}
 use Rattle.bson_wrapped.proofs.fields.StringFieldValue.read.Goals as goal
 

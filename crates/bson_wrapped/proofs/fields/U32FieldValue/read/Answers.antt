@@ -9,7 +9,7 @@ use Rattle.bson_datum.specs.ErrorView.{read_fault}
 use Rattle.bson_datum.specs.Stop.{stop_view}
 use Rattle.bson_met.specs.Gives.{IsRefusedOrNoMemory}
 use Rattle.bson_met.proofs.Refusals.{refused_stops}
-use Rattle.bson_leaves.specs.Leaves.{number_as}
+use Rattle.bson_texts.specs.Leaves.{number_as}
 use Rattle.bson_wrapped.proofs.Numbers.{number_stops, number_done, number_far}
 use Rattle.bson_wrapped.proofs.fields.U32FieldValue.read.Goals as goal
 

@@ -8,10 +8,10 @@ use Rattle.bson_met.specs.PieceView.{str_piece}
 use Rattle.bson_met.specs.Sizes.{size, sizes, scope_size}
 use Rattle.bson_met.specs.ValueView.{value_view}
 use Rattle.bson_met.proofs.Refusals.{StopsAs, stops_inside}
-use Rattle.bson_leaves.specs.Passes.{pass_at}
-use Rattle.bson_leaves.proofs.Each.{step_is, each_next}
-use Rattle.bson_leaves.proofs.Loops.{ignored_at, pass_by, pass_each}
-use Rattle.bson_leaves.proofs.ignored.+ignore.Goals as goal
+use Rattle.bson_texts.specs.Passes.{pass_at}
+use Rattle.bson_texts.proofs.Each.{step_is, each_next}
+use Rattle.bson_texts.proofs.Loops.{ignored_at, pass_by, pass_each}
+use Rattle.bson_texts.proofs.ignored.+ignore.Goals as goal
 
 pub ignore_other-ignore_elements-requires : goal.ignore_other-ignore_elements-requires
 ignore_other-ignore_elements-requires t c =

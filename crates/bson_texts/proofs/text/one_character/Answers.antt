@@ -1,6 +1,6 @@
 use Rattle.std.proofs.Common.{sym, ◌∙◌}
-use Rattle.bson_leaves.proofs.Characters.{first_alone, first_of_more}
-use Rattle.bson_leaves.proofs.text.one_character.Goals as goal
+use Rattle.bson_texts.proofs.Characters.{first_alone, first_of_more}
+use Rattle.bson_texts.proofs.text.one_character.Goals as goal
 
 pub returns-in-Some : goal.returns-in-Some
 returns-in-Some c =

@@ -1,7 +1,7 @@
 // Values that are dropped.
 ghost use Rattle.bson_laws.specs.Judged as reads;
 ghost use Rattle.bson_laws.specs.Judged.{at_its_key, at_its_index};
-ghost use Rattle.bson_leaves.specs.Passes.{pass_at};
+ghost use Rattle.bson_texts.specs.Passes.{pass_at};
 ghost use Rattle.bson_met.specs.Gives.{Reaches};
 ghost use Rattle.bson_met.specs.OpenedView.{extended_view};
 

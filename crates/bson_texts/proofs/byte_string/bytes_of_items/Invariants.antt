@@ -1,9 +1,9 @@
 use Rattle.std.proofs.Common.{◌≡◌, ◌+◌, ◌<◌, ◌^◌}
 use Rattle.bson_laws.specs.Taken.{reads_bytes}
 use Rattle.bson_met.specs.Sizes.{count}
-use Rattle.bson_leaves.proofs.Each.{each}
-use Rattle.bson_leaves.proofs.Loops.{bytes_by}
-use Rattle.bson_leaves.proofs.byte_string.bytes_of_items.Given as goal
+use Rattle.bson_texts.proofs.Each.{each}
+use Rattle.bson_texts.proofs.Loops.{bytes_by}
+use Rattle.bson_texts.proofs.byte_string.bytes_of_items.Given as goal
 
 -- the bytes so far, and those of what is left of the array, are all that it has
 abbrev pub invariant-step : goal.invariant-step

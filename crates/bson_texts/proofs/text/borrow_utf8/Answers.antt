@@ -5,8 +5,8 @@ use Rattle.bson_datum.specs.Cause.{not_utf8}
 use Rattle.bson_laws.specs.Judged.{Reading}
 use Rattle.bson_laws.specs.Taken.{as_text}
 use Rattle.bson_met.proofs.Refusals.{StopsAs, refused_stops}
-use Rattle.bson_leaves.proofs.Texts.{text_good, text_bad}
-use Rattle.bson_leaves.proofs.text.borrow_utf8.Goals as goal
+use Rattle.bson_texts.proofs.Texts.{text_good, text_bad}
+use Rattle.bson_texts.proofs.text.borrow_utf8.Goals as goal
 
 pub returns-in-Ok : goal.returns-in-Ok
 returns-in-Ok c =

@@ -7,14 +7,14 @@ ghost use Rattle.bson_laws.specs.Taken.{read_character};
 ghost use Rattle.bson_laws.specs.Views as views;
 ghost use Rattle.bson_met.specs.Gives.{Reaches};
 ghost use Rattle.bson_met.specs.PieceView.{met_bytes};
-ghost use Rattle.bson_leaves.specs.Leaves.{text_at, borrowed_text, owned_text, character_at};
+ghost use Rattle.bson_texts.specs.Leaves.{text_at, borrowed_text, owned_text, character_at};
 
 use bson_datum::{Cause, Datum};
 use bson_met::{Met, MetBytes, Reading, Scalar, Value, refused};
 use std::alloc::Global;
 
 /// The text that a value is, borrowed.
-pub(crate) fn borrow_text<'de>(alloc: Global, value: &Met<'de>) -> Reading<&'de str>
+pub fn borrow_text<'de>(alloc: Global, value: &Met<'de>) -> Reading<&'de str>
     ensures { Reaches (λ t. borrowed t.now) result (text_at true value.now) }
 {
     match value.scalar(alloc)? {
@@ -80,7 +80,7 @@ fn own_utf8(alloc: Global, bytes: MetBytes<'_>) -> Reading<String>
 
 /// The character of a value that is a text of one.
 #[inline(never)]
-pub(crate) fn character_leaf<'de>(alloc: Global, value: &Met<'de>) -> Reading<Datum<'de>>
+pub fn character_leaf<'de>(alloc: Global, value: &Met<'de>) -> Reading<Datum<'de>>
     ensures exact { Reaches marked result (character_at value.now) }
 {
     match value.judge(alloc)? {
@@ -93,7 +93,7 @@ pub(crate) fn character_leaf<'de>(alloc: Global, value: &Met<'de>) -> Reading<Da
 }
 
 /// The character of a text of one.
-pub(crate) fn character<'de>(alloc: Global, text: &str) -> Reading<Datum<'de>>
+pub fn character<'de>(alloc: Global, text: &str) -> Reading<Datum<'de>>
     ensures exact { Reaches marked result (read_character (views.one_character (chars text.now))) }
 {
     match one_character(text) {

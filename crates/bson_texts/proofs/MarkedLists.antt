@@ -7,7 +7,7 @@ use Rattle.bson_datum.specs.declared.text.Text.{Text}
 use Rattle.bson_datum.specs.declared.datum.Entry.{Entry}
 use Rattle.bson_datum.specs.declared.datum.Datum.TheBlock.{hidden-the_row-Datum-0, hidden-the_row-Entry-1}
 use Rattle.bson_datum.specs.declared.datum.Datum.{Datum, Seq, Tuple, TupleStruct, TupleVariant, Map, Row_of-Datum, end_of-Datum, more_of-Datum, items-the_row-Datum, items_hidden-the_row-Datum-0, Row_of-Entry, end_of-Entry, more_of-Entry, items-the_row-Entry, items_hidden-the_row-Entry-1}
-use Rattle.bson_leaves.specs.ListsMarked.{items_marked, entries_marked}
+use Rattle.bson_texts.specs.ListsMarked.{items_marked, entries_marked}
 
 item_rows_are : (m : _) (rows : Row_of-Datum m) → marked_items rows ≡ items_marked (items-the_row-Datum m rows)
 item_rows_are m end_of-Datum = refl

@@ -2,8 +2,8 @@
 use Rattle.std.proofs.Common.{◌≡◌, ℕ, suc, refl}
 use Rattle.bson_rawdoc.specs.Node.{Nodes, ended, faulty, then_node}
 use Rattle.bson_laws.specs.Slots.{Slots, put_at, fill}
-use Rattle.bson_leaves.proofs.Each.{Action, each}
-use Rattle.bson_leaves.proofs.Loops.{bind_same}
+use Rattle.bson_texts.proofs.Each.{Action, each}
+use Rattle.bson_texts.proofs.Loops.{bind_same}
 
 abbrev pub slots_by : Action Slots
 slots_by i k n slots = put_at k.bytes n slots

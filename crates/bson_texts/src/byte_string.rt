@@ -4,7 +4,7 @@ ghost use Rattle.bson_rawdoc.specs.Piece.{borrowed};
 ghost use Rattle.bson_laws.specs.Taken.{bytes_of, reads_bytes};
 ghost use Rattle.bson_met.specs.Gives.{Reaches};
 ghost use Rattle.bson_met.specs.OpenedView.{extended_view};
-ghost use Rattle.bson_leaves.specs.Leaves.{bytes_at, buffer_at, byte_at};
+ghost use Rattle.bson_texts.specs.Leaves.{bytes_at, buffer_at, byte_at};
 
 use bson_datum::Cause;
 use bson_met::{Extended, Items, Met, Reading, Value, refused};
@@ -12,7 +12,7 @@ use std::alloc::Global;
 
 /// The bytes that a value is, borrowed.
 #[inline(never)]
-pub(crate) fn borrow_bytes<'de>(alloc: Global, value: &Met<'de>) -> Reading<&'de [u8]>
+pub fn borrow_bytes<'de>(alloc: Global, value: &Met<'de>) -> Reading<&'de [u8]>
     ensures { Reaches (λ b. borrowed b.now) result (bytes_at value.now) }
 {
     match value.judge(alloc)? {

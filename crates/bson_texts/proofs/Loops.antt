@@ -8,22 +8,20 @@ use Rattle.bson_rawdoc.specs.declared.raw.Error.{Error}
 use Rattle.bson_datum.specs.Marked.{Marked, MarkedItems, MarkedEntries}
 use Rattle.bson_datum.specs.MarkedView.{marked}
 use Rattle.bson_datum.specs.Refusal.{Segment, inside, under, under_index}
-use Rattle.bson_datum.specs.Value as value
 use Rattle.bson_datum.specs.Value.{no_items, item}
 use Rattle.bson_datum.specs.declared.de.Fault.{Fault}
 use Rattle.bson_datum.specs.declared.stop.Stop.{Stop}
 use Rattle.bson_datum.specs.declared.datum.Datum.{Datum}
 use Rattle.bson_laws.specs.Containers.{reads_items, reads_entries}
 use Rattle.bson_laws.specs.Judged.{Reading, judged, faultless, with_level, ignores, passes, pass_nodes}
-use Rattle.bson_laws.specs.ReadsLeaf.{put_entry, read_any, any_items, any_entries}
+use Rattle.bson_laws.specs.ReadsLeaf.{put_entry}
 use Rattle.bson_laws.specs.Taken.{reads_bytes}
 use Rattle.bson_met.proofs.Refusals.{StopsAs, stops_bind}
 use Rattle.std.specs.Prelude.{Option, Some, None}
-use Rattle.bson_leaves.specs.Any.{any_at}
-use Rattle.bson_leaves.specs.Leaves.{byte_at}
-use Rattle.bson_leaves.specs.Passes.{pass_at}
-use Rattle.bson_leaves.specs.ListsMarked.{items_marked}
-use Rattle.bson_leaves.proofs.Each.{Action, each}
+use Rattle.bson_texts.specs.Leaves.{byte_at}
+use Rattle.bson_texts.specs.Passes.{pass_at}
+use Rattle.bson_texts.specs.ListsMarked.{items_marked}
+use Rattle.bson_texts.proofs.Each.{Action, each}
 
 pub bind_same : {A B : Type 0} (r : Reading A) (f g : A → Reading B) → ((x : A) → f x ≡ g x) → (r >>= f) ≡ (r >>= g)
 bind_same (Ok x) f g h = h x
@@ -90,12 +88,6 @@ pub items_push : (ds : List Datum) (d : Datum) → items_marked (ds ++ d ∷ [])
 items_push [] d = refl
 items_push (e ∷ ds) d = ap (item (marked e)) (items_push ds d)
 
-pub any_items_are : (i : ℕ) (ns : Nodes) → any_items i ns ≡ reads_items any_at i ns
-any_items_are i ended = refl
-any_items_are i (faulty e) = refl
-any_items_are i (then_node k n ns) =
-    (λ j. under_index i (sym (judged_same n (read_any)) j) >>= λ v. result_map (item v) (any_items_are (suc i) ns j))
-
 -- an item that was read, and one that is refused
 pub item_done : (read : Node → Reading Marked) (i : ℕ) (k : Piece) (n : Node) (is : MarkedItems) (v : Marked) → under_index i (read n) ≡ Ok v → items_by read i k n is ≡ Ok (add is v)
 item_done read i k n is v h = ap (λ r. r >>= λ x. Ok (add is x)) h
@@ -116,17 +108,6 @@ entries_each read_key read i (then_node k n ns) es =
     ∙ bind_same (read_key k) (λ key. (under k.bytes (read n) >>= λ v. Ok (put_entry key v es)) >>= each (entries_by read_key read) (suc i) ns) (λ key. under k.bytes (read n) >>= λ v. reads_entries read_key read ns (put_entry key v es))
     (λ key. bind_twice (under k.bytes (read n)) (λ v. Ok (put_entry key v es)) (each (entries_by read_key read) (suc i) ns)
     ∙ bind_same (under k.bytes (read n)) (λ v. each (entries_by read_key read) (suc i) ns (put_entry key v es)) (λ v. reads_entries read_key read ns (put_entry key v es)) (λ v. entries_each read_key read (suc i) ns (put_entry key v es)))
-
--- a key that is read as a text of the same marks
-abbrev pub as_str : Piece → Reading Marked
-as_str k = Ok (value.str k)
-
-pub any_entries_are : (ns : Nodes) (es : MarkedEntries) → any_entries ns es ≡ reads_entries as_str any_at ns es
-any_entries_are ended es = refl
-any_entries_are (faulty e) es = refl
-any_entries_are (then_node k n ns) es =
-    ap (λ r. under k.bytes r >>= λ v. any_entries ns (put_entry (value.str k) v es)) (sym (judged_same n (read_any)))
-    ∙ bind_same (under k.bytes (any_at n)) (λ v. any_entries ns (put_entry (value.str k) v es)) (λ v. reads_entries as_str any_at ns (put_entry (value.str k) v es)) (λ v. any_entries_are ns (put_entry (value.str k) v es))
 
 -- an entry that was read
 pub entry_done : (read_key : Piece → Reading Marked) (read : Node → Reading Marked) (i : ℕ) (k : Piece) (n : Node) (es : MarkedEntries) (key v : Marked) → read_key k ≡ Ok key → under k.bytes (read n) ≡ Ok v → entries_by read_key read i k n es ≡ Ok (put_entry key v es)

@@ -2,9 +2,9 @@ use Rattle.std.proofs.Common.{◌≡◌, ◌+◌, ◌*◌, ◌<◌, ◌≤◌, �
 use Rattle.bson_laws.specs.Judged.{at_its_key, at_its_index, pass_nodes}
 use Rattle.bson_met.specs.OpenedView.{extended_view}
 use Rattle.bson_met.specs.Sizes.{size, sizes, scope_size, count}
-use Rattle.bson_leaves.proofs.Each.{each}
-use Rattle.bson_leaves.proofs.Loops.{pass_by}
-use Rattle.bson_leaves.proofs.ignored.+ignore.Given as goal
+use Rattle.bson_texts.proofs.Each.{each}
+use Rattle.bson_texts.proofs.Loops.{pass_by}
+use Rattle.bson_texts.proofs.ignored.+ignore.Given as goal
 
 abbrev pub decreases-ignore : goal.decreases-ignore
 decreases-ignore l = 3 * size l.value.now + 1
