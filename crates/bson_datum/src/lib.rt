@@ -15,6 +15,9 @@ mod text;
 mod wrapper;
 
 pub use bson_base::MAX_NESTING_LEVEL;
+pub use bson_shape::{
+    FieldShape, Form, Leaf, Named, ParseError, Shape, ShapeError, VariantContent, VariantShape,
+};
 pub use byte_str::ByteStr;
 pub use cause::Cause;
 pub use datum::{Datum, Entry, Field};
