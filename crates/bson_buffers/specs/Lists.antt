@@ -8,7 +8,7 @@ use Rattle.bson_rawdoc.specs.Cut.{cut}
 use Rattle.bson_shape.specs.Form.{Form}
 use Rattle.bson_recast_run.specs.Recasting.{Recast, writes, unread, unwritten, Unwritten}
 use Rattle.bson_migrate_run.specs.Migrating.{NotRecast, migrated, migration_of}
-use Rattle.bson_buffers.specs.Asked.{shape_of, IsNotation}
+use Rattle.bson_buffers.specs.Asked.{shape_of_bytes, DenotesShape}
 use Rattle.bson_buffers.specs.Buffers.{Call, Writes, LacksSpace, Tells, IsSilent}
 use Rattle.bson_buffers.specs.Checks.{NoShapeRow}
 use Rattle.bson_buffers.specs.Migrates.{MigratedRow, BrokenRow, migration_status_at}
@@ -74,7 +74,7 @@ abbrev pub records_by : MigrationReport → (before after : List Refusal) → Re
 records_by a before after = record { before = before; after = after; written = a.refusals_written; needed = a.refusals_needed }
 
 -- As many first records as fit are at the front of the array; those behind them are as they were.
-pub record Lists (a : Records) (records : List Refusal) : Type 0 where
+pub record ListsRecords (a : Records) (records : List Refusal) : Type 0 where
   pub put : a.after ≡ take (length a.before) records ++ drop (length records) a.before
   pub written : a.written ≡ min (length records) (length a.before)
   pub needed : a.needed ≡ length records
@@ -82,7 +82,7 @@ pub record Lists (a : Records) (records : List Refusal) : Type 0 where
 -- Some documents are not recast, as a record for each tells; the buffer holds what the others' recasts write, and migrated again that is given back.
 pub record ListedRow (shape file : Bytes) (c : Call) (a : Records) : Type 0 where
   pub form : Form
-  pub notation : IsNotation shape form
+  pub notation : DenotesShape shape form
   pub output : Bytes
   pub first : NotRecast
   pub others : List NotRecast
@@ -93,13 +93,13 @@ pub record ListedRow (shape file : Bytes) (c : Call) (a : Records) : Type 0 wher
   pub are_records : AreRecords file 0 (first ∷ others) records texts
   pub put : Writes c output
   pub says : Tells c texts
-  pub lists : Lists a records
+  pub lists : ListsRecords a records
   pub no_place : c.place ≡ 0
 
 -- The buffer is too small for what the recasts write. Of each document that is not recast a record tells.
 pub record LargerListedRow (shape file : Bytes) (c : Call) (a : Records) : Type 0 where
   pub form : Form
-  pub notation : IsNotation shape form
+  pub notation : DenotesShape shape form
   pub output : Bytes
   pub refused : List NotRecast
   pub migration : migration_of form file ≡ migrated output refused
@@ -108,15 +108,15 @@ pub record LargerListedRow (shape file : Bytes) (c : Call) (a : Records) : Type 
   pub are_records : AreRecords file 0 refused records texts
   pub larger : LacksSpace c output
   pub says : Tells c texts
-  pub lists : Lists a records
+  pub lists : ListsRecords a records
   pub no_place : c.place ≡ 0
 
 -- The table of statuses: each status comes only where its row holds, and it is the one that is due, or out of memory.
 pub record IsListedMigration (shape file : Bytes) (status : Status) (c : Call) (a : Records) : Type 0 where
-  pub done : status ≡ statuses.Done → MigratedRow shape file c × Lists a []
+  pub done : status ≡ statuses.Done → MigratedRow shape file c × ListsRecords a []
   pub some_refused : status ≡ statuses.SomeRefused → ListedRow shape file c a
   pub buffer_too_small : status ≡ statuses.BufferTooSmall → LargerListedRow shape file c a
-  pub shape_refused : status ≡ statuses.ShapeRefused → NoShapeRow shape c × Lists a []
-  pub broken : status ≡ statuses.Broken → BrokenRow shape file c × Lists a []
-  pub no_memory : status ≡ statuses.NoMemory → IsSilent c × Lists a []
-  pub complete : (status ≡ migration_status_at (length c.buffer.before) file (shape_of shape)) ⊎ (status ≡ statuses.NoMemory)
+  pub shape_refused : status ≡ statuses.ShapeRefused → NoShapeRow shape c × ListsRecords a []
+  pub broken : status ≡ statuses.Broken → BrokenRow shape file c × ListsRecords a []
+  pub no_memory : status ≡ statuses.NoMemory → IsSilent c × ListsRecords a []
+  pub complete : (status ≡ migration_status_at (length c.buffer.before) file (shape_of_bytes shape)) ⊎ (status ≡ statuses.NoMemory)
