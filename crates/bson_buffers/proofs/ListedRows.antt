@@ -83,12 +83,10 @@ module _ (shape file : Bytes) (place : ℕ) (output : Bytes) (said : Utf8) (reco
           output = output;
           refused = [];
           migration = h.2;
-          records = records;
-          texts = said;
-          are_records = (h.6, h.5);
+          said = said;
+          tells = record { records = records; are_records = (h.6, h.5); lists = listed };
           larger = w.1;
           says = d.told;
-          lists = listed;
           no_place = d.at ∙ h.4;
         }),
         w.0 ∙ sym (status_named shape file (length c.buffer.before) h.0 (migrated output []) h.1 h.2 ∙ lacks (length c.buffer.before) output statuses.Done above),
@@ -106,12 +104,10 @@ module _ (shape file : Bytes) (place : ℕ) (output : Bytes) (said : Utf8) (reco
           others = h.2;
           migration = h.4;
           again = h.5;
-          records = records;
-          texts = said;
-          are_records = h.6;
+          said = said;
+          tells = record { records = records; are_records = h.6; lists = listed };
           put = w.1;
           says = d.told;
-          lists = listed;
           no_place = d.at ∙ h.7;
         }),
         w.0 ∙ sym (status_named shape file (length c.buffer.before) h.0 (migrated output (h.1 ∷ h.2)) h.3 h.4 ∙ fits (length c.buffer.before) output statuses.SomeRefused within),
@@ -124,12 +120,10 @@ module _ (shape file : Bytes) (place : ℕ) (output : Bytes) (said : Utf8) (reco
           output = output;
           refused = h.1 ∷ h.2;
           migration = h.4;
-          records = records;
-          texts = said;
-          are_records = h.6;
+          said = said;
+          tells = record { records = records; are_records = h.6; lists = listed };
           larger = w.1;
           says = d.told;
-          lists = listed;
           no_place = d.at ∙ h.7;
         }),
         w.0 ∙ sym (status_named shape file (length c.buffer.before) h.0 (migrated output (h.1 ∷ h.2)) h.3 h.4 ∙ lacks (length c.buffer.before) output statuses.SomeRefused above),

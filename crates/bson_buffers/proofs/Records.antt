@@ -42,7 +42,7 @@ are_records file start (d ∷ ds) (x ∷ xs) h =
     )
 
 -- the parts of a record
-pub record_is : (file : Bytes) (number offset status start text_length cause_start : ℕ) (r : Reason) → offset ≡ offset_in file number → status ≡ r.status → text_length ≡ length r.text → cause_start ≡ r.cause_start
+pub record_is : (file : Bytes) (number offset status start text_length cause_start : ℕ) (r : Reason) → offset ≡ offset_in file number → status ≡ r.status → text_length ≡ length r.text → cause_start ≡ length r.front
     → record { index = number; offset = offset; status = status; text_start = start; text_length = text_length; cause_start = cause_start } ≡ record_of file start number r
 record_is file number offset status start text_length cause_start r at s l c = λ i. record { index = number; offset = at i; status = s i; text_start = start; text_length = l i; cause_start = c i }
 

@@ -22,8 +22,8 @@ pub record MigratedRow (shape file : Bytes) (c : Call) : Type 0 where
   pub no_text : Tells c []
   pub no_place : c.place ≡ 0
 
--- Some documents are not recast, as a line for each tells; the buffer holds what the others' recasts write, and migrated again that is given back.
-pub record SomeRefusedRow (shape file : Bytes) (c : Call) : Type 0 where
+-- Some documents are not recast, and what is said tells of them so; the buffer holds what the others' recasts write, and migrated again that is given back.
+pub record RefusedRow (TellsOf : List NotRecast → Utf8 → Type 0) (shape file : Bytes) (c : Call) : Type 0 where
   pub form : Form
   pub notation : DenotesShape shape form
   pub output : Bytes
@@ -31,24 +31,32 @@ pub record SomeRefusedRow (shape file : Bytes) (c : Call) : Type 0 where
   pub others : List NotRecast
   pub migration : migration_of form file ≡ migrated output (first ∷ others)
   pub again : migration_of form output ≡ migrated output []
-  pub lines : Utf8
-  pub are_lines : AreLines (first ∷ others) lines
+  pub said : Utf8
+  pub tells : TellsOf (first ∷ others) said
   pub put : Writes c output
-  pub says : Tells c lines
+  pub says : Tells c said
   pub no_place : c.place ≡ 0
 
--- The buffer is too small for what the recasts write. Of each document that is not recast a line tells.
-pub record LargerRow (shape file : Bytes) (c : Call) : Type 0 where
+-- The buffer is too small for what the recasts write, and what is said tells so of the documents that are not recast.
+pub record UnfittedRow (TellsOf : List NotRecast → Utf8 → Type 0) (shape file : Bytes) (c : Call) : Type 0 where
   pub form : Form
   pub notation : DenotesShape shape form
   pub output : Bytes
   pub refused : List NotRecast
   pub migration : migration_of form file ≡ migrated output refused
-  pub lines : Utf8
-  pub are_lines : AreLines refused lines
+  pub said : Utf8
+  pub tells : TellsOf refused said
   pub larger : LacksSpace c output
-  pub says : Tells c lines
+  pub says : Tells c said
   pub no_place : c.place ≡ 0
+
+-- Some documents are not recast, as a line for each tells.
+abbrev pub SomeRefusedRow : (shape file : Bytes) → Call → Type 0
+SomeRefusedRow shape file c = RefusedRow AreLines shape file c
+
+-- The buffer is too small, and a line for each document that is not recast tells of it.
+abbrev pub LargerRow : (shape file : Bytes) → Call → Type 0
+LargerRow shape file c = UnfittedRow AreLines shape file c
 
 -- The file is broken at the place.
 pub record BrokenRow (shape file : Bytes) (c : Call) : Type 0 where

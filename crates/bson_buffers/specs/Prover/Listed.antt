@@ -31,13 +31,13 @@ bytes_from file place count = sum_by length (take count (left_at file place).pie
 abbrev pub reason_for : RecastError → lists.Reason
 reason_for (Read e) = lists.unread_for (read_failure e)
 reason_for (Write e) = lists.unwritten_for (write_failure e)
-reason_for NoMemory = record { status = number_of statuses.NoMemory; text = codes "out of memory"; cause_start = 0 }
+reason_for NoMemory = record { status = number_of statuses.NoMemory; text = codes "out of memory"; front = [] }
 
 -- A reason in hand is the one that the error tells.
 pub record IsReason (e : RecastError) (r : declared.Reason) : Type 0 where
   pub status : number_of r.status ≡ (reason_for e).status
   pub text : string_bytes r.text ≡ (reason_for e).text
-  pub front : length (string_bytes r.front) ≡ (reason_for e).cause_start
+  pub front : string_bytes r.front ≡ (reason_for e).front
 
 -- the texts of refused documents, one after another
 abbrev pub texts_of : List Refused → Utf8
