@@ -1,7 +1,7 @@
 -- From what is due for a shape and what was delivered to the table of statuses.
 use Rattle.std.proofs.Common.{◌≡◌, ◌≤◌, ℕ, [], length, ap, subst, arith}
 use Rattle.bson_base.specs.Text.{Bytes, Utf8}
-use Rattle.bson_buffers.specs.Asked.{IsRefused}
+use Rattle.bson_buffers.specs.Asked.{DenotesNone}
 use Rattle.bson_buffers.specs.Checks.{NoShapeRow}
 use Rattle.bson_buffers.specs.Due.{IsDelivered}
 use Rattle.bson_buffers.specs.Buffers.{Call, Writes}
@@ -16,7 +16,7 @@ nothing_written due place output said status c none d =
 
 -- the row of a refused shape
 pub no_shape_row : (shape : Bytes) (due : Status) (place : ℕ) (output : Bytes) (said : Utf8) (status : Status) (c : Call)
-    → IsRefused shape (record { place = place; said = said }) → output ≡ [] → IsDelivered due place output said status c → NoShapeRow shape c
+    → DenotesNone shape (record { place = place; said = said }) → output ≡ [] → IsDelivered due place output said status c → NoShapeRow shape c
 no_shape_row shape due place output said status c refused none d = record {
   why = record { place = place; said = said };
   refused = refused;

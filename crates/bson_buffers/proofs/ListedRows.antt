@@ -7,10 +7,10 @@ use Rattle.bson_shape.specs.Form.{Form}
 use Rattle.bson_migrate_run.specs.declared.migrating.Migration.{Migration}
 use Rattle.bson_migrate_run.specs.declared.migrating.Refused.{Refused}
 use Rattle.bson_migrate_run.specs.Migrating.{NotRecast, Migrating, broken, migrated, migration_of, AreListed, IsMigration}
-use Rattle.bson_buffers.specs.Asked.{shape_of, IsNotation}
+use Rattle.bson_buffers.specs.Asked.{shape_of_bytes, DenotesShape}
 use Rattle.bson_buffers.specs.Buffers.{Call, Tells}
 use Rattle.bson_buffers.specs.Due.{IsDelivered, listed_status}
-use Rattle.bson_buffers.specs.Lists.{Records, Lists, IsListedMigration}
+use Rattle.bson_buffers.specs.Lists.{Records, ListsRecords, IsListedMigration}
 use Rattle.bson_buffers.specs.Migrates.{migration_status, migration_status_at}
 use Rattle.bson_buffers.specs.Prover.Listed.{texts_of, records_from, IsListingOf, IsForListing, IsListingRow}
 use Rattle.bson_buffers.specs.declared.listed.DueList.{DueList}
@@ -23,20 +23,20 @@ use Rattle.bson_buffers.proofs.Records.{are_records}
 
 -- ---- what is due for a migration that was done
 
-by_list : (shape file output : Bytes) (s : Form) (ds : List NotRecast) (xs : List Refused) → IsNotation shape s → migration_of s file ≡ migrated output ds → migration_of s output ≡ migrated output [] → AreListed ds xs
+by_list : (shape file output : Bytes) (s : Form) (ds : List NotRecast) (xs : List Refused) → DenotesShape shape s → migration_of s file ≡ migrated output ds → migration_of s output ≡ migrated output [] → AreListed ds xs
     → IsForListing shape file (listed_status xs) 0 output (texts_of xs) (records_from file 0 xs)
 by_list shape file output s [] [] n is again h = (s, n, is, again, refl, refl, refl)
 by_list shape file output s [] (x ∷ xs) n is again h = absurd h
 by_list shape file output s (d ∷ ds) [] n is again h = absurd h
 by_list shape file output s (d ∷ ds) (x ∷ xs) n is again h = (s, d, ds, n, is, again, are_records file 0 (d ∷ ds) (x ∷ xs) h, refl)
 
-by_answer : (shape file : Bytes) (s : Form) (m : Migration) (r : Migrating) → IsNotation shape s → migration_of s file ≡ r → IsMigration r (Ok m) → migration_of s m.output.items ≡ migrated m.output.items []
+by_answer : (shape file : Bytes) (s : Form) (m : Migration) (r : Migrating) → DenotesShape shape s → migration_of s file ≡ r → IsMigration r (Ok m) → migration_of s m.output.items ≡ migrated m.output.items []
     → IsForListing shape file (listed_status m.refused.items) 0 m.output.items (texts_of m.refused.items) (records_from file 0 m.refused.items)
 by_answer shape file s m (broken place) n is h again = absurd h
 by_answer shape file s m (migrated out ds) n is h again = by_list shape file m.output.items s ds m.refused.items n (is ∙ ap (λ o. migrated o ds) (sym h.0)) again h.1
 
 -- the same of what is in hand
-pub due_for_file : (shape file : Bytes) (s : Form) (m : Migration) (r : Result DueList AllocError) → IsNotation shape s → IsMigration (migration_of s file) (Ok m) → migration_of s m.output.items ≡ migrated m.output.items []
+pub due_for_file : (shape file : Bytes) (s : Form) (m : Migration) (r : Result DueList AllocError) → DenotesShape shape s → IsMigration (migration_of s file) (Ok m) → migration_of s m.output.items ≡ migrated m.output.items []
     → IfOk r (λ d. IsListingOf file m d) → IfOk r (λ d. IsForListing shape file d.due.status d.due.place d.due.output.items (string_bytes d.due.text) d.refusals.items)
 due_for_file shape file s m (Err e) n h again is = tt
 due_for_file shape file s m (Ok d) n h again is =
@@ -49,13 +49,13 @@ due_for_file shape file s m (Ok d) n h again is =
 
 -- ---- the table of statuses
 
-status_named : (shape file : Bytes) (places : ℕ) (s : Form) (m : Migrating) → IsNotation shape s → migration_of s file ≡ m → migration_status_at places file (shape_of shape) ≡ migration_status places m
+status_named : (shape file : Bytes) (places : ℕ) (s : Form) (m : Migrating) → DenotesShape shape s → migration_of s file ≡ m → migration_status_at places file (shape_of_bytes shape) ≡ migration_status places m
 status_named shape file places s m n is = ap (migration_status_at places file) n.asked ∙ ap (migration_status places) is
 
 abbrev IsInTable : (shape file : Bytes) → Status → Call → Records → Type 0
-IsInTable shape file status c a = IsListingRow shape file status c a × (status ≡ migration_status_at (length c.buffer.before) file (shape_of shape))
+IsInTable shape file status c a = IsListingRow shape file status c a × (status ≡ migration_status_at (length c.buffer.before) file (shape_of_bytes shape))
 
-module _ (shape file : Bytes) (place : ℕ) (output : Bytes) (said : Utf8) (records : List Refusal) (status : Status) (c : Call) (a : Records) (listed : Lists a records) where
+module _ (shape file : Bytes) (place : ℕ) (output : Bytes) (said : Utf8) (records : List Refusal) (status : Status) (c : Call) (a : Records) (listed : ListsRecords a records) where
   done_row : IsForListing shape file statuses.Done place output said records → IsDelivered statuses.Done place output said status c → (length output ≤ length c.buffer.before) ⊎ (length c.buffer.before < length output)
       → IsInTable shape file status c a
   done_row h d (inl within) =
@@ -71,7 +71,7 @@ module _ (shape file : Bytes) (place : ℕ) (output : Bytes) (said : Utf8) (reco
             no_text = subst (Tells c) h.5 d.told;
             no_place = d.at ∙ h.4;
           },
-          subst (Lists a) h.6 listed,
+          subst (ListsRecords a) h.6 listed,
         ),
         w.0 ∙ sym (status_named shape file (length c.buffer.before) h.0 (migrated output []) h.1 h.2 ∙ fits (length c.buffer.before) output statuses.Done within),
       )
@@ -83,12 +83,10 @@ module _ (shape file : Bytes) (place : ℕ) (output : Bytes) (said : Utf8) (reco
           output = output;
           refused = [];
           migration = h.2;
-          records = records;
-          texts = said;
-          are_records = (h.6, h.5);
+          said = said;
+          tells = record { records = records; are_records = (h.6, h.5); lists = listed };
           larger = w.1;
           says = d.told;
-          lists = listed;
           no_place = d.at ∙ h.4;
         }),
         w.0 ∙ sym (status_named shape file (length c.buffer.before) h.0 (migrated output []) h.1 h.2 ∙ lacks (length c.buffer.before) output statuses.Done above),
@@ -106,12 +104,10 @@ module _ (shape file : Bytes) (place : ℕ) (output : Bytes) (said : Utf8) (reco
           others = h.2;
           migration = h.4;
           again = h.5;
-          records = records;
-          texts = said;
-          are_records = h.6;
+          said = said;
+          tells = record { records = records; are_records = h.6; lists = listed };
           put = w.1;
           says = d.told;
-          lists = listed;
           no_place = d.at ∙ h.7;
         }),
         w.0 ∙ sym (status_named shape file (length c.buffer.before) h.0 (migrated output (h.1 ∷ h.2)) h.3 h.4 ∙ fits (length c.buffer.before) output statuses.SomeRefused within),
@@ -124,12 +120,10 @@ module _ (shape file : Bytes) (place : ℕ) (output : Bytes) (said : Utf8) (reco
           output = output;
           refused = h.1 ∷ h.2;
           migration = h.4;
-          records = records;
-          texts = said;
-          are_records = h.6;
+          said = said;
+          tells = record { records = records; are_records = h.6; lists = listed };
           larger = w.1;
           says = d.told;
-          lists = listed;
           no_place = d.at ∙ h.7;
         }),
         w.0 ∙ sym (status_named shape file (length c.buffer.before) h.0 (migrated output (h.1 ∷ h.2)) h.3 h.4 ∙ lacks (length c.buffer.before) output statuses.SomeRefused above),
@@ -140,14 +134,14 @@ module _ (shape file : Bytes) (place : ℕ) (output : Bytes) (said : Utf8) (reco
   listing_row statuses.SomeRefused h d = some_row h d (within_or_above (length output) (length c.buffer.before))
   listing_row statuses.ShapeRefused h d =
       let w = nothing_written statuses.ShapeRefused place output said status c h.1 d in (
-        subst (λ s. IsListingRow shape file s c a) (sym w.0) (no_shape_row shape statuses.ShapeRefused place output said status c h.0 h.1 d, subst (Lists a) h.2 listed),
+        subst (λ s. IsListingRow shape file s c a) (sym w.0) (no_shape_row shape statuses.ShapeRefused place output said status c h.0 h.1 d, subst (ListsRecords a) h.2 listed),
         w.0 ∙ sym (ap (migration_status_at (length c.buffer.before) file) h.0.asked),
       )
   listing_row statuses.Broken h d =
       let w = nothing_written statuses.Broken place output said status c h.3 d in (
         subst (λ s. IsListingRow shape file s c a) (sym w.0) (
           record { form = h.0; notation = h.1; migration = h.2 ∙ ap broken (sym d.at); no_output = w.1; no_text = subst (Tells c) h.4 d.told },
-          subst (Lists a) h.5 listed,
+          subst (ListsRecords a) h.5 listed,
         ),
         w.0 ∙ sym (status_named shape file (length c.buffer.before) h.0 (broken place) h.1 h.2),
       )
@@ -157,7 +151,7 @@ module _ (shape file : Bytes) (place : ℕ) (output : Bytes) (said : Utf8) (reco
   listing_row statuses.BufferTooSmall h d = absurd h
   listing_row statuses.NoMemory h d = absurd h
 
-by_row : (shape file : Bytes) (status : Status) (c : Call) (a : Records) → IsListingRow shape file status c a → (status ≡ migration_status_at (length c.buffer.before) file (shape_of shape)) ⊎ (status ≡ statuses.NoMemory)
+by_row : (shape file : Bytes) (status : Status) (c : Call) (a : Records) → IsListingRow shape file status c a → (status ≡ migration_status_at (length c.buffer.before) file (shape_of_bytes shape)) ⊎ (status ≡ statuses.NoMemory)
     → IsListedMigration shape file status c a
 by_row shape file status c a row complete = record {
   done = λ is. subst (λ s. IsListingRow shape file s c a) is row;
@@ -170,5 +164,5 @@ by_row shape file status c a row complete = record {
 }
 
 pub is_listed : (shape file : Bytes) (due : Status) (place : ℕ) (output : Bytes) (said : Utf8) (records : List Refusal) (status : Status) (c : Call) (a : Records) → IsForListing shape file due place output said records
-    → IsDelivered due place output said status c → Lists a records → IsListedMigration shape file status c a
+    → IsDelivered due place output said status c → ListsRecords a records → IsListedMigration shape file status c a
 is_listed shape file due place output said records status c a h d listed = let r = listing_row shape file place output said records status c a listed due h d in by_row shape file status c a r.0 (inl r.1)

@@ -10,7 +10,7 @@ use Rattle.bson_migrate_run.specs.Lines.{refused_lines}
 use Rattle.bson_migrate_run.specs.Migrating.{Migrating, broken, migrated, migration_of, IsMigration}
 use Rattle.bson_migrate_run.specs.Rows as rows
 use Rattle.bson_migrate_run.proofs.LinesDue.{answers_of}
-use Rattle.bson_buffers.specs.Asked.{shape_of, IsNotation}
+use Rattle.bson_buffers.specs.Asked.{shape_of_bytes, DenotesShape}
 use Rattle.bson_buffers.specs.Due.{IsDelivered, IsForMigration, IsMigrationRow, IsOfMigration, listed_status}
 use Rattle.bson_buffers.specs.Migrates.{migration_status, migration_status_at, IsMigrated}
 use Rattle.bson_buffers.specs.Buffers.{Call, Tells}
@@ -22,17 +22,17 @@ use Rattle.bson_buffers.proofs.Delivery.{within_or_above, fits, lacks}
 
 -- ---- what is due for a migration that was done
 
-by_list : (shape file output : Bytes) (s : Form) (xs : List Refused) → IsNotation shape s → rows.Answers (migration_of s file) (rows.listed_status xs) output (refused_lines xs) → migration_of s output ≡ migrated output []
+by_list : (shape file output : Bytes) (s : Form) (xs : List Refused) → DenotesShape shape s → rows.AnswersMigration (migration_of s file) (rows.listed_status xs) output (refused_lines xs) → migration_of s output ≡ migrated output []
     → IsForMigration shape file (listed_status xs) 0 output (refused_lines xs)
 by_list shape file output s [] n h again = (s, n, h.answer, again, refl, h.no_line)
 by_list shape file output s (x ∷ xs) n h again = (s, h.first, h.others, n, h.answer, again, h.say, refl)
 
-due_for_migrated : (shape file : Bytes) (s : Form) (m : Migration) → IsNotation shape s → IsMigration (migration_of s file) (Ok m) → migration_of s m.output.items ≡ migrated m.output.items []
+due_for_migrated : (shape file : Bytes) (s : Form) (m : Migration) → DenotesShape shape s → IsMigration (migration_of s file) (Ok m) → migration_of s m.output.items ≡ migrated m.output.items []
     → IsForMigration shape file (listed_status m.refused.items) 0 m.output.items (refused_lines m.refused.items)
 due_for_migrated shape file s m n h again = by_list shape file m.output.items s m.refused.items n (answers_of s file m h) again
 
 -- the same of what is in hand
-pub due_for_file : (shape file : Bytes) (s : Form) (m : Migration) (r : Result Due AllocError) → IsNotation shape s → IsMigration (migration_of s file) (Ok m) → migration_of s m.output.items ≡ migrated m.output.items []
+pub due_for_file : (shape file : Bytes) (s : Form) (m : Migration) (r : Result Due AllocError) → DenotesShape shape s → IsMigration (migration_of s file) (Ok m) → migration_of s m.output.items ≡ migrated m.output.items []
     → IfOk r (λ d. IsOfMigration m d) → IfOk r (λ d. IsForMigration shape file d.status d.place d.output.items (string_bytes d.text))
 due_for_file shape file s m (Err e) n h again is = tt
 due_for_file shape file s m (Ok d) n h again is =
@@ -43,11 +43,11 @@ due_for_file shape file s m (Ok d) n h again is =
 
 -- ---- the table of statuses
 
-status_named : (shape file : Bytes) (places : ℕ) (s : Form) (m : Migrating) → IsNotation shape s → migration_of s file ≡ m → migration_status_at places file (shape_of shape) ≡ migration_status places m
+status_named : (shape file : Bytes) (places : ℕ) (s : Form) (m : Migrating) → DenotesShape shape s → migration_of s file ≡ m → migration_status_at places file (shape_of_bytes shape) ≡ migration_status places m
 status_named shape file places s m n is = ap (migration_status_at places file) n.asked ∙ ap (migration_status places) is
 
 abbrev IsInTable : (shape file : Bytes) → Status → Call → Type 0
-IsInTable shape file status c = IsMigrationRow shape file status c × (status ≡ migration_status_at (length c.buffer.before) file (shape_of shape))
+IsInTable shape file status c = IsMigrationRow shape file status c × (status ≡ migration_status_at (length c.buffer.before) file (shape_of_bytes shape))
 
 done_row : (shape file : Bytes) (place : ℕ) (output : Bytes) (said : Utf8) (status : Status) (c : Call) → IsForMigration shape file statuses.Done place output said → IsDelivered statuses.Done place output said status c
     → (length output ≤ length c.buffer.before) ⊎ (length c.buffer.before < length output) → IsInTable shape file status c
@@ -73,8 +73,8 @@ done_row shape file place output said status c h d (inr above) =
         output = output;
         refused = [];
         migration = h.2;
-        lines = said;
-        are_lines = h.5;
+        said = said;
+        tells = h.5;
         larger = w.1;
         says = d.told;
         no_place = d.at ∙ h.4;
@@ -94,8 +94,8 @@ some_row shape file place output said status c h d (inl within) =
         others = h.2;
         migration = h.4;
         again = h.5;
-        lines = said;
-        are_lines = h.6;
+        said = said;
+        tells = h.6;
         put = w.1;
         says = d.told;
         no_place = d.at ∙ h.7;
@@ -110,8 +110,8 @@ some_row shape file place output said status c h d (inr above) =
         output = output;
         refused = h.1 ∷ h.2;
         migration = h.4;
-        lines = said;
-        are_lines = h.6;
+        said = said;
+        tells = h.6;
         larger = w.1;
         says = d.told;
         no_place = d.at ∙ h.7;
@@ -145,7 +145,7 @@ migration_row shape file statuses.End place output said status c h d = absurd h
 migration_row shape file statuses.BufferTooSmall place output said status c h d = absurd h
 migration_row shape file statuses.NoMemory place output said status c h d = absurd h
 
-by_row : (shape file : Bytes) (status : Status) (c : Call) → IsMigrationRow shape file status c → (status ≡ migration_status_at (length c.buffer.before) file (shape_of shape)) ⊎ (status ≡ statuses.NoMemory)
+by_row : (shape file : Bytes) (status : Status) (c : Call) → IsMigrationRow shape file status c → (status ≡ migration_status_at (length c.buffer.before) file (shape_of_bytes shape)) ⊎ (status ≡ statuses.NoMemory)
     → IsMigrated shape file status c
 by_row shape file status c row complete = record {
   done = λ is. subst (λ s. IsMigrationRow shape file s c) is row;

@@ -5,7 +5,7 @@ use Rattle.bson_base.specs.Text.{Bytes, Utf8}
 use Rattle.bson_datum.specs.Refusal.{WriteFault, Failure}
 use Rattle.bson_shape.specs.Form.{Form}
 use Rattle.bson_recast_run.specs.Recasting.{Recast, writes, unread, unwritten, recast_of, Unwritten}
-use Rattle.bson_buffers.specs.Asked.{shape_of, IsNotation}
+use Rattle.bson_buffers.specs.Asked.{shape_of_bytes, DenotesShape}
 use Rattle.bson_buffers.specs.Due.{IsDelivered, IsForRecast, IsRecastRow}
 use Rattle.bson_buffers.specs.Recasts.{recast_status, recast_status_at, IsRecast}
 use Rattle.bson_buffers.specs.Buffers.{Call, Tells}
@@ -15,7 +15,7 @@ use Rattle.bson_buffers.proofs.Checked.{nothing_written, no_shape_row}
 use Rattle.bson_buffers.proofs.Delivery.{within_or_above, fits, lacks}
 
 -- the status that is due at a notation
-status_named : (shape bytes : Bytes) (places : ℕ) (s : Form) (r : Recast) → IsNotation shape s → recast_of s bytes ≡ r → recast_status_at places bytes (shape_of shape) ≡ recast_status places r
+status_named : (shape bytes : Bytes) (places : ℕ) (s : Form) (r : Recast) → DenotesShape shape s → recast_of s bytes ≡ r → recast_status_at places bytes (shape_of_bytes shape) ≡ recast_status places r
 status_named shape bytes places s r n is = ap (recast_status_at places bytes) n.asked ∙ ap (recast_status places) is
 
 unwritten_status : (places : ℕ) (r : Recast) (f : Failure WriteFault) → Unwritten r f → recast_status places r ≡ statuses.WriteRefused
@@ -24,7 +24,7 @@ unwritten_status places (unread e) f h = absurd h
 unwritten_status places (unwritten due long) f h = refl
 
 abbrev IsInTable : (shape bytes : Bytes) → Status → Call → Type 0
-IsInTable shape bytes status c = IsRecastRow shape bytes status c × (status ≡ recast_status_at (length c.buffer.before) bytes (shape_of shape))
+IsInTable shape bytes status c = IsRecastRow shape bytes status c × (status ≡ recast_status_at (length c.buffer.before) bytes (shape_of_bytes shape))
 
 written_row : (shape bytes : Bytes) (place : ℕ) (output : Bytes) (said : Utf8) (status : Status) (c : Call) → IsForRecast shape bytes statuses.Done place output said → IsDelivered statuses.Done place output said status c
     → (length output ≤ length c.buffer.before) ⊎ (length c.buffer.before < length output) → IsInTable shape bytes status c
@@ -96,7 +96,7 @@ recast_row shape bytes statuses.End place output said status c h d = absurd h
 recast_row shape bytes statuses.BufferTooSmall place output said status c h d = absurd h
 recast_row shape bytes statuses.NoMemory place output said status c h d = absurd h
 
-by_row : (shape bytes : Bytes) (status : Status) (c : Call) → IsRecastRow shape bytes status c → (status ≡ recast_status_at (length c.buffer.before) bytes (shape_of shape)) ⊎ (status ≡ statuses.NoMemory)
+by_row : (shape bytes : Bytes) (status : Status) (c : Call) → IsRecastRow shape bytes status c → (status ≡ recast_status_at (length c.buffer.before) bytes (shape_of_bytes shape)) ⊎ (status ≡ statuses.NoMemory)
     → IsRecast shape bytes status c
 by_row shape bytes status c row complete = record {
   done = λ is. subst (λ s. IsRecastRow shape bytes s c) is row;

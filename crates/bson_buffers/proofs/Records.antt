@@ -4,19 +4,16 @@ use Rattle.std.specs.Prelude.{◌≢◌}
 use Rattle.std.proofs.lemmas.List.{append_assoc, length-append}
 use Rattle.bson_base.specs.Text.{Bytes, Utf8}
 use Rattle.bson_datum.specs.ErrorView.{read_failure, write_failure}
-use Rattle.bson_datum.specs.Refusal.{ReadFault, Failure}
 use Rattle.bson_recast_run.specs.declared.recasting.RecastError.{RecastError}
 use Rattle.bson_recast_run.specs.declared.recasting.RecastError.TheVariants.{Read, Write, NoMemory}
 use Rattle.bson_recast_run.specs.Recasting.{Recast, writes, unread, unwritten, IsRefusal}
 use Rattle.bson_migrate_run.specs.declared.migrating.Refused.{Refused}
 use Rattle.bson_migrate_run.specs.Migrating.{NotRecast, AreListed}
+use Rattle.bson_migrate_run.proofs.LinesDue.{same_failure}
 use Rattle.bson_migrate_run.proofs.Listing.{no_refusal}
 use Rattle.bson_buffers.specs.Lists.{offset_in, Reason, unread_for, IsReasonOf, record_of, AreRecords}
 use Rattle.bson_buffers.specs.Prover.Listed.{reason_for, texts_of, records_from}
 use Rattle.bson_buffers.specs.declared.refusal.Refusal.{Refusal}
-
-same_failure : (f g : Failure ReadFault) → unread f ≡ unread g → g ≡ f
-same_failure f g e = cc
 
 reason_is : (r : Recast) (e : RecastError) → IsRefusal r e → e ≢ NoMemory → IsReasonOf r (reason_for e)
 reason_is (writes b) e h some = absurd (no_refusal b e h some)
@@ -45,7 +42,7 @@ are_records file start (d ∷ ds) (x ∷ xs) h =
     )
 
 -- the parts of a record
-pub record_is : (file : Bytes) (number offset status start text_length cause_start : ℕ) (r : Reason) → offset ≡ offset_in file number → status ≡ r.status → text_length ≡ length r.text → cause_start ≡ r.cause_start
+pub record_is : (file : Bytes) (number offset status start text_length cause_start : ℕ) (r : Reason) → offset ≡ offset_in file number → status ≡ r.status → text_length ≡ length r.text → cause_start ≡ length r.front
     → record { index = number; offset = offset; status = status; text_start = start; text_length = text_length; cause_start = cause_start } ≡ record_of file start number r
 record_is file number offset status start text_length cause_start r at s l c = λ i. record { index = number; offset = at i; status = s i; text_start = start; text_length = l i; cause_start = c i }
 

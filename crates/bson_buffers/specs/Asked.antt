@@ -34,14 +34,14 @@ named (Ok s) = Ok s
 named (Err r) = Err (no_shape r)
 
 -- the shape that the bytes are the notation of, or why they are none
-abbrev pub shape_of : Bytes → Result Form NoShape
-shape_of bytes = if is_utf8 bytes then named (parsed bytes) else Err (no_text bytes)
+abbrev pub shape_of_bytes : Bytes → Result Form NoShape
+shape_of_bytes bytes = if is_utf8 bytes then named (parsed bytes) else Err (no_text bytes)
 
 -- The bytes are the notation of this shape.
-pub record IsNotation (bytes : Bytes) (shape : Form) : Type 0 where
+pub record DenotesShape (bytes : Bytes) (shape : Form) : Type 0 where
   pub notation : bytes ≡ text shape
   pub made : IsShape shape
-  pub asked : shape_of bytes ≡ Ok shape
+  pub asked : shape_of_bytes bytes ≡ Ok shape
 
 -- The bytes are no UTF-8.
 pub record IsNoText (bytes : Bytes) (n : NoShape) : Type 0 where
@@ -60,6 +60,6 @@ pub record IsRefusedForm (bytes : Bytes) (n : NoShape) : Type 0 where
   pub says : n.said ≡ refusal_text (errors.Refused n.place cause)
 
 -- The bytes are the notation of no shape, for this reason.
-pub record IsRefused (bytes : Bytes) (n : NoShape) : Type 0 where
+pub record DenotesNone (bytes : Bytes) (n : NoShape) : Type 0 where
   pub why : IsNoText bytes n ⊎ IsNoNotation bytes n ⊎ IsRefusedForm bytes n
-  pub asked : shape_of bytes ≡ Err n
+  pub asked : shape_of_bytes bytes ≡ Err n

@@ -9,7 +9,7 @@ use Rattle.bson_migrate_run.specs.declared.migrating.Migration.{Migration}
 use Rattle.bson_migrate_run.specs.declared.migrating.Refused.{Refused}
 use Rattle.bson_migrate_run.specs.Lines.{refused_lines, AreLines}
 use Rattle.bson_migrate_run.specs.Migrating.{NotRecast, broken, migrated, migration_of}
-use Rattle.bson_buffers.specs.Asked.{IsNotation, IsRefused}
+use Rattle.bson_buffers.specs.Asked.{DenotesShape, DenotesNone}
 use Rattle.bson_buffers.specs.Checks.{NoShapeRow}
 use Rattle.bson_buffers.specs.Migrates as migrates
 use Rattle.bson_buffers.specs.Recasts.{RecastRow, LargerRow, UnreadRow, UnwrittenRow}
@@ -27,28 +27,28 @@ pub record IsDelivered (due : Status) (place : ℕ) (output : Bytes) (said : Utf
 
 -- The bytes are a shape's notation, or a text tells why they are none.
 abbrev pub IsForCheck : (shape : Bytes) → Status → (place : ℕ) → (output : Bytes) → (said : Utf8) → Type 0
-IsForCheck shape statuses.Done place output said = (s : Form) × IsNotation shape s × (place ≡ 0) × (output ≡ []) × (said ≡ [])
-IsForCheck shape statuses.ShapeRefused place output said = IsRefused shape (record { place = place; said = said }) × (output ≡ [])
+IsForCheck shape statuses.Done place output said = (s : Form) × DenotesShape shape s × (place ≡ 0) × (output ≡ []) × (said ≡ [])
+IsForCheck shape statuses.ShapeRefused place output said = DenotesNone shape (record { place = place; said = said }) × (output ≡ [])
 IsForCheck shape status place output said = ⊥
 
 -- the same for a document and its recast
 abbrev pub IsForRecast : (shape bytes : Bytes) → Status → (place : ℕ) → (output : Bytes) → (said : Utf8) → Type 0
-IsForRecast shape bytes statuses.Done place output said = (s : Form) × IsNotation shape s × (recast_of s bytes ≡ writes output) × (recast_of s output ≡ writes output) × (place ≡ 0) × (said ≡ [])
-IsForRecast shape bytes statuses.ShapeRefused place output said = IsRefused shape (record { place = place; said = said }) × (output ≡ [])
+IsForRecast shape bytes statuses.Done place output said = (s : Form) × DenotesShape shape s × (recast_of s bytes ≡ writes output) × (recast_of s output ≡ writes output) × (place ≡ 0) × (said ≡ [])
+IsForRecast shape bytes statuses.ShapeRefused place output said = DenotesNone shape (record { place = place; said = said }) × (output ≡ [])
 IsForRecast shape bytes statuses.ReadRefused place output said =
-    (s : Form) × (f : refusal.Failure refusal.ReadFault) × IsNotation shape s × (recast_of s bytes ≡ unread f) × (said ≡ printed_failure printed_read_fault f) × (place ≡ 0) × (output ≡ [])
+    (s : Form) × (f : refusal.Failure refusal.ReadFault) × DenotesShape shape s × (recast_of s bytes ≡ unread f) × (said ≡ printed_failure printed_read_fault f) × (place ≡ 0) × (output ≡ [])
 IsForRecast shape bytes statuses.WriteRefused place output said =
-    (s : Form) × (f : refusal.Failure refusal.WriteFault) × IsNotation shape s × Unwritten (recast_of s bytes) f × (said ≡ printed_failure printed_write_fault f) × (place ≡ 0) × (output ≡ [])
+    (s : Form) × (f : refusal.Failure refusal.WriteFault) × DenotesShape shape s × Unwritten (recast_of s bytes) f × (said ≡ printed_failure printed_write_fault f) × (place ≡ 0) × (output ≡ [])
 IsForRecast shape bytes status place output said = ⊥
 
 -- the same for a file and its migration
 abbrev pub IsForMigration : (shape file : Bytes) → Status → (place : ℕ) → (output : Bytes) → (said : Utf8) → Type 0
 IsForMigration shape file statuses.Done place output said =
-    (s : Form) × IsNotation shape s × (migration_of s file ≡ migrated output []) × (migration_of s output ≡ migrated output []) × (place ≡ 0) × (said ≡ [])
+    (s : Form) × DenotesShape shape s × (migration_of s file ≡ migrated output []) × (migration_of s output ≡ migrated output []) × (place ≡ 0) × (said ≡ [])
 IsForMigration shape file statuses.SomeRefused place output said =
-    (s : Form) × (first : NotRecast) × (others : List NotRecast) × IsNotation shape s × (migration_of s file ≡ migrated output (first ∷ others)) × (migration_of s output ≡ migrated output []) × AreLines (first ∷ others) said × (place ≡ 0)
-IsForMigration shape file statuses.ShapeRefused place output said = IsRefused shape (record { place = place; said = said }) × (output ≡ [])
-IsForMigration shape file statuses.Broken place output said = (s : Form) × IsNotation shape s × (migration_of s file ≡ broken place) × (output ≡ []) × (said ≡ [])
+    (s : Form) × (first : NotRecast) × (others : List NotRecast) × DenotesShape shape s × (migration_of s file ≡ migrated output (first ∷ others)) × (migration_of s output ≡ migrated output []) × AreLines (first ∷ others) said × (place ≡ 0)
+IsForMigration shape file statuses.ShapeRefused place output said = DenotesNone shape (record { place = place; said = said }) × (output ≡ [])
+IsForMigration shape file statuses.Broken place output said = (s : Form) × DenotesShape shape s × (migration_of s file ≡ broken place) × (output ≡ []) × (said ≡ [])
 IsForMigration shape file status place output said = ⊥
 
 -- the status where these documents are refused

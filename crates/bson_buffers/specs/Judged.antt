@@ -3,11 +3,11 @@ use Rattle.std.specs.Prelude.{Result, Ok, Err, string_bytes}
 use Rattle.bson_base.specs.Text.{Bytes}
 use Rattle.bson_shape.specs.Form.{Form}
 use Rattle.bson_buffers.specs.declared.asking.ShapeRefusal.{ShapeRefusal}
-use Rattle.bson_buffers.specs.Asked.{NoShape, IsNotation, IsRefused}
+use Rattle.bson_buffers.specs.Asked.{NoShape, DenotesShape, DenotesNone}
 
 abbrev pub told_by : ShapeRefusal → NoShape
 told_by r = record { place = r.place; said = string_bytes r.text }
 
 abbrev pub IsJudged : Bytes → Result Form ShapeRefusal → Type 0
-IsJudged bytes (Ok s) = IsNotation bytes s
-IsJudged bytes (Err r) = IsRefused bytes (told_by r)
+IsJudged bytes (Ok s) = DenotesShape bytes s
+IsJudged bytes (Err r) = DenotesNone bytes (told_by r)

@@ -5,13 +5,12 @@ use Rattle.bson_base.specs.Text.{Bytes, Utf8}
 use Rattle.bson_datum.specs.Printed.{printed_failure, printed_path, printed_read_fault, printed_write_fault}
 use Rattle.bson_datum.specs.Refusal.{ReadFault, WriteFault, Failure, no_memory, bare, placed}
 use Rattle.bson_rawdoc.specs.Cut.{cut}
-use Rattle.bson_shape.specs.Form.{Form}
 use Rattle.bson_recast_run.specs.Recasting.{Recast, writes, unread, unwritten, Unwritten}
-use Rattle.bson_migrate_run.specs.Migrating.{NotRecast, migrated, migration_of}
-use Rattle.bson_buffers.specs.Asked.{shape_of, IsNotation}
-use Rattle.bson_buffers.specs.Buffers.{Call, Writes, LacksSpace, Tells, IsSilent}
+use Rattle.bson_migrate_run.specs.Migrating.{NotRecast}
+use Rattle.bson_buffers.specs.Asked.{shape_of_bytes}
+use Rattle.bson_buffers.specs.Buffers.{Call, IsSilent}
 use Rattle.bson_buffers.specs.Checks.{NoShapeRow}
-use Rattle.bson_buffers.specs.Migrates.{MigratedRow, BrokenRow, migration_status_at}
+use Rattle.bson_buffers.specs.Migrates.{MigratedRow, RefusedRow, UnfittedRow, BrokenRow, migration_status_at}
 use Rattle.bson_buffers.specs.Number.{number_of}
 use Rattle.bson_buffers.specs.declared.refusal.Refusal.{Refusal}
 use Rattle.bson_buffers.specs.declared.report.MigrationReport.{MigrationReport}
@@ -28,17 +27,17 @@ printed_front no_memory = []
 printed_front (bare f) = []
 printed_front (placed path f) = codes "error at " ++ printed_path path ++ codes ": "
 
--- why a document is not recast: the number of a status, a text, and how many bytes of the text are before the cause
+-- why a document is not recast: the number of a status, a text, and what of the text is before the cause
 pub record Reason : Type 0 where
   pub status : ℕ
   pub text : Utf8
-  pub cause_start : ℕ
+  pub front : Utf8
 
 abbrev pub unread_for : Failure ReadFault → Reason
-unread_for f = record { status = number_of statuses.ReadRefused; text = printed_failure printed_read_fault f; cause_start = length (printed_front f) }
+unread_for f = record { status = number_of statuses.ReadRefused; text = printed_failure printed_read_fault f; front = printed_front f }
 
 abbrev pub unwritten_for : Failure WriteFault → Reason
-unwritten_for f = record { status = number_of statuses.WriteRefused; text = printed_failure printed_write_fault f; cause_start = length (printed_front f) }
+unwritten_for f = record { status = number_of statuses.WriteRefused; text = printed_failure printed_write_fault f; front = printed_front f }
 
 -- why a document is not recast; where its value is refused and is too long, it is either's
 abbrev pub IsReasonOf : Recast → Reason → Type 0
@@ -54,7 +53,7 @@ record_of file text_start number r = record {
   status = r.status;
   text_start = text_start;
   text_length = length r.text;
-  cause_start = r.cause_start;
+  cause_start = length r.front;
 }
 
 -- a record for each document that is not recast, and their texts one after another, which begin here
@@ -74,49 +73,31 @@ abbrev pub records_by : MigrationReport → (before after : List Refusal) → Re
 records_by a before after = record { before = before; after = after; written = a.refusals_written; needed = a.refusals_needed }
 
 -- As many first records as fit are at the front of the array; those behind them are as they were.
-pub record Lists (a : Records) (records : List Refusal) : Type 0 where
+pub record ListsRecords (a : Records) (records : List Refusal) : Type 0 where
   pub put : a.after ≡ take (length a.before) records ++ drop (length records) a.before
   pub written : a.written ≡ min (length records) (length a.before)
   pub needed : a.needed ≡ length records
 
--- Some documents are not recast, as a record for each tells; the buffer holds what the others' recasts write, and migrated again that is given back.
-pub record ListedRow (shape file : Bytes) (c : Call) (a : Records) : Type 0 where
-  pub form : Form
-  pub notation : IsNotation shape form
-  pub output : Bytes
-  pub first : NotRecast
-  pub others : List NotRecast
-  pub migration : migration_of form file ≡ migrated output (first ∷ others)
-  pub again : migration_of form output ≡ migrated output []
+-- A record for each of these documents is listed in the array, and these are their texts.
+pub record ListsEach (file : Bytes) (a : Records) (refused : List NotRecast) (texts : Utf8) : Type 0 where
   pub records : List Refusal
-  pub texts : Utf8
-  pub are_records : AreRecords file 0 (first ∷ others) records texts
-  pub put : Writes c output
-  pub says : Tells c texts
-  pub lists : Lists a records
-  pub no_place : c.place ≡ 0
-
--- The buffer is too small for what the recasts write. Of each document that is not recast a record tells.
-pub record LargerListedRow (shape file : Bytes) (c : Call) (a : Records) : Type 0 where
-  pub form : Form
-  pub notation : IsNotation shape form
-  pub output : Bytes
-  pub refused : List NotRecast
-  pub migration : migration_of form file ≡ migrated output refused
-  pub records : List Refusal
-  pub texts : Utf8
   pub are_records : AreRecords file 0 refused records texts
-  pub larger : LacksSpace c output
-  pub says : Tells c texts
-  pub lists : Lists a records
-  pub no_place : c.place ≡ 0
+  pub lists : ListsRecords a records
+
+-- Some documents are not recast, as a record for each tells.
+abbrev pub ListedRow : (shape file : Bytes) → Call → Records → Type 0
+ListedRow shape file c a = RefusedRow (ListsEach file a) shape file c
+
+-- The buffer is too small, and a record for each document that is not recast tells of it.
+abbrev pub LargerListedRow : (shape file : Bytes) → Call → Records → Type 0
+LargerListedRow shape file c a = UnfittedRow (ListsEach file a) shape file c
 
 -- The table of statuses: each status comes only where its row holds, and it is the one that is due, or out of memory.
 pub record IsListedMigration (shape file : Bytes) (status : Status) (c : Call) (a : Records) : Type 0 where
-  pub done : status ≡ statuses.Done → MigratedRow shape file c × Lists a []
+  pub done : status ≡ statuses.Done → MigratedRow shape file c × ListsRecords a []
   pub some_refused : status ≡ statuses.SomeRefused → ListedRow shape file c a
   pub buffer_too_small : status ≡ statuses.BufferTooSmall → LargerListedRow shape file c a
-  pub shape_refused : status ≡ statuses.ShapeRefused → NoShapeRow shape c × Lists a []
-  pub broken : status ≡ statuses.Broken → BrokenRow shape file c × Lists a []
-  pub no_memory : status ≡ statuses.NoMemory → IsSilent c × Lists a []
-  pub complete : (status ≡ migration_status_at (length c.buffer.before) file (shape_of shape)) ⊎ (status ≡ statuses.NoMemory)
+  pub shape_refused : status ≡ statuses.ShapeRefused → NoShapeRow shape c × ListsRecords a []
+  pub broken : status ≡ statuses.Broken → BrokenRow shape file c × ListsRecords a []
+  pub no_memory : status ≡ statuses.NoMemory → IsSilent c × ListsRecords a []
+  pub complete : (status ≡ migration_status_at (length c.buffer.before) file (shape_of_bytes shape)) ⊎ (status ≡ statuses.NoMemory)

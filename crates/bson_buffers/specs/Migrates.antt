@@ -4,7 +4,7 @@ use Rattle.bson_base.specs.Text.{Bytes, Utf8}
 use Rattle.bson_shape.specs.Form.{Form}
 use Rattle.bson_migrate_run.specs.Lines.{AreLines}
 use Rattle.bson_migrate_run.specs.Migrating.{NotRecast, Migrating, broken, migrated, migration_of}
-use Rattle.bson_buffers.specs.Asked.{NoShape, shape_of, IsNotation}
+use Rattle.bson_buffers.specs.Asked.{NoShape, shape_of_bytes, DenotesShape}
 use Rattle.bson_buffers.specs.Checks.{NoShapeRow}
 use Rattle.bson_buffers.specs.Recasts.{fitted}
 use Rattle.bson_buffers.specs.Buffers.{Call, Writes, LacksSpace, Tells, IsSilent}
@@ -14,7 +14,7 @@ use Rattle.bson_buffers.specs.declared.status.Status.TheVariants as statuses
 -- Every document is recast, and the buffer holds what the recasts write; migrated again at the shape, that is given back.
 pub record MigratedRow (shape file : Bytes) (c : Call) : Type 0 where
   pub form : Form
-  pub notation : IsNotation shape form
+  pub notation : DenotesShape shape form
   pub output : Bytes
   pub migration : migration_of form file ≡ migrated output []
   pub again : migration_of form output ≡ migrated output []
@@ -22,38 +22,46 @@ pub record MigratedRow (shape file : Bytes) (c : Call) : Type 0 where
   pub no_text : Tells c []
   pub no_place : c.place ≡ 0
 
--- Some documents are not recast, as a line for each tells; the buffer holds what the others' recasts write, and migrated again that is given back.
-pub record SomeRefusedRow (shape file : Bytes) (c : Call) : Type 0 where
+-- Some documents are not recast, and what is said tells of them so; the buffer holds what the others' recasts write, and migrated again that is given back.
+pub record RefusedRow (TellsOf : List NotRecast → Utf8 → Type 0) (shape file : Bytes) (c : Call) : Type 0 where
   pub form : Form
-  pub notation : IsNotation shape form
+  pub notation : DenotesShape shape form
   pub output : Bytes
   pub first : NotRecast
   pub others : List NotRecast
   pub migration : migration_of form file ≡ migrated output (first ∷ others)
   pub again : migration_of form output ≡ migrated output []
-  pub lines : Utf8
-  pub are_lines : AreLines (first ∷ others) lines
+  pub said : Utf8
+  pub tells : TellsOf (first ∷ others) said
   pub put : Writes c output
-  pub says : Tells c lines
+  pub says : Tells c said
   pub no_place : c.place ≡ 0
 
--- The buffer is too small for what the recasts write. Of each document that is not recast a line tells.
-pub record LargerRow (shape file : Bytes) (c : Call) : Type 0 where
+-- The buffer is too small for what the recasts write, and what is said tells so of the documents that are not recast.
+pub record UnfittedRow (TellsOf : List NotRecast → Utf8 → Type 0) (shape file : Bytes) (c : Call) : Type 0 where
   pub form : Form
-  pub notation : IsNotation shape form
+  pub notation : DenotesShape shape form
   pub output : Bytes
   pub refused : List NotRecast
   pub migration : migration_of form file ≡ migrated output refused
-  pub lines : Utf8
-  pub are_lines : AreLines refused lines
+  pub said : Utf8
+  pub tells : TellsOf refused said
   pub larger : LacksSpace c output
-  pub says : Tells c lines
+  pub says : Tells c said
   pub no_place : c.place ≡ 0
+
+-- Some documents are not recast, as a line for each tells.
+abbrev pub SomeRefusedRow : (shape file : Bytes) → Call → Type 0
+SomeRefusedRow shape file c = RefusedRow AreLines shape file c
+
+-- The buffer is too small, and a line for each document that is not recast tells of it.
+abbrev pub LargerRow : (shape file : Bytes) → Call → Type 0
+LargerRow shape file c = UnfittedRow AreLines shape file c
 
 -- The file is broken at the place.
 pub record BrokenRow (shape file : Bytes) (c : Call) : Type 0 where
   pub form : Form
-  pub notation : IsNotation shape form
+  pub notation : DenotesShape shape form
   pub migration : migration_of form file ≡ broken c.place
   pub no_output : Writes c []
   pub no_text : Tells c []
@@ -77,4 +85,4 @@ pub record IsMigrated (shape file : Bytes) (status : Status) (c : Call) : Type 0
   pub shape_refused : status ≡ statuses.ShapeRefused → NoShapeRow shape c
   pub broken : status ≡ statuses.Broken → BrokenRow shape file c
   pub no_memory : status ≡ statuses.NoMemory → IsSilent c
-  pub complete : (status ≡ migration_status_at (length c.buffer.before) file (shape_of shape)) ⊎ (status ≡ statuses.NoMemory)
+  pub complete : (status ≡ migration_status_at (length c.buffer.before) file (shape_of_bytes shape)) ⊎ (status ≡ statuses.NoMemory)

@@ -5,7 +5,7 @@ use Rattle.bson_datum.specs.Printed.{printed_failure, printed_read_fault, printe
 use Rattle.bson_datum.specs.Refusal.{ReadFault, WriteFault, Failure}
 use Rattle.bson_shape.specs.Form.{Form}
 use Rattle.bson_recast_run.specs.Recasting.{Recast, writes, unread, unwritten, recast_of, Unwritten}
-use Rattle.bson_buffers.specs.Asked.{NoShape, shape_of, IsNotation}
+use Rattle.bson_buffers.specs.Asked.{NoShape, shape_of_bytes, DenotesShape}
 use Rattle.bson_buffers.specs.Checks.{NoShapeRow}
 use Rattle.bson_buffers.specs.Buffers.{Call, Writes, LacksSpace, Tells, IsSilent}
 use Rattle.bson_buffers.specs.declared.status.Status.{Status}
@@ -14,7 +14,7 @@ use Rattle.bson_buffers.specs.declared.status.Status.TheVariants as statuses
 -- The document is recast, and the buffer holds what the recast writes; recast again at the shape, that is given back.
 pub record RecastRow (shape bytes : Bytes) (c : Call) : Type 0 where
   pub form : Form
-  pub notation : IsNotation shape form
+  pub notation : DenotesShape shape form
   pub output : Bytes
   pub recast : recast_of form bytes ≡ writes output
   pub again : recast_of form output ≡ writes output
@@ -25,7 +25,7 @@ pub record RecastRow (shape bytes : Bytes) (c : Call) : Type 0 where
 -- The document is recast, and the buffer is too small for what the recast writes.
 pub record LargerRow (shape bytes : Bytes) (c : Call) : Type 0 where
   pub form : Form
-  pub notation : IsNotation shape form
+  pub notation : DenotesShape shape form
   pub output : Bytes
   pub recast : recast_of form bytes ≡ writes output
   pub larger : LacksSpace c output
@@ -35,7 +35,7 @@ pub record LargerRow (shape bytes : Bytes) (c : Call) : Type 0 where
 -- The document is not read at the shape, as the text tells.
 pub record UnreadRow (shape bytes : Bytes) (c : Call) : Type 0 where
   pub form : Form
-  pub notation : IsNotation shape form
+  pub notation : DenotesShape shape form
   pub failure : Failure ReadFault
   pub recast : recast_of form bytes ≡ unread failure
   pub says : Tells c (printed_failure printed_read_fault failure)
@@ -45,7 +45,7 @@ pub record UnreadRow (shape bytes : Bytes) (c : Call) : Type 0 where
 -- What is read is not written, as the text tells.
 pub record UnwrittenRow (shape bytes : Bytes) (c : Call) : Type 0 where
   pub form : Form
-  pub notation : IsNotation shape form
+  pub notation : DenotesShape shape form
   pub failure : Failure WriteFault
   pub recast : Unwritten (recast_of form bytes) failure
   pub says : Tells c (printed_failure printed_write_fault failure)
@@ -75,4 +75,4 @@ pub record IsRecast (shape bytes : Bytes) (status : Status) (c : Call) : Type 0 
   pub read_refused : status ≡ statuses.ReadRefused → UnreadRow shape bytes c
   pub write_refused : status ≡ statuses.WriteRefused → UnwrittenRow shape bytes c
   pub no_memory : status ≡ statuses.NoMemory → IsSilent c
-  pub complete : (status ≡ recast_status_at (length c.buffer.before) bytes (shape_of shape)) ⊎ (status ≡ statuses.NoMemory)
+  pub complete : (status ≡ recast_status_at (length c.buffer.before) bytes (shape_of_bytes shape)) ⊎ (status ≡ statuses.NoMemory)

@@ -1,6 +1,6 @@
 // Judging a shape.
 ghost use Rattle.std.specs.Prelude.{◌≡◌, ◌⊎◌, [], IfOk, string_bytes};
-ghost use Rattle.bson_buffers.specs.Asked.{shape_of};
+ghost use Rattle.bson_buffers.specs.Asked.{shape_of_bytes};
 ghost use Rattle.bson_buffers.specs.Checks.{IsShapeRow, NoShapeRow, judged, IsChecked};
 ghost use Rattle.bson_buffers.specs.Due.{IsForCheck};
 ghost use Rattle.bson_buffers.specs.Buffers.{call_of, IsSilent};
@@ -45,7 +45,7 @@ pub fn check_shape(alloc: Global, shape: &[u8], text: &mut [u8]) -> Report
     ensures shape_refused { result.status ≡ statuses.ShapeRefused → NoShapeRow shape.now (call_of result [] [] text.old text.new) }
     ensures no_memory { result.status ≡ statuses.NoMemory → IsSilent (call_of result [] [] text.old text.new) }
     // The status is the one that is due, or out of memory.
-    ensures complete { (result.status ≡ judged (shape_of shape.now)) ⊎ (result.status ≡ statuses.NoMemory) }
+    ensures complete { (result.status ≡ judged (shape_of_bytes shape.now)) ⊎ (result.status ≡ statuses.NoMemory) }
 {
     check(alloc, shape, text)
 }

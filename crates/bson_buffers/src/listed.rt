@@ -1,9 +1,9 @@
 // Migrating a file of documents into a buffer, with a record for each refused document.
 ghost use Rattle.std.specs.Prelude.{◌≡◌, ◌⊎◌, [], IfOk, length, string_bytes};
-ghost use Rattle.bson_buffers.specs.Asked.{shape_of};
+ghost use Rattle.bson_buffers.specs.Asked.{shape_of_bytes};
 ghost use Rattle.bson_buffers.specs.Buffers.{call_of, IsSilent};
 ghost use Rattle.bson_buffers.specs.Checks.{NoShapeRow};
-ghost use Rattle.bson_buffers.specs.Lists.{records_by, Lists, ListedRow, LargerListedRow, IsListedMigration};
+ghost use Rattle.bson_buffers.specs.Lists.{records_by, ListsRecords, ListedRow, LargerListedRow, IsListedMigration};
 ghost use Rattle.bson_buffers.specs.Migrates.{MigratedRow, BrokenRow, migration_status_at};
 ghost use Rattle.bson_buffers.specs.Prover.Listed.{IsForListing, IsListingOf};
 ghost use Rattle.bson_buffers.specs.declared.status.Status.TheVariants as statuses;
@@ -106,9 +106,10 @@ fn migrate_whole(
 /// Recasts each document of a file as [`migrate_into`](crate::migrate_into) does, and lists the refused documents in an array.
 ///
 /// The array gets as many of the first records as fit, in the order of the file: one for each document that is not recast, with its number, its place in the
-/// file, the status of its recast, and where its text is. The text has no lines: it is the texts of these documents one after another, each as
-/// [`recast_into`](crate::recast_into) gives it; its buffer gets as many of the first bytes as fit. The statuses are those of `migrate_into`; at each but
-/// `SomeRefused` and `BufferTooSmall` no document is listed, and the array is as it was.
+/// file, the status of its recast, where its text is, and where in that text its cause begins. The text has no lines: it is the texts of these documents one
+/// after another, each as [`recast_into`](crate::recast_into) gives it; its buffer gets as many of the first bytes as fit. The statuses are those of
+/// `migrate_into`; at each but `SomeRefused` and `BufferTooSmall` no document is listed, and the array is as it was. At `ShapeRefused` the text is that of
+/// `check_shape`.
 pub fn migrate_and_list(
     alloc: Global,
     shape: &[u8],
@@ -118,19 +119,19 @@ pub fn migrate_and_list(
     refusals: &mut [Refusal],
 ) -> MigrationReport
     ensures done { result.report.status ≡ statuses.Done → MigratedRow shape.now file.now (call_of result.report output.old output.new text.old text.new)
-        × Lists (records_by result refusals.old refusals.new) [] }
+        × ListsRecords (records_by result refusals.old refusals.new) [] }
     ensures some_refused { result.report.status ≡ statuses.SomeRefused → ListedRow shape.now file.now (call_of result.report output.old output.new text.old text.new)
         (records_by result refusals.old refusals.new) }
     ensures buffer_too_small { result.report.status ≡ statuses.BufferTooSmall → LargerListedRow shape.now file.now (call_of result.report output.old output.new text.old text.new)
         (records_by result refusals.old refusals.new) }
     ensures shape_refused { result.report.status ≡ statuses.ShapeRefused → NoShapeRow shape.now (call_of result.report output.old output.new text.old text.new)
-        × Lists (records_by result refusals.old refusals.new) [] }
+        × ListsRecords (records_by result refusals.old refusals.new) [] }
     ensures broken { result.report.status ≡ statuses.Broken → BrokenRow shape.now file.now (call_of result.report output.old output.new text.old text.new)
-        × Lists (records_by result refusals.old refusals.new) [] }
+        × ListsRecords (records_by result refusals.old refusals.new) [] }
     ensures no_memory { result.report.status ≡ statuses.NoMemory → IsSilent (call_of result.report output.old output.new text.old text.new)
-        × Lists (records_by result refusals.old refusals.new) [] }
+        × ListsRecords (records_by result refusals.old refusals.new) [] }
     // The status is the one that is due, or out of memory.
-    ensures complete { (result.report.status ≡ migration_status_at (length output.old) file.now (shape_of shape.now)) ⊎ (result.report.status ≡ statuses.NoMemory) }
+    ensures complete { (result.report.status ≡ migration_status_at (length output.old) file.now (shape_of_bytes shape.now)) ⊎ (result.report.status ≡ statuses.NoMemory) }
 {
     migrate_whole(alloc, shape, file, output, text, refusals)
 }

@@ -1,6 +1,6 @@
 // Migrating a file of documents into a buffer.
 ghost use Rattle.std.specs.Prelude.{◌≡◌, ◌⊎◌, [], IfOk, length, string_bytes};
-ghost use Rattle.bson_buffers.specs.Asked.{shape_of};
+ghost use Rattle.bson_buffers.specs.Asked.{shape_of_bytes};
 ghost use Rattle.bson_buffers.specs.Checks.{NoShapeRow};
 ghost use Rattle.bson_buffers.specs.Due.{IsForMigration, IsOfMigration};
 ghost use Rattle.bson_buffers.specs.Migrates.{MigratedRow, SomeRefusedRow, LargerRow, BrokenRow, migration_status_at, IsMigrated};
@@ -93,7 +93,7 @@ pub fn migrate_into(
     ensures broken { result.status ≡ statuses.Broken → BrokenRow shape.now file.now (call_of result output.old output.new text.old text.new) }
     ensures no_memory { result.status ≡ statuses.NoMemory → IsSilent (call_of result output.old output.new text.old text.new) }
     // The status is the one that is due, or out of memory.
-    ensures complete { (result.status ≡ migration_status_at (length output.old) file.now (shape_of shape.now)) ⊎ (result.status ≡ statuses.NoMemory) }
+    ensures complete { (result.status ≡ migration_status_at (length output.old) file.now (shape_of_bytes shape.now)) ⊎ (result.status ≡ statuses.NoMemory) }
 {
     migrate_whole(alloc, shape, file, output, text)
 }

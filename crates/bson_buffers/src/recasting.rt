@@ -1,6 +1,6 @@
 // Recasting a document into a buffer.
 ghost use Rattle.std.specs.Prelude.{◌≡◌, ◌⊎◌, IfOk, length, string_bytes};
-ghost use Rattle.bson_buffers.specs.Asked.{shape_of};
+ghost use Rattle.bson_buffers.specs.Asked.{shape_of_bytes};
 ghost use Rattle.bson_buffers.specs.Checks.{NoShapeRow};
 ghost use Rattle.bson_buffers.specs.Due.{IsForRecast};
 ghost use Rattle.bson_buffers.specs.Recasts.{RecastRow, LargerRow, UnreadRow, UnwrittenRow, recast_status_at, IsRecast};
@@ -81,7 +81,7 @@ pub fn recast_into(
     ensures write_refused { result.status ≡ statuses.WriteRefused → UnwrittenRow shape.now bytes.now (call_of result output.old output.new text.old text.new) }
     ensures no_memory { result.status ≡ statuses.NoMemory → IsSilent (call_of result output.old output.new text.old text.new) }
     // The status is the one that is due, or out of memory.
-    ensures complete { (result.status ≡ recast_status_at (length output.old) bytes.now (shape_of shape.now)) ⊎ (result.status ≡ statuses.NoMemory) }
+    ensures complete { (result.status ≡ recast_status_at (length output.old) bytes.now (shape_of_bytes shape.now)) ⊎ (result.status ≡ statuses.NoMemory) }
 {
     recast_whole(alloc, shape, bytes, output, text)
 }

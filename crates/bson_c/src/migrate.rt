@@ -1,5 +1,5 @@
 ghost use Rattle.std.specs.Prelude.{◌≡◌, ◌⊎◌, length};
-ghost use Rattle.bson_buffers.specs.Asked.{shape_of};
+ghost use Rattle.bson_buffers.specs.Asked.{shape_of_bytes};
 ghost use Rattle.bson_buffers.specs.Checks.{NoShapeRow};
 ghost use Rattle.bson_buffers.specs.Migrates.{MigratedRow, SomeRefusedRow, LargerRow, BrokenRow, migration_status_at};
 ghost use Rattle.bson_buffers.specs.Number.{number_of};
@@ -26,7 +26,7 @@ pub extern "C" fn tbson_migrate(
     ensures broken { result.status ≡ number_of statuses.Broken → BrokenRow shape.now file.now (crossed_call result output.old output.new text.old text.new) }
     ensures no_memory { result.status ≡ number_of statuses.NoMemory → IsSilent (crossed_call result output.old output.new text.old text.new) }
     // The status is the one that is due, or out of memory.
-    ensures complete { (result.status ≡ number_of (migration_status_at (length output.old) file.now (shape_of shape.now))) ⊎ (result.status ≡ number_of statuses.NoMemory) }
+    ensures complete { (result.status ≡ number_of (migration_status_at (length output.old) file.now (shape_of_bytes shape.now))) ⊎ (result.status ≡ number_of statuses.NoMemory) }
 {
     Report::crossed(bson_buffers::migrate_into(alloc, shape, file, output, text))
 }

@@ -18,7 +18,7 @@ use Rattle.bson_migrate_run.specs.declared.migrating.Migration.{Migration}
 use Rattle.bson_migrate_run.specs.declared.migrating.Refused.{Refused}
 use Rattle.bson_migrate_run.specs.Lines.{of_document, refused_text, refused_lines, IsLine, AreLines}
 use Rattle.bson_migrate_run.specs.Migrating.{NotRecast, Migrating, broken, migrated, migration_of, IsListed, AreListed, IsMigration}
-use Rattle.bson_migrate_run.specs.Rows.{listed_status, Answers}
+use Rattle.bson_migrate_run.specs.Rows.{listed_status, AnswersMigration}
 use Rattle.bson_migrate_run.proofs.Listing.{no_refusal}
 
 text_ended : (n : ℕ) (said : Utf8) → of_document n said ++ newline ≡ of_document n (said ++ newline)
@@ -26,7 +26,8 @@ text_ended n said =
     append_assoc (codes "document ") (decimal n ++ (codes ": " ++ said)) newline
     ∙ ap (λ t. codes "document " ++ t) (append_assoc (decimal n) (codes ": " ++ said) newline ∙ ap (λ t. decimal n ++ t) (append_assoc (codes ": ") said newline))
 
-same_failure : (f g : Failure ReadFault) → unread f ≡ unread g → g ≡ f
+-- two failures to read are one where the recasts that they make are
+pub same_failure : (f g : Failure ReadFault) → unread f ≡ unread g → g ≡ f
 same_failure f g e = cc
 
 line_by : (n : ℕ) (r : Recast) (e : RecastError) → IsRefusal r e → e ≢ NoMemory → IsLine n r (of_document n (recast_error_text e) ++ newline)
@@ -49,15 +50,15 @@ lines_are [] (x ∷ xs) h = absurd h
 lines_are (d ∷ ds) [] h = absurd h
 lines_are (d ∷ ds) (x ∷ xs) h = (refused_text x ++ newline, refused_lines xs, line_is d x h.0, refl, lines_are ds xs h.1)
 
-of_list : (s : Form) (bytes out : Bytes) (ds : List NotRecast) (xs : List Refused) → migration_of s bytes ≡ migrated out ds → AreListed ds xs → Answers (migration_of s bytes) (listed_status xs) out (refused_lines xs)
+of_list : (s : Form) (bytes out : Bytes) (ds : List NotRecast) (xs : List Refused) → migration_of s bytes ≡ migrated out ds → AreListed ds xs → AnswersMigration (migration_of s bytes) (listed_status xs) out (refused_lines xs)
 of_list s bytes out [] [] is h = record { answer = is; no_line = refl }
 of_list s bytes out [] (x ∷ xs) is h = absurd h
 of_list s bytes out (d ∷ ds) [] is h = absurd h
 of_list s bytes out (d ∷ ds) (x ∷ xs) is h = record { first = d; others = ds; answer = is; say = lines_are (d ∷ ds) (x ∷ xs) h }
 
-by_answer : (s : Form) (bytes : Bytes) (m : Migration) (r : Migrating) → migration_of s bytes ≡ r → IsMigration r (Ok m) → Answers (migration_of s bytes) (listed_status m.refused.items) m.output.items (refused_lines m.refused.items)
+by_answer : (s : Form) (bytes : Bytes) (m : Migration) (r : Migrating) → migration_of s bytes ≡ r → IsMigration r (Ok m) → AnswersMigration (migration_of s bytes) (listed_status m.refused.items) m.output.items (refused_lines m.refused.items)
 by_answer s bytes m (broken place) is h = absurd h
 by_answer s bytes m (migrated out ds) is h = of_list s bytes m.output.items ds m.refused.items (is ∙ ap (λ o. migrated o ds) (sym h.0)) h.1
 
-pub answers_of : (s : Form) (bytes : Bytes) (m : Migration) → IsMigration (migration_of s bytes) (Ok m) → Answers (migration_of s bytes) (listed_status m.refused.items) m.output.items (refused_lines m.refused.items)
+pub answers_of : (s : Form) (bytes : Bytes) (m : Migration) → IsMigration (migration_of s bytes) (Ok m) → AnswersMigration (migration_of s bytes) (listed_status m.refused.items) m.output.items (refused_lines m.refused.items)
 answers_of s bytes m h = by_answer s bytes m (migration_of s bytes) refl h

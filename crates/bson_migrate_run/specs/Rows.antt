@@ -33,11 +33,11 @@ pub record BrokenRow (migration : Migrating) (out line : Bytes) : Type 0 where
   pub nothing : out ≡ []
 
 -- what is due for what the migration of a whole file comes to
-abbrev pub Answers : Migrating → Due MigrateStatus
-Answers migration statuses.Done out lines = DoneRow migration out lines
-Answers migration statuses.SomeRefused out lines = SomeRefusedRow migration out lines
-Answers migration statuses.Broken out lines = BrokenRow migration out lines
-Answers migration status out lines = ⊥
+abbrev pub AnswersMigration : Migrating → Due MigrateStatus
+AnswersMigration migration statuses.Done out lines = DoneRow migration out lines
+AnswersMigration migration statuses.SomeRefused out lines = SomeRefusedRow migration out lines
+AnswersMigration migration statuses.Broken out lines = BrokenRow migration out lines
+AnswersMigration migration status out lines = ⊥
 
 -- the status for what it comes to
 abbrev pub migration_status : Migrating → MigrateStatus
@@ -58,7 +58,7 @@ migrate_input = record { source_fault = statuses.SourceFault; too_long = statuse
 abbrev pub migrate_program : Program Form MigrateStatus
 migrate_program = record {
   command = one_shape migrate_usage;
-  Answers = λ s. OnInput migrate_input (λ file. Answers (migration_of s file));
+  Answers = λ s. OnInput migrate_input (λ file. AnswersMigration (migration_of s file));
   status = λ s. input_status migrate_input (λ file. migration_status (migration_of s file));
   usage = statuses.Usage;
   endings = record { sink_fault = statuses.SinkFault; no_memory = statuses.NoMemory };

@@ -13,7 +13,7 @@ ghost use Rattle.bson_program.specs.Run.{run_of, AllQuiet, AreKept};
 ghost use Rattle.bson_migrate_run.specs.declared.status.MigrateStatus.TheVariants as statuses;
 ghost use Rattle.bson_migrate_run.specs.Lines.{refused_lines};
 ghost use Rattle.bson_migrate_run.specs.Migrating.{NotRecast, migrated, migration_of};
-ghost use Rattle.bson_migrate_run.specs.Rows.{Answers, listed_status, migrate_program, WritesMigrated};
+ghost use Rattle.bson_migrate_run.specs.Rows.{AnswersMigration, listed_status, migrate_program, WritesMigrated};
 
 use crate::migrating::{MigrateError, Refused, migrate};
 use crate::status::MigrateStatus;
@@ -78,7 +78,7 @@ fn answer_to(
     shape: &Shape,
     bytes: &[u8],
 ) -> Result<Answer<MigrateStatus>, AllocError>
-    ensures { IfOk result (Says (Answers (migration_of shape.now bytes.now))) }
+    ensures { IfOk result (Says (AnswersMigration (migration_of shape.now bytes.now))) }
 {
     let migration = match migrate(alloc, shape, bytes) {
         Ok(migration) => migration,

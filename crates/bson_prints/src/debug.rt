@@ -1,16 +1,19 @@
 // What `Debug` prints, as Rust's derive prints it.
-use bson_recast_run::{Status, recast};
-use bson_shape::Shape;
+use crate::printing::print_debug;
+use bson_recast_run::{RecastError, Status, recast};
+use bson_shape::{ParseError, Shape};
 use std::alloc::Global;
 use std::io::Print;
 use std::test::Fail;
 
+/// Why a document is refused at a sequence.
+fn refusal(alloc: Global) -> Result<Option<RecastError>, ParseError> {
+    let shape = Shape::parse(alloc, "[bool]")?;
+    Ok(recast(alloc, &shape, b"\x05\0\0\0\0").err())
+}
+
 /// A status, and the refusal of a document.
 pub fn print_runs(rt: &impl Print, alloc: Global) -> Result<(), Fail> {
-    let status = Status::Done;
-    println!(rt; "{status:?}")?;
-    let shape = Shape::parse(alloc, "[bool]")?;
-    let refusal = recast(alloc, &shape, b"\x05\0\0\0\0").err();
-    println!(rt; "{refusal:?}")?;
-    Ok(())
+    print_debug(rt, &Status::Done)?;
+    print_debug(rt, &refusal(alloc)?)
 }

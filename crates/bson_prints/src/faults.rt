@@ -16,18 +16,27 @@ struct Ends {
     err: MemorySink,
 }
 
-/// Ends over the document, with ample room. Of the input and of the output: which calls fail, and how many bytes each moves at most;
-/// of the error output: which calls fail.
-fn failing_ends(
-    alloc: Global,
-    input: (&[u64], &[usize]),
-    out: (&[u64], &[usize]),
-    err: &[u64],
-) -> Result<Ends, AllocError> {
+/// A source of the document, of which these calls fail, and each gives at most so many bytes.
+fn source(alloc: Global, failing: &[u64], limits: &[usize]) -> Result<MemorySource, AllocError> {
     let bytes = DOCUMENT.to_vec(alloc)?;
-    let input = MemorySource::new(bytes, input.0.to_vec(alloc)?, input.1.to_vec(alloc)?);
-    let out = MemorySink::new(alloc, 99, out.0.to_vec(alloc)?, out.1.to_vec(alloc)?)?;
-    let err = MemorySink::new(alloc, 99, err.to_vec(alloc)?, Vec::new(alloc))?;
+    let failing = failing.to_vec(alloc)?;
+    let limits = limits.to_vec(alloc)?;
+    Ok(MemorySource::new(bytes, failing, limits))
+}
+
+/// A sink with ample room, of which these calls fail, and each takes at most so many bytes.
+fn sink(alloc: Global, failing: &[u64], limits: &[usize]) -> Result<MemorySink, AllocError> {
+    let failing = failing.to_vec(alloc)?;
+    let limits = limits.to_vec(alloc)?;
+    MemorySink::new(alloc, 99, failing, limits)
+}
+
+/// Ends of which one call of the source and one of the output fail, each of them of many that move one byte; and a call of the error output. The
+/// calls are numbered from 1, and 0 is none.
+fn failing_ends(alloc: Global, read: u64, written: u64, told: u64) -> Result<Ends, AllocError> {
+    let input = source(alloc, &[read], &[1; 13])?;
+    let out = sink(alloc, &[written], &[1; 12])?;
+    let err = sink(alloc, &[told], &[])?;
     Ok(Ends { input, out, err })
 }
 
@@ -37,7 +46,21 @@ fn run_at(alloc: Global, shape: &str, ends: &mut Ends) -> Result<Status, AllocEr
     Ok(run(alloc, &words, &mut ends.input, &mut ends.out, &mut ends.err))
 }
 
-/// Runs the program at a shape, and prints how it ends, what it writes and what it tells.
+/// Prints how a run ended, what it wrote and what it told.
+fn print_ends(
+    rt: &impl Print,
+    alloc: Global,
+    what: &str,
+    status: Status,
+    ends: &Ends,
+) -> Result<(), Fail> {
+    let written = hex::encode(alloc, ends.out.written())?;
+    let told = hex::encode(alloc, ends.err.written())?;
+    println!(rt; "{what}: {status:?} [{written}] [{told}]")?;
+    Ok(())
+}
+
+/// Runs the program at a shape, and prints what came of it.
 fn print_run(
     rt: &impl Print,
     alloc: Global,
@@ -46,29 +69,41 @@ fn print_run(
     mut ends: Ends,
 ) -> Result<(), Fail> {
     let status = run_at(alloc, shape, &mut ends)?;
-    let written = hex::encode(alloc, ends.out.written())?;
-    let told = hex::encode(alloc, ends.err.written())?;
-    println!(rt; "{what}: {status:?} [{written}] [{told}]")?;
-    Ok(())
+    print_ends(rt, alloc, what, status, &ends)
+}
+
+/// An input that fails at a call.
+fn print_input_fault(rt: &impl Print, alloc: Global, call: u64) -> Result<(), Fail> {
+    let what = format!(in alloc; "read {call}")?;
+    let ends = failing_ends(alloc, call, 0, 0)?;
+    print_run(rt, alloc, what.as_str(), "{i:i32}", ends)
 }
 
 /// Inputs that fail at each of their calls.
 pub fn print_input_faults(rt: &impl Print, alloc: Global) -> Result<(), Fail> {
     for call in 1..14 {
-        let what = format!(in alloc; "read {call}")?;
-        let ends = failing_ends(alloc, (&[call], &[1; 13]), (&[], &[]), &[])?;
-        print_run(rt, alloc, what.as_str(), "{i:i32}", ends)?;
+        print_input_fault(rt, alloc, call)?;
     }
     Ok(())
 }
 
-/// Outputs that fail at each of their calls, and an error output that fails.
+/// An output that fails at a call.
+fn print_output_fault(rt: &impl Print, alloc: Global, call: u64) -> Result<(), Fail> {
+    let what = format!(in alloc; "write {call}")?;
+    let ends = failing_ends(alloc, 0, call, 0)?;
+    print_run(rt, alloc, what.as_str(), "{i:i32}", ends)
+}
+
+/// Outputs that fail at each of their calls.
 pub fn print_output_faults(rt: &impl Print, alloc: Global) -> Result<(), Fail> {
     for call in 1..13 {
-        let what = format!(in alloc; "write {call}")?;
-        let ends = failing_ends(alloc, (&[], &[]), (&[call], &[1; 12]), &[])?;
-        print_run(rt, alloc, what.as_str(), "{i:i32}", ends)?;
+        print_output_fault(rt, alloc, call)?;
     }
-    let ends = failing_ends(alloc, (&[], &[]), (&[], &[]), &[1])?;
+    Ok(())
+}
+
+/// An error output that fails.
+pub fn print_error_fault(rt: &impl Print, alloc: Global) -> Result<(), Fail> {
+    let ends = failing_ends(alloc, 0, 0, 1)?;
     print_run(rt, alloc, "error output", "{i:i33}", ends)
 }

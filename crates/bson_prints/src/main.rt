@@ -4,6 +4,7 @@
 
 mod debug;
 mod faults;
+mod printing;
 mod reading;
 mod refusals;
 mod tree;
@@ -18,7 +19,9 @@ fn main(rt: HostRuntime) -> Result<(), Fail> {
     tree::print_tree(&rt, alloc)?;
     writing::print_struct(&rt, alloc)?;
     refusals::print_refusals(&rt, alloc)?;
-    refusals::print_long_binaries(&rt, alloc)?;
+    refusals::print_long_binary(&rt, alloc)?;
+    refusals::print_long_old_binary(&rt, alloc)?;
     faults::print_input_faults(&rt, alloc)?;
-    faults::print_output_faults(&rt, alloc)
+    faults::print_output_faults(&rt, alloc)?;
+    faults::print_error_fault(&rt, alloc)
 }

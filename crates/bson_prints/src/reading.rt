@@ -1,4 +1,5 @@
 // What is read where there is memory: a document at a shape.
+use crate::printing::{print_bytes, print_debug};
 use bson_de_raw::from_slice_at;
 use bson_recast_run::recast;
 use bson_shape::Shape;
@@ -12,9 +13,6 @@ const DOCUMENT: &[u8] = b"\x0c\0\0\0\x10i\0\x01\0\0\0\0";
 /// The document read at a shape, and recast.
 pub fn print_document(rt: &impl Print, alloc: Global) -> Result<(), Fail> {
     let shape = Shape::parse(alloc, "S{i:i32}")?;
-    let datum = from_slice_at(alloc, &shape, DOCUMENT)?;
-    println!(rt; "{datum:?}")?;
-    let written = recast(alloc, &shape, DOCUMENT)?;
-    println!(rt; "recast: {}", hex::encode(alloc, &written)?)?;
-    Ok(())
+    print_debug(rt, &from_slice_at(alloc, &shape, DOCUMENT)?)?;
+    print_bytes(rt, alloc, "recast", &recast(alloc, &shape, DOCUMENT)?)
 }

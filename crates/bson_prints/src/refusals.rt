@@ -1,7 +1,8 @@
 // What the writer refuses where there is memory.
+use crate::printing::print_text;
 use crate::writing::one_field;
 use bson_base::MAX_BINARY;
-use bson_datum::{ByteStr, Datum, Entry, Field, Text};
+use bson_datum::{ByteStr, Datum, Entry, Field, Text, ser};
 use bson_ser_stream::to_vec_at;
 use std::alloc::{AllocError, Global};
 use std::io::Print;
@@ -23,9 +24,13 @@ fn map_of_bytes<'a>(alloc: Global) -> Result<Datum<'a>, AllocError> {
     Ok(Datum::Map(vec![in alloc; Entry { key, value }]?))
 }
 
+/// The digits of an ObjectId.
+fn digits<'a>() -> Datum<'a> {
+    Datum::Str(Text::Borrowed("507f1f77bcf86cd799439011"))
+}
+
 /// A struct of a reserved name with its field twice.
 fn repeated_field<'a>(alloc: Global) -> Result<Datum<'a>, AllocError> {
-    let digits = || Datum::Str(Text::Borrowed("507f1f77bcf86cd799439011"));
     let fields = vec![in alloc; field("$oid", digits()), field("$oid", digits())]?;
     let name = Text::Borrowed("$oid");
     Ok(Datum::Struct { name, fields })
@@ -57,34 +62,38 @@ fn old_binary<'a>(alloc: Global, bytes: &'a [u8]) -> Result<Datum<'a>, AllocErro
     Ok(Datum::Struct { name, fields })
 }
 
+/// Why a document with the value under `x` is refused, if it is.
+fn refusal(alloc: Global, value: Datum<'_>) -> Result<Option<ser::Error>, AllocError> {
+    let document = one_field(alloc, "x", value)?;
+    Ok(to_vec_at(alloc, &document).err())
+}
+
 /// Writes a document with the value under `x`, and prints why it is refused.
 fn print_refusal(rt: &impl Print, alloc: Global, value: Datum<'_>) -> Result<(), Fail> {
-    match to_vec_at(alloc, &one_field(alloc, "x", value)?) {
-        Ok(_) => println!(rt; "written")?,
-        Err(error) => println!(rt; "{error}")?,
+    match refusal(alloc, value)? {
+        None => print_text(rt, &"written"),
+        Some(error) => print_text(rt, &error),
     }
-    Ok(())
 }
 
 /// The refusals of a number above the greatest Int64, of a key that is no text, of a field given twice, of a UUID in the form that the newtype
 /// does not take, and of an array at level 201.
 pub fn print_refusals(rt: &impl Print, alloc: Global) -> Result<(), Fail> {
-    for value in [
-        Datum::U64(9223372036854775808),
-        map_of_bytes(alloc)?,
-        repeated_field(alloc)?,
-        compact_uuid(alloc)?,
-        nested(alloc, 200)?,
-    ] {
-        print_refusal(rt, alloc, value)?;
-    }
-    Ok(())
+    print_refusal(rt, alloc, Datum::U64(9223372036854775808))?;
+    print_refusal(rt, alloc, map_of_bytes(alloc)?)?;
+    print_refusal(rt, alloc, repeated_field(alloc)?)?;
+    print_refusal(rt, alloc, compact_uuid(alloc)?)?;
+    print_refusal(rt, alloc, nested(alloc, 200)?)
 }
 
-/// The refusals of binaries that have one byte too many: of subtype 0, and of the old subtype 2, where four bytes less may be.
-pub fn print_long_binaries(rt: &impl Print, alloc: Global) -> Result<(), Fail> {
+/// The refusal of a binary of subtype 0 that has one byte too many.
+pub fn print_long_binary(rt: &impl Print, alloc: Global) -> Result<(), Fail> {
     let bytes = vec![in alloc; 0; MAX_BINARY + 1]?;
-    print_refusal(rt, alloc, Datum::Bytes(ByteStr::Borrowed(&bytes)))?;
+    print_refusal(rt, alloc, Datum::Bytes(ByteStr::Borrowed(&bytes)))
+}
+
+/// The refusal of a binary of the old subtype 2 that has one byte too many: four bytes less may be in it.
+pub fn print_long_old_binary(rt: &impl Print, alloc: Global) -> Result<(), Fail> {
     let bytes = vec![in alloc; 0; MAX_BINARY - 3]?;
     print_refusal(rt, alloc, old_binary(alloc, &bytes)?)
 }

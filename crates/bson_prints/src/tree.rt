@@ -1,6 +1,7 @@
 // What is written of a tree that the reader of trees read.
+use crate::printing::print_bytes;
 use bson_base::{Bson, Document, JavaScriptCodeWithScope, ObjectId, Regex};
-use bson_datum::MAX_NESTING_LEVEL;
+use bson_datum::{Datum, MAX_NESTING_LEVEL};
 use bson_de::read_value;
 use bson_met::Met;
 use bson_ser_stream::to_vec_at;
@@ -30,33 +31,48 @@ fn scoped(alloc: Global) -> Result<Bson, AllocError> {
     Ok(Bson::JavaScriptCodeWithScope(JavaScriptCodeWithScope { code, scope }))
 }
 
+/// Puts a number and an ObjectId: `{n: 1, id: ObjectId}`.
+fn put_scalars(alloc: Global, document: &mut Document) -> Result<(), AllocError> {
+    put(alloc, document, "n", Bson::Int32(1))?;
+    let id = ObjectId(*b"abcdefghijkl");
+    put(alloc, document, "id", Bson::ObjectId(id))
+}
+
+/// Puts values that have memory of their own: `{r: /a/ix, c: f with the scope {x: null}, a: [null]}`.
+fn put_owned(alloc: Global, document: &mut Document) -> Result<(), AllocError> {
+    put(alloc, document, "r", regex(alloc)?)?;
+    put(alloc, document, "c", scoped(alloc)?)?;
+    let items = vec![in alloc; Bson::Null]?;
+    put(alloc, document, "a", Bson::Array(items))
+}
+
 /// The document `{n: 1, id: ObjectId, r: /a/ix, c: f with the scope {x: null}, a: [null]}`.
 fn tree(alloc: Global) -> Result<Bson, AllocError> {
     let mut document = Document::new(alloc);
-    put(alloc, &mut document, "n", Bson::Int32(1))?;
-    let id = ObjectId(*b"abcdefghijkl");
-    put(alloc, &mut document, "id", Bson::ObjectId(id))?;
-    put(alloc, &mut document, "r", regex(alloc)?)?;
-    put(alloc, &mut document, "c", scoped(alloc)?)?;
-    let items = vec![in alloc; Bson::Null]?;
-    put(alloc, &mut document, "a", Bson::Array(items))?;
+    put_scalars(alloc, &mut document)?;
+    put_owned(alloc, &mut document)?;
     Ok(Bson::Document(document))
+}
+
+/// A tree read at a shape.
+fn read_at<'a>(alloc: Global, shape: &Shape, tree: &'a Bson) -> Result<Datum<'a>, Fail> {
+    match read_value(alloc, shape, &Met::of_tree(MAX_NESTING_LEVEL, tree)) {
+        Ok(datum) => Ok(datum),
+        Err(_) => Err(Fail::from("not read")),
+    }
+}
+
+/// The bytes of a tree read at a shape.
+fn print_at(rt: &impl Print, alloc: Global, shape: &str, tree: &Bson) -> Result<(), Fail> {
+    let parsed = Shape::parse(alloc, shape)?;
+    let datum = read_at(alloc, &parsed, tree)?;
+    print_bytes(rt, alloc, shape, &to_vec_at(alloc, &datum)?)
 }
 
 /// The bytes of the tree read at shapes.
 pub fn print_tree(rt: &impl Print, alloc: Global) -> Result<(), Fail> {
     let tree = tree(alloc)?;
-    for shape in [
-        "{n:i64,id:any,r:any,c:any,a:[?bool]}",
-        "{n:i32,id:oid,r:regex,c:codews,a:bson}",
-        "bson",
-    ] {
-        let parsed = Shape::parse(alloc, shape)?;
-        let Ok(datum) = read_value(alloc, &parsed, &Met::of_tree(MAX_NESTING_LEVEL, &tree)) else {
-            return Err(Fail::from("not read"));
-        };
-        let bytes = to_vec_at(alloc, &datum)?;
-        println!(rt; "{shape}: {}", hex::encode(alloc, &bytes)?)?;
-    }
-    Ok(())
+    print_at(rt, alloc, "{n:i64,id:any,r:any,c:any,a:[?bool]}", &tree)?;
+    print_at(rt, alloc, "{n:i32,id:oid,r:regex,c:codews,a:bson}", &tree)?;
+    print_at(rt, alloc, "bson", &tree)
 }

@@ -1,5 +1,6 @@
 // What is written where there is memory, by each call.
-use bson_datum::{Datum, Field, Text};
+use crate::printing::print_bytes;
+use bson_datum::{Datum, Field, Text, ser};
 use bson_io::{Out, Steps, Tally};
 use bson_ser_stream::{to_buf, to_vec_at, to_vec_counted};
 use std::alloc::{AllocError, Global};
@@ -18,16 +19,28 @@ pub fn one_field<'a>(
     Ok(Datum::Struct { name, fields })
 }
 
+/// The bytes that a value is written as, counted.
+fn counted(alloc: Global, value: &Datum<'_>) -> ser::Result<Vec<u8>> {
+    let mut steps = Steps::<Tally>::new();
+    to_vec_counted(alloc, value, &mut steps)
+}
+
+/// The bytes that a value is written as into a buffer.
+fn appended(alloc: Global, value: &Datum<'_>) -> ser::Result<Vec<u8>> {
+    let mut out = Out::new(alloc);
+    let mut steps = Steps::<Tally>::new();
+    to_buf(value, &mut out, &mut steps)?;
+    Ok(out.into_vec())
+}
+
+/// A value, written by each call.
+fn print_written(rt: &impl Print, alloc: Global, value: &Datum<'_>) -> Result<(), Fail> {
+    print_bytes(rt, alloc, "to_vec_at", &to_vec_at(alloc, value)?)?;
+    print_bytes(rt, alloc, "to_vec_counted", &counted(alloc, value)?)?;
+    print_bytes(rt, alloc, "to_buf", &appended(alloc, value)?)
+}
+
 /// A struct, written by each call.
 pub fn print_struct(rt: &impl Print, alloc: Global) -> Result<(), Fail> {
-    let value = one_field(alloc, "i", Datum::I32(1))?;
-    let bytes = to_vec_at(alloc, &value)?;
-    println!(rt; "to_vec_at: {}", hex::encode(alloc, &bytes)?)?;
-    let mut steps = Steps::<Tally>::new();
-    let bytes = to_vec_counted(alloc, &value, &mut steps)?;
-    println!(rt; "to_vec_counted: {}", hex::encode(alloc, &bytes)?)?;
-    let mut out = Out::new(alloc);
-    to_buf(&value, &mut out, &mut steps)?;
-    println!(rt; "to_buf: {}", hex::encode(alloc, out.as_bytes())?)?;
-    Ok(())
+    print_written(rt, alloc, &one_field(alloc, "i", Datum::I32(1))?)
 }

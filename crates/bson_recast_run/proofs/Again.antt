@@ -33,7 +33,7 @@ use Rattle.bson_recast_run.specs.declared.status.Status.{Status}
 use Rattle.bson_recast_run.specs.declared.status.Status.TheVariants as statuses
 use Rattle.bson_recast_run.specs.Due.{recast_usage}
 use Rattle.bson_recast_run.specs.Recasting.{writes, written, recast_read, recast_of, IsRecast}
-use Rattle.bson_recast_run.specs.Rows.{Answers, recast_input, recast_program, WritesExactly}
+use Rattle.bson_recast_run.specs.Rows.{AnswersRecast, recast_input, recast_program, WritesExactly}
 use Rattle.bson_recast_run.proofs.Headline.{writes_recast}
 
 -- a value that was read, and the document that it is written as
@@ -93,7 +93,7 @@ has_written r done answers = by_end answers.ended where
   by_due : (bytes lines : Bytes) → AreWritten bytes lines r.out r.err → IsDue recast_program r.words r.input statuses.Done bytes lines → HasWritten r
   by_due bytes lines written (inr row) = absurd (let e = row.ended in cc)
   by_due bytes lines written (inl row) = by_input row.answer where
-    by_input : OnInput recast_input (λ doc. Answers (recast_of row.job doc)) r.input statuses.Done bytes lines → HasWritten r
+    by_input : OnInput recast_input (λ doc. AnswersRecast (recast_of row.job doc)) r.input statuses.Done bytes lines → HasWritten r
     by_input (inl h) = record { shape = row.job; asked = row.asked; bytes = h.bytes; read = h.read; out = bytes; answer = h.answer.answer; out_grew = written.out_grew }
     by_input (inr (inl h)) = absurd (let e = h.ended in cc)
     by_input (inr (inr h)) = absurd (let e = h.ended in cc)

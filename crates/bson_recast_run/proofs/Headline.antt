@@ -23,7 +23,7 @@ use Rattle.bson_program.specs.OneShape.{request}
 use Rattle.bson_program.specs.Program.{IsAnswered}
 use Rattle.bson_program.specs.Run.{Run, AllQuiet, AreKept, Told}
 use Rattle.bson_recast_run.specs.Recasting.{writes, recast_of}
-use Rattle.bson_recast_run.specs.Rows.{Answers, recast_input, recast_program, WritesExactly}
+use Rattle.bson_recast_run.specs.Rows.{AnswersRecast, recast_input, recast_program, WritesExactly}
 use Rattle.bson_recast_run.proofs.Migrates.{recasts_it}
 
 -- ---- the words
@@ -72,7 +72,7 @@ keeps_from (Some x) None h = absurd h
 keeps_from (Some x) (Some y) h = h ∙ append-nil x
 
 -- what is due where the recast writes these bytes
-writes_due : (out : Bytes) (status : Status) (bytes line : Bytes) → Answers (writes out) status bytes line → (status ≡ statuses.Done) × (bytes ≡ out) × (line ≡ [])
+writes_due : (out : Bytes) (status : Status) (bytes line : Bytes) → AnswersRecast (writes out) status bytes line → (status ≡ statuses.Done) × (bytes ≡ out) × (line ≡ [])
 writes_due out statuses.Done bytes line h = (refl, (let e = h.answer in cc), h.no_line)
 writes_due out statuses.ReadRefused bytes line h = absurd (let e = h.answer in cc)
 writes_due out statuses.WriteRefused bytes line h = absurd h.answer
@@ -81,10 +81,10 @@ writes_due out status bytes line h = absurd h
 -- Asked for a recast of this input at a shape, where the recast writes `out`, exactly that is written, or nothing.
 pub writes_recast : (s : Form) (doc out : Bytes) (r : Run Status) → IsAnswered recast_program r → length doc ≤ max_bytes → recast_of s doc ≡ writes out → request recast_usage r.words ≡ Ok s → r.input.before ≡ Some doc → AllQuiet r → WritesExactly r out
 writes_recast s doc out r answers small recast_is asked told quiet =
-    by_end (quiet_read recast_program recast_input (λ bytes. Answers (recast_of s bytes)) r s doc quiet asked (λ status bytes line h. h) told small answers) where
-      by_end : Told (Answers (recast_of s doc)) r ⊎ ((r.status ≡ statuses.NoMemory) × AreKept r.out r.err) → WritesExactly r out
+    by_end (quiet_read recast_program recast_input (λ bytes. AnswersRecast (recast_of s bytes)) r s doc quiet asked (λ status bytes line h. h) told small answers) where
+      by_end : Told (AnswersRecast (recast_of s doc)) r ⊎ ((r.status ≡ statuses.NoMemory) × AreKept r.out r.err) → WritesExactly r out
       by_end (inl h) =
-          let due = writes_due out r.status h.bytes h.lines (subst (λ c. Answers c r.status h.bytes h.lines) recast_is h.due) in
+          let due = writes_due out r.status h.bytes h.lines (subst (λ c. AnswersRecast c r.status h.bytes h.lines) recast_is h.due) in
           inl (due.0, subst (Appends r.out.before r.out.after) due.1 h.written.out_grew, keeps_from r.err.before r.err.after (subst (Appends r.err.before r.err.after) due.2 h.written.err_grew))
       by_end (inr h) = inr h
 

@@ -53,12 +53,12 @@ value_refused d true (Ok t) f e (inr long) = inr (long.1, ltb-true _ _ e)
 value_refused d false (Ok t) f e h = absurd h
 
 -- a value that was read and is not written, for the refusal that is due or for its size
-pub record IsRefused (s : Form) (bytes : Bytes) (f : Failure WriteFault) : Type 0 where
+pub record IsValueRefused (s : Form) (bytes : Bytes) (f : Failure WriteFault) : Type 0 where
   pub value : Value
   pub read : reads_document s bytes ≡ Ok value
   pub refused : IsDue (spell_document value) f ⊎ ((f ≡ too_long_failure) × (max_bytes < size value))
 
-unwritten_is : (s : Form) (bytes : Bytes) (f : Failure WriteFault) (answer : Result Value (Failure ReadFault)) → reads_document s bytes ≡ answer → Unwritten (recast_read answer) f → IsRefused s bytes f
+unwritten_is : (s : Form) (bytes : Bytes) (f : Failure WriteFault) (answer : Result Value (Failure ReadFault)) → reads_document s bytes ≡ answer → Unwritten (recast_read answer) f → IsValueRefused s bytes f
 unwritten_is s bytes f (Err e) is h = absurd h
 unwritten_is s bytes f (Ok d) is h = record { value = d; read = is; refused = value_refused d (nat_lt max_bytes (size d)) (spell_document d) f refl h }
 
@@ -70,7 +70,7 @@ module _ (s : Form) (bytes : Bytes) (are : AreBytes bytes) where
   value_is d e p q = let both : read d ≡ read e = sym p ∙ q in cc
 
   -- a property of each failure of the writer for what was read
-  of_each : (P : Failure WriteFault → Type 0) → ((f : Failure WriteFault) → IsRefused s bytes f → P f) → (r : Result (Vec ℕ) RecastError) → IsRecast (recast_of s bytes) r → IfUnwritten P r
+  of_each : (P : Failure WriteFault → Type 0) → ((f : Failure WriteFault) → IsValueRefused s bytes f → P f) → (r : Result (Vec ℕ) RecastError) → IsRecast (recast_of s bytes) r → IfUnwritten P r
   of_each P holds (Ok v) h = tt
   of_each P holds (Err (Read e)) h = tt
   of_each P holds (Err (Write e)) h = holds (write_failure e) (unwritten_is s bytes (write_failure e) (reads_document s bytes) refl h)
@@ -82,7 +82,7 @@ module _ (s : Form) (bytes : Bytes) (are : AreBytes bytes) where
   due_for_size (Ok t) f u due = absurd due
   due_for_size (Err r) f u due = inr (r.path, r.fault, due, u)
 
-  too_large : IsShape s → IsWritable s → (f : Failure WriteFault) (h : IsRefused s bytes f) → IsForSize s bytes f
+  too_large : IsShape s → IsWritable s → (f : Failure WriteFault) (h : IsValueRefused s bytes f) → IsForSize s bytes f
   too_large shape writable f h = by_cause h.refused where
     by_cause : IsDue (spell_document h.value) f ⊎ ((f ≡ too_long_failure) × (max_bytes < size h.value)) → IsForSize s bytes f
     by_cause (inl due) = due_for_size (spell_document h.value) f (document_written s bytes h.value shape writable are h.read) due
@@ -100,7 +100,7 @@ module _ (s : Form) (bytes : Bytes) (are : AreBytes bytes) where
       let same : r.fault ≡ fault = cc in
       u (subst IsNumber (sym same) n)
 
-  no_number : (f : Failure WriteFault) (h : IsRefused s bytes f) → IsForNoNumber f
+  no_number : (f : Failure WriteFault) (h : IsValueRefused s bytes f) → IsForNoNumber f
   no_number f h = by_cause h.refused where
     by_cause : IsDue (spell_document h.value) f ⊎ ((f ≡ too_long_failure) × (max_bytes < size h.value)) → IsForNoNumber f
     by_cause (inl due) = due_for_none (spell_document h.value) f (document_numbers s bytes h.value are h.read) due

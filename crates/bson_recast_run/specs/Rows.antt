@@ -33,11 +33,11 @@ pub record WriteRefusedRow (recast : Recast) (out line : Bytes) : Type 0 where
   pub nothing : out ≡ []
 
 -- what is due for what the recast of a whole input comes to
-abbrev pub Answers : Recast → Due Status
-Answers recast statuses.Done out line = DoneRow recast out line
-Answers recast statuses.ReadRefused out line = ReadRefusedRow recast out line
-Answers recast statuses.WriteRefused out line = WriteRefusedRow recast out line
-Answers recast status out line = ⊥
+abbrev pub AnswersRecast : Recast → Due Status
+AnswersRecast recast statuses.Done out line = DoneRow recast out line
+AnswersRecast recast statuses.ReadRefused out line = ReadRefusedRow recast out line
+AnswersRecast recast statuses.WriteRefused out line = WriteRefusedRow recast out line
+AnswersRecast recast status out line = ⊥
 
 -- the status for what it comes to
 abbrev pub recast_status : Recast → Status
@@ -53,7 +53,7 @@ recast_input = record { source_fault = statuses.SourceFault; too_long = statuses
 abbrev pub recast_program : Program Form Status
 recast_program = record {
   command = one_shape recast_usage;
-  Answers = λ s. OnInput recast_input (λ bytes. Answers (recast_of s bytes));
+  Answers = λ s. OnInput recast_input (λ bytes. AnswersRecast (recast_of s bytes));
   status = λ s. input_status recast_input (λ bytes. recast_status (recast_of s bytes));
   usage = statuses.Usage;
   endings = record { sink_fault = statuses.SinkFault; no_memory = statuses.NoMemory };

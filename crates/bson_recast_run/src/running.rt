@@ -16,7 +16,7 @@ ghost use Rattle.bson_program.specs.Prepared.{Says};
 ghost use Rattle.bson_program.specs.Program.{IsDue, IsAnswered};
 ghost use Rattle.bson_program.specs.Run.{Run, run_of, AllQuiet};
 ghost use Rattle.bson_recast_run.specs.Recasting.{recast_of};
-ghost use Rattle.bson_recast_run.specs.Rows.{Answers, recast_program, WritesExactly};
+ghost use Rattle.bson_recast_run.specs.Rows.{AnswersRecast, recast_program, WritesExactly};
 ghost use Rattle.bson_recast_run.specs.declared.status.Status.{Status};
 ghost use Rattle.bson_recast_run.specs.declared.status.Status.TheVariants as statuses;
 
@@ -53,7 +53,7 @@ fn asked(alloc: Global, words: &[String]) -> Result<Result<Shape, String>, Alloc
 
 // What is due for an input that was read to its end. An error means out of memory.
 fn answer_to(alloc: Global, shape: &Shape, bytes: &[u8]) -> Result<Answer<Status>, AllocError>
-    ensures { IfOk result (Says (Answers (recast_of shape.now bytes.now))) }
+    ensures { IfOk result (Says (AnswersRecast (recast_of shape.now bytes.now))) }
 {
     match recast(alloc, shape, bytes) {
         Ok(written) => Ok(Answer {

@@ -64,17 +64,24 @@ impl Row {
         else {
             return Err(NoRow);
         };
-        let (program, status) = program_of(program).ok_or(NoRow)?;
-        let input = bytes_of(alloc, input)?;
-        let output = match output {
-            "=" => input.clone()?,
-            digits => bytes_of(alloc, digits)?,
-        };
-        let errors = lines_of(alloc, errors)?;
         let mut words = Vec::new(alloc);
         for word in cells {
-            words.push(word.replace(alloc, "\u{2400}", "\0")?)?;
+            words.push(word_of(alloc, word)?)?;
         }
+        Row::of_cells(alloc, program, (input, output), errors, words)
+    }
+
+    /// The row of these cells.
+    fn of_cells(
+        alloc: Global,
+        program: &str,
+        bytes: (&str, &str),
+        errors: &str,
+        words: Vec<String>,
+    ) -> Result<Row, NoRow> {
+        let (program, status) = program_of(program).ok_or(NoRow)?;
+        let (input, output) = both_of(alloc, bytes.0, bytes.1)?;
+        let errors = lines_of(alloc, errors)?;
         Ok(Row {
             program,
             status,
@@ -84,6 +91,21 @@ impl Row {
             words,
         })
     }
+}
+
+/// The word of a cell, in which `␀` is a zero character.
+fn word_of(alloc: Global, cell: &str) -> Result<String, AllocError> {
+    cell.replace(alloc, "\u{2400}", "\0")
+}
+
+/// The bytes of the cells of the input and of the output; `=` is an output that is the input.
+fn both_of(alloc: Global, input: &str, output: &str) -> Result<(Vec<u8>, Vec<u8>), NoRow> {
+    let input = bytes_of(alloc, input)?;
+    let output = match output {
+        "=" => input.clone()?,
+        digits => bytes_of(alloc, digits)?,
+    };
+    Ok((input, output))
 }
 
 /// The program of a cell and its status: a name, a space and a number.

@@ -38,21 +38,62 @@ impl fmt::Display for Run {
     }
 }
 
+/// The outputs of a program.
+#[derive(Drop)]
+struct Sinks {
+    out: MemorySink,
+    err: MemorySink,
+}
+
+impl Sinks {
+    /// Sinks with ample room, of which no call fails.
+    fn new(alloc: Global) -> Result<Sinks, AllocError> {
+        let out = MemorySink::new(alloc, 9999, Vec::new(alloc), Vec::new(alloc))?;
+        let err = MemorySink::new(alloc, 9999, Vec::new(alloc), Vec::new(alloc))?;
+        Ok(Sinks { out, err })
+    }
+
+    /// What was written, with the number of the status.
+    fn ended(&self, alloc: Global, status: u8) -> Result<Run, AllocError> {
+        let output = self.out.written().to_vec(alloc)?;
+        let errors = self.err.written().to_vec(alloc)?;
+        Ok(Run {
+            status,
+            output,
+            errors,
+        })
+    }
+}
+
 /// Runs the program of a row.
 pub fn run_row(alloc: Global, row: &Row) -> Result<Run, AllocError> {
-    let mut input = MemorySource::new(row.input.clone()?, Vec::new(alloc), Vec::new(alloc));
-    let mut out = MemorySink::new(alloc, 9999, Vec::new(alloc), Vec::new(alloc))?;
-    let mut err = MemorySink::new(alloc, 9999, Vec::new(alloc), Vec::new(alloc))?;
-    let status = match row.program {
-        Program::Recast => run(alloc, &row.words, &mut input, &mut out, &mut err).number(),
-        Program::Migrate => run_migrate(alloc, &row.words, &mut input, &mut out, &mut err).number(),
-        Program::Write => return write_row(alloc, row),
-    };
-    Ok(Run {
-        status,
-        output: out.written().to_vec(alloc)?,
-        errors: err.written().to_vec(alloc)?,
-    })
+    match row.program {
+        Program::Recast => run_recast(alloc, row),
+        Program::Migrate => run_migration(alloc, row),
+        Program::Write => write_row(alloc, row),
+    }
+}
+
+/// The input of a row, of which no call fails.
+fn input_of(alloc: Global, row: &Row) -> Result<MemorySource, AllocError> {
+    let bytes = row.input.clone()?;
+    Ok(MemorySource::new(bytes, Vec::new(alloc), Vec::new(alloc)))
+}
+
+/// Runs the recast.
+fn run_recast(alloc: Global, row: &Row) -> Result<Run, AllocError> {
+    let mut input = input_of(alloc, row)?;
+    let mut ends = Sinks::new(alloc)?;
+    let status = run(alloc, &row.words, &mut input, &mut ends.out, &mut ends.err);
+    ends.ended(alloc, status.number())
+}
+
+/// Runs the migration.
+fn run_migration(alloc: Global, row: &Row) -> Result<Run, AllocError> {
+    let mut input = input_of(alloc, row)?;
+    let mut ends = Sinks::new(alloc)?;
+    let status = run_migrate(alloc, &row.words, &mut input, &mut ends.out, &mut ends.err);
+    ends.ended(alloc, status.number())
 }
 
 /// Reads the document of a row, renames its struct, and writes it.
@@ -60,14 +101,26 @@ fn write_row(alloc: Global, row: &Row) -> Result<Run, AllocError> {
     let [shape, name] = row.words.as_slice() else {
         return ended(alloc, Status::Usage, "not two words");
     };
-    let Ok(shape) = Shape::parse(alloc, shape.as_str()) else {
-        return ended(alloc, Status::Usage, "not a shape");
-    };
-    let Ok(mut document) = from_slice_at(alloc, &shape, &row.input) else {
-        return ended(alloc, Status::ReadRefused, "not read");
-    };
-    rename(&mut document, name.as_str());
-    match to_vec_at(alloc, &document) {
+    match Shape::parse(alloc, shape.as_str()) {
+        Ok(shape) => write_at(alloc, &shape, &row.input, name.as_str()),
+        Err(_) => ended(alloc, Status::Usage, "not a shape"),
+    }
+}
+
+/// Reads a document at a shape, renames its struct, and writes it.
+fn write_at(alloc: Global, shape: &Shape, bytes: &[u8], name: &str) -> Result<Run, AllocError> {
+    match from_slice_at(alloc, shape, bytes) {
+        Ok(mut document) => {
+            rename(&mut document, name);
+            written(alloc, &document)
+        }
+        Err(_) => ended(alloc, Status::ReadRefused, "not read"),
+    }
+}
+
+/// What comes of writing a document.
+fn written(alloc: Global, document: &Datum<'_>) -> Result<Run, AllocError> {
+    match to_vec_at(alloc, document) {
         Ok(output) => Ok(Run {
             status: Status::Done.number(),
             output,

@@ -2,6 +2,7 @@
 #![tactic(auto)]
 
 mod people;
+mod printing;
 mod values;
 
 use std::test::Fail;
@@ -14,6 +15,7 @@ fn main(rt: HostRuntime) -> Result<(), Fail> {
     people::print_tree(&rt, alloc)?;
     people::print_refusals(&rt, alloc)?;
     values::print_total(&rt)?;
+    values::print_longest(&rt)?;
     values::print_file(&rt, alloc)?;
     values::print_event(&rt, alloc)
 }

@@ -1,73 +1,134 @@
 // Data are copied, and errors are made, where there is memory.
+use crate::printing::{print_text, print_whether};
 use bson_datum::{ByteStr, Cause, Datum, Entry, Field, Stop, Text, de, ser};
 use std::alloc::{AllocError, Global};
+use std::fmt::Debug;
 use std::io::Print;
 use std::test::Fail;
 
-/// A tuple struct with a variant of each form, with borrowed texts.
-fn variants<'a>(alloc: Global) -> Result<Datum<'a>, AllocError> {
-    let name = Text::Borrowed("f");
-    let variant = Text::Borrowed("A");
-    let value = Datum::UnitVariant { variant };
-    let fields = vec![in alloc; Field { name, value }]?;
-    let variant = Text::Borrowed("B");
-    let value = Box::new(alloc, Datum::StructVariant { variant, fields })?;
-    let variant = Text::Borrowed("C");
-    let items = vec![in alloc; Datum::NewtypeVariant { variant, value }]?;
-    let variant = Text::Borrowed("D");
-    let items = vec![in alloc; Datum::TupleVariant { variant, items }]?;
-    let name = Text::Borrowed("T");
-    Ok(Datum::TupleStruct { name, items })
+/// A value in memory of its own.
+pub fn boxed<'a>(alloc: Global, value: Datum<'a>) -> Result<Box<Datum<'a>>, AllocError> {
+    Ok(Box::new(alloc, value)?)
 }
 
-/// A struct with a value of each form that holds others, with borrowed texts and a borrowed byte string.
-fn borrowed<'a>(alloc: Global) -> Result<Datum<'a>, AllocError> {
-    let name = Text::Borrowed("N");
-    let value = Box::new(alloc, Datum::Bytes(ByteStr::Borrowed(b"ab")))?;
-    let some = Datum::Some(Box::new(alloc, Datum::NewtypeStruct { name, value })?);
-    let tuple = Datum::Tuple(vec![in alloc; some, Datum::Str(Text::Borrowed("a"))]?);
-    let key = Datum::Str(Text::Borrowed("k"));
-    let readable = Box::new(alloc, Datum::Str(Text::Borrowed("r")))?;
-    let compact = Box::new(alloc, variants(alloc)?)?;
-    let value = Datum::Mode { readable, compact };
-    let map = Datum::Map(vec![in alloc; Entry { key, value }]?);
+/// The field `f` with a value, alone.
+pub fn fields<'a>(alloc: Global, value: Datum<'a>) -> Result<Vec<Field<'a>>, AllocError> {
     let name = Text::Borrowed("f");
-    let value = Datum::Seq(vec![in alloc; tuple, map]?);
-    let fields = vec![in alloc; Field { name, value }]?;
+    Ok(vec![in alloc; Field { name, value }]?)
+}
+
+/// A value, and behind it a unit variant.
+fn items<'a>(alloc: Global, value: Datum<'a>) -> Result<Vec<Datum<'a>>, AllocError> {
+    let variant = Text::Borrowed("A");
+    Ok(vec![in alloc; value, Datum::UnitVariant { variant }]?)
+}
+
+/// A map with a value under the key `k`.
+fn map<'a>(alloc: Global, value: Datum<'a>) -> Result<Datum<'a>, AllocError> {
+    let key = Datum::Str(Text::Borrowed("k"));
+    Ok(Datum::Map(vec![in alloc; Entry { key, value }]?))
+}
+
+/// A value with two forms, whose readable one is a text.
+fn mode<'a>(alloc: Global, value: Datum<'a>) -> Result<Datum<'a>, AllocError> {
+    let readable = boxed(alloc, Datum::Str(Text::Borrowed("r")))?;
+    let compact = boxed(alloc, value)?;
+    Ok(Datum::Mode { readable, compact })
+}
+
+/// A newtype of a value.
+fn newtype<'a>(alloc: Global, value: Datum<'a>) -> Result<Datum<'a>, AllocError> {
+    let name = Text::Borrowed("N");
+    let value = boxed(alloc, value)?;
+    Ok(Datum::NewtypeStruct { name, value })
+}
+
+/// An option with a value.
+pub fn option<'a>(alloc: Global, value: Datum<'a>) -> Result<Datum<'a>, AllocError> {
+    Ok(Datum::Some(boxed(alloc, value)?))
+}
+
+/// A value in a variant of each form that holds others.
+fn variants<'a>(alloc: Global, value: Datum<'a>) -> Result<Datum<'a>, AllocError> {
+    let variant = Text::Borrowed("B");
+    let fields = fields(alloc, value)?;
+    let value = boxed(alloc, Datum::StructVariant { variant, fields })?;
+    let variant = Text::Borrowed("C");
+    let items = items(alloc, Datum::NewtypeVariant { variant, value })?;
+    let variant = Text::Borrowed("D");
+    Ok(Datum::TupleVariant { variant, items })
+}
+
+/// A value in a tuple struct, in a tuple, in a sequence and in a struct.
+fn containers<'a>(alloc: Global, value: Datum<'a>) -> Result<Datum<'a>, AllocError> {
+    let name = Text::Borrowed("T");
+    let items = items(alloc, value)?;
+    let value = Datum::Tuple(self::items(alloc, Datum::TupleStruct { name, items })?);
+    let value = Datum::Seq(self::items(alloc, value)?);
     let name = Text::Borrowed("S");
+    let fields = fields(alloc, value)?;
     Ok(Datum::Struct { name, fields })
+}
+
+/// A value of each form that holds others, with borrowed texts and a borrowed byte string.
+fn borrowed<'a>(alloc: Global) -> Result<Datum<'a>, AllocError> {
+    let value = newtype(alloc, Datum::Bytes(ByteStr::Borrowed(b"ab")))?;
+    let value = map(alloc, option(alloc, value)?)?;
+    let value = mode(alloc, value)?;
+    containers(alloc, variants(alloc, value)?)
+}
+
+/// Whether a datum is equal to its copy.
+fn is_copied(alloc: Global, datum: &Datum<'_>) -> Result<bool, AllocError> {
+    let copy = datum.try_clone(alloc)?;
+    Ok(copy == *datum)
+}
+
+/// Whether a datum is equal to its owned copy.
+fn is_owned(alloc: Global, datum: &Datum<'_>) -> Result<bool, AllocError> {
+    let owned = datum.try_clone(alloc)?.into_owned(alloc)?;
+    Ok(owned == *datum)
 }
 
 /// Whether a datum is equal to its copy and to its owned copy.
 pub fn print_copies(rt: &impl Print, alloc: Global) -> Result<(), Fail> {
     let datum = borrowed(alloc)?;
-    let copy = datum.try_clone(alloc)?;
-    println!(rt; "equal to its copy: {}", copy == datum)?;
-    let owned = copy.into_owned(alloc)?;
-    println!(rt; "equal to its owned copy: {}", owned == datum)?;
+    print_whether(rt, "equal to its copy", is_copied(alloc, &datum)?)?;
+    print_whether(rt, "equal to its owned copy", is_owned(alloc, &datum)?)
+}
+
+/// Prints a value and its copy.
+fn print_both(rt: &impl Print, value: &impl Debug, copy: &impl Debug) -> Result<(), Fail> {
+    println!(rt; "{value:?}, {copy:?}")?;
     Ok(())
 }
 
 /// Copies of a text and of a byte string.
 pub fn print_text_copies(rt: &impl Print, alloc: Global) -> Result<(), Fail> {
     let text = Text::Borrowed("a").into_owned(alloc)?;
-    println!(rt; "{text:?}, {:?}", text.try_clone(alloc)?)?;
+    print_both(rt, &text, &text.try_clone(alloc)?)?;
     let bytes = ByteStr::Borrowed(b"a").into_owned(alloc)?;
-    println!(rt; "{bytes:?}, {:?}", bytes.try_clone(alloc)?)?;
-    Ok(())
+    print_both(rt, &bytes, &bytes.try_clone(alloc)?)
 }
 
-/// Errors that are made of a fault and its path.
-pub fn print_errors(rt: &impl Print, alloc: Global) -> Result<(), Fail> {
+/// An error of reading that is made of a fault and its path.
+fn read_error(alloc: Global) -> de::Error {
     let fault = de::Fault::Cause(Cause::NotUtf8);
     let stop = Stop::here(alloc, fault)
         .under_index(2)
         .under_key("b")
         .under_key("a");
-    let error = de::Error::from_stop(alloc, stop);
-    println!(rt; "{error}")?;
+    de::Error::from_stop(alloc, stop)
+}
+
+/// An error of writing that is made of a fault.
+fn write_error(alloc: Global) -> Result<ser::Error, AllocError> {
     let fault = ser::Fault::InvalidCString(String::from_str(alloc, "b\0")?);
-    let error = ser::Error::from_stop(alloc, Stop::here(alloc, fault));
-    println!(rt; "{error}")?;
-    Ok(())
+    Ok(ser::Error::from_stop(alloc, Stop::here(alloc, fault)))
+}
+
+/// Errors that are made of a fault and its path.
+pub fn print_errors(rt: &impl Print, alloc: Global) -> Result<(), Fail> {
+    print_text(rt, &read_error(alloc))?;
+    print_text(rt, &write_error(alloc)?)
 }

@@ -1,36 +1,36 @@
 // What `Debug` prints, as Rust's derive prints it.
+use crate::data::{fields, option};
+use crate::printing::print_debug;
 use bson_base::{Binary, BinarySubtype, Bson, Double};
-use bson_datum::{Datum, Field, Text};
+use bson_datum::{Datum, Text};
 use bson_rawdoc::RawDocument;
 use bson_shape::Shape;
-use std::alloc::Global;
+use std::alloc::{AllocError, Global};
 use std::io::Print;
 use std::test::Fail;
 
 /// A binary.
-pub fn print_tree(rt: &impl Print, alloc: Global) -> Result<(), Fail> {
+fn binary(alloc: Global) -> Result<Bson, AllocError> {
     let bytes = vec![in alloc; 1, 2]?;
-    let value = Bson::Binary(Binary::from_parts(BinarySubtype(4), bytes));
-    println!(rt; "{value:?}")?;
-    Ok(())
+    Ok(Bson::Binary(Binary::from_parts(BinarySubtype(4), bytes)))
 }
 
 /// A struct variant of an option.
-pub fn print_datum(rt: &impl Print, alloc: Global) -> Result<(), Fail> {
-    let name = Text::Borrowed("f");
-    let value = Datum::Some(Box::new(alloc, Datum::Double(Double([0; 8])))?);
-    let fields = vec![in alloc; Field { name, value }]?;
+fn variant<'a>(alloc: Global) -> Result<Datum<'a>, AllocError> {
+    let value = option(alloc, Datum::Double(Double([0; 8])))?;
+    let fields = fields(alloc, value)?;
     let variant = Text::Borrowed("V");
-    let datum = Datum::StructVariant { variant, fields };
-    println!(rt; "{datum:?}")?;
-    Ok(())
+    Ok(Datum::StructVariant { variant, fields })
+}
+
+/// A binary, and a struct variant of an option.
+pub fn print_values(rt: &impl Print, alloc: Global) -> Result<(), Fail> {
+    print_debug(rt, &binary(alloc)?)?;
+    print_debug(rt, &variant(alloc)?)
 }
 
 /// The refusal of a notation, and a raw document.
 pub fn print_shapes(rt: &impl Print, alloc: Global) -> Result<(), Fail> {
-    let refusal = Shape::parse(alloc, "<A,A>").err();
-    println!(rt; "{refusal:?}")?;
-    let raw = RawDocument::from_bytes(&[5, 0, 0, 0, 0])?;
-    println!(rt; "{raw:?}")?;
-    Ok(())
+    print_debug(rt, &Shape::parse(alloc, "<A,A>").err())?;
+    print_debug(rt, &RawDocument::from_bytes(&[5, 0, 0, 0, 0])?)
 }

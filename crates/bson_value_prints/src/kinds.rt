@@ -1,5 +1,5 @@
 // What the raw layer reads where there is memory: an element of every kind.
-use bson_rawdoc::RawDocument;
+use bson_rawdoc::{RawDocument, RawElement};
 use std::alloc::Global;
 use std::io::Print;
 use std::test::Fail;
@@ -29,20 +29,37 @@ const KINDS: [(u8, &[u8]); 21] = [
     (0x7f, b""),
 ];
 
-/// The elements of a document of one element of each kind: the key, the kind, the bytes, and the kind of the value.
+/// A document of one element of this kind, with the value under `k`.
+fn document_of(alloc: Global, byte: u8, value: &[u8]) -> Result<Vec<u8>, Fail> {
+    let length = u8::try_from(8 + value.len())?;
+    let mut bytes = Vec::new(alloc);
+    bytes.extend_from_slice(&[length, 0, 0, 0, byte, b'k', 0])?;
+    bytes.extend_from_slice(value)?;
+    bytes.push(0)?;
+    Ok(bytes)
+}
+
+/// An element: its key, its kind, its bytes, and the kind of its value.
+fn print_element(rt: &impl Print, alloc: Global, element: &RawElement<'_>) -> Result<(), Fail> {
+    let kind = element.element_type();
+    let slice = hex::encode(alloc, element.slice())?;
+    let inner = element.value()?.element_type();
+    println!(rt; "{} is {kind:?} [{slice}], {inner:?}", element.key())?;
+    Ok(())
+}
+
+/// The elements of a document.
+fn print_elements(rt: &impl Print, alloc: Global, bytes: &[u8]) -> Result<(), Fail> {
+    for element in RawDocument::from_bytes(bytes)?.iter_elements() {
+        print_element(rt, alloc, &element?)?;
+    }
+    Ok(())
+}
+
+/// The elements of a document of one element of each kind.
 pub fn print_kinds(rt: &impl Print, alloc: Global) -> Result<(), Fail> {
     for (byte, value) in KINDS {
-        let mut bytes = Vec::new(alloc);
-        bytes.extend_from_slice(&[(8 + value.len()) as u8, 0, 0, 0, byte, b'k', 0])?;
-        bytes.extend_from_slice(value)?;
-        bytes.push(0)?;
-        for element in RawDocument::from_bytes(&bytes)?.iter_elements() {
-            let element = element?;
-            let kind = element.element_type();
-            let slice = hex::encode(alloc, element.slice())?;
-            let inner = element.value()?.element_type();
-            println!(rt; "{} is {kind:?} [{slice}], {inner:?}", element.key())?;
-        }
+        print_elements(rt, alloc, &document_of(alloc, byte, value)?)?;
     }
     Ok(())
 }

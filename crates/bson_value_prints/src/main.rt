@@ -7,6 +7,7 @@ mod data;
 mod debug;
 mod ends;
 mod kinds;
+mod printing;
 mod shapes;
 mod texts;
 mod values;
@@ -15,8 +16,7 @@ use std::test::Fail;
 
 fn main(rt: HostRuntime) -> Result<(), Fail> {
     let alloc = rt.alloc();
-    debug::print_tree(&rt, alloc)?;
-    debug::print_datum(&rt, alloc)?;
+    debug::print_values(&rt, alloc)?;
     debug::print_shapes(&rt, alloc)?;
     kinds::print_kinds(&rt, alloc)?;
     texts::print_ids(&rt, alloc)?;

@@ -1,33 +1,53 @@
 // Shapes are made, read and printed where there is memory, up to the most levels.
-use bson_shape::{FieldShape, Shape, VariantContent, VariantShape};
+use crate::printing::print_text;
+use bson_shape::{FieldShape, Shape, ShapeError, VariantContent, VariantShape};
 use std::alloc::Global;
 use std::io::Print;
 use std::test::Fail;
 
-/// The notation of a shape that each maker had a part in.
-pub fn print_made(rt: &impl Print, alloc: Global) -> Result<(), Fail> {
+/// A name.
+fn name(alloc: Global, name: &str) -> Result<String, ShapeError> {
+    Ok(String::from_str(alloc, name)?)
+}
+
+/// A newtype of a map of sequences of options.
+fn newtype(alloc: Global) -> Result<Shape, ShapeError> {
     let option = Shape::option(alloc, Shape::i32())?;
     let sequence = Shape::seq(alloc, option)?;
     let map = Shape::map(alloc, Shape::string(), sequence)?;
-    let newtype = Shape::newtype(alloc, String::from_str(alloc, "N")?, map)?;
-    let tuple = Shape::tuple(vec![in alloc; newtype, Shape::str()]?)?;
-    let name = String::from_str(alloc, "P")?;
-    let tuple = Shape::tuple_struct(name, vec![in alloc; tuple]?)?;
-    let name = String::from_str(alloc, "U")?;
-    let unit = Shape::unit_struct(name);
-    let field = FieldShape {
-        name: String::from_str(alloc, "a")?,
-        shape: tuple,
-    };
-    let name = String::from_str(alloc, "S")?;
-    let structure = Shape::structure(name, vec![in alloc; field]?)?;
-    let variant = VariantShape {
-        name: String::from_str(alloc, "V")?,
-        content: VariantContent::Tuple(vec![in alloc; structure, unit]?),
-    };
-    let choice = Shape::enumeration(vec![in alloc; variant]?)?;
-    println!(rt; "{}", choice.print(alloc)?)?;
-    Ok(())
+    Shape::newtype(alloc, name(alloc, "N")?, map)
+}
+
+/// A tuple struct of a tuple of a shape and a text.
+fn tuples(alloc: Global, shape: Shape) -> Result<Shape, ShapeError> {
+    let tuple = Shape::tuple(vec![in alloc; shape, Shape::str()]?)?;
+    Shape::tuple_struct(name(alloc, "P")?, vec![in alloc; tuple]?)
+}
+
+/// A struct of a shape.
+fn structure(alloc: Global, shape: Shape) -> Result<Shape, ShapeError> {
+    let name = name(alloc, "a")?;
+    let fields = vec![in alloc; FieldShape { name, shape }]?;
+    Shape::structure(self::name(alloc, "S")?, fields)
+}
+
+/// A tuple variant of a shape and a unit struct.
+fn choice(alloc: Global, shape: Shape) -> Result<Shape, ShapeError> {
+    let unit = Shape::unit_struct(name(alloc, "U")?);
+    let content = VariantContent::Tuple(vec![in alloc; shape, unit]?);
+    let name = name(alloc, "V")?;
+    Shape::enumeration(vec![in alloc; VariantShape { name, content }]?)
+}
+
+/// Prints the notation of a shape.
+fn print_notation(rt: &impl Print, alloc: Global, shape: &Shape) -> Result<(), Fail> {
+    print_text(rt, &shape.print(alloc)?)
+}
+
+/// The notation of a shape that each maker had a part in.
+pub fn print_made(rt: &impl Print, alloc: Global) -> Result<(), Fail> {
+    let shape = structure(alloc, tuples(alloc, newtype(alloc)?)?)?;
+    print_notation(rt, alloc, &choice(alloc, shape)?)
 }
 
 /// Notations, each of which is printed as it was read.
@@ -51,8 +71,7 @@ const NOTATIONS: [&str; 14] = [
 /// The notations, read and printed.
 pub fn print_notations(rt: &impl Print, alloc: Global) -> Result<(), Fail> {
     for text in NOTATIONS {
-        let shape = Shape::parse(alloc, text)?;
-        println!(rt; "{}", shape.print(alloc)?)?;
+        print_notation(rt, alloc, &Shape::parse(alloc, text)?)?;
     }
     Ok(())
 }
@@ -62,7 +81,5 @@ pub fn print_levels(rt: &impl Print, alloc: Global) -> Result<(), Fail> {
     let opened = "[".repeat(alloc, 511)?;
     let closed = "]".repeat(alloc, 511)?;
     let text = format!(in alloc; "{opened}i32{closed}")?;
-    let shape = Shape::parse(alloc, text.as_str())?;
-    println!(rt; "{}", shape.print(alloc)?)?;
-    Ok(())
+    print_notation(rt, alloc, &Shape::parse(alloc, text.as_str())?)
 }

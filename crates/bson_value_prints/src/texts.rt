@@ -1,30 +1,51 @@
 // The texts of ObjectIds, UUIDs and dates, as their public formats have them.
 use bson_base::{DateError, DateTime, ObjectId, Uuid};
 use std::alloc::Global;
+use std::fmt::Debug;
 use std::io::Print;
 use std::test::Fail;
 
+/// An id that was read from a text: its bytes, and the text that it is printed as.
+fn print_id(
+    rt: &impl Print,
+    alloc: Global,
+    text: &str,
+    bytes: &[u8],
+    printed: &str,
+) -> Result<(), Fail> {
+    let bytes = hex::encode(alloc, bytes)?;
+    println!(rt; "{text}: [{bytes}] {printed}")?;
+    Ok(())
+}
+
+/// A text that is refused.
+fn print_refused(rt: &impl Print, text: &str, error: &impl Debug) -> Result<(), Fail> {
+    println!(rt; "{text}: {error:?}")?;
+    Ok(())
+}
+
+/// The ObjectId that is read from a text.
+fn print_object_id(rt: &impl Print, alloc: Global, text: &str) -> Result<(), Fail> {
+    match ObjectId::parse_str(text) {
+        Ok(id) => print_id(rt, alloc, text, &id.0, id.to_hex(alloc)?.as_str()),
+        Err(error) => print_refused(rt, text, &error),
+    }
+}
+
+/// The UUID that is read from a text.
+fn print_uuid(rt: &impl Print, alloc: Global, text: &str) -> Result<(), Fail> {
+    match Uuid::parse_str(text) {
+        Ok(id) => print_id(rt, alloc, text, &id.0, id.to_hyphenated(alloc)?.as_str()),
+        Err(error) => print_refused(rt, text, &error),
+    }
+}
+
 /// Ids that are read from texts, with their bytes and the texts that they are printed as; and texts that are refused.
 pub fn print_ids(rt: &impl Print, alloc: Global) -> Result<(), Fail> {
-    for text in ["507F1f77bcf86cd799439011", "507f1f77bcf86cd79943901"] {
-        match ObjectId::parse_str(text) {
-            Ok(id) => {
-                let bytes = hex::encode(alloc, id.0.as_slice())?;
-                println!(rt; "{text}: [{bytes}] {}", id.to_hex(alloc)?)?;
-            }
-            Err(error) => println!(rt; "{text}: {error:?}")?,
-        }
-    }
-    for text in ["f81d4fae-7dec-11d0-a765-00a0c91e6bf6", "f81d4fae-7dec"] {
-        match Uuid::parse_str(text) {
-            Ok(id) => {
-                let bytes = hex::encode(alloc, id.0.as_slice())?;
-                println!(rt; "{text}: [{bytes}] {}", id.to_hyphenated(alloc)?)?;
-            }
-            Err(error) => println!(rt; "{text}: {error:?}")?,
-        }
-    }
-    Ok(())
+    print_object_id(rt, alloc, "507F1f77bcf86cd799439011")?;
+    print_object_id(rt, alloc, "507f1f77bcf86cd79943901")?;
+    print_uuid(rt, alloc, "f81d4fae-7dec-11d0-a765-00a0c91e6bf6")?;
+    print_uuid(rt, alloc, "f81d4fae-7dec")
 }
 
 /// Texts of dates. The first four are those of RFC 3339, section 5.8, but for its second 60; the last five are refused.
@@ -48,7 +69,7 @@ pub fn print_milliseconds(rt: &impl Print) -> Result<(), Fail> {
     for text in TEXTS {
         match DateTime::parse_rfc3339_str(text) {
             Ok(date) => println!(rt; "{text}: {}", date.timestamp_millis())?,
-            Err(error) => println!(rt; "{text}: {error:?}")?,
+            Err(error) => print_refused(rt, text, &error)?,
         }
     }
     Ok(())

@@ -9,7 +9,7 @@ use Rattle.bson_recast_run.specs.declared.recasting.RecastError.TheVariants.{Rea
 use Rattle.bson_migrate_run.specs.declared.migrating.Migration.{Migration}
 use Rattle.bson_migrate_run.specs.declared.migrating.Refused.{Refused}
 use Rattle.bson_migrate_run.specs.Migrating.{NotRecast, broken, migrated, migration_of}
-use Rattle.bson_buffers.specs.Asked.{IsNotation, IsRefused}
+use Rattle.bson_buffers.specs.Asked.{DenotesShape, DenotesNone}
 use Rattle.bson_buffers.specs.Buffers.{Call, IsSilent}
 use Rattle.bson_buffers.specs.Checks.{NoShapeRow}
 use Rattle.bson_buffers.specs.Due.{listed_status}
@@ -31,13 +31,13 @@ bytes_from file place count = sum_by length (take count (left_at file place).pie
 abbrev pub reason_for : RecastError → lists.Reason
 reason_for (Read e) = lists.unread_for (read_failure e)
 reason_for (Write e) = lists.unwritten_for (write_failure e)
-reason_for NoMemory = record { status = number_of statuses.NoMemory; text = codes "out of memory"; cause_start = 0 }
+reason_for NoMemory = record { status = number_of statuses.NoMemory; text = codes "out of memory"; front = [] }
 
 -- A reason in hand is the one that the error tells.
 pub record IsReason (e : RecastError) (r : declared.Reason) : Type 0 where
   pub status : number_of r.status ≡ (reason_for e).status
   pub text : string_bytes r.text ≡ (reason_for e).text
-  pub front : length (string_bytes r.front) ≡ (reason_for e).cause_start
+  pub front : string_bytes r.front ≡ (reason_for e).front
 
 -- the texts of refused documents, one after another
 abbrev pub texts_of : List Refused → Utf8
@@ -60,19 +60,19 @@ pub record IsListingOf (file : Bytes) (m : Migration) (d : DueList) : Type 0 whe
 -- what is due for a file
 abbrev pub IsForListing : (shape file : Bytes) → Status → (place : ℕ) → (output : Bytes) → (said : Utf8) → (records : List Refusal) → Type 0
 IsForListing shape file statuses.Done place output said records =
-    (s : Form) × IsNotation shape s × (migration_of s file ≡ migrated output []) × (migration_of s output ≡ migrated output []) × (place ≡ 0) × (said ≡ []) × (records ≡ [])
+    (s : Form) × DenotesShape shape s × (migration_of s file ≡ migrated output []) × (migration_of s output ≡ migrated output []) × (place ≡ 0) × (said ≡ []) × (records ≡ [])
 IsForListing shape file statuses.SomeRefused place output said records =
-    (s : Form) × (first : NotRecast) × (others : List NotRecast) × IsNotation shape s × (migration_of s file ≡ migrated output (first ∷ others)) × (migration_of s output ≡ migrated output []) × lists.AreRecords file 0 (first ∷ others) records said × (place ≡ 0)
-IsForListing shape file statuses.ShapeRefused place output said records = IsRefused shape (record { place = place; said = said }) × (output ≡ []) × (records ≡ [])
-IsForListing shape file statuses.Broken place output said records = (s : Form) × IsNotation shape s × (migration_of s file ≡ broken place) × (output ≡ []) × (said ≡ []) × (records ≡ [])
+    (s : Form) × (first : NotRecast) × (others : List NotRecast) × DenotesShape shape s × (migration_of s file ≡ migrated output (first ∷ others)) × (migration_of s output ≡ migrated output []) × lists.AreRecords file 0 (first ∷ others) records said × (place ≡ 0)
+IsForListing shape file statuses.ShapeRefused place output said records = DenotesNone shape (record { place = place; said = said }) × (output ≡ []) × (records ≡ [])
+IsForListing shape file statuses.Broken place output said records = (s : Form) × DenotesShape shape s × (migration_of s file ≡ broken place) × (output ≡ []) × (said ≡ []) × (records ≡ [])
 IsForListing shape file status place output said records = ⊥
 
 -- the row of the table at each status
 abbrev pub IsListingRow : (shape file : Bytes) → Status → Call → lists.Records → Type 0
-IsListingRow shape file statuses.Done c a = MigratedRow shape file c × lists.Lists a []
+IsListingRow shape file statuses.Done c a = MigratedRow shape file c × lists.ListsRecords a []
 IsListingRow shape file statuses.SomeRefused c a = lists.ListedRow shape file c a
 IsListingRow shape file statuses.BufferTooSmall c a = lists.LargerListedRow shape file c a
-IsListingRow shape file statuses.ShapeRefused c a = NoShapeRow shape c × lists.Lists a []
-IsListingRow shape file statuses.Broken c a = BrokenRow shape file c × lists.Lists a []
-IsListingRow shape file statuses.NoMemory c a = IsSilent c × lists.Lists a []
+IsListingRow shape file statuses.ShapeRefused c a = NoShapeRow shape c × lists.ListsRecords a []
+IsListingRow shape file statuses.Broken c a = BrokenRow shape file c × lists.ListsRecords a []
+IsListingRow shape file statuses.NoMemory c a = IsSilent c × lists.ListsRecords a []
 IsListingRow shape file status c a = ⊥

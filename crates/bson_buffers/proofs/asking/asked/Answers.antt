@@ -3,7 +3,7 @@ use Rattle.std.specs.Prelude.{Err}
 use Rattle.std.specs.Str.{IsUtf8}
 use Rattle.bson_shape.specs.Machine.{parsed}
 use Rattle.bson_buffers.specs.Judged.{told_by}
-use Rattle.bson_buffers.specs.Asked.{IsRefused}
+use Rattle.bson_buffers.specs.Asked.{DenotesNone}
 use Rattle.bson_buffers.proofs.Refusals.{refuses_bytes, reads_shape, refuses_text}
 use Rattle.bson_buffers.proofs.asking.asked.Goals as goal
 
@@ -20,6 +20,6 @@ pub returns-in_ok-refusal_of-in-Err-parse : goal.returns-in_ok-refusal_of-in-Err
 returns-in_ok-refusal_of-in-Err-parse c =
     let same = c.in-Ok.ensures.cases in
     let refusal = c.in_ok-refusal_of-in-Err-parse in
-    subst (λ bytes. IsRefused bytes (told_by refusal.field-0)) same.0
+    subst (λ bytes. DenotesNone bytes (told_by refusal.field-0)) same.0
     (refuses_text c.in-Ok.text.now c.in-Err-parse.e refusal.field-0.place (string_bytes refusal.field-0.text) (subst IsUtf8 (sym same.0) same.1) refusal.ensures.place refusal.ensures.text c.in-Err-parse.ensures.exact
     (λ p is. c.parse.ensures.not_notation p (c.in-Err-parse.is ∙ ap Err is)) (λ p x is. c.parse.ensures.refused p x (c.in-Err-parse.is ∙ ap Err is)))

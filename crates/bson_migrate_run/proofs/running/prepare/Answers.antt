@@ -5,7 +5,7 @@ use Rattle.bson_program.specs.Ends.{ReadAs, source_change}
 use Rattle.bson_program.specs.Input.{IsUnread}
 use Rattle.bson_program.specs.Prepared.{Says}
 use Rattle.bson_migrate_run.specs.Migrating.{migration_of}
-use Rattle.bson_migrate_run.specs.Rows.{Answers, migrate_input, migrate_program}
+use Rattle.bson_migrate_run.specs.Rows.{AnswersMigration, migrate_input, migrate_program}
 use Rattle.bson_migrate_run.proofs.running.prepare.Goals as goal
 
 pub returns-in-Ok-2-clause-due : goal.returns-in-Ok-2-clause-due
@@ -14,7 +14,7 @@ returns-in-Ok-2-clause-due g c =
     let asked : IsAskedFor migrate_program.command (map string_bytes c.args.words.now) c.in-Ok.shape = rw c.in-Ok.is at c.in_ok-shape.ensures in
     let read : ReadAs input c.in-Ok-2.bytes.items = rw c.in-Ok-2.is at c.in_ok-bytes.ensures.taken in
     job_due migrate_program _ input c.in-Ok.shape c.answer_to.result asked
-    (whole_due migrate_input (λ bytes. Answers (migration_of c.in-Ok.shape bytes)) input c.in-Ok-2.bytes.items c.deref.result.now c.answer_to.result read c.deref.ensures.value c.answer_to.ensures)
+    (whole_due migrate_input (λ bytes. AnswersMigration (migration_of c.in-Ok.shape bytes)) input c.in-Ok-2.bytes.items c.deref.result.now c.answer_to.result read c.deref.ensures.value c.answer_to.ensures)
 
 pub returns-clause-due : goal.returns-clause-due
 returns-clause-due g c =

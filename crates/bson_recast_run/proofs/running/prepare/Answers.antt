@@ -5,7 +5,7 @@ use Rattle.bson_program.specs.Ends.{ReadAs, source_change}
 use Rattle.bson_program.specs.Input.{IsUnread}
 use Rattle.bson_program.specs.Prepared.{Says}
 use Rattle.bson_recast_run.specs.Recasting.{recast_of}
-use Rattle.bson_recast_run.specs.Rows.{Answers, recast_input, recast_program}
+use Rattle.bson_recast_run.specs.Rows.{AnswersRecast, recast_input, recast_program}
 use Rattle.bson_recast_run.proofs.running.prepare.Goals as goal
 
 pub returns-in-Ok-2-clause-due : goal.returns-in-Ok-2-clause-due
@@ -14,7 +14,7 @@ returns-in-Ok-2-clause-due g c =
     let asked : IsAskedFor recast_program.command (map string_bytes c.args.words.now) c.in-Ok.shape = rw c.in-Ok.is at c.in_ok-shape.ensures in
     let read : ReadAs input c.in-Ok-2.bytes.items = rw c.in-Ok-2.is at c.in_ok-bytes.ensures.taken in
     job_due recast_program _ input c.in-Ok.shape c.answer_to.result asked
-    (whole_due recast_input (λ bytes. Answers (recast_of c.in-Ok.shape bytes)) input c.in-Ok-2.bytes.items c.deref.result.now c.answer_to.result read c.deref.ensures.value c.answer_to.ensures)
+    (whole_due recast_input (λ bytes. AnswersRecast (recast_of c.in-Ok.shape bytes)) input c.in-Ok-2.bytes.items c.deref.result.now c.answer_to.result read c.deref.ensures.value c.answer_to.ensures)
 
 pub returns-clause-due : goal.returns-clause-due
 returns-clause-due g c =
