@@ -21,6 +21,7 @@ use bson_met::{MetStr, Reading};
 use bson_shape::{Form, Leaf};
 use bson_texts::character;
 use std::alloc::{AllocError, Global};
+use std::mem;
 
 /// The entries of a map that is read. No two have one key.
 #[derive(Drop)]
@@ -113,13 +114,17 @@ fn renew<'de>(old: &mut Entry<'de>, entry: Entry<'de>)
     ensures key { old.new.key ≡ old.old.key }
     ensures value { old.new.value ≡ entry.entry.value }
 {
-    old.value = entry.value;
+    let Entry { key, value } = entry;
+    drop(key);
+    drop(mem::replace(&mut old.value, value));
 }
 
 /// Lets an entry go that was not kept.
 #[cold]
 #[inline(never)]
-fn discard(_entry: Entry<'_>) {}
+fn discard(entry: Entry<'_>) {
+    drop(entry);
+}
 
 /// The key that a text is at a leaf of texts.
 #[inline(always)]

@@ -14,6 +14,7 @@ use bson_datum::{Cause, Datum, Field};
 use bson_met::{Reading, refused};
 use bson_shape::{FieldShape, Form};
 use std::alloc::{AllocError, Global};
+use std::mem;
 
 /// The fields of a struct in the shape's order, each with the value that was read for it, if one was.
 ///
@@ -102,10 +103,29 @@ impl<'s, 'de> Slots<'s, 'de> {
             ≡ with_value (slots_view self.old) (length self.old.first.items + place) (marked value.entry)) }
         ensures fields { self.new.fields ≡ self.old.fields }
     {
+        match self.reach(place) {
+            Ok(()) => {
+                drop(mem::replace(&mut self.later[place], Some(value)));
+                Ok(())
+            }
+            Err(error) => {
+                drop(value);
+                Err(error)
+            }
+        }
+    }
+
+    /// Makes room for the value of the field that is at this place behind the first.
+    fn reach(&mut self, place: usize) -> Result<(), AllocError>
+        requires { length self.old.first.items + place < length self.old.fields.now }
+        ensures reached { IfOk result (λ _. place < length self.new.later.items) }
+        ensures slots { slots_view self.new ≡ slots_view self.old }
+        ensures first { self.new.first ≡ self.old.first }
+        ensures fields { self.new.fields ≡ self.old.fields }
+    {
         while self.later.len() <= place {
             self.later.push(None)?;
         }
-        self.later[place] = Some(value);
         Ok(())
     }
 

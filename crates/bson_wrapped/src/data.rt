@@ -97,7 +97,7 @@ fn two_fields<'de>(
         (marked first.entry.value) (one made second.entry.0.now (marked second.entry.1))) }
 {
     match named_field(alloc, second.0, second.1) {
-        Ok(second) => vec![in alloc; first, second],
+        Ok(second) => Ok(vec![in alloc; first, second]?),
         Err(error) => {
             drop(first);
             Err(error)
