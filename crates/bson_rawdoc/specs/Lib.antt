@@ -8,6 +8,7 @@ pub mod RawValue
 pub mod JsonKinds
 pub mod DocumentView
 pub mod ValueView
+pub mod DocumentTree
 pub mod Printed
 pub mod Next
 pub mod Get

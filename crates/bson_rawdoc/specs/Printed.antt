@@ -3,7 +3,7 @@ use Rattle.std.specs.Prelude.{◌++◌, codes}
 use Rattle.std.specs.Fmt.{decimal}
 use Rattle.bson_base.specs.Text.{Utf8}
 use Rattle.bson_rawdoc.specs.declared.raw.Error.{Error}
-use Rattle.bson_rawdoc.specs.declared.raw.Error.TheVariants.{TooShort, LengthDiffers, NoTerminator, KeyUnclosed, KeyNotUtf8, UnknownKind, BadExtent, NotUtf8, BadBoolean, TextUnclosed, InnerLength, ScopeTotal, ValueUnclosed}
+use Rattle.bson_rawdoc.specs.declared.raw.Error.TheVariants.{TooShort, LengthDiffers, NoTerminator, KeyUnclosed, KeyNotUtf8, UnknownKind, BadExtent, NotUtf8, BadBoolean, TextUnclosed, InnerLength, ScopeTotal, ValueUnclosed, TooDeep, NoMemory}
 
 abbrev pub printed_fault : Error → Utf8
 printed_fault TooShort = codes "document too short"
@@ -19,3 +19,5 @@ printed_fault TextUnclosed = codes "text not terminated"
 printed_fault InnerLength = codes "wrong inner length"
 printed_fault ScopeTotal = codes "wrong scope length"
 printed_fault ValueUnclosed = codes "inner document not terminated"
+printed_fault TooDeep = codes "nested deeper than 200 levels"
+printed_fault NoMemory = codes "out of memory"

@@ -8,9 +8,11 @@ mod element;
 pub mod extent;
 mod get;
 mod iter;
+mod owned;
 mod parts;
 pub mod raw;
 pub mod reading;
+mod tree;
 pub mod utf8;
 mod value;
 
@@ -23,4 +25,5 @@ pub use document::RawDocument;
 pub use documents::RawDocuments;
 pub use element::RawElement;
 pub use iter::{RawIter, next_element};
+pub use owned::{RawArrayBuf, RawDocumentBuf};
 pub use value::RawBsonRef;

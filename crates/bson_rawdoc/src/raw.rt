@@ -1,6 +1,7 @@
+use std::alloc::AllocError;
 use std::fmt;
 
-/// What is wrong with the bytes of a document.
+/// What is wrong with the bytes of a document, or why they are not made a tree.
 ///
 /// Source: the layouts of bsonspec.org, version 1.1.
 #[derive(Clone, Copy, Debug, PartialEq, Eq)]
@@ -31,6 +32,21 @@ pub enum Error {
     ScopeTotal,
     /// The last byte of an inner document, an array or a scope is not zero.
     ValueUnclosed,
+    /// A document, an array or a scope is nested deeper than 200 levels.
+    TooDeep,
+    /// Out of memory.
+    NoMemory,
+}
+
+impl From<AllocError> for Error {
+    ghost use Rattle.std.specs.Prelude.{◌≡◌};
+    ghost use Rattle.bson_rawdoc.specs.declared.raw.Error.TheVariants.{NoMemory as NoMemoryError};
+
+    ghost from_gives = { λ _ e. e ≡ NoMemoryError };
+
+    fn from(_error: AllocError) -> Error {
+        Error::NoMemory
+    }
 }
 
 impl fmt::Display for Error {
@@ -54,6 +70,8 @@ impl fmt::Display for Error {
             Error::InnerLength => f.write_str("wrong inner length"),
             Error::ScopeTotal => f.write_str("wrong scope length"),
             Error::ValueUnclosed => f.write_str("inner document not terminated"),
+            Error::TooDeep => f.write_str("nested deeper than 200 levels"),
+            Error::NoMemory => f.write_str("out of memory"),
         }
     }
 }
