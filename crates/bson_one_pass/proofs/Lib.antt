@@ -3,6 +3,8 @@ mod Fields
 mod Places
 mod AnyOrder
 mod Pieces
+mod Runs
+mod KeptLeaves
 mod Values
 mod Leaves
 mod Forms
@@ -10,5 +12,5 @@ mod Containers
 mod Tuples
 mod Entries
 mod Whole
-mod Kept
+mod Copies
 mod Passed
