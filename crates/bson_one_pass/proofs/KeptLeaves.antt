@@ -1,8 +1,8 @@
 -- Values that are written at a leaf as they were read.
-use Rattle.std.proofs.Common.{◌≡◌, ℕ, ℤ, pos, negsuc, w32, w64, FitsSigned, ◌+◌, ◌<◌, ◌≤◌, ◌^◌, [], ◌∷◌, ◌++◌, length, take, drop, drop-cons, get_or, true, false, cond, Option, Some, None, Ok, Err, refl, ap, sym, subst, ◌∙◌, arith}
+use Rattle.std.proofs.Common.{◌≡◌, ℕ, ℤ, pos, negsuc, w32, w64, FitsSigned, ◌<◌, ◌≤◌, ◌^◌, [], ◌∷◌, ◌++◌, length, drop, drop-cons, get_or, true, false, cond, Ok, Err, refl, ap, sym, subst, ◌∙◌, arith}
 use Rattle.std.proofs.lemmas.Int.{ints}
 use Rattle.std.proofs.lemmas.List.{length-drop, take-append-drop}
-use Rattle.bson_base.specs.Sound.{HasBytes, IsClean}
+use Rattle.bson_base.specs.Sound.{IsClean}
 use Rattle.bson_base.specs.Text.{AreBytes, Bytes}
 use Rattle.bson_base.specs.Tree as tree
 use Rattle.bson_base.specs.Tree.{Tree, kind, enc, depth}
@@ -26,7 +26,8 @@ use Rattle.bson_laws.proofs.Coded.{IsCoded, clean_coded}
 use Rattle.bson_laws.proofs.Codec.{seen_again}
 use Rattle.bson_laws.proofs.DatumContents.{datum_contents}
 use Rattle.bson_laws.proofs.DatumSpelled.{datum_spelled}
-use Rattle.bson_laws.proofs.TameBytes.{int32_fits, int64_fits, dropped}
+use Rattle.bson_laws.proofs.Keys.{dropped}
+use Rattle.bson_laws.proofs.TameBytes.{int32_fits, int64_fits}
 use Rattle.bson_laws.proofs.Writable.{wide_small}
 use Rattle.bson_itself.specs.Encoded.{IsTextValue, IsTrueOrFalse}
 use Rattle.bson_itself.specs.Kept.{IsWrittenAsRead}

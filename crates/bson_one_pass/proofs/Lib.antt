@@ -4,6 +4,8 @@ mod Places
 mod AnyOrder
 mod Pieces
 mod Runs
+mod Steps
+mod Options
 mod KeptLeaves
 mod Values
 mod Leaves

@@ -1,17 +1,16 @@
 -- Elements in bytes one behind another, and runs of them.
-use Rattle.std.proofs.Common.{◌≡◌, ℕ, zero, suc, ◌+◌, ◌-◌, ◌<◌, ◌≤◌, List, [], ◌∷◌, ◌++◌, length, take, drop, Bool, true, false, cond, Option, Some, None, Result, Ok, Err, refl, ap, sym, subst, ◌∙◌, arith}
-use Rattle.std.specs.Prelude.{nat_lt}
-use Rattle.std.specs.Str.{is_utf8}
-use Rattle.std.proofs.lemmas.Bool.{ltb-false}
-use Rattle.std.proofs.lemmas.List.{append_assoc, append-nil, length-append, length-take-le, take-append-drop, take-append-le, take_at, drop_at, drop-drop, take-take}
+use Rattle.std.proofs.Common.{◌≡◌, ℕ, zero, suc, ◌+◌, ◌-◌, ◌≤◌, [], ◌∷◌, ◌++◌, length, take, drop, Bool, true, false, cond, Option, Some, None, Result, Ok, Err, refl, ap, sym, subst, ◌∙◌, arith}
+use Rattle.std.specs.Prelude.{nat_lt, not}
+use Rattle.std.specs.Str.{is_utf8, bytes_eq}
+use Rattle.std.proofs.lemmas.List.{append_assoc, append-nil, length-append, take-append-drop, take_at, drop_at, drop-drop, length-drop, take-take, take_rest}
 use Rattle.bson_base.specs.Kind.{byte, of_byte}
 use Rattle.bson_base.specs.Text.{Bytes, Utf8, has_zero}
-use Rattle.bson_base.specs.Tree.{Tree, kind, enc, element}
+use Rattle.bson_base.specs.Tree.{Tree, element}
 use Rattle.bson_base.specs.declared.element_type.ElementType.{ElementType}
 use Rattle.bson_base.proofs.Outcomes.{bind_ok}
 use Rattle.bson_rawdoc.specs.Extent.{cut_at_zero, extent}
 use Rattle.bson_rawdoc.specs.Node.{node_in}
-use Rattle.bson_rawdoc.specs.Walk.{Element, with_value, of_kind, with_key, element_at, Walk, ended, faulty, then_walk, walk_elements}
+use Rattle.bson_rawdoc.specs.Walk.{Element, of_kind, with_key, element_at, Walk, ended, faulty, then_walk, walk_elements}
 use Rattle.bson_rawdoc.specs.declared.raw.Error.{Error}
 use Rattle.bson_rawdoc.specs.declared.raw.Error.TheVariants.{KeyNotUtf8, BadExtent}
 use Rattle.bson_rawdoc.proofs.Walks.{walk-nil, walk_ok, walk_err}
@@ -100,12 +99,13 @@ front_is bytes e h =
 
 -- ---- runs
 
+take_nil : (m : ℕ) → take {A = ℕ} m [] ≡ []
+take_nil zero = refl
+take_nil (suc m) = refl
+
 take_plus : (a n : ℕ) (xs : Bytes) → take (a + n) xs ≡ take a xs ++ take n (drop a xs)
 take_plus zero n xs = let none : 0 + n ≡ n = omega arith in ap (λ m. take m xs) none
-take_plus (suc a) n [] = take_nil (suc a + n) ∙ sym (take_nil n) where
-  take_nil : (m : ℕ) → take m [] ≡ []
-  take_nil zero = refl
-  take_nil (suc m) = refl
+take_plus (suc a) n [] = take_nil (suc a + n) ∙ sym (take_nil n)
 take_plus (suc a) n (x ∷ xs) = let more : suc a + n ≡ suc (a + n) = omega arith in ap (λ m. take m (x ∷ xs)) more ∙ ap (λ (l : Bytes). x ∷ l) (take_plus a n xs)
 
 -- no element is in the run
@@ -149,13 +149,40 @@ kept_element None key b old new k h put = absurd h
 kept_element (Some t) key b old new k h put = put ∙ (λ i. old ++ element (sym h.0 i) key (h.1 i))
 
 -- an element that is left in the run
-pub next_kept : (s : Form) (levels : ℕ) (bytes : Bytes) (from at : ℕ) (e : Element) (made : Bytes) → from ≤ at → IsFirst (drop at bytes) e → IsKept s levels e.kind e.value
+pub next_kept : (s : Form) (levels : ℕ) (bytes : Bytes) (from at : ℕ) (e : Element) (made : Bytes) → from ≤ at → IsHead (drop at bytes) e → IsKept s levels e.kind e.value
     → IsElementPut (recast_node s levels (node_in levels e.kind e.value)) e.key (made ++ run bytes from at) (made ++ run bytes from (at + size e))
-next_kept s levels bytes from at e made order first kept =
+next_kept s levels bytes from at e made order head kept =
     kept_element (recast_node s levels (node_in levels e.kind e.value)) e.key e.value (made ++ run bytes from at) (made ++ run bytes from (at + size e)) e.kind kept
-    (ap (λ (x : Bytes). made ++ x) (run_next bytes from at e order (first_head (drop at bytes) e first)) ∙ sym (append_assoc made (run bytes from at) (element e.kind e.key e.value)))
+    (ap (λ (x : Bytes). made ++ x) (run_next bytes from at e order head) ∙ sym (append_assoc made (run bytes from at) (element e.kind e.key e.value)))
 
 -- an element that is written behind the run
 pub next_changed : (o : Option Tree) (key : Utf8) (bytes : Bytes) (from at n : ℕ) (made flushed new : Bytes) → flushed ≡ made ++ run bytes from at → IsElementPut o key flushed new → IsElementPut o key (made ++ run bytes from at) (new ++ run bytes n n)
 next_changed o key bytes from at n made flushed new put h =
     subst (λ (x : Bytes). IsElementPut o key (made ++ run bytes from at) x) (sym (ap (λ (x : Bytes). new ++ x) (run_none bytes n) ∙ append-nil new)) (subst (λ (x : Bytes). IsElementPut o key x new) put h)
+
+-- ---- steps
+
+-- the bytes behind a place
+pub head_at : (bytes : Bytes) (at : ℕ) (e : Element) → IsHead (take (length bytes - at) (drop at bytes)) e → IsHead (drop at bytes) e
+head_at bytes at e head = subst (λ (x : Bytes). IsHead x e) (take_rest bytes at) head
+
+pub first_at : (bytes : Bytes) (at : ℕ) (e : Element) → IsFirst (drop at bytes) e → IsFirst (take (length bytes - at) (drop at bytes)) e
+first_at bytes at e first = subst (λ (x : Bytes). IsFirst x e) (sym (take_rest bytes at)) first
+
+-- the walk behind an element
+pub walk_next : (bytes : Bytes) (at n : ℕ) (e : Element) → IsHead (drop at bytes) e → n ≡ size e → walk_elements (drop at bytes) ≡ then_walk e (walk_elements (drop (at + n) bytes))
+walk_next bytes at n e head is = head.behind ∙ ap (λ m. then_walk e (walk_elements (drop m (drop at bytes)))) (sym is) ∙ ap (λ (x : Bytes). then_walk e (walk_elements x)) (drop-drop n at bytes)
+
+pub next_within : (bytes : Bytes) (at n : ℕ) (e : Element) → at ≤ length bytes → IsHead (drop at bytes) e → n ≡ size e → at + n ≤ length bytes
+next_within bytes at n e within head is = omega (arith, head.fits, is, length-drop at bytes)
+
+-- two keys that do not differ
+pub is_same : (a b : Utf8) → false ≡ not (bytes_eq a b) → bytes_eq a b ≡ true
+is_same a b e = not_false (bytes_eq a b) e where
+  not_false : (c : Bool) → false ≡ not c → c ≡ true
+  not_false true e = refl
+  not_false false e = absurd cc
+
+-- nothing is left of a run that was written
+pub run_written : (bytes made flushed : Bytes) (from at : ℕ) → flushed ≡ made ++ run bytes from at → (n : ℕ) → flushed ++ run bytes n n ≡ made ++ run bytes from at
+run_written bytes made flushed from at put n = ap (λ (x : Bytes). flushed ++ x) (run_none bytes n) ∙ append-nil flushed ∙ put

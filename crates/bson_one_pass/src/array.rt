@@ -59,12 +59,15 @@ fn recast_items(made: &mut Vec<u8>, item: &Shape, levels: u32, elements: &[u8]) 
         };
         let key = digits.format(index);
         let behind = at + element_len(&elements[at..], &element);
-        from = recast_item_at(made, item, levels, nested, elements, from, at, &element, key)?;
+        from = recast_item_at(
+            made, item, levels, nested, elements, from, at, &element, key,
+        )?;
         nested = nested_behind(nested, from == behind);
         index = index.checked_add(1)?;
         at = behind;
     }
-    put_run(made, elements, from, at)
+    put_run(made, elements, from, at)?;
+    Some(())
 }
 
 // How many documents and arrays inside one another are looked at in the next item. Behind one that was written anew it is none, since the next one is probably like it.

@@ -159,7 +159,10 @@ fn is_uuid(bytes: &[u8]) -> bool
     ensures uuid { IsTrue result → IsUuid bytes.now }
     ensures few { IsTrue result → length bytes.now ≡ 21 }
 {
-    bytes.len() == 21 && uint32_in(bytes) == 16 && bytes[4] == 4
+    if bytes.len() != 21 {
+        return false;
+    }
+    uint32_in(bytes) == 16 && bytes[4] == 4
 }
 
 // Whether these bytes are a document or an array, with its length in front and a zero behind it.

@@ -88,5 +88,6 @@ fn recast_entries(
     if !keys.are_different() {
         return None;
     }
-    put_run(made, elements, from, at)
+    put_run(made, elements, from, at)?;
+    Some(())
 }

@@ -1,7 +1,7 @@
 use Rattle.std.proofs.Common.{rules}
 use Rattle.bson_rawdoc.specs.Node.{node_in, nodes_with}
 use Rattle.bson_rawdoc.specs.Walk.{walk_elements}
-use Rattle.bson_one_pass.proofs.AnyOrder.{found_none, found_step}
+use Rattle.bson_one_pass.proofs.AnyOrder.{found_none}
 use Rattle.bson_one_pass.proofs.found.find_elements.Goals as goal
 
 pub loop-step-init : goal.loop-step-init

@@ -1,4 +1,3 @@
-use Rattle.std.proofs.Common.{◌≡◌, length}
 use Rattle.bson_rawdoc.specs.Node.{node_in, nodes_with}
 use Rattle.bson_rawdoc.specs.Walk.{walk_elements}
 use Rattle.bson_rawdoc.specs.Next.{steps}
