@@ -1,5 +1,5 @@
 pub mod Names
-mod Parts
-mod Left
+pub mod Parts
+pub mod Left
 mod Law
 mod Kept

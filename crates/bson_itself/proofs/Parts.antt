@@ -27,11 +27,11 @@ four_below b h = omega (arith, byte_at b 0 h, byte_at b 1 h, byte_at b 2 h, byte
 eight_below : (b : Bytes) → AreBytes b → from_le_bytes w64 b < 2 ^ 64
 eight_below b h = omega (arith, byte_at b 0 h, byte_at b 1 h, byte_at b 2 h, byte_at b 3 h, byte_at b 4 h, byte_at b 5 h, byte_at b 6 h, byte_at b 7 h)
 
-int32_bytes : (b : Bytes) → AreBytes b → length b ≡ 4 → le32 (cast_unsigned w32 (int32_in b)) ≡ b
+pub int32_bytes : (b : Bytes) → AreBytes b → length b ≡ 4 → le32 (cast_unsigned w32 (int32_in b)) ≡ b
 unfolding int32_in le32
 int32_bytes b all four = le_bytes_4 b _ four (λ i. byte_at b i all) (of_z-to_z w32 (from_le_bytes w32 b) (four_below b all))
 
-int64_bytes : (b : Bytes) → AreBytes b → length b ≡ 8 → le64 (cast_unsigned w64 (int64_in b)) ≡ b
+pub int64_bytes : (b : Bytes) → AreBytes b → length b ≡ 8 → le64 (cast_unsigned w64 (int64_in b)) ≡ b
 unfolding int64_in le64
 int64_bytes b all eight = le_bytes_8 b _ eight (λ i. byte_at b i all) (of_z-to_z w64 (from_le_bytes w64 b) (eight_below b all))
 
@@ -48,7 +48,7 @@ front_again (suc (suc (suc (suc n)))) (a ∷ b ∷ []) h = refl
 front_again (suc (suc (suc (suc n)))) (a ∷ b ∷ c ∷ []) h = refl
 front_again (suc (suc (suc (suc n)))) (a ∷ b ∷ c ∷ d ∷ bytes) h = refl
 
-front_is : (b : Bytes) → AreBytes b → 4 ≤ length b → take 4 b ≡ le32 (uint32_in b)
+pub front_is : (b : Bytes) → AreBytes b → 4 ≤ length b → take 4 b ≡ le32 (uint32_in b)
 unfolding uint32_in le32
 front_is b all h =
     let four = take 4 b in

@@ -54,9 +54,9 @@ fn value_len(alloc: Global, kind: ElementType, bytes: &[u8], levels: u32) -> Opt
     }
 }
 
-// How many bytes the document or the array takes that begins these bytes, if they are as many as they announce and the last is a zero.
+/// How many bytes the document or the array takes that begins these bytes, if they are as many as they announce and the last is a zero.
 #[inline(always)]
-fn frame_len(bytes: &[u8]) -> Option<usize>
+pub fn frame_len(bytes: &[u8]) -> Option<usize>
     ensures within { IfSome result (λ n. (5 ≤ n) × (n ≤ length bytes.now)) }
     ensures frame { IfSome result (λ n. IsFrame (take n bytes.now)) }
 {

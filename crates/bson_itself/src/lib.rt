@@ -5,4 +5,5 @@ mod elements;
 mod keys;
 mod values;
 
-pub use elements::is_itself;
+pub use elements::{frame_len, is_itself};
+pub use values::{boolean_len, text_len};

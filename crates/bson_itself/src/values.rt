@@ -7,9 +7,9 @@ use bson_base::MAX_BINARY;
 use bson_rawdoc::reading::{inside, is_closed, known_bytes, uint32_in};
 use bson_rawdoc::utf8::is_utf8;
 
-// How many bytes the text takes that begins these bytes.
+/// How many bytes the text takes that begins these bytes.
 #[inline(always)]
-pub(crate) fn text_len(bytes: &[u8]) -> Option<usize>
+pub fn text_len(bytes: &[u8]) -> Option<usize>
     ensures within { IfSome result (λ n. n ≤ length bytes.now) }
     ensures text { IfSome result (λ n. IsTextValue (take n bytes.now)) }
 {
@@ -59,9 +59,9 @@ pub(crate) fn fixed_len(bytes: &[u8], count: usize) -> Option<usize>
     Some(count)
 }
 
-// How many bytes the boolean takes that begins these bytes.
+/// How many bytes the boolean takes that begins these bytes.
 #[inline(always)]
-pub(crate) fn boolean_len(bytes: &[u8]) -> Option<usize>
+pub fn boolean_len(bytes: &[u8]) -> Option<usize>
     ensures within { IfSome result (λ n. (n ≡ 1) × (n ≤ length bytes.now)) }
     ensures boolean { IfSome result (λ n. IsTrueOrFalse (take n bytes.now)) }
 {

@@ -8,7 +8,7 @@ use Rattle.bson_base.specs.Outcome.{◌>>=◌}
 use Rattle.bson_base.specs.Text.{Bytes, Utf8, has_zero}
 use Rattle.bson_base.specs.Tree.{Pairs, null, kind, enc, element}
 use Rattle.bson_base.specs.declared.element_type.ElementType.TheVariants.{Null}
-use Rattle.bson_rawdoc.specs.Node.{Node, Nodes, ended, node_in, nodes_with}
+use Rattle.bson_rawdoc.specs.Node.{Node, Nodes, node_in, nodes_with}
 use Rattle.bson_rawdoc.specs.Piece.{Piece}
 use Rattle.bson_rawdoc.specs.Walk.{Element, Walk, then_walk}
 use Rattle.bson_shape.specs.Makers.{AreDistinct, has_name, has_repeat}
@@ -22,9 +22,9 @@ use Rattle.bson_laws.specs.Reads.{reads, slots_of}
 use Rattle.bson_laws.specs.Slots.{Slots, fill, finish, put_at, value_or}
 use Rattle.bson_laws.specs.Spell.{spell_fields}
 use Rattle.bson_laws.specs.Views.{absent}
-use Rattle.bson_one_pass.specs.Found.{name_of, names, IsField, slots_with, AreReadAs, IsNoted, AreFound, AreWritten, IsFoundPut, AreFoundPut}
+use Rattle.bson_one_pass.specs.Found.{name_of, names, IsField, slots_with, AreReadAs, IsNoted, AreFound, AreWritten, IsFoundPut, AreFoundPut, AreOthersPut}
 use Rattle.bson_one_pass.specs.Free.{is_free}
-use Rattle.bson_one_pass.specs.Put.{recast_by, recast_node, recast_fields, IsElementPut, ArePairsPut}
+use Rattle.bson_one_pass.specs.Put.{recast_by, recast_node, IsElementPut, ArePairsPut}
 use Rattle.bson_one_pass.proofs.Fields.{LacksName, names-append, put_dropped, fields_end}
 use Rattle.bson_one_pass.proofs.Places.{AreUnderWay, or_false, same_name, free_lacks, read_by, slot_of}
 
@@ -188,21 +188,19 @@ left_none levels fs es i old made left all =
     (left [] [] (subst (λ xs. AreReadAs levels xs (drop i es) []) (sym (drop_all i fs all)) refl) (subst (λ xs. AreWritten levels (slots_with xs []) []) (sym (drop_all i fs all)) refl))
 
 -- the fields up to a place were written, and those behind it from the elements that were found for them
-pub found_put : (fs : List FieldShape) (levels : ℕ) (whole : Option Pairs) (place : ℕ) (old made new : Bytes) (old_walk new_walk : Walk) (e : Element) (es : List (Option Element)) → AreUnderWay fs levels whole (nodes_with (node_in levels) old_walk) place old made
-    → old_walk ≡ then_walk e new_walk → AreFound levels (take place fs) (drop place fs) (nodes_with (node_in levels) (then_walk e new_walk)) ended es → AreFoundPut levels (drop place fs) es made new → ArePairsPut whole old new
-found_put fs levels whole place old made new old_walk new_walk e es p step found h =
+others_put : (fs : List FieldShape) (levels : ℕ) (whole : Option Pairs) (place : ℕ) (old made new : Bytes) (w : Walk) → AreUnderWay fs levels whole (nodes_with (node_in levels) w) place old made → AreOthersPut levels (take place fs) (drop place fs) w made new
+    → ArePairsPut whole old new
+others_put fs levels whole place old made new w p others =
     let rest = drop place fs in
-    fields_end levels whole (p.front ++ slots_with rest h.0) old (p.bytes ++ h.1) new
-    (p.left
-    ∙ ap (λ w. recast_fields (p.front ++ slots_of (fields_of rest)) levels (nodes_with (node_in levels) w)) step
-    ∙ ap (λ r. recast_by (λ vs. spell_fields (field_contents vs) levels) (r >>= finish)) (found h.0 h.2 p.front p.names_are))
+    let found = others.1 in
+    let h = others.2 in
+    fields_end levels whole (p.front ++ slots_with rest h.0) old (p.bytes ++ h.1) new (p.left ∙ ap (λ r. recast_by (λ vs. spell_fields (field_contents vs) levels) (r >>= finish)) (found h.0 h.2 p.front p.names_are))
     (written_both levels p.front (slots_with rest h.0) p.bytes h.1 p.written h.3) (h.4 ∙ ap (λ b. b ++ h.1) p.put ∙ append_assoc old p.bytes h.1)
 
-pub if_found_put : {A : Type 0} (fs : List FieldShape) (levels : ℕ) (whole : Option Pairs) (place : ℕ) (old made new : Bytes) (old_walk new_walk : Walk) (e : Element) (es : List (Option Element)) (r : Option A)
-    → AreUnderWay fs levels whole (nodes_with (node_in levels) old_walk) place old made → old_walk ≡ then_walk e new_walk → AreFound levels (take place fs) (drop place fs) (nodes_with (node_in levels) (then_walk e new_walk)) ended es
-    → IfSome r (λ _. AreFoundPut levels (drop place fs) es made new) → IfSome r (λ _. ArePairsPut whole old new)
-if_found_put fs levels whole place old made new old_walk new_walk e es None p step found h = tt
-if_found_put fs levels whole place old made new old_walk new_walk e es (Some x) p step found h = found_put fs levels whole place old made new old_walk new_walk e es p step found h
+pub if_others_put : {A : Type 0} (fs : List FieldShape) (levels : ℕ) (whole : Option Pairs) (place : ℕ) (old made new : Bytes) (w : Walk) (r : Option A) → AreUnderWay fs levels whole (nodes_with (node_in levels) w) place old made
+    → IfSome r (λ _. AreOthersPut levels (take place fs) (drop place fs) w made new) → IfSome r (λ _. ArePairsPut whole old new)
+if_others_put fs levels whole place old made new w None p h = tt
+if_others_put fs levels whole place old made new w (Some x) p h = others_put fs levels whole place old made new w p h
 
 -- the fields from a place on are no larger together
 pub fewer : (fs : List FieldShape) (i : ℕ) → fields_nodes (fields_of (drop i fs)) ≤ fields_nodes (fields_of fs)

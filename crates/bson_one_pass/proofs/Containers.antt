@@ -1,22 +1,26 @@
 -- Documents and arrays that take a level, and what is in them.
-use Rattle.std.proofs.Common.{◌≡◌, ℕ, suc, ◌++◌, Option, Some, None, Ok, Err, refl, ap, sym, subst, ◌∙◌}
+use Rattle.std.proofs.Common.{◌≡◌, ℕ, suc, [], ◌++◌, true, Option, Some, None, Ok, Err, refl, ap, sym, subst, ◌∙◌}
 use Rattle.std.specs.Option.{option_map}
-use Rattle.bson_base.specs.Outcome.{result_map}
-use Rattle.bson_base.specs.Text.{Bytes}
+use Rattle.bson_base.specs.Outcome.{◌>>=◌, result_map}
+use Rattle.bson_base.specs.Reserved.{reserved_kind}
+use Rattle.bson_base.specs.Text.{Bytes, Utf8}
 use Rattle.bson_base.specs.Tree as tree
 use Rattle.bson_base.specs.Tree.{Tree, Trees, Pairs, enc, kind, enclosed, elements, array_elements}
 use Rattle.bson_base.specs.declared.element_type.ElementType.{ElementType}
 use Rattle.bson_base.specs.declared.element_type.ElementType.TheVariants as kinds
+use Rattle.bson_rawdoc.specs.Envelope.{inside, is_closed}
+use Rattle.bson_rawdoc.specs.Piece.{made}
 use Rattle.bson_rawdoc.specs.Node.{inner_node, node_in, nodes_with}
 use Rattle.bson_rawdoc.specs.Walk.{walk}
-use Rattle.bson_shape.specs.Form.{Form, sequence}
-use Rattle.bson_datum.specs.Marked.{contents, item_contents}
+use Rattle.bson_shape.specs.Form.{Form, sequence, structure, Fields}
+use Rattle.bson_datum.specs.Marked.{contents, item_contents, field_contents}
 use Rattle.bson_datum.specs.Value as value
 use Rattle.bson_laws.specs.Containers.{reads_items}
 use Rattle.bson_laws.specs.Judged.{Reading}
-use Rattle.bson_laws.specs.Reads.{reads}
-use Rattle.bson_laws.specs.Spell.{Writing, spell, spell_items}
-use Rattle.bson_one_pass.specs.Put.{of_writing, recast_by, recast_node, recast_items, ArePut, IsPut, AreItemsPut, ArePairsPut}
+use Rattle.bson_laws.specs.Reads.{reads, slots_of}
+use Rattle.bson_laws.specs.Slots.{fill, finish}
+use Rattle.bson_laws.specs.Spell.{Writing, spell, spell_items, spell_fields}
+use Rattle.bson_one_pass.specs.Put.{of_writing, recast_by, recast_node, recast_items, recast_fields, ArePut, IsPut, AreItemsPut, ArePairsPut}
 
 pub mapped : {A B : Type 0} (f : A → B) (w : Writing A) → of_writing (result_map f w) ≡ option_map f (of_writing w)
 mapped f (Ok x) = refl
@@ -61,3 +65,32 @@ array_put s levels m b old begun filled ended e wraps h =
 pub pairs_put : (s : Form) (o : Option Pairs) (levels m : ℕ) (b old begun filled ended : Bytes) → recast_node s (suc m) (inner_node (suc m) kinds.EmbeddedDocument b) ≡ option_map tree.document o → levels ≡ suc m
     → ((b : Bytes) → filled ≡ begun ++ b → ended ≡ old ++ enclosed b) → ArePairsPut o begun filled → IsPut (recast_node s levels (inner_node levels kinds.EmbeddedDocument b)) old ended kinds.EmbeddedDocument
 pairs_put s o levels m b old begun filled ended is e wraps h = container_put elements tree.document kinds.EmbeddedDocument s o levels m b old begun filled ended (λ ps. (refl, refl)) is e wraps h
+
+pub struct_put : (name : Utf8) (fs : Fields) (levels m : ℕ) (b old begun filled ended : Bytes) → reserved_kind name ≡ None → levels ≡ suc m → ((b : Bytes) → filled ≡ begun ++ b → ended ≡ old ++ enclosed b)
+    → ArePairsPut (recast_fields (slots_of fs) m (nodes_with (node_in m) (walk b))) begun filled → IsPut (recast_node (structure name fs) levels (inner_node levels kinds.EmbeddedDocument b)) old ended kinds.EmbeddedDocument
+struct_put name fs levels m b old begun filled ended free e wraps h =
+    let ns = nodes_with (node_in m) (walk b) in
+    pairs_put (structure name fs) (recast_fields (slots_of fs) m ns) levels m b old begun filled ended
+    (recast_mapped (λ v. spell (contents v) (suc m)) (value.structure (made name)) (λ vs. spell_fields (field_contents vs) m) tree.document (fill ns (slots_of fs) >>= finish) (λ vs. rw free refl)) e wraps h
+
+-- ---- documents and arrays that are closed
+
+pub array_node : (levels m : ℕ) (b : Bytes) → levels ≡ suc m → is_closed b ≡ true → node_in levels kinds.Array b ≡ inner_node levels kinds.Array b
+array_node levels m b e closed = subst (λ n. node_in n kinds.Array b ≡ inner_node n kinds.Array b) (sym e) (rw closed refl)
+
+pub document_node : (levels m : ℕ) (b : Bytes) → levels ≡ suc m → is_closed b ≡ true → node_in levels kinds.EmbeddedDocument b ≡ inner_node levels kinds.EmbeddedDocument b
+document_node levels m b e closed = subst (λ n. node_in n kinds.EmbeddedDocument b ≡ inner_node n kinds.EmbeddedDocument b) (sym e) (rw closed refl)
+
+-- the bytes of a document or an array are what is in them, closed
+pub frame_wraps : (b : Bytes) → enclosed (inside b) ≡ b → (e : Bytes) → inside b ≡ [] ++ e → b ≡ [] ++ enclosed e
+frame_wraps b frame e is = sym frame ∙ ap enclosed is
+
+pub array_kept : (s : Form) (levels m : ℕ) (b : Bytes) → levels ≡ suc m → is_closed b ≡ true → enclosed (inside b) ≡ b → AreItemsPut (recast_items s m 0 (nodes_with (node_in m) (walk b))) 0 [] (inside b)
+    → IsPut (recast_node (sequence s) levels (node_in levels kinds.Array b)) [] b kinds.Array
+array_kept s levels m b e closed frame h =
+    subst (λ n. IsPut (recast_node (sequence s) levels n) [] b kinds.Array) (sym (array_node levels m b e closed)) (array_put s levels m b [] [] (inside b) b e (frame_wraps b frame) h)
+
+pub struct_kept : (name : Utf8) (fs : Fields) (levels m : ℕ) (b : Bytes) → reserved_kind name ≡ None → levels ≡ suc m → is_closed b ≡ true → enclosed (inside b) ≡ b
+    → ArePairsPut (recast_fields (slots_of fs) m (nodes_with (node_in m) (walk b))) [] (inside b) → IsPut (recast_node (structure name fs) levels (node_in levels kinds.EmbeddedDocument b)) [] b kinds.EmbeddedDocument
+struct_kept name fs levels m b free e closed frame h =
+    subst (λ n. IsPut (recast_node (structure name fs) levels n) [] b kinds.EmbeddedDocument) (sym (document_node levels m b e closed)) (struct_put name fs levels m b [] [] (inside b) b free e (frame_wraps b frame) h)

@@ -3,6 +3,10 @@ mod Fields
 mod Places
 mod AnyOrder
 mod Pieces
+mod Runs
+mod Steps
+mod Options
+mod KeptLeaves
 mod Values
 mod Leaves
 mod Forms
@@ -10,5 +14,5 @@ mod Containers
 mod Tuples
 mod Entries
 mod Whole
-mod Kept
+mod Copies
 mod Passed

@@ -11,11 +11,11 @@ use Rattle.bson_base.specs.declared.element_type.ElementType.{ElementType}
 use Rattle.bson_one_pass.specs.Put.{IsPut, IsElementPut}
 
 -- an element: its front, its value, and its kind in the place
-pub element_is : (old made with_front : Bytes) (key : Utf8) (value : Bytes) (k : ElementType) → with_front ≡ old ++ (0 ∷ (key ++ 0 ∷ [])) → made ≡ with_front ++ value
+pub element_is : (old made with_front : Bytes) (first : ℕ) (key : Utf8) (value : Bytes) (k : ElementType) → with_front ≡ old ++ (first ∷ (key ++ 0 ∷ [])) → made ≡ with_front ++ value
     → take (length old) made ++ (byte k ∷ drop (length old + 1) made) ≡ old ++ element k key value
-element_is old made with_front key value k front put =
-    let whole : made ≡ old ++ (0 ∷ (key ++ (0 ∷ value))) = put ∙ ap (λ b. b ++ value) front ∙ append_assoc old (0 ∷ (key ++ 0 ∷ [])) value ∙ ap (λ b. old ++ (0 ∷ b)) (append_assoc key (0 ∷ []) value) in
-    rw whole (ap (λ b. b ++ (byte k ∷ drop (length old + 1) (old ++ (0 ∷ (key ++ (0 ∷ value)))))) (take-append_seam old (0 ∷ (key ++ (0 ∷ value)))) ∙ ap (λ b. old ++ (byte k ∷ b)) (drop-append-add old (0 ∷ (key ++ (0 ∷ value))) 1))
+element_is old made with_front first key value k front put =
+    let whole : made ≡ old ++ (first ∷ (key ++ (0 ∷ value))) = put ∙ ap (λ b. b ++ value) front ∙ append_assoc old (first ∷ (key ++ 0 ∷ [])) value ∙ ap (λ b. old ++ (first ∷ b)) (append_assoc key (0 ∷ []) value) in
+    rw whole (ap (λ b. b ++ (byte k ∷ drop (length old + 1) (old ++ (first ∷ (key ++ (0 ∷ value)))))) (take-append_seam old (first ∷ (key ++ (0 ∷ value)))) ∙ ap (λ b. old ++ (byte k ∷ b)) (drop-append-add old (first ∷ (key ++ (0 ∷ value))) 1))
 
 -- a document or an array that is closed
 pub closed_is : (old : Bytes) (start : ℕ) → start + 4 ≤ length old → patched (old ++ 0 ∷ []) start (le32 (length (old ++ 0 ∷ []) - start)) ≡ take start old ++ enclosed (drop (start + 4) old)
@@ -40,9 +40,9 @@ enclosed_put old begun filled ended elements begins fills ends =
     ∙ ap (λ b. old ++ enclosed b) (drop-append-add old (0 ∷ 0 ∷ 0 ∷ 0 ∷ elements) 4)
 
 -- an element whose value was put behind its front
-pub item_put : (o p : Option Tree) (key : Utf8) (k : ElementType) (place : ℕ) (old with_front made new : Bytes) → p ≡ o → place ≡ length old → with_front ≡ old ++ (0 ∷ (key ++ 0 ∷ [])) → IsPut o with_front made k
+pub item_put : (o p : Option Tree) (first : ℕ) (key : Utf8) (k : ElementType) (place : ℕ) (old with_front made new : Bytes) → p ≡ o → place ≡ length old → with_front ≡ old ++ (first ∷ (key ++ 0 ∷ [])) → IsPut o with_front made k
     → new ≡ take place made ++ (byte k ∷ drop (place + 1) made) → IsElementPut p key old new
-item_put None p key k place old with_front made new is at front h set = absurd h
-item_put (Some t) p key k place old with_front made new is at front h set =
+item_put None p first key k place old with_front made new is at front h set = absurd h
+item_put (Some t) p first key k place old with_front made new is at front h set =
     subst (λ (o : Option Tree). IsElementPut o key old new) (sym is)
-    (set ∙ ap (λ n. take n made ++ (byte k ∷ drop (n + 1) made)) at ∙ element_is old made with_front key (enc t) k front h.1 ∙ ap (λ kk. old ++ element kk key (enc t)) (sym h.0))
+    (set ∙ ap (λ n. take n made ++ (byte k ∷ drop (n + 1) made)) at ∙ element_is old made with_front first key (enc t) k front h.1 ∙ ap (λ kk. old ++ element kk key (enc t)) (sym h.0))

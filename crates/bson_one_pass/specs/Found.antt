@@ -3,8 +3,8 @@ use Rattle.std.specs.Prelude.{◌≡◌, ℕ, zero, suc, ◌++◌, List, [], ◌
 use Rattle.std.specs.Str.{bytes_eq}
 use Rattle.bson_base.specs.Text.{Bytes, Utf8, has_zero}
 use Rattle.bson_base.specs.Tree.{Tree, enc, kind, element}
-use Rattle.bson_rawdoc.specs.Node.{Nodes, node_in}
-use Rattle.bson_rawdoc.specs.Walk.{Element}
+use Rattle.bson_rawdoc.specs.Node.{Nodes, ended, node_in, nodes_with}
+use Rattle.bson_rawdoc.specs.Walk.{Element, Walk}
 use Rattle.bson_shape.specs.ShapeView.{fields_of}
 use Rattle.bson_shape.specs.declared.shape.FieldShape.{FieldShape}
 use Rattle.bson_datum.specs.Marked.{Marked, contents}
@@ -34,7 +34,7 @@ names (s ∷ ss) = s.name ∷ names ss
 
 -- the slot of a field, with the value that was read for it, if one was
 abbrev pub slot_with : FieldShape → Option Marked → Slot
-slot_with f v = record { name = name_of f; missing = absent f.shape; read = reads f.shape plain; value = v }
+slot_with f v = record { name = name_of f; missing = absent f.shape; read = reads f.shape; value = v }
 
 -- the slots of fields, each with its value
 abbrev pub slots_with : List FieldShape → List (Option Marked) → Slots
@@ -90,3 +90,7 @@ IsFoundPut levels f found old new = (value : Option Marked) × (bytes : Bytes) �
 -- Fields were written in their order: the elements that were found for them are read as values, and the slots with these are written as the bytes that were appended.
 abbrev pub AreFoundPut : (levels : ℕ) → List FieldShape → (found : List (Option Element)) → (old new : Bytes) → Type 0
 AreFoundPut levels fs found old new = (values : List (Option Marked)) × (bytes : Bytes) × AreReadAs levels fs found values × AreWritten levels (slots_with fs values) bytes × (new ≡ old ++ bytes)
+
+-- The fields behind those in front were written from the elements that are left, behind slots of fields in front: they are found, read and written.
+abbrev pub AreOthersPut : (levels : ℕ) → (front fields : List FieldShape) → Walk → (old new : Bytes) → Type 0
+AreOthersPut levels front fs left old new = (found : List (Option Element)) × AreFound levels front fs (nodes_with (node_in levels) left) ended found × AreFoundPut levels fs found old new

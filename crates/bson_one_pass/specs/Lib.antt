@@ -2,3 +2,4 @@ pub mod Recast
 pub mod Put
 pub mod Free
 pub mod Found
+pub mod Run

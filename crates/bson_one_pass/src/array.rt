@@ -1,21 +1,26 @@
 // Arrays at a shape of their items.
-ghost use Rattle.std.specs.Prelude.{◌≡◌, IfSome};
+ghost use Rattle.std.specs.Prelude.{◌≡◌, ◌≤◌, ◌+◌, ◌++◌, ◌∷◌, [], length, drop, IfSome};
+ghost use Rattle.bson_base.specs.Kind.{byte};
 ghost use Rattle.bson_base.specs.declared.element_type.ElementType.TheVariants as kinds;
 ghost use Rattle.bson_rawdoc.specs.DocumentView.{array_bytes};
 ghost use Rattle.bson_rawdoc.specs.Node.{inner_node, node_in, nodes_with, value_node};
 ghost use Rattle.bson_rawdoc.specs.ValueView.{raw_value};
-ghost use Rattle.bson_shape.specs.Form.{sequence, leaf};
-ghost use Rattle.bson_shape.specs.declared.leaf.Leaf.TheVariants.{Any};
+ghost use Rattle.bson_rawdoc.specs.Walk.{walk_elements};
+ghost use Rattle.bson_shape.specs.Form.{sequence};
 ghost use Rattle.bson_one_pass.specs.Put.{recast_node, recast_items, IsPut, AreItemsPut, IsElementPut};
+ghost use Rattle.bson_one_pass.specs.Run.{IsFirst, run, size};
 
 use crate::bytes::{close, put, put_front, set_kind};
+use crate::kept::{MOST_NESTED, is_kept};
+use crate::run::{element_front, element_len, put_element, put_run};
 use crate::value::recast_value;
 use bson_base::ElementType;
-use bson_itself::is_itself;
-use bson_rawdoc::{RawArray, RawBsonRef, RawElement, RawIter};
-use bson_shape::{Form, Leaf, Shape};
+use bson_rawdoc::reading::inside;
+use bson_rawdoc::{RawArray, RawBsonRef, RawElement, next_element};
+use bson_shape::Shape;
 
 /// The array at a sequence: its values, whose keys are their indexes from 0 on.
+#[inline(never)]
 #[cycle(recast)]
 pub(crate) fn recast_array(
     made: &mut Vec<u8>,
@@ -26,31 +31,133 @@ pub(crate) fn recast_array(
     ensures { IfSome result (IsPut (recast_node (sequence item.now) levels (inner_node levels kinds.Array (array_bytes array.entry)))
         made.old.items made.new.items) }
 {
-    if levels == 0 {
+    let bytes = array.as_bytes();
+    if levels == 0 || bytes.len() < 5 {
         return None;
     }
     let start = made.len();
     put(made, &[0; 4])?;
-    recast_items(made, item, levels - 1, array.as_doc().iter_elements())?;
+    recast_items(made, item, levels - 1, inside(bytes))?;
     close(made, start)?;
     Some(ElementType::Array)
 }
 
 /// The elements of an array.
 #[cycle(recast)]
-fn recast_items(made: &mut Vec<u8>, item: &Shape, levels: u32, elements: RawIter<'_>) -> Option<()>
-    ensures { IfSome result (λ _. AreItemsPut (recast_items item.now levels 0 (nodes_with (node_in levels) elements.entry)) 0
+fn recast_items(made: &mut Vec<u8>, item: &Shape, levels: u32, elements: &[u8]) -> Option<()>
+    ensures { IfSome result (λ _. AreItemsPut (recast_items item.now levels 0 (nodes_with (node_in levels) (walk_elements elements.now))) 0
         made.old.items made.new.items) }
 {
     let mut digits = itoa::Buffer::new();
     let mut index: u64 = 0;
-    for element in elements {
-        let Ok(element) = element else {
+    let mut nested = MOST_NESTED;
+    let mut from = 0;
+    let mut at = 0;
+    while let Some(step) = next_element(&elements[at..]) {
+        let Ok((element, _)) = step else {
             return None;
         };
-        recast_item(made, item, levels, &element, digits.format(index))?;
+        let key = digits.format(index);
+        let behind = at + element_len(&elements[at..], &element);
+        from = recast_item_at(
+            made, item, levels, nested, elements, from, at, &element, key,
+        )?;
+        nested = nested_behind(nested, from == behind);
         index = index.checked_add(1)?;
+        at = behind;
     }
+    put_run(made, elements, from, at)?;
+    Some(())
+}
+
+// How many documents and arrays inside one another are looked at in the next item. Behind one that was written anew it is none, since the next one is probably like it.
+fn nested_behind(nested: u32, changed: bool) -> u32 {
+    if changed { 0 } else { nested }
+}
+
+/// The element at a place, under this key: as `recast_next` where it has the key, else it is written behind the run.
+#[inline(always)]
+#[cycle(recast)]
+fn recast_item_at(
+    made: &mut Vec<u8>,
+    shape: &Shape,
+    levels: u32,
+    nested: u32,
+    elements: &[u8],
+    from: usize,
+    at: usize,
+    element: &RawElement<'_>,
+    key: &str,
+) -> Option<usize>
+    requires order { from ≤ at }
+    requires within { at ≤ length elements.now }
+    requires first { IsFirst (drop at elements.now) element.now }
+    ensures behind { IfSome result (λ next. next ≤ at + size element.now) }
+    ensures put { IfSome result (λ next. IsElementPut (recast_node shape.now levels (node_in levels element.now.kind element.now.value)) key.now
+        (made.old.items ++ run elements.now from at) (made.new.items ++ run elements.now next (at + size element.now))) }
+{
+    if element.key() == key {
+        return recast_next(made, shape, levels, nested, elements, from, at, element);
+    }
+    put_run(made, elements, from, at)?;
+    recast_item(made, shape, levels, element, key)?;
+    Some(at + element_len(&elements[at..], element))
+}
+
+/// The element at a place, under the key that it has. Where it is written as it was read, it is left to the run that begins at `from`; else that run and the
+/// element are written. The answer is where the run begins that is still to be written.
+#[inline(always)]
+#[cycle(recast)]
+pub(crate) fn recast_next(
+    made: &mut Vec<u8>,
+    shape: &Shape,
+    levels: u32,
+    nested: u32,
+    elements: &[u8],
+    from: usize,
+    at: usize,
+    element: &RawElement<'_>,
+) -> Option<usize>
+    requires order { from ≤ at }
+    requires within { at ≤ length elements.now }
+    requires first { IsFirst (drop at elements.now) element.now }
+    ensures behind { IfSome result (λ next. next ≤ at + size element.now) }
+    ensures put { IfSome result (λ next. IsElementPut (recast_node shape.now levels (node_in levels element.now.kind element.now.value)) element.now.key
+        (made.old.items ++ run elements.now from at) (made.new.items ++ run elements.now next (at + size element.now))) }
+{
+    let (kind, bytes) = (element.element_type(), element.slice());
+    if is_kept(*made.allocator(), shape, levels, nested, kind, bytes) {
+        return Some(from);
+    }
+    put_run(made, elements, from, at)?;
+    recast_changed(
+        made,
+        shape,
+        levels,
+        element,
+        element_front(&elements[at..], element),
+    )?;
+    Some(at + element_len(&elements[at..], element))
+}
+
+/// An element whose front this is, and whose value is written anew.
+#[cycle(recast)]
+fn recast_changed(
+    made: &mut Vec<u8>,
+    shape: &Shape,
+    levels: u32,
+    element: &RawElement<'_>,
+    front: &[u8],
+) -> Option<()>
+    requires front { front.now ≡ byte element.now.kind ∷ (element.now.key ++ 0 ∷ []) }
+    ensures { IfSome result (λ _. IsElementPut (recast_node shape.now levels (node_in levels element.now.kind element.now.value)) element.now.key
+        made.old.items made.new.items) }
+{
+    let value = value_of(element, levels)?;
+    let place = made.len();
+    put(made, front)?;
+    let kind = recast_value(made, shape, levels, &value)?;
+    set_kind(made, place, kind);
     Some(())
 }
 
@@ -66,30 +173,14 @@ pub(crate) fn recast_item(
     ensures { IfSome result (λ _. IsElementPut (recast_node shape.now levels (node_in levels element.now.kind element.now.value)) key.now
         made.old.items made.new.items) }
 {
-    if let Form::Leaf(Leaf::Any) = shape.form() {
-        return keep_item(made, levels, element, key);
+    let (kind, bytes) = (element.element_type(), element.slice());
+    if is_kept(*made.allocator(), shape, levels, MOST_NESTED, kind, bytes) {
+        return put_element(made, kind, key, bytes);
     }
     let value = value_of(element, levels)?;
     let place = made.len();
     put_front(made, key.as_bytes())?;
     let kind = recast_value(made, shape, levels, &value)?;
-    set_kind(made, place, kind);
-    Some(())
-}
-
-/// An element whose key is this, and whose value is written at `any` as it was read: its bytes are copied.
-fn keep_item(made: &mut Vec<u8>, levels: u32, element: &RawElement<'_>, key: &str) -> Option<()>
-    ensures { IfSome result (λ _. IsElementPut (recast_node (leaf Any) levels (node_in levels element.now.kind element.now.value)) key.now
-        made.old.items made.new.items) }
-{
-    let kind = element.element_type();
-    let bytes = element.slice();
-    if !is_itself(*made.allocator(), kind, bytes, levels) {
-        return None;
-    }
-    let place = made.len();
-    put_front(made, key.as_bytes())?;
-    put(made, bytes)?;
     set_kind(made, place, kind);
     Some(())
 }

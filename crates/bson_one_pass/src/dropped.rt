@@ -1,5 +1,5 @@
 // Values that no field takes: they are walked to their end, and dropped.
-ghost use Rattle.std.specs.Prelude.{◌≡◌, ◌≤◌, ◌-◌, Ok, true, false, IfSome, IsTrue};
+ghost use Rattle.std.specs.Prelude.{◌≡◌, ◌≤◌, ◌-◌, ℕ, Ok, true, IfSome, IsTrue};
 ghost use Rattle.std.specs.Str.{is_utf8};
 ghost use Rattle.bson_rawdoc.specs.Node.{binary_node, inner_node, node_in, nodes_with, value_node};
 ghost use Rattle.bson_rawdoc.specs.Piece.{borrowed};
@@ -8,7 +8,8 @@ ghost use Rattle.bson_laws.specs.Judged.{ignores};
 ghost use Rattle.bson_one_pass.specs.Free.{ArePassed};
 
 use crate::array::value_of;
-use bson_base::BinarySubtype;
+use crate::kept::is_boolean;
+use bson_base::{BinarySubtype, ElementType};
 use bson_rawdoc::{RawBsonRef, RawElement, RawIter};
 
 /// Whether nothing in a value is at fault, with so many levels left.
@@ -84,9 +85,31 @@ fn is_binary(subtype: BinarySubtype, bytes: &[u8]) -> bool
 pub(crate) fn drop_value(levels: u32, element: &RawElement<'_>) -> Option<()>
     ensures { IfSome result (λ _. ignores (node_in levels element.now.kind element.now.value) ≡ Ok tt) }
 {
+    if is_harmless(element.element_type(), element.slice()) {
+        return Some(());
+    }
     let value = value_of(element, levels)?;
     if is_passed(&value, levels) {
         return Some(());
     }
     None
+}
+
+// Whether nothing can be at fault in a value of the kind in these bytes, since it is one of so many bytes.
+#[inline(always)]
+fn is_harmless(kind: ElementType, bytes: &[u8]) -> bool
+    ensures { IsTrue result → (levels : ℕ) → ignores (node_in levels kind bytes.now) ≡ Ok tt }
+{
+    match kind {
+        ElementType::Double
+        | ElementType::Null
+        | ElementType::Int32
+        | ElementType::Int64
+        | ElementType::ObjectId
+        | ElementType::DateTime
+        | ElementType::Timestamp
+        | ElementType::Decimal128 => true,
+        ElementType::Boolean => is_boolean(bytes),
+        _ => false,
+    }
 }

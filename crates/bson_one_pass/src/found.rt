@@ -1,14 +1,14 @@
 // The elements of fields that a document has in another order than the shape.
 ghost use Rattle.std.specs.Prelude.{◌≡◌, ◌++◌, None, length, replicate, true, IfSome, IfNone};
 ghost use Rattle.bson_rawdoc.specs.Node.{ended, node_in, nodes_with};
-ghost use Rattle.bson_rawdoc.specs.Walk.{then_walk};
+ghost use Rattle.bson_rawdoc.specs.Walk.{walk_elements};
 ghost use Rattle.bson_shape.specs.Makers.{AreDistinct};
 ghost use Rattle.bson_shape.specs.ShapeView.{fields_of};
 ghost use Rattle.bson_one_pass.specs.Found.{IsField, IsNoted, AreFound};
 ghost use Rattle.bson_one_pass.specs.Free.{is_free};
 
 use crate::dropped::drop_value;
-use bson_rawdoc::{RawElement, RawIter};
+use bson_rawdoc::{RawElement, next_element};
 use bson_shape::FieldShape;
 use std::alloc::Global;
 
@@ -20,19 +20,20 @@ pub(crate) fn find_elements<'a>(
     front: &[FieldShape],
     fields: &[FieldShape],
     levels: u32,
-    first: RawElement<'a>,
-    elements: RawIter<'a>,
+    elements: &'a [u8],
 ) -> Option<Vec<Option<RawElement<'a>>>>
     requires distinct { AreDistinct (fields_of (front.now ++ fields.now)) }
-    ensures { IfSome result (λ found. AreFound levels front.now fields.now (nodes_with (node_in levels) (then_walk first.entry elements.entry)) ended found.items) }
+    ensures { IfSome result (λ found. AreFound levels front.now fields.now (nodes_with (node_in levels) (walk_elements elements.now)) ended found.items) }
 {
     let mut found = none_found(alloc, fields.len())?;
-    let mut next = note_element(&mut found, front, fields, 0, levels, first)?;
-    for element in elements {
-        let Ok(element) = element else {
+    let mut next = 0;
+    let mut rest = elements;
+    while let Some(step) = next_element(rest) {
+        let Ok((element, behind)) = step else {
             return None;
         };
         next = note_element(&mut found, front, fields, next, levels, element)?;
+        rest = behind;
     }
     Some(found)
 }

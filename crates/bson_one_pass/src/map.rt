@@ -3,19 +3,24 @@ ghost use Rattle.std.specs.Prelude.{◌≡◌, true, IfSome};
 ghost use Rattle.bson_base.specs.declared.element_type.ElementType.TheVariants as kinds;
 ghost use Rattle.bson_rawdoc.specs.DocumentView.{document_bytes};
 ghost use Rattle.bson_rawdoc.specs.Node.{inner_node, node_in, nodes_with};
+ghost use Rattle.bson_rawdoc.specs.Walk.{walk_elements};
 ghost use Rattle.bson_shape.specs.Form as form;
 ghost use Rattle.bson_datum.specs.Value.{no_entries};
 ghost use Rattle.bson_one_pass.specs.Free.{takes_keys};
 ghost use Rattle.bson_one_pass.specs.Put.{recast_node, recast_entries, IsPut, ArePairsPut};
 
-use crate::array::recast_item;
+use crate::array::recast_next;
 use crate::bytes::{close, put};
-use bson_base::{ElementType, has_zero};
+use crate::kept::MOST_NESTED;
+use crate::run::{element_len, put_run};
+use bson_base::ElementType;
 use bson_keys::MetKeys;
-use bson_rawdoc::{RawDocument, RawIter};
+use bson_rawdoc::reading::inside;
+use bson_rawdoc::{RawDocument, next_element};
 use bson_shape::{Leaf, Shape};
 
 /// The document at a map whose keys are at a leaf, and whose values have this shape.
+#[inline(never)]
 #[cycle(recast)]
 pub(crate) fn recast_map(
     made: &mut Vec<u8>,
@@ -27,12 +32,13 @@ pub(crate) fn recast_map(
     ensures { IfSome result (IsPut (recast_node (form.map (form.leaf key) shape.now) levels
         (inner_node levels kinds.EmbeddedDocument (document_bytes document.entry))) made.old.items made.new.items) }
 {
-    if levels == 0 || !takes_keys(key) {
+    let bytes = document.as_bytes();
+    if levels == 0 || !takes_keys(key) || bytes.len() < 5 {
         return None;
     }
     let start = made.len();
     put(made, &[0; 4])?;
-    recast_entries(made, key, shape, levels - 1, document.iter_elements())?;
+    recast_entries(made, key, shape, levels - 1, inside(bytes))?;
     close(made, start)?;
     Some(ElementType::EmbeddedDocument)
 }
@@ -51,28 +57,37 @@ fn recast_entries(
     key: Leaf,
     shape: &Shape,
     levels: u32,
-    elements: RawIter<'_>,
+    elements: &[u8],
 ) -> Option<()>
     requires keys { takes_keys key ≡ true }
-    ensures { IfSome result (λ _. ArePairsPut (recast_entries key shape.now no_entries levels (nodes_with (node_in levels) elements.entry))
+    ensures { IfSome result (λ _. ArePairsPut (recast_entries key shape.now no_entries levels (nodes_with (node_in levels) (walk_elements elements.now)))
         made.old.items made.new.items) }
 {
     let mut keys = MetKeys::new(*made.allocator());
-    for element in elements {
-        let Ok(element) = element else {
+    let mut from = 0;
+    let mut at = 0;
+    while let Some(step) = next_element(&elements[at..]) {
+        let Ok((element, _)) = step else {
             return None;
         };
-        let name = element.key();
-        if has_zero(name) {
+        if !keys.add(element.key()) {
             return None;
         }
-        if !keys.add(name) {
-            return None;
-        }
-        recast_item(made, shape, levels, &element, name)?;
+        from = recast_next(
+            made,
+            shape,
+            levels,
+            MOST_NESTED,
+            elements,
+            from,
+            at,
+            &element,
+        )?;
+        at += element_len(&elements[at..], &element);
     }
     if !keys.are_different() {
         return None;
     }
+    put_run(made, elements, from, at)?;
     Some(())
 }

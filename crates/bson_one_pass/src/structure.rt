@@ -7,27 +7,32 @@ ghost use Rattle.bson_base.specs.declared.element_type.ElementType.TheVariants a
 ghost use Rattle.bson_rawdoc.specs.DocumentView.{document_bytes};
 ghost use Rattle.bson_rawdoc.specs.Node.{inner_node, node_in, nodes_with};
 ghost use Rattle.bson_rawdoc.specs.Piece.{Piece};
+ghost use Rattle.bson_rawdoc.specs.Walk.{walk_elements};
 ghost use Rattle.bson_shape.specs.Form.{structure};
 ghost use Rattle.bson_shape.specs.Makers.{AreDistinct};
 ghost use Rattle.bson_shape.specs.ShapeView.{fields_of};
 ghost use Rattle.bson_datum.specs.Value.{none};
 ghost use Rattle.bson_laws.specs.Reads.{slots_of};
 ghost use Rattle.bson_laws.specs.Views.{absent};
-ghost use Rattle.bson_one_pass.specs.Found.{IsFoundPut, AreFoundPut};
+ghost use Rattle.bson_one_pass.specs.Found.{IsFoundPut, AreFoundPut, AreOthersPut};
 ghost use Rattle.bson_one_pass.specs.Put.{recast_node, recast_fields, IsPut, IsElementPut, ArePairsPut};
 
-use crate::array::recast_item;
+use crate::array::{recast_item, recast_next};
 use crate::bytes::{close, put, put_front, set_kind};
 use crate::dropped::drop_value;
 use crate::found::{find_elements, is_free};
+use crate::kept::MOST_NESTED;
+use crate::run::{element_len, put_run};
 use bson_base::{ElementType, has_zero};
-use bson_rawdoc::{RawDocument, RawElement, RawIter};
+use bson_rawdoc::reading::inside;
+use bson_rawdoc::{RawDocument, RawElement, next_element};
 use bson_shape::{FieldShape, Form};
 
 /// The most names that a key is compared with. At a struct of more fields a key that is not the next one's name is left to the reader, which has an index.
 const MOST_COMPARED: usize = 64;
 
 /// The document at a struct of this name with these fields.
+#[inline(never)]
 #[cycle(recast)]
 pub(crate) fn recast_struct(
     made: &mut Vec<u8>,
@@ -41,12 +46,13 @@ pub(crate) fn recast_struct(
     ensures { IfSome result (IsPut (recast_node (structure name.now (fields_of fields.now)) levels
         (inner_node levels kinds.EmbeddedDocument (document_bytes document.entry))) made.old.items made.new.items) }
 {
-    if levels == 0 {
+    let bytes = document.as_bytes();
+    if levels == 0 || bytes.len() < 5 {
         return None;
     }
     let start = made.len();
     put(made, &[0; 4])?;
-    recast_fields(made, fields, levels - 1, document.iter_elements())?;
+    recast_fields(made, fields, levels - 1, inside(bytes))?;
     close(made, start)?;
     Some(ElementType::EmbeddedDocument)
 }
@@ -58,43 +64,70 @@ fn recast_fields(
     made: &mut Vec<u8>,
     fields: &[FieldShape],
     levels: u32,
-    mut elements: RawIter<'_>,
+    elements: &[u8],
 ) -> Option<()>
     requires distinct { AreDistinct (fields_of fields.now) }
-    ensures { IfSome result (λ _. ArePairsPut (recast_fields (slots_of (fields_of fields.now)) levels (nodes_with (node_in levels) elements.entry))
+    ensures { IfSome result (λ _. ArePairsPut (recast_fields (slots_of (fields_of fields.now)) levels (nodes_with (node_in levels) (walk_elements elements.now)))
         made.old.items made.new.items) }
 {
     let mut place = 0;
-    while let Some(element) = elements.next() {
-        let Ok(element) = element else {
+    let mut from = 0;
+    let mut at = 0;
+    while let Some(step) = next_element(&elements[at..]) {
+        let Ok((element, _)) = step else {
             return None;
         };
+        let behind = at + element_len(&elements[at..], &element);
         match fields.get(place) {
             Some(field) if field.name.as_str() == element.key() => {
-                recast_field(made, field, levels, &element)?;
+                from = recast_next(
+                    made,
+                    &field.shape,
+                    levels,
+                    MOST_NESTED,
+                    elements,
+                    from,
+                    at,
+                    &element,
+                )?;
                 place += 1;
             }
             _ if fields.len() > MOST_COMPARED => return None,
-            _ if is_free(fields, element.key()) => drop_value(levels, &element)?,
             _ => {
-                let (front, others) = fields.split_at(place);
-                let found = find_elements(
-                    *made.allocator(),
-                    front,
-                    others,
-                    levels,
-                    element,
-                    elements,
-                )?;
-                return put_found(made, others, levels, &found);
+                put_run(made, elements, from, at)?;
+                if !is_free(fields, element.key()) {
+                    let (front, others) = fields.split_at(place);
+                    return recast_others(made, front, others, levels, &elements[at..]);
+                }
+                drop_value(levels, &element)?;
+                from = behind;
             }
         }
+        at = behind;
     }
+    put_run(made, elements, from, at)?;
     while let Some(field) = fields.get(place) {
         put_missing(made, field)?;
         place += 1;
     }
     Some(())
+}
+
+/// The fields behind those in front, from elements in any order.
+#[inline(never)]
+#[cycle(recast)]
+fn recast_others(
+    made: &mut Vec<u8>,
+    front: &[FieldShape],
+    fields: &[FieldShape],
+    levels: u32,
+    elements: &[u8],
+) -> Option<()>
+    requires distinct { AreDistinct (fields_of (front.now ++ fields.now)) }
+    ensures { IfSome result (λ _. AreOthersPut levels front.now fields.now (walk_elements elements.now) made.old.items made.new.items) }
+{
+    let found = find_elements(*made.allocator(), front, fields, levels, elements)?;
+    put_found(made, fields, levels, &found)
 }
 
 /// The element of a field.

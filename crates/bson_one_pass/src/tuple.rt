@@ -15,6 +15,7 @@ use bson_rawdoc::{RawArray, RawIter};
 use bson_shape::Shape;
 
 /// The array at a tuple, or at a tuple struct, whose parts have these shapes.
+#[inline(never)]
 #[cycle(recast)]
 pub(crate) fn recast_tuple(
     made: &mut Vec<u8>,

@@ -1,14 +1,15 @@
-use Rattle.std.proofs.Common.{◌≡◌, ◌+◌, ◌*◌, ◌-◌, ◌≤◌, length, drop, List}
+use Rattle.std.proofs.Common.{◌≡◌, ◌+◌, ◌*◌, ◌-◌, ◌≤◌, ◌++◌, length, drop, List}
 use Rattle.std.specs.List.{IsDistinct}
 use Rattle.std.specs.Str.{bytes_eq}
 use Rattle.bson_base.specs.Text.{Utf8}
 use Rattle.bson_keys.specs.Met.{HasKeys}
-use Rattle.bson_rawdoc.specs.Next.{steps}
 use Rattle.bson_rawdoc.specs.Node.{ended, node_in, nodes_with}
+use Rattle.bson_rawdoc.specs.Walk.{walk_elements}
 use Rattle.bson_shape.specs.ShapeView.{fields_of, parts_of, nodes, fields_nodes, parts_nodes}
 use Rattle.bson_datum.specs.Value.{no_entries}
 use Rattle.bson_laws.specs.Reads.{slots_of}
 use Rattle.bson_one_pass.specs.Put.{recast_items, recast_parts, recast_entries, recast_fields}
+use Rattle.bson_one_pass.specs.Run.{run}
 use Rattle.bson_one_pass.proofs.Places.{AreUnderWay}
 use Rattle.bson_one_pass.proofs.AnyOrder.{FoundLeft}
 use Rattle.bson_one_pass.proofs.Items.{AreLeft}
@@ -27,17 +28,26 @@ decreases-value::recast_newtype l = 8 * nodes l.inner.now + 1
 abbrev pub decreases-array::recast_item : goal.decreases-array::recast_item
 decreases-array::recast_item l = 8 * nodes l.shape.now + 1
 
+abbrev pub decreases-array::recast_changed : goal.decreases-array::recast_changed
+decreases-array::recast_changed l = 8 * nodes l.shape.now + 1
+
+abbrev pub decreases-array::recast_next : goal.decreases-array::recast_next
+decreases-array::recast_next l = 8 * nodes l.shape.now + 2
+
+abbrev pub decreases-array::recast_item_at : goal.decreases-array::recast_item_at
+decreases-array::recast_item_at l = 8 * nodes l.shape.now + 3
+
 abbrev pub decreases-array::recast_items : goal.decreases-array::recast_items
-decreases-array::recast_items l = 8 * nodes l.item.now + 2
+decreases-array::recast_items l = 8 * nodes l.item.now + 4
 
 abbrev pub decreases-array::recast_array : goal.decreases-array::recast_array
-decreases-array::recast_array l = 8 * nodes l.item.now + 3
+decreases-array::recast_array l = 8 * nodes l.item.now + 5
 
 abbrev pub decreases-map::recast_entries : goal.decreases-map::recast_entries
-decreases-map::recast_entries l = 8 * nodes l.shape.now + 2
+decreases-map::recast_entries l = 8 * nodes l.shape.now + 3
 
 abbrev pub decreases-map::recast_map : goal.decreases-map::recast_map
-decreases-map::recast_map l = 8 * nodes l.shape.now + 3
+decreases-map::recast_map l = 8 * nodes l.shape.now + 4
 
 abbrev pub decreases-tuple::recast_parts : goal.decreases-tuple::recast_parts
 decreases-tuple::recast_parts l = 8 * parts_nodes (parts_of l.parts.now) + 3
@@ -49,7 +59,10 @@ abbrev pub decreases-structure::recast_field : goal.decreases-structure::recast_
 decreases-structure::recast_field l = 8 * nodes l.field.now.shape + 2
 
 abbrev pub decreases-structure::recast_fields : goal.decreases-structure::recast_fields
-decreases-structure::recast_fields l = 8 * fields_nodes (fields_of l.fields.now) + 4
+decreases-structure::recast_fields l = 8 * fields_nodes (fields_of l.fields.now) + 5
+
+abbrev pub decreases-structure::recast_others : goal.decreases-structure::recast_others
+decreases-structure::recast_others l = 8 * fields_nodes (fields_of l.fields.now) + 4
 
 abbrev pub decreases-structure::put_found : goal.decreases-structure::put_found
 decreases-structure::put_found l = 8 * fields_nodes (fields_of l.fields.now) + 3
@@ -58,20 +71,25 @@ abbrev pub decreases-structure::put_field : goal.decreases-structure::put_field
 decreases-structure::put_field l = 8 * nodes l.field.now.shape + 3
 
 abbrev pub decreases-structure::recast_struct : goal.decreases-structure::recast_struct
-decreases-structure::recast_struct l = 8 * fields_nodes (fields_of l.fields.now) + 5
+decreases-structure::recast_struct l = 8 * fields_nodes (fields_of l.fields.now) + 6
 
-abbrev pub invariant-array::recast_items-loop-element : goal.invariant-array::recast_items-loop-element
-invariant-array::recast_items-loop-element l =
-    (goal.iterator-array::recast_items-loop-element).can_next l.element-iterator × (goal.iterator-array::recast_items-loop-element).is_finite l.element-iterator
-    × AreLeft (recast_items l.item l.levels 0 (nodes_with (node_in l.levels) l.fn.elements)) (recast_items l.item l.levels l.index (nodes_with (node_in l.levels) l.element-iterator)) l.index l.initial.made.items l.made.items
+abbrev pub invariant-array::recast_items-loop-step : goal.invariant-array::recast_items-loop-step
+invariant-array::recast_items-loop-step l =
+    (l.at ≤ length l.elements) × (l.from ≤ l.at)
+    × AreLeft (recast_items l.item l.levels 0 (nodes_with (node_in l.levels) (walk_elements l.elements))) (recast_items l.item l.levels l.index (nodes_with (node_in l.levels) (walk_elements (drop l.at l.elements)))) l.index l.initial.made.items
+    (l.made.items ++ run l.elements l.from l.at)
 
-abbrev pub invariant-structure::recast_fields-loop-element : goal.invariant-structure::recast_fields-loop-element
-invariant-structure::recast_fields-loop-element l =
-    (l.place ≤ length l.fields)
-    × AreUnderWay l.fields l.levels (recast_fields (slots_of (fields_of l.fields)) l.levels (nodes_with (node_in l.levels) l.fn.elements)) (nodes_with (node_in l.levels) l.elements) l.place l.initial.made.items l.made.items
+abbrev pub decreases-array::recast_items-loop-step : goal.decreases-array::recast_items-loop-step
+decreases-array::recast_items-loop-step l = length l.elements - l.at
 
-abbrev pub decreases-structure::recast_fields-loop-element : goal.decreases-structure::recast_fields-loop-element
-decreases-structure::recast_fields-loop-element l = steps l.elements
+abbrev pub invariant-structure::recast_fields-loop-step : goal.invariant-structure::recast_fields-loop-step
+invariant-structure::recast_fields-loop-step l =
+    (l.at ≤ length l.elements) × (l.from ≤ l.at) × (l.place ≤ length l.fields)
+    × AreUnderWay l.fields l.levels (recast_fields (slots_of (fields_of l.fields)) l.levels (nodes_with (node_in l.levels) (walk_elements l.elements))) (nodes_with (node_in l.levels) (walk_elements (drop l.at l.elements))) l.place l.initial.made.items
+    (l.made.items ++ run l.elements l.from l.at)
+
+abbrev pub decreases-structure::recast_fields-loop-step : goal.decreases-structure::recast_fields-loop-step
+decreases-structure::recast_fields-loop-step l = length l.elements - l.at
 
 abbrev pub invariant-structure::put_found-loop-field : goal.invariant-structure::put_found-loop-field
 invariant-structure::put_found-loop-field l = (l.place ≤ length l.fields) × FoundLeft l.levels l.fields l.found l.place l.fn.made.items l.made.items
@@ -81,7 +99,7 @@ decreases-structure::put_found-loop-field l = length l.fields - l.place
 
 abbrev pub invariant-structure::recast_fields-loop-field : goal.invariant-structure::recast_fields-loop-field
 invariant-structure::recast_fields-loop-field l =
-    (l.place ≤ length l.fields) × AreUnderWay l.fields l.levels (recast_fields (slots_of (fields_of l.fields)) l.levels (nodes_with (node_in l.levels) l.fn.elements)) ended l.place l.fn.made.items l.made.items
+    (l.place ≤ length l.fields) × AreUnderWay l.fields l.levels (recast_fields (slots_of (fields_of l.fields)) l.levels (nodes_with (node_in l.levels) (walk_elements l.elements))) ended l.place l.fn.made.items l.made.items
 
 abbrev pub decreases-structure::recast_fields-loop-field : goal.decreases-structure::recast_fields-loop-field
 decreases-structure::recast_fields-loop-field l = length l.fields - l.place
@@ -91,8 +109,12 @@ invariant-tuple::recast_parts-loop-part l =
     (l.index ≡ l.part-index)
     × AreLeft (recast_parts (parts_of l.parts) l.levels 0 (nodes_with (node_in l.levels) l.fn.elements)) (recast_parts (parts_of (drop l.part-index l.parts)) l.levels l.part-index (nodes_with (node_in l.levels) l.elements)) l.part-index l.initial.made.items l.made.items
 
-abbrev pub invariant-map::recast_entries-loop-element : goal.invariant-map::recast_entries-loop-element
-invariant-map::recast_entries-loop-element l =
-    (goal.iterator-map::recast_entries-loop-element).can_next l.element-iterator × (goal.iterator-map::recast_entries-loop-element).is_finite l.element-iterator
+abbrev pub invariant-map::recast_entries-loop-step : goal.invariant-map::recast_entries-loop-step
+invariant-map::recast_entries-loop-step l =
+    (l.at ≤ length l.elements) × (l.from ≤ l.at)
     × ((names : List Utf8) × HasKeys l.keys names
-    × (IsDistinct bytes_eq names → AreEntriesPut l.fn.key l.shape l.levels (recast_entries l.fn.key l.shape no_entries l.levels (nodes_with (node_in l.levels) l.fn.elements)) (nodes_with (node_in l.levels) l.element-iterator) names l.initial.made.items l.made.items))
+    × (IsDistinct bytes_eq names → AreEntriesPut l.fn.key l.shape l.levels (recast_entries l.fn.key l.shape no_entries l.levels (nodes_with (node_in l.levels) (walk_elements l.elements))) (nodes_with (node_in l.levels) (walk_elements (drop l.at l.elements)))
+    names l.initial.made.items (l.made.items ++ run l.elements l.from l.at)))
+
+abbrev pub decreases-map::recast_entries-loop-step : goal.decreases-map::recast_entries-loop-step
+decreases-map::recast_entries-loop-step l = length l.elements - l.at

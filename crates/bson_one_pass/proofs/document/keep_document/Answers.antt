@@ -3,7 +3,7 @@ use Rattle.std.specs.Option.{IfSome}
 use Rattle.bson_shape.specs.Form.{leaf}
 use Rattle.bson_shape.specs.declared.leaf.Leaf.TheVariants.{Any}
 use Rattle.bson_one_pass.specs.Recast.{IsRecastAs}
-use Rattle.bson_one_pass.proofs.Kept.{document_kept, if_copied}
+use Rattle.bson_one_pass.proofs.Copies.{document_kept, if_copied}
 use Rattle.bson_one_pass.proofs.document.keep_document.Goals as goal
 
 pub returns : goal.returns

@@ -1,9 +1,11 @@
 use Rattle.bson_rawdoc.specs.Node.{node_in, nodes_with}
-use Rattle.bson_rawdoc.specs.Walk.{then_walk}
+use Rattle.bson_rawdoc.specs.Walk.{walk_elements}
+use Rattle.bson_rawdoc.specs.Next.{steps}
 use Rattle.bson_one_pass.specs.Found.{AreFound}
 use Rattle.bson_one_pass.proofs.found.find_elements.Given as goal
 
-abbrev pub invariant-loop-element : goal.invariant-loop-element
-invariant-loop-element l =
-    (goal.iterator-loop-element).can_next l.element-iterator × (goal.iterator-loop-element).is_finite l.element-iterator
-    × AreFound l.levels l.front l.fields (nodes_with (node_in l.levels) (then_walk l.fn.first l.fn.elements)) (nodes_with (node_in l.levels) l.element-iterator) l.found.items
+abbrev pub invariant-loop-step : goal.invariant-loop-step
+invariant-loop-step l = AreFound l.levels l.front l.fields (nodes_with (node_in l.levels) (walk_elements l.elements)) (nodes_with (node_in l.levels) (walk_elements l.rest)) l.found.items
+
+abbrev pub decreases-loop-step : goal.decreases-loop-step
+decreases-loop-step l = steps (walk_elements l.rest)

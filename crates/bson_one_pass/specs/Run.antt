@@ -1,0 +1,37 @@
+-- Elements in bytes one behind another, runs of them, and values that are written as they were read. It is for the contracts of the parts of the pass.
+use Rattle.std.specs.Prelude.{◌≡◌, ℕ, ◌+◌, ◌-◌, ◌≤◌, [], length, take, drop, false}
+use Rattle.bson_base.specs.Sound.{HasBytes}
+use Rattle.bson_base.specs.Text.{Bytes, has_zero}
+use Rattle.bson_base.specs.Tree.{element, after_length}
+use Rattle.bson_base.specs.declared.element_type.ElementType.{ElementType}
+use Rattle.bson_rawdoc.specs.Node.{node_in}
+use Rattle.bson_rawdoc.specs.Walk.{Element, Walk, then_walk, walk_elements}
+use Rattle.bson_shape.specs.Form.{Form}
+use Rattle.bson_one_pass.specs.Put.{recast_node, IsPut}
+
+-- the element is the first of those in the bytes
+abbrev pub IsFirst : Bytes → Element → Type 0
+IsFirst bytes e = (rest : Walk) × (walk_elements bytes ≡ then_walk e rest)
+
+-- how many bytes an element takes: its kind, its key, a zero, its value
+abbrev pub size : Element → ℕ
+size e = length e.key + length e.value + 2
+
+-- the bytes begin with the element, and the others are behind it
+pub record IsHead (bytes : Bytes) (e : Element) : Type 0 where
+  pub fits : size e ≤ length bytes
+  pub is : take (size e) bytes ≡ element e.kind e.key e.value
+  pub closed : has_zero e.key ≡ false
+  pub behind : walk_elements bytes ≡ then_walk e (walk_elements (drop (size e) bytes))
+
+-- the bytes between two places
+abbrev pub run : Bytes → (from at : ℕ) → Bytes
+run bytes from at = take (at - from) (drop from bytes)
+
+-- a value of the kind in these bytes is written at the shape as these bytes
+abbrev pub IsKept : Form → (levels : ℕ) → ElementType → Bytes → Type 0
+IsKept s levels k b = IsPut (recast_node s levels (node_in levels k b)) [] b k
+
+-- the bytes of a binary of subtype 4 and sixteen bytes
+abbrev pub IsUuid : Bytes → Type 0
+IsUuid b = (inner : Bytes) × HasBytes 16 inner × (after_length 4 inner ≡ b)
