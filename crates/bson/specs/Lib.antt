@@ -3,6 +3,8 @@
 pub use Rattle.bson_dates.specs.DatePrinted
 pub use Rattle.bson_dates.specs.DateText
 pub use Rattle.bson_base.specs.BsonView
+pub use Rattle.bson_base.specs.Encoded
+pub use Rattle.bson_base.specs.Folded
 pub use Rattle.bson_base.specs.Instant
 pub use Rattle.bson_base.specs.Kind
 pub use Rattle.bson_base.specs.Made
@@ -37,6 +39,7 @@ pub use Rattle.bson_shape.specs.Refusals
 pub use Rattle.bson_shape.specs.Same as ShapeSame
 pub use Rattle.bson_shape.specs.ShapeView
 pub use Rattle.bson_rawdoc.specs.Cut
+pub use Rattle.bson_rawdoc.specs.DocumentTree
 pub use Rattle.bson_rawdoc.specs.DocumentView
 pub use Rattle.bson_rawdoc.specs.Envelope
 pub use Rattle.bson_rawdoc.specs.Extent

@@ -9,10 +9,10 @@
 //! | reading and writing | `from_slice_at`; `to_vec_at`, `to_buf`, `to_vec_counted`; `Datum` and its parts `Field`, `Entry`, `Text`, `ByteStr`, `Double` |
 //! | both at once | `recast`, `recast_to_buf` |
 //! | trees | `Bson`, `Document` with `Iter` and `IntoIter`, and the types of values, such as `ObjectId`, `DateTime` and `Binary`; `read_value` and `Met` to read from one |
-//! | documents in their bytes | `RawDocument`, `RawArray`, `RawElement`, `RawIter`, `RawBsonRef` |
+//! | documents in their bytes | `RawDocument`, `RawArray`, `RawElement`, `RawIter`, `RawBsonRef`; `RawDocumentBuf`, `RawArrayBuf` to own the bytes |
 //! | files of documents | `RawDocuments`; `migrate`, `Migration`, `Refused`, `lines_of` |
 //! | values of kinds that serde's data model lacks | `data` to make them, `reserved` to look at them, `reserved_kind` |
-//! | errors | `ParseError`, `ShapeError`, `de::Error`, `ser::Error`, `raw::Error`, `RecastError`, `MigrateError`; `Cause`, `MAX_NESTING_LEVEL`, `Path`, `Segment`, `Wrapper`, and `Stop` of `read_value` |
+//! | errors | `ParseError`, `ShapeError`, `de::Error`, `ser::Error`, `raw::Error`, `EncodeError`, `RecastError`, `MigrateError`; `Cause`, `MAX_NESTING_LEVEL`, `Path`, `Segment`, `Wrapper`, and `Stop` of `read_value` |
 //! | input and output | `Source`, `Sink`, their ends `ReadAdapter`, `WriteAdapter`, `MemorySource`, `MemorySink`, `SteadySource`, `SteadySink`; `read_to_end`, `write_due`, `ReadFault`, `Failed`, `MOST`; `Out`, `Steps`, `Ledger`, `Tally` |
 //! | whole programs | `run` and `Status`, `run_migrate` and `MigrateStatus`; what they share: `shape_of_word`, `read_input`, `Answer`, `finish` |
 //! | texts | `date_text`, `date_of_text`, `integer_of_text`, `subtype_of_text`; `DateError`, `NotDate`, `NotHex`, `NotUuid` |
@@ -157,17 +157,18 @@
 //!
 //! # Trees
 //!
-//! A `Bson` is a value of any kind and owns what it holds; a `Document` is a list of pairs in order, in which each key appears once. No call takes the bytes of a
-//! document to a tree yet. A tree is written by way of a `Datum`, which `read_value` reads from it at the shape `document`, or at any other.
+//! A `Bson` is a value of any kind and owns what it holds; a `Document` is a list of pairs in order, in which each key appears once. `Document::to_vec` gives its
+//! bytes, and `RawDocument::to_document` the document of bytes. `read_value` reads a tree at a shape, as `from_slice_at` reads bytes.
 //!
 //! `bson_examples/src/trees.rt`:
 //!
 //! ```rust
-//! ghost use Rattle.std.specs.Prelude.{◌≡◌, IfOk, codes, pos};
+//! ghost use Rattle.std.specs.Prelude.{◌≡◌, IfOk, Ok, codes, pos};
 //! ghost use Rattle.bson.specs.BsonView.{pairs_of};
+//! ghost use Rattle.bson.specs.Encoded.{encoded};
 //! ghost use Rattle.bson.specs.Tree.{int32, no_pairs, pair, string};
 //!
-//! use bson::{Bson, Document, MAX_NESTING_LEVEL, Met, RecastError, Shape, de, read_value, to_vec_at};
+//! use bson::{Bson, Document, EncodeError, RawDocument, raw};
 //! use std::alloc::{AllocError, Global};
 //!
 //! /// The document `{name: "Ada", age: 36}`.
@@ -193,14 +194,15 @@
 //! }
 //!
 //! /// The bytes of a document.
-//! pub fn document_bytes(alloc: Global, document: Document) -> Result<Vec<u8>, RecastError> {
-//!     let tree = Bson::Document(document);
-//!     let met = Met::of_tree(MAX_NESTING_LEVEL, &tree);
-//!     let datum = match read_value(alloc, &Shape::document(), &met) {
-//!         Ok(datum) => datum,
-//!         Err(stop) => return Err(RecastError::from(de::Error::from_stop(alloc, stop))),
-//!     };
-//!     Ok(to_vec_at(alloc, &datum)?)
+//! pub fn document_bytes(alloc: Global, document: &Document) -> Result<Vec<u8>, EncodeError>
+//!     ensures encoded { IfOk result (λ v. encoded (pairs_of document.now) ≡ Ok v.items) }
+//! {
+//!     document.to_vec(alloc)
+//! }
+//!
+//! /// The document of bytes.
+//! pub fn document_of(alloc: Global, bytes: &[u8]) -> Result<Document, raw::Error> {
+//!     RawDocument::from_bytes(bytes)?.to_document(alloc)
 //! }
 //! ```
 //!
@@ -361,8 +363,8 @@ pub mod laws;
 
 pub use bson_base::{
     Binary, BinarySubtype, Bson, DateError, DateTime, DbPointer, Decimal128, Document, Double,
-    ElementType, IntoIter, Iter, JavaScriptCodeWithScope, NotDate, NotHex, NotUuid, ObjectId,
-    Regex, Timestamp, Uuid, integer_of_text, reserved_kind, subtype_of_text,
+    ElementType, EncodeError, IntoIter, Iter, JavaScriptCodeWithScope, NotDate, NotHex, NotUuid,
+    ObjectId, Regex, Timestamp, Uuid, integer_of_text, reserved_kind, subtype_of_text,
 };
 pub use bson_dates::{date_of_text, date_text};
 pub use bson_datum::{
@@ -380,7 +382,10 @@ pub use bson_migrate_run::{
     MigrateError, MigrateStatus, Migration, Refused, lines_of, migrate, run_migrate,
 };
 pub use bson_program::{Answer, Endings, InputEndings, finish, read_input, shape_of_word};
-pub use bson_rawdoc::{RawArray, RawBsonRef, RawDocument, RawDocuments, RawElement, RawIter, raw};
+pub use bson_rawdoc::{
+    RawArray, RawArrayBuf, RawBsonRef, RawDocument, RawDocumentBuf, RawDocuments, RawElement,
+    RawIter, raw,
+};
 pub use bson_recast_run::{RecastError, Status, recast, recast_to_buf, run};
 pub use bson_reserved as reserved;
 pub use bson_ser_stream::{to_buf, to_vec_at, to_vec_counted};

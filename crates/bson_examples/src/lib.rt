@@ -20,5 +20,5 @@ pub use raw_documents::total;
 pub use reading::age;
 pub use recasting::upgraded;
 pub use shapes::person_shape;
-pub use trees::{ada, document_bytes, first_null};
+pub use trees::{ada, document_bytes, document_of, first_null};
 pub use writing::{person, person_bytes};

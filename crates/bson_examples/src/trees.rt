@@ -1,8 +1,9 @@
-ghost use Rattle.std.specs.Prelude.{◌≡◌, IfOk, codes, pos};
+ghost use Rattle.std.specs.Prelude.{◌≡◌, IfOk, Ok, codes, pos};
 ghost use Rattle.bson.specs.BsonView.{pairs_of};
+ghost use Rattle.bson.specs.Encoded.{encoded};
 ghost use Rattle.bson.specs.Tree.{int32, no_pairs, pair, string};
 
-use bson::{Bson, Document, MAX_NESTING_LEVEL, Met, RecastError, Shape, de, read_value, to_vec_at};
+use bson::{Bson, Document, EncodeError, RawDocument, raw};
 use std::alloc::{AllocError, Global};
 
 /// The document `{name: "Ada", age: 36}`.
@@ -28,12 +29,13 @@ pub fn first_null(document: &Document) -> Option<&str> {
 }
 
 /// The bytes of a document.
-pub fn document_bytes(alloc: Global, document: Document) -> Result<Vec<u8>, RecastError> {
-    let tree = Bson::Document(document);
-    let met = Met::of_tree(MAX_NESTING_LEVEL, &tree);
-    let datum = match read_value(alloc, &Shape::document(), &met) {
-        Ok(datum) => datum,
-        Err(stop) => return Err(RecastError::from(de::Error::from_stop(alloc, stop))),
-    };
-    Ok(to_vec_at(alloc, &datum)?)
+pub fn document_bytes(alloc: Global, document: &Document) -> Result<Vec<u8>, EncodeError>
+    ensures encoded { IfOk result (λ v. encoded (pairs_of document.now) ≡ Ok v.items) }
+{
+    document.to_vec(alloc)
+}
+
+/// The document of bytes.
+pub fn document_of(alloc: Global, bytes: &[u8]) -> Result<Document, raw::Error> {
+    RawDocument::from_bytes(bytes)?.to_document(alloc)
 }

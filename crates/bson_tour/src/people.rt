@@ -54,16 +54,17 @@ fn with_null(alloc: Global) -> Result<Document, AllocError> {
     Ok(document)
 }
 
-/// A tree is made, and written.
+/// A tree is made and written, and read from bytes.
 pub fn print_tree(rt: &impl Print, alloc: Global) -> Result<(), Fail> {
     print_value(rt, "first_null", &first_null(&ada(alloc)?))?;
     print_value(rt, "first_null", &first_null(&with_null(alloc)?))?;
-    print_bytes(
-        rt,
-        alloc,
-        "document_bytes",
-        &document_bytes(alloc, ada(alloc)?)?,
-    )
+    print_written(rt, alloc, "document_bytes", &ada(alloc)?)?;
+    print_written(rt, alloc, "document_of", &document_of(alloc, ADA)?)
+}
+
+/// The bytes of a tree.
+fn print_written(rt: &impl Print, alloc: Global, name: &str, tree: &Document) -> Result<(), Fail> {
+    print_bytes(rt, alloc, name, &document_bytes(alloc, tree)?)
 }
 
 /// What is wrong with a shape, or with the document at it.

@@ -5,6 +5,7 @@
 
 mod data;
 mod debug;
+mod documents;
 mod ends;
 mod kinds;
 mod printing;
@@ -25,6 +26,11 @@ fn main(rt: HostRuntime) -> Result<(), Fail> {
     values::print_regex(&rt, alloc)?;
     values::print_opened(&rt, alloc)?;
     values::print_copy(&rt, alloc)?;
+    documents::print_written(&rt, alloc)?;
+    documents::print_tree(&rt, alloc)?;
+    documents::print_owned(&rt, alloc)?;
+    documents::print_folded(&rt, alloc)?;
+    documents::print_refusals(&rt, alloc)?;
     shapes::print_made(&rt, alloc)?;
     shapes::print_notations(&rt, alloc)?;
     shapes::print_levels(&rt, alloc)?;
