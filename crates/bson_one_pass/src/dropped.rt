@@ -1,5 +1,5 @@
 // Values that no field takes: they are walked to their end, and dropped.
-ghost use Rattle.std.specs.Prelude.{◌≡◌, ◌≤◌, ◌-◌, ℕ, Ok, true, IfSome, IsTrue};
+ghost use Rattle.std.specs.Prelude.{◌≡◌, ◌≤◌, ◌-◌, ℕ, Ok, true, false, IfSome, IsTrue};
 ghost use Rattle.std.specs.Str.{is_utf8};
 ghost use Rattle.bson_rawdoc.specs.Node.{binary_node, inner_node, node_in, nodes_with, value_node};
 ghost use Rattle.bson_rawdoc.specs.Piece.{borrowed};
