@@ -11,6 +11,7 @@ use Rattle.bson_base.specs.declared.element_type.ElementType.{ElementType}
 use Rattle.bson_base.specs.declared.element_type.ElementType.TheVariants as kinds
 use Rattle.bson_rawdoc.specs.Node as node
 use Rattle.bson_rawdoc.specs.Node.{opens}
+use Rattle.bson_rawdoc.specs.Numbers.{int32_in, int64_in}
 use Rattle.bson_rawdoc.specs.Piece.{borrowed, made}
 use Rattle.bson_shape.specs.Form.{leaf}
 use Rattle.bson_shape.specs.declared.leaf.Leaf.TheVariants as leaves
@@ -62,3 +63,13 @@ string_read t levels h = rw h refl
 
 pub time_put : (n : ℤ) (old new : Bytes) (levels : ℕ) → FitsSigned w64 n → new ≡ old ++ tree.le64 (cast_unsigned w64 n) → IsPut (recast_node (leaf leaves.DateTime) levels (opens (node.date_time n))) old new kinds.DateTime
 time_put n old new levels clean put = subst (λ (o : Option Tree). IsPut o old new kinds.DateTime) (sym (tree_written (tree.date_time n) levels clean (omega arith))) (refl, put)
+
+-- ---- numbers in their bytes
+
+pub int32_node : (levels : ℕ) (b : Bytes) → node.node_in levels kinds.Int32 b ≡ node.int32 (int32_in b)
+int32_node zero b = refl
+int32_node (suc n) b = refl
+
+pub int64_node : (levels : ℕ) (b : Bytes) → node.node_in levels kinds.Int64 b ≡ node.int64 (int64_in b)
+int64_node zero b = refl
+int64_node (suc n) b = refl

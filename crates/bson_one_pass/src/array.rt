@@ -2,7 +2,6 @@
 ghost use Rattle.std.specs.Prelude.{◌≡◌, ◌≤◌, ◌+◌, ◌++◌, ◌∷◌, [], length, drop, IfSome};
 ghost use Rattle.bson_base.specs.Kind.{byte};
 ghost use Rattle.bson_base.specs.declared.element_type.ElementType.TheVariants as kinds;
-ghost use Rattle.bson_rawdoc.specs.DocumentView.{array_bytes};
 ghost use Rattle.bson_rawdoc.specs.Node.{inner_node, node_in, nodes_with, value_node};
 ghost use Rattle.bson_rawdoc.specs.ValueView.{raw_value};
 ghost use Rattle.bson_rawdoc.specs.Walk.{walk_elements};
@@ -12,27 +11,28 @@ ghost use Rattle.bson_one_pass.specs.Run.{IsFirst, run, size};
 
 use crate::bytes::{close, put, put_front, set_kind};
 use crate::kept::{MOST_NESTED, is_kept};
+use crate::leaf::{recast_int32, recast_int64};
 use crate::run::{element_front, element_len, put_element, put_run};
+use crate::structure::recast_struct;
 use crate::value::recast_value;
 use bson_base::ElementType;
-use bson_rawdoc::reading::inside;
-use bson_rawdoc::{RawArray, RawBsonRef, RawElement, next_element};
-use bson_shape::Shape;
+use bson_rawdoc::reading::{inside, is_closed};
+use bson_rawdoc::{RawBsonRef, RawElement, next_element};
+use bson_shape::{Form, Shape};
 
-/// The array at a sequence: its values, whose keys are their indexes from 0 on.
+/// The array in these bytes at a sequence: its values, whose keys are their indexes from 0 on.
 #[inline(never)]
 #[cycle(recast)]
 pub(crate) fn recast_array(
     made: &mut Vec<u8>,
     item: &Shape,
     levels: u32,
-    array: RawArray<'_>,
+    bytes: &[u8],
 ) -> Option<ElementType>
-    ensures { IfSome result (IsPut (recast_node (sequence item.now) levels (inner_node levels kinds.Array (array_bytes array.entry)))
-        made.old.items made.new.items) }
+    ensures seen { IfSome result (IsPut (recast_node (sequence item.now) levels (inner_node levels kinds.Array bytes.now)) made.old.items made.new.items) }
+    ensures met { IfSome result (IsPut (recast_node (sequence item.now) levels (node_in levels kinds.Array bytes.now)) made.old.items made.new.items) }
 {
-    let bytes = array.as_bytes();
-    if levels == 0 || bytes.len() < 5 {
+    if levels == 0 || bytes.len() < 5 || !is_closed(bytes) {
         return None;
     }
     let start = made.len();
@@ -100,7 +100,7 @@ fn recast_item_at(
         return recast_next(made, shape, levels, nested, elements, from, at, element);
     }
     put_run(made, elements, from, at)?;
-    recast_item(made, shape, levels, element, key)?;
+    recast_item(made, shape, levels, &element.clone(), key)?;
     Some(at + element_len(&elements[at..], element))
 }
 
@@ -130,13 +130,8 @@ pub(crate) fn recast_next(
         return Some(from);
     }
     put_run(made, elements, from, at)?;
-    recast_changed(
-        made,
-        shape,
-        levels,
-        element,
-        element_front(&elements[at..], element),
-    )?;
+    let front = element_front(&elements[at..], element);
+    recast_changed(made, shape, levels, &element.clone(), front)?;
     Some(at + element_len(&elements[at..], element))
 }
 
@@ -153,12 +148,55 @@ fn recast_changed(
     ensures { IfSome result (λ _. IsElementPut (recast_node shape.now levels (node_in levels element.now.kind element.now.value)) element.now.key
         made.old.items made.new.items) }
 {
-    let value = value_of(element, levels)?;
     let place = made.len();
     put(made, front)?;
-    let kind = recast_value(made, shape, levels, &value)?;
+    let kind = recast_element(made, shape, levels, element)?;
     set_kind(made, place, kind);
     Some(())
+}
+
+/// The value of an element: that of a common kind from its bytes, any other once it is looked at.
+#[inline(always)]
+#[cycle(recast)]
+fn recast_element(
+    made: &mut Vec<u8>,
+    shape: &Shape,
+    levels: u32,
+    element: &RawElement<'_>,
+) -> Option<ElementType>
+    ensures { IfSome result (IsPut (recast_node shape.now levels (node_in levels element.now.kind element.now.value)) made.old.items made.new.items) }
+{
+    shape.known();
+    match (shape.form(), element.element_type()) {
+        (Form::Leaf(leaf), ElementType::Int32) => {
+            recast_int32(made, leaf, levels, element.slice())
+        }
+        (Form::Leaf(leaf), ElementType::Int64) => {
+            recast_int64(made, leaf, levels, element.slice())
+        }
+        (Form::Seq(item), ElementType::Array) => {
+            recast_array(made, item, levels, element.slice())
+        }
+        (Form::Struct(name, fields), ElementType::EmbeddedDocument) => {
+            recast_struct(made, name, fields, levels, element.slice())
+        }
+        _ => recast_other(made, shape, levels, element),
+    }
+}
+
+// The value of an element, once it is looked at. It is separate so that the others pay for none of its locals.
+#[inline(never)]
+#[cycle(recast)]
+fn recast_other(
+    made: &mut Vec<u8>,
+    shape: &Shape,
+    levels: u32,
+    element: &RawElement<'_>,
+) -> Option<ElementType>
+    ensures { IfSome result (IsPut (recast_node shape.now levels (node_in levels element.now.kind element.now.value)) made.old.items made.new.items) }
+{
+    let value = value_of(element, levels)?;
+    recast_value(made, shape, levels, &value)
 }
 
 /// An element whose key is this.
@@ -177,10 +215,9 @@ pub(crate) fn recast_item(
     if is_kept(*made.allocator(), shape, levels, MOST_NESTED, kind, bytes) {
         return put_element(made, kind, key, bytes);
     }
-    let value = value_of(element, levels)?;
     let place = made.len();
     put_front(made, key.as_bytes())?;
-    let kind = recast_value(made, shape, levels, &value)?;
+    let kind = recast_element(made, shape, levels, element)?;
     set_kind(made, place, kind);
     Some(())
 }

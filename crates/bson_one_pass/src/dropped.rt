@@ -82,12 +82,21 @@ fn is_binary(subtype: BinarySubtype, bytes: &[u8]) -> bool
 }
 
 /// The value of an element that no field has: it is walked to its end, and dropped. `None` where something in it is at fault.
+#[inline(always)]
 pub(crate) fn drop_value(levels: u32, element: &RawElement<'_>) -> Option<()>
     ensures { IfSome result (λ _. ignores (node_in levels element.now.kind element.now.value) ≡ Ok tt) }
 {
     if is_harmless(element.element_type(), element.slice()) {
         return Some(());
     }
+    drop_other(levels, &element.clone())
+}
+
+// The same for a value in which something can be at fault.
+#[inline(never)]
+fn drop_other(levels: u32, element: &RawElement<'_>) -> Option<()>
+    ensures { IfSome result (λ _. ignores plain (node_in levels element.now.kind element.now.value) ≡ Ok tt) }
+{
     let value = value_of(element, levels)?;
     if is_passed(&value, levels) {
         return Some(());

@@ -3,7 +3,8 @@ ghost use Rattle.std.specs.Prelude.{◌≡◌, ◌++◌, IfSome, Some};
 ghost use Rattle.std.specs.Int.{w64, cast_unsigned};
 ghost use Rattle.bson_base.specs.Tree.{string, int32, int64, le64};
 ghost use Rattle.bson_rawdoc.specs.Node as nodes;
-ghost use Rattle.bson_rawdoc.specs.Node.{value_node, inner_node};
+ghost use Rattle.bson_base.specs.declared.element_type.ElementType.TheVariants as kinds;
+ghost use Rattle.bson_rawdoc.specs.Node.{value_node, inner_node, node_in};
 ghost use Rattle.bson_rawdoc.specs.Piece.{borrowed};
 ghost use Rattle.bson_rawdoc.specs.ValueView.{raw_value};
 ghost use Rattle.bson_shape.specs.Form as form;
@@ -14,6 +15,7 @@ use crate::bytes::put;
 use crate::extended::{recast_decimal, recast_object_id, recast_time, recast_timestamp};
 use bson_base::ElementType;
 use bson_rawdoc::RawBsonRef;
+use bson_rawdoc::reading::{int32_in, int64_in};
 use bson_shape::Leaf;
 
 /// The value at a leaf.
@@ -98,6 +100,36 @@ fn recast_number(made: &mut Vec<u8>, leaf: Leaf, levels: u32, number: i64) -> Op
         Leaf::U64 if number >= 0 => put_int64(made, number),
         _ => None,
     }
+}
+
+/// The Int32 in these bytes at a leaf.
+pub(crate) fn recast_int32(
+    made: &mut Vec<u8>,
+    leaf: Leaf,
+    levels: u32,
+    bytes: &[u8],
+) -> Option<ElementType>
+    ensures { IfSome result (IsPut (recast_node (form.leaf leaf) levels (node_in levels kinds.Int32 bytes.now)) made.old.items made.new.items) }
+{
+    if bytes.len() < 4 {
+        return None;
+    }
+    recast_number(made, leaf, levels, i64::from(int32_in(bytes)))
+}
+
+/// The Int64 in these bytes at a leaf.
+pub(crate) fn recast_int64(
+    made: &mut Vec<u8>,
+    leaf: Leaf,
+    levels: u32,
+    bytes: &[u8],
+) -> Option<ElementType>
+    ensures { IfSome result (IsPut (recast_node (form.leaf leaf) levels (node_in levels kinds.Int64 bytes.now)) made.old.items made.new.items) }
+{
+    if bytes.len() < 8 {
+        return None;
+    }
+    recast_number(made, leaf, levels, int64_in(bytes))
 }
 
 /// A number in four bytes.

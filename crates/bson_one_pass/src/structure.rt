@@ -4,7 +4,6 @@ ghost use Rattle.bson_base.specs.Text.{has_zero};
 ghost use Rattle.bson_base.specs.Tree.{element};
 ghost use Rattle.bson_base.specs.Reserved.{reserved_kind};
 ghost use Rattle.bson_base.specs.declared.element_type.ElementType.TheVariants as kinds;
-ghost use Rattle.bson_rawdoc.specs.DocumentView.{document_bytes};
 ghost use Rattle.bson_rawdoc.specs.Node.{inner_node, node_in, nodes_with};
 ghost use Rattle.bson_rawdoc.specs.Piece.{Piece};
 ghost use Rattle.bson_rawdoc.specs.Walk.{walk_elements};
@@ -24,14 +23,14 @@ use crate::found::{find_elements, is_free};
 use crate::kept::MOST_NESTED;
 use crate::run::{element_len, put_run};
 use bson_base::{ElementType, has_zero};
-use bson_rawdoc::reading::inside;
-use bson_rawdoc::{RawDocument, RawElement, next_element};
+use bson_rawdoc::reading::{inside, is_closed};
+use bson_rawdoc::{RawElement, next_element};
 use bson_shape::{FieldShape, Form};
 
 /// The most names that a key is compared with. At a struct of more fields a key that is not the next one's name is left to the reader, which has an index.
 const MOST_COMPARED: usize = 64;
 
-/// The document at a struct of this name with these fields.
+/// The document in these bytes at a struct of this name with these fields.
 #[inline(never)]
 #[cycle(recast)]
 pub(crate) fn recast_struct(
@@ -39,15 +38,16 @@ pub(crate) fn recast_struct(
     name: &str,
     fields: &[FieldShape],
     levels: u32,
-    document: RawDocument<'_>,
+    bytes: &[u8],
 ) -> Option<ElementType>
     requires free { reserved_kind name.now ≡ None }
     requires distinct { AreDistinct (fields_of fields.now) }
-    ensures { IfSome result (IsPut (recast_node (structure name.now (fields_of fields.now)) levels
-        (inner_node levels kinds.EmbeddedDocument (document_bytes document.entry))) made.old.items made.new.items) }
+    ensures seen { IfSome result (IsPut (recast_node (structure name.now (fields_of fields.now)) levels (inner_node levels kinds.EmbeddedDocument bytes.now))
+        made.old.items made.new.items) }
+    ensures met { IfSome result (IsPut (recast_node (structure name.now (fields_of fields.now)) levels (node_in levels kinds.EmbeddedDocument bytes.now))
+        made.old.items made.new.items) }
 {
-    let bytes = document.as_bytes();
-    if levels == 0 || bytes.len() < 5 {
+    if levels == 0 || bytes.len() < 5 || !is_closed(bytes) {
         return None;
     }
     let start = made.len();

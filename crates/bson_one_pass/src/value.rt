@@ -32,7 +32,7 @@ pub(crate) fn recast_value(
         Form::Leaf(leaf) => recast_leaf(made, leaf, levels, value),
         Form::Option(inner) => recast_option(made, inner, levels, value),
         Form::Seq(item) => match value {
-            RawBsonRef::Array(array) => recast_array(made, item, levels, *array),
+            RawBsonRef::Array(array) => recast_array(made, item, levels, array.as_bytes()),
             _ => None,
         },
         Form::Tuple(parts) => match value {
@@ -44,7 +44,9 @@ pub(crate) fn recast_value(
             _ => None,
         },
         Form::Struct(name, fields) => match value {
-            RawBsonRef::Document(document) => recast_struct(made, name, fields, levels, *document),
+            RawBsonRef::Document(document) => {
+                recast_struct(made, name, fields, levels, document.as_bytes())
+            }
             _ => None,
         },
         Form::Map(key, inner) => match key.form() {

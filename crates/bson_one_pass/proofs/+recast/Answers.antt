@@ -11,15 +11,17 @@ use Rattle.bson_rawdoc.specs.Envelope.{inside}
 use Rattle.bson_rawdoc.specs.Node.{inner_node, node_in, nodes_with, value_node}
 use Rattle.bson_rawdoc.specs.ValueView.{raw_value}
 use Rattle.bson_rawdoc.specs.Walk.{ended, walk, walk_elements}
+use Rattle.bson_base.specs.declared.element_type.ElementType.TheVariants as kinds
+use Rattle.bson_shape.specs.Form.{sequence, structure}
 use Rattle.bson_shape.specs.Makers.{AreDistinct}
 use Rattle.bson_shape.specs.ShapeView.{fields_of, parts_of, nodes, fields_nodes}
 use Rattle.bson_shape.specs.declared.shape.FieldShape.{FieldShape}
 use Rattle.bson_shape.proofs.Shapes.{field_smaller, part_smaller}
 use Rattle.bson_datum.specs.Value.{no_entries}
 use Rattle.bson_laws.specs.Reads.{slots_of}
-use Rattle.bson_one_pass.specs.Put.{recast_node, recast_items, recast_parts, recast_entries, recast_fields, IsElementPut, AreItemsPut, ArePairsPut}
+use Rattle.bson_one_pass.specs.Put.{recast_node, recast_items, recast_parts, recast_entries, recast_fields, IsElementPut, AreItemsPut, ArePairsPut, IsPut}
 use Rattle.bson_one_pass.specs.Run.{run, size}
-use Rattle.bson_one_pass.proofs.Containers.{array_put, struct_put}
+use Rattle.bson_one_pass.proofs.Containers.{array_node, array_put, document_node, struct_put}
 use Rattle.bson_one_pass.proofs.Entries.{AreEntriesPut, entries_end, map_put}
 use Rattle.bson_one_pass.proofs.Forms.{newtype_is}
 use Rattle.bson_one_pass.proofs.Items.{AreLeft, left_none}
@@ -91,7 +93,7 @@ structure::put_found-put_field-requires t c =
     let at = c.in-Some.ensures.lookup in
     let smaller = field_smaller fs c.loop-field.place f at.3.0 in
     let same : nodes (get_or fs c.loop-field.place f).shape ≡ nodes f.shape = ap (λ (g : FieldShape). nodes g.shape) (sym at.1) in
-    let less : 8 * nodes f.shape + 3 < 8 * fields_nodes (fields_of fs) + 3 = omega (arith, smaller, same) in
+    let less : 8 * nodes f.shape + 5 < 8 * fields_nodes (fields_of fs) + 4 = omega (arith, smaller, same) in
     search rules
 
 pub structure::put_found-loop-field-preserved : goal.structure::put_found-loop-field-preserved
@@ -109,20 +111,18 @@ structure::put_found-returns t c =
 
 pub array::recast_changed-returns : goal.array::recast_changed-returns
 array::recast_changed-returns t c =
-    let s = c.args.shape.now in
-    let levels = c.args.levels in
     let e = c.args.element.now in
+    let o = recast_node c.args.shape.now c.args.levels (node_in c.args.levels e.kind e.value) in
     let old = c.args.made.now.items in
-    item_put _ (recast_node s levels (node_in levels e.kind e.value)) (byte e.kind) e.key c.in_ok-kind.kind c.len-place.result old c.put.new.made.items c.recast_value.new.made.items c.set_kind.new.made.items
-    (ap (recast_node s levels) c.in_ok-value.ensures) (search rules) (c.in_ok-put.ensures ∙ ap (λ b. old ++ b) c.requires.front) c.in_ok-kind.ensures.put c.set_kind.ensures
+    item_put o o (byte e.kind) e.key c.in_ok-kind.kind c.len-place.result old c.put.new.made.items c.recast_element.new.made.items c.set_kind.new.made.items refl (search rules) (c.in_ok-put.ensures ∙ ap (λ b. old ++ b) c.requires.front) c.in_ok-kind.ensures c.set_kind.ensures
 
 pub array::recast_item-returns : goal.array::recast_item-returns
 array::recast_item-returns t c =
-    let s = c.args.shape.now in
-    let levels = c.args.levels in
+    let e = c.args.element.now in
+    let o = recast_node c.args.shape.now c.args.levels (node_in c.args.levels e.kind e.value) in
     let old = c.args.made.now.items in
-    item_put _ (recast_node s levels (node_in levels c.args.element.now.kind c.args.element.now.value)) 0 c.args.key.now c.in_ok-kind.kind c.len-place.result old c.put_front.new.made.items c.recast_value.new.made.items c.set_kind.new.made.items
-    (ap (recast_node s levels) c.in_ok-value.ensures) (search rules) (c.in_ok-put_front.ensures ∙ ap (λ b. old ++ (0 ∷ (b ++ 0 ∷ []))) c.as_bytes.ensures.value) c.in_ok-kind.ensures.put c.set_kind.ensures
+    item_put o o 0 c.args.key.now c.in_ok-kind.kind c.len-place.result old c.put_front.new.made.items c.recast_element.new.made.items c.set_kind.new.made.items refl (search rules)
+    (c.in_ok-put_front.ensures ∙ ap (λ b. old ++ (0 ∷ (b ++ 0 ∷ []))) c.as_bytes.ensures.value) c.in_ok-kind.ensures c.set_kind.ensures
 
 pub array::recast_item_at-recast_next-requires : goal.array::recast_item_at-recast_next-requires
 array::recast_item_at-recast_next-requires t c = search rules
@@ -139,7 +139,7 @@ array::recast_item_at-returns t c =
     record {
       behind = omega (arith, is);
       put = subst (λ m. IsElementPut o c.args.key.now (made ++ run bytes c.args.from at) (new ++ run bytes (at + m) n)) (sym is)
-          (next_changed o c.args.key.now bytes c.args.from at n made c.put_run.new.made.items new c.in_ok-put_run.ensures c.in_ok-recast_item.ensures);
+          (next_changed o c.args.key.now bytes c.args.from at n made c.put_run.new.made.items new c.in_ok-put_run.ensures (rw c.clone.ensures.same at c.in_ok-recast_item.ensures));
     }
 
 pub array::recast_items-recast_item_at-requires : goal.array::recast_items-recast_item_at-requires
@@ -195,16 +195,21 @@ array::recast_next-returns-then-is_kept-clause-put t c =
 
 pub array::recast_array-returns : goal.array::recast_array-returns
 array::recast_array-returns t c =
-    let m = c.args.levels - 1 in
-    let b = array_bytes c.args.array in
+    let levels = c.args.levels in
+    let m = levels - 1 in
+    let b = c.args.bytes.now in
     let old = c.args.made.now.items in
     let begun = c.put.new.made.items in
     let made = c.recast_items.new.made.items in
     let new = c.close.new.made.items in
     let at : c.len-start.result ≡ length old = search rules in
-    let within = c.inside.ensures ∙ ap inside c.as_bytes-bytes.ensures.bytes in
+    let above : levels ≡ suc m = omega (arith, c.if-levels-eq0.false) in
     let ends : new ≡ take (length old) made ++ enclosed (drop (length old + 4) made) = c.in_ok-close.ensures ∙ ap (λ n. take n made ++ enclosed (drop (n + 4) made)) at in
-    array_put c.args.item.now c.args.levels m b old begun made new (omega (arith, c.if-levels-eq0.false)) (λ x fills. enclosed_put old begun made new x c.in_ok-put.ensures fills ends) (rw within at c.in_ok-recast_items.ensures)
+    let put = array_put c.args.item.now levels m b old begun made new above (λ x fills. enclosed_put old begun made new x c.in_ok-put.ensures fills ends) (rw c.inside.ensures at c.in_ok-recast_items.ensures) in
+    record {
+      seen = put;
+      met = subst (λ n. IsPut (recast_node (sequence c.args.item.now) levels n) old new kinds.Array) (sym (array_node levels m b above (search rules))) put;
+    }
 
 pub structure::recast_fields-recast_next-requires : goal.structure::recast_fields-recast_next-requires
 structure::recast_fields-recast_next-requires t c =
@@ -217,7 +222,7 @@ structure::recast_fields-recast_next-requires t c =
     let found = c.in-Some-get.ensures.lookup in
     let smaller = field_smaller fs c.loop-step.place f found.3.0 in
     let same : nodes (get_or fs c.loop-step.place f).shape ≡ nodes f.shape = ap (λ (g : FieldShape). nodes g.shape) (sym found.1) in
-    let less : 8 * nodes f.shape + 2 < 8 * fields_nodes (fields_of fs) + 5 = omega (arith, smaller, same) in
+    let less : 8 * nodes f.shape + 4 < 8 * fields_nodes (fields_of fs) + 6 = omega (arith, smaller, same) in
     (search rules, (c.loop-step.invariant.1, (c.loop-step.invariant.0, (walk_elements (drop (size e) (drop at bytes)), head.behind))))
 
 pub structure::recast_fields-recast_others-requires : goal.structure::recast_fields-recast_others-requires
@@ -228,7 +233,7 @@ structure::recast_fields-recast_others-requires t c =
     let back = c.split_at.result.1.now in
     let parts : front ++ back ≡ fs = (λ i. c.split_at.ensures.front i ++ c.split_at.ensures.back i) ∙ take-append-drop place fs in
     let same : fields_nodes (fields_of back) ≡ fields_nodes (fields_of (drop place fs)) = ap (λ xs. fields_nodes (fields_of xs)) c.split_at.ensures.back in
-    let less : 8 * fields_nodes (fields_of back) + 4 < 8 * fields_nodes (fields_of fs) + 5 = omega (arith, fewer fs place, same) in
+    let less : 8 * fields_nodes (fields_of back) + 5 < 8 * fields_nodes (fields_of fs) + 6 = omega (arith, fewer fs place, same) in
     (search rules, subst (λ xs. AreDistinct (fields_of xs)) (sym parts) c.requires.distinct)
 
 pub structure::recast_fields-returns-then-not-is_free : goal.structure::recast_fields-returns-then-not-is_free
@@ -309,17 +314,22 @@ structure::recast_fields-returns t c =
 
 pub structure::recast_struct-returns : goal.structure::recast_struct-returns
 structure::recast_struct-returns t c =
-    let m = c.args.levels - 1 in
-    let b = document_bytes c.args.document in
+    let levels = c.args.levels in
+    let m = levels - 1 in
+    let b = c.args.bytes.now in
     let old = c.args.made.now.items in
     let begun = c.put.new.made.items in
     let made = c.recast_fields.new.made.items in
     let new = c.close.new.made.items in
     let at : c.len-start.result ≡ length old = search rules in
-    let within = c.inside.ensures ∙ ap inside c.as_bytes-bytes.ensures.bytes in
+    let above : levels ≡ suc m = omega (arith, c.if-levels-eq0.false) in
     let ends : new ≡ take (length old) made ++ enclosed (drop (length old + 4) made) = c.in_ok-close.ensures ∙ ap (λ n. take n made ++ enclosed (drop (n + 4) made)) at in
-    struct_put c.args.name.now (fields_of c.args.fields.now) c.args.levels m b old begun made new c.requires.1.1.0 (omega (arith, c.if-levels-eq0.false)) (λ x fills. enclosed_put old begun made new x c.in_ok-put.ensures fills ends)
-    (rw within at c.in_ok-recast_fields.ensures)
+    let fs = fields_of c.args.fields.now in
+    let put = struct_put c.args.name.now fs levels m b old begun made new c.requires.1.1.0 above (λ x fills. enclosed_put old begun made new x c.in_ok-put.ensures fills ends) (rw c.inside.ensures at c.in_ok-recast_fields.ensures) in
+    record {
+      seen = put;
+      met = subst (λ n. IsPut (recast_node (structure c.args.name.now fs) levels n) old new kinds.EmbeddedDocument) (sym (document_node levels m b above (search rules))) put;
+    }
 
 pub map::recast_entries-loop-step-preserved : goal.map::recast_entries-loop-step-preserved
 map::recast_entries-loop-step-preserved t c =
@@ -375,3 +385,6 @@ map::recast_map-returns t c =
     let within = c.inside.ensures ∙ ap inside c.as_bytes-bytes.ensures.bytes in
     let ends : new ≡ take (length old) made ++ enclosed (drop (length old + 4) made) = c.in_ok-close.ensures ∙ ap (λ n. take n made ++ enclosed (drop (n + 4) made)) at in
     map_put c.args.key c.args.shape.now c.args.levels m b old begun made new (omega (arith, c.if-levels-eq0.false)) (λ e fills. enclosed_put old begun made new e c.in_ok-put.ensures fills ends) (rw within at c.in_ok-recast_entries.ensures)
+
+pub array::recast_other-returns : goal.array::recast_other-returns
+array::recast_other-returns t c = rw c.in_ok-value.ensures c.recast_value.ensures.put

@@ -26,52 +26,58 @@ abbrev pub decreases-value::recast_newtype : goal.decreases-value::recast_newtyp
 decreases-value::recast_newtype l = 8 * nodes l.inner.now + 1
 
 abbrev pub decreases-array::recast_item : goal.decreases-array::recast_item
-decreases-array::recast_item l = 8 * nodes l.shape.now + 1
+decreases-array::recast_item l = 8 * nodes l.shape.now + 3
+
+abbrev pub decreases-array::recast_other : goal.decreases-array::recast_other
+decreases-array::recast_other l = 8 * nodes l.shape.now + 1
+
+abbrev pub decreases-array::recast_element : goal.decreases-array::recast_element
+decreases-array::recast_element l = 8 * nodes l.shape.now + 2
 
 abbrev pub decreases-array::recast_changed : goal.decreases-array::recast_changed
-decreases-array::recast_changed l = 8 * nodes l.shape.now + 1
+decreases-array::recast_changed l = 8 * nodes l.shape.now + 3
 
 abbrev pub decreases-array::recast_next : goal.decreases-array::recast_next
-decreases-array::recast_next l = 8 * nodes l.shape.now + 2
+decreases-array::recast_next l = 8 * nodes l.shape.now + 4
 
 abbrev pub decreases-array::recast_item_at : goal.decreases-array::recast_item_at
-decreases-array::recast_item_at l = 8 * nodes l.shape.now + 3
+decreases-array::recast_item_at l = 8 * nodes l.shape.now + 5
 
 abbrev pub decreases-array::recast_items : goal.decreases-array::recast_items
-decreases-array::recast_items l = 8 * nodes l.item.now + 4
+decreases-array::recast_items l = 8 * nodes l.item.now + 6
 
 abbrev pub decreases-array::recast_array : goal.decreases-array::recast_array
-decreases-array::recast_array l = 8 * nodes l.item.now + 5
+decreases-array::recast_array l = 8 * nodes l.item.now + 7
 
 abbrev pub decreases-map::recast_entries : goal.decreases-map::recast_entries
-decreases-map::recast_entries l = 8 * nodes l.shape.now + 3
+decreases-map::recast_entries l = 8 * nodes l.shape.now + 5
 
 abbrev pub decreases-map::recast_map : goal.decreases-map::recast_map
-decreases-map::recast_map l = 8 * nodes l.shape.now + 4
+decreases-map::recast_map l = 8 * nodes l.shape.now + 6
 
 abbrev pub decreases-tuple::recast_parts : goal.decreases-tuple::recast_parts
-decreases-tuple::recast_parts l = 8 * parts_nodes (parts_of l.parts.now) + 3
+decreases-tuple::recast_parts l = 8 * parts_nodes (parts_of l.parts.now) + 4
 
 abbrev pub decreases-tuple::recast_tuple : goal.decreases-tuple::recast_tuple
-decreases-tuple::recast_tuple l = 8 * parts_nodes (parts_of l.parts.now) + 4
+decreases-tuple::recast_tuple l = 8 * parts_nodes (parts_of l.parts.now) + 5
 
 abbrev pub decreases-structure::recast_field : goal.decreases-structure::recast_field
-decreases-structure::recast_field l = 8 * nodes l.field.now.shape + 2
+decreases-structure::recast_field l = 8 * nodes l.field.now.shape + 4
 
 abbrev pub decreases-structure::recast_fields : goal.decreases-structure::recast_fields
-decreases-structure::recast_fields l = 8 * fields_nodes (fields_of l.fields.now) + 5
+decreases-structure::recast_fields l = 8 * fields_nodes (fields_of l.fields.now) + 6
 
 abbrev pub decreases-structure::recast_others : goal.decreases-structure::recast_others
-decreases-structure::recast_others l = 8 * fields_nodes (fields_of l.fields.now) + 4
+decreases-structure::recast_others l = 8 * fields_nodes (fields_of l.fields.now) + 5
 
 abbrev pub decreases-structure::put_found : goal.decreases-structure::put_found
-decreases-structure::put_found l = 8 * fields_nodes (fields_of l.fields.now) + 3
+decreases-structure::put_found l = 8 * fields_nodes (fields_of l.fields.now) + 4
 
 abbrev pub decreases-structure::put_field : goal.decreases-structure::put_field
-decreases-structure::put_field l = 8 * nodes l.field.now.shape + 3
+decreases-structure::put_field l = 8 * nodes l.field.now.shape + 5
 
 abbrev pub decreases-structure::recast_struct : goal.decreases-structure::recast_struct
-decreases-structure::recast_struct l = 8 * fields_nodes (fields_of l.fields.now) + 6
+decreases-structure::recast_struct l = 8 * fields_nodes (fields_of l.fields.now) + 7
 
 abbrev pub invariant-array::recast_items-loop-step : goal.invariant-array::recast_items-loop-step
 invariant-array::recast_items-loop-step l =
