@@ -95,7 +95,7 @@ pub(crate) fn drop_value(levels: u32, element: &RawElement<'_>) -> Option<()>
 // The same for a value in which something can be at fault.
 #[inline(never)]
 fn drop_other(levels: u32, element: &RawElement<'_>) -> Option<()>
-    ensures { IfSome result (λ _. ignores plain (node_in levels element.now.kind element.now.value) ≡ Ok tt) }
+    ensures { IfSome result (λ _. ignores (node_in levels element.now.kind element.now.value) ≡ Ok tt) }
 {
     let value = value_of(element, levels)?;
     if is_passed(&value, levels) {
