@@ -31,8 +31,8 @@ fn sink(alloc: Global, failing: &[u64], limits: &[usize]) -> Result<MemorySink, 
     MemorySink::new(alloc, 99, failing, limits)
 }
 
-/// Ends of which one call of the source and one of the output fail, each of them of many that move one byte; and a call of the error output. The
-/// calls are numbered from 1, and 0 is none.
+/// Ends whose source, output and error output fail at the calls of these numbers, counted from 1; 0 is no call. Each call of the first two moves one
+/// byte at most.
 fn failing_ends(alloc: Global, read: u64, written: u64, told: u64) -> Result<Ends, AllocError> {
     let input = source(alloc, &[read], &[1; 13])?;
     let out = sink(alloc, &[written], &[1; 12])?;
