@@ -16,3 +16,4 @@ mod Entries
 mod Whole
 mod Copies
 mod Passed
+mod HandedOver

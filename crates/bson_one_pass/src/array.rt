@@ -9,11 +9,13 @@ ghost use Rattle.bson_shape.specs.Form.{sequence};
 ghost use Rattle.bson_one_pass.specs.Put.{recast_node, recast_items, IsPut, AreItemsPut, IsElementPut};
 ghost use Rattle.bson_one_pass.specs.Run.{IsFirst, run, size};
 
+use crate::alone::recast_alone;
 use crate::bytes::{close, put, put_front, set_kind};
 use crate::kept::{MOST_NESTED, is_kept};
 use crate::leaf::{recast_int32, recast_int64};
 use crate::run::{element_front, element_len, put_element, put_run};
 use crate::structure::recast_struct;
+use crate::taken::{is_integer, is_taken};
 use crate::value::recast_value;
 use bson_base::ElementType;
 use bson_rawdoc::reading::{inside, is_closed};
@@ -168,10 +170,10 @@ fn recast_element(
 {
     shape.known();
     match (shape.form(), element.element_type()) {
-        (Form::Leaf(leaf), ElementType::Int32) => {
+        (Form::Leaf(leaf), ElementType::Int32) if is_integer(leaf) => {
             recast_int32(made, leaf, levels, element.slice())
         }
-        (Form::Leaf(leaf), ElementType::Int64) => {
+        (Form::Leaf(leaf), ElementType::Int64) if is_integer(leaf) => {
             recast_int64(made, leaf, levels, element.slice())
         }
         (Form::Seq(item), ElementType::Array) => {
@@ -184,7 +186,8 @@ fn recast_element(
     }
 }
 
-// The value of an element, once it is looked at. It is separate so that the others pay for none of its locals.
+// The value of an element, once it is looked at; what the pass does not take is read and written by itself. It is separate so that the others pay for none of
+// its locals.
 #[inline(never)]
 #[cycle(recast)]
 fn recast_other(
@@ -196,7 +199,10 @@ fn recast_other(
     ensures { IfSome result (IsPut (recast_node shape.now levels (node_in levels element.now.kind element.now.value)) made.old.items made.new.items) }
 {
     let value = value_of(element, levels)?;
-    recast_value(made, shape, levels, &value)
+    if is_taken(shape, &value) {
+        return recast_value(made, shape, levels, &value);
+    }
+    recast_alone(made, shape, levels, element)
 }
 
 /// An element whose key is this.

@@ -19,7 +19,7 @@ use std::alloc::Global;
 /// structs, newtypes, unit structs, texts at the unit variants of enums, maps of different keys at `str` or `string`, and the leaves `bool`, `double`, `unit`,
 /// `str`, `string`, `bytes`, `bytebuf`, `oid`, `datetime`, `timestamp`, `decimal`, `binary`, `uuid` and those of integers, where the value is of the kind of the
 /// leaf. It takes no binary of the old subtype 2. At `any` it takes what is written as it was read: values without an extended value in them, whose arrays have their indexes as
-/// keys and whose documents have no key twice.
+/// keys and whose documents have no key twice. A value inside the document that it does not take is read and written by itself.
 pub fn recast_at_once(alloc: Global, shape: &Shape, bytes: &[u8]) -> Option<Vec<u8>>
     ensures recast { IfSome result (λ v. IsRecastAs shape.now bytes.now v.items) }
 {

@@ -1,8 +1,10 @@
 //! Recasting in one pass: each value is judged and written anew before the next one is looked at, and no datum is made.
 //!
-//! It takes the shapes and documents that are common. For any other it gives up, and the caller reads and writes in two steps.
+//! It takes the shapes and documents that are common. A value inside a document that it does not take is read and written by itself, and for a document that
+//! it does not take it gives up: then the caller reads and writes in two steps.
 #![tactic(auto)]
 
+mod alone;
 mod array;
 mod binary;
 mod bytes;
@@ -15,6 +17,7 @@ mod leaf;
 mod map;
 mod run;
 mod structure;
+mod taken;
 mod tuple;
 mod value;
 mod variant;

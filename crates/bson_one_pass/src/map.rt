@@ -44,7 +44,7 @@ pub(crate) fn recast_map(
 }
 
 /// Whether a leaf takes every key as it is.
-fn takes_keys(key: Leaf) -> bool
+pub(crate) fn takes_keys(key: Leaf) -> bool
     ensures { result ≡ takes_keys key }
 {
     matches!(key, Leaf::Str | Leaf::String)

@@ -386,5 +386,5 @@ map::recast_map-returns t c =
     let ends : new ≡ take (length old) made ++ enclosed (drop (length old + 4) made) = c.in_ok-close.ensures ∙ ap (λ n. take n made ++ enclosed (drop (n + 4) made)) at in
     map_put c.args.key c.args.shape.now c.args.levels m b old begun made new (omega (arith, c.if-levels-eq0.false)) (λ e fills. enclosed_put old begun made new e c.in_ok-put.ensures fills ends) (rw within at c.in_ok-recast_entries.ensures)
 
-pub array::recast_other-returns : goal.array::recast_other-returns
-array::recast_other-returns t c = rw c.in_ok-value.ensures c.recast_value.ensures.put
+pub array::recast_other-returns-then-is_taken : goal.array::recast_other-returns-then-is_taken
+array::recast_other-returns-then-is_taken t c = rw c.in_ok-value.ensures c.recast_value.ensures.put

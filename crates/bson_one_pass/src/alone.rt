@@ -1,0 +1,39 @@
+// Values that the pass does not take, each by itself.
+ghost use Rattle.std.specs.Prelude.{IfSome};
+ghost use Rattle.bson_rawdoc.specs.Node.{node_in};
+ghost use Rattle.bson_one_pass.specs.Put.{recast_node, IsPut};
+
+use crate::bytes::put;
+use bson_base::ElementType;
+use bson_de::read_value;
+use bson_io::{Out, Steps, Tally};
+use bson_met::Met;
+use bson_rawdoc::RawElement;
+use bson_ser_stream::put_value;
+use bson_shape::Shape;
+
+/// The value of an element that the pass does not take: it is read as a datum, and the datum is written.
+///
+/// `None` where the reader or the writer refuses it, and where memory runs out.
+#[cold]
+#[inline(never)]
+pub(crate) fn recast_alone(
+    made: &mut Vec<u8>,
+    shape: &Shape,
+    levels: u32,
+    element: &RawElement<'_>,
+) -> Option<ElementType>
+    ensures { IfSome result (IsPut (recast_node shape.now levels (node_in levels element.now.kind element.now.value)) made.old.items made.new.items) }
+{
+    let alloc = *made.allocator();
+    let Ok(datum) = read_value(alloc, shape, &Met::of_element(levels, element.clone())) else {
+        return None;
+    };
+    let mut out = Out::new(alloc);
+    let mut steps = Steps::<Tally>::new();
+    let Ok(kind) = put_value(&mut out, &mut steps, &datum, false, levels) else {
+        return None;
+    };
+    put(made, out.as_bytes())?;
+    Some(kind)
+}

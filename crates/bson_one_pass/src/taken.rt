@@ -1,0 +1,65 @@
+// What the pass takes of a value, before any of it is written.
+use crate::map::takes_keys;
+use bson_base::BinarySubtype;
+use bson_rawdoc::RawBsonRef;
+use bson_shape::{Form, Leaf, Shape};
+
+/// Whether the pass takes a value at a shape, as far as the shape and the kind of the value tell. It answers for the cost alone: any answer is right.
+#[cycle(taken)]
+pub(crate) fn is_taken(shape: &Shape, value: &RawBsonRef<'_>) -> bool {
+    match shape.form() {
+        Form::Leaf(leaf) => is_taken_at(leaf, value),
+        Form::Option(inner) => match value {
+            RawBsonRef::Null => true,
+            _ => is_taken(inner, value),
+        },
+        Form::Newtype(_, inner) => is_taken(inner, value),
+        Form::Seq(_) | Form::Tuple(_) | Form::TupleStruct(_, _) => {
+            matches!(value, RawBsonRef::Array(_))
+        }
+        Form::Map(key, _) => match key.form() {
+            Form::Leaf(key) => takes_keys(key) && matches!(value, RawBsonRef::Document(_)),
+            _ => false,
+        },
+        Form::Struct(_, _) => matches!(value, RawBsonRef::Document(_)),
+        Form::UnitStruct(_) => matches!(value, RawBsonRef::Null),
+        Form::Enum(_) => matches!(value, RawBsonRef::String(_)),
+    }
+}
+
+/// The same at a leaf.
+#[inline(always)]
+pub(crate) fn is_taken_at(leaf: Leaf, value: &RawBsonRef<'_>) -> bool {
+    match value {
+        RawBsonRef::Int32(_) | RawBsonRef::Int64(_) => is_integer(leaf),
+        RawBsonRef::String(_) => takes_keys(leaf),
+        RawBsonRef::ObjectId(_) => matches!(leaf, Leaf::ObjectId),
+        RawBsonRef::DateTime(_) => matches!(leaf, Leaf::DateTime),
+        RawBsonRef::Decimal128(_) => matches!(leaf, Leaf::Decimal128),
+        RawBsonRef::Timestamp(_) => matches!(leaf, Leaf::Timestamp),
+        RawBsonRef::Binary { subtype, .. } => is_binary(leaf, *subtype),
+        RawBsonRef::Boolean(_) => matches!(leaf, Leaf::Bool),
+        RawBsonRef::Double(_) => matches!(leaf, Leaf::Double),
+        RawBsonRef::Null => matches!(leaf, Leaf::Unit),
+        _ => false,
+    }
+}
+
+/// Whether a leaf is of an integer type.
+#[inline(always)]
+pub(crate) fn is_integer(leaf: Leaf) -> bool {
+    matches!(
+        leaf,
+        Leaf::I8 | Leaf::I16 | Leaf::I32 | Leaf::I64 | Leaf::U8 | Leaf::U16 | Leaf::U32 | Leaf::U64
+    )
+}
+
+/// Whether a leaf takes binaries of a subtype as they are. The old subtype 2 has a second length.
+fn is_binary(leaf: Leaf, subtype: BinarySubtype) -> bool {
+    match leaf {
+        Leaf::Binary => subtype.0 != 2,
+        Leaf::Bytes | Leaf::ByteBuf => subtype.0 == 0,
+        Leaf::Uuid => subtype.0 == 4,
+        _ => false,
+    }
+}
