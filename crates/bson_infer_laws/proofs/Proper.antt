@@ -12,11 +12,11 @@ use Rattle.bson_laws.proofs.Fitted.{bytes_eq-refl}
 use Rattle.bson_infer_laws.proofs.Above.{or_left, or_right, name_is}
 use Rattle.bson_infer_laws.proofs.Joins.{joined_at, has_joined, has_join}
 
-opt_joined : (s : Form) → IsJoined s → is_nothing s ≡ false → IsJoined (opt s)
+pub opt_joined : (s : Form) → IsJoined s → is_nothing s ≡ false → IsJoined (opt s)
 opt_joined (optional s) p n = p
 opt_joined s p n = (tt, n, p)
 
-opt_solid : (s : Form) → is_nothing (opt s) ≡ false
+pub opt_solid : (s : Form) → is_nothing (opt s) ≡ false
 opt_solid (optional s) = refl
 opt_solid s = refl
 
@@ -74,7 +74,7 @@ unlike_by a b h k p q false false true ub e f = (k, f, q)
 unlike_by a b h k p q false false false true e f = (h, e, p)
 unlike_by a b h k p q false false false false e f = tt
 
-unlike_joined : (a b : Form) → IsBare a → IsBare b → IsJoined a → IsJoined b → IsJoined (join_unlike a b)
+pub unlike_joined : (a b : Form) → IsBare a → IsBare b → IsJoined a → IsJoined b → IsJoined (join_unlike a b)
 unlike_joined a b h k p q = unlike_by a b h k p q (is_nothing a) (is_nothing b) (is_unit a) (is_unit b) refl refl
 
 -- ---- fields

@@ -1,0 +1,5 @@
+pub mod Puts
+pub mod Settled
+pub mod Summaries
+pub mod Places
+pub mod Structs

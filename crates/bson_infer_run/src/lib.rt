@@ -1,0 +1,6 @@
+//! The shape of documents.
+#![tactic(auto)]
+
+mod fields;
+mod join;
+mod summary;
