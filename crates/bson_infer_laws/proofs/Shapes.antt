@@ -48,7 +48,7 @@ mutual
   shape_joined (tree.binary (suc n) b) c = tt
   shape_joined t c = tt
 
-  pairs_joined : (ps : Pairs) → ArePairsClean ps → AreJoined (pair_shapes ps)
+  pub pairs_joined : (ps : Pairs) → ArePairsClean ps → AreJoined (pair_shapes ps)
   pairs_joined no_pairs c = tt
   pairs_joined (pair key t ps) c = (pairs_lack key ps c.1, something t, shape_joined t c.2, pairs_joined ps c.3)
 

@@ -3,3 +3,4 @@ pub mod Settled
 pub mod Summaries
 pub mod Places
 pub mod Structs
+pub mod Scalars

@@ -2,42 +2,81 @@
 use Rattle.std.proofs.Common.{◌≡◌, ℕ, zero, suc, ◌+◌, ◌<◌, ◌≤◌, Bool, true, false, cond, List, [], ◌∷◌, length, get_or, inl, inr, refl, ap, sym, subst, ◌∙◌, arith}
 use Rattle.std.specs.Prelude.{◌||◌, ◌⊎◌, slice_set, nat_lt}
 use Rattle.bson_base.specs.BsonView.{Key}
+use Rattle.bson_base.specs.Sound.{ArePairsClean}
+use Rattle.bson_base.specs.Tree.{Pairs, document}
 use Rattle.bson_shape.specs.Form.{Form, optional, structure}
 use Rattle.bson_shape.specs.ShapeView.{nodes, fields_nodes}
-use Rattle.bson_infer_laws.specs.Above.{IsBare, IsJoined}
+use Rattle.bson_infer_laws.specs.Above.{IsBare, IsJoined, AreJoined}
+use Rattle.bson_infer_laws.specs.Inferred.{shape_of}
 use Rattle.bson_infer_laws.specs.Join.{is_nothing, is_unit, opt, join}
+use Rattle.bson_infer_laws.proofs.Shapes.{pairs_joined}
 use Rattle.bson_infer_laws.proofs.Proper.{solid_left, solid_right, join_joined}
-use Rattle.bson_infer_run.specs.Counted.{Counted, puts, settled, AreCounted}
+use Rattle.bson_infer_run.specs.Counted.{Counted, puts, counted_pairs, settled, AreCounted}
 use Rattle.bson_infer_run.specs.Prover.SummaryFalls.{opt_if_nodes}
-use Rattle.bson_infer_run.specs.SummaryView.{counted, counted_of, struct_form, kind_form, summary_form, IsEven, IsSome, IsSummary}
+use Rattle.bson_infer_run.specs.SummaryView.{counted, counted_of, struct_form, kind_form, summary_form, IsEven, IsSome, IsKnown, IsSummary}
 use Rattle.bson_infer_run.specs.declared.summary.FieldSummary.{FieldSummary}
 use Rattle.bson_infer_run.specs.declared.summary.Kind.{Kind}
 use Rattle.bson_infer_run.specs.declared.summary.StructSummary.{StructSummary}
-use Rattle.bson_infer_run.proofs.Settled.{fields_solid, fields_distinct, settled_puts, puts_counted}
+use Rattle.bson_infer_run.proofs.Settled.{fields_solid, fields_distinct, settled_puts, puts_counted, pairs_settled, pairs_counted}
+use Rattle.bson_infer_run.proofs.Puts.{puts_first}
 use Rattle.bson_infer_run.proofs.Summaries.{kind_bare}
 
 -- ---- structs
 
--- a struct that was joined, as it is known
-abbrev pub IsKnown : StructSummary → Type 0
-IsKnown s = IsSome s × IsJoined (struct_form s)
+-- a struct that grew by so many with these fields
+pub grown_form : (s u : StructSummary) (m : ℕ) (gs : List Counted) → IsKnown s → 0 < m → AreCounted m gs → AreJoined (settled m gs) → u.count ≡ s.count + m → counted_of u ≡ puts (counted_of s) gs
+    → struct_form u ≡ join (struct_form s) (structure [] (settled m gs))
+grown_form s u m gs h some k v n e =
+    (λ i. structure [] (settled (n i) (e i))) ∙ settled_puts s.count m (counted_of s) gs h.0.some some h.0.counted k h.1.1 v
 
-pub joined_struct : (s t u : StructSummary) → IsKnown s → IsKnown t → u.count ≡ s.count + t.count → counted_of u ≡ puts (counted_of s) (counted_of t) → struct_form u ≡ join (struct_form s) (struct_form t)
-joined_struct s t u h k n e =
-    (λ i. structure [] (settled (n i) (e i)))
-    ∙ settled_puts s.count t.count (counted_of s) (counted_of t) h.0.some k.0.some h.0.counted k.0.counted h.1.1 k.1.1
-
-pub joined_known : (s t u : StructSummary) → IsKnown s → IsKnown t → IsEven u → u.count ≡ s.count + t.count → counted_of u ≡ puts (counted_of s) (counted_of t) → IsKnown u
-joined_known s t u h k even n e = (
+pub grown_known : (s u : StructSummary) (m : ℕ) (gs : List Counted) → IsKnown s → 0 < m → AreCounted m gs → AreJoined (settled m gs) → IsEven u → u.count ≡ s.count + m → counted_of u ≡ puts (counted_of s) gs
+    → IsKnown u
+grown_known s u m gs h some k v even n e = (
   record {
     even = even;
-    some = omega (arith, n, h.0.some);
+    some = omega (arith, n, some);
     counted =
-        subst (λ m. AreCounted m (counted_of u)) (sym n)
-        (subst (AreCounted (s.count + t.count)) (sym e)
-        (puts_counted s.count t.count (counted_of s) (counted_of t) h.0.counted k.0.counted (fields_distinct s.count (counted_of s) h.1.1) (fields_distinct t.count (counted_of t) k.1.1) (fields_solid t.count (counted_of t) k.1.1)));
+        subst (λ i. AreCounted i (counted_of u)) (sym n)
+        (subst (AreCounted (s.count + m)) (sym e)
+        (puts_counted s.count m (counted_of s) gs h.0.counted k (fields_distinct s.count (counted_of s) h.1.1) (fields_distinct m gs v) (fields_solid m gs v)));
   },
-  subst IsJoined (sym (joined_struct s t u h k n e)) (join_joined (struct_form s) (struct_form t) h.1 k.1),
+  subst IsJoined (sym (grown_form s u m gs h some k v n e)) (join_joined (struct_form s) (structure [] (settled m gs)) h.1 (refl, v)),
+)
+
+pub joined_struct : (s t u : StructSummary) → IsKnown s → IsKnown t → u.count ≡ s.count + t.count → counted_of u ≡ puts (counted_of s) (counted_of t) → struct_form u ≡ join (struct_form s) (struct_form t)
+joined_struct s t u h k n e = grown_form s u t.count (counted_of t) h k.0.some k.0.counted k.1.1 n e
+
+pub joined_known : (s t u : StructSummary) → IsKnown s → IsKnown t → IsEven u → u.count ≡ s.count + t.count → counted_of u ≡ puts (counted_of s) (counted_of t) → IsKnown u
+joined_known s t u h k even n e = grown_known s u t.count (counted_of t) h k.0.some k.0.counted k.1.1 even n e
+
+-- ---- a document
+
+pairs_are : (ps : Pairs) → ArePairsClean ps → AreJoined (settled 1 (counted_pairs ps))
+pairs_are ps c = subst AreJoined (sym (pairs_settled ps)) (pairs_joined ps c)
+
+pub document_form : (s u : StructSummary) (ps : Pairs) → IsKnown s → ArePairsClean ps → u.count ≡ s.count + 1 → counted_of u ≡ puts (counted_of s) (counted_pairs ps)
+    → struct_form u ≡ join (struct_form s) (shape_of (document ps))
+document_form s u ps h c n e =
+    grown_form s u 1 (counted_pairs ps) h (omega arith) (pairs_counted ps) (pairs_are ps c) n e ∙ ap (λ fs. join (struct_form s) (structure [] fs)) (pairs_settled ps)
+
+pub document_known : (s u : StructSummary) (ps : Pairs) → IsKnown s → ArePairsClean ps → IsEven u → u.count ≡ s.count + 1 → counted_of u ≡ puts (counted_of s) (counted_pairs ps) → IsKnown u
+document_known s u ps h c even n e = grown_known s u 1 (counted_pairs ps) h (omega arith) (pairs_counted ps) (pairs_are ps c) even n e
+
+-- the first document
+pub first_form : (u : StructSummary) (ps : Pairs) → ArePairsClean ps → u.count ≡ 1 → counted_of u ≡ puts [] (counted_pairs ps) → struct_form u ≡ shape_of (document ps)
+first_form u ps c n e =
+    (λ i. structure [] (settled (n i) ((e ∙ puts_first (counted_pairs ps) (fields_distinct 1 (counted_pairs ps) (pairs_are ps c))) i))) ∙ ap (structure []) (pairs_settled ps)
+
+pub first_known : (u : StructSummary) (ps : Pairs) → ArePairsClean ps → IsEven u → u.count ≡ 1 → counted_of u ≡ puts [] (counted_pairs ps) → IsKnown u
+first_known u ps c even n e = (
+  record {
+    even = even;
+    some = omega (arith, n);
+    counted =
+        subst (λ i. AreCounted i (counted_of u)) (sym n)
+        (subst (AreCounted 1) (sym (e ∙ puts_first (counted_pairs ps) (fields_distinct 1 (counted_pairs ps) (pairs_are ps c)))) (pairs_counted ps));
+  },
+  subst IsJoined (sym (first_form u ps c n e)) (refl, pairs_joined ps c),
 )
 
 -- a field of a struct has fewer nodes

@@ -24,10 +24,13 @@ abbrev pub puts : List Counted → List Counted → List Counted
 puts fs [] = fs
 puts fs (g ∷ gs) = puts (put g fs) gs
 
+abbrev pub once : Utf8 → Form → Counted
+once name s = record { name = name; count = 1; form = s }
+
 -- the pairs of a document, each there once
 abbrev pub counted_pairs : Pairs → List Counted
 counted_pairs no_pairs = []
-counted_pairs (pair key t ps) = (let f : Counted = record { name = key; count = 1; form = shape_of t } in f) ∷ counted_pairs ps
+counted_pairs (pair key t ps) = once key (shape_of t) ∷ counted_pairs ps
 
 abbrev pub opt_if : Bool → Form → Form
 opt_if true s = opt s

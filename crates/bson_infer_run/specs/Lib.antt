@@ -1,3 +1,4 @@
 pub mod Counted
+pub mod Scalar
 pub mod SummaryView
 pub mod Prover

@@ -53,6 +53,10 @@ pub record IsSome (s : StructSummary) : Type 0 where
   pub some : 0 < s.count
   pub counted : AreCounted s.count (counted_of s)
 
+-- the same, and it is a form that joins are of
+abbrev pub IsKnown : StructSummary → Type 0
+IsKnown s = IsSome s × IsJoined (struct_form s)
+
 abbrev pub IsKind : Kind → Type 0
 IsKind (kinds.Structure fields) = IsSome fields.value
 IsKind k = Unit {0}

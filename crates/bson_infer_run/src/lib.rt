@@ -1,6 +1,8 @@
 //! The shape of documents.
 #![tactic(auto)]
 
+mod add;
 mod fields;
 mod join;
+mod scalar;
 mod summary;

@@ -7,10 +7,10 @@ use Rattle.std.proofs.lemmas.List.{length_push}
 use Rattle.bson_shape.specs.ShapeView.{nodes, fields_nodes}
 use Rattle.bson_infer_laws.specs.Join.{is_nothing, opt, join}
 use Rattle.bson_infer_run.specs.Counted.{put, puts, settled}
-use Rattle.bson_infer_run.specs.SummaryView.{counted, counted_of, counted_field}
+use Rattle.bson_infer_run.specs.SummaryView.{counted, counted_of, counted_field, IsKnown}
 use Rattle.bson_infer_run.specs.declared.summary.FieldSummary.{FieldSummary}
 use Rattle.bson_infer_run.proofs.Places.{put_at, drop_counted, drop_all, puts_next}
-use Rattle.bson_infer_run.proofs.Structs.{IsKnown, joined_struct, joined_known, field_falls, set_twice, clash, one_null, solid_join, join_null}
+use Rattle.bson_infer_run.proofs.Structs.{joined_struct, joined_known, field_falls, set_twice, clash, one_null, solid_join, join_null}
 use Rattle.bson_infer_run.proofs.join.+join.Goals as goal
 use Rattle.bson_infer_run.proofs.join.+join.Goals.{joined-else-first_null-via-then-first_null+then-not-second_null+else-is_null_or_nothing, joined-else-first_null-via-then-first_null+else-not-second_null, joined-else-first_null-via-else-first_null}
 use Rattle.bson_infer_run.proofs.join.+join.Goals.{joined-else-second_null-via-then-second_null+then-not-first_null+else-is_null_or_nothing-2, joined-else-second_null-via-then-second_null+else-not-first_null, joined-else-second_null-via-else-second_null}
