@@ -4,3 +4,4 @@ pub mod Summaries
 pub mod Places
 pub mod Structs
 pub mod Scalars
+pub mod ShapeFields

@@ -37,6 +37,10 @@ abbrev pub summary_form : Bool → Kind → Form
 summary_form true k = optional (kind_form k)
 summary_form false k = kind_form k
 
+abbrev pub is_option : Form → Bool
+is_option (optional s) = true
+is_option s = false
+
 -- as many names as fields
 abbrev pub IsEven : StructSummary → Type 0
 IsEven s = length s.names.keys ≡ length s.fields.items

@@ -5,4 +5,5 @@ mod add;
 mod fields;
 mod join;
 mod scalar;
+mod shape;
 mod summary;

@@ -2,7 +2,7 @@ ghost use Rattle.std.specs.Prelude.{◌≡◌, false, IfOk};
 ghost use Rattle.bson_shape.specs.Form as form;
 ghost use Rattle.bson_infer_laws.specs.Above.{IsJoined};
 ghost use Rattle.bson_infer_laws.specs.Join.{is_nothing, nothing, opt};
-ghost use Rattle.bson_infer_run.specs.SummaryView.{kind_form, IsSummary};
+ghost use Rattle.bson_infer_run.specs.SummaryView.{is_option, kind_form, IsSummary};
 
 use bson_shape::Leaf;
 use indexmap::IndexSet;
@@ -119,6 +119,13 @@ impl Summary {
     {
         item.known();
         Ok(Summary::of(Kind::Sequence(Box::new(alloc, item)?)))
+    }
+
+    /// Whether it is an option.
+    pub(crate) fn is_option(&self) -> bool
+        ensures { result ≡ is_option self.now }
+    {
+        self.or_null
     }
 
     /// Tells a contract what is true of each summary. It does nothing.
