@@ -5,3 +5,4 @@ pub mod Places
 pub mod Structs
 pub mod Scalars
 pub mod ShapeFields
+pub mod Fitting

@@ -1,4 +1,5 @@
 pub mod Counted
+pub mod Fits
 pub mod Scalar
 pub mod SummaryView
 pub mod Prover

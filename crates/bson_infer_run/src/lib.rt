@@ -6,4 +6,5 @@ mod fields;
 mod join;
 mod scalar;
 mod shape;
+mod sound;
 mod summary;
