@@ -1,12 +1,12 @@
 -- Which values fit, by what is known of their parts.
-use Rattle.std.proofs.Common.{◌≡◌, ℕ, ◌+◌, ◌-◌, ◌<◌, ◌≤◌, ◌^◌, ℤ, Bool, true, false, cond, Option, Some, None, ◌++◌, length, inl, inr, refl, ap, sym, subst, ◌∙◌, arith, nat_eq}
+use Rattle.std.proofs.Common.{◌≡◌, ℕ, ◌+◌, ◌-◌, ◌<◌, ◌≤◌, ◌^◌, ℤ, true, false, cond, Option, Some, None, ◌++◌, length, inl, inr, ap, sym, subst, ◌∙◌, arith, nat_eq}
 use Rattle.std.specs.Prelude.{◌⊎◌, SomeIff, FitsSigned}
 use Rattle.std.proofs.lemmas.List.{length-append}
 use Rattle.std.specs.Int.{w32, w64}
 use Rattle.std.specs.Str.{is_utf8}
-use Rattle.bson_base.specs.Sound.{HasBytes, IsBinary, max_binary, max_bytes}
+use Rattle.bson_base.specs.Sound.{HasBytes, max_binary, max_bytes}
 use Rattle.bson_base.specs.Text.{Bytes, Utf8, AreBytes}
-use Rattle.bson_base.specs.Tree.{Tree, string, document, array, binary, date_time, db_pointer, javascript_code, symbol, javascript_code_with_scope, int32, timestamp, int64, Pairs, Trees, depth, pairs_depth, le32, enc, elements, array_elements, behind_subtype}
+use Rattle.bson_base.specs.Tree.{Tree, string, document, array, binary, date_time, db_pointer, javascript_code, symbol, javascript_code_with_scope, int32, timestamp, int64, Pairs, Trees, depth, le32, enc, elements, array_elements, behind_subtype}
 use Rattle.bson_base.proofs.Lengths.{length-le32, length-text, length-binary, length-date_time, length-db_pointer, length-int32, length-timestamp, length-int64, length-document, length-array, length-javascript_code_with_scope}
 use Rattle.bson_infer_run.specs.Fits.{Fits, PairsFit, TreesFit}
 

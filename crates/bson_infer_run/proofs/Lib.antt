@@ -6,3 +6,4 @@ pub mod Structs
 pub mod Scalars
 pub mod ShapeFields
 pub mod Fitting
+pub mod Documents

@@ -3,7 +3,7 @@ use Rattle.std.proofs.Common.{◌≡◌, ◌+◌, Bool, true, false, cond, List,
 use Rattle.std.specs.Prelude.{◌||◌}
 use Rattle.std.specs.Str.{bytes_eq}
 use Rattle.bson_base.specs.Text.{Utf8}
-use Rattle.bson_laws.proofs.Fitted.{bytes_eq-refl, unlike_swap}
+use Rattle.bson_laws.proofs.Fitted.{unlike_swap}
 use Rattle.bson_infer_laws.specs.Join.{join}
 use Rattle.bson_infer_laws.proofs.Above.{name_is}
 use Rattle.bson_infer_run.specs.Counted.{Counted, put, puts}

@@ -3,19 +3,18 @@ use Rattle.std.proofs.Common.{◌≡◌, ℕ, ◌+◌, ◌<◌, ◌≤◌, Bool,
 use Rattle.std.specs.Prelude.{◌||◌, nat_lt}
 use Rattle.std.specs.Option.{option_map}
 use Rattle.std.specs.Str.{bytes_eq}
-use Rattle.std.proofs.lemmas.Bool.{lt-ltb, ltb-true}
-use Rattle.bson_base.specs.Sound.{ArePairsClean}
+use Rattle.std.proofs.lemmas.Bool.{lt-ltb}
 use Rattle.bson_base.specs.Text.{Utf8}
 use Rattle.bson_base.specs.Tree.{Pairs, no_pairs, pair}
-use Rattle.bson_shape.specs.Form.{Form, optional, structure, Fields, no_fields, field, joined}
+use Rattle.bson_shape.specs.Form.{Form, optional, structure, Fields, field, joined}
 use Rattle.bson_infer_laws.specs.Above.{IsJoined, AreJoined}
 use Rattle.bson_infer_laws.specs.Inferred.{shape_of, pair_shapes}
 use Rattle.bson_infer_laws.specs.Join.{is_nothing, opt, join_at, new_fields, join, join_fields}
 use Rattle.bson_infer_laws.specs.Named.{form_of, has}
 use Rattle.bson_infer_laws.proofs.Commutes.{opt_twice, opt_join, join_opt}
 use Rattle.bson_infer_laws.proofs.Proper.{opt_joined, opt_solid}
-use Rattle.bson_infer_run.specs.Counted.{Counted, put, puts, counted_pairs, opt_if, settled, AreCounted}
-use Rattle.bson_infer_run.proofs.Puts.{knows, find, Distinct, both, met, merged, fresh, puts_is}
+use Rattle.bson_infer_run.specs.Counted.{Counted, puts, counted_pairs, opt_if, settled, AreCounted}
+use Rattle.bson_infer_run.proofs.Puts.{knows, find, Distinct, met, merged, fresh, puts_is}
 
 -- ---- what is known of the fields of a struct
 

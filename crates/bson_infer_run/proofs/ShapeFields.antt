@@ -1,5 +1,5 @@
 -- The fields of a shape that is made of a struct, one after another.
-use Rattle.std.proofs.Common.{◌≡◌, ℕ, zero, suc, ◌+◌, ◌<◌, List, [], ◌∷◌, ◌++◌, length, get_or, drop, Result, Ok, Err, nat_lt, refl, ap, sym, subst, ◌∙◌, string_bytes, arith, add-one}
+use Rattle.std.proofs.Common.{◌≡◌, ℕ, ◌+◌, ◌<◌, List, [], ◌∷◌, ◌++◌, length, get_or, drop, Result, Ok, nat_lt, refl, ap, sym, subst, ◌∙◌, string_bytes, arith, add-one}
 use Rattle.bson_base.specs.BsonView.{Key}
 use Rattle.bson_base.specs.Text.{Utf8}
 use Rattle.bson_shape.specs.Form.{Form, structure, Fields, no_fields, field, joined}
@@ -12,7 +12,7 @@ use Rattle.bson_shape.proofs.Shapes.{joined-assoc, joined-none, fields_of-push}
 use Rattle.bson_infer_run.specs.Counted.{opt_if, settled}
 use Rattle.bson_infer_run.specs.SummaryView.{counted}
 use Rattle.bson_infer_run.specs.declared.summary.FieldSummary.{FieldSummary}
-use Rattle.bson_infer_run.proofs.Places.{drop_counted, drop_all}
+use Rattle.bson_infer_run.proofs.Places.{drop_counted}
 
 pub settled_next : (n : ℕ) (ks : List Key) (gs : List FieldSummary) (i : ℕ) (k : Key) (g : FieldSummary) → length ks ≡ length gs → i < length gs → k ≡ get_or ks i k → g ≡ get_or gs i g
     → settled n (drop i (counted ks gs)) ≡ field (string_bytes k) (opt_if (nat_lt g.count n) g.summary) (settled n (drop (i + 1) (counted ks gs)))

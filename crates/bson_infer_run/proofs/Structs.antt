@@ -1,5 +1,5 @@
 -- The join of two structs, of two options, and of what is none.
-use Rattle.std.proofs.Common.{◌≡◌, ℕ, zero, suc, ◌+◌, ◌<◌, ◌≤◌, Bool, true, false, cond, List, [], ◌∷◌, length, get_or, inl, inr, refl, ap, sym, subst, ◌∙◌, arith}
+use Rattle.std.proofs.Common.{◌≡◌, ℕ, zero, suc, ◌+◌, ◌<◌, Bool, true, false, cond, List, [], ◌∷◌, length, get_or, inl, inr, refl, ap, sym, subst, ◌∙◌, arith}
 use Rattle.std.specs.Prelude.{◌||◌, ◌⊎◌, slice_set, nat_lt}
 use Rattle.bson_base.specs.BsonView.{Key}
 use Rattle.bson_base.specs.Sound.{ArePairsClean}
@@ -13,7 +13,7 @@ use Rattle.bson_infer_laws.proofs.Shapes.{pairs_joined}
 use Rattle.bson_infer_laws.proofs.Proper.{solid_left, solid_right, join_joined}
 use Rattle.bson_infer_run.specs.Counted.{Counted, puts, counted_pairs, settled, AreCounted}
 use Rattle.bson_infer_run.specs.Prover.SummaryFalls.{opt_if_nodes}
-use Rattle.bson_infer_run.specs.SummaryView.{counted, counted_of, struct_form, kind_form, summary_form, IsEven, IsSome, IsKnown, IsSummary}
+use Rattle.bson_infer_run.specs.SummaryView.{counted, counted_of, struct_form, kind_form, summary_form, IsEven, IsKnown, IsSummary}
 use Rattle.bson_infer_run.specs.declared.summary.FieldSummary.{FieldSummary}
 use Rattle.bson_infer_run.specs.declared.summary.Kind.{Kind}
 use Rattle.bson_infer_run.specs.declared.summary.StructSummary.{StructSummary}

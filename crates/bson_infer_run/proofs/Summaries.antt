@@ -1,11 +1,10 @@
 -- The form of a summary, and what is true of it.
-use Rattle.std.proofs.Common.{◌≡◌, ℕ, zero, suc, ◌+◌, ◌<◌, Bool, true, false, cond, List, [], ◌∷◌, ◌++◌, length, get_or, Option, Some, None, refl, ap, sym, subst, ◌∙◌, string_bytes, arith}
-use Rattle.std.specs.Prelude.{◌||◌, slice_set}
-use Rattle.bson_shape.specs.Form.{Form, optional, structure}
-use Rattle.bson_infer_laws.specs.Above.{IsBare, IsJoined}
-use Rattle.bson_infer_laws.specs.Join.{nothing, is_nothing, opt}
+use Rattle.std.proofs.Common.{◌≡◌, Bool, true, false, refl, sym}
+use Rattle.bson_shape.specs.Form.{optional}
+use Rattle.bson_infer_laws.specs.Above.{IsBare}
+use Rattle.bson_infer_laws.specs.Join.{opt}
 use Rattle.bson_infer_laws.proofs.Above.{bare_opt}
-use Rattle.bson_infer_run.specs.SummaryView.{kind_form, summary_form, IsSummary}
+use Rattle.bson_infer_run.specs.SummaryView.{kind_form, summary_form}
 use Rattle.bson_infer_run.specs.declared.summary.Kind.{Kind}
 use Rattle.bson_infer_run.specs.declared.summary.Kind.TheVariants as kinds
 

@@ -1,5 +1,5 @@
 -- The values that may be in a sound document, so many levels deep.
-use Rattle.std.specs.Prelude.{◌≡◌, ℕ, ◌≤◌, length}
+use Rattle.std.specs.Prelude.{ℕ, ◌≤◌, length}
 use Rattle.bson_base.specs.Sound.{IsClean, ArePairsClean, AreTreesClean, max_bytes}
 use Rattle.bson_base.specs.Tree.{Tree, Pairs, Trees, depth, pairs_depth, trees_depth, enc, elements, array_elements}
 

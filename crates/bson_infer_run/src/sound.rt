@@ -12,8 +12,8 @@ ghost use Rattle.bson_base.specs.Tree.{enc, elements, array_elements};
 ghost use Rattle.bson_infer_run.specs.Fits.{Fits, PairsFit, TreesFit};
 
 use bson_base::{
-    Binary, Bson, DateTime, DbPointer, Document, JavaScriptCodeWithScope, MAX_BINARY, MAX_NESTING_LEVEL,
-    ObjectId, Regex, Timestamp, has_zero,
+    Binary, Bson, DateTime, DbPointer, Document, JavaScriptCodeWithScope, MAX_BINARY,
+    MAX_NESTING_LEVEL, ObjectId, Regex, Timestamp, has_zero,
 };
 
 /// The most bytes of a document.

@@ -1,5 +1,4 @@
-use Rattle.std.proofs.Common.{◌≡◌, ℕ, suc, ◌+◌, ◌<◌, ◌≤◌, length, get_or, drop, inl, inr, true, refl, ◌∙◌, sym, ap, subst, arith, add-one, string_bytes}
-use Rattle.std.specs.Prelude.{slice_set}
+use Rattle.std.proofs.Common.{◌≡◌, ◌+◌, ◌<◌, length, get_or, refl, ◌∙◌, sym, ap, subst, arith}
 use Rattle.std.specs.Vec.Iter.{into_iter_len}
 use Rattle.std.proofs.lemmas.Iterator.Adapters.{YieldsList-from_vec}
 use Rattle.std.proofs.lemmas.Iterator.Consumers.{YieldsList-turn, YieldsList-end}
@@ -9,7 +8,7 @@ use Rattle.bson_infer_laws.specs.Join.{is_nothing, opt, join}
 use Rattle.bson_infer_run.specs.Counted.{put, puts, settled}
 use Rattle.bson_infer_run.specs.SummaryView.{counted, counted_of, counted_field, IsKnown}
 use Rattle.bson_infer_run.specs.declared.summary.FieldSummary.{FieldSummary}
-use Rattle.bson_infer_run.proofs.Places.{put_at, drop_counted, drop_all, puts_next}
+use Rattle.bson_infer_run.proofs.Places.{put_at, drop_all, puts_next}
 use Rattle.bson_infer_run.proofs.Structs.{joined_struct, joined_known, field_falls, set_twice, clash, one_null, solid_join, join_null}
 use Rattle.bson_infer_run.proofs.join.+join.Goals as goal
 use Rattle.bson_infer_run.proofs.join.+join.Goals.{joined-else-first_null-via-then-first_null+then-not-second_null+else-is_null_or_nothing, joined-else-first_null-via-then-first_null+else-not-second_null, joined-else-first_null-via-else-first_null}

@@ -1,4 +1,4 @@
-use Rattle.std.proofs.Common.{◌≡◌, ◌+◌, ◌<◌, length, get_or, drop, nat_lt, refl, ◌∙◌, sym, ap, subst, arith, string_bytes}
+use Rattle.std.proofs.Common.{◌≡◌, ◌+◌, ◌<◌, length, get_or, drop, nat_lt, ◌∙◌, sym, ap, subst, arith, string_bytes}
 use Rattle.bson_shape.specs.Form.{joined}
 use Rattle.bson_shape.specs.Makers.{AreShapes}
 use Rattle.bson_shape.specs.ShapeView.{nodes, fields_nodes, fields_of}
@@ -37,7 +37,7 @@ shape_of_struct-loop-i-preserved t c =
       fields =
           ap (λ xs. joined (fields_of xs) rest) c.in_ok-push.ensures.items
           ∙ fields_next c.loop-i.fields.items made (string_bytes k) (opt_if (nat_lt f.count s.count) f.summary) rest (settled s.count (counted_of s)) (c.in_ok-name.ensures.ok ∙ c.as_str.ensures.value) (made_is _ _ c.in_ok-shape.ensures)
-              (ap (joined (fields_of c.loop-i.fields.items)) (sym next) ∙ c.loop-i.invariant.fields);
+          (ap (joined (fields_of c.loop-i.fields.items)) (sym next) ∙ c.loop-i.invariant.fields);
       shapes = (subst AreShapes next c.loop-i.invariant.shapes).2;
     }
 

@@ -1,4 +1,4 @@
-use Rattle.std.proofs.Common.{◌≡◌, ◌∙◌, sym, ap, subst, arith, string_bytes, Some}
+use Rattle.std.proofs.Common.{sym, ap, string_bytes, Some}
 use Rattle.bson_base.specs.Instant.{millis}
 use Rattle.bson_base.specs.Tree.{string, javascript_code, symbol, int32, int64, date_time, timestamp}
 use Rattle.bson_base.specs.BsonView.{tree_of, trees_of, pairs_of}

@@ -1,8 +1,7 @@
 use Rattle.std.proofs.Common.{◌≡◌, ◌+◌, ◌*◌, ◌≤◌, ◌↔◌, drop, length}
-use Rattle.bson_base.specs.BsonView.{tree_of, trees_of, pairs_of, scoped_of}
+use Rattle.bson_base.specs.BsonView.{tree_of, trees_of, pairs_of}
 use Rattle.bson_base.specs.Pairs.{AreDistinct}
 use Rattle.bson_base.specs.Sound.{ArePairsClean, AreTreesClean, max_bytes}
-use Rattle.bson_base.specs.Tree as tree
 use Rattle.bson_base.specs.Tree.{depth, pairs_depth, trees_depth, elements, array_elements}
 use Rattle.bson_infer_run.proofs.sound.+sound.Given as goal
 

@@ -1,4 +1,4 @@
-use Rattle.std.proofs.Common.{sym, ap, subst, ◌+◌, ◌≤◌, string_bytes}
+use Rattle.std.proofs.Common.{sym, subst, ◌+◌, ◌≤◌, string_bytes}
 use Rattle.std.specs.Prelude.{SomeIff}
 use Rattle.bson_base.specs.Sound.{max_bytes}
 use Rattle.bson_infer_run.proofs.Fitting.{pointer_answers}

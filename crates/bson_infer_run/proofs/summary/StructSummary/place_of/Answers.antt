@@ -1,4 +1,4 @@
-use Rattle.std.proofs.Common.{◌≡◌, ◌∙◌, sym, ap, subst, string_bytes, arith, length}
+use Rattle.std.proofs.Common.{◌≡◌, ◌∙◌, sym, ap, arith, length}
 use Rattle.bson_infer_run.specs.Counted.{put}
 use Rattle.bson_infer_run.specs.SummaryView.{counted}
 use Rattle.bson_infer_run.proofs.Puts.{knows}
