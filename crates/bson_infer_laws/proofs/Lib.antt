@@ -1,0 +1,10 @@
+pub mod Above
+pub mod Joins
+pub mod Proper
+pub mod Commutes
+pub mod Holds
+pub mod Covers
+pub mod Shapes
+pub mod PlainJoin
+pub mod Levels
+pub mod Examples

@@ -1,0 +1,4 @@
+pub mod Named
+pub mod Join
+pub mod Inferred
+pub mod Above

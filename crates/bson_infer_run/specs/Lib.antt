@@ -1,0 +1,6 @@
+pub mod Counted
+pub mod Fits
+pub mod Infer
+pub mod Scalar
+pub mod SummaryView
+pub mod Prover

@@ -1,0 +1,54 @@
+ghost use Rattle.std.specs.Prelude.{◌≡◌, ◌<◌, [], IfOk, OnOk, vec_len};
+ghost use Rattle.bson_infer_laws.specs.Join.{nothing};
+ghost use Rattle.bson_infer_run.specs.Counted.{Counted, put};
+ghost use Rattle.bson_infer_run.specs.SummaryView.{counted_of, IsEven, IsAt};
+
+use crate::summary::{FieldSummary, StructSummary, Summary};
+use indexmap::IndexSet;
+use std::alloc::{AllocError, Global};
+
+impl FieldSummary {
+    /// A field that no document had.
+    pub(crate) fn new() -> FieldSummary
+        ensures count { result.count ≡ 0 }
+        ensures summary { result.summary ≡ nothing }
+    {
+        FieldSummary {
+            count: 0,
+            summary: Summary::nothing(),
+        }
+    }
+}
+
+impl StructSummary {
+    /// No documents.
+    pub(crate) fn new(alloc: Global) -> StructSummary
+        ensures count { result.count ≡ 0 }
+        ensures even { IsEven result }
+        ensures none { counted_of result ≡ [] }
+    {
+        StructSummary {
+            count: 0,
+            names: IndexSet::new(alloc),
+            fields: Vec::new(alloc),
+        }
+    }
+
+    /// The index of the field of a name. One that is new goes last, as a field that no document had.
+    pub(crate) fn place_of(&mut self, alloc: Global, name: &str) -> Result<usize, AllocError>
+        requires { IsEven self.old }
+        ensures even { OnOk result (IsEven self.new) }
+        ensures count { OnOk result (self.new.count ≡ self.old.count) }
+        ensures within { IfOk result (λ place. place < vec_len self.new.fields) }
+        ensures place { IfOk result (λ place. IsAt self.new.names.keys name.now place) }
+        ensures puts { OnOk result ((g : Counted) → g.name ≡ name.now → put g (counted_of self.new) ≡ put g (counted_of self.old)) }
+    {
+        if let Some(place) = self.names.get_index_of(name) {
+            return Ok(place);
+        }
+        let place = self.fields.len();
+        self.fields.push(FieldSummary::new())?;
+        self.names.insert(String::from_str(alloc, name)?)?;
+        Ok(place)
+    }
+}
