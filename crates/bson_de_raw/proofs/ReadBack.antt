@@ -47,5 +47,5 @@ pub gives_document : (s : Form) (bytes : Bytes) (r : Result Datum Error) → Giv
 gives_document s bytes r h = gives_without r (reads_marked s bytes) h
 
 pub read_back : (s : Form) (bytes : Bytes) (v : Value) (t : Tree) (r : Result Datum Error) → IsShape s → IsPlain s → Fits v s → means v ≡ Some t → IsSound t → bytes ≡ enc t → Gives marked r (reads_marked s bytes) → GivesValue (norm v) r
-read_back s bytes v t r shape fits mean sound is exact =
-    gives_value (norm v) r (reads_document s bytes) (ap (reads_document s) is ∙ views_reads s t (norm v) shape sound (views_means v s t fits mean sound.clean)) (gives_document s bytes r exact)
+read_back s bytes v t r shape plain fits mean sound is exact =
+    gives_value (norm v) r (reads_document s bytes) (ap (reads_document s) is ∙ views_reads s t (norm v) shape sound (views_means v s t plain fits mean sound.clean)) (gives_document s bytes r exact)

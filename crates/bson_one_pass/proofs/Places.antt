@@ -30,7 +30,7 @@ use Rattle.bson_one_pass.proofs.Fields.{LacksName, names-append, filled, put_dro
 
 -- the slot of a field
 abbrev pub slot_of : FieldShape → Slot
-slot_of f = record { name = string_bytes f.name; missing = absent f.shape; read = reads f.shape plain; value = None }
+slot_of f = record { name = string_bytes f.name; missing = absent f.shape; read = reads f.shape; value = None }
 
 -- The fields up to a place were written: what is left of the document fills the other slots, and these bytes were appended.
 pub record AreUnderWay (fs : List FieldShape) (levels : ℕ) (whole : Option Pairs) (ns : Nodes) (place : ℕ) (old made : Bytes) : Type 0 where

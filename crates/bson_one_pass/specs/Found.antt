@@ -34,7 +34,7 @@ names (s ∷ ss) = s.name ∷ names ss
 
 -- the slot of a field, with the value that was read for it, if one was
 abbrev pub slot_with : FieldShape → Option Marked → Slot
-slot_with f v = record { name = name_of f; missing = absent f.shape; read = reads f.shape plain; value = v }
+slot_with f v = record { name = name_of f; missing = absent f.shape; read = reads f.shape; value = v }
 
 -- the slots of fields, each with its value
 abbrev pub slots_with : List FieldShape → List (Option Marked) → Slots
