@@ -84,6 +84,10 @@ pub use Rattle.bson_laws.specs.Trees
 pub use Rattle.bson_laws.specs.Unmarked
 pub use Rattle.bson_laws.specs.Views
 pub use Rattle.bson_laws.specs.Writable
+pub use Rattle.bson_infer_laws.specs.Above
+pub use Rattle.bson_infer_laws.specs.Inferred
+pub use Rattle.bson_infer_laws.specs.Join
+pub use Rattle.bson_infer_run.specs.Infer
 pub use Rattle.bson_met.specs.Gives as MetGives
 pub use Rattle.bson_met.specs.MetView
 pub use Rattle.bson_met.specs.Nulls

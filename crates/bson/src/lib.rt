@@ -8,11 +8,12 @@
 //! | shapes | `Shape`; `FieldShape`, `VariantShape` and `VariantContent` to make one without its notation; `Form`, `Leaf` and `Named` to look at one |
 //! | reading and writing | `from_slice_at`; `to_vec_at`, `to_buf`, `to_vec_counted`; `Datum` and its parts `Field`, `Entry`, `Text`, `ByteStr`, `Double` |
 //! | both at once | `recast`, `recast_to_buf` |
+//! | the shape of documents | `infer` |
 //! | trees | `Bson`, `Document` with `Iter` and `IntoIter`, and the types of values, such as `ObjectId`, `DateTime` and `Binary`; `read_value` and `Met` to read from one |
 //! | documents in their bytes | `RawDocument`, `RawArray`, `RawElement`, `RawIter`, `RawBsonRef`; `RawDocumentBuf`, `RawArrayBuf` to own the bytes |
 //! | files of documents | `RawDocuments`; `migrate`, `Migration`, `Refused`, `lines_of` |
 //! | values of kinds that serde's data model lacks | `data` to make them, `reserved` to look at them, `reserved_kind` |
-//! | errors | `ParseError`, `ShapeError`, `de::Error`, `ser::Error`, `raw::Error`, `EncodeError`, `RecastError`, `MigrateError`; `Cause`, `MAX_NESTING_LEVEL`, `Path`, `Segment`, `Wrapper`, and `Stop` of `read_value` |
+//! | errors | `ParseError`, `ShapeError`, `de::Error`, `ser::Error`, `raw::Error`, `EncodeError`, `InferError`, `RecastError`, `MigrateError`; `Cause`, `MAX_NESTING_LEVEL`, `Path`, `Segment`, `Wrapper`, and `Stop` of `read_value` |
 //! | input and output | `Source`, `Sink`, their ends `ReadAdapter`, `WriteAdapter`, `MemorySource`, `MemorySink`, `SteadySource`, `SteadySink`; `read_to_end`, `write_due`, `ReadFault`, `Failed`, `MOST`; `Out`, `Steps`, `Ledger`, `Tally` |
 //! | whole programs | `run` and `Status`, `run_migrate` and `MigrateStatus`; what they share: `shape_of_word`, `read_input`, `Answer`, `finish` |
 //! | texts | `date_text`, `date_of_text`, `integer_of_text`, `subtype_of_text`; `DateError`, `NotDate`, `NotHex`, `NotUuid` |
@@ -361,35 +362,105 @@
 
 pub mod laws;
 
-pub use bson_base::{
-    Binary, BinarySubtype, Bson, DateError, DateTime, DbPointer, Decimal128, Document, Double,
-    ElementType, EncodeError, IntoIter, Iter, JavaScriptCodeWithScope, NotDate, NotHex, NotUuid,
-    ObjectId, Regex, Timestamp, Uuid, integer_of_text, reserved_kind, subtype_of_text,
-};
-pub use bson_dates::{date_of_text, date_text};
-pub use bson_datum::{
-    ByteStr, Cause, Datum, Entry, Field, MAX_NESTING_LEVEL, Path, Segment, Stop, Text, Wrapper, de,
-    ser,
-};
+pub use bson_base::Binary;
+pub use bson_base::BinarySubtype;
+pub use bson_base::Bson;
+pub use bson_base::DateError;
+pub use bson_base::DateTime;
+pub use bson_base::DbPointer;
+pub use bson_base::Decimal128;
+pub use bson_base::Document;
+pub use bson_base::Double;
+pub use bson_base::ElementType;
+pub use bson_base::EncodeError;
+pub use bson_base::IntoIter;
+pub use bson_base::Iter;
+pub use bson_base::JavaScriptCodeWithScope;
+pub use bson_base::NotDate;
+pub use bson_base::NotHex;
+pub use bson_base::NotUuid;
+pub use bson_base::ObjectId;
+pub use bson_base::Regex;
+pub use bson_base::Timestamp;
+pub use bson_base::Uuid;
+pub use bson_base::integer_of_text;
+pub use bson_base::reserved_kind;
+pub use bson_base::subtype_of_text;
+pub use bson_dates::date_of_text;
+pub use bson_dates::date_text;
+pub use bson_datum::ByteStr;
+pub use bson_datum::Cause;
+pub use bson_datum::Datum;
+pub use bson_datum::Entry;
+pub use bson_datum::Field;
+pub use bson_datum::MAX_NESTING_LEVEL;
+pub use bson_datum::Path;
+pub use bson_datum::Segment;
+pub use bson_datum::Stop;
+pub use bson_datum::Text;
+pub use bson_datum::Wrapper;
+pub use bson_datum::de;
+pub use bson_datum::ser;
 pub use bson_de::read_value;
 pub use bson_de_raw::from_slice_at;
-pub use bson_io::{
-    Failed, Ledger, MOST, MemorySink, MemorySource, Out, ReadAdapter, ReadFault, Sink, Source,
-    SteadySink, SteadySource, Steps, Tally, WriteAdapter, read_to_end, write_due,
-};
+pub use bson_infer_run::InferError;
+pub use bson_infer_run::infer;
+pub use bson_io::Failed;
+pub use bson_io::Ledger;
+pub use bson_io::MOST;
+pub use bson_io::MemorySink;
+pub use bson_io::MemorySource;
+pub use bson_io::Out;
+pub use bson_io::ReadAdapter;
+pub use bson_io::ReadFault;
+pub use bson_io::Sink;
+pub use bson_io::Source;
+pub use bson_io::SteadySink;
+pub use bson_io::SteadySource;
+pub use bson_io::Steps;
+pub use bson_io::Tally;
+pub use bson_io::WriteAdapter;
+pub use bson_io::read_to_end;
+pub use bson_io::write_due;
 pub use bson_met::Met;
-pub use bson_migrate_run::{
-    MigrateError, MigrateStatus, Migration, Refused, lines_of, migrate, run_migrate,
-};
-pub use bson_program::{Answer, Endings, InputEndings, finish, read_input, shape_of_word};
-pub use bson_rawdoc::{
-    RawArray, RawArrayBuf, RawBsonRef, RawDocument, RawDocumentBuf, RawDocuments, RawElement,
-    RawIter, raw,
-};
-pub use bson_recast_run::{RecastError, Status, recast, recast_to_buf, run};
+pub use bson_migrate_run::MigrateError;
+pub use bson_migrate_run::MigrateStatus;
+pub use bson_migrate_run::Migration;
+pub use bson_migrate_run::Refused;
+pub use bson_migrate_run::lines_of;
+pub use bson_migrate_run::migrate;
+pub use bson_migrate_run::run_migrate;
+pub use bson_program::Answer;
+pub use bson_program::Endings;
+pub use bson_program::InputEndings;
+pub use bson_program::finish;
+pub use bson_program::read_input;
+pub use bson_program::shape_of_word;
+pub use bson_rawdoc::RawArray;
+pub use bson_rawdoc::RawArrayBuf;
+pub use bson_rawdoc::RawBsonRef;
+pub use bson_rawdoc::RawDocument;
+pub use bson_rawdoc::RawDocumentBuf;
+pub use bson_rawdoc::RawDocuments;
+pub use bson_rawdoc::RawElement;
+pub use bson_rawdoc::RawIter;
+pub use bson_rawdoc::raw;
+pub use bson_recast_run::RecastError;
+pub use bson_recast_run::Status;
+pub use bson_recast_run::recast;
+pub use bson_recast_run::recast_to_buf;
+pub use bson_recast_run::run;
 pub use bson_reserved as reserved;
-pub use bson_ser_stream::{to_buf, to_vec_at, to_vec_counted};
-pub use bson_shape::{
-    FieldShape, Form, Leaf, Named, ParseError, Shape, ShapeError, VariantContent, VariantShape,
-};
+pub use bson_ser_stream::to_buf;
+pub use bson_ser_stream::to_vec_at;
+pub use bson_ser_stream::to_vec_counted;
+pub use bson_shape::FieldShape;
+pub use bson_shape::Form;
+pub use bson_shape::Leaf;
+pub use bson_shape::Named;
+pub use bson_shape::ParseError;
+pub use bson_shape::Shape;
+pub use bson_shape::ShapeError;
+pub use bson_shape::VariantContent;
+pub use bson_shape::VariantShape;
 pub use bson_wrapped::data;
