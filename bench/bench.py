@@ -215,6 +215,36 @@ def dropping_file(count):
     return shape, b"".join(documents)
 
 
+def mixed_with_ids(size):
+    """Documents as JSON has them, of so many bytes together, with an ObjectId in front of each."""
+    draws, ids, items, total = Draws(5), Draws(13), [], 0
+    while total < size:
+        value = document([element(7, "_id", ids.data(12)), mixed_document(draws, 2)[4:-1]])
+        items.append((3, value))
+        total += len(value)
+    return "[string:bson]", document([element(4, "items", array(items))])
+
+
+def events(count):
+    """An array of so many values of an enum of three variants, each with contents."""
+    draws = Draws(17)
+    number = lambda: draws.below(2_000)
+
+    def one():
+        choice = draws.below(3)
+        if choice == 0:
+            return document([element(3, "Click", document([int32("x", number()), int32("y", number())]))])
+        if choice == 1:
+            return document([text("Key", draws.pick(TEXTS))])
+        return document([element(4, "Move", array([(0x10, struct.pack("<i", number())) for _ in range(2)]))])
+    return "{events:[<Click{x:i32,y:i32},Key=string,Move(i32,i32)>]}", document([element(4, "events", array([(3, one()) for _ in range(count)]))])
+
+
+def untyped_file(count):
+    """A file of documents of persons, each at a map of values of any kind."""
+    return "[string:bson]", file(count)[1]
+
+
 WORKLOADS = {
     "rows": lambda: rows(100_000),
     "rows, a tenth": lambda: rows(10_000),
@@ -233,6 +263,9 @@ WORKLOADS = {
     "file in reverse order": lambda: turned_file(10_000),
     "file, an option missing": lambda: missing_file(10_000),
     "file with a document dropped": lambda: dropping_file(10_000),
+    "file at [string:bson]": lambda: untyped_file(10_000),
+    "ObjectIds at [string:bson]": lambda: mixed_with_ids(3_000_000),
+    "events": lambda: events(20_000),
     "18,000 fields in order": lambda: fields(18_000, False),
     "9,000 fields in order": lambda: fields(9_000, False),
     "18,000 fields in reverse": lambda: fields(18_000, True),
