@@ -7,3 +7,4 @@ pub mod Scalars
 pub mod ShapeFields
 pub mod Fitting
 pub mod Documents
+pub mod SoundTests
