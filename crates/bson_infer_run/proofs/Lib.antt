@@ -8,3 +8,5 @@ pub mod ShapeFields
 pub mod Fitting
 pub mod Documents
 pub mod SoundTests
+pub mod Gatherings
+pub mod Answered

@@ -62,7 +62,7 @@ binary_decided : (subtype : ℕ) (bs : Bytes) → Decides (is_binary subtype bs)
 binary_decided subtype bs =
     mapped (is_binary subtype bs) (λ h. record { is_byte = h.0; are_bytes = h.1.0; fits = h.1.1 }) (λ h. (h.is_byte, (h.are_bytes, h.fits)))
     (both (nat_lt subtype 256) (are_bytes bs && nat_le (length bs) (max_binary subtype)) (less subtype 256)
-        (both (are_bytes bs) (nat_le (length bs) (max_binary subtype)) (bytes_decided bs) (at_most (length bs) (max_binary subtype))))
+    (both (are_bytes bs) (nat_le (length bs) (max_binary subtype)) (bytes_decided bs) (at_most (length bs) (max_binary subtype))))
 
 part_decided : (t : Utf8) → Decides (is_zero_free t) (IsZeroFree t)
 part_decided t =
@@ -72,7 +72,7 @@ name_decided : (t : Utf8) → Decides (is_plain_name t) (IsPlainName t)
 name_decided t =
     mapped (is_plain_name t) (λ h. record { text = h.0; free = record { no_zero = h.1.0; no_dollar = h.1.1 } }) (λ h. (h.text, (h.free.no_zero, h.free.no_dollar)))
     (both (is_utf8 t) (not (has_zero t) && not (begins_with_dollar t)) (itself (is_utf8 t))
-        (both (not (has_zero t)) (not (begins_with_dollar t)) (negated (has_zero t)) (negated (begins_with_dollar t))))
+    (both (not (has_zero t)) (not (begins_with_dollar t)) (negated (has_zero t)) (negated (begins_with_dollar t))))
 
 int32_decided : (n : ℤ) → Decides (is_within (2 ^ 31) n) (FitsSigned w32 n)
 int32_decided (pos n) = (λ h. grind (arith, ints, h), λ h. grind (arith, ints, h))
@@ -117,7 +117,7 @@ mutual
   pairs_decided (pair key t ps) =
       mapped (are_pairs_clean (pair key t ps)) (λ h. (h.0, h.1.0, h.1.1.0, h.1.1.1)) (λ h. (h.0, (h.1, (h.2, h.3))))
       (both (is_plain_name key) (lacks key ps && (is_clean t && are_pairs_clean ps)) (name_decided key)
-          (both (lacks key ps) (is_clean t && are_pairs_clean ps) (lacks_decided key ps) (both (is_clean t) (are_pairs_clean ps) (clean_decided t) (pairs_decided ps))))
+      (both (lacks key ps) (is_clean t && are_pairs_clean ps) (lacks_decided key ps) (both (is_clean t) (are_pairs_clean ps) (clean_decided t) (pairs_decided ps))))
 
   trees_decided : (ts : Trees) → Decides (are_trees_clean ts) (AreTreesClean ts)
   trees_decided no_trees = always
@@ -127,4 +127,4 @@ pub sound_decided : (ps : Pairs) → Decides (is_sound ps) (IsSound (document ps
 sound_decided ps =
     mapped (is_sound ps) (λ h. record { document = tt; clean = h.0; nests = h.1.0; fits = h.1.1 }) (λ h. (h.clean, (h.nests, h.fits)))
     (both (are_pairs_clean ps) (nat_le (depth (document ps)) max_levels && nat_le (length (enc (document ps))) max_bytes) (pairs_decided ps)
-        (both (nat_le (depth (document ps)) max_levels) (nat_le (length (enc (document ps))) max_bytes) (at_most (depth (document ps)) max_levels) (at_most (length (enc (document ps))) max_bytes)))
+    (both (nat_le (depth (document ps)) max_levels) (nat_le (length (enc (document ps))) max_bytes) (at_most (depth (document ps)) max_levels) (at_most (length (enc (document ps))) max_bytes)))
