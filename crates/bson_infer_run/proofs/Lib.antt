@@ -7,3 +7,6 @@ pub mod Scalars
 pub mod ShapeFields
 pub mod Fitting
 pub mod Documents
+pub mod SoundTests
+pub mod Gatherings
+pub mod Answered

@@ -1,6 +1,13 @@
 pub mod Counted
+pub mod DocumentTree
+pub mod Files
 pub mod Fits
 pub mod Infer
 pub mod Scalar
+pub mod SoundTest
 pub mod SummaryView
+pub mod Lines
+pub mod NoWords
+pub mod Number
 pub mod Prover
+pub mod Rows

@@ -4,12 +4,17 @@
 mod add;
 mod error;
 mod fields;
+mod file;
 mod inferring;
 mod join;
+mod running;
 mod scalar;
 mod shape;
 mod sound;
+mod status;
 mod summary;
 
 pub use error::InferError;
 pub use inferring::infer;
+pub use running::run_infer;
+pub use status::InferStatus;
