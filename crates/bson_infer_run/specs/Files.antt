@@ -11,7 +11,7 @@ use Rattle.bson_rawdoc.specs.declared.raw.Error.{Error}
 use Rattle.bson_shape.specs.Form.{Form}
 use Rattle.bson_infer_laws.specs.Inferred.{shape_of, inferred}
 use Rattle.bson_infer_laws.specs.Join.{join}
-use Rattle.bson_infer_run.specs.DocumentTree.{document_pairs}
+use Rattle.bson_rawdoc.specs.DocumentTree.{document_pairs}
 use Rattle.bson_infer_run.specs.SoundTest.{is_sound}
 use Rattle.bson_infer_run.specs.declared.file.FileError.{FileError}
 use Rattle.bson_infer_run.specs.declared.file.FileError.TheVariants as errors

@@ -1,5 +1,4 @@
 pub mod Counted
-pub mod DocumentTree
 pub mod Files
 pub mod Fits
 pub mod Infer

@@ -141,10 +141,13 @@ fn with_piece(alloc: Global, bytes: &[u8], so_far: Gathered) -> Result<Gathered,
 fn document_of(alloc: Global, bytes: &[u8]) -> Result<Document, ReadError>
     ensures { IsRead (piece_pairs bytes.now) result }
 {
-    let _alloc = alloc;
-    // In the place of `raw.to_document(alloc)`, until it is there: no memory.
-    match RawDocument::from_bytes(bytes) {
-        Ok(_) => Err(ReadError::NoMemory),
+    let document = match RawDocument::from_bytes(bytes) {
+        Ok(document) => document,
+        Err(error) => return Err(ReadError::Raw(error)),
+    };
+    match document.to_document(alloc) {
+        Ok(document) => Ok(document),
+        Err(raw::Error::NoMemory) => Err(ReadError::NoMemory),
         Err(error) => Err(ReadError::Raw(error)),
     }
 }
