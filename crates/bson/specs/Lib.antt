@@ -87,7 +87,13 @@ pub use Rattle.bson_laws.specs.Writable
 pub use Rattle.bson_infer_laws.specs.Above
 pub use Rattle.bson_infer_laws.specs.Inferred
 pub use Rattle.bson_infer_laws.specs.Join
+pub use Rattle.bson_infer_run.specs.Files as InferFiles
 pub use Rattle.bson_infer_run.specs.Infer
+pub use Rattle.bson_infer_run.specs.Lines as InferLines
+pub use Rattle.bson_infer_run.specs.NoWords
+pub use Rattle.bson_infer_run.specs.Number as InferNumber
+pub use Rattle.bson_infer_run.specs.Rows as InferRows
+pub use Rattle.bson_infer_run.specs.SoundTest
 pub use Rattle.bson_met.specs.Gives as MetGives
 pub use Rattle.bson_met.specs.MetView
 pub use Rattle.bson_met.specs.Nulls

@@ -15,7 +15,7 @@
 //! | values of kinds that serde's data model lacks | `data` to make them, `reserved` to look at them, `reserved_kind` |
 //! | errors | `ParseError`, `ShapeError`, `de::Error`, `ser::Error`, `raw::Error`, `EncodeError`, `InferError`, `RecastError`, `MigrateError`; `Cause`, `MAX_NESTING_LEVEL`, `Path`, `Segment`, `Wrapper`, and `Stop` of `read_value` |
 //! | input and output | `Source`, `Sink`, their ends `ReadAdapter`, `WriteAdapter`, `MemorySource`, `MemorySink`, `SteadySource`, `SteadySink`; `read_to_end`, `write_due`, `ReadFault`, `Failed`, `MOST`; `Out`, `Steps`, `Ledger`, `Tally` |
-//! | whole programs | `run` and `Status`, `run_migrate` and `MigrateStatus`; what they share: `shape_of_word`, `read_input`, `Answer`, `finish` |
+//! | whole programs | `run` and `Status`, `run_migrate` and `MigrateStatus`, `run_infer` and `InferStatus`; what they share: `shape_of_word`, `read_input`, `Answer`, `finish` |
 //! | texts | `date_text`, `date_of_text`, `integer_of_text`, `subtype_of_text`; `DateError`, `NotDate`, `NotHex`, `NotUuid` |
 //! | contracts | `laws`; the definitions that contracts name, as `Rattle.bson.specs.Tree` |
 //!
@@ -404,7 +404,9 @@ pub use bson_datum::ser;
 pub use bson_de::read_value;
 pub use bson_de_raw::from_slice_at;
 pub use bson_infer_run::InferError;
+pub use bson_infer_run::InferStatus;
 pub use bson_infer_run::infer;
+pub use bson_infer_run::run_infer;
 pub use bson_io::Failed;
 pub use bson_io::Ledger;
 pub use bson_io::MOST;

@@ -10,6 +10,8 @@ pub enum Program {
     Recast,
     /// `bson_migrate`, with the words as its command line.
     Migrate,
+    /// `bson_infer`, with the words as its command line.
+    Infer,
     /// The document is read at the first word, and written after the struct under its first key was given the second word as its name.
     Write,
 }
@@ -114,6 +116,7 @@ fn program_of(cell: &str) -> Option<(Program, u8)> {
     let program = match name {
         "recast" => Program::Recast,
         "migrate" => Program::Migrate,
+        "infer" => Program::Infer,
         "write" => Program::Write,
         _ => return None,
     };

@@ -2,6 +2,7 @@
 use crate::row::{Program, Row};
 use bson_datum::{Datum, Text};
 use bson_de_raw::from_slice_at;
+use bson_infer_run::run_infer;
 use bson_io::{MemorySink, MemorySource};
 use bson_migrate_run::run_migrate;
 use bson_recast_run::{Status, run};
@@ -70,6 +71,7 @@ pub fn run_row(alloc: Global, row: &Row) -> Result<Run, AllocError> {
     match row.program {
         Program::Recast => run_recast(alloc, row),
         Program::Migrate => run_migration(alloc, row),
+        Program::Infer => run_inference(alloc, row),
         Program::Write => write_row(alloc, row),
     }
 }
@@ -93,6 +95,14 @@ fn run_migration(alloc: Global, row: &Row) -> Result<Run, AllocError> {
     let mut input = input_of(alloc, row)?;
     let mut ends = Sinks::new(alloc)?;
     let status = run_migrate(alloc, &row.words, &mut input, &mut ends.out, &mut ends.err);
+    ends.ended(alloc, status.number())
+}
+
+/// Runs the inference.
+fn run_inference(alloc: Global, row: &Row) -> Result<Run, AllocError> {
+    let mut input = input_of(alloc, row)?;
+    let mut ends = Sinks::new(alloc)?;
+    let status = run_infer(alloc, &row.words, &mut input, &mut ends.out, &mut ends.err);
     ends.ended(alloc, status.number())
 }
 
