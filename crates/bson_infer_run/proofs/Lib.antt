@@ -10,3 +10,4 @@ pub mod Documents
 pub mod SoundTests
 pub mod Gatherings
 pub mod Answered
+pub mod WholeFiles

@@ -1,7 +1,8 @@
 -- The fields of a struct at the indexes of their names.
-use Rattle.std.proofs.Common.{◌≡◌, ℕ, zero, suc, ◌+◌, ◌<◌, Bool, true, false, cond, List, [], ◌∷◌, ◌++◌, length, get_or, drop, Some, refl, ap, sym, ◌∙◌, string_bytes, arith, length-append, add-one}
+use Rattle.std.proofs.Common.{◌≡◌, ℕ, zero, suc, ◌+◌, ◌<◌, Bool, true, false, cond, List, [], ◌∷◌, ◌++◌, length, get_or, drop, Some, refl, ap, sym, subst, ◌∙◌, string_bytes, arith, length-append, add-one}
 use Rattle.std.specs.Prelude.{◌||◌, slice_set, if◌then◌else◌}
-use Rattle.std.specs.List.{list_any, position}
+use Rattle.std.specs.List.{list_any, position, AllByRecursion, IsDistinct}
+use Rattle.std.specs.String.{string_eq}
 use Rattle.std.specs.Str.{bytes_eq}
 use Rattle.std.proofs.lemmas.List.Quantifiers.{position-Some}
 use Rattle.bson_base.specs.BsonView.{Key}
@@ -28,6 +29,21 @@ first_at name (k ∷ ks) (suc i) d lt e h = (h 0 (omega arith), first_at name ks
 pub at_position : (name : Utf8) (ks : List Key) (i : ℕ) → Some i ≡ position (is_key name) ks → IsAt ks name i
 at_position name [] i h = absurd cc
 at_position name (k ∷ ks) i h = let p = position-Some (is_key name) (k ∷ ks) i k (sym h) in first_at name (k ∷ ks) i k p.0 p.1 p.2
+
+all_at : (P : Key → Type 0) (ks : List Key) (i : ℕ) (k : Key) → AllByRecursion P ks → i < length ks → k ≡ get_or ks i k → P k
+all_at P [] i k h lt e = absurd (omega (arith, lt))
+all_at P (x ∷ ks) zero k h lt e = subst P (sym e) h.0
+all_at P (x ∷ ks) (suc i) k h lt e = all_at P ks i k h.1 (omega (arith, lt)) e
+
+-- of different names one is at its only index
+pub at_distinct : (name : Utf8) (ks : List Key) (i : ℕ) (k : Key) → IsDistinct string_eq ks → i < length ks → k ≡ get_or ks i k → string_bytes k ≡ name → IsAt ks name i
+unfolding IsDistinct
+at_distinct name [] i k d lt e n = absurd (omega (arith, lt))
+at_distinct name (x ∷ ks) zero k d lt e n = ap (bytes_eq name) (sym (ap string_bytes e) ∙ n) ∙ bytes_eq-refl name
+at_distinct name (x ∷ ks) (suc i) k d lt e n = (
+  unlike_swap (string_bytes x) name (ap (bytes_eq (string_bytes x)) (sym n) ∙ all_at (λ y. string_eq x y ≡ false) ks i k d.0 (omega (arith, lt)) e),
+  at_distinct name ks i k d.1 (omega (arith, lt)) e n,
+)
 
 neither : (b c : Bool) → false ≡ (b || c) → (b ≡ false) × (c ≡ false)
 neither true c e = absurd cc

@@ -1,9 +1,10 @@
 -- The program: the rows of its table of answers for a file that was read whole, and what it shares with every other.
 use Rattle.std.specs.Prelude.{◌≡◌, ℕ, List, [], ◌∷◌, ◌++◌}
+use Rattle.std.specs.Io.KnownBytes.{Appends}
 use Rattle.bson_base.specs.Text.{Bytes, Utf8}
 use Rattle.bson_program.specs.Input.{InputEnds, OnInput, input_status}
 use Rattle.bson_program.specs.Program.{Program}
-use Rattle.bson_program.specs.Run.{Due}
+use Rattle.bson_program.specs.Run.{Run, Due}
 use Rattle.bson_program.specs.ShapeWord.{newline}
 use Rattle.bson_shape.specs.Form.{Form}
 use Rattle.bson_shape.specs.Notation.{text}
@@ -50,3 +51,9 @@ infer_program = record {
   usage = statuses.Usage;
   endings = record { sink_fault = statuses.SinkFault; no_memory = statuses.NoMemory };
 }
+
+-- A shape was written: its notation and a line feed, and no line.
+pub record WritesShape (r : Run InferStatus) (s : Form) : Type 0 where
+  pub status : r.status ≡ statuses.Done
+  pub out_grew : Appends r.out.before r.out.after (text s ++ newline)
+  pub err_grew : Appends r.err.before r.err.after []

@@ -121,32 +121,35 @@ fn add_pairs(
         return Err(AllocError);
     };
     fields.count = count;
+    let mut expected = 0;
     for (key, value) in document.iter() {
-        add_pair(alloc, key.as_str(), value, fields)?;
+        let place = add_pair(alloc, key.as_str(), value, fields, expected)?;
+        expected = place.saturating_add(1);
     }
     Ok(())
 }
 
-// Adds a pair to the fields.
+// Adds a pair to the fields, and returns the index of its field, which is looked for at the expected one first.
 #[cycle(add)]
 fn add_pair(
     alloc: Global,
     key: &str,
     value: &Bson,
     fields: &mut StructSummary,
-) -> Result<(), AllocError>
+    expected: usize,
+) -> Result<usize, AllocError>
     requires clean { IsClean (tree_of value.now) }
     requires even { IsEven fields.old }
     ensures even { OnOk result (IsEven fields.new) }
     ensures count { OnOk result (fields.new.count ≡ fields.old.count) }
     ensures field { OnOk result (counted_of fields.new ≡ put (once key.now (shape_of (tree_of value.now))) (counted_of fields.old)) }
 {
-    let place = fields.place_of(alloc, key)?;
+    let place = fields.place_of(alloc, key, expected)?;
     let known = mem::replace(&mut fields.fields[place], FieldSummary::new());
     let Some(count) = known.count.checked_add(1) else {
         return Err(AllocError);
     };
     let summary = add(alloc, value, known.summary)?;
     fields.fields[place] = FieldSummary { count, summary };
-    Ok(())
+    Ok(place)
 }

@@ -1,4 +1,4 @@
-ghost use Rattle.std.specs.Prelude.{◌≡◌, ◌<◌, [], IfOk, OnOk, vec_len};
+ghost use Rattle.std.specs.Prelude.{◌≡◌, ◌<◌, [], IfOk, OnOk, IsTrue, vec_len};
 ghost use Rattle.bson_infer_laws.specs.Join.{nothing};
 ghost use Rattle.bson_infer_run.specs.Counted.{Counted, put};
 ghost use Rattle.bson_infer_run.specs.SummaryView.{counted_of, IsEven, IsAt};
@@ -34,8 +34,36 @@ impl StructSummary {
         }
     }
 
-    /// The index of the field of a name. One that is new goes last, as a field that no document had.
-    pub(crate) fn place_of(&mut self, alloc: Global, name: &str) -> Result<usize, AllocError>
+    /// The index of the field of a name, which is looked for at the expected index first. One that is new goes last, as a field that no document had.
+    pub(crate) fn place_of(
+        &mut self,
+        alloc: Global,
+        name: &str,
+        expected: usize,
+    ) -> Result<usize, AllocError>
+        requires { IsEven self.old }
+        ensures even { OnOk result (IsEven self.new) }
+        ensures count { OnOk result (self.new.count ≡ self.old.count) }
+        ensures within { IfOk result (λ place. place < vec_len self.new.fields) }
+        ensures place { IfOk result (λ place. IsAt self.new.names.keys name.now place) }
+        ensures puts { OnOk result ((g : Counted) → g.name ≡ name.now → put g (counted_of self.new) ≡ put g (counted_of self.old)) }
+    {
+        if self.is_at(name, expected) {
+            return Ok(expected);
+        }
+        self.place_in_index(alloc, name)
+    }
+
+    // Whether a name is at an index.
+    fn is_at(&self, name: &str, place: usize) -> bool
+        ensures { IsTrue result → IsAt self.now.names.keys name.now place }
+    {
+        let names = self.names.as_slice();
+        place < names.len() && names[place].as_str() == name
+    }
+
+    // The index of the field of a name. One that is new goes last, as a field that no document had.
+    fn place_in_index(&mut self, alloc: Global, name: &str) -> Result<usize, AllocError>
         requires { IsEven self.old }
         ensures even { OnOk result (IsEven self.new) }
         ensures count { OnOk result (self.new.count ≡ self.old.count) }

@@ -200,26 +200,27 @@ fn join_fields(
     first.count = total;
     let mut place = 0;
     for field in fields {
-        join_field(alloc, first, names.as_slice()[place].as_str(), field)?;
+        join_field(alloc, first, names.as_slice()[place].as_str(), field, place)?;
         place += 1;
     }
     Ok(())
 }
 
-// Adds what is at a key.
+// Adds what is at a key, which is looked for at the expected index first.
 #[cycle(join)]
 fn join_field(
     alloc: Global,
     fields: &mut StructSummary,
     name: &str,
     field: FieldSummary,
+    expected: usize,
 ) -> Result<(), AllocError>
     requires { IsEven fields.old }
     ensures even { OnOk result (IsEven fields.new) }
     ensures count { OnOk result (fields.new.count ≡ fields.old.count) }
     ensures field { OnOk result (counted_of fields.new ≡ put (counted_field name.now field) (counted_of fields.old)) }
 {
-    let place = fields.place_of(alloc, name)?;
+    let place = fields.place_of(alloc, name, expected)?;
     let known = mem::replace(&mut fields.fields[place], FieldSummary::new());
     let Some(count) = known.count.checked_add(field.count) else {
         return Err(AllocError);

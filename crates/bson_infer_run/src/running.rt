@@ -1,11 +1,15 @@
 // The run: there is to be no word, the input is read to its end, the shape of its documents is inferred, and all is written.
-ghost use Rattle.std.specs.Prelude.{◌≤◌, map, string_bytes, IfOk};
+ghost use Rattle.std.specs.Prelude.{◌≡◌, ◌≤◌, ◌⊎◌, [], length, map, string_bytes, IfOk, Some};
+ghost use Rattle.bson_base.specs.Sound.{max_bytes};
+ghost use Rattle.bson_base.specs.Text.{Bytes};
+ghost use Rattle.bson_shape.specs.Form.{Form};
 ghost use Rattle.bson_program.specs.Ends.{source_change, sink_change};
 ghost use Rattle.bson_program.specs.Prepared.{Says};
 ghost use Rattle.bson_program.specs.Program.{IsDue, IsAnswered};
-ghost use Rattle.bson_program.specs.Run.{run_of};
-ghost use Rattle.bson_infer_run.specs.Files.{inferring_of};
-ghost use Rattle.bson_infer_run.specs.Rows.{Answers, infer_program};
+ghost use Rattle.bson_program.specs.Run.{run_of, AllQuiet, AreKept};
+ghost use Rattle.bson_infer_run.specs.Files.{found, inferring_of};
+ghost use Rattle.bson_infer_run.specs.Rows.{Answers, infer_program, WritesShape};
+ghost use Rattle.bson_infer_run.specs.declared.status.InferStatus.TheVariants as statuses;
 
 use crate::file::{FileError, infer_file};
 use crate::status::InferStatus;
@@ -93,6 +97,12 @@ pub fn run_infer<I: Source, O: Sink, E: Sink>(
     out: &mut O,
     err: &mut E,
 ) -> InferStatus
+    // Given no word and a whole file of sound documents, it writes the notation of their shape, or reports that memory ran out.
+    ensures infers { let r = run_of (map string_bytes words.now) (source_change I.left I.faults input.old input.new)
+        (sink_change O.written O.room O.faults out.old out.new) (sink_change E.written E.room E.faults err.old err.new) result in
+        (file : Bytes) (s : Form) → r.words ≡ [] → r.input.before ≡ Some file → length file ≤ max_bytes → inferring_of file ≡ found s → AllQuiet r
+        → WritesShape r s ⊎ ((r.status ≡ statuses.NoMemory) × AreKept r.out r.err) }
+
     // The table of answers: each status only where its row holds, with exactly what the row says on the two sinks; and where the input tells its
     // bytes, no count rose and no sink's count is at its last value, the status whose row holds, or out of memory.
     ensures answers { IsAnswered infer_program (run_of (map string_bytes words.now) (source_change I.left I.faults input.old input.new)
