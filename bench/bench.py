@@ -16,6 +16,7 @@ from elements import array, binary, document, element, int32, string, text
 HERE = pathlib.Path(__file__).resolve().parent
 RECAST = HERE.parent / "crates/bson_recast/out/bson_recast"
 MIGRATE = HERE.parent / "crates/bson_migrate/out/bson_migrate"
+INFER = HERE.parent / "crates/bson_infer/out/bson_infer"
 SMALLEST = b"\x05\0\0\0\0"
 
 
@@ -240,6 +241,12 @@ def events(count):
     return "{events:[<Click{x:i32,y:i32},Key=string,Move(i32,i32)>]}", document([element(4, "events", array([(3, one()) for _ in range(count)]))])
 
 
+def small_file(count):
+    """A file of so many documents of three fields, whose shape is inferred."""
+    documents = [document([int32("n", i), text("name", f"name{i % 1000}"), element(8, "ok", bytes([i & 1]))]) for i in range(count)]
+    return None, b"".join(documents)
+
+
 def untyped_file(count):
     """A file of documents of persons, each at a map of values of any kind."""
     return "[string:bson]", file(count)[1]
@@ -266,6 +273,7 @@ WORKLOADS = {
     "file at [string:bson]": lambda: untyped_file(10_000),
     "ObjectIds at [string:bson]": lambda: mixed_with_ids(3_000_000),
     "events": lambda: events(20_000),
+    "infer": lambda: small_file(100_000),
     "18,000 fields in order": lambda: fields(18_000, False),
     "9,000 fields in order": lambda: fields(9_000, False),
     "18,000 fields in reverse": lambda: fields(18_000, True),
@@ -321,13 +329,14 @@ def main():
     parser = argparse.ArgumentParser(description=__doc__, formatter_class=argparse.RawDescriptionHelpFormatter)
     parser.add_argument("--program", default=str(RECAST), help="the built bson_recast")
     parser.add_argument("--migrate", default=str(MIGRATE), help="the built bson_migrate, which takes the files of documents")
+    parser.add_argument("--infer", default=str(INFER), help="the built bson_infer")
     parser.add_argument("--only", help="one workload")
     parser.add_argument("--make", nargs=2, metavar=("NAME", "FILE"), help="write the input of a workload to FILE, its shape to FILE.shape")
     options = parser.parse_args()
     if options.make:
         shape, data = WORKLOADS[options.make[0]]()
         pathlib.Path(options.make[1]).write_bytes(data)
-        pathlib.Path(options.make[1] + ".shape").write_text(shape)
+        pathlib.Path(options.make[1] + ".shape").write_text(shape or "")
         return
     other = libbson()
     with tempfile.TemporaryDirectory() as folder:
@@ -341,6 +350,9 @@ def main():
             shape, path = made(name, folder)
             is_file = name.startswith("file")
             program, least = (options.migrate, nothing) if is_file else (options.program, smallest)
+            if name == "infer":
+                measure(name, [options.infer], path, [options.infer], nothing)
+                continue
             ours = measure(name, [program, shape], path, [program, "{}"], least)
             if other is not None and name in ("rows", "extended", "file"):
                 theirs = measure(f"{name}, over libbson", [str(other), name], path, [str(other), name], least)

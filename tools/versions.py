@@ -13,6 +13,7 @@ PROJECT = [
     ("docs/CHANGES.md", r"^## (\S+)"),
     ("docs/bson_recast.1", r"^\.Os Vaqischu (\S+)$"),
     ("docs/bson_migrate.1", r"^\.Os Vaqischu (\S+)$"),
+    ("docs/bson_infer.1", r"^\.Os Vaqischu (\S+)$"),
 ]
 INTERFACE = [
     ("crates/bson_c/src/version.rt", r"^pub const VERSION: u32 = (\d+);$"),
