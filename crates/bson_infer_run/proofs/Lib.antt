@@ -8,6 +8,7 @@ pub mod ShapeFields
 pub mod Fitting
 pub mod Documents
 pub mod SoundTests
+pub mod Covering
 pub mod Gatherings
 pub mod Answered
 pub mod WholeFiles

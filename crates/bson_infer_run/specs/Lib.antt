@@ -1,4 +1,5 @@
 pub mod Counted
+pub mod Covered
 pub mod Files
 pub mod Fits
 pub mod Infer

@@ -55,7 +55,7 @@ impl StructSummary {
     }
 
     // Whether a name is at an index.
-    fn is_at(&self, name: &str, place: usize) -> bool
+    pub(crate) fn is_at(&self, name: &str, place: usize) -> bool
         ensures { IsTrue result → IsAt self.now.names.keys name.now place }
     {
         let names = self.names.as_slice();

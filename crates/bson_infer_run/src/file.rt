@@ -1,9 +1,10 @@
 // The shape of a file of documents.
-ghost use Rattle.std.specs.Prelude.{◌≡◌, None};
+ghost use Rattle.std.specs.Prelude.{◌≡◌, ◌+◌, None, IfOk, IfErr};
 ghost use Rattle.bson_rawdoc.specs.Cut.{cut};
 ghost use Rattle.bson_infer_run.specs.Files.{inferring_of, piece_pairs, Gathers, IsAllGathered, IsInferring, IsRead};
 
 use crate::add::add_document;
+use crate::covered::is_covered;
 use crate::shape::shape_of;
 use crate::sound::is_sound;
 use crate::summary::Summary;
@@ -89,14 +90,46 @@ fn gather(alloc: Global, file: &[u8]) -> Result<Gathered, FileError>
     };
     for piece in RawDocuments::new(file) {
         match piece {
-            Ok(bytes) => so_far = with_piece(alloc, bytes, so_far)?,
+            Ok(bytes) => so_far = with_next(alloc, bytes, so_far)?,
             Err(_) => unreachable!(),
         }
     }
     Ok(so_far)
 }
 
-// One more document.
+// One more document: where it adds nothing, no tree is made of it.
+fn with_next(alloc: Global, bytes: &[u8], so_far: Gathered) -> Result<Gathered, FileError>
+    ensures { Gathers so_far (piece_pairs bytes.now) result }
+{
+    if so_far.unsound.is_none() && is_covered(bytes, &so_far.summary) {
+        return with_covered(so_far);
+    }
+    with_piece(alloc, bytes, so_far)
+}
+
+// One more document, which adds nothing.
+fn with_covered(so_far: Gathered) -> Result<Gathered, FileError>
+    ensures number { IfOk result (λ g. g.number ≡ so_far.number + 1) }
+    ensures unsound { IfOk result (λ g. g.unsound ≡ so_far.unsound) }
+    ensures summary { IfOk result (λ g. g.summary ≡ so_far.summary) }
+    ensures memory { IfErr result (λ e. e ≡ FileError.NoMemory) }
+{
+    let Gathered {
+        number,
+        unsound,
+        summary,
+    } = so_far;
+    let Some(number) = number.checked_add(1) else {
+        return Err(FileError::NoMemory);
+    };
+    Ok(Gathered {
+        number,
+        unsound,
+        summary,
+    })
+}
+
+// One more document, which is made a tree.
 fn with_piece(alloc: Global, bytes: &[u8], so_far: Gathered) -> Result<Gathered, FileError>
     ensures { Gathers so_far (piece_pairs bytes.now) result }
 {

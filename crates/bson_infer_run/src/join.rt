@@ -130,7 +130,7 @@ fn join_leaves(first: Leaf, second: Leaf) -> Summary
 }
 
 // Whether the second leaf takes each value of the first.
-fn is_within(first: Leaf, second: Leaf) -> bool
+pub(crate) fn is_within(first: Leaf, second: Leaf) -> bool
     ensures { result ≡ forms.within first second }
 {
     first == second || grown(first) == second || second == Leaf::Bson

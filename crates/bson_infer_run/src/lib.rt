@@ -2,6 +2,7 @@
 #![tactic(auto)]
 
 mod add;
+mod covered;
 mod error;
 mod fields;
 mod file;

@@ -17,7 +17,7 @@ use bson_base::{
 };
 
 /// The most bytes of a document.
-const MOST: usize = 2147483647;
+pub(crate) const MOST: usize = 2147483647;
 
 /// Whether a document is sound: within the limits of its levels and bytes, each key a plain name, each part as its kind asks.
 pub(crate) fn is_sound(document: &Document) -> bool
@@ -65,7 +65,7 @@ fn size_of(value: &Bson, levels: u32) -> Option<usize>
 }
 
 // The bytes themselves.
-fn size_of_bytes(bytes: &[u8]) -> usize
+pub(crate) fn size_of_bytes(bytes: &[u8]) -> usize
     ensures size { result ≡ length bytes.now }
     ensures bytes { AreBytes bytes.now }
 {
@@ -73,7 +73,7 @@ fn size_of_bytes(bytes: &[u8]) -> usize
 }
 
 // A number of 32 bits.
-fn size_of_int32(number: &i32) -> usize
+pub(crate) fn size_of_int32(number: &i32) -> usize
     ensures range { FitsSigned w32 number.now }
     ensures size { result ≡ 4 }
 {
@@ -82,7 +82,7 @@ fn size_of_int32(number: &i32) -> usize
 }
 
 // A number of 64 bits.
-fn size_of_int64(number: &i64) -> usize
+pub(crate) fn size_of_int64(number: &i64) -> usize
     ensures range { FitsSigned w64 number.now }
     ensures size { result ≡ 8 }
 {
@@ -91,7 +91,7 @@ fn size_of_int64(number: &i64) -> usize
 }
 
 // A time.
-fn size_of_time(time: &DateTime) -> usize
+pub(crate) fn size_of_time(time: &DateTime) -> usize
     ensures range { FitsSigned w64 (millis time.now) }
     ensures size { result ≡ 8 }
 {
@@ -115,7 +115,7 @@ fn known_text(text: &str)
 {}
 
 // A text.
-fn size_of_text(text: &str) -> Option<usize>
+pub(crate) fn size_of_text(text: &str) -> Option<usize>
     ensures size { SomeIff result (length text.now + 5 ≤ max_bytes) (length text.now + 5) }
     ensures text { is_utf8 text.now ≡ true }
 {
@@ -154,7 +154,7 @@ fn size_of_regex(regex: &Regex) -> Option<usize>
 }
 
 // Twelve bytes that name a document.
-fn size_of_id(id: &ObjectId) -> usize
+pub(crate) fn size_of_id(id: &ObjectId) -> usize
     ensures bytes { HasBytes 12 id.now.0 }
     ensures size { result ≡ 12 }
 {
@@ -213,7 +213,7 @@ fn size_of_pairs(document: &Document, levels: u32) -> Option<usize>
 }
 
 // The byte of a kind, a key and the zero that closes it, where the key is a plain name.
-fn size_of_key(key: &str) -> Option<usize>
+pub(crate) fn size_of_key(key: &str) -> Option<usize>
     ensures { SomeIff result (IsPlainName key.now × (length key.now + 2 ≤ max_bytes)) (length key.now + 2) }
 {
     if has_zero(key) || key.starts_with('$') {

@@ -36,7 +36,7 @@ pub(crate) enum Kind {
 #[cycle(summary)]
 #[derive(Drop)]
 pub(crate) struct StructSummary {
-    /// How many documents were joined.
+    /// How many documents were joined. One that adds nothing need not be counted.
     pub(crate) count: u64,
     /// The keys. Each field is at the index of its key.
     pub(crate) names: IndexSet<String>,
@@ -47,7 +47,7 @@ pub(crate) struct StructSummary {
 #[cycle(summary)]
 #[derive(Drop)]
 pub(crate) struct FieldSummary {
-    /// How many documents had the key.
+    /// How many of these documents had the key.
     pub(crate) count: u64,
     pub(crate) summary: Summary,
 }

@@ -1,0 +1,58 @@
+-- A document in its bytes that adds nothing to a form: it is sound, and the form has all that it has.
+use Rattle.std.specs.Prelude.{◌≡◌, ℕ, ◌+◌, true, length, drop, Option, Some, None, Result, Ok, Err}
+use Rattle.bson_base.specs.Text.{Utf8, IsPlainName}
+use Rattle.bson_base.specs.Tree.{Tree, document, Pairs, enc}
+use Rattle.bson_base.specs.Outcome.{◌>>=◌}
+use Rattle.bson_rawdoc.specs.DocumentTree.{tree_at}
+use Rattle.bson_rawdoc.specs.RawValue.{value_in}
+use Rattle.bson_rawdoc.specs.Walk.{Element}
+use Rattle.bson_rawdoc.specs.declared.raw.Error.{Error}
+use Rattle.bson_shape.specs.Form.{Form, leaf, Fields, field}
+use Rattle.bson_shape.specs.declared.leaf.Leaf.{Leaf}
+use Rattle.bson_infer_laws.specs.Above.{Above}
+use Rattle.bson_infer_laws.specs.Inferred.{shape_of}
+use Rattle.bson_infer_laws.specs.Join.{join}
+use Rattle.bson_infer_run.specs.Counted.{settled}
+use Rattle.bson_infer_run.specs.Fits.{Fits}
+use Rattle.bson_infer_run.specs.SoundTest.{is_sound}
+use Rattle.bson_infer_run.specs.SummaryView.{counted_of}
+use Rattle.bson_infer_run.specs.declared.summary.StructSummary.{StructSummary}
+
+-- a value without inner values, its leaf and its bytes
+abbrev pub IsPlain : Option (Leaf × ℕ) → Result Tree Error → Type 0
+IsPlain None r = Unit {0}
+IsPlain (Some x) (Ok t) = Fits 0 t × (x.1 ≡ length (enc t)) × (shape_of t ≡ leaf x.0)
+IsPlain (Some x) (Err e) = ⊥
+
+-- a value without inner values that the form has, and its bytes
+abbrev pub HasPlain : Form → Option ℕ → Result Tree Error → Type 0
+HasPlain s None r = Unit {0}
+HasPlain s (Some n) (Ok t) = Fits 0 t × (n ≡ length (enc t)) × Above s (shape_of t)
+HasPlain s (Some n) (Err e) = ⊥
+
+-- the first of the fields has this key, and its form has this value
+pub record TakesPair (fs rest : Fields) (n : ℕ) (key : Utf8) (t : Tree) : Type 0 where
+  pub form : Form
+  pub first : fs ≡ field key form rest
+  pub name : IsPlainName key
+  pub fits : Fits 0 t
+  pub size : n ≡ length key + 2 + length (enc t)
+  pub above : Above form (shape_of t)
+
+abbrev pub Takes : Fields → Fields → Utf8 → Option ℕ → Result Tree Error → Type 0
+Takes fs rest key None r = Unit {0}
+Takes fs rest key (Some n) (Ok t) = TakesPair fs rest n key t
+Takes fs rest key (Some n) (Err e) = ⊥
+
+-- the value of an element of a whole document
+abbrev pub element_tree : Element → Result Tree Error
+element_tree e = value_in e.kind e.value >>= tree_at 199
+
+-- the fields of a struct from this index on
+abbrev pub fields_from : StructSummary → ℕ → Fields
+fields_from s i = settled s.count (drop i (counted_of s))
+
+-- the bytes are a sound document that adds nothing to the form
+abbrev pub IsCovered : Form → Result Pairs Error → Type 0
+IsCovered s (Ok ps) = (is_sound ps ≡ true) × (join s (shape_of (document ps)) ≡ s)
+IsCovered s (Err e) = ⊥
