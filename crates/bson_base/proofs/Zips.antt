@@ -1,9 +1,9 @@
 -- Keys beside values, as pairs.
-use Rattle.std.proofs.Common.{◌≡◌, ℕ, zero, suc, ◌+◌, ◌<◌, min, List, [], ◌∷◌, ◌++◌, length, get_or, take, Bool, true, false, ◌||◌, Option, Some, None, Bor, refl, ap, sym, ◌∙◌, string_bytes, arith}
-use Rattle.std.specs.Prelude.{map, if◌then◌else◌, is_some, IfSome, slice_get, slice_set, remove, nat_lt}
+use Rattle.std.proofs.Common.{◌≡◌, ℕ, zero, suc, ◌+◌, ◌<◌, min, List, [], ◌∷◌, ◌++◌, length, get_or, take, Bool, true, false, ◌||◌, Option, Some, None, Bor, refl, ap, sym, subst, ◌∙◌, string_bytes, arith, lt-ltb}
+use Rattle.std.specs.Prelude.{map, not, if◌then◌else◌, is_some, IfSome, slice_get, slice_set, remove, nat_lt}
 use Rattle.std.specs.Option.{option_map}
 use Rattle.std.proofs.lemmas.List.Quantifiers.{position-Some}
-use Rattle.std.specs.List.{list_any, position, IsDistinct, AllByRecursion, AllZip}
+use Rattle.std.specs.List.{list_any, position, position_or_len, IsDistinct, AllByRecursion, AllZip}
 use Rattle.std.specs.Str.{bytes_eq}
 use Rattle.std.specs.String.{string_eq}
 use Rattle.std.proofs.lemmas.List.{take_more}
@@ -17,7 +17,7 @@ use Rattle.bson_base.specs.Pairs.{lookup, put, without, count, keys_of, AreDisti
 use Rattle.bson_base.specs.declared.bson.Bson.{Bson}
 
 -- whether a document holds the key as this one
-abbrev is_key : Utf8 → Key → Bool
+abbrev pub is_key : Utf8 → Key → Bool
 is_key key k = bytes_eq key (string_bytes k)
 
 pub count-zipped : (ks : List Key) (vs : List Bson) → count (zipped ks (trees_of vs)) ≡ min (length ks) (length vs)
@@ -134,6 +134,23 @@ put_new new (k ∷ ks) (v ∷ vs) w l h =
 -- what a set of keys makes of a new one
 pub insert_new : (new : Key) (ks : List Key) → false ≡ list_any (is_key (string_bytes new)) ks → (if list_any (is_key (string_bytes new)) ks then ks else ks ++ new ∷ []) ≡ ks ++ new ∷ []
 insert_new new ks h = ap (λ b. if b then ks else ks ++ new ∷ []) (sym h)
+
+-- what `insert_full` tells of a key
+pub not_new : (b : Bool) → not b ≡ true → false ≡ b
+not_new true e = cc e
+not_new false e = refl
+
+pub not_old : (b : Bool) → not b ≡ false → true ≡ b
+not_old true e = refl
+not_old false e = cc e
+
+-- where a key is, and is found
+pub found_at : (key : Utf8) (ks : List Key) (i : ℕ) → i ≡ position_or_len (is_key key) ks → i < length ks → Some i ≡ position (is_key key) ks
+found_at key ks i e lt = ap Some e ∙ sym (rw (lt-ltb (position_or_len (is_key key) ks) (length ks) (subst (λ n. n < length ks) e lt)) refl)
+
+-- a key that is there stays the only one
+pub insert_old : (new : Key) (ks : List Key) → true ≡ list_any (is_key (string_bytes new)) ks → (if list_any (is_key (string_bytes new)) ks then ks else ks ++ new ∷ []) ≡ ks
+insert_old new ks h = ap (λ b. if b then ks else ks ++ new ∷ []) (sym h)
 
 -- what `get` of a slice borrows
 pub get_is : (r : Option (Bor Bson)) (vs : List Bson) (i : ℕ) → is_some r ≡ nat_lt i (length vs) → IfSome r (λ x. x.now ≡ get_or vs i x.now) → option_map (λ b. tree_of b.now) r ≡ option_map tree_of (slice_get vs i)

@@ -6,6 +6,7 @@ ghost use Rattle.bson_base.specs.BsonView.{tree_of, trees_of, zipped, pairs_of};
 
 use crate::bson::{Bson, copies_of};
 use crate::iter::{IntoIter, Iter};
+use crate::key_seed::KeySeed;
 use indexmap::IndexSet;
 use std::alloc::{AllocError, Global};
 use std::mem;
@@ -18,7 +19,7 @@ use std::mem;
 pub struct Document {
     // Each value is at the index of its key, so there are as many keys as values. A type that holds itself has no place
     // to state that, so each method goes by the indexes that have both.
-    keys: IndexSet<String>,
+    keys: IndexSet<String, KeySeed>,
     values: Vec<Bson>,
 }
 
@@ -27,8 +28,17 @@ impl Document {
     pub fn new(alloc: Global) -> Document
         ensures empty { pairs_of result ≡ no_pairs }
     {
+        Document::with_seed(alloc, KeySeed::new())
+    }
+
+    /// The empty document, whose keys are found by hashes that begin with the seed. It takes no memory.
+    ///
+    /// Where keys come from outside, the seed is best that of the bytes that they came in: see `KeySeed`.
+    pub fn with_seed(alloc: Global, seed: KeySeed) -> Document
+        ensures empty { pairs_of result ≡ no_pairs }
+    {
         Document {
-            keys: IndexSet::new(alloc),
+            keys: IndexSet::with_hasher(alloc, seed),
             values: Vec::new(alloc),
         }
     }
@@ -84,14 +94,14 @@ impl Document {
         ensures err { OnErr result (pairs_of self.new ≡ pairs_of self.old) }
     {
         self.even_out();
-        if let Some(index) = self.keys.get_index_of(&key) {
-            let old = mem::replace(&mut self.values[index], value);
-            return Ok(Some(old));
-        }
         self.values.reserve(1)?;
-        self.keys.insert(key)?;
-        self.values.push(value)?;
-        Ok(None)
+        let (index, is_new) = self.keys.insert_full(key)?;
+        if is_new {
+            self.values.push(value)?;
+            return Ok(None);
+        }
+        let old = mem::replace(&mut self.values[index], value);
+        Ok(Some(old))
     }
 
     /// Removes a key and returns its value; `None` where the key is not there, and the document is then unchanged.

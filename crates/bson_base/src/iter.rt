@@ -5,6 +5,7 @@ ghost use Rattle.bson_base.specs.Next.{IsNext, IsTaken};
 ghost use Rattle.bson_base.specs.BsonView.{zipped, trees_of};
 
 use crate::bson::Bson;
+use crate::key_seed::KeySeed;
 use indexmap::{IndexSet, set};
 use std::marker::Model;
 use std::vec;
@@ -78,7 +79,7 @@ impl Model for IntoIter {
 
 impl IntoIter {
     // Over keys and the values beside them.
-    pub(crate) fn over(keys: IndexSet<String>, values: Vec<Bson>) -> IntoIter
+    pub(crate) fn over(keys: IndexSet<String, KeySeed>, values: Vec<Bson>) -> IntoIter
         ensures { result ≡ zipped keys.keys (trees_of values.items) }
     {
         IntoIter {

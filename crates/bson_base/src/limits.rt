@@ -1,4 +1,4 @@
-// What the documents of this library may have at most. That of their bytes is `MOST` of `bson_io`.
+// What the documents of this library may have at most. `MAX_BYTES` is `MOST` of `bson_io`, which knows no BSON.
 
 /// The deepest nesting level that a reader or a writer takes, for documents, arrays and the scopes of codes. The whole document is at level 1.
 pub const MAX_NESTING_LEVEL: u32 = 200;

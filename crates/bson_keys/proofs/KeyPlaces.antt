@@ -32,6 +32,11 @@ tree_updates key h m n w is updates text =
     updates.0 (second_hash_of text, record { ref_ptr = key.ref_ptr; now = text })
     ∙ ap (λ b. cond b w (place_in_tree m text)) (compared (nat_cmp h (second_hash_of text)) key.now text (bytes_eq key.now text) refl (equal_order h key.now text is))
 
+-- of a key that is put in twice the second place counts
+pub put_again : (b : Bool) (place found : ℕ) (o : Option ℕ) → cond b (Some found) (cond b (Some place) o) ≡ cond b (Some found) o
+put_again true place found o = refl
+put_again false place found o = refl
+
 -- the texts of keys
 abbrev pub texts_of : List (Bor Utf8) → List Utf8
 texts_of keys = map (λ k. k.now) keys

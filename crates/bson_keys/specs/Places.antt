@@ -1,5 +1,5 @@
 -- The places of texts among keys.
-use Rattle.std.specs.Prelude.{◌≡◌, ℕ, suc, List, [], ◌∷◌, if◌then◌else◌, Option, Some, None}
+use Rattle.std.specs.Prelude.{◌≡◌, ◌+◌, ℕ, suc, List, [], ◌∷◌, if◌then◌else◌, Option, Some, None}
 use Rattle.std.specs.Borrow.{Bor}
 use Rattle.std.specs.BTreeMap.{BTreeMap, get_by}
 use Rattle.std.specs.Cmp.Lexicographic.{slice_cmp}
@@ -25,3 +25,13 @@ place_in_tree tree text = get_by (λ k. ordering_then (nat_cmp (second_hash_of t
 -- The B-tree has for each text its place among the keys.
 abbrev pub FindsAll : BTreeMap (ℕ × Bor Utf8) ℕ → List Utf8 → Type 0
 FindsAll tree keys = (text : Utf8) → place_in_tree tree text ≡ place_among keys text
+
+-- the place that was found, and this one where none was
+abbrev pub place_or : ℕ → Option ℕ → ℕ
+place_or place (Some found) = found
+place_or place None = place
+
+-- the place after all others, where a key without a place was given this one
+abbrev pub next_place : ℕ → Option ℕ → ℕ
+next_place place (Some found) = place
+next_place place None = place + 1

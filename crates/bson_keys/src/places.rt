@@ -1,7 +1,7 @@
 ghost use Rattle.std.specs.Prelude.{◌≡◌, ◌≤◌, ◌+◌, Some, None, if◌then◌else◌, map, IfOk};
 ghost use Rattle.std.specs.Str.{bytes_eq};
 ghost use Rattle.bson_base.specs.Text.{Utf8};
-ghost use Rattle.bson_keys.specs.Places.{place_among, place_in_tree, FindsAll};
+ghost use Rattle.bson_keys.specs.Places.{place_among, place_in_tree, place_or, next_place, FindsAll};
 
 use crate::hashes::second_hash_of;
 use std::alloc::{AllocError, Global};
@@ -40,18 +40,6 @@ impl<'de> Keys<'de> {
         }
     }
 
-    /// The place of the key that is the text.
-    #[inline(always)]
-    pub fn place_of(&self, text: &'de str) -> Option<usize>
-        requires { self.now.count ≤ 8 }
-        ensures { result ≡ key_place self.now text.now }
-    {
-        match &self.places {
-            Some(places) => look_up(places, text),
-            None => scan(&self.first[..self.count], text),
-        }
-    }
-
     /// One more key, at its place. The places of the keys are 0, 1 and so on.
     pub fn push(&mut self, alloc: Global, key: &'de str, place: usize) -> Result<(), AllocError>
         requires { HasPlacesBelow place self.old }
@@ -69,6 +57,30 @@ impl<'de> Keys<'de> {
             return Ok(());
         }
         self.push_to_tree(alloc, key, place)
+    }
+
+    /// The place of the key that is the text, by one search; where there is none, one more key, at this place.
+    #[inline(always)]
+    pub fn place_or_push(
+        &mut self,
+        alloc: Global,
+        key: &'de str,
+        place: usize,
+    ) -> Result<Option<usize>, AllocError>
+        requires { HasPlacesBelow place self.old }
+        ensures found { IfOk result (λ o. o ≡ key_place self.old key.now) }
+        ensures places { IfOk result (λ o. (text : Utf8) → key_place self.new text
+            ≡ (if bytes_eq key.now text then Some (place_or place o) else key_place self.old text)) }
+        ensures next { IfOk result (λ o. HasPlacesBelow (next_place place o) self.new) }
+    {
+        if let Some(places) = &mut self.places {
+            return place_or_insert(places, key, place);
+        }
+        if let Some(found) = scan(&self.first[..self.count], key) {
+            return Ok(Some(found));
+        }
+        self.push(alloc, key, place)?;
+        Ok(None)
     }
 
     /// The same, where the first keys fill all the room that there is for them: all go into a B-tree.
@@ -98,6 +110,27 @@ fn insert<'de>(places: &mut Places<'de>, key: &'de str, place: usize) -> Result<
     Ok(())
 }
 
+/// The place that a B-tree has for a key; where it has none, it is given this one. A key that is there is put in once more, with its own place.
+#[inline(never)]
+fn place_or_insert<'de>(
+    places: &mut Places<'de>,
+    key: &'de str,
+    place: usize,
+) -> Result<Option<usize>, AllocError>
+    ensures found { IfOk result (λ o. o ≡ place_in_tree places.old key.now) }
+    ensures places { IfOk result (λ o. (text : Utf8) → place_in_tree places.new text
+        ≡ (if bytes_eq key.now text then Some (place_or place o) else place_in_tree places.old text)) }
+{
+    let hash = second_hash_of(key);
+    match places.insert((hash, key), place)? {
+        None => Ok(None),
+        Some(found) => {
+            places.insert((hash, key), found)?;
+            Ok(Some(found))
+        }
+    }
+}
+
 /// The places by the keys, of each key the last.
 fn places_of<'de>(alloc: Global, keys: &[&'de str]) -> Result<Places<'de>, AllocError>
     ensures { IfOk result (λ tree. FindsAll tree (map (λ k. k.now) keys.now)) }
@@ -107,14 +140,6 @@ fn places_of<'de>(alloc: Global, keys: &[&'de str]) -> Result<Places<'de>, Alloc
         insert(&mut places, key, place)?;
     }
     Ok(places)
-}
-
-/// The place that a B-tree has for a text.
-#[inline(never)]
-fn look_up<'de>(places: &Places<'de>, text: &'de str) -> Option<usize>
-    ensures { result ≡ place_in_tree places.now text.now }
-{
-    places.get(&(second_hash_of(text), text)).copied()
 }
 
 /// The place of the last key that is the text.
