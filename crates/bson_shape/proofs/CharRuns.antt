@@ -6,7 +6,7 @@ use Rattle.std.proofs.lemmas.Str.{encode_ascii, length-encode, len_utf8_bounds}
 use Rattle.bson_base.specs.Text.{Utf8}
 use Rattle.bson_shape.specs.Notation.{begins_bare, in_bare, names_form, is_escaped}
 use Rattle.bson_base.specs.Outcome.{◌>>=◌}
-use Rattle.bson_shape.specs.Machine.{Refusal, Not_notation, Group, Braces, Parens, Angles, Level, In_prefix, In_brackets, In_map, In_item, Owner, Form_at, Item_of, Mode, Form_due, Item_due, Bare, Quoted, Escape, Named, Item_done, Done, State, grown, closing, item_ended, wrapped, enclosed, form_ended, begins_name, begins_form, form_due, name_due, item_begun, item_due, named, word_ended, leaf_ended, bare_name, quoted_name, escape, step, no_more, no_more_behind, other_character, run}
+use Rattle.bson_shape.specs.Machine.{Refusal, Not_notation, Group, Braces, Parens, Angles, Level, In_prefix, In_brackets, In_pair, In_compact, In_map, In_item, Owner, Form_at, Item_of, Mode, Form_due, Pair_due, Item_due, Bare, Quoted, Escape, Named, Item_done, Done, State, grown, closing, item_ended, wrapped, enclosed, form_ended, begins_name, begins_form, form_due, name_due, item_begun, item_due, named, word_ended, leaf_ended, bare_name, quoted_name, escape, step, no_more, no_more_behind, other_character, run}
 use Rattle.bson_shape.proofs.NameRuns.{run_step, run_refused}
 use Rattle.std.proofs.lemmas.Bool.Decides.{nat_tests}
 use Rattle.bson_shape.specs.Answers.{Gives}
@@ -66,6 +66,8 @@ enclosed_refused : (at : ℕ) (f : Form) (st : List Level) (b : ℕ) → 128 ≤
 enclosed_refused at f [] b h = refl
 enclosed_refused at f (In_prefix place p ∷ st) b h = refl
 enclosed_refused at f (In_brackets place ∷ st) b h = rw (not_byte b 93 h (omega arith), not_byte b 58 h (omega arith)) refl
+enclosed_refused at f (In_pair place ∷ st) b h = rw (not_byte b 44 h (omega arith)) refl
+enclosed_refused at f (In_compact place r ∷ st) b h = rw (not_byte b 41 h (omega arith)) refl
 enclosed_refused at f (In_map place k ∷ st) b h = rw (not_byte b 93 h (omega arith)) refl
 enclosed_refused at f (In_item g n ∷ st) b h = item_refused at (grown g n f) st b h
 
@@ -105,6 +107,7 @@ due_refused at g st b h = rw (not_closing g b h) (begun g)
 pub high_step : (at : ℕ) (m : Mode) (st : List Level) (b : ℕ) → 128 ≤ b → step at m st b ≡ other_character at m st (b ∷ [])
 unfolding step form_due bare_name quoted_name escape other_character
 high_step at Form_due st b h = rw (not_form b h) refl
+high_step at (Pair_due place) st b h = rw (not_byte b 40 h (omega arith)) refl
 high_step at (Item_due g) st b h = due_refused at g st b h
 high_step at (Item_done g) st b h = item_refused at g st b h
 high_step at (Bare (Form_at p) n) st b h = rw (not_in_bare b h) (word_refused at p n st b h)

@@ -3,12 +3,12 @@ use Rattle.std.proofs.Common.{◌≡◌, ℕ, Bool, true, false, ◌&&◌, List,
 use Rattle.std.specs.List.{list_all}
 use Rattle.std.specs.Str.{is_utf8}
 use Rattle.bson_base.specs.Text.{Utf8}
-use Rattle.bson_shape.specs.Form.{Form, sequence, map, unit_structure, structure, enumeration, no_fields, unit_content}
+use Rattle.bson_shape.specs.Form.{Form, by_mode, sequence, map, unit_structure, structure, enumeration, no_fields, unit_content}
 use Rattle.bson_shape.specs.Notation.{begins_bare, in_bare, bare, escaped, quoted, name_text, text}
-use Rattle.bson_shape.specs.Machine.{Group, Braces, Parens, Angles, Level, In_prefix, In_brackets, In_map, In_item, Owner, Form_at, Item_of, Mode, Form_due, Item_due, Bare, Quoted, Escape, Named, Item_done, Done, State, grown, grown_enum, closing, Closed, Closed_form, Closed_variant, closed, prefixed}
+use Rattle.bson_shape.specs.Machine.{Group, Braces, Parens, Angles, Level, In_prefix, In_brackets, In_pair, In_compact, In_map, In_item, Owner, Form_at, Item_of, Mode, Form_due, Pair_due, Item_due, Bare, Quoted, Escape, Named, Item_done, Done, State, grown, grown_enum, closing, Closed, Closed_form, Closed_variant, closed, prefixed}
 use Rattle.bson_shape.specs.Fronts.{HasTextNames, goes_on, BeginsNotation}
 use Rattle.bson_shape.proofs.TextStates.{TextGroup, TextOwner, TextLevels, TextMode, TextState, text-nil, text-one, text-push, variants_texts-snoc, names-grown, names-closed, names-prefixed}
-use Rattle.bson_shape.proofs.States.{group_text, due_text, owner_text, levels_text, mode_text, written, ValidMode, grown_text, grown_enum_text, levels_grown, after, closed_text, closing-alone, levels_prefixed, levels_item, levels_value, name-bare, name-quoted}
+use Rattle.bson_shape.proofs.States.{group_text, due_text, owner_text, levels_text, mode_text, written, ValidMode, grown_text, grown_enum_text, levels_grown, after, closed_text, closing-alone, levels_prefixed, levels_item, levels_value, levels_compact, levels_sample, name-bare, name-quoted}
 use Rattle.bson_shape.proofs.Steps.{escaped-plain, escaped-marked}
 
 -- a form whose text begins with these bytes
@@ -22,6 +22,10 @@ pub record Completion (bytes : Utf8) : Type 0 where
 pub record Closing (bytes : Utf8) : Type 0 where
   pub whole : Completion bytes
   pub ended : goes_on whole.rest ≡ false
+
+-- with more behind it
+front : (xs ys : Utf8) → Completion (xs ++ ys) → Completion xs
+front xs ys h = record { form = h.form; names = h.names; rest = ys ++ h.rest; begins = h.begins ∙ append_assoc xs ys h.rest }
 
 -- a closing byte comes next
 before_byte : (xs : Utf8) (b : ℕ) → goes_on (b ∷ []) ≡ false → Completion (xs ++ b ∷ []) → Closing xs
@@ -51,6 +55,14 @@ close_levels (In_item g n ∷ st) f v h =
 close_levels (In_brackets place ∷ st) f v h =
     let l : Level = In_brackets place in
     before_byte (levels_text (l ∷ st) ++ text f) 93 refl (subst Completion (levels_item place st f) (close_levels st (sequence f) v h).whole)
+close_levels (In_pair place ∷ st) f v h =
+    let l : Level = In_pair place in
+    before_byte (levels_text (l ∷ st) ++ text f) 44 refl
+    (front ((levels_text (l ∷ st) ++ text f) ++ 44 ∷ []) (123 ∷ 125 ∷ 41 ∷ [])
+    (subst Completion (levels_sample place f st) (close_levels st (by_mode f (structure [] no_fields)) v (h, (text-nil, tt))).whole))
+close_levels (In_compact place r ∷ st) f v h =
+    let l : Level = In_compact place r in
+    before_byte (levels_text (l ∷ st) ++ text f) 41 refl (subst Completion (levels_compact place r f st) (close_levels st (by_mode r f) v.1 (v.0, h)).whole)
 close_levels (In_map place k ∷ st) f v h =
     let l : Level = In_map place k in
     before_byte (levels_text (l ∷ st) ++ text f) 93 refl (subst Completion (levels_value place k f st) (close_levels st (map k f) v.1 (v.0, h)).whole)
@@ -106,10 +118,6 @@ complete_named n h t = record { name = n; is_text = t; rest = []; begins = name-
 alone_closes : Closes []
 alone_closes f h = record { whole = record { form = f; names = h; rest = []; begins = sym (append-nil (text f)) }; ended = refl }
 
--- with more behind it
-front : (xs ys : Utf8) → Completion (xs ++ ys) → Completion xs
-front xs ys h = record { form = h.form; names = h.names; rest = ys ++ h.rest; begins = h.begins ∙ append_assoc xs ys h.rest }
-
 -- the group with one more item that begins with the name: the field `n:{}`, the part `n!`, the variant `n`
 sampled : Group → Utf8 → Group
 sampled (Braces h fs) n = grown (Braces h fs) n (structure [] no_fields)
@@ -153,6 +161,9 @@ with_owner (Item_of g) bytes v c =
 
 completion : (m : Mode) → ValidMode m → TextMode m → Completion (mode_text m)
 completion Form_due v t = record { form = structure [] no_fields; names = (text-nil, tt); rest = 123 ∷ 125 ∷ []; begins = refl }
+completion (Pair_due place) v t =
+    let none = structure [] no_fields in
+    record { form = by_mode none none; names = ((text-nil, tt), (text-nil, tt)); rest = 40 ∷ 123 ∷ 125 ∷ 44 ∷ 123 ∷ 125 ∷ 41 ∷ []; begins = refl }
 completion (Item_due g) v t = front (due_text g) (97 ∷ []) (with_owner (Item_of g) (97 ∷ []) t (complete_bare (97 ∷ []) refl (text-one 97 (omega arith))))
 completion (Bare owner n) v t = with_owner owner n t.0 (complete_bare n v t.1)
 completion (Quoted owner n) v t = with_owner owner (34 ∷ escaped n) t.0 (complete_quoted n t.1)

@@ -5,7 +5,7 @@ use Rattle.std.proofs.lemmas.Bool.Decides.{nat_tests}
 use Rattle.std.proofs.lemmas.List.Elements.{Contains-append_left, Contains-append_right}
 use Rattle.bson_base.specs.Text.{Utf8}
 use Rattle.bson_base.specs.Reserved.{reserved_kind}
-use Rattle.bson_shape.specs.Form.{Form, leaf, optional, sequence, map, tuple, tuple_structure, newtype, unit_structure, structure, enumeration, Fields, no_fields, field, Parts, no_parts, part, Variants, no_variants, variant, Content, unit_content, newtype_content, tuple_content, struct_content}
+use Rattle.bson_shape.specs.Form.{Form, leaf, optional, lossy, human_readable, by_mode, sequence, map, tuple, tuple_structure, newtype, unit_structure, structure, enumeration, Fields, no_fields, field, Parts, no_parts, part, Variants, no_variants, variant, Content, unit_content, newtype_content, tuple_content, struct_content}
 use Rattle.bson_shape.specs.Levels.{levels, deepest, deepest_part, deepest_variant, deepest_inside}
 use Rattle.bson_shape.specs.Makers.{is_text_key, is_reserved_newtype, repeats, variants_repeat, within_levels, made_form}
 use Rattle.bson_shape.specs.Notation.{text, name_text, struct_name_text, content_text}
@@ -45,7 +45,15 @@ mutual
   fits : (f : Form) (at around : ℕ) → first_refusal at around f ≡ None → around + levels f ≤ 512
   fits (leaf l) at around e = omega (arith, none_here (leaf l) at around None e)
   fits (optional f) at around e = omega (arith, fits f (at + 1) (around + 1) (none_here (optional f) at around (first_refusal (at + 1) (around + 1) f) e).1)
+  fits (lossy f) at around e = omega (arith, fits f (at + 1) (around + 1) (none_here (lossy f) at around (first_refusal (at + 1) (around + 1) f) e).1)
+  fits (human_readable f) at around e = omega (arith, fits f (at + 1) (around + 1) (none_here (human_readable f) at around (first_refusal (at + 1) (around + 1) f) e).1)
   fits (sequence f) at around e = omega (arith, fits f (at + 1) (around + 1) (none_here (sequence f) at around (first_refusal (at + 1) (around + 1) f) e).1)
+  fits (by_mode r c) at around e =
+      let compact = at + 2 + length (text r) + 1 in
+      let a = first_refusal (at + 2) (around + 1) r in
+      let b = first_refusal compact (around + 1) c in
+      let both = neither a b (none_here (by_mode r c) at around (or_else a b) e).1 in
+      omega (arith, fits r (at + 2) (around + 1) both.0, fits c compact (around + 1) both.1)
   fits (map k v) at around e =
       let value = at + 1 + length (text k) + 1 in
       let a = first_refusal (at + 1) (around + 1) k in
@@ -155,7 +163,10 @@ enum_fault false vs met at around rest r p few e = absurd (none_made (enumeratio
 made_fault : (f : Form) (met at around : ℕ) (rest : List Inner) (r : MakerRefusal) → levels f ≤ 512 → refusal_of met at (made_form f) ≡ Some r → FaultIn (record { place = at; around = around; form = f } ∷ rest) r
 made_fault (leaf l) met at around rest r few e = absurd cc
 made_fault (optional f) met at around rest r few e = absurd (none_made (optional f) met at r few e)
+made_fault (lossy f) met at around rest r few e = absurd (none_made (lossy f) met at r few e)
+made_fault (human_readable f) met at around rest r few e = absurd (none_made (human_readable f) met at r few e)
 made_fault (sequence f) met at around rest r few e = absurd (none_made (sequence f) met at r few e)
+made_fault (by_mode r c) met at around rest x few e = absurd (none_made (by_mode r c) met at x few e)
 made_fault (map k v) met at around rest r few e = map_fault (is_text_key k) k v met at around rest r refl few e
 made_fault (tuple ps) met at around rest r few e = absurd (none_made (tuple ps) met at r few e)
 made_fault (tuple_structure n ps) met at around rest r few e = absurd (none_made (tuple_structure n ps) met at r few e)
@@ -189,6 +200,12 @@ mutual
   form_fault (optional f) at around r few e =
       around_fault (optional f) (inner_forms (at + 1) (around + 1) f) (first_refusal (at + 1) (around + 1) f) at around r few
       (λ less g. form_fault f (at + 1) (around + 1) r less g) (λ less none. omega (arith, fits f (at + 1) (around + 1) none)) e
+  form_fault (lossy f) at around r few e =
+      around_fault (lossy f) (inner_forms (at + 1) (around + 1) f) (first_refusal (at + 1) (around + 1) f) at around r few
+      (λ less g. form_fault f (at + 1) (around + 1) r less g) (λ less none. omega (arith, fits f (at + 1) (around + 1) none)) e
+  form_fault (human_readable f) at around r few e =
+      around_fault (human_readable f) (inner_forms (at + 1) (around + 1) f) (first_refusal (at + 1) (around + 1) f) at around r few
+      (λ less g. form_fault f (at + 1) (around + 1) r less g) (λ less none. omega (arith, fits f (at + 1) (around + 1) none)) e
   form_fault (sequence f) at around r few e =
       around_fault (sequence f) (inner_forms (at + 1) (around + 1) f) (first_refusal (at + 1) (around + 1) f) at around r few
       (λ less g. form_fault f (at + 1) (around + 1) r less g) (λ less none. omega (arith, fits f (at + 1) (around + 1) none)) e
@@ -196,6 +213,20 @@ mutual
       let inner = at + length (name_text n) + 1 in
       around_fault (newtype n f) (inner_forms inner (around + 1) f) (first_refusal inner (around + 1) f) at around r few
       (λ less g. form_fault f inner (around + 1) r less g) (λ less none. omega (arith, fits f inner (around + 1) none)) e
+  form_fault (by_mode r c) at around x few e =
+      let readable = at + 2 in
+      let compact = readable + length (text r) + 1 in
+      let a = first_refusal readable (around + 1) r in
+      let b = first_refusal compact (around + 1) c in
+      let in_readable = inner_forms readable (around + 1) r in
+      let in_compact = inner_forms compact (around + 1) c in
+      around_fault (by_mode r c) (in_readable ++ in_compact) (or_else a b) at around x few
+      (λ less g. elim (one_of a b x g) [
+        | inl h ↦ in_first in_readable in_compact x (form_fault r readable (around + 1) x less h)
+        | inr h ↦ in_later in_readable in_compact x (form_fault c compact (around + 1) x less h.1)
+      ])
+      (λ less none. let both = neither a b none in omega (arith, fits r readable (around + 1) both.0, fits c compact (around + 1) both.1))
+      e
   form_fault (map k v) at around r few e =
       let key = at + 1 in
       let value = key + length (text k) + 1 in

@@ -2,7 +2,7 @@
 use Rattle.std.proofs.Common.{◌≡◌, ℕ, ◌+◌, Bool, true, false, cond, ◌||◌, List, [], ◌∷◌, ◌++◌, length, Option, Some, None, Result, Ok, Err, refl, sym, ap, ◌∙◌, subst, arith, append_assoc, append-nil, length-append}
 use Rattle.std.specs.Prelude.{nat_le, IfOk}
 use Rattle.bson_base.specs.Text.{Utf8}
-use Rattle.bson_shape.specs.Form.{Form, leaf, optional, sequence, map, tuple, tuple_structure, newtype, unit_structure, structure, enumeration, Fields, no_fields, field, joined, push_field, Parts, no_parts, part, joined_parts, push_part, Variants, no_variants, variant, joined_variants, Content, unit_content, newtype_content, tuple_content, struct_content}
+use Rattle.bson_shape.specs.Form.{Form, leaf, optional, lossy, human_readable, by_mode, sequence, map, tuple, tuple_structure, newtype, unit_structure, structure, enumeration, Fields, no_fields, field, joined, push_field, Parts, no_parts, part, joined_parts, push_part, Variants, no_variants, variant, joined_variants, Content, unit_content, newtype_content, tuple_content, struct_content}
 use Rattle.bson_shape.specs.Leaf.{word}
 use Rattle.bson_shape.specs.declared.leaf.Leaf.{Leaf}
 use Rattle.bson_shape.specs.Makers.{made_form}
@@ -13,7 +13,7 @@ use Rattle.bson_shape.specs.Notation.{begins_bare, in_bare, bare, names_form, es
 use Rattle.bson_shape.specs.FirstRefusal.{MakerRefusal, or_else, too_deep, refusal_of, form_refusal, first_refusal, fields_refusal, parts_refusal, variants_refusal, content_refusal}
 use Rattle.bson_shape.specs.Fronts.{goes_on}
 use Rattle.bson_base.specs.Outcome.{◌>>=◌}
-use Rattle.bson_shape.specs.Machine.{Refusal, Refused, OpenEnum, Holder, Nameless_at, Named_at, Variant_of, Group, Braces, Parens, Angles, Prefix, Option_prefix, Newtype_prefix, Level, In_prefix, In_brackets, In_map, In_item, Owner, Form_at, Item_of, Mode, Form_due, Item_due, Bare, Named, Item_done, Done, State, opened_enum, grown, grown_enum, is_empty, closing, Closed, Closed_form, Closed_variant, closed, prefixed, made, form_closed, bracket_closed, group_closed, item_ended, Ended, wrapped, enclosed, form_ended, begins_name, name_begun, opens_form, begins_form, form_begun, form_due, name_due, item_begun, item_due, word_ended, bare_name, alone, step, run, finish}
+use Rattle.bson_shape.specs.Machine.{Refusal, Refused, OpenEnum, Holder, Nameless_at, Named_at, Variant_of, Group, Braces, Parens, Angles, Prefix, Option_prefix, Lossy_prefix, Readable_prefix, Newtype_prefix, Level, In_prefix, In_brackets, In_pair, In_compact, In_map, In_item, Owner, Form_at, Item_of, Mode, Form_due, Pair_due, Item_due, Bare, Named, Item_done, Done, State, opened_enum, grown, grown_enum, is_empty, closing, Closed, Closed_form, Closed_variant, closed, prefixed, made, form_closed, bracket_closed, group_closed, item_ended, Ended, wrapped, enclosed, form_ended, begins_name, name_begun, opens_form, begins_form, form_begun, form_due, name_due, item_begun, item_due, word_ended, bare_name, alone, step, run, finish}
 use Rattle.bson_shape.proofs.Made.{made_form-made}
 use Rattle.bson_shape.proofs.Shapes.{joined-assoc, joined-none, joined_parts-assoc, joined_parts-none, joined_variants-assoc, joined_variants-none}
 use Rattle.bson_shape.proofs.Words.{and_true, or_false, differs, of_word-word, bare-word}
@@ -221,8 +221,9 @@ deep_step b at st h d = rw (h, d) refl
 form_begins : (at : ℕ) (st : List Level) → nat_le 512 (length st) ≡ false → BeginsName at Form_due (Form_at at) st
 form_begins at st d b h =
     form_step b at st (ap (λ t. t || opens_form b) h) d
-    ∙ ap (λ (t : Bool × Bool × Bool × Bool × Bool). Ok (cond t.0 (Item_due (Braces (Nameless_at at) no_fields), st) (cond t.1 (Form_due, In_brackets at ∷ st) (cond t.2 (Form_due, In_prefix at Option_prefix ∷ st) (cond t.3 (Item_due (Parens (Nameless_at at) no_parts), st) (cond t.4 (Item_due (Angles (opened_enum at)), st) (name_begun (Form_at at) b, st)))))))
-    (λ i. (differs begins_name b 123 h refl i, differs begins_name b 91 h refl i, differs begins_name b 63 h refl i, differs begins_name b 40 h refl i, differs begins_name b 60 h refl i))
+    ∙ ap (λ (t : Bool × Bool × Bool × Bool × Bool × Bool × Bool × Bool).
+    Ok (cond t.0 (Item_due (Braces (Nameless_at at) no_fields), st) (cond t.1 (Form_due, In_brackets at ∷ st) (cond t.2 (Form_due, In_prefix at Option_prefix ∷ st) (cond t.3 (Form_due, In_prefix at Lossy_prefix ∷ st) (cond t.4 (Form_due, In_prefix at Readable_prefix ∷ st) (cond t.5 (Pair_due at, st) (cond t.6 (Item_due (Parens (Nameless_at at) no_parts), st) (cond t.7 (Item_due (Angles (opened_enum at)), st) (name_begun (Form_at at) b, st))))))))))
+    (λ i. (differs begins_name b 123 h refl i, differs begins_name b 91 h refl i, differs begins_name b 63 h refl i, differs begins_name b 126 h refl i, differs begins_name b 94 h refl i, differs begins_name b 37 h refl i, differs begins_name b 40 h refl i, differs begins_name b 60 h refl i))
 
 -- the name of a form, and the byte behind it
 name_and : (n : Utf8) (b : ℕ) (rest : Utf8) (at : ℕ) (st : List Level) (s : State) → nat_le 512 (length st) ≡ false → step (at + length (name_text n)) (name_mode (Form_at at) n) st b ≡ Ok s
@@ -259,7 +260,10 @@ name_begun_with n more = name_begins (bare n) n more refl
 text_begins : (f : Form) → Begun (text f)
 text_begins (leaf l) = subst Begun (append-nil (word l)) (bare_begun (word l) [] (bare-word l))
 text_begins (optional f) = record { byte = 63; rest = text f; whole = refl; begins = refl }
+text_begins (lossy f) = record { byte = 126; rest = text f; whole = refl; begins = refl }
+text_begins (human_readable f) = record { byte = 94; rest = text f; whole = refl; begins = refl }
 text_begins (sequence f) = record { byte = 91; rest = text f ++ 93 ∷ []; whole = refl; begins = refl }
+text_begins (by_mode r c) = record { byte = 37; rest = 40 ∷ (text r ++ 44 ∷ (text c ++ 41 ∷ [])); whole = refl; begins = refl }
 text_begins (map k v) = record { byte = 91; rest = text k ++ 58 ∷ (text v ++ 93 ∷ []); whole = refl; begins = refl }
 text_begins (tuple ps) = record { byte = 40; rest = listed (part_texts ps) ++ 41 ∷ []; whole = refl; begins = refl }
 text_begins (tuple_structure n ps) = name_begun_with n (40 ∷ (listed (part_texts ps) ++ 41 ∷ []))
@@ -336,6 +340,25 @@ map_length k v = omega (arith, length-append (text k) (58 ∷ (text v ++ 93 ∷ 
 
 map_group : (key value rest : Utf8) → (key ++ 58 ∷ (value ++ 93 ∷ [])) ++ rest ≡ key ++ 58 ∷ (value ++ 93 ∷ rest)
 map_group key value rest = append_assoc key (58 ∷ (value ++ 93 ∷ [])) rest ∙ ap (λ xs. key ++ 58 ∷ xs) (append_assoc value (93 ∷ []) rest)
+
+-- the parenthesis of two forms that begin at the place, their comma, and their closing parenthesis
+pair_step : (place : ℕ) (st : List Level) (at : ℕ) → step at (Pair_due place) st 40 ≡ Ok (Form_due, In_pair place ∷ st)
+unfolding step
+pair_step place st at = refl
+
+readable_step : (r : Form) (place : ℕ) (st : List Level) (at : ℕ) → step at (Done r) (In_pair place ∷ st) 44 ≡ Ok (Form_due, In_compact place r ∷ st)
+unfolding step form_ended wrapped
+readable_step r place st at = refl
+
+compact_step : (r c : Form) (place : ℕ) (st : List Level) (at : ℕ) → step at (Done c) (In_compact place r ∷ st) 41 ≡ form_closed at place st (made_form (by_mode r c))
+unfolding step form_ended wrapped
+compact_step r c place st at = refl
+
+pair_length : (r c : Form) → length (text (by_mode r c)) ≡ 2 + length (text r) + 1 + length (text c) + 1
+pair_length r c = omega (arith, length-append (text r) (44 ∷ (text c ++ 41 ∷ [])), length-append (text c) (41 ∷ []))
+
+pair_group : (readable compact rest : Utf8) → (readable ++ 44 ∷ (compact ++ 41 ∷ [])) ++ rest ≡ readable ++ 44 ∷ (compact ++ 41 ∷ rest)
+pair_group readable compact rest = append_assoc readable (44 ∷ (compact ++ 41 ∷ [])) rest ∙ ap (λ xs. readable ++ 44 ∷ xs) (append_assoc compact (41 ∷ []) rest)
 
 -- ---- groups
 
@@ -486,6 +509,12 @@ mutual
   reads_form (optional f) rest at st ends =
       by_depth (nat_le 512 (length st)) (optional f) rest at st (first_refusal (at + 1) (length st + 1) f) refl refl
       (λ d. read_step at Form_due st 63 (text f ++ rest) _ (form_step 63 at st refl d) ∙ prefixed_read Option_prefix f st rest (at + 1) at (reads_form f) ends (omega arith))
+  reads_form (lossy f) rest at st ends =
+      by_depth (nat_le 512 (length st)) (lossy f) rest at st (first_refusal (at + 1) (length st + 1) f) refl refl
+      (λ d. read_step at Form_due st 126 (text f ++ rest) _ (form_step 126 at st refl d) ∙ prefixed_read Lossy_prefix f st rest (at + 1) at (reads_form f) ends (omega arith))
+  reads_form (human_readable f) rest at st ends =
+      by_depth (nat_le 512 (length st)) (human_readable f) rest at st (first_refusal (at + 1) (length st + 1) f) refl refl
+      (λ d. read_step at Form_due st 94 (text f ++ rest) _ (form_step 94 at st refl d) ∙ prefixed_read Readable_prefix f st rest (at + 1) at (reads_form f) ends (omega arith))
   reads_form (newtype n f) rest at st ends =
       let inner = at + length (name_text n) + 1 in
       by_depth (nat_le 512 (length st)) (newtype n f) rest at st (first_refusal inner (length st + 1) f) refl refl
@@ -506,6 +535,26 @@ mutual
       ∙ around_read f (In_brackets at) st (93 ∷ rest) (at + 1) (refusal_of (end + 1) at (made_form (sequence f))) (read (end + 1) (Done (sequence f), st) rest) (reads_form f) refl
       (closed_read (sequence f) (Done f, In_brackets at ∷ st) st end at 93 rest (sequence_step f at st end))
       ∙ moved (end + 1) (at + length (text (sequence f))) a (Closed_form at (sequence f)) st rest (omega (arith, length-append (text f) (93 ∷ []))))
+  reads_form (by_mode r c) rest at st ends =
+      let readable = at + 2 in
+      let comma = readable + length (text r) in
+      let compact = comma + 1 in
+      let end = compact + length (text c) in
+      let a = first_refusal readable (length st + 1) r in
+      let b = first_refusal compact (length st + 1) c in
+      let made = refusal_of (end + 1) at (made_form (by_mode r c)) in
+      let last = read (end + 1) (Done (by_mode r c), st) rest in
+      by_depth (nat_le 512 (length st)) (by_mode r c) rest at st (or_else a b) refl refl
+      (λ d. read_step at Form_due st 37 ((40 ∷ (text r ++ 44 ∷ (text c ++ 41 ∷ []))) ++ rest) _ (form_step 37 at st refl d)
+      ∙ read_step (at + 1) (Pair_due at) st 40 ((text r ++ 44 ∷ (text c ++ 41 ∷ [])) ++ rest) _ (pair_step at st (at + 1))
+      ∙ ap (λ i. read i (Form_due, In_pair at ∷ st) ((text r ++ 44 ∷ (text c ++ 41 ∷ [])) ++ rest)) (let two : at + 1 + 1 ≡ at + 2 = omega arith in two)
+      ∙ ap (read readable (Form_due, In_pair at ∷ st)) (pair_group (text r) (text c) rest)
+      ∙ around_read r (In_pair at) st (44 ∷ (text c ++ 41 ∷ rest)) readable (or_else b made) last (reads_form r) refl
+      (read_step comma (Done r) (In_pair at ∷ st) 44 (text c ++ 41 ∷ rest) _ (readable_step r at st comma)
+      ∙ around_read c (In_compact at r) st (41 ∷ rest) compact made last (reads_form c) refl
+      (closed_read (by_mode r c) (Done c, In_compact at r ∷ st) st end at 41 rest (compact_step r c at st end)))
+      ∙ sym (settle_both a (or_else b made) last) ∙ settle_all a b made last
+      ∙ moved (end + 1) (at + length (text (by_mode r c))) (or_else a b) (Closed_form at (by_mode r c)) st rest (omega (arith, pair_length r c)))
   reads_form (map k v) rest at st ends =
       let key = at + 1 in
       let colon = key + length (text k) in

@@ -5,7 +5,7 @@ use Rattle.std.specs.Str.{is_utf8}
 use Rattle.std.proofs.lemmas.Bool.{or_parts, or_from, true≢false, cond-true, cond-false, le-ltb}
 use Rattle.bson_base.specs.Text.{Utf8}
 use Rattle.bson_base.specs.Reserved.{reserved_kind}
-use Rattle.bson_shape.specs.Form.{Form, leaf, optional, sequence, map, tuple, tuple_structure, newtype, unit_structure, structure, enumeration, Fields, Variants, no_variants, variant, Content, unit_content, newtype_content, tuple_content, struct_content}
+use Rattle.bson_shape.specs.Form.{Form, leaf, optional, lossy, human_readable, by_mode, sequence, map, tuple, tuple_structure, newtype, unit_structure, structure, enumeration, Fields, Variants, no_variants, variant, Content, unit_content, newtype_content, tuple_content, struct_content}
 use Rattle.bson_shape.specs.Levels.{levels, deepest, deepest_variant, max_shape_levels}
 use Rattle.bson_shape.specs.Makers.{is_text_key, is_reserved_newtype, AreDistinct, repeats, has_repeat, variant_names, content_repeats, contents_repeat, variants_repeat, IsNewtype, IsStruct, IsEnum, IsShape, AreShapes, AreVariants, IsContent, Makes, within_levels, made_map, made_newtype, made_structure, made_enumeration, made_form}
 use Rattle.bson_shape.specs.declared.error.ShapeError.{ShapeError}
@@ -114,7 +114,10 @@ made_enumeration-made vs = enumeration_answers (λ r. IfOk r (λ g. g ≡ enumer
 pub made_form-made : (f : Form) → IfOk (made_form f) (λ g. g ≡ f)
 made_form-made (leaf l) = refl
 made_form-made (optional f) = within_levels-made (optional f)
+made_form-made (lossy f) = within_levels-made (lossy f)
+made_form-made (human_readable f) = within_levels-made (human_readable f)
 made_form-made (sequence f) = within_levels-made (sequence f)
+made_form-made (by_mode r c) = within_levels-made (by_mode r c)
 made_form-made (map k v) = made_map-made k v
 made_form-made (tuple ps) = within_levels-made (tuple ps)
 made_form-made (tuple_structure n ps) = within_levels-made (tuple_structure n ps)
@@ -127,7 +130,10 @@ made_form-made (enumeration vs) = made_enumeration-made vs
 pub made_form-IsShape : (f : Form) → IsShape f → made_form f ≡ Ok f
 made_form-IsShape (leaf l) h = refl
 made_form-IsShape (optional f) h = within_levels-few (optional f) h.0
+made_form-IsShape (lossy f) h = within_levels-few (lossy f) h.0
+made_form-IsShape (human_readable f) h = within_levels-few (human_readable f) h.0
 made_form-IsShape (sequence f) h = within_levels-few (sequence f) h.0
+made_form-IsShape (by_mode r c) h = within_levels-few (by_mode r c) h.0
 made_form-IsShape (map k v) h = made_map-few k v h.0 h.1
 made_form-IsShape (tuple ps) h = within_levels-few (tuple ps) h.0
 made_form-IsShape (tuple_structure n ps) h = within_levels-few (tuple_structure n ps) h.1

@@ -6,7 +6,7 @@ use Rattle.std.proofs.lemmas.Bool.{or_left, or_right, or_parts, or_from, and_fro
 use Rattle.std.proofs.lemmas.List.{take_more}
 use Rattle.std.proofs.lemmas.Str.{is_utf8-from_IsUtf8, IsUtf8-had}
 use Rattle.bson_base.specs.Text.{Utf8}
-use Rattle.bson_shape.specs.Form.{Form, leaf, optional, sequence, map, tuple, tuple_structure, newtype, unit_structure, structure, enumeration, Fields, no_fields, field, joined, push_field, Parts, no_parts, part, joined_parts, push_part, Variants, no_variants, variant, joined_variants, push_variant, Content}
+use Rattle.bson_shape.specs.Form.{Form, leaf, optional, lossy, human_readable, by_mode, sequence, map, tuple, tuple_structure, newtype, unit_structure, structure, enumeration, Fields, no_fields, field, joined, push_field, Parts, no_parts, part, joined_parts, push_part, Variants, no_variants, variant, joined_variants, push_variant, Content}
 use Rattle.bson_shape.specs.Levels.{levels, deepest, deepest_part, deepest_variant, deepest_inside, max_shape_levels}
 use Rattle.bson_shape.specs.Makers.{contents_repeat, content_repeats, is_unit, are_units, IsShape, AreShapes, AreParts, AreVariants, IsContent}
 use Rattle.bson_shape.specs.ShapeView.{fields_of, parts_of, variants_of, content_of, nodes, fields_nodes, parts_nodes, variants_nodes, content_nodes}
@@ -58,7 +58,10 @@ AreShapes_more fs i d h shapes shape =
 pub levels_few : (f : Form) → IsShape f → levels f ≤ max_shape_levels
 levels_few (leaf l) shape = omega arith
 levels_few (optional f) shape = shape.0
+levels_few (lossy f) shape = shape.0
+levels_few (human_readable f) shape = shape.0
 levels_few (sequence f) shape = shape.0
+levels_few (by_mode r c) shape = shape.0
 levels_few (map k v) shape = shape.1
 levels_few (tuple ps) shape = shape.0
 levels_few (tuple_structure name ps) shape = shape.1

@@ -1,11 +1,11 @@
 -- What a state of the machine has read.
 use Rattle.std.proofs.Common.{◌≡◌, ℕ, true, false, List, [], ◌∷◌, ◌++◌, refl, sym, ap, ◌∙◌, append_assoc, append-nil}
 use Rattle.bson_base.specs.Text.{Utf8}
-use Rattle.bson_shape.specs.Form.{Form, sequence, map, Fields, no_fields, field, push_field, Parts, no_parts, part, push_part, Variants, no_variants, variant, push_variant, Content, newtype_content, tuple_content, struct_content}
+use Rattle.bson_shape.specs.Form.{Form, by_mode, sequence, map, structure, Fields, no_fields, field, push_field, Parts, no_parts, part, push_part, Variants, no_variants, variant, push_variant, Content, newtype_content, tuple_content, struct_content}
 use Rattle.bson_shape.specs.Notation.{in_bare, names_form, bare, escaped, quoted, name_text, struct_name_text, after_commas, listed, text, field_texts, part_texts, variant_texts, content_text}
 use Rattle.bson_shape.specs.Fronts.{goes_on}
 use Rattle.bson_shape.proofs.Words.{or_false}
-use Rattle.bson_shape.specs.Machine.{OpenEnum, Holder, Nameless_at, Named_at, Variant_of, Group, Braces, Parens, Angles, Prefix, Option_prefix, Newtype_prefix, Level, In_prefix, In_brackets, In_map, In_item, Owner, Form_at, Item_of, Mode, Form_due, Item_due, Bare, Quoted, Escape, Named, Item_done, Done, State, grown, grown_enum, has_no_fields, has_no_parts, has_no_variants, is_empty, closing, Closed, Closed_form, Closed_variant, closed, prefixed, is_written}
+use Rattle.bson_shape.specs.Machine.{OpenEnum, Holder, Nameless_at, Named_at, Variant_of, Group, Braces, Parens, Angles, Prefix, Option_prefix, Lossy_prefix, Readable_prefix, Newtype_prefix, Level, In_prefix, In_brackets, In_pair, In_compact, In_map, In_item, Owner, Form_at, Item_of, Mode, Form_due, Pair_due, Item_due, Bare, Quoted, Escape, Named, Item_done, Done, State, grown, grown_enum, has_no_fields, has_no_parts, has_no_variants, is_empty, closing, Closed, Closed_form, Closed_variant, closed, prefixed, is_written}
 
 -- the comma before a further text
 abbrev pub sep : List Utf8 → Utf8
@@ -73,12 +73,16 @@ owner_text (Item_of g) = due_text g
 
 abbrev pub prefix_text : Prefix → Utf8
 prefix_text Option_prefix = 63 ∷ []
+prefix_text Lossy_prefix = 126 ∷ []
+prefix_text Readable_prefix = 94 ∷ []
 prefix_text (Newtype_prefix n) = name_text n ++ 61 ∷ []
 
 -- what is written of a form before the one inside it
 abbrev pub level_text : Level → Utf8
 level_text (In_prefix place p) = prefix_text p
 level_text (In_brackets place) = 91 ∷ []
+level_text (In_pair place) = 37 ∷ 40 ∷ []
+level_text (In_compact place r) = 37 ∷ 40 ∷ (text r ++ 44 ∷ [])
 level_text (In_map place k) = 91 ∷ (text k ++ 58 ∷ [])
 level_text (In_item g n) = item_text g n
 
@@ -88,6 +92,7 @@ levels_text (l ∷ st) = levels_text st ++ level_text l
 
 abbrev pub mode_text : Mode → Utf8
 mode_text Form_due = []
+mode_text (Pair_due place) = 37 ∷ []
 mode_text (Item_due g) = due_text g
 mode_text (Bare owner n) = owner_text owner ++ n
 mode_text (Quoted owner n) = owner_text owner ++ 34 ∷ escaped n
@@ -108,6 +113,7 @@ pub record HasLastByte (f : Form) : Type 0 where
 
 abbrev pub ValidMode : Mode → Type 0
 ValidMode Form_due = Unit {0}
+ValidMode (Pair_due place) = Unit {0}
 ValidMode (Item_due g) = Unit {0}
 ValidMode (Bare owner n) = bare n ≡ true
 ValidMode (Quoted owner n) = Unit {0}
@@ -250,6 +256,8 @@ valid_closed g = valid (closed g) (closed_text g) (has_more g)
 -- a form that begins with a prefix
 pub levels_prefixed : (p : Prefix) (place : ℕ) (st : List Level) (f : Form) → levels_text st ++ text (prefixed p f) ≡ levels_text (In_prefix place p ∷ st) ++ text f
 levels_prefixed Option_prefix place st f = sym (append_assoc (levels_text st) (63 ∷ []) (text f))
+levels_prefixed Lossy_prefix place st f = sym (append_assoc (levels_text st) (126 ∷ []) (text f))
+levels_prefixed Readable_prefix place st f = sym (append_assoc (levels_text st) (94 ∷ []) (text f))
 levels_prefixed (Newtype_prefix n) place st f = ap (λ xs. levels_text st ++ xs) (sym (append_assoc (name_text n) (61 ∷ []) (text f))) ∙ sym (append_assoc (levels_text st) (name_text n ++ 61 ∷ []) (text f))
 
 -- a sequence's text is that of its items' form between brackets
@@ -271,6 +279,26 @@ levels_value place k v st = regrouped (levels_text st) (text k) (text v)
   where
     regrouped : (a b c : Utf8) → a ++ 91 ∷ (b ++ 58 ∷ (c ++ 93 ∷ [])) ≡ ((a ++ 91 ∷ (b ++ 58 ∷ [])) ++ c) ++ 93 ∷ []
     regrouped a b c = simp append_assoc
+
+-- the text of two forms is that of the readable one behind `%(`, and that of the compact one between `,` and `)`
+pub levels_readable : (place : ℕ) (r : Form) (st : List Level) → levels_text (In_compact place r ∷ st) ++ [] ≡ (levels_text (In_pair place ∷ st) ++ text r) ++ 44 ∷ []
+levels_readable place r st = regrouped (levels_text st) (text r)
+  where
+    regrouped : (a b : Utf8) → (a ++ 37 ∷ 40 ∷ (b ++ 44 ∷ [])) ++ [] ≡ ((a ++ 37 ∷ 40 ∷ []) ++ b) ++ 44 ∷ []
+    regrouped a b = simp (append_assoc, append-nil)
+
+pub levels_compact : (place : ℕ) (r c : Form) (st : List Level) → levels_text st ++ text (by_mode r c) ≡ (levels_text (In_compact place r ∷ st) ++ text c) ++ 41 ∷ []
+levels_compact place r c st = regrouped (levels_text st) (text r) (text c)
+  where
+    regrouped : (a b c : Utf8) → a ++ 37 ∷ 40 ∷ (b ++ 44 ∷ (c ++ 41 ∷ [])) ≡ ((a ++ 37 ∷ 40 ∷ (b ++ 44 ∷ [])) ++ c) ++ 41 ∷ []
+    regrouped a b c = simp append_assoc
+
+-- two forms, of which the readable one was read, may go on so
+pub levels_sample : (place : ℕ) (r : Form) (st : List Level) → levels_text st ++ text (by_mode r (structure [] no_fields)) ≡ ((levels_text (In_pair place ∷ st) ++ text r) ++ 44 ∷ []) ++ (123 ∷ 125 ∷ 41 ∷ [])
+levels_sample place r st = regrouped (levels_text st) (text r)
+  where
+    regrouped : (a b : Utf8) → a ++ 37 ∷ 40 ∷ (b ++ 44 ∷ 123 ∷ 125 ∷ 41 ∷ []) ≡ ((((a ++ 37 ∷ 40 ∷ []) ++ b) ++ 44 ∷ []) ++ (123 ∷ 125 ∷ 41 ∷ []))
+    regrouped a b = simp append_assoc
 
 pub struct_name-bare : (n : Utf8) → bare n ≡ true → struct_name_text n ≡ n
 struct_name-bare [] h = refl

@@ -4,7 +4,7 @@ use Rattle.std.specs.List.{list_all}
 use Rattle.std.specs.Prelude.{nat_le, IfOk}
 use Rattle.std.proofs.lemmas.Bool.{eqb-true}
 use Rattle.bson_base.specs.Text.{Utf8}
-use Rattle.bson_shape.specs.Form.{Form, leaf, sequence, map, unit_structure, no_fields, no_parts, unit_content}
+use Rattle.bson_shape.specs.Form.{Form, leaf, by_mode, sequence, map, unit_structure, no_fields, no_parts, unit_content}
 use Rattle.bson_shape.specs.Leaf.{of_word}
 use Rattle.bson_shape.specs.declared.leaf.Leaf.{Leaf}
 use Rattle.bson_shape.specs.Makers.{made_form}
@@ -13,7 +13,7 @@ use Rattle.bson_shape.specs.declared.error.ShapeError.TheVariants.{TooDeep}
 use Rattle.bson_shape.specs.Notation.{begins_bare, in_bare, bare, names_form, is_escaped, escaped, quoted, name_text, struct_name_text, listed, text}
 use Rattle.bson_shape.specs.FirstRefusal.{MakerRefusal}
 use Rattle.bson_base.specs.Outcome.{◌>>=◌}
-use Rattle.bson_shape.specs.Machine.{Refusal, Not_notation, Refused, Nameless_at, Named_at, Variant_of, Group, Braces, Parens, Angles, Option_prefix, Newtype_prefix, Level, In_prefix, In_brackets, In_map, In_item, Owner, Form_at, Item_of, Mode, Form_due, Item_due, Bare, Quoted, Escape, Named, Item_done, Done, State, opened_enum, grown, grown_enum, is_empty, closing, Closed, Closed_form, Closed_variant, closed, form_closed, bracket_closed, group_closed, item_ended, Ended, wrapped, enclosed, form_ended, begins_name, name_begun, opens_form, begins_form, form_begun, form_due, name_due, item_begun, item_due, is_written, form_named, item_named, named, leaf_ended, word_ended, bare_name, name_closed, quoted_name, escape, step}
+use Rattle.bson_shape.specs.Machine.{Refusal, Not_notation, Refused, Nameless_at, Named_at, Variant_of, Group, Braces, Parens, Angles, Option_prefix, Lossy_prefix, Readable_prefix, Newtype_prefix, Level, In_prefix, In_brackets, In_pair, In_compact, In_map, In_item, Owner, Form_at, Item_of, Mode, Form_due, Pair_due, Item_due, Bare, Quoted, Escape, Named, Item_done, Done, State, opened_enum, grown, grown_enum, is_empty, closing, Closed, Closed_form, Closed_variant, closed, form_closed, bracket_closed, group_closed, item_ended, Ended, wrapped, enclosed, form_ended, begins_name, name_begun, opens_form, begins_form, form_begun, form_due, name_due, item_begun, item_due, is_written, form_named, item_named, named, leaf_ended, word_ended, bare_name, name_closed, quoted_name, escape, step}
 use Rattle.bson_shape.proofs.Made.{made_form-made}
 use Rattle.bson_shape.proofs.Words.{and_true, or_rest, differs}
 use Rattle.std.specs.Prelude.{◌⊎◌}
@@ -22,7 +22,7 @@ use Rattle.std.proofs.Common.{◌+◌, ◌<◌, inl, inr, arith}
 use Rattle.std.proofs.lemmas.Bool.Decides.{nat_tests}
 use Rattle.bson_shape.specs.Fronts.{HasTextNames, goes_on}
 use Rattle.bson_shape.proofs.TextStates.{TextGroup, TextOwner, TextLevels, TextMode, TextState, text-nil, text-one, text-push, variants_texts-snoc, names-grown, names-closed}
-use Rattle.bson_shape.proofs.States.{sep, opening, before_text, item_texts, variant_text, group_text, due_text, owner_text, level_text, levels_text, mode_text, written, ValidMode, grown_enum_text, sep-grown, sep-variant, sep-empty, levels_grown, after, closed_text, closing-ends, valid_closed, levels_item, levels_key, levels_value, struct_name-bare, name-bare, name-quoted, struct_name-quoted}
+use Rattle.bson_shape.proofs.States.{sep, opening, before_text, item_texts, variant_text, group_text, due_text, owner_text, level_text, levels_text, mode_text, written, ValidMode, grown_enum_text, sep-grown, sep-variant, sep-empty, levels_grown, after, closed_text, closing-ends, valid_closed, levels_item, levels_key, levels_readable, levels_compact, levels_value, struct_name-bare, name-bare, name-quoted, struct_name-quoted}
 use Rattle.bson_shape.proofs.Wraps.{Keeps, wrapped_keeps, IsWord, Behind, behind_text, behind_names, EndsForm}
 
 -- the state after a byte
@@ -120,6 +120,24 @@ enclosed_leaves at f (In_brackets place ∷ st) b s so_far has =
       texts = λ k _. record { mode = tt; levels = has k };
     })
     (λ h. refl))
+enclosed_leaves at f (In_pair place ∷ st) b s so_far has =
+    chosen at s b (eqb b 44) (Ok (Form_due, In_compact place f ∷ st)) _
+    (λ h. record {
+      valid = tt;
+      grew = levels_readable place f st ∙ behind_read (levels_text (In_pair place ∷ st) ++ text f) b 44 s so_far h;
+      texts = λ k _. record { mode = tt; levels = has k };
+    })
+    (λ h. refl)
+enclosed_leaves at f (In_compact place r ∷ st) b s so_far has =
+    chosen at s b (eqb b 41) (form_closed at place st (made_form (by_mode r f))) _
+    (λ h. rw (eqb-true b 41 h)
+    (closed_leaves (by_mode r f) at place st s 41 (omega arith) refl
+    (record {
+      valid = record { before = 37 ∷ 40 ∷ (text r ++ 44 ∷ text f); byte = 41; whole = ap (λ xs. 37 ∷ 40 ∷ xs) (sym (append_assoc (text r) (44 ∷ text f) (41 ∷ []))); closes = refl };
+      grew = levels_compact place r f st ∙ ap (λ xs. xs ++ 41 ∷ []) (sym so_far);
+      texts = λ t _. let n = has t in record { mode = (n.1.0, n.0); levels = n.1.1 };
+    })))
+    (λ h. refl)
 enclosed_leaves at f (In_map place k ∷ st) b s so_far has =
     chosen at s b (eqb b 93) (form_closed at place st (made_form (map k f))) _
     (λ h. rw (eqb-true b 93 h)
@@ -166,15 +184,19 @@ opened_takes b c m levels' st s is valid same so_far has = record {
   grew = same ∙ sym (append_assoc (levels_text st) [] (c ∷ [])) ∙ behind_read (levels_text st ++ []) b c s so_far is;
 }
 
-form_begun_takes : (brace bracket question paren angle : Bool) (at : ℕ) (st : List Level) (b : ℕ) (s : State) → eqb b 123 ≡ brace → eqb b 91 ≡ bracket → eqb b 63 ≡ question → eqb b 40 ≡ paren → eqb b 60 ≡ angle → begins_form b ≡ true → written s ≡ levels_text st ++ [] → (TextState s → TextLevels st)
-    → Takes s b (cond brace (Item_due (Braces (Nameless_at at) no_fields), st) (cond bracket (Form_due, In_brackets at ∷ st) (cond question (Form_due, In_prefix at Option_prefix ∷ st) (cond paren (Item_due (Parens (Nameless_at at) no_parts), st) (cond angle (Item_due (Angles (opened_enum at)), st) (name_begun (Form_at at) b, st))))))
-form_begun_takes true k q p a at st b s is e e2 e3 e4 h so_far has = opened_takes b 123 (Item_due (Braces (Nameless_at at) no_fields)) st st s is tt refl so_far (λ t. ((tt, tt), has t))
-form_begun_takes false true q p a at st b s e is e2 e3 e4 h so_far has = opened_takes b 91 Form_due (In_brackets at ∷ st) st s is tt (append-nil (levels_text st ++ 91 ∷ [])) so_far (λ t. (tt, has t))
-form_begun_takes false false true p a at st b s e e2 is e3 e4 h so_far has = opened_takes b 63 Form_due (In_prefix at Option_prefix ∷ st) st s is tt (append-nil (levels_text st ++ 63 ∷ [])) so_far (λ t. (tt, (tt, has t)))
-form_begun_takes false false false true a at st b s e e2 e3 is e4 h so_far has = opened_takes b 40 (Item_due (Parens (Nameless_at at) no_parts)) st st s is tt refl so_far (λ t. ((tt, tt), has t))
-form_begun_takes false false false false true at st b s e e2 e3 e4 is h so_far has = opened_takes b 60 (Item_due (Angles (opened_enum at))) st st s is tt refl so_far (λ t. (tt, has t))
-form_begun_takes false false false false false at st b s brace bracket question paren angle h so_far has =
-    let opens : opens_form b ≡ false = rw (question, bracket, paren, angle, brace) refl in
+form_begun_takes : (brace bracket question tilde caret percent paren angle : Bool) (at : ℕ) (st : List Level) (b : ℕ) (s : State) → eqb b 123 ≡ brace → eqb b 91 ≡ bracket → eqb b 63 ≡ question → eqb b 126 ≡ tilde → eqb b 94 ≡ caret → eqb b 37 ≡ percent → eqb b 40 ≡ paren → eqb b 60 ≡ angle → begins_form b ≡ true → written s ≡ levels_text st ++ [] → (TextState s → TextLevels st)
+    → Takes s b (cond brace (Item_due (Braces (Nameless_at at) no_fields), st) (cond bracket (Form_due, In_brackets at ∷ st) (cond question (Form_due, In_prefix at Option_prefix ∷ st) (cond tilde (Form_due, In_prefix at Lossy_prefix ∷ st) (cond caret (Form_due, In_prefix at Readable_prefix ∷ st)
+    (cond percent (Pair_due at, st) (cond paren (Item_due (Parens (Nameless_at at) no_parts), st) (cond angle (Item_due (Angles (opened_enum at)), st) (name_begun (Form_at at) b, st)))))))))
+form_begun_takes true k q l r m p a at st b s is e e2 e3 e4 e5 e6 e7 h so_far has = opened_takes b 123 (Item_due (Braces (Nameless_at at) no_fields)) st st s is tt refl so_far (λ t. ((tt, tt), has t))
+form_begun_takes false true q l r m p a at st b s e is e2 e3 e4 e5 e6 e7 h so_far has = opened_takes b 91 Form_due (In_brackets at ∷ st) st s is tt (append-nil (levels_text st ++ 91 ∷ [])) so_far (λ t. (tt, has t))
+form_begun_takes false false true l r m p a at st b s e e2 is e3 e4 e5 e6 e7 h so_far has = opened_takes b 63 Form_due (In_prefix at Option_prefix ∷ st) st s is tt (append-nil (levels_text st ++ 63 ∷ [])) so_far (λ t. (tt, (tt, has t)))
+form_begun_takes false false false true r m p a at st b s e e2 e3 is e4 e5 e6 e7 h so_far has = opened_takes b 126 Form_due (In_prefix at Lossy_prefix ∷ st) st s is tt (append-nil (levels_text st ++ 126 ∷ [])) so_far (λ t. (tt, (tt, has t)))
+form_begun_takes false false false false true m p a at st b s e e2 e3 e4 is e5 e6 e7 h so_far has = opened_takes b 94 Form_due (In_prefix at Readable_prefix ∷ st) st s is tt (append-nil (levels_text st ++ 94 ∷ [])) so_far (λ t. (tt, (tt, has t)))
+form_begun_takes false false false false false true p a at st b s e e2 e3 e4 e5 is e6 e7 h so_far has = opened_takes b 37 (Pair_due at) st st s is tt refl so_far (λ t. (tt, has t))
+form_begun_takes false false false false false false true a at st b s e e2 e3 e4 e5 e6 is e7 h so_far has = opened_takes b 40 (Item_due (Parens (Nameless_at at) no_parts)) st st s is tt refl so_far (λ t. ((tt, tt), has t))
+form_begun_takes false false false false false false false true at st b s e e2 e3 e4 e5 e6 e7 is h so_far has = opened_takes b 60 (Item_due (Angles (opened_enum at))) st st s is tt refl so_far (λ t. (tt, has t))
+form_begun_takes false false false false false false false false at st b s brace bracket question tilde caret percent paren angle h so_far has =
+    let opens : opens_form b ≡ false = rw (question, tilde, caret, percent, bracket, paren, angle, brace) refl in
     begun_takes (eqb b 34) (Form_at at) st b s refl (or_rest (begins_name b) (opens_form b) h opens) so_far (λ k. (tt, has k))
 
 low_form : (b : ℕ) → begins_form b ≡ true → b < 128
@@ -182,12 +204,12 @@ low_form b h = grind (arith, nat_tests)
 
 -- a byte of a word begins one
 word_begun : (at : ℕ) (st : List Level) (b : ℕ) → in_bare b ≡ true → IsWord (form_begun at st b).0
-word_begun at st b h = rw (differs in_bare b 123 h refl, differs in_bare b 91 h refl, differs in_bare b 63 h refl, differs in_bare b 40 h refl, differs in_bare b 60 h refl, differs in_bare b 34 h refl) tt
+word_begun at st b h = rw (differs in_bare b 123 h refl, differs in_bare b 91 h refl, differs in_bare b 63 h refl, differs in_bare b 126 h refl, differs in_bare b 94 h refl, differs in_bare b 37 h refl, differs in_bare b 40 h refl, differs in_bare b 60 h refl, differs in_bare b 34 h refl) tt
 
 form_leaves : (at : ℕ) (st : List Level) (b : ℕ) (s : State) → written s ≡ levels_text st ++ [] → (TextState s → TextLevels st) → Leaves at s b (form_due at st b)
 unfolding form_due
 form_leaves at st b s so_far has =
-    let begun : begins_form b ≡ true → Takes s b (form_begun at st b) = λ h. form_begun_takes (eqb b 123) (eqb b 91) (eqb b 63) (eqb b 40) (eqb b 60) at st b s refl refl refl refl refl h so_far has in
+    let begun : begins_form b ≡ true → Takes s b (form_begun at st b) = λ h. form_begun_takes (eqb b 123) (eqb b 91) (eqb b 63) (eqb b 126) (eqb b 94) (eqb b 37) (eqb b 40) (eqb b 60) at st b s refl refl refl refl refl refl refl refl h so_far has in
     chosen at s b (begins_form b) _ _
     (λ h. chosen at s b (nat_le 512 (length st)) (Err (Refused (record { met = at + 1; place = at; cause = TooDeep }))) _
     (λ d. inl (record { met = refl; low = low_form b h; state = form_begun at st b; takes = begun h; word = word_begun at st b }))
@@ -368,6 +390,9 @@ escape_leaves at owner n st b =
 pub step_leaves : (at : ℕ) (m : Mode) (st : List Level) (b : ℕ) → ValidMode m → Leaves at (m, st) b (step at m st b)
 unfolding step
 step_leaves at Form_due st b v = form_leaves at st b (Form_due, st) refl (λ k. k.levels)
+step_leaves at (Pair_due place) st b v =
+    let s : State = (Pair_due place, st) in
+    chosen at s b (eqb b 40) (Ok (Form_due, In_pair place ∷ st)) _ (λ h. level_takes (In_pair place) (37 ∷ []) st b 40 s h refl refl (λ k. k.levels)) (λ h. refl)
 step_leaves at (Item_due g) st b v = due_leaves at g st b
 step_leaves at (Bare owner n) st b v = bare_leaves at owner n st b v
 step_leaves at (Quoted owner n) st b v = quoted_leaves at owner n st b

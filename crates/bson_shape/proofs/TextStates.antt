@@ -6,7 +6,7 @@ use lib.Utf8.{encode, low_scalar}
 use Rattle.std.proofs.lemmas.Str.{IsUtf8-append, IsUtf8-encode, IsUtf8-nil, IsUtf8-from_is_utf8, is_utf8-from_IsUtf8, encode_ascii}
 use Rattle.bson_base.specs.Text.{Utf8}
 use Rattle.bson_shape.specs.Form.{Form, Fields, no_fields, field, push_field, Parts, no_parts, part, push_part, Variants, no_variants, variant, push_variant, Content, newtype_content, tuple_content, struct_content}
-use Rattle.bson_shape.specs.Machine.{OpenEnum, Holder, Nameless_at, Named_at, Variant_of, Group, Braces, Parens, Angles, Prefix, Option_prefix, Newtype_prefix, Level, In_prefix, In_brackets, In_map, In_item, Owner, Form_at, Item_of, Mode, Form_due, Item_due, Bare, Quoted, Escape, Named, Item_done, Done, State, grown, closed, prefixed}
+use Rattle.bson_shape.specs.Machine.{OpenEnum, Holder, Nameless_at, Named_at, Variant_of, Group, Braces, Parens, Angles, Prefix, Option_prefix, Lossy_prefix, Readable_prefix, Newtype_prefix, Level, In_prefix, In_brackets, In_pair, In_compact, In_map, In_item, Owner, Form_at, Item_of, Mode, Form_due, Pair_due, Item_due, Bare, Quoted, Escape, Named, Item_done, Done, State, grown, closed, prefixed}
 use Rattle.bson_shape.proofs.States.{after}
 use Rattle.bson_shape.specs.Fronts.{HasTextNames, HaveTextNames, PartsHaveTextNames, VariantsHaveTextNames, ContentHasTextNames}
 use Rattle.std.proofs.Common.{arith}
@@ -41,6 +41,8 @@ TextGroup (Angles e) = TextEnum e
 
 abbrev pub TextPrefix : Prefix → Type 0
 TextPrefix Option_prefix = Unit {0}
+TextPrefix Lossy_prefix = Unit {0}
+TextPrefix Readable_prefix = Unit {0}
 TextPrefix (Newtype_prefix n) = is_utf8 n ≡ true
 
 abbrev pub TextOwner : Owner → Type 0
@@ -51,11 +53,14 @@ abbrev pub TextLevels : List Level → Type 0
 TextLevels [] = Unit {0}
 TextLevels (In_prefix place p ∷ st) = TextPrefix p × TextLevels st
 TextLevels (In_brackets place ∷ st) = TextLevels st
+TextLevels (In_pair place ∷ st) = TextLevels st
+TextLevels (In_compact place r ∷ st) = HasTextNames r × TextLevels st
 TextLevels (In_map place k ∷ st) = HasTextNames k × TextLevels st
 TextLevels (In_item g n ∷ st) = TextGroup g × (is_utf8 n ≡ true) × TextLevels st
 
 abbrev pub TextMode : Mode → Type 0
 TextMode Form_due = Unit {0}
+TextMode (Pair_due place) = Unit {0}
 TextMode (Item_due g) = TextGroup g
 TextMode (Bare owner n) = TextOwner owner × (is_utf8 n ≡ true)
 TextMode (Quoted owner n) = TextOwner owner × (is_utf8 n ≡ true)
@@ -98,4 +103,6 @@ names-closed (Angles e) k = k
 
 pub names-prefixed : (p : Prefix) (f : Form) → TextPrefix p → HasTextNames f → HasTextNames (prefixed p f)
 names-prefixed Option_prefix f k h = h
+names-prefixed Lossy_prefix f k h = h
+names-prefixed Readable_prefix f k h = h
 names-prefixed (Newtype_prefix n) f k h = (k, h)

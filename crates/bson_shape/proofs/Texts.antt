@@ -5,7 +5,7 @@ use Rattle.std.proofs.lemmas.List.{append-nil}
 use Rattle.std.proofs.lemmas.Bool.Decides.{nat_tests}
 use Rattle.bson_base.specs.Text.{Utf8}
 use Rattle.bson_shape.specs.declared.error.ShapeError.TheVariants.{TooDeep}
-use Rattle.bson_shape.specs.Form.{Form, leaf, optional, sequence, map, tuple, tuple_structure, newtype, unit_structure, structure, enumeration, Fields, no_fields, field, Parts, no_parts, part, Variants, no_variants, variant, Content, unit_content, newtype_content, tuple_content, struct_content}
+use Rattle.bson_shape.specs.Form.{Form, leaf, optional, lossy, human_readable, by_mode, sequence, map, tuple, tuple_structure, newtype, unit_structure, structure, enumeration, Fields, no_fields, field, Parts, no_parts, part, Variants, no_variants, variant, Content, unit_content, newtype_content, tuple_content, struct_content}
 use Rattle.bson_shape.specs.Levels.{levels, deepest, deepest_part, deepest_variant, deepest_inside}
 use Rattle.bson_shape.specs.Makers.{IsShape, AreShapes, AreParts, AreVariants, IsContent, made_form}
 use Rattle.bson_shape.specs.Notation.{text, name_text, struct_name_text, content_text}
@@ -48,8 +48,17 @@ mutual
   first_refusal-IsShape (leaf l) at around h few = none_refused (leaf l) at around None h (few_around around (omega arith)) refl
   first_refusal-IsShape (optional f) at around h few =
       none_refused (optional f) at around (first_refusal (at + 1) (around + 1) f) h (few_around around (omega arith)) (first_refusal-IsShape f (at + 1) (around + 1) h.1 (omega arith))
+  first_refusal-IsShape (lossy f) at around h few =
+      none_refused (lossy f) at around (first_refusal (at + 1) (around + 1) f) h (few_around around (omega arith)) (first_refusal-IsShape f (at + 1) (around + 1) h.1 (omega arith))
+  first_refusal-IsShape (human_readable f) at around h few =
+      none_refused (human_readable f) at around (first_refusal (at + 1) (around + 1) f) h (few_around around (omega arith)) (first_refusal-IsShape f (at + 1) (around + 1) h.1 (omega arith))
   first_refusal-IsShape (sequence f) at around h few =
       none_refused (sequence f) at around (first_refusal (at + 1) (around + 1) f) h (few_around around (omega arith)) (first_refusal-IsShape f (at + 1) (around + 1) h.1 (omega arith))
+  first_refusal-IsShape (by_mode r c) at around h few =
+      let compact = at + 2 + length (text r) + 1 in
+      let b = first_refusal compact (around + 1) c in
+      none_refused (by_mode r c) at around (or_else (first_refusal (at + 2) (around + 1) r) b) h (few_around around (omega arith))
+      (ap (λ o. or_else o b) (first_refusal-IsShape r (at + 2) (around + 1) h.1 (omega arith)) ∙ first_refusal-IsShape c compact (around + 1) h.2 (omega arith))
   first_refusal-IsShape (map k v) at around h few =
       let value = at + 1 + length (text k) + 1 in
       let b = first_refusal value (around + 1) v in

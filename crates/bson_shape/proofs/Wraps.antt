@@ -10,7 +10,7 @@ use Rattle.bson_shape.specs.Fronts.{HasTextNames}
 use Rattle.bson_shape.specs.FirstRefusal.{MakerRefusal}
 use Rattle.bson_shape.specs.declared.error.ShapeError.{ShapeError}
 use Rattle.bson_base.specs.Outcome.{◌>>=◌}
-use Rattle.bson_shape.specs.Machine.{Refusal, Not_notation, Refused, Level, In_prefix, In_brackets, In_map, In_item, Form_at, Mode, Bare, Done, State, made, Ended, prefixed, wrapped}
+use Rattle.bson_shape.specs.Machine.{Refusal, Not_notation, Refused, Level, In_prefix, In_brackets, In_pair, In_compact, In_map, In_item, Form_at, Mode, Bare, Done, State, made, Ended, prefixed, wrapped}
 use Rattle.bson_shape.proofs.Made.{made_form-made}
 use Rattle.bson_shape.proofs.Words.{of_word-is}
 use Rattle.bson_shape.proofs.TextStates.{TextLevels, TextMode, names-prefixed}
@@ -39,6 +39,8 @@ wrapped_keeps [] read f = (refl, λ h l. (h, l))
 wrapped_keeps (In_prefix place p ∷ st) read f =
     made_keeps (made_form (prefixed p f)) read place f (prefixed p f) (In_prefix place p ∷ st) st (made_form-made (prefixed p f)) (levels_prefixed p place st f) (λ h l. (names-prefixed p f l.0 h, l.1)) (wrapped_keeps st read (prefixed p f))
 wrapped_keeps (In_brackets place ∷ st) read f = (refl, λ h l. (h, l))
+wrapped_keeps (In_pair place ∷ st) read f = (refl, λ h l. (h, l))
+wrapped_keeps (In_compact place r ∷ st) read f = (refl, λ h l. (h, l))
 wrapped_keeps (In_map place k ∷ st) read f = (refl, λ h l. (h, l))
 wrapped_keeps (In_item g n ∷ st) read f = (refl, λ h l. (h, l))
 

@@ -1,6 +1,6 @@
 -- The first refusal of a maker that is met in reading a notation from left to right. Source: this library's own notation.
 use Rattle.std.specs.Prelude.{ℕ, ◌+◌, nat_le, if◌then◌else◌, ◌∷◌, ◌++◌, length, Option, Some, None, Result, Ok, Err}
-use Rattle.bson_shape.specs.Form.{Form, leaf, optional, sequence, map, tuple, tuple_structure, newtype, unit_structure, structure, enumeration, Fields, no_fields, field, Parts, no_parts, part, Variants, no_variants, variant, Content, unit_content, newtype_content, tuple_content, struct_content}
+use Rattle.bson_shape.specs.Form.{Form, leaf, optional, lossy, human_readable, by_mode, sequence, map, tuple, tuple_structure, newtype, unit_structure, structure, enumeration, Fields, no_fields, field, Parts, no_parts, part, Variants, no_variants, variant, Content, unit_content, newtype_content, tuple_content, struct_content}
 use Rattle.bson_shape.specs.Levels.{max_shape_levels}
 use Rattle.bson_shape.specs.Makers.{made_form}
 use Rattle.bson_shape.specs.Notation.{colon, text, name_text, struct_name_text, content_text}
@@ -38,7 +38,11 @@ abbrev mutual
   pub first_refusal : ℕ → ℕ → Form → Option MakerRefusal
   first_refusal at around (leaf l) = form_refusal at around (leaf l) None
   first_refusal at around (optional f) = form_refusal at around (optional f) (first_refusal (at + 1) (around + 1) f)
+  first_refusal at around (lossy f) = form_refusal at around (lossy f) (first_refusal (at + 1) (around + 1) f)
+  first_refusal at around (human_readable f) = form_refusal at around (human_readable f) (first_refusal (at + 1) (around + 1) f)
   first_refusal at around (sequence f) = form_refusal at around (sequence f) (first_refusal (at + 1) (around + 1) f)
+  first_refusal at around (by_mode r c) =
+      form_refusal at around (by_mode r c) (or_else (first_refusal (at + 2) (around + 1) r) (first_refusal (at + 2 + length (text r) + 1) (around + 1) c))
   first_refusal at around (map k v) =
       form_refusal at around (map k v) (or_else (first_refusal (at + 1) (around + 1) k) (first_refusal (at + 1 + length (text k) + 1) (around + 1) v))
   first_refusal at around (tuple ps) = form_refusal at around (tuple ps) (parts_refusal (at + 1) (around + 1) ps)

@@ -8,6 +8,12 @@ mutual
     leaf : Leaf → Form
     -- null, or a value of this form
     optional : (inner : Form) → Form
+    -- a value of this form, whose texts are mended
+    lossy : (inner : Form) → Form
+    -- a value of this form, read and written as for a reader who is human
+    human_readable : (inner : Form) → Form
+    -- a value that has two forms: the one that is due for a reader who is human, and the other
+    by_mode : (readable : Form) → (compact : Form) → Form
     -- an array whose elements have this form
     sequence : (item : Form) → Form
     -- a document: the form of its keys, and that of its values

@@ -2,7 +2,7 @@
 use Rattle.std.specs.Prelude.{◌≡◌, ℕ, ◌+◌, ◌<◌, ◌≤◌, [], ◌∷◌, ◌++◌, Bool, true, false, ◌||◌, length, take, drop, Some}
 use Rattle.std.specs.Str.{is_utf8}
 use Rattle.bson_base.specs.Text.{Utf8}
-use Rattle.bson_shape.specs.Form.{Form, leaf, optional, sequence, map, tuple, tuple_structure, newtype, unit_structure, structure, enumeration, Fields, no_fields, field, Parts, no_parts, part, Variants, no_variants, variant, Content, unit_content, newtype_content, tuple_content, struct_content}
+use Rattle.bson_shape.specs.Form.{Form, leaf, optional, lossy, human_readable, by_mode, sequence, map, tuple, tuple_structure, newtype, unit_structure, structure, enumeration, Fields, no_fields, field, Parts, no_parts, part, Variants, no_variants, variant, Content, unit_content, newtype_content, tuple_content, struct_content}
 use Rattle.bson_shape.specs.Notation.{in_bare, names_form, text}
 use Rattle.bson_shape.specs.FirstRefusal.{MakerRefusal, first_refusal}
 use Rattle.bson_shape.specs.InnerForms.{HasFault}
@@ -13,8 +13,11 @@ abbrev mutual
   pub HasTextNames : Form → Type 0
   HasTextNames (leaf l) = Unit {0}
   HasTextNames (optional f) = HasTextNames f
+  HasTextNames (lossy f) = HasTextNames f
+  HasTextNames (human_readable f) = HasTextNames f
   HasTextNames (sequence f) = HasTextNames f
   HasTextNames (map k v) = HasTextNames k × HasTextNames v
+  HasTextNames (by_mode r c) = HasTextNames r × HasTextNames c
   HasTextNames (tuple ps) = PartsHaveTextNames ps
   HasTextNames (tuple_structure name ps) = (is_utf8 name ≡ true) × PartsHaveTextNames ps
   HasTextNames (newtype name f) = (is_utf8 name ≡ true) × HasTextNames f

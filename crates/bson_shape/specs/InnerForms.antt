@@ -1,7 +1,7 @@
 -- The forms in a form, each with its place. Source: this library's own notation.
 use Rattle.std.specs.Prelude.{◌≡◌, ℕ, ◌+◌, true, false, List, [], ◌∷◌, ◌++◌, length, is_some, Contains}
 use Rattle.bson_base.specs.Reserved.{reserved_kind}
-use Rattle.bson_shape.specs.Form.{Form, leaf, optional, sequence, map, tuple, tuple_structure, newtype, unit_structure, structure, enumeration, Fields, no_fields, field, Parts, no_parts, part, Variants, no_variants, variant, Content, unit_content, newtype_content, tuple_content, struct_content}
+use Rattle.bson_shape.specs.Form.{Form, leaf, optional, lossy, human_readable, by_mode, sequence, map, tuple, tuple_structure, newtype, unit_structure, structure, enumeration, Fields, no_fields, field, Parts, no_parts, part, Variants, no_variants, variant, Content, unit_content, newtype_content, tuple_content, struct_content}
 use Rattle.bson_shape.specs.Levels.{max_shape_levels}
 use Rattle.bson_shape.specs.Makers.{is_text_key, is_reserved_newtype, repeats, variants_repeat}
 use Rattle.bson_shape.specs.Notation.{colon, text, name_text, struct_name_text, content_text}
@@ -19,7 +19,11 @@ abbrev mutual
   pub inner_forms : ℕ → ℕ → Form → List Inner
   inner_forms at around (leaf l) = record { place = at; around = around; form = leaf l } ∷ []
   inner_forms at around (optional f) = record { place = at; around = around; form = optional f } ∷ inner_forms (at + 1) (around + 1) f
+  inner_forms at around (lossy f) = record { place = at; around = around; form = lossy f } ∷ inner_forms (at + 1) (around + 1) f
+  inner_forms at around (human_readable f) = record { place = at; around = around; form = human_readable f } ∷ inner_forms (at + 1) (around + 1) f
   inner_forms at around (sequence f) = record { place = at; around = around; form = sequence f } ∷ inner_forms (at + 1) (around + 1) f
+  inner_forms at around (by_mode r c) =
+      record { place = at; around = around; form = by_mode r c } ∷ (inner_forms (at + 2) (around + 1) r ++ inner_forms (at + 2 + length (text r) + 1) (around + 1) c)
   inner_forms at around (map k v) =
       record { place = at; around = around; form = map k v } ∷ (inner_forms (at + 1) (around + 1) k ++ inner_forms (at + 1 + length (text k) + 1) (around + 1) v)
   inner_forms at around (tuple ps) = record { place = at; around = around; form = tuple ps } ∷ part_forms (at + 1) (around + 1) ps

@@ -1,6 +1,6 @@
 -- How many forms are inside one another in a shape. Source: serde's data model.
 use Rattle.std.specs.Prelude.{ℕ, suc, max}
-use Rattle.bson_shape.specs.Form.{Form, leaf, optional, sequence, map, tuple, tuple_structure, newtype, unit_structure, structure, enumeration, Fields, no_fields, field, Parts, no_parts, part, Variants, no_variants, variant, Content, unit_content, newtype_content, tuple_content, struct_content}
+use Rattle.bson_shape.specs.Form.{Form, leaf, optional, lossy, human_readable, by_mode, sequence, map, tuple, tuple_structure, newtype, unit_structure, structure, enumeration, Fields, no_fields, field, Parts, no_parts, part, Variants, no_variants, variant, Content, unit_content, newtype_content, tuple_content, struct_content}
 
 -- the most levels of a shape
 abbrev pub max_shape_levels : ℕ
@@ -11,8 +11,11 @@ abbrev mutual
   pub levels : Form → ℕ
   levels (leaf l) = 1
   levels (optional f) = suc (levels f)
+  levels (lossy f) = suc (levels f)
+  levels (human_readable f) = suc (levels f)
   levels (sequence f) = suc (levels f)
   levels (map k v) = suc (max (levels k) (levels v))
+  levels (by_mode r c) = suc (max (levels r) (levels c))
   levels (tuple ps) = suc (deepest_part ps)
   levels (tuple_structure name ps) = suc (deepest_part ps)
   levels (newtype name f) = suc (levels f)

@@ -2,12 +2,12 @@
 use Rattle.std.specs.Prelude.{ℕ, ◌+◌, Bool, true, false, ◌&&◌, ◌||◌, ◌==◌, nat_le, if◌then◌else◌, List, [], ◌∷◌, ◌++◌, length, Option, Some, None, Result, Ok, Err}
 use Rattle.bson_base.specs.Outcome.{◌>>=◌}
 use Rattle.bson_base.specs.Text.{Utf8}
-use Rattle.bson_shape.specs.Form.{Form, leaf, optional, sequence, map, tuple, tuple_structure, newtype, unit_structure, structure, enumeration, Fields, no_fields, field, push_field, Parts, no_parts, part, push_part, Variants, no_variants, variant, push_variant, Content, unit_content, newtype_content, tuple_content, struct_content}
+use Rattle.bson_shape.specs.Form.{Form, leaf, optional, lossy, human_readable, by_mode, sequence, map, tuple, tuple_structure, newtype, unit_structure, structure, enumeration, Fields, no_fields, field, push_field, Parts, no_parts, part, push_part, Variants, no_variants, variant, push_variant, Content, unit_content, newtype_content, tuple_content, struct_content}
 use Rattle.bson_shape.specs.Leaf.{of_word}
 use Rattle.bson_shape.specs.declared.leaf.Leaf.{Leaf}
 use Rattle.bson_shape.specs.Levels.{max_shape_levels}
 use Rattle.bson_shape.specs.Makers.{made_form}
-use Rattle.bson_shape.specs.Notation.{exclamation, quote, open_paren, close_paren, comma, colon, open_angle, equals, close_angle, question, open_bracket, backslash, close_bracket, open_brace, close_brace, begins_bare, in_bare, bare, names_form, is_escaped}
+use Rattle.bson_shape.specs.Notation.{exclamation, quote, open_paren, close_paren, comma, colon, open_angle, equals, close_angle, question, caret, tilde, percent, open_bracket, backslash, close_bracket, open_brace, close_brace, begins_bare, in_bare, bare, names_form, is_escaped}
 use Rattle.bson_shape.specs.FirstRefusal.{MakerRefusal}
 use Rattle.bson_shape.specs.declared.error.ShapeError.{ShapeError}
 use Rattle.bson_shape.specs.declared.error.ShapeError.TheVariants.{TooDeep}
@@ -46,6 +46,10 @@ pub data Group : Type 0 where
 pub data Prefix : Type 0 where
   -- `?`
   Option_prefix : Prefix
+  -- `~`
+  Lossy_prefix : Prefix
+  -- `^`
+  Readable_prefix : Prefix
   -- a newtype's name and `=`
   Newtype_prefix : Utf8 → Prefix
 
@@ -55,6 +59,10 @@ pub data Level : Type 0 where
   In_prefix : ℕ → Prefix → Level
   -- a sequence that begins at this place, or a map, before its colon
   In_brackets : ℕ → Level
+  -- two forms that begin at this place, before their comma
+  In_pair : ℕ → Level
+  -- two forms that begin at this place, behind their comma, and the readable one
+  In_compact : ℕ → Form → Level
   -- a map that begins at this place, behind its colon, and its key
   In_map : ℕ → Form → Level
   -- a group, and the name of the item; a part has the empty one
@@ -71,6 +79,8 @@ pub data Owner : Type 0 where
 pub data Mode : Type 0 where
   -- a form is due
   Form_due : Mode
+  -- the parenthesis of two forms is due, which begin at this place
+  Pair_due : ℕ → Mode
   -- an item is due, or the closing bracket where the group has no item
   Item_due : Group → Mode
   -- inside a bare name
@@ -149,6 +159,8 @@ closed (Angles e) = Closed_form e.place (enumeration e.variants)
 -- the form with the prefix before it
 abbrev pub prefixed : Prefix → Form → Form
 prefixed Option_prefix f = optional f
+prefixed Lossy_prefix f = lossy f
+prefixed Readable_prefix f = human_readable f
 prefixed (Newtype_prefix name) f = newtype name f
 
 -- ---- the end of a form or an item
@@ -188,6 +200,14 @@ key_ended at place f st b =
 abbrev pub value_ended : ℕ → ℕ → Form → Form → List Level → ℕ → Result State Refusal
 value_ended at place k v st b = if b == close_bracket then form_closed at place st (made_form (map k v)) else Err (Not_notation at)
 
+-- behind the readable of two forms that begin at the second place
+abbrev pub readable_ended : ℕ → ℕ → Form → List Level → ℕ → Result State Refusal
+readable_ended at place r st b = if b == comma then Ok (Form_due, In_compact place r ∷ st) else Err (Not_notation at)
+
+-- behind the compact one
+abbrev pub compact_ended : ℕ → ℕ → Form → Form → List Level → ℕ → Result State Refusal
+compact_ended at place r c st b = if b == close_paren then form_closed at place st (made_form (by_mode r c)) else Err (Not_notation at)
+
 -- A form, with the levels around it.
 abbrev pub Ended : Type 0
 Ended = Form × List Level
@@ -197,6 +217,8 @@ unfoldable pub wrapped : ℕ → Form → List Level → Result Ended Refusal
 wrapped read f [] = Ok (f, [])
 wrapped read f (In_prefix place p ∷ st) = made read place (made_form (prefixed p f)) >>= λ g. wrapped read g st
 wrapped read f (In_brackets place ∷ st) = Ok (f, In_brackets place ∷ st)
+wrapped read f (In_pair place ∷ st) = Ok (f, In_pair place ∷ st)
+wrapped read f (In_compact place r ∷ st) = Ok (f, In_compact place r ∷ st)
 wrapped read f (In_map place k ∷ st) = Ok (f, In_map place k ∷ st)
 wrapped read f (In_item g name ∷ st) = Ok (f, In_item g name ∷ st)
 
@@ -205,6 +227,8 @@ abbrev pub enclosed : ℕ → Form → List Level → ℕ → Result State Refus
 enclosed at f [] b = Err (Not_notation at)
 enclosed at f (In_prefix place p ∷ st) b = Err (Not_notation at)
 enclosed at f (In_brackets place ∷ st) b = key_ended at place f st b
+enclosed at f (In_pair place ∷ st) b = readable_ended at place f st b
+enclosed at f (In_compact place r ∷ st) b = compact_ended at place r f st b
 enclosed at f (In_map place k ∷ st) b = value_ended at place k f st b
 enclosed at f (In_item g name ∷ st) b = item_ended at (grown g name f) st b
 
@@ -223,7 +247,7 @@ name_begun owner b = if b == quote then Quoted owner [] else Bare owner (b ∷ [
 
 -- the first byte of a form that no name begins
 abbrev pub opens_form : ℕ → Bool
-opens_form b = (b == question) || (b == open_bracket) || (b == open_paren) || (b == open_angle) || (b == open_brace)
+opens_form b = (b == question) || (b == tilde) || (b == caret) || (b == percent) || (b == open_bracket) || (b == open_paren) || (b == open_angle) || (b == open_brace)
 
 abbrev pub begins_form : ℕ → Bool
 begins_form b = begins_name b || opens_form b
@@ -234,15 +258,22 @@ form_begun at st b =
     if b == open_brace then (Item_due (Braces (Nameless_at at) no_fields), st)
     else (if b == open_bracket then (Form_due, In_brackets at ∷ st)
     else (if b == question then (Form_due, In_prefix at Option_prefix ∷ st)
+    else (if b == tilde then (Form_due, In_prefix at Lossy_prefix ∷ st)
+    else (if b == caret then (Form_due, In_prefix at Readable_prefix ∷ st)
+    else (if b == percent then (Pair_due at, st)
     else (if b == open_paren then (Item_due (Parens (Nameless_at at) no_parts), st)
     else (if b == open_angle then (Item_due (Angles (opened_enum at)), st)
-    else (name_begun (Form_at at) b, st)))))
+    else (name_begun (Form_at at) b, st))))))))
 
 -- where a form is due
 unfoldable pub form_due : ℕ → List Level → ℕ → Result State Refusal
 form_due at st b =
     if begins_form b then (if nat_le max_shape_levels (length st) then Err (Refused (record { met = at + 1; place = at; cause = TooDeep })) else Ok (form_begun at st b))
     else Err (Not_notation at)
+
+-- where the parenthesis of two forms is due, which begin at the second place
+abbrev pub pair_due : ℕ → ℕ → List Level → ℕ → Result State Refusal
+pair_due at place st b = if b == open_paren then Ok (Form_due, In_pair place ∷ st) else Err (Not_notation at)
 
 -- where the name of an item is due
 unfoldable pub name_due : ℕ → Group → List Level → ℕ → Result State Refusal
@@ -327,6 +358,7 @@ escape at owner name st b = if is_escaped b then Ok (Quoted owner (name ++ b ∷
 -- one byte, at a place
 unfoldable pub step : ℕ → Mode → List Level → ℕ → Result State Refusal
 step at Form_due st b = form_due at st b
+step at (Pair_due place) st b = pair_due at place st b
 step at (Item_due g) st b = item_due at g st b
 step at (Bare owner name) st b = bare_name at owner name st b
 step at (Quoted owner name) st b = quoted_name at owner name st b

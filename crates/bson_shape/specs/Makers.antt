@@ -4,7 +4,7 @@ use Rattle.std.specs.List.{list_any}
 use Rattle.std.specs.Str.{bytes_eq, is_utf8}
 use Rattle.bson_base.specs.Text.{Utf8}
 use Rattle.bson_base.specs.Reserved.{reserved_kind}
-use Rattle.bson_shape.specs.Form.{Form, leaf, optional, sequence, map, tuple, tuple_structure, newtype, unit_structure, structure, enumeration, Fields, no_fields, field, Parts, no_parts, part, Variants, no_variants, variant, Content, unit_content, newtype_content, tuple_content, struct_content}
+use Rattle.bson_shape.specs.Form.{Form, leaf, optional, lossy, human_readable, by_mode, sequence, map, tuple, tuple_structure, newtype, unit_structure, structure, enumeration, Fields, no_fields, field, Parts, no_parts, part, Variants, no_variants, variant, Content, unit_content, newtype_content, tuple_content, struct_content}
 use Rattle.bson_shape.specs.Leaf.{is_text}
 use Rattle.bson_shape.specs.Levels.{levels, max_shape_levels}
 use Rattle.bson_shape.specs.declared.error.ShapeError.{ShapeError}
@@ -100,8 +100,11 @@ abbrev mutual
   pub IsShape : Form → Type 0
   IsShape (leaf l) = Unit {0}
   IsShape (optional f) = (levels (optional f) ≤ max_shape_levels) × IsShape f
+  IsShape (lossy f) = (levels (lossy f) ≤ max_shape_levels) × IsShape f
+  IsShape (human_readable f) = (levels (human_readable f) ≤ max_shape_levels) × IsShape f
   IsShape (sequence f) = (levels (sequence f) ≤ max_shape_levels) × IsShape f
   IsShape (map k v) = (is_text_key k ≡ true) × (levels (map k v) ≤ max_shape_levels) × IsShape k × IsShape v
+  IsShape (by_mode r c) = (levels (by_mode r c) ≤ max_shape_levels) × IsShape r × IsShape c
   IsShape (tuple ps) = (levels (tuple ps) ≤ max_shape_levels) × AreParts ps
   IsShape (tuple_structure name ps) = (is_utf8 name ≡ true) × (levels (tuple_structure name ps) ≤ max_shape_levels) × AreParts ps
   IsShape (newtype name f) = IsNewtype name f × IsShape f
@@ -135,6 +138,17 @@ within_levels f = if nat_lt max_shape_levels (levels f) then Err TooDeep else Ok
 -- what the maker of an option answers
 abbrev pub made_optional : Form → Result Form ShapeError
 made_optional f = within_levels (optional f)
+
+-- what the makers of the marks answer
+abbrev pub made_lossy : Form → Result Form ShapeError
+made_lossy f = within_levels (lossy f)
+
+abbrev pub made_human_readable : Form → Result Form ShapeError
+made_human_readable f = within_levels (human_readable f)
+
+-- what the maker of two forms answers
+abbrev pub made_by_mode : Form → Form → Result Form ShapeError
+made_by_mode r c = within_levels (by_mode r c)
 
 -- what the maker of a sequence answers
 abbrev pub made_sequence : Form → Result Form ShapeError
@@ -170,8 +184,11 @@ made_enumeration vs = if variants_repeat vs then Err RepeatedName else within_le
 abbrev pub made_form : Form → Result Form ShapeError
 made_form (leaf l) = Ok (leaf l)
 made_form (optional f) = made_optional f
+made_form (lossy f) = made_lossy f
+made_form (human_readable f) = made_human_readable f
 made_form (sequence f) = made_sequence f
 made_form (map k v) = made_map k v
+made_form (by_mode r c) = made_by_mode r c
 made_form (tuple ps) = made_tuple ps
 made_form (tuple_structure name ps) = made_tuple_structure name ps
 made_form (newtype name f) = made_newtype name f

@@ -2,7 +2,7 @@
 use Rattle.std.specs.Prelude.{ℕ, Bool, false, ◌&&◌, ◌||◌, nat_le, ◌==◌, if◌then◌else◌, List, [], ◌∷◌, ◌++◌}
 use Rattle.std.specs.List.{list_all}
 use Rattle.bson_base.specs.Text.{Utf8}
-use Rattle.bson_shape.specs.Form.{Form, leaf, optional, sequence, map, tuple, tuple_structure, newtype, unit_structure, structure, enumeration, Fields, no_fields, field, Parts, no_parts, part, Variants, no_variants, variant, Content, unit_content, newtype_content, tuple_content, struct_content}
+use Rattle.bson_shape.specs.Form.{Form, leaf, optional, lossy, human_readable, by_mode, sequence, map, tuple, tuple_structure, newtype, unit_structure, structure, enumeration, Fields, no_fields, field, Parts, no_parts, part, Variants, no_variants, variant, Content, unit_content, newtype_content, tuple_content, struct_content}
 use Rattle.bson_shape.specs.Leaf.{word}
 
 -- `!`
@@ -12,6 +12,10 @@ exclamation = 33
 -- `"`
 abbrev pub quote : ℕ
 quote = 34
+
+-- `%`
+abbrev pub percent : ℕ
+percent = 37
 
 -- `(`
 abbrev pub open_paren : ℕ
@@ -44,6 +48,14 @@ close_angle = 62
 -- `?`
 abbrev pub question : ℕ
 question = 63
+
+-- `^`
+abbrev pub caret : ℕ
+caret = 94
+
+-- `~`
+abbrev pub tilde : ℕ
+tilde = 126
 
 -- `[`
 abbrev pub open_bracket : ℕ
@@ -129,13 +141,16 @@ abbrev pub in_angles : List Utf8 → Utf8
 in_angles texts = open_angle ∷ (listed texts ++ close_angle ∷ [])
 
 abbrev mutual
-  -- a leaf is its word, an option is `?s`, a sequence is `[s]`, a map is `[key:value]`, a tuple is `(s,s)`, a tuple struct is `NAME(s,s)`,
+  -- a leaf is its word, an option is `?s`, a lossy form is `~s`, a readable one is `^s`, one of two forms is `%(readable,compact)`, a sequence is `[s]`, a map is `[key:value]`, a tuple is `(s,s)`, a tuple struct is `NAME(s,s)`,
   -- a newtype is `NAME=s`, a unit struct is `NAME!`, a struct is `NAME{f:s,g:s}`, an enum is `<A,N=s,T(s,s),S{f:s}>`
   pub text : Form → Utf8
   text (leaf l) = word l
   text (optional f) = question ∷ text f
+  text (lossy f) = tilde ∷ text f
+  text (human_readable f) = caret ∷ text f
   text (sequence f) = open_bracket ∷ (text f ++ close_bracket ∷ [])
   text (map k v) = open_bracket ∷ (text k ++ colon ∷ (text v ++ close_bracket ∷ []))
+  text (by_mode r c) = percent ∷ open_paren ∷ (text r ++ comma ∷ (text c ++ close_paren ∷ []))
   text (tuple ps) = in_parens (part_texts ps)
   text (tuple_structure name ps) = name_text name ++ in_parens (part_texts ps)
   text (newtype name f) = name_text name ++ equals ∷ text f

@@ -34,11 +34,15 @@ group_view (groups.Angles e) = machine.Angles (enum_view e)
 
 abbrev pub prefix_view : Prefix → machine.Prefix
 prefix_view prefixes.Option = machine.Option_prefix
+prefix_view prefixes.Lossy = machine.Lossy_prefix
+prefix_view prefixes.Readable = machine.Readable_prefix
 prefix_view (prefixes.Newtype name) = machine.Newtype_prefix (string_bytes name)
 
 abbrev pub level_view : Level → machine.Level
 level_view (levels.InPrefix place p) = machine.In_prefix place (prefix_view p)
 level_view (levels.InBrackets place) = machine.In_brackets place
+level_view (levels.InPair place) = machine.In_pair place
+level_view (levels.InCompact place readable) = machine.In_compact place readable
 level_view (levels.InMap place key) = machine.In_map place key
 level_view (levels.InItem group name) = machine.In_item (group_view group) (string_bytes name)
 
@@ -48,6 +52,7 @@ owner_view (owners.ItemOf group) = machine.Item_of (group_view group)
 
 abbrev pub mode_view : Mode → machine.Mode
 mode_view modes.FormDue = machine.Form_due
+mode_view (modes.PairDue place) = machine.Pair_due place
 mode_view (modes.ItemDue group) = machine.Item_due (group_view group)
 mode_view (modes.Bare owner name) = machine.Bare (owner_view owner) (string_bytes name)
 mode_view (modes.Quoted owner name) = machine.Quoted (owner_view owner) (string_bytes name)

@@ -2,15 +2,18 @@
 use Rattle.std.specs.Prelude.{Bool, true, false, ◌&&◌}
 use Rattle.std.specs.Str.{bytes_eq}
 use denote.Enum.Bare.{sameb}
-use Rattle.bson_shape.specs.Form.{Form, leaf, optional, sequence, map, tuple, tuple_structure, newtype, unit_structure, structure, enumeration, Fields, no_fields, field, Parts, no_parts, part, Variants, no_variants, variant, Content, unit_content, newtype_content, tuple_content, struct_content}
+use Rattle.bson_shape.specs.Form.{Form, leaf, optional, lossy, human_readable, by_mode, sequence, map, tuple, tuple_structure, newtype, unit_structure, structure, enumeration, Fields, no_fields, field, Parts, no_parts, part, Variants, no_variants, variant, Content, unit_content, newtype_content, tuple_content, struct_content}
 use Rattle.bson_shape.specs.contracts.leaf.Leaf as leaf_type
 
 abbrev mutual
   pub same : Form → Form → Bool
   same (leaf l) (leaf m) = sameb leaf_type.the_type l m
   same (optional f) (optional g) = same f g
+  same (lossy f) (lossy g) = same f g
+  same (human_readable f) (human_readable g) = same f g
   same (sequence f) (sequence g) = same f g
   same (map k v) (map l w) = same k l && same v w
+  same (by_mode r c) (by_mode s d) = same r s && same c d
   same (tuple ps) (tuple qs) = same_parts ps qs
   same (tuple_structure name ps) (tuple_structure n qs) = bytes_eq name n && same_parts ps qs
   same (newtype name f) (newtype n g) = bytes_eq name n && same f g

@@ -1,6 +1,6 @@
 -- The form of a shape, one level at a time, and its size. Source: serde's data model.
 use Rattle.std.specs.Prelude.{ℕ, ◌+◌, List, [], ◌∷◌, string_bytes}
-use Rattle.bson_shape.specs.Form.{Form, leaf, optional, sequence, map, tuple, tuple_structure, newtype, unit_structure, structure, enumeration, Fields, no_fields, field, Parts, no_parts, part, Variants, no_variants, variant, Content, unit_content, newtype_content, tuple_content, struct_content}
+use Rattle.bson_shape.specs.Form.{Form, leaf, optional, lossy, human_readable, by_mode, sequence, map, tuple, tuple_structure, newtype, unit_structure, structure, enumeration, Fields, no_fields, field, Parts, no_parts, part, Variants, no_variants, variant, Content, unit_content, newtype_content, tuple_content, struct_content}
 use Rattle.bson_shape.specs.declared.shape.Node.{Node}
 use Rattle.bson_shape.specs.declared.shape.Node.TheVariants as node
 use Rattle.bson_shape.specs.declared.form.Form.{Form as BorrowedForm}
@@ -31,8 +31,11 @@ variants_of (v ∷ vs) = variant (string_bytes v.name) (content_of v.content) (v
 abbrev pub node_view : Node → Form
 node_view (node.Leaf l) = leaf l
 node_view (node.Option inner) = optional inner.value
+node_view (node.Lossy inner) = lossy inner.value
+node_view (node.Readable inner) = human_readable inner.value
 node_view (node.Seq item) = sequence item.value
 node_view (node.Map key value) = map key.value value.value
+node_view (node.Mode readable compact) = by_mode readable.value compact.value
 node_view (node.Tuple items) = tuple (parts_of items.items)
 node_view (node.TupleStruct name items) = tuple_structure (string_bytes name) (parts_of items.items)
 node_view (node.Newtype name inner) = newtype (string_bytes name) inner.value
@@ -43,8 +46,11 @@ node_view (node.Enum vs) = enumeration (variants_of vs.items)
 abbrev pub form_view : BorrowedForm → Form
 form_view (forms.Leaf l) = leaf l
 form_view (forms.Option inner) = optional inner.now
+form_view (forms.Lossy inner) = lossy inner.now
+form_view (forms.Readable inner) = human_readable inner.now
 form_view (forms.Seq item) = sequence item.now
 form_view (forms.Map key value) = map key.now value.now
+form_view (forms.Mode readable compact) = by_mode readable.now compact.now
 form_view (forms.Tuple items) = tuple (parts_of items.now)
 form_view (forms.TupleStruct name items) = tuple_structure name.now (parts_of items.now)
 form_view (forms.Newtype name inner) = newtype name.now inner.now
@@ -57,8 +63,11 @@ abbrev mutual
   pub nodes : Form → ℕ
   nodes (leaf l) = 1
   nodes (optional f) = nodes f + 1
+  nodes (lossy f) = nodes f + 1
+  nodes (human_readable f) = nodes f + 1
   nodes (sequence f) = nodes f + 1
   nodes (map k v) = nodes k + nodes v + 1
+  nodes (by_mode r c) = nodes r + nodes c + 1
   nodes (tuple ps) = parts_nodes ps + 1
   nodes (tuple_structure name ps) = parts_nodes ps + 1
   nodes (newtype name f) = nodes f + 1

@@ -48,6 +48,41 @@ fn value_ended(
     form_closed(place, Shape::map(alloc, key, value))
 }
 
+/// Behind the readable of two forms that begin at the place.
+fn readable_ended(
+    place: usize,
+    readable: Shape,
+    levels: &mut Vec<Level>,
+    at: usize,
+    b: u8,
+) -> Result<Mode, ParseError>
+    ensures { Reaches result levels.new.items (machine.readable_ended at place readable (levels_view levels.old.items) b) }
+{
+    if b != b',' {
+        return Err(ParseError::NotNotation(at));
+    }
+    levels.push(Level::InCompact(place, readable))?;
+    Ok(Mode::FormDue)
+}
+
+/// Behind the compact of two forms that begin at the place.
+fn compact_ended(
+    alloc: Global,
+    place: usize,
+    readable: Shape,
+    compact: Shape,
+    levels: &Vec<Level>,
+    at: usize,
+    b: u8,
+) -> Result<Mode, ParseError>
+    ensures { Reaches result levels.now.items (machine.compact_ended at place readable compact (levels_view levels.now.items) b) }
+{
+    if b != b')' {
+        return Err(ParseError::NotNotation(at));
+    }
+    form_closed(place, Shape::mode(alloc, readable, compact))
+}
+
 /// Behind a form.
 #[tactic(auto, unfolding(crate::specs::Machine::form_ended))]
 pub(crate) fn form_ended(
@@ -63,6 +98,10 @@ pub(crate) fn form_ended(
     match around {
         Some(Level::InBrackets(place)) => key_ended(alloc, place, shape, levels, at, b),
         Some(Level::InMap(place, key)) => value_ended(alloc, place, key, shape, levels, at, b),
+        Some(Level::InPair(place)) => readable_ended(place, shape, levels, at, b),
+        Some(Level::InCompact(place, readable)) => {
+            compact_ended(alloc, place, readable, shape, levels, at, b)
+        }
         Some(Level::InItem(group, name)) => {
             item_ended(alloc, grown(group, name, shape)?, levels, at, b)
         }

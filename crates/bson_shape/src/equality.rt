@@ -29,9 +29,14 @@ fn is_same(a: &Shape, b: &Shape) -> bool
     match a.form() {
         Form::Leaf(leaf) => matches!(other, Form::Leaf(l) if leaf == l),
         Form::Option(inner) => matches!(other, Form::Option(i) if is_same(inner, i)),
+        Form::Lossy(inner) => matches!(other, Form::Lossy(i) if is_same(inner, i)),
+        Form::Readable(inner) => matches!(other, Form::Readable(i) if is_same(inner, i)),
         Form::Seq(item) => matches!(other, Form::Seq(i) if is_same(item, i)),
         Form::Map(key, value) => {
             matches!(other, Form::Map(k, v) if is_same(key, k) && is_same(value, v))
+        }
+        Form::Mode(readable, compact) => {
+            matches!(other, Form::Mode(r, c) if is_same(readable, r) && is_same(compact, c))
         }
         Form::Tuple(parts) => matches!(other, Form::Tuple(p) if are_same_parts(parts, p)),
         Form::TupleStruct(name, parts) => {

@@ -7,10 +7,16 @@ pub enum Form<'a> {
     Leaf(Leaf),
     /// An option: the shape of its value.
     Option(&'a Shape),
+    /// A lossy shape: the shape of the value whose texts are mended.
+    Lossy(&'a Shape),
+    /// A readable shape: the shape of the value.
+    Readable(&'a Shape),
     /// A sequence: the shape of its items.
     Seq(&'a Shape),
     /// A map: the shape of its keys, and that of its values.
     Map(&'a Shape, &'a Shape),
+    /// Two forms of a value: the shape of the readable one, and that of the compact one.
+    Mode(&'a Shape, &'a Shape),
     /// A tuple: the shapes of its parts, in order.
     Tuple(&'a [Shape]),
     /// A tuple struct: its name and the shapes of its parts, in order.

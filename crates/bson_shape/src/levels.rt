@@ -16,6 +16,10 @@ use std::alloc::Global;
 pub(crate) enum Prefix {
     /// `?`.
     Option,
+    /// `~`.
+    Lossy,
+    /// `^`.
+    Readable,
     /// A newtype's name and `=`.
     Newtype(String),
 }
@@ -27,6 +31,10 @@ pub(crate) enum Level {
     InPrefix(usize, Prefix),
     /// A sequence that begins at this place, or a map, before its colon.
     InBrackets(usize),
+    /// Two forms that begin at this place, before their comma.
+    InPair(usize),
+    /// Two forms that begin at this place, behind their comma, and the readable one.
+    InCompact(usize, Shape),
     /// A map that begins at this place, behind its colon, and its key.
     InMap(usize, Shape),
     /// A group, and the name of the item; a part has the empty one.
@@ -57,6 +65,8 @@ fn prefixed(alloc: Global, prefix: Prefix, shape: Shape) -> Result<Shape, ShapeE
 {
     match prefix {
         Prefix::Option => Shape::option(alloc, shape),
+        Prefix::Lossy => Shape::lossy(alloc, shape),
+        Prefix::Readable => Shape::readable(alloc, shape),
         Prefix::Newtype(name) => Shape::newtype(alloc, name, shape),
     }
 }
@@ -76,7 +86,11 @@ pub(crate) fn wrapped(
     while let Some(level) = levels.pop() {
         shape = match level {
             Level::InPrefix(place, prefix) => made(place, prefixed(alloc, prefix, shape))?,
-            Level::InBrackets(_) | Level::InMap(_, _) | Level::InItem(_, _) => {
+            Level::InBrackets(_)
+            | Level::InPair(_)
+            | Level::InCompact(_, _)
+            | Level::InMap(_, _)
+            | Level::InItem(_, _) => {
                 return Ok(Ended {
                     shape,
                     around: Some(level),

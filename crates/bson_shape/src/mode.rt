@@ -16,6 +16,8 @@ pub(crate) enum Owner {
 pub(crate) enum Mode {
     /// A form is due.
     FormDue,
+    /// The parenthesis of two forms is due, which begin at this place.
+    PairDue(usize),
     /// An item is due, or the closing bracket where the group has no item.
     ItemDue(Group),
     /// Inside a bare name.

@@ -45,7 +45,11 @@ fn name_begun(alloc: Global, owner: Owner, b: u8) -> Result<Mode, AllocError>
 fn begins_form(b: u8) -> bool
     ensures { result ≡ machine.begins_form b }
 {
-    begins_bare(b) || matches!(b, b'"' | b'?' | b'[' | b'(' | b'<' | b'{')
+    begins_bare(b)
+        || matches!(
+            b,
+            b'"' | b'?' | b'~' | b'^' | b'%' | b'[' | b'(' | b'<' | b'{'
+        )
 }
 
 /// The first byte of a form.
@@ -63,6 +67,17 @@ fn form_begun(alloc: Global, levels: &mut Vec<Level>, at: usize, b: u8) -> Resul
     if b == b'?' {
         levels.push(Level::InPrefix(at, Prefix::Option))?;
         return Ok(Mode::FormDue);
+    }
+    if b == b'~' {
+        levels.push(Level::InPrefix(at, Prefix::Lossy))?;
+        return Ok(Mode::FormDue);
+    }
+    if b == b'^' {
+        levels.push(Level::InPrefix(at, Prefix::Readable))?;
+        return Ok(Mode::FormDue);
+    }
+    if b == b'%' {
+        return Ok(Mode::PairDue(at));
     }
     if b == b'(' {
         return Ok(opened_parens(alloc, Holder::NamelessAt(at)));
@@ -86,6 +101,17 @@ fn form_due(alloc: Global, levels: &mut Vec<Level>, at: usize, b: u8) -> Result<
         return Err(ParseError::Refused(at, ShapeError::TooDeep));
     }
     Ok(form_begun(alloc, levels, at, b)?)
+}
+
+/// Where the parenthesis of two forms is due, which begin at the place.
+fn pair_due(place: usize, levels: &mut Vec<Level>, at: usize, b: u8) -> Result<Mode, ParseError>
+    ensures { Reaches result levels.new.items (machine.pair_due at place (levels_view levels.old.items) b) }
+{
+    if b != b'(' {
+        return Err(ParseError::NotNotation(at));
+    }
+    levels.push(Level::InPair(place))?;
+    Ok(Mode::FormDue)
 }
 
 /// Where the name of an item is due.
@@ -365,6 +391,7 @@ fn step(
 {
     match mode {
         Mode::FormDue => form_due(alloc, levels, at, b),
+        Mode::PairDue(place) => pair_due(place, levels, at, b),
         Mode::ItemDue(group) => item_due(alloc, group, levels, at, b),
         Mode::Bare(owner, name) => bare_name(alloc, owner, name, levels, at, b),
         Mode::Quoted(owner, name) => quoted_name(owner, name, levels, at, b),

@@ -94,6 +94,14 @@ fn put(out: &mut String, shape: &Shape) -> Result<(), AllocError>
             out.push('?')?;
             put(out, inner)
         }
+        Form::Lossy(inner) => {
+            out.push('~')?;
+            put(out, inner)
+        }
+        Form::Readable(inner) => {
+            out.push('^')?;
+            put(out, inner)
+        }
         Form::Seq(item) => {
             out.push('[')?;
             put(out, item)?;
@@ -101,6 +109,7 @@ fn put(out: &mut String, shape: &Shape) -> Result<(), AllocError>
             Ok(())
         }
         Form::Map(key, value) => put_map(out, key, value),
+        Form::Mode(readable, compact) => put_forms(out, readable, compact),
         Form::Tuple(parts) => put_parts(out, parts),
         Form::TupleStruct(name, parts) => {
             put_name(out, name)?;
@@ -134,6 +143,20 @@ fn put_map(out: &mut String, key: &Shape, value: &Shape) -> Result<(), AllocErro
     out.push(':')?;
     put(out, value)?;
     out.push(']')?;
+    Ok(())
+}
+
+/// Appends two forms between parentheses behind a percent sign.
+#[cycle(put)]
+fn put_forms(out: &mut String, readable: &Shape, compact: &Shape) -> Result<(), AllocError>
+    ensures { OnOk result (string_bytes out.new ≡ string_bytes out.old ++ notation.text (form.by_mode readable.now compact.now)) }
+{
+    out.push('%')?;
+    out.push('(')?;
+    put(out, readable)?;
+    out.push(',')?;
+    put(out, compact)?;
+    out.push(')')?;
     Ok(())
 }
 

@@ -1,7 +1,7 @@
 ghost use Rattle.std.specs.Prelude.{◌≡◌, ◌≤◌, false, string_bytes};
 ghost use Rattle.bson_shape.specs.Form as form;
 ghost use Rattle.bson_shape.specs.Levels.{levels, deepest, deepest_part, deepest_variant, deepest_inside, max_shape_levels};
-ghost use Rattle.bson_shape.specs.Makers.{IsShape, AreShapes, AreParts, AreVariants, IsContent, Makes, is_text_key, is_unit, are_units, contents_repeat, content_repeats, made_optional, made_sequence, made_map, made_tuple, made_tuple_structure, made_newtype, made_structure, made_enumeration};
+ghost use Rattle.bson_shape.specs.Makers.{IsShape, AreShapes, AreParts, AreVariants, IsContent, Makes, is_text_key, is_unit, are_units, contents_repeat, content_repeats, made_optional, made_lossy, made_human_readable, made_by_mode, made_sequence, made_map, made_tuple, made_tuple_structure, made_newtype, made_structure, made_enumeration};
 ghost use Rattle.bson_shape.specs.ShapeView.{fields_of, parts_of, variants_of, content_of, form_view};
 
 use crate::distinct::{has_repeated_field, has_repeated_variant};
@@ -30,8 +30,11 @@ pub struct Shape {
 enum Node {
     Leaf(Leaf),
     Option(Box<Shape>),
+    Lossy(Box<Shape>),
+    Readable(Box<Shape>),
     Seq(Box<Shape>),
     Map(Box<Shape>, Box<Shape>),
+    Mode(Box<Shape>, Box<Shape>),
     Tuple(Vec<Shape>),
     TupleStruct(String, Vec<Shape>),
     Newtype(String, Box<Shape>),
@@ -330,6 +333,42 @@ impl Shape {
         })
     }
 
+    /// A value of this shape, whose texts are mended: U+FFFD stands for each ill-formed sequence.
+    ///
+    /// # Errors
+    ///
+    /// The first of these that applies: `TooDeep` where it would have more than 512 levels, `NoMemory` where memory runs out.
+    pub fn lossy(alloc: Global, inner: Shape) -> Result<Shape, ShapeError>
+        ensures made { Makes result (made_lossy inner) }
+    {
+        let inner_levels = inner.levels();
+        if inner_levels >= MAX_LEVELS {
+            return Err(ShapeError::TooDeep);
+        }
+        Ok(Shape {
+            level_count: inner_levels + 1,
+            node: Node::Lossy(Box::new(alloc, inner)?),
+        })
+    }
+
+    /// A value of this shape, of which the readable form is taken where there are two.
+    ///
+    /// # Errors
+    ///
+    /// The first of these that applies: `TooDeep` where it would have more than 512 levels, `NoMemory` where memory runs out.
+    pub fn readable(alloc: Global, inner: Shape) -> Result<Shape, ShapeError>
+        ensures made { Makes result (made_human_readable inner) }
+    {
+        let inner_levels = inner.levels();
+        if inner_levels >= MAX_LEVELS {
+            return Err(ShapeError::TooDeep);
+        }
+        Ok(Shape {
+            level_count: inner_levels + 1,
+            node: Node::Readable(Box::new(alloc, inner)?),
+        })
+    }
+
     /// A sequence whose items have this shape.
     ///
     /// # Errors
@@ -367,6 +406,24 @@ impl Shape {
         Ok(Shape {
             level_count: deeper + 1,
             node: Node::Map(Box::new(alloc, key)?, Box::new(alloc, value)?),
+        })
+    }
+
+    /// A value with two forms, which have these shapes: the readable one, and the compact one.
+    ///
+    /// # Errors
+    ///
+    /// The first of these that applies: `TooDeep` where it would have more than 512 levels, `NoMemory` where memory runs out.
+    pub fn mode(alloc: Global, readable: Shape, compact: Shape) -> Result<Shape, ShapeError>
+        ensures made { Makes result (made_by_mode readable compact) }
+    {
+        let deeper = readable.levels().max(compact.levels());
+        if deeper >= MAX_LEVELS {
+            return Err(ShapeError::TooDeep);
+        }
+        Ok(Shape {
+            level_count: deeper + 1,
+            node: Node::Mode(Box::new(alloc, readable)?, Box::new(alloc, compact)?),
         })
     }
 
@@ -492,8 +549,11 @@ impl Shape {
         match &self.node {
             Node::Leaf(leaf) => Form::Leaf(*leaf),
             Node::Option(inner) => Form::Option(inner),
+            Node::Lossy(inner) => Form::Lossy(inner),
+            Node::Readable(inner) => Form::Readable(inner),
             Node::Seq(item) => Form::Seq(item),
             Node::Map(key, value) => Form::Map(key, value),
+            Node::Mode(readable, compact) => Form::Mode(readable, compact),
             Node::Tuple(items) => Form::Tuple(items.as_slice()),
             Node::TupleStruct(name, items) => Form::TupleStruct(name.as_str(), items.as_slice()),
             Node::Newtype(name, inner) => Form::Newtype(name.as_str(), inner),

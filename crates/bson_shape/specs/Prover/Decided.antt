@@ -8,7 +8,7 @@ use Rattle.std.proofs.lemmas.Bool.{and_parts, and_from, false≢true}
 use Rattle.std.proofs.lemmas.Slice.Eq.{bytes_eq-Decides}
 use denote.Enum.Bare.{same_true, true_same}
 use Rattle.bson_base.specs.Text.{Utf8}
-use Rattle.bson_shape.specs.Form.{Form, leaf, optional, sequence, map, tuple, tuple_structure, newtype, unit_structure, structure, enumeration, Fields, no_fields, field, Parts, no_parts, part, Variants, no_variants, variant, Content, unit_content, newtype_content, tuple_content, struct_content}
+use Rattle.bson_shape.specs.Form.{Form, leaf, optional, lossy, human_readable, by_mode, sequence, map, tuple, tuple_structure, newtype, unit_structure, structure, enumeration, Fields, no_fields, field, Parts, no_parts, part, Variants, no_variants, variant, Content, unit_content, newtype_content, tuple_content, struct_content}
 use Rattle.bson_shape.specs.Same.{same, same_fields, same_parts, same_variants, same_content}
 use Rattle.bson_shape.specs.contracts.leaf.Leaf as leaf_type
 
@@ -19,7 +19,10 @@ mutual
   same_is : (f g : Form) → same f g ≡ true → f ≡ g
   same_is (leaf l) (leaf m) e = ap leaf (same_true leaf_type.the_type tt l m e)
   same_is (optional f) (optional g) e = ap optional (same_is f g e)
+  same_is (lossy f) (lossy g) e = ap lossy (same_is f g e)
+  same_is (human_readable f) (human_readable g) e = ap human_readable (same_is f g e)
   same_is (sequence f) (sequence g) e = ap sequence (same_is f g e)
+  same_is (by_mode r c) (by_mode s d) e = let b = and_parts (same r s) (same c d) e in λ i. by_mode (same_is r s b.0 i) (same_is c d b.1 i)
   same_is (map k v) (map l w) e =
       let b = and_parts (same k l) (same v w) e in
       λ i. map (same_is k l b.0 i) (same_is v w b.1 i)
@@ -71,7 +74,10 @@ mutual
   same_itself : (f : Form) → same f f ≡ true
   same_itself (leaf l) = true_same leaf_type.the_type l l refl
   same_itself (optional f) = same_itself f
+  same_itself (lossy f) = same_itself f
+  same_itself (human_readable f) = same_itself f
   same_itself (sequence f) = same_itself f
+  same_itself (by_mode r c) = and_from _ _ (same_itself r) (same_itself c)
   same_itself (map k v) = and_from _ _ (same_itself k) (same_itself v)
   same_itself (tuple ps) = parts_alike ps
   same_itself (tuple_structure name ps) = and_from _ _ (bytes_alike name) (parts_alike ps)

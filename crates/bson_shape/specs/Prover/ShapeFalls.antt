@@ -33,7 +33,10 @@ variants_fall (v ∷ vs) = omega (arith, content_falls v.content, variants_fall 
 pub falls : (n : Node) → max (deep-Node n) 0 ≤ nodes (node_view n)
 falls (node.Leaf l) = omega arith
 falls (node.Option inner) = omega arith
+falls (node.Lossy inner) = omega arith
+falls (node.Readable inner) = omega arith
 falls (node.Seq item) = omega arith
+falls (node.Mode readable compact) = omega arith
 falls (node.Map key value) = omega arith
 falls (node.Tuple items) = omega (arith, parts_fall items.items)
 falls (node.TupleStruct name items) = omega (arith, parts_fall items.items)

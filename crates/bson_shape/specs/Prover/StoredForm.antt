@@ -5,7 +5,7 @@ use Rattle.std.proofs.Common.{ap, arith}
 use base.Stored.{Gv, gnil, gnum, gcons}
 use Rattle.bson_base.specs.Prover.Stored.{head, tail, num}
 use Rattle.bson_base.specs.Text.{Utf8}
-use Rattle.bson_shape.specs.Form.{Form, leaf, optional, sequence, map, tuple, tuple_structure, newtype, unit_structure, structure, enumeration, Fields, no_fields, field, Parts, no_parts, part, Variants, no_variants, variant, Content, unit_content, newtype_content, tuple_content, struct_content}
+use Rattle.bson_shape.specs.Form.{Form, leaf, optional, lossy, human_readable, by_mode, sequence, map, tuple, tuple_structure, newtype, unit_structure, structure, enumeration, Fields, no_fields, field, Parts, no_parts, part, Variants, no_variants, variant, Content, unit_content, newtype_content, tuple_content, struct_content}
 use Rattle.bson_shape.specs.contracts.leaf.Leaf as leaf_type
 
 abbrev text_coded : Coded Utf8
@@ -15,7 +15,10 @@ abbrev mutual
   pub form_code : Form → Gv
   form_code (leaf l) = gcons (gnum 0) (leaf_type.the_row.coded.code l)
   form_code (optional f) = gcons (gnum 3) (form_code f)
+  form_code (lossy f) = gcons (gnum 10) (form_code f)
+  form_code (human_readable f) = gcons (gnum 11) (form_code f)
   form_code (sequence f) = gcons (gnum 2) (form_code f)
+  form_code (by_mode r c) = gcons (gnum 12) (gcons (form_code r) (form_code c))
   form_code (map k v) = gcons (gnum 6) (gcons (form_code k) (form_code v))
   form_code (newtype n f) = gcons (gnum 4) (gcons (text_coded.code n) (form_code f))
   form_code (unit_structure n) = gcons (gnum 5) (text_coded.code n)
@@ -46,7 +49,10 @@ mutual
   pub form_inj : (x y : Form) → form_code x ≡ form_code y → x ≡ y
   form_inj (leaf l) (leaf m) p = ap leaf (leaf_type.the_row.coded.inj l m (ap (λ g. tail g) p))
   form_inj (optional f) (optional g) p = ap optional (form_inj f g (ap (λ g. tail g) p))
+  form_inj (lossy f) (lossy g) p = ap lossy (form_inj f g (ap (λ g. tail g) p))
+  form_inj (human_readable f) (human_readable g) p = ap human_readable (form_inj f g (ap (λ g. tail g) p))
   form_inj (sequence f) (sequence g) p = ap sequence (form_inj f g (ap (λ g. tail g) p))
+  form_inj (by_mode r c) (by_mode s d) p = λ i. by_mode (form_inj r s (ap (λ g. head (tail g)) p) i) (form_inj c d (ap (λ g. tail (tail g)) p) i)
   form_inj (map k v) (map l w) p = λ i. map (form_inj k l (ap (λ g. head (tail g)) p) i) (form_inj v w (ap (λ g. tail (tail g)) p) i)
   form_inj (newtype n f) (newtype m g) p = λ i. newtype (text_coded.inj n m (ap (λ g. head (tail g)) p) i) (form_inj f g (ap (λ g. tail (tail g)) p) i)
   form_inj (unit_structure n) (unit_structure m) p = ap unit_structure (text_coded.inj n m (ap (λ g. tail g) p))

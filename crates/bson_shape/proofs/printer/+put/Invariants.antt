@@ -11,6 +11,9 @@ decreases-put l = 2 * nodes l.shape.now
 abbrev pub decreases-put_map : goal.decreases-put_map
 decreases-put_map l = 2 * (nodes l.key.now + nodes l.value.now) + 1
 
+abbrev pub decreases-put_forms : goal.decreases-put_forms
+decreases-put_forms l = 2 * (nodes l.readable.now + nodes l.compact.now) + 1
+
 abbrev pub decreases-put_fields : goal.decreases-put_fields
 decreases-put_fields l = 2 * fields_nodes (fields_of l.fields.now)
 
