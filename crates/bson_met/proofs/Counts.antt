@@ -1,5 +1,5 @@
 -- How many elements there are.
-use Rattle.std.proofs.Common.{◌≡◌, ℕ, suc, ◌≤◌, List, [], ◌∷◌, length, Bool, refl, ap, arith}
+use Rattle.std.proofs.Common.{◌≡◌, ℕ, suc, ◌≤◌, List, [], ◌∷◌, length, refl, ap, arith}
 use Rattle.bson_base.specs.BsonView.{trees_of}
 use Rattle.bson_base.specs.Pairs as pairs
 use Rattle.bson_base.specs.Text.{Bytes}

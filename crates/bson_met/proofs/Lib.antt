@@ -3,3 +3,5 @@ pub mod NodeKinds
 pub mod Judging
 pub mod Counts
 pub mod NodeNulls
+mod SeenAlike
+mod Mending

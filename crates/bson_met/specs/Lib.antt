@@ -11,3 +11,5 @@ pub mod ScalarView
 pub mod Next
 pub mod First
 pub mod Nulls
+pub mod Seen
+pub mod Whole

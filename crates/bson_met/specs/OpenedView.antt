@@ -8,7 +8,8 @@ use Rattle.bson_base.specs.Made.{digits, number_text, base64_text}
 use Rattle.bson_rawdoc.specs.Node as node
 use Rattle.bson_rawdoc.specs.Node.{from_memory, Node, Nodes, one, two, made_text, opened, inner_node, one_level, pair_nodes}
 use Rattle.bson_rawdoc.specs.Piece.{made}
-use Rattle.bson_met.specs.PieceView.{met_bytes, str_piece, met_text}
+use Rattle.bson_met.specs.Seen.{seen}
+use Rattle.bson_met.specs.PieceView.{met_bytes, met_text}
 use Rattle.bson_met.specs.declared.opened.Names.{Names}
 use Rattle.bson_met.specs.declared.opened.Names.TheVariants.{Bytes, Pairs}
 use Rattle.bson_met.specs.declared.opened.Scope.{Scope}
@@ -26,18 +27,18 @@ names_node levels (Bytes d) = inner_node levels EmbeddedDocument (document_bytes
 names_node levels (Pairs d) = one_level EmbeddedDocument (pair_nodes from_memory (pairs_of d.now)) levels
 
 abbrev pub scope_node : Scope → Node
-scope_node s = names_node s.levels s.names
+scope_node s = seen s.mends (names_node s.levels s.names)
 
 abbrev pub extended_view : Extended → node.Extended
 extended_view (Binary s b) = node.binary s.0 (met_bytes b)
 extended_view Undefined = node.undefined
 extended_view (ObjectId b) = node.object_id (met_bytes b)
 extended_view (DateTime d) = node.date_time (millis d)
-extended_view (RegularExpression p o) = node.regular_expression (str_piece p) (str_piece o)
-extended_view (DbPointer n id) = node.db_pointer (str_piece n) id.0
-extended_view (JavaScriptCode t) = node.javascript_code (str_piece t)
-extended_view (Symbol t) = node.symbol (str_piece t)
-extended_view (JavaScriptCodeWithScope t s) = node.javascript_code_with_scope (str_piece t) (scope_node s)
+extended_view (RegularExpression p o) = node.regular_expression (met_text p) (met_text o)
+extended_view (DbPointer n id) = node.db_pointer (met_text n) id.0
+extended_view (JavaScriptCode t) = node.javascript_code (met_text t)
+extended_view (Symbol t) = node.symbol (met_text t)
+extended_view (JavaScriptCodeWithScope t s) = node.javascript_code_with_scope (met_text t) (scope_node s)
 extended_view (Timestamp t) = node.timestamp t.time t.increment
 extended_view (Decimal128 b) = node.decimal128 b.bytes.now
 extended_view MaxKey = node.max_key

@@ -1,4 +1,5 @@
 ghost use Rattle.std.specs.Prelude.{◌≡◌, true, IfOk};
+ghost use Rattle.bson_rawdoc.specs.Node as node;
 ghost use Rattle.bson_rawdoc.specs.Piece.{borrowed};
 ghost use Rattle.bson_datum.specs.MarkedView.{bytes_piece};
 ghost use Rattle.bson_laws.specs.Taken.{borrow, owned_under_mark};
@@ -45,6 +46,17 @@ impl<'de> MetBytes<'de> {
             bytes: self.bytes,
             in_input: self.in_input && !self.under_mark,
             under_mark: false,
+        }
+    }
+
+    /// The same bytes, where texts are mended.
+    pub(crate) fn mended(self) -> MetBytes<'de>
+        ensures mended { node.bytes result.under_mark (met_bytes result) ≡ node.bytes true (met_bytes self.entry) }
+    {
+        MetBytes {
+            bytes: self.bytes,
+            in_input: self.in_input,
+            under_mark: true,
         }
     }
 

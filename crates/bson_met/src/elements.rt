@@ -3,13 +3,14 @@ ghost use Rattle.bson_base.specs.BsonView.{pairs_of};
 ghost use Rattle.bson_base.specs.declared.element_type.ElementType.TheVariants as kinds;
 ghost use Rattle.bson_rawdoc.specs.DocumentView.{document_bytes};
 ghost use Rattle.bson_rawdoc.specs.Node as node;
-ghost use Rattle.bson_rawdoc.specs.Node.{from_memory, node_in, nodes_with, inner_node, one_level, pair_nodes, opened};
+ghost use Rattle.bson_rawdoc.specs.Node.{from_memory, node_in, nodes_with, inner_node, one_level, pair_nodes, opened, mended_nodes};
 ghost use Rattle.bson_laws.specs.Judged.{with_level};
 ghost use Rattle.bson_met.specs.ElementsView.{source_nodes};
 ghost use Rattle.bson_met.specs.Gives.{Reaches};
 ghost use Rattle.bson_met.specs.Next.{IsAdvanced, IsTaken};
 ghost use Rattle.bson_met.specs.OpenedView.{extended_view, opened_nodes};
 ghost use Rattle.bson_met.specs.Sizes.{count};
+ghost use Rattle.bson_met.specs.Seen.{seen_nodes};
 
 use crate::met::Met;
 use crate::opened::{Extended, First, Made, Opened, Place};
@@ -25,6 +26,8 @@ use std::marker::Model;
 #[derive(Drop)]
 pub struct Elements<'de> {
     levels: u32,
+    // Whether their texts are mended.
+    mends: bool,
     source: Source<'de>,
 }
 
@@ -45,14 +48,15 @@ impl<'de> Model for Elements<'de> {
     ghost use Rattle.bson_met.specs.Sizes.{count};
     ghost use Rattle.bson_met.specs.StoredNode.{coded_nodes};
     ghost use Rattle.bson_met.specs.ElementsView.{source_nodes};
+    ghost use Rattle.bson_met.specs.Seen.{seen_nodes};
 
     ghost Value = { Nodes };
 
     ghost coded = { coded_nodes };
 
-    ghost view = { λ e. source_nodes e.levels e.source };
+    ghost view = { λ e. seen_nodes e.mends (source_nodes e.levels e.source) };
 
-    ghost invariant = { λ e. count (source_nodes e.levels e.source) < 2 ^ 64 };
+    ghost invariant = { λ e. count (seen_nodes e.mends (source_nodes e.levels e.source)) < 2 ^ 64 };
 }
 
 /// A value with its key.
@@ -80,6 +84,7 @@ impl<'de> Elements<'de> {
         }
         Ok(Elements {
             levels: levels - 1,
+            mends: false,
             source: Source::Bytes(document.iter_elements()),
         })
     }
@@ -100,6 +105,7 @@ impl<'de> Elements<'de> {
         let _len = document.len();
         Ok(Elements {
             levels: levels - 1,
+            mends: false,
             source: Source::Pairs(document.iter()),
         })
     }
@@ -118,7 +124,20 @@ impl<'de> Elements<'de> {
     {
         Elements {
             levels: 0,
+            mends: false,
             source: Source::Opened(opened),
+        }
+    }
+
+    /// The same elements, whose texts are mended.
+    #[tactic(auto, using(crate::proofs::SeenAlike::seen_count, crate::proofs::SeenAlike::nodes_mended))]
+    pub(crate) fn mended(self) -> Elements<'de>
+        ensures { result ≡ mended_nodes self.entry }
+    {
+        Elements {
+            levels: self.levels,
+            mends: true,
+            source: self.source,
         }
     }
 
@@ -139,11 +158,11 @@ impl<'de> Elements<'de> {
     pub fn advance(&mut self, alloc: Global, step: &mut Step<'de>) -> Reading<bool>
         ensures advanced { IsAdvanced self.old result step.new self.new }
     {
-        let levels = self.levels;
+        let (levels, mends) = (self.levels, self.mends);
         match &mut self.source {
-            Source::Bytes(elements) => advance_in_bytes(alloc, levels, elements, step),
-            Source::Pairs(pairs) => Ok(advance_in_pairs(levels, pairs, step)),
-            Source::Opened(opened) => Ok(advance_in_opened(opened, step)),
+            Source::Bytes(elements) => advance_in_bytes(alloc, levels, mends, elements, step),
+            Source::Pairs(pairs) => Ok(advance_in_pairs(levels, mends, pairs, step)),
+            Source::Opened(opened) => Ok(advance_in_opened(mends, opened, step)),
         }
     }
 }
@@ -153,15 +172,16 @@ impl<'de> Elements<'de> {
 fn advance_in_bytes<'de>(
     alloc: Global,
     levels: u32,
+    mends: bool,
     elements: &mut RawIter<'de>,
     step: &mut Step<'de>,
 ) -> Reading<bool>
-    ensures { IsAdvanced (nodes_with (node_in levels) elements.old) result step.new (nodes_with (node_in levels) elements.new) }
+    ensures { IsAdvanced (seen_nodes mends (nodes_with (node_in levels) elements.old)) result step.new (seen_nodes mends (nodes_with (node_in levels) elements.new)) }
 {
     match elements.next() {
         Some(Ok(element)) => {
-            step.key = MetStr::input(element.key());
-            step.value = Met::of_element(levels, element);
+            step.key = MetStr::key(mends, element.key());
+            step.value = Met::of_seen(levels, mends, element);
             Ok(true)
         }
         Some(Err(fault)) => Err(refused(alloc, Cause::Raw(fault))),
@@ -171,13 +191,18 @@ fn advance_in_bytes<'de>(
 
 /// The next value of a document of a tree, put into the step.
 #[inline(never)]
-fn advance_in_pairs<'de>(levels: u32, pairs: &mut Iter<'de>, step: &mut Step<'de>) -> bool
-    ensures { IsTaken (pair_nodes from_memory pairs.old levels) result step.new (pair_nodes from_memory pairs.new levels) }
+fn advance_in_pairs<'de>(
+    levels: u32,
+    mends: bool,
+    pairs: &mut Iter<'de>,
+    step: &mut Step<'de>,
+) -> bool
+    ensures { IsTaken (seen_nodes mends (pair_nodes from_memory pairs.old levels)) result step.new (seen_nodes mends (pair_nodes from_memory pairs.new levels)) }
 {
     match pairs.next() {
         Some((key, value)) => {
             step.key = MetStr::elsewhere(key.as_str());
-            step.value = Met::of_tree(levels, value);
+            step.value = Met::of_tree(levels, value).under(mends);
             true
         }
         None => false,
@@ -186,14 +211,14 @@ fn advance_in_pairs<'de>(levels: u32, pairs: &mut Iter<'de>, step: &mut Step<'de
 
 /// The next value of a document that a value is opened to, put into the step.
 #[inline(never)]
-fn advance_in_opened<'de>(opened: &mut Opened<'de>, step: &mut Step<'de>) -> bool
-    ensures { IsTaken (opened_nodes opened.old) result step.new (opened_nodes opened.new) }
+fn advance_in_opened<'de>(mends: bool, opened: &mut Opened<'de>, step: &mut Step<'de>) -> bool
+    ensures { IsTaken (seen_nodes mends (opened_nodes opened.old)) result step.new (seen_nodes mends (opened_nodes opened.new)) }
 {
     match opened.first() {
         Some(First { key, value, rest }) => {
             opened.place = rest;
             step.key = MetStr::elsewhere(key);
-            step.value = value;
+            step.value = value.under(mends);
             true
         }
         None => false,

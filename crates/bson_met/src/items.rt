@@ -3,12 +3,13 @@ ghost use Rattle.bson_base.specs.BsonView.{trees_of};
 ghost use Rattle.bson_base.specs.declared.element_type.ElementType.TheVariants as kinds;
 ghost use Rattle.bson_rawdoc.specs.DocumentView.{array_bytes};
 ghost use Rattle.bson_rawdoc.specs.Node as node;
-ghost use Rattle.bson_rawdoc.specs.Node.{from_memory, node_in, nodes_with, inner_node, one_level, tree_nodes};
+ghost use Rattle.bson_rawdoc.specs.Node.{from_memory, node_in, nodes_with, inner_node, one_level, tree_nodes, mended_nodes};
 ghost use Rattle.bson_laws.specs.Judged.{with_level};
 ghost use Rattle.bson_met.specs.ItemsView.{array_nodes, value_nodes};
 ghost use Rattle.bson_met.specs.Gives.{Reaches};
 ghost use Rattle.bson_met.specs.Next.{IsItemAdvanced, IsItemTaken};
 ghost use Rattle.bson_met.specs.Sizes.{count};
+ghost use Rattle.bson_met.specs.Seen.{seen_nodes};
 
 use crate::met::Met;
 use crate::opened::Made;
@@ -23,6 +24,8 @@ use std::marker::Model;
 #[derive(Drop)]
 pub struct Items<'de> {
     levels: u32,
+    // Whether their texts are mended.
+    mends: bool,
     array: Array<'de>,
 }
 
@@ -48,14 +51,15 @@ impl<'de> Model for Items<'de> {
     ghost use Rattle.bson_met.specs.Sizes.{count};
     ghost use Rattle.bson_met.specs.StoredNode.{coded_nodes};
     ghost use Rattle.bson_met.specs.ItemsView.{array_nodes};
+    ghost use Rattle.bson_met.specs.Seen.{seen_nodes};
 
     ghost Value = { Nodes };
 
     ghost coded = { coded_nodes };
 
-    ghost view = { λ e. array_nodes e.levels e.array };
+    ghost view = { λ e. seen_nodes e.mends (array_nodes e.levels e.array) };
 
-    ghost invariant = { λ e. count (array_nodes e.levels e.array) < 2 ^ 64 };
+    ghost invariant = { λ e. count (seen_nodes e.mends (array_nodes e.levels e.array)) < 2 ^ 64 };
 }
 
 impl<'de> Items<'de> {
@@ -70,6 +74,7 @@ impl<'de> Items<'de> {
         }
         Ok(Items {
             levels: levels - 1,
+            mends: false,
             array: Array::Bytes(array.as_doc().iter_elements()),
         })
     }
@@ -94,8 +99,21 @@ impl<'de> Items<'de> {
         };
         Ok(Items {
             levels: levels - 1,
+            mends: false,
             array: Array::Values(values),
         })
+    }
+
+    /// The same elements, whose texts are mended.
+    #[tactic(auto, using(crate::proofs::SeenAlike::seen_count, crate::proofs::SeenAlike::nodes_mended))]
+    pub(crate) fn mended(self) -> Items<'de>
+        ensures { result ≡ mended_nodes self.entry }
+    {
+        Items {
+            levels: self.levels,
+            mends: true,
+            array: self.array,
+        }
     }
 
     /// A value to put the first element into. There are fewer elements than 2 ^ 64.
@@ -112,10 +130,10 @@ impl<'de> Items<'de> {
     pub fn advance(&mut self, alloc: Global, value: &mut Met<'de>) -> Reading<bool>
         ensures advanced { IsItemAdvanced self.old result value.new self.new }
     {
-        let levels = self.levels;
+        let (levels, mends) = (self.levels, self.mends);
         match &mut self.array {
-            Array::Bytes(elements) => advance_in_bytes(alloc, levels, elements, value),
-            Array::Values(values) => Ok(advance_in_values(levels, values, value)),
+            Array::Bytes(elements) => advance_in_bytes(alloc, levels, mends, elements, value),
+            Array::Values(values) => Ok(advance_in_values(levels, mends, values, value)),
         }
     }
 }
@@ -125,14 +143,15 @@ impl<'de> Items<'de> {
 fn advance_in_bytes<'de>(
     alloc: Global,
     levels: u32,
+    mends: bool,
     elements: &mut RawIter<'de>,
     value: &mut Met<'de>,
 ) -> Reading<bool>
-    ensures { IsItemAdvanced (nodes_with (node_in levels) elements.old) result value.new (nodes_with (node_in levels) elements.new) }
+    ensures { IsItemAdvanced (seen_nodes mends (nodes_with (node_in levels) elements.old)) result value.new (seen_nodes mends (nodes_with (node_in levels) elements.new)) }
 {
     match elements.next() {
         Some(Ok(element)) => {
-            *value = Met::of_element(levels, element);
+            *value = Met::of_seen(levels, mends, element);
             Ok(true)
         }
         Some(Err(fault)) => Err(refused(alloc, Cause::Raw(fault))),
@@ -142,14 +161,19 @@ fn advance_in_bytes<'de>(
 
 /// The next element of an array of a tree, put into the value.
 #[inline(never)]
-fn advance_in_values<'de>(levels: u32, values: &mut Values<'de>, value: &mut Met<'de>) -> bool
-    ensures { IsItemTaken (value_nodes levels values.old) result value.new (value_nodes levels values.new) }
+fn advance_in_values<'de>(
+    levels: u32,
+    mends: bool,
+    values: &mut Values<'de>,
+    value: &mut Met<'de>,
+) -> bool
+    ensures { IsItemTaken (seen_nodes mends (value_nodes levels values.old)) result value.new (seen_nodes mends (value_nodes levels values.new)) }
 {
     let all = values.all;
     match all.get(values.index) {
         Some(next) => {
             values.index += 1;
-            *value = Met::of_tree(levels, next);
+            *value = Met::of_tree(levels, next).under(mends);
             true
         }
         None => false,

@@ -13,7 +13,7 @@ ghost use Rattle.bson_laws.specs.Judged.{judged, with_level};
 ghost use Rattle.bson_met.specs.Gives.{Reaches};
 ghost use Rattle.bson_met.specs.MetView.{what_node};
 ghost use Rattle.bson_met.specs.OpenedView.{made_node};
-ghost use Rattle.bson_met.specs.PieceView.{met_bytes};
+ghost use Rattle.bson_met.specs.PieceView.{met_bytes, met_text};
 ghost use Rattle.bson_met.specs.ValueView.{value_view};
 
 use crate::bytes::MetBytes;
@@ -116,7 +116,7 @@ fn judge_raw<'de>(
     Ok(match value {
         RawBsonRef::Int32(number) => Value::Int32(number),
         RawBsonRef::Int64(number) => Value::Int64(number),
-        RawBsonRef::String(text) => Value::String(MetText::Whole(MetStr::input(text))),
+        RawBsonRef::String(text) => Value::String(input_text(text)),
         RawBsonRef::Document(document) => {
             Value::Document(Elements::in_document(alloc, levels, document)?)
         }
@@ -144,17 +144,21 @@ fn extended<'de>(levels: u32, element: &RawElement<'de>, value: RawBsonRef<'de>)
         RawBsonRef::ObjectId(_) => Extended::ObjectId(input_bytes(element.slice())),
         RawBsonRef::DateTime(time) => Extended::DateTime(time),
         RawBsonRef::RegularExpression { pattern, options } => {
-            Extended::RegularExpression(MetStr::input(pattern), MetStr::input(options))
+            Extended::RegularExpression(input_text(pattern), input_text(options))
         }
         RawBsonRef::DbPointer { namespace, id } => {
-            Extended::DbPointer(MetStr::input(namespace), id)
+            Extended::DbPointer(input_text(namespace), id)
         }
-        RawBsonRef::JavaScriptCode(code) => Extended::JavaScriptCode(MetStr::input(code)),
-        RawBsonRef::Symbol(text) => Extended::Symbol(MetStr::input(text)),
+        RawBsonRef::JavaScriptCode(code) => Extended::JavaScriptCode(input_text(code)),
+        RawBsonRef::Symbol(text) => Extended::Symbol(input_text(text)),
         RawBsonRef::JavaScriptCodeWithScope { code, scope } => {
             let names = Names::Bytes(scope);
-            let scope = Scope { levels, names };
-            Extended::JavaScriptCodeWithScope(MetStr::input(code), scope)
+            let scope = Scope {
+                levels,
+                mends: false,
+                names,
+            };
+            Extended::JavaScriptCodeWithScope(input_text(code), scope)
         }
         RawBsonRef::Timestamp(time) => Extended::Timestamp(time),
         RawBsonRef::Decimal128(_) => Extended::Decimal128(input_bytes(element.slice())),
@@ -181,7 +185,7 @@ fn judge_tree<'de>(alloc: Global, levels: u32, value: &'de Bson) -> Reading<Valu
     match value {
         Bson::Int32(number) => Ok(Value::Int32(*number)),
         Bson::Int64(number) => Ok(Value::Int64(*number)),
-        Bson::String(text) => Ok(Value::String(MetText::Whole(MetStr::elsewhere(as_text(text))))),
+        Bson::String(text) => Ok(Value::String(own_text(as_text(text)))),
         Bson::Document(document) => {
             Ok(Value::Document(Elements::in_pairs(alloc, levels, document)?))
         }
@@ -203,25 +207,29 @@ fn judge_tree<'de>(alloc: Global, levels: u32, value: &'de Bson) -> Reading<Valu
             let (pattern, options) = (regex.pattern(), regex.options());
             known(pattern);
             known(options);
-            let (pattern, options) = (MetStr::elsewhere(pattern), MetStr::elsewhere(options));
+            let (pattern, options) = (own_text(pattern), own_text(options));
             Ok(Value::Extended(Extended::RegularExpression(pattern, options)))
         }
         Bson::DbPointer(pointer) => {
-            let namespace = MetStr::elsewhere(as_text(&pointer.namespace));
+            let namespace = own_text(as_text(&pointer.namespace));
             Ok(Value::Extended(Extended::DbPointer(namespace, pointer.id)))
         }
         Bson::JavaScriptCodeWithScope(scoped) => {
-            let code = MetStr::elsewhere(as_text(&scoped.code));
+            let code = own_text(as_text(&scoped.code));
             let names = Names::Pairs(&scoped.scope);
-            let scope = Scope { levels, names };
+            let scope = Scope {
+                levels,
+                mends: false,
+                names,
+            };
             Ok(Value::Extended(Extended::JavaScriptCodeWithScope(code, scope)))
         }
         Bson::JavaScriptCode(code) => {
-            let code = MetStr::elsewhere(as_text(code));
+            let code = own_text(as_text(code));
             Ok(Value::Extended(Extended::JavaScriptCode(code)))
         }
         Bson::Symbol(text) => {
-            let text = MetStr::elsewhere(as_text(text));
+            let text = own_text(as_text(text));
             Ok(Value::Extended(Extended::Symbol(text)))
         }
         Bson::Timestamp(time) => Ok(Value::Extended(Extended::Timestamp(*time))),
@@ -229,6 +237,22 @@ fn judge_tree<'de>(alloc: Global, levels: u32, value: &'de Bson) -> Reading<Valu
         Bson::MaxKey => Ok(Value::Extended(Extended::MaxKey)),
         Bson::MinKey => Ok(Value::Extended(Extended::MinKey)),
     }
+}
+
+/// A text of the input.
+#[inline(always)]
+fn input_text<'de>(text: &'de str) -> MetText<'de>
+    ensures piece { met_text result ≡ borrowed text.now }
+{
+    MetText::Whole(MetStr::input(text))
+}
+
+/// A text that is not in the input.
+#[inline(always)]
+fn own_text<'de>(text: &'de str) -> MetText<'de>
+    ensures piece { met_text result ≡ made text.now }
+{
+    MetText::Whole(MetStr::elsewhere(text))
 }
 
 /// Bytes of the input.
@@ -258,7 +282,7 @@ fn own_bytes<'de>(bytes: &'de [u8]) -> MetBytes<'de>
 }
 
 /// A text of a tree.
-fn as_text(text: &String) -> &str
+pub(crate) fn as_text(text: &String) -> &str
     ensures text { result.now ≡ string_bytes text.now }
     ensures utf8 { is_utf8 (string_bytes text.now) ≡ true }
 {

@@ -10,11 +10,13 @@ ghost use Rattle.bson_met.specs.Nulls.{is_null, is_null_kind};
 ghost use Rattle.bson_met.specs.MetView.{what_node, document_at, array_at, integer_at};
 ghost use Rattle.bson_met.specs.OpenedView.{made_node, scope_node};
 ghost use Rattle.bson_met.specs.ScalarView.{IsSeen};
+ghost use Rattle.bson_met.specs.Seen.{seen};
 ghost use Rattle.bson_met.specs.ValueView.{value_view};
 
 use crate::elements::Elements;
 use crate::items::Items;
 use crate::judge::{judge_beyond, judge_element};
+use crate::mended::judge_mended;
 use crate::opened::{Made, Names, Scope};
 use crate::reading::Reading;
 use crate::scalar::{Scalar, scalar_in};
@@ -28,6 +30,8 @@ use std::marker::Model;
 #[derive(Drop)]
 pub struct Met<'de> {
     levels: u32,
+    // Whether its texts are mended.
+    mends: bool,
     what: What<'de>,
 }
 
@@ -50,12 +54,13 @@ impl<'de> Model for Met<'de> {
     ghost use Rattle.bson_rawdoc.specs.Node.{Node};
     ghost use Rattle.bson_met.specs.StoredNode.{coded_node};
     ghost use Rattle.bson_met.specs.MetView.{what_node};
+    ghost use Rattle.bson_met.specs.Seen.{seen};
 
     ghost Value = { Node };
 
     ghost coded = { coded_node };
 
-    ghost view = { λ m. what_node m.levels m.what };
+    ghost view = { λ m. seen m.mends (what_node m.levels m.what) };
 }
 
 impl<'de> Met<'de> {
@@ -65,6 +70,7 @@ impl<'de> Met<'de> {
     {
         Met {
             levels,
+            mends: false,
             what: What::Document(document),
         }
     }
@@ -75,6 +81,7 @@ impl<'de> Met<'de> {
     {
         Met {
             levels,
+            mends: false,
             what: What::Tree(value),
         }
     }
@@ -84,8 +91,17 @@ impl<'de> Met<'de> {
     pub fn of_element(levels: u32, element: RawElement<'de>) -> Met<'de>
         ensures node { result ≡ node_in levels element.entry.kind element.entry.value }
     {
+        Met::of_seen(levels, false, element)
+    }
+
+    /// The same, whose texts are mended where this is so.
+    #[inline(always)]
+    pub(crate) fn of_seen(levels: u32, mends: bool, element: RawElement<'de>) -> Met<'de>
+        ensures node { result ≡ seen mends (node_in levels element.entry.kind element.entry.value) }
+    {
         Met {
             levels,
+            mends,
             what: What::Element(element),
         }
     }
@@ -96,6 +112,7 @@ impl<'de> Met<'de> {
     {
         Met {
             levels: 0,
+            mends: false,
             what: What::Made(made),
         }
     }
@@ -109,7 +126,12 @@ impl<'de> Met<'de> {
             Names::Pairs(document) => What::Pairs(document),
         };
         let levels = scope.levels;
-        Met { levels, what }
+        let mends = scope.mends;
+        Met {
+            levels,
+            mends,
+            what,
+        }
     }
 
     /// The element whose value it is, with the levels left for it; `None` where it is no value of an element.
@@ -117,6 +139,9 @@ impl<'de> Met<'de> {
     pub fn element(&self) -> Option<(u32, &RawElement<'de>)>
         ensures element { IfSome result (λ p. self.now ≡ node_in p.0 p.1.now.kind p.1.now.value) }
     {
+        if self.mends {
+            return None;
+        }
         match &self.what {
             What::Element(element) => Some((self.levels, element)),
             _ => None,
@@ -129,14 +154,46 @@ impl<'de> Met<'de> {
     pub fn raw_document(&self) -> Option<(u32, RawDocument<'de>)>
         ensures document { IfSome result (λ p. self.now ≡ inner_node p.0 kinds.EmbeddedDocument (document_bytes p.1)) }
     {
+        if self.mends {
+            return None;
+        }
         match &self.what {
             What::Document(document) => Some((self.levels, *document)),
             _ => None,
         }
     }
 
+    /// The same value, whose texts are mended.
+    #[tactic(auto, using(crate::proofs::SeenAlike::seen_mended))]
+    pub fn mended(&self) -> Met<'de>
+        ensures mended { result ≡ node.mended self.now }
+    {
+        let what = match &self.what {
+            What::Element(element) => What::Element(element.clone()),
+            What::Document(document) => What::Document(*document),
+            What::Tree(value) => What::Tree(*value),
+            What::Pairs(document) => What::Pairs(*document),
+            What::Made(made) => What::Made(*made),
+        };
+        Met {
+            levels: self.levels,
+            mends: true,
+            what,
+        }
+    }
+
+    /// The same value, whose texts are mended where this is so.
+    pub(crate) fn under(self, mends: bool) -> Met<'de>
+        ensures seen { result ≡ seen mends self.entry }
+    {
+        if mends {
+            return self.mended();
+        }
+        self
+    }
+
     /// Its kind.
-    #[tactic(auto, using(crate::proofs::NodeKinds::kind_in, crate::proofs::NodeKinds::kind_inner, crate::proofs::NodeKinds::document_kind, crate::proofs::NodeKinds::kind_tree))]
+    #[tactic(auto, using(crate::proofs::SeenAlike::seen_kind, crate::proofs::NodeKinds::kind_in, crate::proofs::NodeKinds::kind_inner, crate::proofs::NodeKinds::document_kind, crate::proofs::NodeKinds::kind_tree))]
     #[inline(always)]
     pub fn kind(&self) -> ElementType
         ensures kind { result ≡ node.kind_of self.now }
@@ -151,7 +208,7 @@ impl<'de> Met<'de> {
     }
 
     /// Whether it is null.
-    #[tactic(auto, using(crate::proofs::NodeNulls::null_in, crate::proofs::NodeNulls::null_inner, crate::proofs::NodeNulls::null_document, crate::proofs::NodeNulls::null_tree, crate::proofs::NodeNulls::null_made))]
+    #[tactic(auto, using(crate::proofs::SeenAlike::seen_null, crate::proofs::NodeNulls::null_in, crate::proofs::NodeNulls::null_inner, crate::proofs::NodeNulls::null_document, crate::proofs::NodeNulls::null_tree, crate::proofs::NodeNulls::null_made))]
     #[inline(always)]
     pub fn is_null(&self) -> bool
         ensures null { result ≡ is_null self.now }
@@ -171,6 +228,9 @@ impl<'de> Met<'de> {
     pub fn judge(&self, alloc: Global) -> Reading<Value<'de>>
         ensures judged { Reaches value_view result (judged self.now) }
     {
+        if self.mends {
+            return judge_mended(alloc, self.levels, &self.what);
+        }
         if let What::Element(element) = &self.what {
             return Ok(judge_element(alloc, self.levels, element)?);
         }
@@ -182,6 +242,9 @@ impl<'de> Met<'de> {
     pub fn scalar(&self, alloc: Global) -> Reading<Scalar<'de>>
         ensures scalar { IsSeen result (judged self.now) }
     {
+        if self.mends {
+            return Ok(Scalar::Other);
+        }
         match &self.what {
             What::Element(element) => scalar_in(alloc, self.levels, element),
             _ => Ok(Scalar::Other),

@@ -1,13 +1,13 @@
 // Values of kinds that serde's data model lacks, and the documents that they are opened to.
 ghost use Rattle.std.specs.Prelude.{◌≡◌, Some};
-ghost use Rattle.bson_rawdoc.specs.Node.{extended_kind, kind_of, string, document};
+ghost use Rattle.bson_rawdoc.specs.Node.{extended_kind, kind_of, string, document, mended, mended_value};
 ghost use Rattle.bson_met.specs.First.{IsFirst};
-ghost use Rattle.bson_met.specs.OpenedView.{extended_view, made_node, left_nodes};
-ghost use Rattle.bson_met.specs.PieceView.{str_piece};
+ghost use Rattle.bson_met.specs.OpenedView.{extended_view, made_node, left_nodes, scope_node};
+ghost use Rattle.bson_met.specs.PieceView.{met_text};
 
 use crate::bytes::MetBytes;
 use crate::met::Met;
-use crate::text::{MetStr, MetText};
+use crate::text::MetText;
 use bson_base::{BinarySubtype, DateTime, Document, ElementType, ObjectId, Timestamp};
 use bson_rawdoc::RawDocument;
 
@@ -23,15 +23,15 @@ pub enum Extended<'de> {
     /// A time.
     DateTime(DateTime),
     /// A pattern and its options.
-    RegularExpression(MetStr<'de>, MetStr<'de>),
+    RegularExpression(MetText<'de>, MetText<'de>),
     /// A namespace and an ObjectId.
-    DbPointer(MetStr<'de>, ObjectId),
+    DbPointer(MetText<'de>, ObjectId),
     /// JavaScript code.
-    JavaScriptCode(MetStr<'de>),
+    JavaScriptCode(MetText<'de>),
     /// A text of the deprecated kind Symbol.
-    Symbol(MetStr<'de>),
+    Symbol(MetText<'de>),
     /// JavaScript code with a document of its names.
-    JavaScriptCodeWithScope(MetStr<'de>, Scope<'de>),
+    JavaScriptCodeWithScope(MetText<'de>, Scope<'de>),
     /// A time in seconds and an increment.
     Timestamp(Timestamp),
     /// A decimal floating point number of 128 bits.
@@ -46,6 +46,8 @@ pub enum Extended<'de> {
 #[derive(Clone, Copy)]
 pub struct Scope<'de> {
     pub(crate) levels: u32,
+    // Whether its texts are mended.
+    pub(crate) mends: bool,
     pub(crate) names: Names<'de>,
 }
 
@@ -130,6 +132,40 @@ impl<'de> Extended<'de> {
     }
 }
 
+impl<'de> Extended<'de> {
+    /// The same value, whose texts are mended.
+    pub(crate) fn mended(self) -> Extended<'de>
+        ensures { extended_view result ≡ mended_value (extended_view self.entry) }
+    {
+        match self {
+            Extended::RegularExpression(pattern, options) => {
+                Extended::RegularExpression(pattern.mended(), options.mended())
+            }
+            Extended::DbPointer(namespace, id) => Extended::DbPointer(namespace.mended(), id),
+            Extended::JavaScriptCode(code) => Extended::JavaScriptCode(code.mended()),
+            Extended::Symbol(text) => Extended::Symbol(text.mended()),
+            Extended::JavaScriptCodeWithScope(code, scope) => {
+                Extended::JavaScriptCodeWithScope(code.mended(), scope.mended())
+            }
+            other => other,
+        }
+    }
+}
+
+impl<'de> Scope<'de> {
+    // The same names, whose texts are mended.
+    #[tactic(auto, using(crate::proofs::SeenAlike::seen_mended))]
+    fn mended(self) -> Scope<'de>
+        ensures { scope_node result ≡ mended (scope_node self.entry) }
+    {
+        Scope {
+            levels: self.levels,
+            mends: true,
+            names: self.names,
+        }
+    }
+}
+
 impl<'de> Made<'de> {
     /// The kind of the value.
     pub(crate) fn kind(&self) -> ElementType
@@ -157,12 +193,12 @@ fn value_at<'de>(key: &'de str, value: Made<'de>, rest: Place) -> First<'de>
 }
 
 /// A text at a key, and what is left behind it.
-fn text_at<'de>(key: &'de str, text: MetStr<'de>, rest: Place) -> First<'de>
+fn text_at<'de>(key: &'de str, text: MetText<'de>, rest: Place) -> First<'de>
     ensures key { result.key.now ≡ key.now }
-    ensures value { result.value ≡ string (str_piece text.entry) }
+    ensures value { result.value ≡ string (met_text text.entry) }
     ensures rest { result.rest ≡ rest }
 {
-    value_at(key, Made::Text(MetText::Whole(text)), rest)
+    value_at(key, Made::Text(text), rest)
 }
 
 /// The document inside, at a key, behind which nothing is left.

@@ -1,5 +1,6 @@
-ghost use Rattle.std.specs.Prelude.{◌≡◌, true, string_bytes, IfOk};
+ghost use Rattle.std.specs.Prelude.{if◌then◌else◌, ◌≡◌, true, string_bytes, IfOk};
 ghost use Rattle.std.specs.Str.{is_utf8};
+ghost use Rattle.bson_rawdoc.specs.Node.{mended_text};
 ghost use Rattle.bson_rawdoc.specs.Piece.{borrowed, made};
 ghost use Rattle.bson_datum.specs.MarkedView.{text_piece};
 ghost use Rattle.bson_laws.specs.Taken.{borrow};
@@ -30,6 +31,17 @@ impl<'de> MetStr<'de> {
         MetStr {
             text,
             in_input: true,
+        }
+    }
+
+    /// A key of the input, which is not borrowed where texts are mended.
+    #[inline(always)]
+    pub(crate) fn key(mends: bool, text: &'de str) -> MetStr<'de>
+        ensures piece { str_piece result ≡ (if mends then made text.now else borrowed text.now) }
+    {
+        MetStr {
+            text,
+            in_input: !mends,
         }
     }
 
@@ -86,6 +98,8 @@ pub enum MetText<'de> {
     Base64(MetBytes<'de>),
     /// The decimal digits of these milliseconds.
     Number(DateTime),
+    /// These bytes, where U+FFFD stands for each ill-formed sequence.
+    Mended(&'de [u8]),
 }
 
 impl<'de> MetText<'de> {
@@ -130,7 +144,8 @@ impl<'de> MetText<'de> {
             | MetText::Id(_)
             | MetText::Subtype(_)
             | MetText::Base64(_)
-            | MetText::Number(_) => Err(refused(alloc, Cause::NotBorrowed)),
+            | MetText::Number(_)
+            | MetText::Mended(_) => Err(refused(alloc, Cause::NotBorrowed)),
         }
     }
 
@@ -146,18 +161,36 @@ impl<'de> MetText<'de> {
             MetText::Subtype(subtype) => digits(alloc, &[subtype.0]),
             MetText::Base64(bytes) => base64_text(alloc, bytes.bytes),
             MetText::Number(time) => number_text(alloc, time.timestamp_millis()),
+            MetText::Mended(bytes) => String::from_utf8_lossy(alloc, bytes),
+        }
+    }
+
+    // The same text, which is not borrowed. It is a text, so that nothing in it is replaced.
+    #[tactic(auto, using(bson_laws::proofs::MendedTexts::whole_mended))]
+    #[inline(always)]
+    pub(crate) fn mended(self) -> MetText<'de>
+        ensures { met_text result ≡ mended_text (met_text self.entry) }
+    {
+        self.known();
+        match self {
+            MetText::Whole(text) => MetText::Whole(MetStr::elsewhere(text.text)),
+            other => other,
         }
     }
 
     // It is a text.
-    #[tactic(auto, using(bson_base::proofs::MadeTexts::digits_are_text, bson_base::proofs::MadeTexts::base64_is_text, bson_base::proofs::MadeTexts::number_is_text))]
+    #[tactic(auto, using(bson_base::proofs::MadeTexts::digits_are_text, bson_base::proofs::MadeTexts::base64_is_text, bson_base::proofs::MadeTexts::number_is_text, bson_laws::proofs::MendedTexts::mended_whole))]
     #[inline(always)]
     pub(crate) fn known(self)
         ensures text { is_utf8 (met_text self.entry).bytes ≡ true }
     {
         match self {
             MetText::Whole(text) => known(text.text),
-            MetText::Digits(_) | MetText::Id(_) | MetText::Subtype(_) | MetText::Base64(_) => {}
+            MetText::Digits(_)
+            | MetText::Id(_)
+            | MetText::Subtype(_)
+            | MetText::Base64(_)
+            | MetText::Mended(_) => {}
             MetText::Number(time) => {
                 let _milliseconds = time.timestamp_millis();
             }

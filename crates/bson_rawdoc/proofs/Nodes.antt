@@ -118,7 +118,7 @@ module _ (inner : ElementType → Bytes → Node) (whole : (k : ElementType) (b 
     scope : Bytes
     scope = drop (n + 4) b
 
-    by_case : (p q : Bool) → Sees scoped (cond p (Err ScopeTotal) (cond q (code_and_scope text scope) (Err ScopeTotal)))
+    by_case : (p q : Bool) → Sees scoped (◌>>=◌ {A = Bytes × Bytes} (cond p (Err ScopeTotal) (cond q (Ok (text, scope)) (Err ScopeTotal))) (λ x. code_and_scope x.0 x.1))
         (or_broken kinds.JavaScriptCodeWithScope scoped_node (cond p (Err ScopeTotal) (cond q (result_map (λ code. (code, scope)) (text_bytes text)) (Err ScopeTotal))))
     by_case true q = refl
     by_case false true = parts_seen (inside text) scope (is_closed text) (is_utf8 (inside text)) (is_closed scope) refl refl

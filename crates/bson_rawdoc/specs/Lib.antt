@@ -9,6 +9,9 @@ pub mod JsonKinds
 pub mod DocumentView
 pub mod ValueView
 pub mod DocumentTree
+pub mod Unjudged
+pub mod UnjudgedView
+pub mod Lossy
 pub mod Printed
 pub mod Next
 pub mod Get

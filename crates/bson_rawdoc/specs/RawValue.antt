@@ -101,14 +101,17 @@ db_pointer_in bytes = result_map (λ namespace. (namespace, drop (length bytes -
 abbrev pub code_and_scope : Bytes → Bytes → Result (Utf8 × Bytes) Error
 code_and_scope text scope = text_in text >>= λ code. result_map (λ scope. (code, scope)) (closed_in scope)
 
--- A code whose length is announced as this, and the scope behind it. The length counts the zero behind the code, and leaves the scope
--- five bytes at least; the scope announces all the bytes that are left.
-abbrev pub scoped_code : ℤ → Bytes → Result (Utf8 × Bytes) Error
-scoped_code (negsuc n) bytes = Err ScopeTotal
-scoped_code (pos n) bytes =
+-- A code whose length is announced as this, and the scope behind it, each with all of its bytes. The length counts the zero behind the code, and leaves the
+-- scope five bytes at least; the scope announces all the bytes that are left.
+abbrev pub scoped_parts : ℤ → Bytes → Result (Bytes × Bytes) Error
+scoped_parts (negsuc n) bytes = Err ScopeTotal
+scoped_parts (pos n) bytes =
     if nat_lt n 1 || nat_lt (length bytes) (n + 4 + 5) then Err ScopeTotal
-    else if int_eq (int32_in (drop (n + 4) bytes)) (pos (length (drop (n + 4) bytes))) then code_and_scope (take (n + 4) bytes) (drop (n + 4) bytes)
+    else if int_eq (int32_in (drop (n + 4) bytes)) (pos (length (drop (n + 4) bytes))) then Ok (take (n + 4) bytes, drop (n + 4) bytes)
     else Err ScopeTotal
+
+abbrev pub scoped_code : ℤ → Bytes → Result (Utf8 × Bytes) Error
+scoped_code n bytes = scoped_parts n bytes >>= λ p. code_and_scope p.0 p.1
 
 -- behind the total length a text, and then a document
 abbrev pub scoped_code_in : Bytes → Result (Utf8 × Bytes) Error

@@ -1,12 +1,17 @@
-ghost use Rattle.std.specs.Prelude.{◌≡◌, false, Ok, length};
+ghost use Rattle.std.specs.Prelude.{◌≡◌, false, Ok, length, option_map};
 ghost use Rattle.bson_base.specs.Kind.{of_byte};
 ghost use Rattle.bson_base.specs.Outcome.{result_map};
+ghost use Rattle.bson_rawdoc.specs.DocumentView.{document_bytes};
 ghost use Rattle.bson_rawdoc.specs.Extent.{extent};
 ghost use Rattle.bson_rawdoc.specs.JsonKinds.{is_of_json};
+ghost use Rattle.bson_rawdoc.specs.Lossy.{MendsAs};
 ghost use Rattle.bson_rawdoc.specs.Walk as walk;
 ghost use Rattle.bson_rawdoc.specs.RawValue.{value_in};
+ghost use Rattle.bson_rawdoc.specs.Unjudged.{unjudged_in, scope_in};
+ghost use Rattle.bson_rawdoc.specs.UnjudgedView.{unjudged_value};
 ghost use Rattle.bson_rawdoc.specs.ValueView.{raw_value};
 
+use crate::document::RawDocument;
 use crate::extent::extent;
 use crate::parts::{
     array_in, binary_in, boolean_in, db_pointer_in, document_in, regex_in, scoped_code_in, text_in,
@@ -14,9 +19,11 @@ use crate::parts::{
 };
 use crate::raw::Error;
 use crate::reading::{fixed, int32_in, int64_in};
+use crate::unjudged::{Unjudged, scope_of, unjudged_in};
 use crate::utf8::key_len;
 use crate::value::RawBsonRef;
-use bson_base::{DateTime, Decimal128, Double, ElementType, ObjectId};
+use bson_base::{Bson, DateTime, Decimal128, Double, ElementType, ObjectId};
+use std::alloc::Global;
 use std::marker::Model;
 
 /// An element of a document: its kind, its key, and the bytes of its value.
@@ -107,6 +114,43 @@ impl<'a> RawElement<'a> {
             ElementType::Int64 => RawBsonRef::Int64(int64_in(bytes)),
             other => return value_beyond_json(other, bytes),
         })
+    }
+
+    /// The value before its texts are judged; `None` at a kind without texts.
+    ///
+    /// # Errors
+    ///
+    /// The first fault of a value with texts, as [`value`](RawElement::value) has it, but for `NotUtf8`.
+    pub fn unjudged(&self) -> Result<Option<Unjudged<'a>>, Error>
+        ensures value { result_map (option_map unjudged_value) result ≡ unjudged_in self.now.kind self.now.value }
+    {
+        unjudged_in(self.kind, self.slice)
+    }
+
+    /// The value with texts of its own, in which U+FFFD stands for each ill-formed sequence; `None` at a kind without texts. The options of a regular expression
+    /// are in order, and the scope of a code is empty: [`scope`](RawElement::scope) has it.
+    ///
+    /// # Errors
+    ///
+    /// The first of these that applies: the first fault of a value with texts, as [`value`](RawElement::value) has it, but for `NotUtf8`; `NoMemory` where memory
+    /// runs out.
+    pub fn value_utf8_lossy(&self, alloc: Global) -> Result<Option<Bson>, Error>
+        ensures mended { MendsAs result (unjudged_in self.now.kind self.now.value) }
+    {
+        match self.unjudged()? {
+            Some(value) => Ok(Some(value.to_bson_lossy(alloc)?)),
+            None => Ok(None),
+        }
+    }
+
+    /// The scope of a code with scope that has no fault but that its code is not UTF-8; `None` for any other value.
+    pub fn scope(&self) -> Option<RawDocument<'a>>
+        ensures scope { option_map document_bytes result ≡ scope_in self.now.kind self.now.value }
+    {
+        match self.unjudged() {
+            Ok(value) => scope_of(value),
+            Err(_) => None,
+        }
     }
 }
 

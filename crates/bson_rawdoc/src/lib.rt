@@ -13,6 +13,7 @@ mod parts;
 pub mod raw;
 pub mod reading;
 mod tree;
+mod unjudged;
 pub mod utf8;
 mod value;
 
@@ -26,4 +27,5 @@ pub use documents::RawDocuments;
 pub use element::RawElement;
 pub use iter::{RawIter, next_element};
 pub use owned::{RawArrayBuf, RawDocumentBuf};
+pub use unjudged::Unjudged;
 pub use value::RawBsonRef;

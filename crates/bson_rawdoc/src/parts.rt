@@ -1,10 +1,11 @@
 // The parts of a value in its bytes, or its first fault.
-ghost use Rattle.std.specs.Prelude.{◌≡◌, ◌≤◌, pos, length, drop};
+ghost use Rattle.std.specs.Prelude.{◌≡◌, ◌≤◌, pos, length, drop, IfOk};
 ghost use Rattle.bson_base.specs.Outcome.{result_map};
 ghost use Rattle.bson_rawdoc.specs.DocumentView.{document_bytes, array_bytes};
 ghost use Rattle.bson_rawdoc.specs.Extent as extents;
 ghost use Rattle.bson_rawdoc.specs.Numbers as numbers;
 ghost use Rattle.bson_rawdoc.specs.RawValue as raw;
+ghost use Rattle.bson_rawdoc.specs.Unjudged as unjudged;
 ghost use Rattle.bson_rawdoc.specs.ValueView.{raw_value};
 
 use crate::array::RawArray;
@@ -27,15 +28,24 @@ fn utf8_in(bytes: &[u8]) -> Result<&str, Error>
     Ok(unsafe { str::from_utf8_unchecked(bytes) })
 }
 
+// The bytes of a text, between its length and the zero behind it.
+#[inline(always)]
+pub(crate) fn closed_text(bytes: &[u8]) -> Result<&[u8], Error>
+    requires { 5 ≤ length bytes.now }
+    ensures { result_map (λ t. t.now) result ≡ unjudged.text_in bytes.now }
+{
+    if !is_closed(bytes) {
+        return Err(Error::TextUnclosed);
+    }
+    Ok(inside(bytes))
+}
+
 // The text between its length and the zero behind it.
 pub(crate) fn text_in(bytes: &[u8]) -> Result<&str, Error>
     requires { 5 ≤ length bytes.now }
     ensures { result_map (λ t. t.now) result ≡ raw.text_in bytes.now }
 {
-    if !is_closed(bytes) {
-        return Err(Error::TextUnclosed);
-    }
-    utf8_in(inside(bytes))
+    utf8_in(closed_text(bytes)?)
 }
 
 // A document that takes as many bytes as it announces.
@@ -130,20 +140,15 @@ pub(crate) fn db_pointer_in(bytes: &[u8]) -> Result<RawBsonRef<'_>, Error>
     })
 }
 
-// The code and the scope behind the total length.
-pub(crate) fn scoped_code_in(bytes: &[u8]) -> Result<RawBsonRef<'_>, Error>
-    requires { 14 ≤ length bytes.now }
-    ensures { result_map raw_value result ≡ raw.value_in ElementType.JavaScriptCodeWithScope bytes.now }
+// A code and the scope behind it, each with all of its bytes.
+pub(crate) fn scoped_parts(bytes: &[u8]) -> Result<(&[u8], &[u8]), Error>
+    requires { 4 ≤ length bytes.now }
+    ensures parts { result_map (λ p. (p.0.now, p.1.now)) result ≡ raw.scoped_parts (numbers.int32_in bytes.now) bytes.now }
+    ensures text { IfOk result (λ p. 5 ≤ length p.0.now) }
+    ensures scope { IfOk result (λ p. 5 ≤ length p.1.now) }
+    ensures announced { IfOk result (λ p. numbers.int32_in p.1.now ≡ pos (length p.1.now)) }
 {
-    let bytes = &bytes[4..];
-    scoped_code(int32_in(bytes), bytes)
-}
-
-// A code whose length is announced as this, and the scope behind it.
-fn scoped_code(announced: i32, bytes: &[u8]) -> Result<RawBsonRef<'_>, Error>
-    ensures { result_map raw_value result ≡ result_map (λ c. raw.javascript_code_with_scope c.0 c.1) (raw.scoped_code announced bytes.now) }
-{
-    let Ok(length) = u32::try_from(announced) else {
+    let Ok(length) = u32::try_from(int32_in(bytes)) else {
         return Err(Error::ScopeTotal);
     };
     let code_end = length as usize + 4;
@@ -154,16 +159,15 @@ fn scoped_code(announced: i32, bytes: &[u8]) -> Result<RawBsonRef<'_>, Error>
     if i64::from(int32_in(scope)) != scope.len() as i64 {
         return Err(Error::ScopeTotal);
     }
-    code_and_scope(text, scope)
+    Ok((text, scope))
 }
 
-// A code, and the scope that announces as many bytes as it has.
-fn code_and_scope<'a>(text: &'a [u8], scope: &'a [u8]) -> Result<RawBsonRef<'a>, Error>
-    requires text { 5 ≤ length text.now }
-    requires scope { 5 ≤ length scope.now }
-    requires announced { numbers.int32_in scope.now ≡ pos (length scope.now) }
-    ensures { result_map raw_value result ≡ result_map (λ c. raw.javascript_code_with_scope c.0 c.1) (raw.code_and_scope text.now scope.now) }
+// The code and the scope behind the total length.
+pub(crate) fn scoped_code_in(bytes: &[u8]) -> Result<RawBsonRef<'_>, Error>
+    requires { 14 ≤ length bytes.now }
+    ensures { result_map raw_value result ≡ raw.value_in ElementType.JavaScriptCodeWithScope bytes.now }
 {
+    let (text, scope) = scoped_parts(&bytes[4..])?;
     let code = text_in(text)?;
     let scope = document_in(scope)?;
     Ok(RawBsonRef::JavaScriptCodeWithScope { code, scope })

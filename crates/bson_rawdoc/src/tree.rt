@@ -11,7 +11,7 @@ use crate::document::RawDocument;
 use crate::raw::Error;
 use crate::value::RawBsonRef;
 use bson_base::{
-    Binary, Bson, DbPointer, Document, JavaScriptCodeWithScope, MAX_NESTING_LEVEL, Regex,
+    Binary, Bson, DbPointer, Document, JavaScriptCodeWithScope, KeySeed, MAX_NESTING_LEVEL, Regex,
 };
 use std::alloc::{AllocError, Global};
 
@@ -19,6 +19,7 @@ impl RawDocument<'_> {
     /// The tree that the document is, with texts, bytes and values of its own.
     ///
     /// A repeated key keeps its first place and takes its last value, and the options of a regular expression are put in order. Of an array the keys are not looked at.
+    /// How keys are hashed depends on all bytes of the document, so that none can be chosen beforehand to have one hash: see `KeySeed`.
     ///
     /// # Errors
     ///
@@ -27,22 +28,28 @@ impl RawDocument<'_> {
     pub fn to_document(&self, alloc: Global) -> Result<Document, Error>
         ensures pairs { Gives pairs_of result (document_pairs (document_bytes self.now)) }
     {
-        document_of(alloc, *self, MAX_NESTING_LEVEL)
+        let seed = KeySeed::of(self.as_bytes());
+        document_of(alloc, *self, MAX_NESTING_LEVEL, seed)
     }
 }
 
 // The document of these elements.
 #[cycle(tree)]
-fn document_of(alloc: Global, document: RawDocument<'_>, levels: u32) -> Result<Document, Error>
+fn document_of(
+    alloc: Global,
+    document: RawDocument<'_>,
+    levels: u32,
+    seed: KeySeed,
+) -> Result<Document, Error>
     ensures { Gives pairs_of result (pairs_at levels (document_bytes document.entry)) }
 {
     if levels == 0 {
         return Err(Error::TooDeep);
     }
-    let mut pairs = Document::new(alloc);
+    let mut pairs = Document::with_seed(alloc, seed);
     for element in document.iter_elements() {
         let element = element?;
-        let value = value_of(alloc, element.value()?, levels - 1)?;
+        let value = value_of(alloc, element.value()?, levels - 1, seed)?;
         let key = String::from_str(alloc, element.key())?;
         pairs.insert(key, value)?;
     }
@@ -51,7 +58,12 @@ fn document_of(alloc: Global, document: RawDocument<'_>, levels: u32) -> Result<
 
 // The values of an array.
 #[cycle(tree)]
-fn values_of(alloc: Global, array: RawArray<'_>, levels: u32) -> Result<Vec<Bson>, Error>
+fn values_of(
+    alloc: Global,
+    array: RawArray<'_>,
+    levels: u32,
+    seed: KeySeed,
+) -> Result<Vec<Bson>, Error>
     ensures { Gives (λ v. trees_of v.items) result (trees_at levels (array_bytes array.entry)) }
 {
     if levels == 0 {
@@ -60,7 +72,10 @@ fn values_of(alloc: Global, array: RawArray<'_>, levels: u32) -> Result<Vec<Bson
     let mut values = Vec::new(alloc);
     for element in array.as_doc().iter_elements() {
         let element = element?;
-        push(&mut values, value_of(alloc, element.value()?, levels - 1)?)?;
+        push(
+            &mut values,
+            value_of(alloc, element.value()?, levels - 1, seed)?,
+        )?;
     }
     Ok(values)
 }
@@ -76,14 +91,16 @@ fn push(values: &mut Vec<Bson>, value: Bson) -> Result<(), AllocError>
 // A value, with so many levels of documents and arrays left.
 #[cycle(tree)]
 #[tactic(auto, using(bson_base::proofs::Rows::row_items))]
-fn value_of(alloc: Global, value: RawBsonRef<'_>, levels: u32) -> Result<Bson, Error>
+fn value_of(alloc: Global, value: RawBsonRef<'_>, levels: u32, seed: KeySeed) -> Result<Bson, Error>
     ensures { Gives tree_of result (tree_at levels (raw_value value.entry)) }
 {
     Ok(match value {
         RawBsonRef::Double(number) => Bson::Double(number),
         RawBsonRef::String(text) => Bson::String(String::from_str(alloc, text)?),
-        RawBsonRef::Array(array) => Bson::Array(values_of(alloc, array, levels)?),
-        RawBsonRef::Document(document) => Bson::Document(document_of(alloc, document, levels)?),
+        RawBsonRef::Array(array) => Bson::Array(values_of(alloc, array, levels, seed)?),
+        RawBsonRef::Document(document) => Bson::Document(document_of(
+            alloc, document, levels, seed,
+        )?),
         RawBsonRef::Boolean(truth) => Bson::Boolean(truth),
         RawBsonRef::Null => Bson::Null,
         RawBsonRef::RegularExpression { pattern, options } => {
@@ -91,7 +108,7 @@ fn value_of(alloc: Global, value: RawBsonRef<'_>, levels: u32) -> Result<Bson, E
         }
         RawBsonRef::JavaScriptCode(code) => Bson::JavaScriptCode(String::from_str(alloc, code)?),
         RawBsonRef::JavaScriptCodeWithScope { code, scope } => {
-            let scope = document_of(alloc, scope, levels)?;
+            let scope = document_of(alloc, scope, levels, seed)?;
             let code = String::from_str(alloc, code)?;
             Bson::JavaScriptCodeWithScope(JavaScriptCodeWithScope { code, scope })
         }
