@@ -1,28 +1,46 @@
 -- The variant that has a name, and its contents.
-use Rattle.std.proofs.Common.{◌≡◌, ◌<◌, List, [], ◌∷◌, Bool, true, false, Ok, refl, subst, arith}
+use Rattle.std.proofs.Common.{◌≡◌, ◌<◌, List, [], ◌∷◌, Bool, true, false, cond, Option, Some, Ok, refl, subst, arith}
 use Rattle.std.specs.Str.{bytes_eq}
 use Rattle.bson_base.specs.Text.{Utf8}
 use Rattle.bson_base.specs.Outcome.{◌>>=◌}
 use Rattle.bson_rawdoc.specs.Node.{Node, Nodes, ended, faulty, then_node}
+use Rattle.bson_shape.specs.Form.{Content, unit_content, newtype_content, tuple_content, struct_content, Variants, no_variants, variant}
 use Rattle.bson_shape.specs.Makers.{AreVariants, IsContent}
 use Rattle.bson_shape.specs.ShapeView as shape_view
 use Rattle.bson_shape.specs.ShapeView.{variants_of, variants_nodes, content_nodes}
 use Rattle.bson_shape.specs.declared.shape.VariantShape.{VariantShape}
 use Rattle.bson_datum.specs.Marked.{Marked}
-use Rattle.bson_laws.specs.Containers.{read_first}
+use Rattle.bson_laws.specs.Containers.{unit_of, read_first}
 use Rattle.bson_laws.specs.Judged.{Reading}
 use Rattle.bson_laws.specs.Reads.{reads_variant, reads_content}
+use Rattle.bson_laws.specs.Settled.{settled_variants, settled_content}
+use Rattle.bson_laws.specs.Variants.{content_of}
 use Rattle.bson_leaves.specs.Named.{variant_named}
 use Rattle.bson_leaves.proofs.Variants.{named, this_or, then_read}
 use Rattle.bson_de.specs.Enums.{Pair, first_of}
 
 -- an element is read at the variant that has its key as its name
-abbrev pub content_read : Node → VariantShape → Reading Marked
-content_read n v = reads_content (named v) (shape_view.content_of v.content) n
+abbrev pub content_read : (readable : Bool) → Node → VariantShape → Reading Marked
+content_read readable n v = reads_content (named v) (settled_content readable (shape_view.content_of v.content)) n
 
-pub element_read : (vs : List VariantShape) (key : Utf8) (n : Node) → reads_variant (variants_of vs) key n ≡ (variant_named vs key >>= content_read n)
-element_read [] key n = refl
-element_read (v ∷ vs) key n = then_read (bytes_eq (named v) key) v (variant_named vs key) (content_read n) (reads_variant (variants_of vs) key n) (element_read vs key n)
+pub element_read : (readable : Bool) (vs : List VariantShape) (key : Utf8) (n : Node)
+    → reads_variant (settled_variants readable (variants_of vs)) key n ≡ (variant_named vs key >>= content_read readable n)
+element_read readable [] key n = refl
+element_read readable (v ∷ vs) key n =
+    then_read (bytes_eq (named v) key) v (variant_named vs key) (content_read readable n) (reads_variant (settled_variants readable (variants_of vs)) key n) (element_read readable vs key n)
+
+-- a text names the same unit variant for each reader
+unit_either : (readable : Bool) (b : Bool) (name : Utf8) (c : Content) (o p : Option Content) → unit_of name o ≡ unit_of name p
+    → unit_of name (cond b (Some (settled_content readable c)) o) ≡ unit_of name (cond b (Some c) p)
+unit_either readable true name unit_content o p e = refl
+unit_either readable true name (newtype_content s) o p e = refl
+unit_either readable true name (tuple_content ps) o p e = refl
+unit_either readable true name (struct_content fs) o p e = refl
+unit_either readable false name c o p e = e
+
+pub unit_settled : (readable : Bool) (vs : Variants) (name : Utf8) → unit_of name (content_of (settled_variants readable vs) name) ≡ unit_of name (content_of vs name)
+unit_settled readable no_variants name = refl
+unit_settled readable (variant n c vs) name = unit_either readable (bytes_eq n name) name c (content_of (settled_variants readable vs) name) (content_of vs name) (unit_settled readable vs name)
 
 -- what holds of this variant, and of the one that is found among the others, holds of the one that is found
 found : (P : VariantShape → Type 0) (b : Bool) (v w : VariantShape) (q : Reading VariantShape) → this_or b v q ≡ Ok w → P v → (q ≡ Ok w → P w) → P w

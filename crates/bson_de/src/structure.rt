@@ -4,6 +4,7 @@ ghost use Rattle.bson_shape.specs.Makers.{AreDistinct};
 ghost use Rattle.bson_shape.specs.ShapeView.{fields_of};
 ghost use Rattle.bson_datum.specs.MarkedView.{marked};
 ghost use Rattle.bson_laws.specs.Reads.{reads, slots_of};
+ghost use Rattle.bson_laws.specs.Settled.{settled, settled_fields};
 ghost use Rattle.bson_laws.specs.Slots as laws;
 ghost use Rattle.bson_met.specs.Gives.{Reaches};
 ghost use Rattle.bson_met.specs.PieceView.{str_piece};
@@ -12,7 +13,7 @@ ghost use Rattle.bson_slots.specs.SlotsView.{slots_view};
 ghost use Rattle.bson_slots.specs.FieldsRead.{fields_read, fields_by_key};
 
 use crate::tuple::read_next;
-use crate::value::read_value;
+use crate::value::read_settled;
 use bson_datum::{Cause, Datum, Field};
 use bson_met::{Elements, Items, Met, Reading, Step, Value, refused};
 use bson_shape::FieldShape;
@@ -25,15 +26,16 @@ use std::alloc::Global;
 #[inline(never)]
 pub(crate) fn read_struct<'de>(
     alloc: Global,
+    readable: bool,
     name: &str,
     fields: &[FieldShape],
     value: &Met<'de>,
 ) -> Reading<Datum<'de>>
     requires { AreDistinct (fields_of fields.now) }
     ensures exact { Reaches marked result
-        (reads (form.structure name.now (fields_of fields.now)) value.now) }
+        (reads (settled readable (form.structure name.now (fields_of fields.now))) value.now) }
 {
-    let fields = read_fields(alloc, fields, value)?;
+    let fields = read_fields(alloc, readable, fields, value)?;
     Ok(named_struct(alloc, name, fields)?)
 }
 
@@ -41,17 +43,18 @@ pub(crate) fn read_struct<'de>(
 #[cycle(read)]
 pub(crate) fn read_fields<'de>(
     alloc: Global,
+    readable: bool,
     fields: &[FieldShape],
     value: &Met<'de>,
 ) -> Reading<Vec<Field<'de>>>
     requires { AreDistinct (fields_of fields.now) }
-    ensures exact { Reaches (λ v. fields_marked v.items) result (fields_read (slots_of (fields_of fields.now)) value.now) }
+    ensures exact { Reaches (λ v. fields_marked v.items) result (fields_read (slots_of (settled_fields readable (fields_of fields.now))) value.now) }
 {
     match value.judge(alloc)? {
-        Value::Array(items) => read_by_place(alloc, fields, items),
+        Value::Array(items) => read_by_place(alloc, readable, fields, items),
         other => {
             let elements = other.document(alloc)?;
-            read_by_key(alloc, fields, elements)
+            read_by_key(alloc, readable, fields, elements)
         }
     }
 }
@@ -60,15 +63,16 @@ pub(crate) fn read_fields<'de>(
 #[cycle(read)]
 fn read_by_key<'de>(
     alloc: Global,
+    readable: bool,
     fields: &[FieldShape],
     mut elements: Elements<'de>,
 ) -> Reading<Vec<Field<'de>>>
     requires { AreDistinct (fields_of fields.now) }
     ensures exact { Reaches (λ v. fields_marked v.items) result
-        (fields_by_key (slots_of (fields_of fields.now)) elements.entry) }
+        (fields_by_key (slots_of (settled_fields readable (fields_of fields.now))) elements.entry) }
 {
     let mut index = NameIndex::new(fields);
-    let mut slots = Slots::new(alloc, fields)?;
+    let mut slots = Slots::new(alloc, fields, readable)?;
     let mut step = elements.start();
     'step: while elements.advance(alloc, &mut step)? {
         fill_one(alloc, &step, &mut index, &mut slots)?;
@@ -102,8 +106,8 @@ fn fill_one<'de>(
         let cause = Cause::DuplicateField(String::from_str(alloc, key)?);
         return Err(refused(alloc, cause));
     }
-    let shape = &fields[place].shape;
-    match read_value(alloc, shape, &step.value) {
+    let (shape, readable) = (&fields[place].shape, slots.readable);
+    match read_settled(alloc, readable, shape, &step.value) {
         Ok(value) => {
             slots.put(alloc, place, value)?;
             Ok(())
@@ -117,15 +121,16 @@ fn fill_one<'de>(
 #[inline(never)]
 fn read_by_place<'de>(
     alloc: Global,
+    readable: bool,
     fields: &[FieldShape],
     mut elements: Items<'de>,
 ) -> Reading<Vec<Field<'de>>>
     ensures exact { Reaches (λ v. fields_marked v.items) result
-        (laws.reads_places 0 (slots_of (fields_of fields.now)) elements.entry) }
+        (laws.reads_places 0 (slots_of (settled_fields readable (fields_of fields.now))) elements.entry) }
 {
     let mut values = Vec::new(alloc);
     for (place, field) in fields.iter().enumerate() {
-        let value = read_next(alloc, &field.shape, place as u64, &mut elements)?;
+        let value = read_next(alloc, readable, &field.shape, place as u64, &mut elements)?;
         values.push(named_field(alloc, field.name.as_str(), value)?)?;
     }
     Ok(values)

@@ -4,6 +4,7 @@ ghost use Rattle.bson_shape.specs.Form as form;
 ghost use Rattle.bson_shape.specs.ShapeView.{parts_of};
 ghost use Rattle.bson_datum.specs.MarkedView.{marked};
 ghost use Rattle.bson_laws.specs.Reads.{reads, reads_parts};
+ghost use Rattle.bson_laws.specs.Settled.{settled, settled_parts};
 ghost use Rattle.bson_met.specs.Gives.{Reaches};
 ghost use Rattle.bson_texts.specs.ListsMarked.{items_marked};
 ghost use Rattle.bson_slots.specs.NextValue.{next_value, behind_first};
@@ -20,13 +21,14 @@ use std::alloc::Global;
 #[inline(never)]
 pub(crate) fn read_tuple<'de>(
     alloc: Global,
+    readable: bool,
     parts: &[Shape],
     value: &Met<'de>,
 ) -> Reading<Datum<'de>>
-    ensures exact { Reaches marked result (reads (form.tuple (parts_of parts.now)) value.now) }
+    ensures exact { Reaches marked result (reads (settled readable (form.tuple (parts_of parts.now))) value.now) }
 {
     let elements = value.array(alloc)?;
-    let items = read_parts(alloc, parts, elements)?;
+    let items = read_parts(alloc, readable, parts, elements)?;
     Ok(Datum::Tuple(items))
 }
 
@@ -35,15 +37,16 @@ pub(crate) fn read_tuple<'de>(
 #[inline(never)]
 pub(crate) fn read_tuple_struct<'de>(
     alloc: Global,
+    readable: bool,
     name: &str,
     parts: &[Shape],
     value: &Met<'de>,
 ) -> Reading<Datum<'de>>
     ensures exact { Reaches marked result
-        (reads (form.tuple_structure name.now (parts_of parts.now)) value.now) }
+        (reads (settled readable (form.tuple_structure name.now (parts_of parts.now))) value.now) }
 {
     let elements = value.array(alloc)?;
-    let items = read_parts(alloc, parts, elements)?;
+    let items = read_parts(alloc, readable, parts, elements)?;
     let name = Text::Owned(String::from_str(alloc, name)?);
     Ok(Datum::TupleStruct { name, items })
 }
@@ -52,15 +55,16 @@ pub(crate) fn read_tuple_struct<'de>(
 #[cycle(read)]
 pub(crate) fn read_parts<'de>(
     alloc: Global,
+    readable: bool,
     parts: &[Shape],
     mut elements: Items<'de>,
 ) -> Reading<Vec<Datum<'de>>>
     ensures exact { Reaches (λ v. items_marked v.items) result
-        (reads_parts (parts_of parts.now) 0 elements.entry) }
+        (reads_parts (settled_parts readable (parts_of parts.now)) 0 elements.entry) }
 {
     let mut values = Vec::new(alloc);
     for (place, part) in parts.iter().enumerate() {
-        let value = read_next(alloc, part, place as u64, &mut elements)?;
+        let value = read_next(alloc, readable, part, place as u64, &mut elements)?;
         values.push(value)?;
     }
     Ok(values)
@@ -70,13 +74,14 @@ pub(crate) fn read_parts<'de>(
 #[cycle(read)]
 pub(crate) fn read_next<'de>(
     alloc: Global,
+    readable: bool,
     shape: &Shape,
     index: u64,
     elements: &mut Items<'de>,
 ) -> Reading<Datum<'de>>
     ensures rest { IfOk result (λ _. elements.new ≡ behind_first elements.old) }
-    ensures value { Reaches marked result (next_value index (reads shape.now) elements.old) }
+    ensures value { Reaches marked result (next_value index (reads (settled readable shape.now)) elements.old) }
 {
     let value = due(alloc, index, elements)?;
-    read_item(alloc, shape, index, &value)
+    read_item(alloc, readable, shape, index, &value)
 }

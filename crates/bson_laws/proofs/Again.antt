@@ -16,10 +16,10 @@ use Rattle.bson_base.specs.declared.element_type.ElementType.TheVariants.{Int32}
 use Rattle.bson_base.proofs.Outcomes.{some_is, ok_is, map_ok, bind_ok}
 use Rattle.bson_rawdoc.specs.Node as node
 use Rattle.bson_rawdoc.specs.Node.{Sight, piece, Node, Nodes, tree_node, pair_nodes, tree_nodes}
-use Rattle.bson_rawdoc.specs.Piece.{Piece, borrowed, made}
+use Rattle.bson_rawdoc.specs.Piece.{Piece, made}
 use Rattle.bson_shape.proofs.TextStates.{text-encode}
 use Rattle.bson_base.specs.Reserved.{reserved_kind}
-use Rattle.bson_shape.specs.Form.{Form, leaf, optional, sequence, newtype, unit_structure, map, tuple, tuple_structure, structure, enumeration, Fields, no_fields, field, Parts, no_parts, part, Content, unit_content, newtype_content, tuple_content, struct_content, Variants, no_variants, variant}
+use Rattle.bson_shape.specs.Form.{Form, leaf, optional, lossy, human_readable, by_mode, sequence, newtype, unit_structure, map, tuple, tuple_structure, structure, enumeration, Fields, no_fields, field, Parts, no_parts, part, Content, unit_content, newtype_content, tuple_content, struct_content, Variants, no_variants, variant}
 use Rattle.bson_shape.specs.Makers.{is_reserved_newtype, IsShape, AreShapes, AreParts, AreVariants, IsContent}
 use Rattle.bson_datum.specs.Value as value
 use Rattle.bson_datum.specs.Value.{IntegerType, i8, i16, i32, i64, u8, u16, u32, u64, greatest, in_range, written_as, Value, Items, no_items, item, Entries, no_entries, entry, FieldValues, no_field_values, field_value}
@@ -37,16 +37,19 @@ use Rattle.bson_laws.specs.ReadsExtended.{read_extended}
 use Rattle.bson_laws.specs.Containers.{reads_items, reads_entries, unit_of, reads_key, reads_unit, read_enum}
 use Rattle.bson_laws.specs.Slots.{read_structure}
 use Rattle.bson_laws.specs.Reads.{read_leaf, slots_of, reads, reads_parts, reads_variant, reads_content}
+use Rattle.bson_laws.specs.Settled.{IsSettled, AreFieldsSettled, ArePartsSettled}
 use Rattle.bson_laws.specs.Spell.{Writing, enclosed_at, variant_at, named, spell_number, spell_key, spell, spell_items, spell_entries, spell_fields}
 use Rattle.bson_laws.proofs.TreesAgain.{extended_comes}
 use Rattle.bson_laws.proofs.Coded.{IsName, IsCoded, ArePairsCoded, AreTreesCoded}
 use Rattle.bson_laws.proofs.Entries.{joined, joined_contents, joined_none, joined_one, IsNew, put_last, new_joined}
 use Rattle.bson_laws.proofs.Filled.{Distinct, ArePassed, seen_of, seen_at, seen_fields, fields_seen}
 use Rattle.bson_laws.proofs.Fitted.{Unnamed, unlike_swap, bytes_eq-refl, bytes_same, chosen_t, chosen_f, one_again}
-use Rattle.bson_laws.proofs.Given.{Differs, AreApart, IsGivenAny, AreGivenItems, AreGivenEntries, IsGivenLeaf, IsGivenLeafKey, IsGivenKey, IsGiven, ItemsGiven, PartsGiven, EntriesGiven, FieldsGiven, given_leaf}
+use Rattle.bson_laws.proofs.Given.{Differs, AreApart, IsGivenAny, AreGivenItems, AreGivenEntries, IsGivenLeaf, IsGivenLeafKey, IsGivenKey, IsGiven, ItemsGiven, PartsGiven, EntriesGiven, FieldsGiven, given_leaf, given_lossy}
 use Rattle.bson_laws.proofs.Judged.{text_whole, by_null}
 use Rattle.bson_laws.proofs.ReadBack.{distinct_from}
-use Rattle.bson_laws.proofs.Lent.{LeafLent, IsLent, AreFieldsLent, ArePartsLent, AreVariantsLent, IsContentLent, text_lent, owned_same}
+use Rattle.bson_laws.proofs.Lent.{LeafLent, marked, text_lent, owned_same}
+use Rattle.bson_laws.proofs.Mended.{tree_mended}
+use Rattle.bson_laws.proofs.Settled.{content_settled}
 use Rattle.bson_laws.proofs.Tame.{judged_then}
 use Rattle.bson_laws.proofs.Sizes.{inside_ok, under_ok, named_ok, spell_key_ok, wide_is, binary_is}
 use Rattle.bson_laws.proofs.Free.{free_spelled, free_struct}
@@ -244,13 +247,13 @@ leaf_key_comes at l byte_buffers (value.bytes bs) x lent g e = absurd cc
 leaf_key_comes at l ignored value.unit x lent g e = absurd cc
 leaf_key_comes at l k v x lent g e = absurd g
 
-key_comes : (at : Sight) (s : Form) (k : Value) (x : Utf8) → IsLent at s → IsGivenKey s k → key_text k ≡ Some x → KeyComes at (reads_key s) k x
-key_comes at (leaf l) k x lent g e = leaf_key_comes at (borrows l) (leaf_kind l) k x lent g e
-key_comes at (enumeration vs) (value.unit_variant name) x lent g e =
+key_comes : (at : Sight) (s : Form) (k : Value) (x : Utf8) → IsGivenKey at s k → key_text k ≡ Some x → KeyComes at (reads_key s) k x
+key_comes at (leaf l) k x g e = leaf_key_comes at (borrows l) (leaf_kind l) k x g.1 g.0 e
+key_comes at (enumeration vs) (value.unit_variant name) x g e =
     let is = some_is name x e in
     (value.unit_variant (made x), ap (unit_of x) (ap (content_of vs) (sym is) ∙ g.0), ap value.unit_variant (sym is))
-key_comes at (enumeration vs) k x lent g e = absurd g
-key_comes at s k x lent g e = absurd g
+key_comes at (enumeration vs) k x g e = absurd g
+key_comes at s k x g e = absurd g
 
 -- ---- variants
 
@@ -271,14 +274,6 @@ chosen_shape false n name d c o is u p e h = h e
 variant_shape : (vs : Variants) (name : Utf8) (c : Content) → AreVariants vs → content_of vs name ≡ Some c → (is_utf8 name ≡ true) × IsContent c
 variant_shape no_variants name c p e = absurd cc
 variant_shape (variant n d vs) name c p e = chosen_shape (bytes_eq n name) n name d c (content_of vs name) refl p.0 p.1 e (variant_shape vs name c p.2)
-
-chosen_lent : (at : Sight) (b : Bool) (d c : Content) (o : Option Content) → IsContentLent at d → cond b (Some d) o ≡ Some c → (o ≡ Some c → IsContentLent at c) → IsContentLent at c
-chosen_lent at true d c o h e f = subst (IsContentLent at) (some_is d c e) h
-chosen_lent at false d c o h e f = f e
-
-variant_lent : (at : Sight) (vs : Variants) (name : Utf8) (c : Content) → AreVariantsLent at vs → content_of vs name ≡ Some c → IsContentLent at c
-variant_lent at no_variants name c h e = absurd cc
-variant_lent at (variant n d vs) name c h e = chosen_lent at (bytes_eq n name) d c (content_of vs name) h.0 e (variant_lent at vs name c h.1)
 
 -- what is read for a variant is spelled as a document of one pair
 abbrev VariantComes : (at : Sight) → Variants → Utf8 → ℕ → Tree → Type 0
@@ -309,11 +304,11 @@ leaf_key_whole byte_buffers (value.bytes bs) x g e = absurd cc
 leaf_key_whole ignored value.unit x g e = absurd cc
 leaf_key_whole k v x g e = absurd g
 
-key_name : (s : Form) (k : Value) (x : Utf8) → IsShape s → IsGivenKey s k → (key_text k ≡ Some x) × (has_zero x ≡ false) → IsName x
-key_name (leaf l) k x p g e = (leaf_key_whole (leaf_kind l) k x g e.0, e.1)
-key_name (enumeration vs) (value.unit_variant name) x p g e = (ap is_utf8 (sym (some_is name x e.0)) ∙ (variant_shape vs name unit_content p.1 g.0).0, e.1)
-key_name (enumeration vs) k x p g e = absurd g
-key_name s k x p g e = absurd g
+key_name : (at : Sight) (s : Form) (k : Value) (x : Utf8) → IsShape s → IsGivenKey at s k → (key_text k ≡ Some x) × (has_zero x ≡ false) → IsName x
+key_name at (leaf l) k x p g e = (leaf_key_whole (leaf_kind l) k x g.0 e.0, e.1)
+key_name at (enumeration vs) (value.unit_variant name) x p g e = (ap is_utf8 (sym (some_is name x e.0)) ∙ (variant_shape vs name unit_content p.1 g.0).0, e.1)
+key_name at (enumeration vs) k x p g e = absurd g
+key_name at s k x p g e = absurd g
 
 -- ---- what is built of parts
 
@@ -390,35 +385,44 @@ option_comes at s t levels h =
     by_null (λ r. (m : Marked) × (r ≡ Ok m) × (spell (contents m) levels ≡ Ok t) × IsCoded t) at t levels (reads s (tree_node at t levels))
     (λ is. (value.none, refl, ap Ok (sym is), h.3)) (value.some h.0, ap (result_map value.some) h.1, h.2, h.3)
 
+-- ---- where texts are mended
+
+-- what comes at a form under a mark comes at the form whose texts are mended
+lossy_comes : (at : Sight) (s : Form) (levels : ℕ) (t : Tree) → Comes (marked at) s levels t → Comes at (lossy s) levels t
+lossy_comes at s levels t h = (h.0, ap (reads s) (tree_mended at t levels h.3) ∙ h.1, h.2, h.3)
+
 -- ---- all values
 
 mutual
-  pub again : (at : Sight) (v : Value) (s : Form) (levels : ℕ) (t : Tree) → IsShape s → IsLent at s → IsGiven v s → spell v levels ≡ Ok t → Comes at s levels t
-  again at v (leaf l) levels t p lent g e = leaf_comes at (borrows l) (leaf_kind l) v levels t lent (given_leaf v l g) e
-  again at value.none (optional s) levels t p lent g e = subst (Comes at (optional s) levels) (ok_is null t e) (value.none, refl, refl, tt)
-  again at (value.some v) (optional s) levels t p lent g e = option_comes at s t levels (again at v s levels t p.1 lent g e)
-  again at (value.newtype m v) (newtype n s) levels t p lent g e =
-      let h = again at v s levels t p.1 lent g.1 (sym (free_spelled m v levels (ap is_reserved_newtype g.0 ∙ p.0.free)) ∙ e) in
+  pub again : (at : Sight) (v : Value) (s : Form) (levels : ℕ) (t : Tree) → IsShape s → IsSettled s → IsGiven at v s → spell v levels ≡ Ok t → Comes at s levels t
+  again at v (leaf l) levels t p due g e = leaf_comes at (borrows l) (leaf_kind l) v levels t (given_leaf at v l g).1 (given_leaf at v l g).0 e
+  again at v (lossy s) levels t p due g e = lossy_comes at s levels t (again (marked at) v s levels t p.1 due (given_lossy at v s g) e)
+  again at v (human_readable s) levels t p due g e = absurd due
+  again at v (by_mode readable compact) levels t p due g e = absurd due
+  again at value.none (optional s) levels t p due g e = subst (Comes at (optional s) levels) (ok_is null t e) (value.none, refl, refl, tt)
+  again at (value.some v) (optional s) levels t p due g e = option_comes at s t levels (again at v s levels t p.1 due g e)
+  again at (value.newtype m v) (newtype n s) levels t p due g e =
+      let h = again at v s levels t p.1 due g.1 (sym (free_spelled m v levels (ap is_reserved_newtype g.0 ∙ p.0.free)) ∙ e) in
       (value.newtype (made n) h.0, ap (result_map (value.newtype (made n))) h.1, free_spelled n (contents h.0) levels p.0.free ∙ h.2, h.3)
-  again at (value.unit_structure m) (unit_structure n) levels t p lent g e = subst (Comes at (unit_structure n) levels) (ok_is null t e) (value.unit_structure (made n), refl, refl, tt)
-  again at (value.sequence vs) (sequence s) levels t p lent g e =
-      let h = items_body at (reads_items (reads s) 0) vs levels t e (λ k ts q. again_items at vs s 0 k ts p.1 lent g q) in
+  again at (value.unit_structure m) (unit_structure n) levels t p due g e = subst (Comes at (unit_structure n) levels) (ok_is null t e) (value.unit_structure (made n), refl, refl, tt)
+  again at (value.sequence vs) (sequence s) levels t p due g e =
+      let h = items_body at (reads_items (reads s) 0) vs levels t e (λ k ts q. again_items at vs s 0 k ts p.1 due g q) in
       (value.sequence h.0, built_of (judged (tree_node at t levels) >>= array_of) (reads_items (reads s) 0) value.sequence h.0 h.1, h.2, h.3)
-  again at (value.map es) (map key s) levels t p lent g e =
+  again at (value.map es) (map key s) levels t p due g e =
       within (Comes at (map key s)) document levels (spell_entries es) t e
-      (λ n ps q. let h = again_entries at es key s n ps no_entries p.2 p.3 lent.0 lent.1 g.0 g.1 (new_to_none es) q in (value.map h.0, ap (result_map value.map) h.1, ap (result_map document) h.2, h.3))
-  again at (value.tuple vs) (tuple ps) levels t p lent g e =
-      let h = items_body at (reads_parts ps 0) vs levels t e (λ k ts q. again_parts at vs ps 0 k ts p.1 lent g q) in
+      (λ n ps q. let h = again_entries at es key s n ps no_entries p.2 p.3 due g.0 g.1 (new_to_none es) q in (value.map h.0, ap (result_map value.map) h.1, ap (result_map document) h.2, h.3))
+  again at (value.tuple vs) (tuple ps) levels t p due g e =
+      let h = items_body at (reads_parts ps 0) vs levels t e (λ k ts q. again_parts at vs ps 0 k ts p.1 due g q) in
       (value.tuple h.0, built_of (judged (tree_node at t levels) >>= array_of) (reads_parts ps 0) value.tuple h.0 h.1, h.2, h.3)
-  again at (value.tuple_structure m vs) (tuple_structure n ps) levels t p lent g e =
-      let h = items_body at (reads_parts ps 0) vs levels t e (λ k ts q. again_parts at vs ps 0 k ts p.2 lent g.1 q) in
+  again at (value.tuple_structure m vs) (tuple_structure n ps) levels t p due g e =
+      let h = items_body at (reads_parts ps 0) vs levels t e (λ k ts q. again_parts at vs ps 0 k ts p.2 due g.1 q) in
       (value.tuple_structure (made n) h.0, built_of (judged (tree_node at t levels) >>= array_of) (reads_parts ps 0) (value.tuple_structure (made n)) h.0 h.1, h.2, h.3)
-  again at (value.structure m vs) (structure n fs) levels t p lent g e =
+  again at (value.structure m vs) (structure n fs) levels t p due g e =
       let free = ap reserved_kind g.0 ∙ p.0.free in
       let spelled : enclosed_at document levels (spell_fields vs) ≡ Ok t = sym (free_struct m vs levels free) ∙ e in
-      let h = fields_body at fs vs levels t (distinct_from fs p.0.distinct) spelled (λ k ps q. again_fields at vs fs k ps p.1 lent (distinct_from fs p.0.distinct) g.1 q) in
+      let h = fields_body at fs vs levels t (distinct_from fs p.0.distinct) spelled (λ k ps q. again_fields at vs fs k ps p.1 due (distinct_from fs p.0.distinct) g.1 q) in
       (value.structure (made n) h.0, built_of (judged (tree_node at t levels)) (read_struct fs) (value.structure (made n)) h.0 h.1, free_struct n (field_contents h.0) levels p.0.free ∙ h.2, h.3)
-  again at (value.unit_variant name) (enumeration vs) levels t p lent g e =
+  again at (value.unit_variant name) (enumeration vs) levels t p due g e =
       let whole = (variant_shape vs name unit_content p.1 g).0 in
       subst (Comes at (enumeration vs) levels) (ok_is (string name) t e) (
         value.unit_variant (made name),
@@ -426,46 +430,46 @@ mutual
         refl,
         whole,
       )
-  again at (value.newtype_variant name v) (enumeration vs) levels t p lent g e =
+  again at (value.newtype_variant name v) (enumeration vs) levels t p due g e =
       variant_comes at vs name levels (spell v) t (variant_shape vs name (newtype_content g.0) p.1 g.1).0 e
       (λ n u q.
-      let h = again at v g.0 n u (variant_shape vs name (newtype_content g.0) p.1 g.1).1 (variant_lent at vs name (newtype_content g.0) lent g.1) g.2 q in (
+      let h = again at v g.0 n u (variant_shape vs name (newtype_content g.0) p.1 g.1).1 (content_settled vs name (newtype_content g.0) due g.1) g.2 q in (
         value.newtype_variant (made name) h.0,
         variant_read vs name (newtype_content g.0) (tree_node at u n) g.1 ∙ ap (λ r. under name (result_map (value.newtype_variant (made name)) r)) h.1,
         ap (λ r. result_map document (named name r >>= one_pair name)) h.2,
         h.3,
       ))
-  again at (value.tuple_variant name ws) (enumeration vs) levels t p lent g e =
+  again at (value.tuple_variant name ws) (enumeration vs) levels t p due g e =
       variant_comes at vs name levels (λ n. enclosed_at array n (spell_items 0 ws)) t (variant_shape vs name (tuple_content g.0) p.1 g.1).0 e
       (λ n u q.
-      let h = items_body at (reads_parts g.0 0) ws n u q (λ k ts r. again_parts at ws g.0 0 k ts (variant_shape vs name (tuple_content g.0) p.1 g.1).1 (variant_lent at vs name (tuple_content g.0) lent g.1) g.2 r) in (
+      let h = items_body at (reads_parts g.0 0) ws n u q (λ k ts r. again_parts at ws g.0 0 k ts (variant_shape vs name (tuple_content g.0) p.1 g.1).1 (content_settled vs name (tuple_content g.0) due g.1) g.2 r) in (
         value.tuple_variant (made name) h.0,
         variant_read vs name (tuple_content g.0) (tree_node at u n) g.1
             ∙ ap (under name) (built_of (judged (tree_node at u n) >>= array_of) (reads_parts g.0 0) (value.tuple_variant (made name)) h.0 h.1),
         ap (λ r. result_map document (named name r >>= one_pair name)) h.2,
         h.3,
       ))
-  again at (value.structure_variant name ws) (enumeration vs) levels t p lent g e =
+  again at (value.structure_variant name ws) (enumeration vs) levels t p due g e =
       variant_comes at vs name levels (λ n. enclosed_at document n (spell_fields ws)) t (variant_shape vs name (struct_content g.0) p.1 g.1).0 e
       (λ n u q.
       let shape = (variant_shape vs name (struct_content g.0) p.1 g.1).1 in
       let distinct = distinct_from g.0 shape.0 in
-      let h = fields_body at g.0 ws n u distinct q (λ k ps r. again_fields at ws g.0 k ps shape.1 (variant_lent at vs name (struct_content g.0) lent g.1) distinct g.2 r) in (
+      let h = fields_body at g.0 ws n u distinct q (λ k ps r. again_fields at ws g.0 k ps shape.1 (content_settled vs name (struct_content g.0) due g.1) distinct g.2 r) in (
         value.structure_variant (made name) h.0,
         variant_read vs name (struct_content g.0) (tree_node at u n) g.1
             ∙ ap (under name) (built_of (judged (tree_node at u n)) (read_struct g.0) (value.structure_variant (made name)) h.0 h.1),
         ap (λ r. result_map document (named name r >>= one_pair name)) h.2,
         h.3,
       ))
-  again at v s levels t p lent g e = absurd g
+  again at v s levels t p due g e = absurd g
 
-  again_items : (at : Sight) (vs : Items) (s : Form) (i n : ℕ) (ts : Trees) → IsShape s → IsLent at s → ItemsGiven vs s → spell_items i vs n ≡ Ok ts → (ms : MarkedItems) × (reads_items (reads s) i (tree_nodes at i ts n) ≡ Ok ms) × (spell_items i (item_contents ms) n ≡ Ok ts) × AreTreesCoded ts
-  again_items at no_items s i n ts p lent g e = subst (λ x. (ms : MarkedItems) × (reads_items (reads s) i (tree_nodes at i x n) ≡ Ok ms) × (spell_items i (item_contents ms) n ≡ Ok x) × AreTreesCoded x) (ok_is no_trees ts e) (no_items, refl, refl, tt)
-  again_items at (item v vs) s i n ts p lent g e =
+  again_items : (at : Sight) (vs : Items) (s : Form) (i n : ℕ) (ts : Trees) → IsShape s → IsSettled s → ItemsGiven at vs s → spell_items i vs n ≡ Ok ts → (ms : MarkedItems) × (reads_items (reads s) i (tree_nodes at i ts n) ≡ Ok ms) × (spell_items i (item_contents ms) n ≡ Ok ts) × AreTreesCoded ts
+  again_items at no_items s i n ts p due g e = subst (λ x. (ms : MarkedItems) × (reads_items (reads s) i (tree_nodes at i x n) ≡ Ok ms) × (spell_items i (item_contents ms) n ≡ Ok x) × AreTreesCoded x) (ok_is no_trees ts e) (no_items, refl, refl, tt)
+  again_items at (item v vs) s i n ts p due g e =
       let a = bind_ok (under_index i (spell v n)) (λ t. spell_items (suc i) vs n >>= λ us. Ok (tree.tree t us)) ts e in
       let b = bind_ok (spell_items (suc i) vs n) (λ us. Ok (tree.tree a.0 us)) ts a.2 in
-      let first = again at v s n a.0 p lent g.0 (inside_ok (at_index i) (spell v n) a.0 a.1) in
-      let rest = again_items at vs s (suc i) n b.0 p lent g.1 b.1 in
+      let first = again at v s n a.0 p due g.0 (inside_ok (at_index i) (spell v n) a.0 a.1) in
+      let rest = again_items at vs s (suc i) n b.0 p due g.1 b.1 in
       subst (λ x. (ms : MarkedItems) × (reads_items (reads s) i (tree_nodes at i x n) ≡ Ok ms) × (spell_items i (item_contents ms) n ≡ Ok x) × AreTreesCoded x) (ok_is (tree.tree a.0 b.0) ts b.2) (
         item first.0 rest.0,
         ap (λ r. under_index i r >>= λ w. result_map (item w) (reads_items (reads s) (suc i) (tree_nodes at (suc i) b.0 n))) first.1 ∙ ap (result_map (item first.0)) rest.1,
@@ -473,33 +477,33 @@ mutual
         (first.3, rest.3),
       )
 
-  again_parts : (at : Sight) (vs : Items) (ps : Parts) (i n : ℕ) (ts : Trees) → AreParts ps → ArePartsLent at ps → PartsGiven vs ps → spell_items i vs n ≡ Ok ts → (ms : MarkedItems) × (reads_parts ps i (tree_nodes at i ts n) ≡ Ok ms) × (spell_items i (item_contents ms) n ≡ Ok ts) × AreTreesCoded ts
-  again_parts at no_items no_parts i n ts p lent g e = (no_items, refl, e, subst AreTreesCoded (ok_is no_trees ts e) tt)
-  again_parts at (item v vs) (part s ps) i n ts p lent g e =
+  again_parts : (at : Sight) (vs : Items) (ps : Parts) (i n : ℕ) (ts : Trees) → AreParts ps → ArePartsSettled ps → PartsGiven at vs ps → spell_items i vs n ≡ Ok ts → (ms : MarkedItems) × (reads_parts ps i (tree_nodes at i ts n) ≡ Ok ms) × (spell_items i (item_contents ms) n ≡ Ok ts) × AreTreesCoded ts
+  again_parts at no_items no_parts i n ts p due g e = (no_items, refl, e, subst AreTreesCoded (ok_is no_trees ts e) tt)
+  again_parts at (item v vs) (part s ps) i n ts p due g e =
       let a = bind_ok (under_index i (spell v n)) (λ t. spell_items (suc i) vs n >>= λ us. Ok (tree.tree t us)) ts e in
       let b = bind_ok (spell_items (suc i) vs n) (λ us. Ok (tree.tree a.0 us)) ts a.2 in
-      let first = again at v s n a.0 p.0 lent.0 g.0 (inside_ok (at_index i) (spell v n) a.0 a.1) in
-      let rest = again_parts at vs ps (suc i) n b.0 p.1 lent.1 g.1 b.1 in
+      let first = again at v s n a.0 p.0 due.0 g.0 (inside_ok (at_index i) (spell v n) a.0 a.1) in
+      let rest = again_parts at vs ps (suc i) n b.0 p.1 due.1 g.1 b.1 in
       subst (λ x. (ms : MarkedItems) × (reads_parts (part s ps) i (tree_nodes at i x n) ≡ Ok ms) × (spell_items i (item_contents ms) n ≡ Ok x) × AreTreesCoded x) (ok_is (tree.tree a.0 b.0) ts b.2) (
         item first.0 rest.0,
         ap (λ r. under_index i r >>= λ w. result_map (item w) (reads_parts ps (suc i) (tree_nodes at (suc i) b.0 n))) first.1 ∙ ap (result_map (item first.0)) rest.1,
         ap (λ r. under_index i r >>= λ t. spell_items (suc i) (item_contents rest.0) n >>= λ us. Ok (tree.tree t us)) first.2 ∙ ap (λ r. r >>= λ us. Ok (tree.tree a.0 us)) rest.2,
         (first.3, rest.3),
       )
-  again_parts at vs ps i n ts p lent g e = absurd g
+  again_parts at vs ps i n ts p due g e = absurd g
 
-  again_entries : (at : Sight) (es : Entries) (key s : Form) (n : ℕ) (ps : Pairs) (done : MarkedEntries) → IsShape key → IsShape s → IsLent at key → IsLent at s → AreApart es → EntriesGiven es key s → AreNewTo es (entry_contents done) → spell_entries es n ≡ Ok ps
+  again_entries : (at : Sight) (es : Entries) (key s : Form) (n : ℕ) (ps : Pairs) (done : MarkedEntries) → IsShape key → IsShape s → IsSettled s → AreApart es → EntriesGiven at es key s → AreNewTo es (entry_contents done) → spell_entries es n ≡ Ok ps
       → (out : MarkedEntries) × (reads_entries (reads_key key) (reads s) (pair_nodes at ps n) done ≡ Ok (joined done out)) × (spell_entries (entry_contents out) n ≡ Ok ps) × ArePairsCoded ps
-  again_entries at no_entries key s n ps done w p lent_key lent apart g new e =
+  again_entries at no_entries key s n ps done w p due apart g new e =
       subst (λ x. (out : MarkedEntries) × (reads_entries (reads_key key) (reads s) (pair_nodes at x n) done ≡ Ok (joined done out)) × (spell_entries (entry_contents out) n ≡ Ok x) × ArePairsCoded x) (ok_is no_pairs ps e)
       (no_entries, ap Ok (sym (joined_none done)), refl, tt)
-  again_entries at (entry k v es) key s n ps done w p lent_key lent apart g new e =
+  again_entries at (entry k v es) key s n ps done w p due apart g new e =
       let a = bind_ok (spell_key k) (λ x. under x (spell v n) >>= λ t. spell_entries es n >>= λ qs. Ok (pair x t qs)) ps e in
       let b = bind_ok (under a.0 (spell v n)) (λ t. spell_entries es n >>= λ qs. Ok (pair a.0 t qs)) ps a.2 in
       let c = bind_ok (spell_entries es n) (λ qs. Ok (pair a.0 b.0 qs)) ps b.2 in
-      let mk = key_comes at key k a.0 lent_key g.0 (spell_key_ok k a.0 a.1).0 in
-      let first = again at v s n b.0 p lent g.1 (under_ok a.0 (spell v n) b.0 b.1) in
-      let rest = again_entries at es key s n c.0 (joined done (entry mk.0 first.0 no_entries)) w p lent_key lent apart.1 g.2 (new_to_marked es done mk.0 first.0 k v mk.2 apart.0 new.1) c.1 in
+      let mk = key_comes at key k a.0 g.0 (spell_key_ok k a.0 a.1).0 in
+      let first = again at v s n b.0 p due g.1 (under_ok a.0 (spell v n) b.0 b.1) in
+      let rest = again_entries at es key s n c.0 (joined done (entry mk.0 first.0 no_entries)) w p due apart.1 g.2 (new_to_marked es done mk.0 first.0 k v mk.2 apart.0 new.1) c.1 in
       let read = reads_entries (reads_key key) (reads s) (pair_nodes at c.0 n) in
       subst (λ x. (out : MarkedEntries) × (reads_entries (reads_key key) (reads s) (pair_nodes at x n) done ≡ Ok (joined done out)) × (spell_entries (entry_contents out) n ≡ Ok x) × ArePairsCoded x) (ok_is (pair a.0 b.0 c.0) ps c.2) (
         entry mk.0 first.0 rest.0,
@@ -511,18 +515,18 @@ mutual
         ap (λ r. r >>= λ x. under x (spell (contents first.0) n) >>= λ t. spell_entries (entry_contents rest.0) n >>= λ qs. Ok (pair x t qs)) (ap spell_key mk.2 ∙ a.1)
             ∙ ap (λ r. under a.0 r >>= λ t. spell_entries (entry_contents rest.0) n >>= λ qs. Ok (pair a.0 t qs)) first.2
             ∙ ap (λ r. r >>= λ qs. Ok (pair a.0 b.0 qs)) rest.2,
-        (key_name key k a.0 w g.0 (spell_key_ok k a.0 a.1), first.3, rest.3),
+        (key_name at key k a.0 w g.0 (spell_key_ok k a.0 a.1), first.3, rest.3),
       )
 
-  again_fields : (at : Sight) (vs : FieldValues) (fs : Fields) (n : ℕ) (ps : Pairs) → AreShapes fs → AreFieldsLent at fs → Distinct fs → FieldsGiven vs fs → spell_fields vs n ≡ Ok ps → FieldsSeen at fs n ps
-  again_fields at no_field_values no_fields n ps p lent d g e = subst (FieldsSeen at no_fields n) (ok_is no_pairs ps e) (no_field_values, refl, refl, tt, tt)
-  again_fields at (field_value m v vs) (field name s fs) n ps p lent d g e =
+  again_fields : (at : Sight) (vs : FieldValues) (fs : Fields) (n : ℕ) (ps : Pairs) → AreShapes fs → AreFieldsSettled fs → Distinct fs → FieldsGiven at vs fs → spell_fields vs n ≡ Ok ps → FieldsSeen at fs n ps
+  again_fields at no_field_values no_fields n ps p due d g e = subst (FieldsSeen at no_fields n) (ok_is no_pairs ps e) (no_field_values, refl, refl, tt, tt)
+  again_fields at (field_value m v vs) (field name s fs) n ps p due d g e =
       let a = bind_ok (named m (spell v n)) (λ t. spell_fields vs n >>= λ qs. Ok (pair m t qs)) ps e in
       let b = bind_ok (spell_fields vs n) (λ qs. Ok (pair m a.0 qs)) ps a.2 in
       let ok = named_ok m (spell v n) a.0 a.1 in
       let there = ok.1 in
-      let first = again at v s n a.0 p.1 lent.0 g.1 there in
-      let rest = again_fields at vs fs n b.0 p.2 lent.1 d.1 g.2 b.1 in
+      let first = again at v s n a.0 p.1 due.0 g.1 there in
+      let rest = again_fields at vs fs n b.0 p.2 due.1 d.1 g.2 b.1 in
       let same = bytes_eq-refl name in
       subst (FieldsSeen at (field name s fs) n) (ok_is (pair m a.0 b.0) ps b.2) (
         field_value (made name) first.0 rest.0,
@@ -536,4 +540,4 @@ mutual
         (g.0, rest.3),
         ((ap is_utf8 g.0 ∙ p.0, ok.0), first.3, rest.4),
       )
-  again_fields at vs fs n ps p lent d g e = absurd g
+  again_fields at vs fs n ps p due d g e = absurd g

@@ -1,59 +1,34 @@
 -- What is read where nothing is in the input is read from the input too: marks say only what is borrowed.
 use Rattle.std.proofs.Common.{◌≡◌, ℕ, ℤ, zero, suc, [], ◌∷◌, Bool, true, false, cond, Option, Some, None, Ok, refl, ap, sym, subst, ◌∙◌}
 use Rattle.std.specs.Prelude.{option_map}
-use Rattle.std.specs.Str.{bytes_eq, is_utf8, chars}
+use Rattle.std.specs.Str.{bytes_eq, is_utf8}
 use Rattle.bson_base.specs.Text.{Bytes, Utf8}
 use Rattle.bson_base.specs.Outcome.{◌>>=◌, result_map}
 use Rattle.bson_base.specs.Tree as tree
 use Rattle.bson_base.specs.Tree.{Tree, Pairs, no_pairs, pair, Trees, no_trees}
 use Rattle.bson_base.proofs.Outcomes.{ok_is, map_ok, bind_ok}
 use Rattle.std.specs.Fmt.{decimal}
-use Rattle.bson_rawdoc.specs.Node.{Sight, Node, double, string, document, array, bytes, boolean, null, int32, int64, extended, too_deep, Extended, binary, object_id, regular_expression, db_pointer, javascript_code, symbol, javascript_code_with_scope, opens, Nodes, ended, faulty, then_node, or_else, text_fault, fault, extended_fault, tree_node, pair_nodes, tree_nodes}
+use Rattle.bson_rawdoc.specs.Node.{Sight, Node, double, string, document, array, bytes, boolean, null, int32, int64, extended, too_deep, Extended, object_id, javascript_code_with_scope, opens, Nodes, ended, faulty, then_node, or_else, text_fault, fault, extended_fault, tree_node, pair_nodes, tree_nodes, mended}
 use Rattle.bson_rawdoc.specs.Piece.{Piece, made}
 use Rattle.bson_rawdoc.specs.declared.raw.Error.{Error}
-use Rattle.bson_shape.specs.Form.{Form, leaf, optional, sequence, newtype, unit_structure, map, tuple, tuple_structure, structure, enumeration, Fields, no_fields, field, Parts, no_parts, part, Content, unit_content, newtype_content, tuple_content, struct_content, Variants, no_variants, variant}
+use Rattle.bson_shape.specs.Form.{Form, leaf, optional, lossy, human_readable, by_mode, sequence, newtype, unit_structure, map, tuple, tuple_structure, structure, enumeration, Fields, no_fields, field, Parts, no_parts, part, Content, unit_content, newtype_content, tuple_content, struct_content, Variants, no_variants, variant}
 use Rattle.bson_datum.specs.Value as value
-use Rattle.bson_datum.specs.Value.{Value, Entries, no_items, item, no_entries, entry, no_field_values, field_value}
+use Rattle.bson_datum.specs.Value.{readable_newtype, Value, Entries, item, no_entries, entry, field_value}
 use Rattle.bson_datum.specs.Marked.{Marked, MarkedItems, MarkedEntries, MarkedFields, contents, item_contents, entry_contents, field_contents}
 use Rattle.bson_datum.specs.Same.{same}
 use Rattle.bson_datum.specs.Cause.{not_utf8, not_borrowed}
 use Rattle.bson_datum.specs.Refusal.{Segment, at_index, inside, under, under_index}
 use Rattle.bson_laws.specs.Leaves.{LeafKind, anything, ignored, booleans, numbers, doubles, characters, texts, byte_strings, byte_buffers, units, ExtendedLeaf, extended_values, leaf_kind}
 use Rattle.bson_laws.specs.Variants.{content_of}
-use Rattle.bson_laws.specs.Views.{one_character}
 use Rattle.bson_laws.specs.Judged.{Reading, refused, with_level, faultless, judged, at_its_key, at_its_index, scope_key, passes, pass_scope, pass_nodes, ignores}
-use Rattle.bson_laws.specs.Taken.{owned_under_mark, boolean_of, integer_of, double_of, character_of, text_of, bytes_of, null_of, buffer_of, reads_bytes, as_byte, borrow_or_own, as_text, document_of, array_of, read_integer, read_character}
+use Rattle.bson_laws.specs.Taken.{owned_under_mark, boolean_of, integer_of, double_of, character_of, text_of, bytes_of, null_of, buffer_of, reads_bytes, as_byte, borrow_or_own, as_text, document_of, array_of, read_integer}
 use Rattle.bson_laws.specs.ReadsLeaf.{borrows, put_entry, read_any, any_items, any_entries, no_extended, read_leaf_with}
 use Rattle.bson_laws.specs.Containers.{reads_items, reads_entries, unit_of, reads_unit, reads_key, reads_next, read_enum, reads_option}
 use Rattle.bson_laws.specs.Slots.{Slot, Slots, fill_slot, put_at, fill, value_or, finish, reads_places, read_structure}
 use Rattle.bson_laws.specs.Shaped as shaped
+use Rattle.bson_laws.proofs.BareNodes.{bare, bare_extended, bare_nodes, mended_bare}
 use Rattle.bson_laws.proofs.Judged.{ReadAs}
 use Rattle.bson_laws.proofs.Sizes.{inside_ok, under_ok}
-
-abbrev mutual
-  -- the same value, of which nothing is in the input
-  pub bare : Node → Node
-  bare (string t) = string (made t.bytes)
-  bare (bytes u b) = bytes u (made b.bytes)
-  bare (document ns) = document (bare_nodes ns)
-  bare (array ns) = array (bare_nodes ns)
-  bare (extended x ns) = extended (bare_extended x) (bare_nodes ns)
-  bare n = n
-
-  pub bare_extended : Extended → Extended
-  bare_extended (binary subtype b) = binary subtype (made b.bytes)
-  bare_extended (object_id id) = object_id (made id.bytes)
-  bare_extended (regular_expression p q) = regular_expression (made p.bytes) (made q.bytes)
-  bare_extended (db_pointer n id) = db_pointer (made n.bytes) id
-  bare_extended (javascript_code t) = javascript_code (made t.bytes)
-  bare_extended (symbol t) = symbol (made t.bytes)
-  bare_extended (javascript_code_with_scope c s) = javascript_code_with_scope (made c.bytes) (bare s)
-  bare_extended x = x
-
-  pub bare_nodes : Nodes → Nodes
-  bare_nodes ended = ended
-  bare_nodes (faulty e) = faulty e
-  bare_nodes (then_node key n ns) = then_node (made key.bytes) (bare n) (bare_nodes ns)
 
 -- ---- a finished tree
 
@@ -590,6 +565,12 @@ module _ (at_extended : ExtendedLeaf → Node → Reading Marked)
         let h = leaf_bare (borrows l) (leaf_kind l) n m j.1 in
         (h.0, ap (λ q. q >>= read_leaf_with at_extended (borrows l) (leaf_kind l)) j.0 ∙ h.1, h.2)
     reads_bare (optional s) n m e = option_bare n (reads s (bare n)) (reads s n) m (λ w q. reads_bare s n w q) e
+    reads_bare (lossy s) n m e = reads_bare s (mended n) m (ap (reads s) (sym (mended_bare n)) ∙ e)
+    reads_bare (human_readable s) n m e =
+        let r = map_ok (value.newtype (made readable_newtype)) (reads s (bare n)) m e in
+        let h = reads_bare s n r.0 r.1 in
+        (value.newtype (made readable_newtype) h.0, ap (result_map (value.newtype (made readable_newtype))) h.1, ap (value.newtype readable_newtype) h.2 ∙ ap contents r.2)
+    reads_bare (by_mode readable compact) n m e = reads_bare compact n m e
     reads_bare (newtype name s) n m e =
         let r = map_ok (value.newtype (made name)) (reads s (bare n)) m e in
         let h = reads_bare s n r.0 r.1 in

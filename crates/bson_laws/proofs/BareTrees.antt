@@ -1,9 +1,8 @@
 -- What is read as a tree where nothing is in the input is read from the input too.
-use Rattle.std.proofs.Common.{◌≡◌, ℕ, suc, Bool, true, false, cond, Option, Some, None, Ok, refl, ap, sym, ◌∙◌}
+use Rattle.std.proofs.Common.{◌≡◌, ℕ, suc, Bool, true, false, cond, Option, Some, None, Ok, refl, ap, ◌∙◌}
 use Rattle.std.specs.Prelude.{unsigned_abs, codes, option_map, option_and_then}
 use Rattle.std.specs.Str.{bytes_eq}
 use Rattle.uuid.specs.Text.{parsed}
-use Rattle.bson_dates.specs.DateText.{date_of_text}
 use Rattle.bson_base.specs.Outcome.{◌>>=◌, result_map}
 use Rattle.bson_base.specs.Parsed.{bytes_of_digits, integer_of_text}
 use Rattle.bson_base.specs.Sorted.{sorted}
@@ -28,14 +27,15 @@ use Rattle.bson_laws.specs.Datum.{datum, uuid_datum}
 use Rattle.bson_laws.specs.Leaves as leaf_kinds
 use Rattle.bson_laws.specs.Leaves.{ExtendedLeaf, object_ids, uuids, of_kind, documents}
 use Rattle.bson_laws.specs.Judged.{Reading, refused, judged, scope_key}
-use Rattle.bson_laws.specs.ReadsExtended.{tree_of_kind, object_id_at, or_bad_uuid, uuid_in, uuid_at, read_extended}
+use Rattle.bson_laws.specs.ReadsExtended.{tree_of_kind, object_id_at, uuid_in, uuid_at, read_extended}
 use Rattle.bson_laws.specs.ReadsLeaf.{no_extended}
 use Rattle.bson_laws.specs.Shaped.{reads}
 use Rattle.bson_laws.specs.Taken.{text_of}
 use Rattle.bson_laws.specs.Trees.{code_key, or_bad, pairs_in, put_pair, by_meaning, by_key, after_scope, as_tree, extended_tree, array_trees, document_tree, after_code}
-use Rattle.bson_laws.specs.Wrapped.{text_at, text_body, id_of_text, int32_of, double_of_text, binary_of_texts, of_length, Body, at, text, with_field, with_fields, a_text, a_number, a_boolean, some_bytes, a_field, two_fields, two_texts, two_numbers, oid_body, date_body, judging, tree_if, being_one, Meaning, body, code, scope, meaning}
+use Rattle.bson_laws.specs.Wrapped.{text_at, text_body, int32_of, double_of_text, binary_of_texts, of_length, Body, at, text, with_field, with_fields, a_text, a_number, a_boolean, some_bytes, a_field, two_fields, two_texts, two_numbers, oid_body, date_body, judging, tree_if, being_one, Meaning, body, code, scope, meaning}
 use Rattle.bson_laws.proofs.Bare as bares
-use Rattle.bson_laws.proofs.Bare.{bare, bare_extended, bare_nodes, read_bare, then_bare, text_bare}
+use Rattle.bson_laws.proofs.Bare.{read_bare, then_bare, text_bare}
+use Rattle.bson_laws.proofs.BareNodes.{bare, bare_extended, bare_nodes}
 use Rattle.bson_laws.proofs.Judged.{ReadAs}
 use Rattle.bson_laws.proofs.Sizes.{inside_ok, under_ok}
 

@@ -1,5 +1,5 @@
 -- Texts that are made, numbers and structs in the values of wrapper keys are read back.
-use Rattle.std.proofs.Common.{◌≡◌, ℕ, ◌<◌, ◌^◌, pos, [], ◌∷◌, Bool, true, false, cond, Some, None, Ok, Err, refl, ap, ◌∙◌, arith}
+use Rattle.std.proofs.Common.{◌≡◌, ℕ, ◌<◌, ◌^◌, pos, [], ◌∷◌, true, false, cond, Some, None, Ok, Err, refl, ap, ◌∙◌, arith}
 use Rattle.std.specs.Str.{bytes_eq, is_utf8}
 use Rattle.std.proofs.lemmas.Int.{ints}
 use Rattle.bson_base.specs.Outcome.{◌>>=◌, result_map}
@@ -18,8 +18,7 @@ use Rattle.bson_laws.specs.Judged.{Reading, refused, judged, faultless}
 use Rattle.bson_laws.specs.Leaves.{texts}
 use Rattle.bson_laws.specs.ReadsLeaf.{no_extended, read_leaf_with}
 use Rattle.bson_laws.specs.Shaped.{reads}
-use Rattle.bson_laws.specs.Slots.{Slot, Slots, fill_slot, put_at, fill, finish}
-use Rattle.bson_laws.specs.Views.{absent}
+use Rattle.bson_laws.specs.Slots.{Slot, Slots, missing_value, fill_slot, put_at, fill, finish}
 use Rattle.bson_laws.specs.Wrapped.{text, with_field, with_fields}
 
 -- ---- texts
@@ -44,10 +43,10 @@ unsigned_read n h = ap (λ b. cond b (Ok (value.integer u32 (pos n))) (refused (
 
 -- the slot of a field, for which no value has been read yet
 abbrev slot_of : Utf8 → Form → Slot
-slot_of name s = record { name = name; missing = absent s; read = reads no_extended s; value = None }
+slot_of name s = record { name = name; missing = missing_value s; read = reads no_extended s; value = None }
 
 abbrev filled : Utf8 → Form → Marked → Slot
-filled name s v = record { name = name; missing = absent s; read = reads no_extended s; value = Some v }
+filled name s v = record { name = name; missing = missing_value s; read = reads no_extended s; value = Some v }
 
 abbrev of_slots : Reading Slots → Reading Marked
 of_slots r = result_map (value.structure (made [])) (r >>= finish)

@@ -7,11 +7,11 @@ use Rattle.bson_base.specs.Sound.{max_levels}
 use Rattle.bson_base.specs.declared.element_type.ElementType.TheVariants.{EmbeddedDocument}
 use Rattle.bson_base.proofs.Outcomes.{ok_is, map_ok, bind_ok}
 use Rattle.bson_rawdoc.specs.Envelope.{is_closed, envelope}
-use Rattle.bson_rawdoc.specs.Node.{Node, document, broken, Nodes, ended, faulty, then_node, node_in}
+use Rattle.bson_rawdoc.specs.Node.{from_input, Node, document, broken, Nodes, ended, faulty, then_node, node_in, mended}
 use Rattle.bson_rawdoc.specs.Piece.{made}
 use Rattle.bson_rawdoc.specs.declared.raw.Error as raw_error
 use Rattle.bson_rawdoc.specs.declared.raw.Error.TheVariants.{TooShort, LengthDiffers, NoTerminator}
-use Rattle.bson_shape.specs.Form.{Form, leaf, optional, sequence, newtype, unit_structure, map, tuple, tuple_structure, structure, enumeration, Content, unit_content, newtype_content, tuple_content, struct_content, Variants, no_variants, variant}
+use Rattle.bson_shape.specs.Form.{Form, leaf, optional, lossy, human_readable, by_mode, sequence, newtype, unit_structure, map, tuple, tuple_structure, structure, enumeration, Content, unit_content, newtype_content, tuple_content, struct_content, Variants, no_variants, variant}
 use Rattle.bson_shape.specs.Makers.{IsShape}
 use Rattle.bson_datum.specs.Value as value
 use Rattle.bson_datum.specs.Value.{Value, no_entries, kind_of, reserved_or_document}
@@ -25,12 +25,14 @@ use Rattle.bson_laws.specs.ReadsLeaf.{borrows, any_entries}
 use Rattle.bson_laws.specs.Containers.{reads_entries, reads_key, read_enum, reads_unit, reads_items}
 use Rattle.bson_laws.specs.Slots.{read_structure}
 use Rattle.bson_laws.specs.Reads.{read_leaf, slots_of, reads_parts, reads_variant, reads_content, reads, answered, reads_document}
+use Rattle.bson_laws.specs.Settled.{settled}
 use Rattle.bson_laws.specs.Spell.{at_top, spell, spell_document, IsWrittenUnlessLarge, HoldsNumbers}
 use Rattle.bson_laws.specs.Writable.{KeepsDocumentLeaf, KeepsDocument, IsWritable}
 use Rattle.bson_laws.specs.Datum.{datum}
 use Rattle.bson_laws.specs.Trees.{as_tree, pairs_in}
 use Rattle.bson_base.specs.Tree as tree
 use Rattle.bson_laws.proofs.GivenAt.{reads_given}
+use Rattle.bson_laws.proofs.Settled.{settled_same, writable_settled}
 use Rattle.bson_laws.proofs.Signed.{document_spelled, given_signed}
 use Rattle.bson_laws.proofs.Rewritten.{written}
 use Rattle.bson_laws.proofs.Sizes.{under_ok}
@@ -110,10 +112,19 @@ some_top s (document ns) v t inner e = let m = map_ok value.some (reads s (docum
 some_top s (broken k x) v t inner e = let m = map_ok value.some (reads s (broken k x)) v e in subst IsMapping m.2 (inner m.0 m.1)
 some_top s n v t inner e = absurd t
 
+-- a document whose texts are mended is a document, and bytes that are none stay so
+mended_top : (n : Node) → IsTop n → IsTop (mended n)
+mended_top (document ns) t = tt
+mended_top (broken k e) t = tt
+mended_top n t = absurd t
+
 -- what is read from a document is written as a document
 top_kind : (s : Form) (n : Node) (v : Marked) → IsTop n → IsShape s → KeepsDocument s → reads s n ≡ Ok v → IsMapping v
 top_kind (leaf l) n v t p kept e = leaf_top (borrows l) (leaf_kind l) n v t kept (after_judged n (read_leaf (borrows l) (leaf_kind l)) v e)
 top_kind (optional s) n v t p kept e = some_top s n v t (λ w h. top_kind s n w t p.1 kept h) e
+top_kind (lossy s) n v t p kept e = top_kind s (mended n) v (mended_top n t) p.1 kept e
+top_kind (human_readable s) n v t p kept e = absurd kept
+top_kind (by_mode readable compact) n v t p kept e = absurd kept
 top_kind (newtype name s) n v t p kept e =
     let m = map_ok (value.newtype (made name)) (reads s n) v e in
     subst IsMapping m.2 (free_kind name (contents m.0) p.0.free ∙ top_kind s n m.0 t p.1 kept m.1)
@@ -150,18 +161,18 @@ same_bytes false false true x y e = absurd cc
 same_bytes false false false x y e = ok_is x y e
 
 abbrev read_in : Form → Result Bytes raw_error.Error → Result Marked (Failure ReadFault)
-read_in s r = elim r [ Ok b ↦ answered (reads s (node_in max_levels EmbeddedDocument b)) | Err f ↦ Err (bare (unreadable (raw f))) ]
+read_in s r = elim r [ Ok b ↦ answered (reads (settled false s) (node_in max_levels EmbeddedDocument b)) | Err f ↦ Err (bare (unreadable (raw f))) ]
 
 -- what is read from a document's bytes is read from the node that they are
 pub node_read : (s : Form) (bytes : Bytes) (d : Value) → AreBytes bytes → reads_document s bytes ≡ Ok d
-    → (b : Bytes) × (m : Marked) × IsTame (node_in max_levels EmbeddedDocument b) × (reads s (node_in max_levels EmbeddedDocument b) ≡ Ok m) × (contents m ≡ d)
+    → (b : Bytes) × (m : Marked) × IsTame from_input (node_in max_levels EmbeddedDocument b) × (reads (settled false s) (node_in max_levels EmbeddedDocument b) ≡ Ok m) × (contents m ≡ d)
 node_read s bytes d h e = by_case (envelope bytes) (λ b q. same_bytes _ _ _ bytes b q) e where
   by_case : (r : Result Bytes raw_error.Error) → ((b : Bytes) → r ≡ Ok b → bytes ≡ b) → result_map contents (read_in s r) ≡ Ok d
-      → (b : Bytes) × (m : Marked) × IsTame (node_in max_levels EmbeddedDocument b) × (reads s (node_in max_levels EmbeddedDocument b) ≡ Ok m) × (contents m ≡ d)
+      → (b : Bytes) × (m : Marked) × IsTame from_input (node_in max_levels EmbeddedDocument b) × (reads (settled false s) (node_in max_levels EmbeddedDocument b) ≡ Ok m) × (contents m ≡ d)
   by_case (Ok b) same q =
       let n = node_in max_levels EmbeddedDocument b in
-      let m = map_ok contents (answered (reads s n)) d q in
-      (b, m.0, seen_tame max_levels EmbeddedDocument b (subst AreBytes (same b refl) h) tt, answered_is (reads s n) m.0 m.1, m.2)
+      let m = map_ok contents (answered (reads (settled false s) n)) d q in
+      (b, m.0, seen_tame max_levels EmbeddedDocument b (subst AreBytes (same b refl) h) tt, answered_is (reads (settled false s) n) m.0 m.1, m.2)
   by_case (Err f) same q = absurd cc
 
 -- what is read is written, unless it is too large
@@ -169,12 +180,13 @@ pub document_written : (s : Form) (bytes : Bytes) (d : Value) → IsShape s → 
 document_written s bytes d p c h e =
     let r = node_read s bytes d h e in
     let n = node_in max_levels EmbeddedDocument r.0 in
-    let top = top_kind s n r.1 (closed_top (is_closed r.0) _ _) p c.document r.3 in
-    subst (λ v. IsWrittenUnlessLarge (spell_document v)) r.4 (subst (λ k. IsWrittenUnlessLarge (at_top k (spell (contents r.1) max_levels))) (sym top) (written (contents r.1) s p c.keys (reads_given s n r.1 r.2 r.3) max_levels))
+    let there = subst (λ x. reads x n ≡ Ok r.1) (settled_same false s (writable_settled s c.keys)) r.3 in
+    let top = top_kind s n r.1 (closed_top (is_closed r.0) _ _) p c.document there in
+    subst (λ v. IsWrittenUnlessLarge (spell_document v)) r.4 (subst (λ k. IsWrittenUnlessLarge (at_top k (spell (contents r.1) max_levels))) (sym top) (written from_input (contents r.1) s p c.keys (reads_given from_input s n r.1 r.2 there) max_levels))
 
 -- what is read is never refused for a number
 pub document_numbers : (s : Form) (bytes : Bytes) (d : Value) → AreBytes bytes → reads_document s bytes ≡ Ok d → HoldsNumbers (spell_document d)
 document_numbers s bytes d h e =
     let r = node_read s bytes d h e in
     let n = node_in max_levels EmbeddedDocument r.0 in
-    subst (λ v. HoldsNumbers (spell_document v)) r.4 (document_spelled (kind_of (contents r.1)) (contents r.1) max_levels (given_signed (contents r.1) s (reads_given s n r.1 r.2 r.3)))
+    subst (λ v. HoldsNumbers (spell_document v)) r.4 (document_spelled (kind_of (contents r.1)) (contents r.1) max_levels (given_signed from_input (contents r.1) (settled false s) (reads_given from_input (settled false s) n r.1 r.2 r.3)))

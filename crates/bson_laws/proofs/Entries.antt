@@ -1,5 +1,5 @@
 -- The entries of a map, one after another: read back.
-use Rattle.std.proofs.Common.{◌≡◌, ℕ, ◌≤◌, true, false, cond, Option, Some, refl, ap, sym, subst, ◌∙◌, arith}
+use Rattle.std.proofs.Common.{◌≡◌, ℕ, ◌≤◌, false, cond, Option, Some, refl, ap, sym, subst, ◌∙◌, arith}
 use Rattle.std.specs.Prelude.{option_map, option_and_then}
 use Rattle.std.specs.Str.{bytes_eq}
 use Rattle.bson_base.specs.Text.{Utf8}
@@ -7,8 +7,8 @@ use Rattle.bson_base.specs.Outcome.{◌>>=◌}
 use Rattle.bson_base.specs.Sound.{ArePairsClean, Lacks}
 use Rattle.bson_base.specs.Tree.{Tree, Pairs, no_pairs, pair, pairs_depth}
 use Rattle.bson_base.proofs.Outcomes.{some_is, some_map, some_then}
-use Rattle.bson_rawdoc.specs.Node.{from_input, Node, tree_node, pair_nodes}
-use Rattle.bson_rawdoc.specs.Piece.{Piece, borrowed}
+use Rattle.bson_rawdoc.specs.Node.{Sight, piece, Node, tree_node, pair_nodes}
+use Rattle.bson_rawdoc.specs.Piece.{Piece}
 use Rattle.bson_datum.specs.Value.{EntriesOf, ValueOf, Value, Entries, no_entries, entry}
 use Rattle.bson_datum.specs.Marked.{Marked, MarkedEntries, contents, entry_contents}
 use Rattle.bson_datum.specs.Same.{same}
@@ -74,13 +74,13 @@ new_later key_of apart (pair key t ps) k v es lacks n =
 -- ---- all entries
 
 -- what a key is in a view is what the text is as a key, and is read as it
-abbrev pub ReadsKeys : (Utf8 → Value) → (Utf8 → Option Value) → (Piece → Reading Marked) → Type 0
-ReadsKeys key_of view read = (key : Utf8) (k : Value) → view key ≡ Some k → (k ≡ key_of key) × ReadAs contents (read (borrowed key)) (key_of key)
+abbrev pub ReadsKeys : (at : Sight) → (Utf8 → Value) → (Utf8 → Option Value) → (Piece → Reading Marked) → Type 0
+ReadsKeys at key_of view read = (key : Utf8) (k : Value) → view key ≡ Some k → (k ≡ key_of key) × ReadAs contents (read (piece at.texts key)) (key_of key)
 
 -- what the pairs of a document are in a view is read from it, where what each key and each value is in the view is
-module _ (key_of : Utf8 → Value) (apart : KeepsApart key_of) (view_key : Utf8 → Option Value) (read_key : Piece → Reading Marked) (view : Tree → Option Value) (read : Node → Reading Marked) (levels : ℕ) (keys : ReadsKeys key_of view_key read_key) (each : ReadsBack view read levels) where
+module _ (at : Sight) (key_of : Utf8 → Value) (apart : KeepsApart key_of) (view_key : Utf8 → Option Value) (read_key : Piece → Reading Marked) (view : Tree → Option Value) (read : Node → Reading Marked) (levels : ℕ) (keys : ReadsKeys at key_of view_key read_key) (each : ReadsBack at view read levels) where
   pub entries_again : (ps : Pairs) (es : MarkedEntries) (ds : Entries) → ArePairsClean ps → pairs_depth ps ≤ levels → AreNew key_of ps (entry_contents es) → views_entries view_key view ps ≡ Some ds
-      → ReadAs entry_contents (reads_entries read_key read (pair_nodes from_input ps levels) es) (joined (entry_contents es) ds)
+      → ReadAs entry_contents (reads_entries read_key read (pair_nodes at ps levels) es) (joined (entry_contents es) ds)
   entries_again no_pairs es ds c d n e = (es, refl, sym (joined_none (entry_contents es)) ∙ ap (joined (entry_contents es)) (some_is no_entries ds e))
   entries_again (pair key t ps) es ds c d n e =
       let a = some_then (λ k. option_and_then (λ v. option_map (entry k v) (views_entries view_key view ps)) (view t)) (view_key key) ds e in
@@ -92,9 +92,9 @@ module _ (key_of : Utf8 → Value) (apart : KeepsApart key_of) (view_key : Utf8 
       let now = joined es (entry k.1.0 f.0 no_entries) in
       let is : entry_contents now ≡ joined old (entry (key_of key) (contents f.0) no_entries) = joined_contents es (entry k.1.0 f.0 no_entries) ∙ ap (λ x. joined old (entry x (contents f.0) no_entries)) k.1.2 in
       let rest = entries_again ps now m.0 c.3 (omega arith) (subst (AreNew key_of ps) (sym is) (new_later key_of apart ps key (contents f.0) old c.1 n.1)) m.1 in
-      let nodes = pair_nodes from_input ps levels in (
+      let nodes = pair_nodes at ps levels in (
         rest.0,
-        ap (λ r. r >>= λ x. under key (read (tree_node from_input t levels)) >>= λ v. reads_entries read_key read nodes (put_entry x v es)) k.1.1
+        ap (λ r. r >>= λ x. under key (read (tree_node at t levels)) >>= λ v. reads_entries read_key read nodes (put_entry x v es)) k.1.1
             ∙ ap (λ r. under key r >>= λ v. reads_entries read_key read nodes (put_entry k.1.0 v es)) f.1
             ∙ ap (reads_entries read_key read nodes) (put_last k.1.0 f.0 es (subst (λ x. IsNew x old) (sym k.1.2) n.0))
             ∙ rest.1,

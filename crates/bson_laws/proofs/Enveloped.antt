@@ -16,6 +16,7 @@ use Rattle.bson_datum.specs.Cause.{raw}
 use Rattle.bson_datum.specs.Marked.{Marked}
 use Rattle.bson_datum.specs.Refusal.{ReadFault, unreadable, Failure, bare}
 use Rattle.bson_laws.specs.Reads.{reads, answered, reads_marked}
+use Rattle.bson_laws.specs.Settled.{settled}
 
 -- bytes that are framed as a document are closed
 framed : (p q r : Bool) (b d : Bytes) → cond p (Err TooShort) (cond (not q) (Err LengthDiffers) (cond (not r) (Err NoTerminator) (Ok b))) ≡ Ok d → (b ≡ d) × (r ≡ true)
@@ -32,15 +33,15 @@ closed_is b e = ap (λ c. cond c (document (nodes_with (node_in 199) (walk b))) 
 
 -- the bytes of an envelope, or its fault
 abbrev reads_enveloped : Form → Result Bytes Error → Result Marked (Failure ReadFault)
-reads_enveloped s (Ok d) = answered (reads s (node_in max_levels EmbeddedDocument d))
+reads_enveloped s (Ok d) = answered (reads (settled false s) (node_in max_levels EmbeddedDocument d))
 reads_enveloped s (Err e) = Err (bare (unreadable (raw e)))
 
 enveloped : (s : Form) (b : Bytes) (r : Result Bytes Error) → envelope b ≡ r → reads_marked s b ≡ reads_enveloped s r
-enveloped s b (Ok d) e = ap (λ r. elim r [ Ok d ↦ answered (reads s (node_in max_levels EmbeddedDocument d)) | Err e ↦ Err (bare (unreadable (raw e))) ]) e
-enveloped s b (Err f) e = ap (λ r. elim r [ Ok d ↦ answered (reads s (node_in max_levels EmbeddedDocument d)) | Err e ↦ Err (bare (unreadable (raw e))) ]) e
+enveloped s b (Ok d) e = ap (λ r. elim r [ Ok d ↦ answered (reads (settled false s) (node_in max_levels EmbeddedDocument d)) | Err e ↦ Err (bare (unreadable (raw e))) ]) e
+enveloped s b (Err f) e = ap (λ r. elim r [ Ok d ↦ answered (reads (settled false s) (node_in max_levels EmbeddedDocument d)) | Err e ↦ Err (bare (unreadable (raw e))) ]) e
 
 -- a document that passes the test of its envelope
-pub document_read : (s : Form) (b d : Bytes) → envelope b ≡ Ok d → reads_marked s b ≡ answered (reads s (inner_node max_levels EmbeddedDocument d))
+pub document_read : (s : Form) (b d : Bytes) → envelope b ≡ Ok d → reads_marked s b ≡ answered (reads (settled false s) (inner_node max_levels EmbeddedDocument d))
 document_read s b d e =
     let f = frame b d e in
-    enveloped s b (Ok d) e ∙ ap (λ n. answered (reads s n)) (subst (λ x. node_in max_levels EmbeddedDocument x ≡ inner_node max_levels EmbeddedDocument x) f.0 (closed_is b f.1))
+    enveloped s b (Ok d) e ∙ ap (λ n. answered (reads (settled false s) n)) (subst (λ x. node_in max_levels EmbeddedDocument x ≡ inner_node max_levels EmbeddedDocument x) f.0 (closed_is b f.1))

@@ -15,9 +15,8 @@ use Rattle.bson_datum.specs.Value.{no_field_values, field_value}
 use Rattle.bson_datum.specs.Marked.{Marked, MarkedFields}
 use Rattle.bson_datum.specs.Refusal.{under}
 use Rattle.bson_laws.specs.Judged.{Reading, ignores}
-use Rattle.bson_laws.specs.Slots.{Slot, Slots, fill_slot, put_at, fill, value_or, finish}
+use Rattle.bson_laws.specs.Slots.{Slot, Slots, missing_value, fill_slot, put_at, fill, value_or, finish}
 use Rattle.bson_laws.specs.Reads.{reads, slots_of}
-use Rattle.bson_laws.specs.Views.{absent}
 use Rattle.bson_laws.proofs.Placed.{names_of, IsNone}
 use Rattle.bson_laws.proofs.Fitted.{chosen_t, chosen_f, bytes_same, Unnamed}
 
@@ -40,7 +39,7 @@ seen_of at levels s t v e = ap ok_of e
 
 -- a field's value: what is at its key is read, and what is missing has a value where the shape is an option
 abbrev pub seen_at : (at : Sight) → ℕ → Form → Option Tree → Option Marked
-seen_at at levels s None = absent s
+seen_at at levels s None = missing_value s
 seen_at at levels s (Some t) = seen at levels s t
 
 -- what the fields are read as
@@ -174,9 +173,9 @@ module _ (at : Sight) (levels : ℕ) where
       ap (λ q. q >>= fill (pair_nodes at ps levels)) p.put ∙ fill_again fs ps p.out (p.names ∙ is) (subst AreApart (sym p.names) d) c.2 p.ready ∙ ap Ok p.after
 
   -- what a field is at what is at its key, or at nothing, is its value in the end
-  one_seen : (n : Utf8) (s : Form) (o : Option Tree) (v : Marked) → seen_at at levels s o ≡ Some v → value_or n (absent s) (value_after (record { name = n; missing = absent s; read = reads s; value = None }) o) ≡ Ok v
+  one_seen : (n : Utf8) (s : Form) (o : Option Tree) (v : Marked) → seen_at at levels s o ≡ Some v → value_or n (missing_value s) (value_after (record { name = n; missing = missing_value s; read = reads s; value = None }) o) ≡ Ok v
   one_seen n s None v e = ap (λ m. value_or n m None) e
-  one_seen n s (Some t) v e = ap (value_or n (absent s)) e
+  one_seen n s (Some t) v e = ap (value_or n (missing_value s)) e
 
   all_seen : (fs : Fields) (ps : Pairs) (vs : MarkedFields) → seen_fields at levels fs ps ≡ Some vs → AreReady ps (slots_of fs) × (finish (all_after ps (slots_of fs)) ≡ Ok vs)
   all_seen no_fields ps vs e = (tt, ap Ok (some_is no_field_values vs e))

@@ -16,7 +16,7 @@ use Rattle.bson_base.specs.declared.element_type.ElementType.TheVariants.{Int32}
 use Rattle.bson_base.specs.Tree as tree
 use Rattle.bson_base.specs.Tree.{Tree, kind, string, binary, null, int32, int64, document, array, Pairs, no_pairs, pair, Trees, no_trees}
 use Rattle.bson_base.proofs.Outcomes.{some_is, some_map, some_then}
-use Rattle.bson_shape.specs.Form.{Form, leaf, optional, sequence, newtype, unit_structure, map, tuple, tuple_structure, structure, enumeration, Fields, no_fields, field, Parts, no_parts, part, Content, newtype_content, tuple_content, struct_content, Variants, no_variants, variant}
+use Rattle.bson_shape.specs.Form.{Form, leaf, optional, lossy, sequence, newtype, unit_structure, map, tuple, tuple_structure, structure, enumeration, Fields, no_fields, field, Parts, no_parts, part, Content, newtype_content, tuple_content, struct_content, Variants, no_variants, variant}
 use Rattle.bson_shape.specs.Makers.{is_reserved_newtype}
 use Rattle.bson_datum.specs.Value as value
 use Rattle.bson_datum.specs.Value.{IntegerType, i32, i64, in_range, written_as, Value, integer, str, Items, no_items, item, Entries, no_entries, entry, FieldValues, no_field_values, field_value}
@@ -29,7 +29,7 @@ use Rattle.bson_laws.specs.Means.{key_text, number_of, some_or_none, under_name,
 use Rattle.bson_laws.specs.Fits.{IsTreeValue, IsValueOfKind, FitsExtended, IsAny, AreAnyItems, AreAnyEntries, FitsLeaf, FitsLeafKey, FitsKey, Fits, ItemsFit, PartsFit, EntriesFit, FieldsFit}
 use Rattle.bson_laws.proofs.DatumContents.{sorted_kind}
 use Rattle.bson_laws.proofs.DatumNormal.{own_kind, tree_sorted_twice, datum_norm, datum_means}
-use Rattle.bson_laws.proofs.Fitting.{fits_leaf}
+use Rattle.bson_laws.proofs.Fitting.{fits_leaf, fits_lossy}
 use Rattle.bson_laws.proofs.Free.{free_means, free_norm, free_struct_means, free_newtype_name, free_struct_name}
 use Rattle.bson_laws.proofs.Spelled.{found, tree_is, trees_are, pairs_are}
 
@@ -226,6 +226,7 @@ present s t v e = ap (option_map value.some) e
 mutual
   pub views_means : (v : Value) (s : Form) (t : Tree) → IsPlain s → Fits v s → means v ≡ Some t → IsClean t → views s t ≡ Some (norm v)
   views_means v (leaf l) t p f e c = leaf_means (leaf_kind l) v t (fits_leaf v l f) e
+  views_means v (lossy s) t p f e c = views_means v s t p.1 (fits_lossy v s f) e c
   views_means value.none (optional s) t p f e c = ap (views (optional s)) (sym (tree_is null t e))
   views_means (value.some v) (optional s) t p f e c = present s t (norm v) (views_means v s t p f e c) ∙ ap (λ o. Some (some_or_none o (norm v))) (sym e)
   views_means (value.newtype m v) (newtype n s) t p f e c =

@@ -1,5 +1,5 @@
--- What fits a leaf, of whatever form the value is.
-use Rattle.bson_shape.specs.Form.{leaf}
+-- What fits a leaf, and a form whose texts are mended, of whatever form the value is.
+use Rattle.bson_shape.specs.Form.{Form, leaf, lossy}
 use Rattle.bson_shape.specs.declared.leaf.Leaf.{Leaf}
 use Rattle.bson_datum.specs.Value.{Value, boolean, integer, double, character, str, bytes, none, some, unit, unit_structure, newtype, sequence, map, structure, unit_variant, newtype_variant, tuple, tuple_structure, tuple_variant, structure_variant, mode}
 use Rattle.bson_laws.specs.Leaves.{leaf_kind}
@@ -52,3 +52,12 @@ leaf_fits (tuple_structure name vs) l f = f
 leaf_fits (tuple_variant name vs) l f = f
 leaf_fits (structure_variant name fs) l f = f
 leaf_fits (mode v w) l f = f
+
+-- what fits a form whose texts are mended fits the form, and what fits the form fits it so
+pub fits_lossy : (v : Value) (s : Form) → Fits v (lossy s) → Fits v s
+fits_lossy none s f = f
+fits_lossy v s f = f
+
+pub lossy_fits : (v : Value) (s : Form) → Fits v s → Fits v (lossy s)
+lossy_fits none s f = f
+lossy_fits v s f = f

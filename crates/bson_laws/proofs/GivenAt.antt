@@ -1,6 +1,6 @@
 -- What reading gives at a shape.
 use Rattle.std.proofs.Common.{◌≡◌, Ok}
-use Rattle.bson_rawdoc.specs.Node.{Node}
+use Rattle.bson_rawdoc.specs.Node.{Sight, Node}
 use Rattle.bson_shape.specs.Form.{Form}
 use Rattle.bson_datum.specs.Marked.{Marked, contents}
 use Rattle.bson_laws.specs.Reads.{reads}
@@ -10,5 +10,5 @@ use Rattle.bson_laws.proofs.Given.{IsGiven}
 use Rattle.bson_laws.proofs.GivenExtended.{extended_given}
 use Rattle.bson_laws.proofs.Tame.{IsTame}
 
-pub reads_given : (s : Form) (n : Node) (v : Marked) → IsTame n → reads s n ≡ Ok v → IsGiven (contents v) s
+pub reads_given : (at : Sight) (s : Form) (n : Node) (v : Marked) → IsTame at n → reads s n ≡ Ok v → IsGiven at (contents v) s
 reads_given = given.reads_given read_extended extended_given

@@ -1,5 +1,5 @@
 -- A value that no field takes is walked to its end and dropped.
-use Rattle.std.proofs.Common.{◌≡◌, ℕ, zero, suc, ◌≤◌, Bool, Ok, refl, ap, ◌∙◌, arith}
+use Rattle.std.proofs.Common.{◌≡◌, ℕ, zero, suc, ◌≤◌, Ok, refl, ap, ◌∙◌, arith}
 use Rattle.bson_base.specs.Outcome.{◌>>=◌}
 use Rattle.bson_base.specs.Sound.{IsClean, ArePairsClean, AreTreesClean}
 use Rattle.bson_base.specs.Tree.{Tree, document, array, binary, javascript_code_with_scope, Pairs, no_pairs, pair, Trees, no_trees, tree, depth, pairs_depth, trees_depth}

@@ -1,5 +1,5 @@
 -- A clean tree is judged without a refusal, where there are levels for it.
-use Rattle.std.proofs.Common.{◌≡◌, ℕ, zero, suc, ◌-◌, ◌≤◌, Bool, true, false, Option, Some, None, Ok, refl, ap, ◌∙◌, arith}
+use Rattle.std.proofs.Common.{◌≡◌, ℕ, zero, suc, ◌-◌, ◌≤◌, true, Option, Some, None, Ok, refl, ap, ◌∙◌, arith}
 use Rattle.std.specs.Str.{is_utf8}
 use Rattle.std.proofs.lemmas.Bool.{cond-true}
 use Rattle.bson_base.specs.Text.{Utf8}

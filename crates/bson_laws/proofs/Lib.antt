@@ -24,6 +24,7 @@ pub mod ReadBack
 pub mod Rewritten
 pub mod Signed
 pub mod Codec
+pub mod Settled
 pub mod Lent
 pub mod Judged
 pub mod Tame
@@ -34,6 +35,7 @@ pub mod Given
 pub mod Again
 pub mod ReadAgain
 pub mod Examples
+pub mod BareNodes
 pub mod Bare
 pub mod Ranges
 pub mod DatumSpelled
@@ -55,4 +57,3 @@ pub mod TreesAgain
 pub mod BareTrees
 pub mod MendedTexts
 pub mod Mended
-pub mod LossyAgain

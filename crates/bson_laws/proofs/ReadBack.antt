@@ -14,26 +14,28 @@ use Rattle.bson_base.proofs.Outcomes.{some_is, some_map, some_then}
 use Rattle.bson_rawdoc.specs.declared.raw.Error.TheVariants.{TooShort, LengthDiffers, NoTerminator}
 use Rattle.bson_rawdoc.specs.Envelope.{is_closed, envelope}
 use Rattle.bson_rawdoc.specs.Node as node
-use Rattle.bson_rawdoc.specs.Node.{from_input, Node, Nodes, node_in, tree_node, pair_nodes, tree_nodes}
+use Rattle.bson_rawdoc.specs.Node.{Sight, from_input, piece, Nodes, node_in, tree_node, pair_nodes, tree_nodes}
 use Rattle.bson_rawdoc.specs.Numbers.{int32_in}
-use Rattle.bson_rawdoc.specs.Piece.{borrowed, made}
+use Rattle.bson_rawdoc.specs.Piece.{made}
 use Rattle.std.specs.Ordering.{int_eq}
 use Rattle.std.proofs.lemmas.Bool.Decides.{Decides-int_eq}
-use Rattle.bson_shape.specs.Form.{Form, leaf, optional, sequence, newtype, unit_structure, map, tuple, tuple_structure, structure, enumeration, Fields, no_fields, field, Parts, no_parts, part, Content, unit_content, newtype_content, tuple_content, struct_content, Variants, no_variants, variant}
+use Rattle.bson_shape.specs.Form.{Form, leaf, optional, lossy, human_readable, by_mode, sequence, newtype, unit_structure, map, tuple, tuple_structure, structure, enumeration, Fields, no_fields, field, Parts, no_parts, part, Content, unit_content, newtype_content, tuple_content, struct_content, Variants, no_variants, variant}
 use Rattle.bson_shape.specs.Makers.{has_field, repeats, IsShape, AreShapes, AreParts, AreVariants, IsContent}
 use Rattle.bson_laws.specs.Leaves.{LeafKind, anything, ignored, booleans, numbers, doubles, characters, texts, byte_strings, byte_buffers, units, extended_values, leaf_kind}
 use Rattle.bson_datum.specs.Value as value
-use Rattle.bson_datum.specs.Value.{IntegerType, in_range, Value, Items, no_items, item, Entries, no_entries, FieldValues, no_field_values, field_value}
+use Rattle.bson_datum.specs.Value.{IntegerType, in_range, Value, Items, no_items, item, no_entries, FieldValues, no_field_values, field_value}
 use Rattle.bson_datum.specs.Marked.{Marked, MarkedItems, MarkedFields, contents, item_contents, field_contents}
 use Rattle.bson_datum.specs.Cause.{raw, out_of_range}
 use Rattle.bson_datum.specs.Refusal.{under, under_index, bare, unreadable}
 use Rattle.bson_laws.specs.Variants.{content_of}
 use Rattle.bson_laws.specs.Judged.{Reading, refused, judged}
-use Rattle.bson_laws.specs.Taken.{read_character, borrow_or_own, array_of}
+use Rattle.bson_laws.specs.Taken.{read_character, borrow, array_of}
 use Rattle.bson_laws.specs.ReadsLeaf.{borrows, no_extended, read_leaf_with}
 use Rattle.bson_laws.specs.Containers.{reads_items, reads_entries, reads_unit, reads_key, read_enum, reads_option}
-use Rattle.bson_laws.specs.Slots.{Slots, fill, finish, read_structure}
+use Rattle.bson_laws.specs.Slots.{Slots, missing_value, fill, finish, read_structure}
 use Rattle.bson_laws.specs.Reads.{read_leaf, slots_of, reads, reads_parts, reads_variant, reads_content, answered, reads_document}
+use Rattle.bson_laws.specs.Plain.{IsPlain}
+use Rattle.bson_laws.specs.Settled.{settled}
 use Rattle.bson_laws.specs.Views.{absent, views_at, one_character, views_leaf, views_leaf_key, views_key, views_items, views_entries, views, views_fields, views_parts, views_variant, views_content}
 use Rattle.bson_laws.proofs.TreesRead.{extended_again}
 use Rattle.bson_laws.proofs.Fitted.{Unnamed, unlike_swap}
@@ -44,6 +46,9 @@ use Rattle.bson_laws.proofs.Codec.{seen_again}
 use Rattle.bson_laws.proofs.Filled.{Distinct, ArePassed, seen_of, seen_at, seen_fields, fields_seen}
 use Rattle.bson_laws.proofs.Ignored.{ignores_again}
 use Rattle.bson_laws.proofs.Judged.{ReadAs, by_null, judged_again, document_again, array_again}
+use Rattle.bson_laws.proofs.Lent.{LeafLent, IsLent, AreFieldsLent, ArePartsLent, AreVariantsLent, IsContentLent, marked, lent_from_input, text_lent}
+use Rattle.bson_laws.proofs.Mended.{tree_mended}
+use Rattle.bson_laws.proofs.Settled.{settled_same, plain_settled}
 use Rattle.bson_laws.proofs.Items.{ReadsBack, items_again}
 use Rattle.bson_laws.proofs.Entries.{KeepsApart, ReadsKeys, new_first, entries_again}
 use Rattle.bson_laws.proofs.Unshaped.{any_again}
@@ -69,38 +74,38 @@ number_read : (type : IntegerType) (n : ℤ) (b : Bool) (v : Value) → cond b (
 number_read type n true v e = (value.integer type n, refl, some_is (value.integer type n) v e)
 number_read type n false v e = absurd cc
 
--- what is in the input is borrowed, or owned
-pub text_read : (b : Bool) (t : Bytes) (v : Value) → value.str t ≡ v → ReadAs contents (result_map value.str (borrow_or_own b (borrowed t))) v
-text_read true t v e = (value.str (borrowed t), refl, e)
-text_read false t v e = (value.str (made t), refl, e)
+-- what is lent is borrowed
+bytes_lent : (b : Bool) (bs : Bytes) (v : Value) → b ≡ true → value.bytes bs ≡ v → ReadAs contents (result_map value.bytes (borrow (piece b bs))) v
+bytes_lent true bs v lent e = (value.bytes (piece true bs), refl, e)
+bytes_lent false bs v lent e = absurd cc
 
-leaf_read : (l : Bool) (k : LeafKind) (t : Tree) (v : Value) (levels : ℕ) → IsClean t → depth t ≤ levels → views_leaf k t ≡ Some v → ReadAs contents (read_leaf l k (tree_node from_input t levels)) v
-leaf_read l anything t v levels c d e = any_again levels t v c d e
-leaf_read l ignored t v levels c d e = absurd cc
-leaf_read l booleans (boolean b) v levels c d e = (value.boolean b, refl, some_is (value.boolean b) v e)
-leaf_read l booleans t v levels c d e = absurd cc
-leaf_read l (numbers type) (int32 n) v levels c d e = number_read type n (in_range type n) v e
-leaf_read l (numbers type) (int64 n) v levels c d e = number_read type n (in_range type n) v e
-leaf_read l (numbers type) t v levels c d e = absurd cc
-leaf_read l doubles (double bits) v levels c d e = (value.double bits, refl, some_is (value.double bits) v e)
-leaf_read l doubles t v levels c d e = absurd cc
-leaf_read l characters (string t) v levels c d e = let m = some_map value.character (one_character (chars t)) v e in (value.character m.0, ap read_character m.1, m.2)
-leaf_read l characters t v levels c d e = absurd cc
-leaf_read l texts (string t) v levels c d e = let is = some_is (value.str t) v e in text_read l t v is
-leaf_read l texts t v levels c d e = absurd cc
-leaf_read l byte_strings (binary zero bs) v levels c d e = (value.bytes (borrowed bs), refl, some_is (value.bytes bs) v e)
-leaf_read l byte_strings t v levels c d e = absurd cc
-leaf_read l byte_buffers (binary zero bs) v levels c d e = (value.bytes (made bs), refl, some_is (value.bytes bs) v e)
-leaf_read l byte_buffers t v levels c d e = absurd cc
-leaf_read l units null v levels c d e = (value.unit, refl, some_is value.unit v e)
-leaf_read l units t v levels c d e = absurd cc
-leaf_read l (extended_values k) t v levels c d e = extended_again k t v levels c d e
+leaf_read : (at : Sight) (l : Bool) (k : LeafKind) (t : Tree) (v : Value) (levels : ℕ) → LeafLent at l k → IsClean t → depth t ≤ levels → views_leaf k t ≡ Some v → ReadAs contents (read_leaf l k (tree_node at t levels)) v
+leaf_read at l anything t v levels lent c d e = any_again at levels t v c d e
+leaf_read at l ignored t v levels lent c d e = absurd cc
+leaf_read at l booleans (boolean b) v levels lent c d e = (value.boolean b, refl, some_is (value.boolean b) v e)
+leaf_read at l booleans t v levels lent c d e = absurd cc
+leaf_read at l (numbers type) (int32 n) v levels lent c d e = number_read type n (in_range type n) v e
+leaf_read at l (numbers type) (int64 n) v levels lent c d e = number_read type n (in_range type n) v e
+leaf_read at l (numbers type) t v levels lent c d e = absurd cc
+leaf_read at l doubles (double bits) v levels lent c d e = (value.double bits, refl, some_is (value.double bits) v e)
+leaf_read at l doubles t v levels lent c d e = absurd cc
+leaf_read at l characters (string t) v levels lent c d e = let m = some_map value.character (one_character (chars t)) v e in (value.character m.0, ap read_character m.1, m.2)
+leaf_read at l characters t v levels lent c d e = absurd cc
+leaf_read at l texts (string t) v levels lent c d e = text_lent at l t v lent (some_is (value.str t) v e)
+leaf_read at l texts t v levels lent c d e = absurd cc
+leaf_read at l byte_strings (binary zero bs) v levels lent c d e = bytes_lent at.bytes bs v lent (some_is (value.bytes bs) v e)
+leaf_read at l byte_strings t v levels lent c d e = absurd cc
+leaf_read at l byte_buffers (binary zero bs) v levels lent c d e = (value.bytes (made bs), refl, some_is (value.bytes bs) v e)
+leaf_read at l byte_buffers t v levels lent c d e = absurd cc
+leaf_read at l units null v levels lent c d e = (value.unit, refl, some_is value.unit v e)
+leaf_read at l units t v levels lent c d e = absurd cc
+leaf_read at l (extended_values k) t v levels lent c d e = extended_again at k t v levels c d e
 
 -- ---- the keys of maps
 
-leaf_key_again : (l : Bool) (k : LeafKind) (key : Utf8) (v : Value) → views_leaf_key k key ≡ Some v → (v ≡ value.str key) × ReadAs contents (read_leaf_with no_extended l k (node.string (borrowed key))) (value.str key)
-leaf_key_again l texts key v e = (sym (some_is (value.str key) v e), text_read l key (value.str key) refl)
-leaf_key_again l k key v e = absurd cc
+leaf_key_again : (at : Sight) (l : Bool) (k : LeafKind) (key : Utf8) (v : Value) → LeafLent at l k → views_leaf_key k key ≡ Some v → (v ≡ value.str key) × ReadAs contents (read_leaf_with no_extended l k (node.string (piece at.texts key))) (value.str key)
+leaf_key_again at l texts key v lent e = (sym (some_is (value.str key) v e), text_lent at l key (value.str key) lent refl)
+leaf_key_again at l k key v lent e = absurd cc
 
 -- what a text is as a key: the unit variant of that name, where the keys are an enum
 abbrev key_of : Form → Utf8 → Value
@@ -111,74 +116,74 @@ keys_apart : (s : Form) → KeepsApart (key_of s)
 keys_apart (enumeration vs) a b = refl
 keys_apart s a b = refl
 
-key_again : (s : Form) → ReadsKeys (key_of s) (views_key s) (reads_key s)
-key_again (leaf l) key v e = leaf_key_again (borrows l) (leaf_kind l) key v e
-key_again (enumeration vs) key v e = let u = unit_is key (content_of vs key) v e in (u.1, (value.unit_variant (made key), u.2, refl))
-key_again s key v e = absurd cc
+key_again : (at : Sight) (s : Form) → IsLent at s → ReadsKeys at (key_of s) (views_key s) (reads_key s)
+key_again at (leaf l) lent key v e = leaf_key_again at (borrows l) (leaf_kind l) key v lent e
+key_again at (enumeration vs) lent key v e = let u = unit_is key (content_of vs key) v e in (u.1, (value.unit_variant (made key), u.2, refl))
+key_again at s lent key v e = absurd cc
 
 -- ---- null, and what is not null
 
 null_viewed : (s : Form) (t : Tree) (v : Value) → t ≡ null → views (optional s) t ≡ Some v → value.none ≡ v
 null_viewed s t v is e = some_is value.none v (ap (views (optional s)) (sym is) ∙ e)
 
-option_again : (s : Form) (t : Tree) (v : Value) (levels : ℕ) (r : Reading Marked) → ((w : Value) → views s t ≡ Some w → ReadAs contents r w) → views (optional s) t ≡ Some v → ReadAs contents (reads_option (tree_node from_input t levels) r) v
-option_again s null v levels r inner e = (value.none, refl, some_is value.none v e)
-option_again s t v levels r inner e =
+option_again : (at : Sight) (s : Form) (t : Tree) (v : Value) (levels : ℕ) (r : Reading Marked) → ((w : Value) → views s t ≡ Some w → ReadAs contents r w) → views (optional s) t ≡ Some v → ReadAs contents (reads_option (tree_node at t levels) r) v
+option_again at s null v levels r inner e = (value.none, refl, some_is value.none v e)
+option_again at s t v levels r inner e =
     let m = some_map value.some (views s t) v e in
     let h = inner m.0 m.1 in
-    by_null (λ q. ReadAs contents q v) from_input t levels r (λ is. (value.none, refl, null_viewed s t v is e)) (value.some h.0, ap (result_map value.some) h.1, ap value.some h.2 ∙ m.2)
+    by_null (λ q. ReadAs contents q v) at t levels r (λ is. (value.none, refl, null_viewed s t v is e)) (value.some h.0, ap (result_map value.some) h.1, ap value.some h.2 ∙ m.2)
 
-unit_again : (name : Utf8) (t : Tree) (v : Value) (levels : ℕ) → views (unit_structure name) t ≡ Some v → ReadAs contents (reads (unit_structure name) (tree_node from_input t levels)) v
-unit_again name null v levels e = (value.unit_structure (made name), refl, some_is (value.unit_structure name) v e)
-unit_again name t v levels e = absurd cc
+unit_again : (at : Sight) (name : Utf8) (t : Tree) (v : Value) (levels : ℕ) → views (unit_structure name) t ≡ Some v → ReadAs contents (reads (unit_structure name) (tree_node at t levels)) v
+unit_again at name null v levels e = (value.unit_structure (made name), refl, some_is (value.unit_structure name) v e)
+unit_again at name t v levels e = absurd cc
 
 -- ---- documents and arrays
 
 -- the values of an array, read where those in it are
-parts_again : (f : Items → Value) (g : MarkedItems → Marked) (view : Trees → Option Items) (read : Nodes → Reading MarkedItems) (ts : Trees) (v : Value) (levels : ℕ) → ((x : MarkedItems) → contents (g x) ≡ f (item_contents x))
-    → ((vs : Items) → AreTreesClean ts → trees_depth ts ≤ levels - 1 → view ts ≡ Some vs → ReadAs item_contents (read (tree_nodes from_input 0 ts (levels - 1))) vs)
+parts_again : (at : Sight) (f : Items → Value) (g : MarkedItems → Marked) (view : Trees → Option Items) (read : Nodes → Reading MarkedItems) (ts : Trees) (v : Value) (levels : ℕ) → ((x : MarkedItems) → contents (g x) ≡ f (item_contents x))
+    → ((vs : Items) → AreTreesClean ts → trees_depth ts ≤ levels - 1 → view ts ≡ Some vs → ReadAs item_contents (read (tree_nodes at 0 ts (levels - 1))) vs)
     → IsClean (array ts) → depth (array ts) ≤ levels → option_map f (view ts) ≡ Some v
-    → ReadAs contents (judged (tree_node from_input (array ts) levels) >>= array_of >>= λ ns. result_map g (read ns)) v
-parts_again f g view read ts v levels same all c d e =
+    → ReadAs contents (judged (tree_node at (array ts) levels) >>= array_of >>= λ ns. result_map g (read ns)) v
+parts_again at f g view read ts v levels same all c d e =
     let m = some_map f (view ts) v e in
     let h = all m.0 c (omega arith) m.1 in
-    (g h.0, ap (λ r. r >>= λ ns. result_map g (read ns)) (array_again from_input ts levels c d) ∙ ap (result_map g) h.1, same h.0 ∙ ap f h.2 ∙ m.2)
+    (g h.0, ap (λ r. r >>= λ ns. result_map g (read ns)) (array_again at ts levels c d) ∙ ap (result_map g) h.1, same h.0 ∙ ap f h.2 ∙ m.2)
 
 -- the entries of a document, read where its values are
-map_again : (key s : Form) (t : Tree) (v : Value) (levels : ℕ) → ReadsBack (views s) (reads s) (levels - 1) → IsClean t → depth t ≤ levels → views (map key s) t ≡ Some v → ReadAs contents (reads (map key s) (tree_node from_input t levels)) v
-map_again key s (document ps) v levels each c d e =
+map_again : (at : Sight) (key s : Form) (t : Tree) (v : Value) (levels : ℕ) → IsLent at key → ReadsBack at (views s) (reads s) (levels - 1) → IsClean t → depth t ≤ levels → views (map key s) t ≡ Some v → ReadAs contents (reads (map key s) (tree_node at t levels)) v
+map_again at key s (document ps) v levels lent each c d e =
     let below = levels - 1 in
     let m = some_map value.map (views_entries (views_key key) (views s) ps) v e in
     let read = λ (ns : Nodes). reads_entries (reads_key key) (reads s) ns no_entries in
-    let h = entries_again (key_of key) (keys_apart key) (views_key key) (reads_key key) (views s) (reads s) below (key_again key) each ps no_entries m.0 c (omega arith) (new_first (key_of key) ps) m.1 in
-    (value.map h.0, ap (λ r. r >>= λ ns. result_map value.map (read ns)) (document_again from_input ps levels c d) ∙ ap (result_map value.map) h.1, ap value.map h.2 ∙ m.2)
-map_again key s t v levels each c d e = absurd cc
+    let h = entries_again at (key_of key) (keys_apart key) (views_key key) (reads_key key) (views s) (reads s) below (key_again at key lent) each ps no_entries m.0 c (omega arith) (new_first (key_of key) ps) m.1 in
+    (value.map h.0, ap (λ r. r >>= λ ns. result_map value.map (read ns)) (document_again at ps levels c d) ∙ ap (result_map value.map) h.1, ap value.map h.2 ∙ m.2)
+map_again at key s t v levels lent each c d e = absurd cc
 
 -- what a struct reads from a document is read by its keys
-keyed : (slots : Slots) (ps : Pairs) (levels : ℕ) → depth (document ps) ≤ levels → read_structure slots (tree_node from_input (document ps) levels) ≡ (fill (pair_nodes from_input ps (levels - 1)) slots >>= finish)
-keyed slots ps zero d = absurd (omega arith)
-keyed slots ps (suc n) d = let below : n ≡ suc n - 1 = omega arith in ap (λ m. fill (pair_nodes from_input ps m) slots >>= finish) below
+keyed : (at : Sight) (slots : Slots) (ps : Pairs) (levels : ℕ) → depth (document ps) ≤ levels → read_structure slots (tree_node at (document ps) levels) ≡ (fill (pair_nodes at ps (levels - 1)) slots >>= finish)
+keyed at slots ps zero d = absurd (omega arith)
+keyed at slots ps (suc n) d = let below : n ≡ suc n - 1 = omega arith in ap (λ m. fill (pair_nodes at ps m) slots >>= finish) below
 
 -- what the fields are viewed as is what they are seen as
-abbrev SeesFields : Fields → ℕ → Type 0
-SeesFields fs levels = (ps : Pairs) (vs : FieldValues) → ArePairsClean ps → pairs_depth ps ≤ levels → views_fields fs ps ≡ Some vs → (out : MarkedFields) × (seen_fields from_input levels fs ps ≡ Some out) × (field_contents out ≡ vs)
+abbrev SeesFields : (at : Sight) → Fields → ℕ → Type 0
+SeesFields at fs levels = (ps : Pairs) (vs : FieldValues) → ArePairsClean ps → pairs_depth ps ≤ levels → views_fields fs ps ≡ Some vs → (out : MarkedFields) × (seen_fields at levels fs ps ≡ Some out) × (field_contents out ≡ vs)
 
-all_passed : (fs : Fields) (ps : Pairs) (levels : ℕ) → ArePairsClean ps → pairs_depth ps ≤ levels → ArePassed from_input levels fs ps
-all_passed fs no_pairs levels c d = tt
-all_passed fs (pair k t ps) levels c d = (c.1, (λ e. ignores_again from_input t levels c.2 (omega arith)), all_passed fs ps levels c.3 (omega arith))
+all_passed : (at : Sight) (fs : Fields) (ps : Pairs) (levels : ℕ) → ArePairsClean ps → pairs_depth ps ≤ levels → ArePassed at levels fs ps
+all_passed at fs no_pairs levels c d = tt
+all_passed at fs (pair k t ps) levels c d = (c.1, (λ e. ignores_again at t levels c.2 (omega arith)), all_passed at fs ps levels c.3 (omega arith))
 
 -- the fields of a struct, read by their keys where each is
-fields_again : (f : FieldValues → Value) (g : MarkedFields → Marked) (fs : Fields) (ps : Pairs) (v : Value) (levels : ℕ) → ((x : MarkedFields) → contents (g x) ≡ f (field_contents x)) → repeats fs ≡ false → SeesFields fs (levels - 1)
+fields_again : (at : Sight) (f : FieldValues → Value) (g : MarkedFields → Marked) (fs : Fields) (ps : Pairs) (v : Value) (levels : ℕ) → ((x : MarkedFields) → contents (g x) ≡ f (field_contents x)) → repeats fs ≡ false → SeesFields at fs (levels - 1)
     → IsClean (document ps) → depth (document ps) ≤ levels → option_map f (views_fields fs ps) ≡ Some v
-    → ReadAs contents (judged (tree_node from_input (document ps) levels) >>= λ m. result_map g (read_structure (slots_of fs) m)) v
-fields_again f g fs ps v levels same distinct each c d e =
+    → ReadAs contents (judged (tree_node at (document ps) levels) >>= λ m. result_map g (read_structure (slots_of fs) m)) v
+fields_again at f g fs ps v levels same distinct each c d e =
     let below = levels - 1 in
     let m = some_map f (views_fields fs ps) v e in
     let slots = slots_of fs in
     let h = each ps m.0 c (omega arith) m.1 in (
       g h.0,
-      ap (λ r. r >>= λ x. result_map g (read_structure slots x)) (judged_again from_input (document ps) levels c d)
-          ∙ ap (result_map g) (keyed slots ps levels d ∙ fields_seen from_input below fs (distinct_from fs distinct) ps h.0 (all_passed fs ps below c (omega arith)) h.1),
+      ap (λ r. r >>= λ x. result_map g (read_structure slots x)) (judged_again at (document ps) levels c d)
+          ∙ ap (result_map g) (keyed at slots ps levels d ∙ fields_seen at below fs (distinct_from fs distinct) ps h.0 (all_passed at fs ps below c (omega arith)) h.1),
       same h.0 ∙ ap f h.2 ∙ m.2,
     )
 
@@ -192,31 +197,31 @@ lookup_inside key no_pairs t levels c d e = absurd cc
 lookup_inside key (pair k u ps) t levels c d e =
     at_either (λ x. IsClean x × (depth x ≤ levels)) (bytes_eq key k) u t (lookup key ps) (c.2, omega arith) (λ h. lookup_inside key ps t levels c.3 (omega arith) h) e
 
-absent_seen : (s : Form) (v : Value) → absent s ≡ Some v → (m : Marked) × (absent s ≡ Some m) × (contents m ≡ v)
+absent_seen : (s : Form) (v : Value) → absent s ≡ Some v → (m : Marked) × (missing_value s ≡ Some m) × (contents m ≡ v)
 absent_seen (optional s) v e = (value.none, refl, some_is value.none v e)
 absent_seen s v e = absurd cc
 
-field_seen : (s : Form) (o : Option Tree) (v : Value) (levels : ℕ) → ((t : Tree) → o ≡ Some t → views s t ≡ Some v → ReadAs contents (reads s (tree_node from_input t levels)) v)
-    → views_at (views s) (absent s) o ≡ Some v → (m : Marked) × (seen_at from_input levels s o ≡ Some m) × (contents m ≡ v)
-field_seen s None v levels found e = absent_seen s v e
-field_seen s (Some t) v levels found e = let h = found t refl e in (h.0, seen_of from_input levels s t h.0 h.1, h.2)
+field_seen : (at : Sight) (s : Form) (o : Option Tree) (v : Value) (levels : ℕ) → ((t : Tree) → o ≡ Some t → views s t ≡ Some v → ReadAs contents (reads s (tree_node at t levels)) v)
+    → views_at (views s) (absent s) o ≡ Some v → (m : Marked) × (seen_at at levels s o ≡ Some m) × (contents m ≡ v)
+field_seen at s None v levels found e = absent_seen s v e
+field_seen at s (Some t) v levels found e = let h = found t refl e in (h.0, seen_of at levels s t h.0 h.1, h.2)
 
 -- ---- enums
 
 -- what the variants of an enum are viewed as is read at the key that names one
-abbrev ReadsVariants : Variants → ℕ → Type 0
-ReadsVariants vs levels = (name : Utf8) (t : Tree) (v : Value) → IsClean t → depth t ≤ levels → views_variant vs name t ≡ Some v → ReadAs contents (reads_variant vs name (tree_node from_input t levels)) v
+abbrev ReadsVariants : (at : Sight) → Variants → ℕ → Type 0
+ReadsVariants at vs levels = (name : Utf8) (t : Tree) (v : Value) → IsClean t → depth t ≤ levels → views_variant vs name t ≡ Some v → ReadAs contents (reads_variant vs name (tree_node at t levels)) v
 
-enum_again : (vs : Variants) (t : Tree) (v : Value) (levels : ℕ) → ReadsVariants vs (levels - 1) → IsClean t → depth t ≤ levels → views (enumeration vs) t ≡ Some v → ReadAs contents (reads (enumeration vs) (tree_node from_input t levels)) v
-enum_again vs (string name) v levels each c d e =
+enum_again : (at : Sight) (vs : Variants) (t : Tree) (v : Value) (levels : ℕ) → ReadsVariants at vs (levels - 1) → IsClean t → depth t ≤ levels → views (enumeration vs) t ≡ Some v → ReadAs contents (reads (enumeration vs) (tree_node at t levels)) v
+enum_again at vs (string name) v levels each c d e =
     let u = unit_is name (content_of vs name) v e in
-    (value.unit_variant (made name), ap (λ r. r >>= read_enum (reads_unit vs) (reads_variant vs)) (judged_again from_input (string name) levels c d) ∙ u.2, sym u.1)
-enum_again vs (document (pair name t no_pairs)) v zero each c d e = absurd (omega arith)
-enum_again vs (document (pair name t no_pairs)) v (suc n) each c d e =
+    (value.unit_variant (made name), ap (λ r. r >>= read_enum (reads_unit vs) (reads_variant vs)) (judged_again at (string name) levels c d) ∙ u.2, sym u.1)
+enum_again at vs (document (pair name t no_pairs)) v zero each c d e = absurd (omega arith)
+enum_again at vs (document (pair name t no_pairs)) v (suc n) each c d e =
     let below : suc n - 1 ≡ n = omega arith in
     let h = each name t v c.2 (omega arith) e in
-    (h.0, ap (λ m. reads_variant vs name (tree_node from_input t m)) (sym below) ∙ h.1, h.2)
-enum_again vs t v levels each c d e = absurd cc
+    (h.0, ap (λ m. reads_variant vs name (tree_node at t m)) (sym below) ∙ h.1, h.2)
+enum_again at vs t v levels each c d e = absurd cc
 
 chosen_read : (b : Bool) (x y : Option Value) (r q : Reading Marked) (v : Value) → cond b x y ≡ Some v → (x ≡ Some v → ReadAs contents r v) → (y ≡ Some v → ReadAs contents q v) → ReadAs contents (cond b r q) v
 chosen_read true x y r q v e first others = first e
@@ -228,72 +233,76 @@ under_read key r v h = (h.0, ap (under key) h.1, h.2)
 -- ---- all forms
 
 mutual
-  pub reads_again : (s : Form) (t : Tree) (v : Value) (levels : ℕ) → IsShape s → IsClean t → depth t ≤ levels → views s t ≡ Some v → ReadAs contents (reads s (tree_node from_input t levels)) v
-  reads_again (leaf w) t v levels p c d e = let h = leaf_read (borrows w) (leaf_kind w) t v levels c d e in (h.0, ap (λ r. r >>= read_leaf (borrows w) (leaf_kind w)) (judged_again from_input t levels c d) ∙ h.1, h.2)
-  reads_again (optional s) t v levels p c d e = option_again s t v levels (reads s (tree_node from_input t levels)) (λ w h. reads_again s t w levels p.1 c d h) e
-  reads_again (newtype name s) t v levels p c d e =
+  pub reads_again : (at : Sight) (s : Form) (t : Tree) (v : Value) (levels : ℕ) → IsShape s → IsLent at s → IsClean t → depth t ≤ levels → views s t ≡ Some v → ReadAs contents (reads s (tree_node at t levels)) v
+  reads_again at (leaf w) t v levels p lent c d e = let h = leaf_read at (borrows w) (leaf_kind w) t v levels lent c d e in (h.0, ap (λ r. r >>= read_leaf (borrows w) (leaf_kind w)) (judged_again at t levels c d) ∙ h.1, h.2)
+  reads_again at (optional s) t v levels p lent c d e = option_again at s t v levels (reads s (tree_node at t levels)) (λ w h. reads_again at s t w levels p.1 lent c d h) e
+  reads_again at (lossy s) t v levels p lent c d e =
+      let h = reads_again (marked at) s t v levels p.1 lent c d e in (h.0, ap (reads s) (tree_mended at t levels (clean_coded t c)) ∙ h.1, h.2)
+  reads_again at (human_readable s) t v levels p lent c d e = absurd cc
+  reads_again at (by_mode readable compact) t v levels p lent c d e = absurd cc
+  reads_again at (newtype name s) t v levels p lent c d e =
       let m = some_map (value.newtype name) (views s t) v e in
-      let h = reads_again s t m.0 levels p.1 c d m.1 in
+      let h = reads_again at s t m.0 levels p.1 lent c d m.1 in
       (value.newtype (made name) h.0, ap (result_map (value.newtype (made name))) h.1, ap (value.newtype name) h.2 ∙ m.2)
-  reads_again (unit_structure name) t v levels p c d e = unit_again name t v levels e
-  reads_again (sequence s) (array ts) v levels p c d e =
-      parts_again value.sequence value.sequence (views_items (views s)) (reads_items (reads s) 0) ts v levels (λ x. refl)
-      (λ vs c' d' h. items_again (views s) (reads s) (levels - 1) (λ u w. reads_again s u w (levels - 1) p.1) 0 ts vs c' d' h) c d e
-  reads_again (sequence s) t v levels p c d e = absurd cc
-  reads_again (map key s) t v levels p c d e = map_again key s t v levels (λ u w. reads_again s u w (levels - 1) p.3) c d e
-  reads_again (structure name fs) (document qs) v levels p c d e = fields_again (value.structure name) (value.structure (made name)) fs qs v levels (λ x. refl) p.0.distinct (λ ps vs c' d' h. sees_fields_again fs ps vs (levels - 1) p.1 c' d' h) c d e
-  reads_again (structure name fs) t v levels p c d e = absurd cc
-  reads_again (tuple ps) (array ts) v levels p c d e =
-      parts_again value.tuple value.tuple (views_parts ps) (reads_parts ps 0) ts v levels (λ x. refl) (λ vs c' d' h. reads_parts_again ps 0 ts vs (levels - 1) p.1 c' d' h) c d e
-  reads_again (tuple ps) t v levels p c d e = absurd cc
-  reads_again (tuple_structure name ps) (array ts) v levels p c d e =
-      parts_again (value.tuple_structure name) (value.tuple_structure (made name)) (views_parts ps) (reads_parts ps 0) ts v levels (λ x. refl) (λ vs c' d' h. reads_parts_again ps 0 ts vs (levels - 1) p.2 c' d' h) c d e
-  reads_again (tuple_structure name ps) t v levels p c d e = absurd cc
-  reads_again (enumeration vs) t v levels p c d e = enum_again vs t v levels (λ name u w. reads_variant_again vs name u w (levels - 1) p.1) c d e
+  reads_again at (unit_structure name) t v levels p lent c d e = unit_again at name t v levels e
+  reads_again at (sequence s) (array ts) v levels p lent c d e =
+      parts_again at value.sequence value.sequence (views_items (views s)) (reads_items (reads s) 0) ts v levels (λ x. refl)
+      (λ vs c' d' h. items_again at (views s) (reads s) (levels - 1) (λ u w. reads_again at s u w (levels - 1) p.1 lent) 0 ts vs c' d' h) c d e
+  reads_again at (sequence s) t v levels p lent c d e = absurd cc
+  reads_again at (map key s) t v levels p lent c d e = map_again at key s t v levels lent.0 (λ u w. reads_again at s u w (levels - 1) p.3 lent.1) c d e
+  reads_again at (structure name fs) (document qs) v levels p lent c d e = fields_again at (value.structure name) (value.structure (made name)) fs qs v levels (λ x. refl) p.0.distinct (λ ps vs c' d' h. sees_fields_again at fs ps vs (levels - 1) p.1 lent c' d' h) c d e
+  reads_again at (structure name fs) t v levels p lent c d e = absurd cc
+  reads_again at (tuple ps) (array ts) v levels p lent c d e =
+      parts_again at value.tuple value.tuple (views_parts ps) (reads_parts ps 0) ts v levels (λ x. refl) (λ vs c' d' h. reads_parts_again at ps 0 ts vs (levels - 1) p.1 lent c' d' h) c d e
+  reads_again at (tuple ps) t v levels p lent c d e = absurd cc
+  reads_again at (tuple_structure name ps) (array ts) v levels p lent c d e =
+      parts_again at (value.tuple_structure name) (value.tuple_structure (made name)) (views_parts ps) (reads_parts ps 0) ts v levels (λ x. refl) (λ vs c' d' h. reads_parts_again at ps 0 ts vs (levels - 1) p.2 lent c' d' h) c d e
+  reads_again at (tuple_structure name ps) t v levels p lent c d e = absurd cc
+  reads_again at (enumeration vs) t v levels p lent c d e = enum_again at vs t v levels (λ name u w. reads_variant_again at vs name u w (levels - 1) p.1 lent) c d e
 
-  sees_fields_again : (fs : Fields) (ps : Pairs) (vs : FieldValues) (levels : ℕ) → AreShapes fs → ArePairsClean ps → pairs_depth ps ≤ levels → views_fields fs ps ≡ Some vs → (out : MarkedFields) × (seen_fields from_input levels fs ps ≡ Some out) × (field_contents out ≡ vs)
-  sees_fields_again no_fields ps vs levels p c d e = (no_field_values, refl, some_is no_field_values vs e)
-  sees_fields_again (field n s fs) ps vs levels p c d e =
+  sees_fields_again : (at : Sight) (fs : Fields) (ps : Pairs) (vs : FieldValues) (levels : ℕ) → AreShapes fs → AreFieldsLent at fs → ArePairsClean ps → pairs_depth ps ≤ levels → views_fields fs ps ≡ Some vs → (out : MarkedFields) × (seen_fields at levels fs ps ≡ Some out) × (field_contents out ≡ vs)
+  sees_fields_again at no_fields ps vs levels p lent c d e = (no_field_values, refl, some_is no_field_values vs e)
+  sees_fields_again at (field n s fs) ps vs levels p lent c d e =
       let a = some_then (λ v. option_map (field_value n v) (views_fields fs ps)) (views_at (views s) (absent s) (lookup n ps)) vs e in
       let b = some_map (field_value n a.0) (views_fields fs ps) vs a.2 in
-      let first = field_seen s (lookup n ps) a.0 levels (λ t h w. let within = lookup_inside n ps t levels c d h in reads_again s t a.0 levels p.1 within.0 within.1 w) a.1 in
-      let rest = sees_fields_again fs ps b.0 levels p.2 c d b.1 in (
+      let first = field_seen at s (lookup n ps) a.0 levels (λ t h w. let within = lookup_inside n ps t levels c d h in reads_again at s t a.0 levels p.1 lent.0 within.0 within.1 w) a.1 in
+      let rest = sees_fields_again at fs ps b.0 levels p.2 lent.1 c d b.1 in (
         field_value (made n) first.0 rest.0,
-        ap (option_and_then (λ v. option_map (field_value (made n) v) (seen_fields from_input levels fs ps))) first.1 ∙ ap (option_map (field_value (made n) first.0)) rest.1,
+        ap (option_and_then (λ v. option_map (field_value (made n) v) (seen_fields at levels fs ps))) first.1 ∙ ap (option_map (field_value (made n) first.0)) rest.1,
         (λ i. field_value n (first.2 i) (rest.2 i)) ∙ b.2,
       )
 
-  reads_parts_again : (ps : Parts) (i : ℕ) (ts : Trees) (vs : Items) (levels : ℕ) → AreParts ps → AreTreesClean ts → trees_depth ts ≤ levels → views_parts ps ts ≡ Some vs → ReadAs item_contents (reads_parts ps i (tree_nodes from_input i ts levels)) vs
-  reads_parts_again no_parts i no_trees vs levels p c d e = (no_items, refl, some_is no_items vs e)
-  reads_parts_again (part s ps) i (tree t ts) vs levels p c d e =
+  reads_parts_again : (at : Sight) (ps : Parts) (i : ℕ) (ts : Trees) (vs : Items) (levels : ℕ) → AreParts ps → ArePartsLent at ps → AreTreesClean ts → trees_depth ts ≤ levels → views_parts ps ts ≡ Some vs → ReadAs item_contents (reads_parts ps i (tree_nodes at i ts levels)) vs
+  reads_parts_again at no_parts i no_trees vs levels p lent c d e = (no_items, refl, some_is no_items vs e)
+  reads_parts_again at (part s ps) i (tree t ts) vs levels p lent c d e =
       let a = some_then (λ v. option_map (item v) (views_parts ps ts)) (views s t) vs e in
       let b = some_map (item a.0) (views_parts ps ts) vs a.2 in
-      let first = reads_again s t a.0 levels p.0 c.0 (omega arith) a.1 in
-      let rest = reads_parts_again ps (suc i) ts b.0 levels p.1 c.1 (omega arith) b.1 in (
+      let first = reads_again at s t a.0 levels p.0 lent.0 c.0 (omega arith) a.1 in
+      let rest = reads_parts_again at ps (suc i) ts b.0 levels p.1 lent.1 c.1 (omega arith) b.1 in (
         item first.0 rest.0,
-        ap (λ r. under_index i r >>= λ v. result_map (item v) (reads_parts ps (suc i) (tree_nodes from_input (suc i) ts levels))) first.1 ∙ ap (result_map (item first.0)) rest.1,
+        ap (λ r. under_index i r >>= λ v. result_map (item v) (reads_parts ps (suc i) (tree_nodes at (suc i) ts levels))) first.1 ∙ ap (result_map (item first.0)) rest.1,
         (λ j. item (first.2 j) (rest.2 j)) ∙ b.2,
       )
-  reads_parts_again ps i ts vs levels p c d e = absurd cc
+  reads_parts_again at ps i ts vs levels p lent c d e = absurd cc
 
-  reads_variant_again : (vs : Variants) (name : Utf8) (t : Tree) (v : Value) (levels : ℕ) → AreVariants vs → IsClean t → depth t ≤ levels → views_variant vs name t ≡ Some v → ReadAs contents (reads_variant vs name (tree_node from_input t levels)) v
-  reads_variant_again no_variants name t v levels p c d e = absurd cc
-  reads_variant_again (variant n x vs) name t v levels p c d e =
-      chosen_read (bytes_eq n name) (views_content n x t) (views_variant vs name t) (reads_content n x (tree_node from_input t levels)) (reads_variant vs name (tree_node from_input t levels)) v e
-      (λ h. reads_content_again x n t v levels p.1 c d h) (λ h. reads_variant_again vs name t v levels p.2 c d h)
+  reads_variant_again : (at : Sight) (vs : Variants) (name : Utf8) (t : Tree) (v : Value) (levels : ℕ) → AreVariants vs → AreVariantsLent at vs → IsClean t → depth t ≤ levels → views_variant vs name t ≡ Some v → ReadAs contents (reads_variant vs name (tree_node at t levels)) v
+  reads_variant_again at no_variants name t v levels p lent c d e = absurd cc
+  reads_variant_again at (variant n x vs) name t v levels p lent c d e =
+      chosen_read (bytes_eq n name) (views_content n x t) (views_variant vs name t) (reads_content n x (tree_node at t levels)) (reads_variant vs name (tree_node at t levels)) v e
+      (λ h. reads_content_again at x n t v levels p.1 lent.0 c d h) (λ h. reads_variant_again at vs name t v levels p.2 lent.1 c d h)
 
-  reads_content_again : (x : Content) (n : Utf8) (t : Tree) (v : Value) (levels : ℕ) → IsContent x → IsClean t → depth t ≤ levels → views_content n x t ≡ Some v → ReadAs contents (reads_content n x (tree_node from_input t levels)) v
-  reads_content_again unit_content n t v levels p c d e = absurd cc
-  reads_content_again (newtype_content s) n t v levels p c d e =
+  reads_content_again : (at : Sight) (x : Content) (n : Utf8) (t : Tree) (v : Value) (levels : ℕ) → IsContent x → IsContentLent at x → IsClean t → depth t ≤ levels → views_content n x t ≡ Some v → ReadAs contents (reads_content n x (tree_node at t levels)) v
+  reads_content_again at unit_content n t v levels p lent c d e = absurd cc
+  reads_content_again at (newtype_content s) n t v levels p lent c d e =
       let m = some_map (value.newtype_variant n) (views s t) v e in
-      let h = reads_again s t m.0 levels p c d m.1 in
+      let h = reads_again at s t m.0 levels p lent c d m.1 in
       (value.newtype_variant (made n) h.0, ap (λ r. under n (result_map (value.newtype_variant (made n)) r)) h.1, ap (value.newtype_variant n) h.2 ∙ m.2)
-  reads_content_again (tuple_content ps) n (array ts) v levels p c d e =
-      under_read n _ v (parts_again (value.tuple_variant n) (value.tuple_variant (made n)) (views_parts ps) (reads_parts ps 0) ts v levels (λ x. refl) (λ vs c' d' h. reads_parts_again ps 0 ts vs (levels - 1) p c' d' h) c d e)
-  reads_content_again (tuple_content ps) n t v levels p c d e = absurd cc
-  reads_content_again (struct_content fs) n (document qs) v levels p c d e =
-      under_read n _ v (fields_again (value.structure_variant n) (value.structure_variant (made n)) fs qs v levels (λ x. refl) p.0 (λ ps vs c' d' h. sees_fields_again fs ps vs (levels - 1) p.1 c' d' h) c d e)
-  reads_content_again (struct_content fs) n t v levels p c d e = absurd cc
+  reads_content_again at (tuple_content ps) n (array ts) v levels p lent c d e =
+      under_read n _ v (parts_again at (value.tuple_variant n) (value.tuple_variant (made n)) (views_parts ps) (reads_parts ps 0) ts v levels (λ x. refl) (λ vs c' d' h. reads_parts_again at ps 0 ts vs (levels - 1) p lent c' d' h) c d e)
+  reads_content_again at (tuple_content ps) n t v levels p lent c d e = absurd cc
+  reads_content_again at (struct_content fs) n (document qs) v levels p lent c d e =
+      under_read n _ v (fields_again at (value.structure_variant n) (value.structure_variant (made n)) fs qs v levels (λ x. refl) p.0 (λ ps vs c' d' h. sees_fields_again at fs ps vs (levels - 1) p.1 lent c' d' h) c d e)
+  reads_content_again at (struct_content fs) n t v levels p lent c d e = absurd cc
 
 passed : (a b c : Bool) (x : Bytes) → a ≡ false → b ≡ true → c ≡ true → cond a (Err TooShort) (cond (not b) (Err LengthDiffers) (cond (not c) (Err NoTerminator) (Ok x))) ≡ Ok x
 passed true b c x p q r = absurd cc
@@ -308,12 +317,13 @@ envelope_again ps l =
     (le-ltb _ _ (omega (arith, length-document ps))) ((Decides-int_eq _ _).1 (length_again (length (elements ps) + 5) (elements ps ++ 0 ∷ []) (omega (arith, l, length-document ps)) ∙ ap pos (sym (length-document ps)))) (closed_again (length (elements ps) + 5) (elements ps))
 
 -- what a sound tree is at a shape is read from its bytes
-pub views_reads : (s : Form) (t : Tree) (v : Value) → IsShape s → IsSound t → views s t ≡ Some v → reads_document s (enc t) ≡ Ok v
-views_reads s (document ps) v p h e =
+pub views_reads : (s : Form) (t : Tree) (v : Value) → IsShape s → IsPlain s → IsSound t → views s t ≡ Some v → reads_document s (enc t) ≡ Ok v
+views_reads s (document ps) v p plain h e =
     let small : length (enc (document ps)) < 2 ^ 31 = let f = h.fits in omega arith in
-    let r = reads_again s (document ps) v max_levels p h.clean h.nests e in
-    ap (λ r. result_map contents (elim r [ Ok b ↦ answered (reads s (node_in max_levels EmbeddedDocument b)) | Err f ↦ Err (bare (unreadable (raw f))) ])) (envelope_again ps small)
-    ∙ ap (λ n. result_map contents (answered (reads s n))) (seen_again max_levels (document ps) (clean_coded (document ps) h.clean) small)
+    let r = reads_again from_input s (document ps) v max_levels p (lent_from_input s plain) h.clean h.nests e in
+    ap (λ r. result_map contents (elim r [ Ok b ↦ answered (reads (settled false s) (node_in max_levels EmbeddedDocument b)) | Err f ↦ Err (bare (unreadable (raw f))) ])) (envelope_again ps small)
+    ∙ ap (λ n. result_map contents (answered (reads (settled false s) n))) (seen_again max_levels (document ps) (clean_coded (document ps) h.clean) small)
+    ∙ ap (λ x. result_map contents (answered (reads x (tree_node from_input (document ps) max_levels)))) (settled_same false s (plain_settled s plain))
     ∙ ap (λ q. result_map contents (answered q)) r.1
     ∙ ap Ok r.2
-views_reads s t v p h e = absurd h.document
+views_reads s t v p plain h e = absurd h.document

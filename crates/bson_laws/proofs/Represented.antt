@@ -1,5 +1,5 @@
 -- The document that an extended value is opened to represents the value.
-use Rattle.std.proofs.Common.{◌≡◌, ℕ, zero, suc, ◌<◌, ◌≤◌, ◌^◌, pos, [], ◌∷◌, length, Bool, false, cond, Option, Some, None, Ok, refl, ap, sym, subst, ◌∙◌, ℤ, w64}
+use Rattle.std.proofs.Common.{◌≡◌, ℕ, zero, suc, ◌<◌, ◌≤◌, ◌^◌, pos, [], ◌∷◌, length, false, cond, Option, Some, None, Ok, refl, ap, sym, subst, ◌∙◌, ℤ, w64}
 use Rattle.std.specs.Prelude.{FitsSigned, nat_eq, codes, option_map, option_and_then, unsigned_abs}
 use Rattle.std.specs.Result.{result_ok}
 use Rattle.std.proofs.lemmas.List.Elements.{All-nil, All-cons}
@@ -32,7 +32,7 @@ use Rattle.bson_laws.specs.ReadsLeaf.{no_extended, read_leaf_with}
 use Rattle.bson_laws.specs.Represented.{HasRanges, RepresentsItself}
 use Rattle.bson_laws.specs.Taken.{text_of}
 use Rattle.bson_laws.specs.Trees.{or_bad, pairs_in, as_tree, after_code, read_tree}
-use Rattle.bson_laws.specs.Wrapped.{text, with_field, id_of_text, one_byte, binary_of_texts, oid_body, a_text, a_field, two_fields, two_texts, two_numbers}
+use Rattle.bson_laws.specs.Wrapped.{text, with_field, one_byte, binary_of_texts, oid_body, a_text, a_field, two_fields, two_texts, two_numbers}
 use Rattle.bson_laws.proofs.BodyTexts.{made_judged, made_read, unsigned_read, struct_of_one, field_read, both_read, fields_read, fields_read_turned}
 use Rattle.bson_base.proofs.MadeTexts.{digits_are_text, base64_is_text, number_is_text}
 use Rattle.bson_laws.proofs.ParsedSizes.{ok_there}

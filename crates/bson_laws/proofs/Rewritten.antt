@@ -5,7 +5,8 @@ use Rattle.bson_base.specs.Text.{Utf8, has_zero}
 use Rattle.bson_base.specs.Tree as tree
 use Rattle.bson_base.specs.Tree.{Tree, kind, document, array}
 use Rattle.bson_base.specs.declared.element_type.ElementType.TheVariants.{Int32, Int64}
-use Rattle.bson_shape.specs.Form.{Form, leaf, optional, sequence, newtype, unit_structure, map, tuple, tuple_structure, structure, enumeration, Fields, no_fields, field, Parts, no_parts, part, Content, newtype_content, tuple_content, struct_content, Variants, no_variants, variant}
+use Rattle.bson_rawdoc.specs.Node.{Sight}
+use Rattle.bson_shape.specs.Form.{Form, leaf, optional, lossy, human_readable, by_mode, sequence, newtype, unit_structure, map, tuple, tuple_structure, structure, enumeration, Fields, no_fields, field, Parts, no_parts, part, Content, newtype_content, tuple_content, struct_content, Variants, no_variants, variant}
 use Rattle.bson_shape.specs.Makers.{is_reserved_newtype, IsShape, AreShapes, AreParts, AreVariants, IsContent}
 use Rattle.bson_datum.specs.Value as value
 use Rattle.bson_datum.specs.Value.{IntegerType, i8, i16, i32, i64, u8, u16, u32, u64, in_range, written_as, Value, Items, no_items, item, Entries, no_entries, entry, FieldValues, no_field_values, field_value}
@@ -19,7 +20,8 @@ use Rattle.bson_laws.specs.Datum.{datum, itself}
 use Rattle.bson_laws.proofs.DatumNormal.{same_kind}
 use Rattle.bson_laws.proofs.DatumSpelled.{accepted}
 use Rattle.bson_laws.proofs.GivenTrees.{IsGivenTree, IsGivenExtended}
-use Rattle.bson_laws.proofs.Given.{IsGivenAny, AreGivenItems, AreGivenEntries, IsGivenLeaf, IsGivenLeafKey, IsGivenKey, IsGiven, ItemsGiven, PartsGiven, EntriesGiven, FieldsGiven, given_leaf}
+use Rattle.bson_laws.proofs.Given.{IsGivenAny, AreGivenItems, AreGivenEntries, IsGivenLeaf, IsGivenLeafKey, IsGivenKey, IsGiven, ItemsGiven, PartsGiven, EntriesGiven, FieldsGiven, given_leaf, given_lossy}
+use Rattle.bson_laws.proofs.Lent.{marked}
 use Rattle.bson_laws.proofs.Free.{free_spelled, free_struct}
 use Rattle.bson_laws.proofs.Writable.{wide_small, short_small, taken, binary_written, unless_bind, unless_inside, unless_named, Written, number_written, bytes_written, enclosed_written, variant_written}
 use Rattle.std.specs.Str.{bytes_eq}
@@ -130,11 +132,11 @@ text_key : (k : Value) → IsGivenLeafKey texts k → IsWrittenUnlessLarge (spel
 text_key (value.str x) g = text_written x g.1
 text_key k g = absurd g
 
-key_written : (s : Form) (k : Value) → IsPlainKey s → IsGivenKey s k → IsWrittenUnlessLarge (spell_key k)
-key_written (leaf l) k plain g = text_key k (subst (λ x. IsGivenLeafKey x k) plain g)
-key_written (enumeration vs) (value.unit_variant name) plain g = text_written name g.1
-key_written (enumeration vs) k plain g = absurd g
-key_written s k plain g = absurd plain
+key_written : (at : Sight) (s : Form) (k : Value) → IsPlainKey s → IsGivenKey at s k → IsWrittenUnlessLarge (spell_key k)
+key_written at (leaf l) k plain g = text_key k (subst (λ x. IsGivenLeafKey x k) plain g.0)
+key_written at (enumeration vs) (value.unit_variant name) plain g = text_written name g.1
+key_written at (enumeration vs) k plain g = absurd g
+key_written at s k plain g = absurd plain
 
 -- ---- variants
 
@@ -150,44 +152,47 @@ content_writable (variant n d vs) name c p w e = chosen_writable (bytes_eq n nam
 -- ---- all values
 
 mutual
-  pub written : (v : Value) (s : Form) → IsShape s → HasWritableKeys s → IsGiven v s → Written v
-  written v (leaf l) p c g levels = leaf_written (leaf_kind l) v c (given_leaf v l g) levels
-  written value.none (optional s) p c g levels = tt
-  written (value.some v) (optional s) p c g levels = written v s p.1 c g levels
-  written (value.newtype m v) (newtype n s) p c g levels =
-      subst IsWrittenUnlessLarge (sym (free_spelled m v levels (ap is_reserved_newtype g.0 ∙ p.0.free))) (written v s p.1 c g.1 levels)
-  written (value.unit_structure m) (unit_structure n) p c g levels = tt
-  written (value.sequence vs) (sequence s) p c g levels = enclosed_written array (spell_items 0 vs) (items_written vs s 0 p.1 c g) levels
-  written (value.map es) (map key s) p c g levels = enclosed_written document (spell_entries es) (entries_written es key s p.3 c.0 c.1 g.1) levels
-  written (value.tuple vs) (tuple ps) p c g levels = enclosed_written array (spell_items 0 vs) (parts_written vs ps 0 p.1 c g) levels
-  written (value.tuple_structure m vs) (tuple_structure n ps) p c g levels = enclosed_written array (spell_items 0 vs) (parts_written vs ps 0 p.2 c g.1) levels
-  written (value.structure m vs) (structure n fs) p c g levels =
-      subst IsWrittenUnlessLarge (sym (free_struct m vs levels (ap reserved_kind g.0 ∙ p.0.free))) (enclosed_written document (spell_fields vs) (fields_written vs fs p.1 c g.1) levels)
-  written (value.unit_variant name) (enumeration vs) p c g levels = tt
-  written (value.newtype_variant name v) (enumeration vs) p c g levels =
-      let w = content_writable vs name (newtype_content g.0) p.1 c g.1 in variant_written name (spell v) g.3 (written v g.0 w.0 w.1 g.2) levels
-  written (value.tuple_variant name ws) (enumeration vs) p c g levels =
+  pub written : (at : Sight) (v : Value) (s : Form) → IsShape s → HasWritableKeys s → IsGiven at v s → Written v
+  written at v (leaf l) p c g levels = leaf_written (leaf_kind l) v c (given_leaf at v l g).0 levels
+  written at v (lossy s) p c g levels = written (marked at) v s p.1 c (given_lossy at v s g) levels
+  written at v (human_readable s) p c g levels = absurd c
+  written at v (by_mode readable compact) p c g levels = absurd c
+  written at value.none (optional s) p c g levels = tt
+  written at (value.some v) (optional s) p c g levels = written at v s p.1 c g levels
+  written at (value.newtype m v) (newtype n s) p c g levels =
+      subst IsWrittenUnlessLarge (sym (free_spelled m v levels (ap is_reserved_newtype g.0 ∙ p.0.free))) (written at v s p.1 c g.1 levels)
+  written at (value.unit_structure m) (unit_structure n) p c g levels = tt
+  written at (value.sequence vs) (sequence s) p c g levels = enclosed_written array (spell_items 0 vs) (items_written at vs s 0 p.1 c g) levels
+  written at (value.map es) (map key s) p c g levels = enclosed_written document (spell_entries es) (entries_written at es key s p.3 c.0 c.1 g.1) levels
+  written at (value.tuple vs) (tuple ps) p c g levels = enclosed_written array (spell_items 0 vs) (parts_written at vs ps 0 p.1 c g) levels
+  written at (value.tuple_structure m vs) (tuple_structure n ps) p c g levels = enclosed_written array (spell_items 0 vs) (parts_written at vs ps 0 p.2 c g.1) levels
+  written at (value.structure m vs) (structure n fs) p c g levels =
+      subst IsWrittenUnlessLarge (sym (free_struct m vs levels (ap reserved_kind g.0 ∙ p.0.free))) (enclosed_written document (spell_fields vs) (fields_written at vs fs p.1 c g.1) levels)
+  written at (value.unit_variant name) (enumeration vs) p c g levels = tt
+  written at (value.newtype_variant name v) (enumeration vs) p c g levels =
+      let w = content_writable vs name (newtype_content g.0) p.1 c g.1 in variant_written name (spell v) g.3 (written at v g.0 w.0 w.1 g.2) levels
+  written at (value.tuple_variant name ws) (enumeration vs) p c g levels =
       let w = content_writable vs name (tuple_content g.0) p.1 c g.1 in
-      variant_written name (λ n. enclosed_at array n (spell_items 0 ws)) g.3 (enclosed_written array (spell_items 0 ws) (parts_written ws g.0 0 w.0 w.1 g.2)) levels
-  written (value.structure_variant name ws) (enumeration vs) p c g levels =
+      variant_written name (λ n. enclosed_at array n (spell_items 0 ws)) g.3 (enclosed_written array (spell_items 0 ws) (parts_written at ws g.0 0 w.0 w.1 g.2)) levels
+  written at (value.structure_variant name ws) (enumeration vs) p c g levels =
       let w = content_writable vs name (struct_content g.0) p.1 c g.1 in
-      variant_written name (λ n. enclosed_at document n (spell_fields ws)) g.3 (enclosed_written document (spell_fields ws) (fields_written ws g.0 w.0.1 w.1 g.2)) levels
-  written v s p c g levels = absurd g
+      variant_written name (λ n. enclosed_at document n (spell_fields ws)) g.3 (enclosed_written document (spell_fields ws) (fields_written at ws g.0 w.0.1 w.1 g.2)) levels
+  written at v s p c g levels = absurd g
 
-  items_written : (vs : Items) (s : Form) (i : ℕ) → IsShape s → HasWritableKeys s → ItemsGiven vs s → ItemsWritten i vs
-  items_written no_items s i p c g levels = tt
-  items_written (item v vs) s i p c g levels = item_written i v vs (written v s p c g.0) (items_written vs s (suc i) p c g.1) levels
+  items_written : (at : Sight) (vs : Items) (s : Form) (i : ℕ) → IsShape s → HasWritableKeys s → ItemsGiven at vs s → ItemsWritten i vs
+  items_written at no_items s i p c g levels = tt
+  items_written at (item v vs) s i p c g levels = item_written i v vs (written at v s p c g.0) (items_written at vs s (suc i) p c g.1) levels
 
-  parts_written : (vs : Items) (ps : Parts) (i : ℕ) → AreParts ps → PartsHaveWritableKeys ps → PartsGiven vs ps → ItemsWritten i vs
-  parts_written no_items no_parts i p c g levels = tt
-  parts_written (item v vs) (part s ps) i p c g levels = item_written i v vs (written v s p.0 c.0 g.0) (parts_written vs ps (suc i) p.1 c.1 g.1) levels
-  parts_written vs ps i p c g levels = absurd g
+  parts_written : (at : Sight) (vs : Items) (ps : Parts) (i : ℕ) → AreParts ps → PartsHaveWritableKeys ps → PartsGiven at vs ps → ItemsWritten i vs
+  parts_written at no_items no_parts i p c g levels = tt
+  parts_written at (item v vs) (part s ps) i p c g levels = item_written i v vs (written at v s p.0 c.0 g.0) (parts_written at vs ps (suc i) p.1 c.1 g.1) levels
+  parts_written at vs ps i p c g levels = absurd g
 
-  entries_written : (es : Entries) (key s : Form) → IsShape s → IsPlainKey key → HasWritableKeys s → EntriesGiven es key s → EntriesWritten es
-  entries_written no_entries key s p k c g levels = tt
-  entries_written (entry x v es) key s p k c g levels = entry_written x v es (key_written key x k g.0) (written v s p c g.1) (entries_written es key s p k c g.2) levels
+  entries_written : (at : Sight) (es : Entries) (key s : Form) → IsShape s → IsPlainKey key → HasWritableKeys s → EntriesGiven at es key s → EntriesWritten es
+  entries_written at no_entries key s p k c g levels = tt
+  entries_written at (entry x v es) key s p k c g levels = entry_written x v es (key_written at key x k g.0) (written at v s p c g.1) (entries_written at es key s p k c g.2) levels
 
-  fields_written : (vs : FieldValues) (fs : Fields) → AreShapes fs → FieldsHaveWritableKeys fs → FieldsGiven vs fs → FieldsWritten vs
-  fields_written no_field_values no_fields p c g levels = tt
-  fields_written (field_value m v vs) (field n s fs) p c g levels = next_written m v vs (ap has_zero g.0 ∙ c.0) (written v s p.1 c.1 g.1) (fields_written vs fs p.2 c.2 g.2) levels
-  fields_written vs fs p c g levels = absurd g
+  fields_written : (at : Sight) (vs : FieldValues) (fs : Fields) → AreShapes fs → FieldsHaveWritableKeys fs → FieldsGiven at vs fs → FieldsWritten vs
+  fields_written at no_field_values no_fields p c g levels = tt
+  fields_written at (field_value m v vs) (field n s fs) p c g levels = next_written m v vs (ap has_zero g.0 ∙ c.0) (written at v s p.1 c.1 g.1) (fields_written at vs fs p.2 c.2 g.2) levels
+  fields_written at vs fs p c g levels = absurd g

@@ -11,7 +11,8 @@ use Rattle.bson_base.specs.Tree as tree
 use Rattle.bson_base.specs.Tree.{Tree, Trees, no_trees, document, array, no_pairs, pair, binary, regular_expression, int64, Pairs, behind_subtype}
 use Rattle.bson_base.specs.declared.element_type.ElementType.{ElementType}
 use Rattle.bson_base.specs.declared.element_type.ElementType.TheVariants.{JavaScriptCodeWithScope, Int32, EmbeddedDocument}
-use Rattle.bson_shape.specs.Form.{Form, leaf, optional, sequence, newtype, unit_structure, map, tuple, tuple_structure, structure, enumeration, Fields, no_fields, field, Parts, no_parts, part}
+use Rattle.bson_rawdoc.specs.Node.{Sight}
+use Rattle.bson_shape.specs.Form.{Form, leaf, optional, lossy, human_readable, by_mode, sequence, newtype, unit_structure, map, tuple, tuple_structure, structure, enumeration, Fields, no_fields, field, Parts, no_parts, part}
 use Rattle.bson_datum.specs.Value as value
 use Rattle.bson_datum.specs.Value.{i32, i64, written_as, greatest, uuid_newtype, readable_inside, Value, Items, no_items, item, Entries, no_entries, entry, FieldValues, no_field_values, field_value}
 use Rattle.bson_datum.specs.Cause.{binary_too_long}
@@ -24,8 +25,9 @@ use Rattle.bson_laws.specs.UuidBytes.{uuid_bytes}
 use Rattle.bson_laws.specs.Written.{zero_free, with_scope}
 use Rattle.bson_laws.specs.Spell.{Writing, spell_binary, spell_whole, spell_unwrapped, spell_scoped, spell_uuid, struct_at, reserved_at, enclosed_at, variant_at, named, written_key, spell_key, spell_number, spell_as, spell_items_as, spell_entries_as, spell_fields_as, spell_list, spell_part, spell, at_top, HoldsNumbers}
 use Rattle.bson_laws.proofs.Alike.{AreAlike, Both, SameScope, scopes_alike}
-use Rattle.bson_laws.proofs.Given.{IsGivenAny, AreGivenItems, AreGivenEntries, IsGivenLeaf, IsGiven, ItemsGiven, PartsGiven, EntriesGiven, FieldsGiven, given_leaf}
+use Rattle.bson_laws.proofs.Given.{IsGivenAny, AreGivenItems, AreGivenEntries, IsGivenLeaf, IsGiven, ItemsGiven, PartsGiven, EntriesGiven, FieldsGiven, given_leaf, given_lossy, given_due}
 use Rattle.bson_laws.proofs.GivenTrees.{IsGivenTree, ArePairsGiven, AreTreesGiven, IsGivenExtended}
+use Rattle.bson_laws.proofs.Lent.{marked}
 use Rattle.bson_laws.proofs.Writable.{IsSmall, wide_small, short_small}
 
 -- ---- values whose numbers an Int64 holds
@@ -283,37 +285,40 @@ leaf_signed (extended_values k) v g = extended_signed k v g
 leaf_signed k v g = absurd g
 
 mutual
-  pub given_signed : (v : Value) (s : Form) → IsGiven v s → AreSigned v
-  given_signed v (leaf l) g = leaf_signed (leaf_kind l) v (given_leaf v l g)
-  given_signed value.none (optional s) g = tt
-  given_signed (value.some v) (optional s) g = given_signed v s g
-  given_signed (value.newtype m v) (newtype n s) g = given_signed v s g.1
-  given_signed (value.unit_structure m) (unit_structure n) g = tt
-  given_signed (value.sequence vs) (sequence s) g = items_signed vs s g
-  given_signed (value.map es) (map key s) g = entries_signed es key s g.1
-  given_signed (value.tuple vs) (tuple ps) g = parts_signed vs ps g
-  given_signed (value.tuple_structure m vs) (tuple_structure n ps) g = parts_signed vs ps g.1
-  given_signed (value.structure m vs) (structure n fs) g = fields_signed vs fs g.1
-  given_signed (value.unit_variant name) (enumeration vs) g = tt
-  given_signed (value.newtype_variant name v) (enumeration vs) g = given_signed v g.0 g.2
-  given_signed (value.tuple_variant name ws) (enumeration vs) g = parts_signed ws g.0 g.2
-  given_signed (value.structure_variant name ws) (enumeration vs) g = fields_signed ws g.0 g.2
-  given_signed v s g = absurd g
+  pub given_signed : (at : Sight) (v : Value) (s : Form) → IsGiven at v s → AreSigned v
+  given_signed at v (leaf l) g = leaf_signed (leaf_kind l) v (given_leaf at v l g).0
+  given_signed at v (lossy s) g = given_signed (marked at) v s (given_lossy at v s g)
+  given_signed at v (by_mode readable compact) g = given_signed at v compact (given_due at v readable compact g)
+  given_signed at (value.newtype m v) (human_readable s) g = given_signed at v s g.1
+  given_signed at value.none (optional s) g = tt
+  given_signed at (value.some v) (optional s) g = given_signed at v s g
+  given_signed at (value.newtype m v) (newtype n s) g = given_signed at v s g.1
+  given_signed at (value.unit_structure m) (unit_structure n) g = tt
+  given_signed at (value.sequence vs) (sequence s) g = items_signed at vs s g
+  given_signed at (value.map es) (map key s) g = entries_signed at es key s g.1
+  given_signed at (value.tuple vs) (tuple ps) g = parts_signed at vs ps g
+  given_signed at (value.tuple_structure m vs) (tuple_structure n ps) g = parts_signed at vs ps g.1
+  given_signed at (value.structure m vs) (structure n fs) g = fields_signed at vs fs g.1
+  given_signed at (value.unit_variant name) (enumeration vs) g = tt
+  given_signed at (value.newtype_variant name v) (enumeration vs) g = given_signed at v g.0 g.2
+  given_signed at (value.tuple_variant name ws) (enumeration vs) g = parts_signed at ws g.0 g.2
+  given_signed at (value.structure_variant name ws) (enumeration vs) g = fields_signed at ws g.0 g.2
+  given_signed at v s g = absurd g
 
-  items_signed : (vs : Items) (s : Form) → ItemsGiven vs s → ItemsSigned vs
-  items_signed no_items s g = tt
-  items_signed (item v vs) s g = (given_signed v s g.0, items_signed vs s g.1)
+  items_signed : (at : Sight) (vs : Items) (s : Form) → ItemsGiven at vs s → ItemsSigned vs
+  items_signed at no_items s g = tt
+  items_signed at (item v vs) s g = (given_signed at v s g.0, items_signed at vs s g.1)
 
-  parts_signed : (vs : Items) (ps : Parts) → PartsGiven vs ps → ItemsSigned vs
-  parts_signed no_items no_parts g = tt
-  parts_signed (item v vs) (part s ps) g = (given_signed v s g.0, parts_signed vs ps g.1)
-  parts_signed vs ps g = absurd g
+  parts_signed : (at : Sight) (vs : Items) (ps : Parts) → PartsGiven at vs ps → ItemsSigned vs
+  parts_signed at no_items no_parts g = tt
+  parts_signed at (item v vs) (part s ps) g = (given_signed at v s g.0, parts_signed at vs ps g.1)
+  parts_signed at vs ps g = absurd g
 
-  entries_signed : (es : Entries) (key s : Form) → EntriesGiven es key s → EntriesSigned es
-  entries_signed no_entries key s g = tt
-  entries_signed (entry x v es) key s g = (given_signed v s g.1, entries_signed es key s g.2)
+  entries_signed : (at : Sight) (es : Entries) (key s : Form) → EntriesGiven at es key s → EntriesSigned es
+  entries_signed at no_entries key s g = tt
+  entries_signed at (entry x v es) key s g = (given_signed at v s g.1, entries_signed at es key s g.2)
 
-  fields_signed : (vs : FieldValues) (fs : Fields) → FieldsGiven vs fs → FieldsSigned vs
-  fields_signed no_field_values no_fields g = tt
-  fields_signed (field_value m v vs) (field n s fs) g = (given_signed v s g.1, fields_signed vs fs g.2)
-  fields_signed vs fs g = absurd g
+  fields_signed : (at : Sight) (vs : FieldValues) (fs : Fields) → FieldsGiven at vs fs → FieldsSigned vs
+  fields_signed at no_field_values no_fields g = tt
+  fields_signed at (field_value m v vs) (field n s fs) g = (given_signed at v s g.1, fields_signed at vs fs g.2)
+  fields_signed at vs fs g = absurd g

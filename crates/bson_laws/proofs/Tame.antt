@@ -1,42 +1,55 @@
--- The nodes of which everything that is read can be written: the keys are texts without a zero, and numbers have the size of their kinds.
-use Rattle.std.proofs.Common.{◌≡◌, ◌<◌, ◌^◌, length, Option, Some, None, Ok, ap, sym, subst, ◌∙◌}
+-- The nodes of which everything that is read can be written: the keys are texts without a zero, numbers have the size of their kinds, and what can be
+-- borrowed can be so of a finished tree that is seen in the same way.
+use Rattle.std.proofs.Common.{◌≡◌, ◌<◌, ◌^◌, length, true, Option, Some, None, Ok, ap, sym, subst, ◌∙◌}
 use Rattle.std.specs.Int.{w32, w64}
 use Rattle.std.specs.Prelude.{FitsSigned}
 use Rattle.bson_base.specs.Outcome.{◌>>=◌}
 use Rattle.bson_base.specs.Text.{AreBytes}
 use Rattle.bson_base.proofs.Outcomes.{ok_is, bind_ok}
-use Rattle.bson_rawdoc.specs.Node.{Node, double, bytes, binary, document, array, int32, int64, extended, too_deep, Extended, object_id, date_time, db_pointer, javascript_code_with_scope, timestamp, decimal128, Nodes, ended, faulty, then_node, fault}
+use Rattle.bson_rawdoc.specs.Piece.{Piece}
+use Rattle.bson_rawdoc.specs.Node.{Sight, Node, string, double, bytes, binary, document, array, int32, int64, extended, too_deep, Extended, object_id, date_time, regular_expression, db_pointer, javascript_code, symbol, javascript_code_with_scope, timestamp, decimal128, Nodes, ended, faulty, then_node, fault}
 use Rattle.bson_rawdoc.specs.declared.raw.Error.{Error}
 use Rattle.bson_laws.specs.Judged.{Reading, with_level, faultless, judged}
-use Rattle.bson_laws.specs.Taken.{document_of, array_of}
+use Rattle.bson_laws.specs.Taken.{owned_under_mark, document_of, array_of}
 use Rattle.bson_laws.proofs.Coded.{IsName}
 
+-- what can be borrowed of a text can be borrowed of one that is seen so, as a text and as bytes
+abbrev pub IsTextSeen : Sight → Piece → Type 0
+IsTextSeen at p = p.in_input ≡ true → (at.texts ≡ true) × (at.bytes ≡ true)
+
+abbrev pub AreBytesSeen : Sight → Piece → Type 0
+AreBytesSeen at p = p.in_input ≡ true → at.bytes ≡ true
+
 abbrev mutual
-  pub IsTame : Node → Type 0
-  IsTame (double bits) = length bits ≡ 8
-  IsTame (int32 n) = FitsSigned w32 n
-  IsTame (int64 n) = FitsSigned w64 n
-  IsTame (bytes u b) = AreBytes b.bytes
-  IsTame (document ns) = AreTame ns
-  IsTame (array ns) = AreTame ns
-  IsTame (extended x ns) = IsTameValue x × AreTame ns
-  IsTame n = Unit {0}
+  pub IsTame : Sight → Node → Type 0
+  IsTame at (double bits) = length bits ≡ 8
+  IsTame at (string t) = IsTextSeen at t
+  IsTame at (int32 n) = FitsSigned w32 n
+  IsTame at (int64 n) = FitsSigned w64 n
+  IsTame at (bytes u b) = AreBytes b.bytes × AreBytesSeen at b × IsTextSeen at (owned_under_mark u b)
+  IsTame at (document ns) = AreTame at ns
+  IsTame at (array ns) = AreTame at ns
+  IsTame at (extended x ns) = IsTameValue at x × AreTame at ns
+  IsTame at n = Unit {0}
 
   -- the parts of an extended value
-  pub IsTameValue : Extended → Type 0
-  IsTameValue (binary subtype b) = (subtype < 256) × AreBytes b.bytes
-  IsTameValue (object_id id) = (length id.bytes ≡ 12) × AreBytes id.bytes
-  IsTameValue (date_time n) = FitsSigned w64 n
-  IsTameValue (db_pointer namespace id) = (length id ≡ 12) × AreBytes id
-  IsTameValue (javascript_code_with_scope code scope) = IsTame scope
-  IsTameValue (timestamp time increment) = (time < 2 ^ 32) × (increment < 2 ^ 32)
-  IsTameValue (decimal128 b) = (length b ≡ 16) × AreBytes b
-  IsTameValue x = Unit {0}
+  pub IsTameValue : Sight → Extended → Type 0
+  IsTameValue at (binary subtype b) = (subtype < 256) × AreBytes b.bytes
+  IsTameValue at (object_id id) = (length id.bytes ≡ 12) × AreBytes id.bytes × AreBytesSeen at id
+  IsTameValue at (date_time n) = FitsSigned w64 n
+  IsTameValue at (regular_expression pattern options) = IsTextSeen at pattern × IsTextSeen at options
+  IsTameValue at (db_pointer namespace id) = (length id ≡ 12) × AreBytes id × IsTextSeen at namespace
+  IsTameValue at (javascript_code code) = IsTextSeen at code
+  IsTameValue at (symbol t) = IsTextSeen at t
+  IsTameValue at (javascript_code_with_scope code scope) = IsTame at scope × IsTextSeen at code
+  IsTameValue at (timestamp time increment) = (time < 2 ^ 32) × (increment < 2 ^ 32)
+  IsTameValue at (decimal128 b) = (length b ≡ 16) × AreBytes b
+  IsTameValue at x = Unit {0}
 
-  pub AreTame : Nodes → Type 0
-  AreTame ended = Unit {0}
-  AreTame (faulty e) = Unit {0}
-  AreTame (then_node key n ns) = IsName key.bytes × IsTame n × AreTame ns
+  pub AreTame : Sight → Nodes → Type 0
+  AreTame at ended = Unit {0}
+  AreTame at (faulty e) = Unit {0}
+  AreTame at (then_node key n ns) = IsName key.bytes × IsTame at n × AreTame at ns × IsTextSeen at key
 
 -- ---- a judged value is the value
 
@@ -61,11 +74,11 @@ judged_then n read x e = let j = bind_ok (judged n) (λ _. read n) x e in ap (λ
 
 -- ---- documents and arrays
 
-pub document_tame : (n : Node) (ns : Nodes) → IsTame n → document_of n ≡ Ok ns → AreTame ns
-document_tame (document ms) ns t e = subst AreTame (ok_is ms ns e) t
-document_tame (extended x ms) ns t e = subst AreTame (ok_is ms ns e) t.1
-document_tame n ns t e = absurd cc
+pub document_tame : (at : Sight) (n : Node) (ns : Nodes) → IsTame at n → document_of n ≡ Ok ns → AreTame at ns
+document_tame at (document ms) ns t e = subst (AreTame at) (ok_is ms ns e) t
+document_tame at (extended x ms) ns t e = subst (AreTame at) (ok_is ms ns e) t.1
+document_tame at n ns t e = absurd cc
 
-pub array_tame : (n : Node) (ns : Nodes) → IsTame n → array_of n ≡ Ok ns → AreTame ns
-array_tame (array ms) ns t e = subst AreTame (ok_is ms ns e) t
-array_tame n ns t e = absurd cc
+pub array_tame : (at : Sight) (n : Node) (ns : Nodes) → IsTame at n → array_of n ≡ Ok ns → AreTame at ns
+array_tame at (array ms) ns t e = subst (AreTame at) (ok_is ms ns e) t
+array_tame at n ns t e = absurd cc

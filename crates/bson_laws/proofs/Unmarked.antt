@@ -1,5 +1,5 @@
 -- A tree as a reader meets it is, without its marks, the tree; and the two tables of opened documents agree.
-use Rattle.std.proofs.Common.{◌≡◌, ℕ, zero, suc, [], ◌∷◌, ◌≤◌, Bool, cond, Some, refl, ap, sym, subst, ◌∙◌, arith}
+use Rattle.std.proofs.Common.{◌≡◌, ℕ, zero, suc, [], ◌∷◌, ◌≤◌, cond, Some, refl, ap, sym, subst, ◌∙◌, arith}
 use Rattle.std.specs.Prelude.{codes, option_map, option_and_then}
 use Rattle.std.proofs.Math.Dec.{eqb-suc-zero}
 use Rattle.bson_base.specs.Made.{digits, base64_text}

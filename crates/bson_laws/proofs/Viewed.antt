@@ -20,7 +20,7 @@ use Rattle.bson_base.specs.Tree.{Tree, kind, double, string, boolean, binary, nu
 use Rattle.bson_base.specs.declared.element_type.ElementType.{ElementType}
 use Rattle.bson_base.specs.declared.element_type.ElementType.TheVariants.{JavaScriptCodeWithScope, Int32, Null}
 use Rattle.bson_base.proofs.Outcomes.{some_is, some_map, some_then}
-use Rattle.bson_shape.specs.Form.{Form, leaf, optional, sequence, newtype, unit_structure, map, tuple, tuple_structure, structure, enumeration, Fields, no_fields, field, Parts, no_parts, part, Content, unit_content, newtype_content, tuple_content, struct_content, Variants, no_variants, variant}
+use Rattle.bson_shape.specs.Form.{Form, leaf, optional, lossy, human_readable, by_mode, sequence, newtype, unit_structure, map, tuple, tuple_structure, structure, enumeration, Fields, no_fields, field, Parts, no_parts, part, Content, unit_content, newtype_content, tuple_content, struct_content, Variants, no_variants, variant}
 use Rattle.bson_datum.specs.Value as value
 use Rattle.bson_datum.specs.Value.{IntegerType, i32, i64, in_range, written_as, Value, Items, no_items, item, Entries, no_entries, entry, FieldValues, no_field_values, field_value}
 use Rattle.bson_datum.specs.Cause.{out_of_range}
@@ -41,7 +41,7 @@ use Rattle.bson_laws.proofs.Ranges.{clean_in_range}
 use Rattle.bson_laws.proofs.DatumNormal.{same_kind, sorted_in_range, tree_sorted_twice, datum_norm, datum_means}
 use Rattle.bson_laws.specs.Plain.{IsPlain, AreFieldsPlain, ArePartsPlain, AreVariantsPlain, IsContentPlain}
 use Rattle.bson_laws.proofs.Free.{free_norm, free_struct_name}
-use Rattle.bson_laws.proofs.Fitting.{leaf_fits}
+use Rattle.bson_laws.proofs.Fitting.{leaf_fits, lossy_fits}
 use Rattle.bson_laws.proofs.Variants.{unit_is, chosen_holds, FitsContent, FitsVariant, chosen_fits, variant_fits}
 
 -- ---- numbers and characters
@@ -201,6 +201,9 @@ mutual
   pub views_fit : (s : Form) (t : Tree) (v : Value) → IsClean t → views s t ≡ Some v → Fits v s
   views_fit (leaf l) t v c e = leaf_fits v l (leaf_taken (leaf_kind l) t v c e)
   views_fit (optional s) t v c e = option_fits s t v (λ w h. views_fit s t w c h) e
+  views_fit (lossy s) t v c e = lossy_fits v s (views_fit s t v c e)
+  views_fit (human_readable s) t v c e = absurd cc
+  views_fit (by_mode readable compact) t v c e = absurd cc
   views_fit (newtype name s) t v c e =
       let m = some_map (value.newtype name) (views s t) v e in
       subst (λ x. Fits x (newtype name s)) m.2 (refl, views_fit s t m.0 c m.1)
@@ -456,6 +459,9 @@ mutual
   views_normal : (s : Form) (t : Tree) (v : Value) → IsPlain s → IsClean t → views s t ≡ Some v → IsNormal t v
   views_normal (leaf l) t v p c e = leaf_normal (leaf_kind l) t v c e
   views_normal (optional s) t v p c e = option_normal s t v (λ w h. views_normal s t w p c h) e
+  views_normal (lossy s) t v p c e = views_normal s t v p.1 c e
+  views_normal (human_readable s) t v p c e = absurd p
+  views_normal (by_mode readable compact) t v p c e = absurd p
   views_normal (newtype name s) t v p c e =
       let m = some_map (value.newtype name) (views s t) v e in
       let inner = views_normal s t m.0 p.1 c m.1 in

@@ -8,7 +8,7 @@ use Rattle.bson_base.specs.Tree.{Tree, kind}
 use Rattle.bson_base.specs.declared.element_type.ElementType.{ElementType}
 use Rattle.bson_base.specs.declared.element_type.ElementType.TheVariants as kinds
 use Rattle.bson_base.specs.Text.{Bytes, AreBytes}
-use Rattle.bson_shape.specs.Form.{Form, leaf, optional, sequence, newtype, unit_structure, map, tuple, tuple_structure, structure, enumeration, Fields, no_fields, field, Parts, no_parts, part, unit_content, newtype_content, tuple_content, struct_content}
+use Rattle.bson_shape.specs.Form.{Form, leaf, optional, lossy, sequence, newtype, unit_structure, map, tuple, tuple_structure, structure, enumeration, Fields, no_fields, field, Parts, no_parts, part, unit_content, newtype_content, tuple_content, struct_content}
 use Rattle.bson_laws.specs.Variants.{content_of}
 use Rattle.bson_laws.specs.Leaves.{LeafKind, anything, booleans, numbers, doubles, characters, texts, byte_strings, byte_buffers, units, extended_values, ExtendedLeaf, object_ids, uuids, of_kind, trees, documents, leaf_kind}
 use Rattle.bson_laws.specs.Datum.{datum, uuid_datum, itself}
@@ -93,12 +93,13 @@ FitsKey (enumeration vs) (value.unit_variant name) = content_of vs name ≡ Some
 FitsKey s k = ⊥
 
 abbrev mutual
-  -- A leaf's value of what the leaf takes; none, or what fits the inner shape; a newtype or a unit struct of the shape's name; a sequence
-  -- whose values fit its shape; a map whose keys and values fit theirs; a tuple, or a tuple struct of the shape's name, of as many values as
-  -- the shape has parts, each fitting its own; a variant of the enum, with contents that fit those of that name; a struct of the shape's name,
-  -- with its fields in its order, whose values fit theirs.
+  -- A leaf's value of what the leaf takes; what fits the inner shape, where texts are mended; none, or what fits the inner shape; a newtype or a
+  -- unit struct of the shape's name; a sequence whose values fit its shape; a map whose keys and values fit theirs; a tuple, or a tuple struct of
+  -- the shape's name, of as many values as the shape has parts, each fitting its own; a variant of the enum, with contents that fit those of that
+  -- name; a struct of the shape's name, with its fields in its order, whose values fit theirs. Nothing fits what is read for a human reader.
   pub Fits : Value → Form → Type 0
   Fits v (leaf l) = FitsLeaf (leaf_kind l) v
+  Fits v (lossy s) = Fits v s
   Fits none (optional s) = Unit {0}
   Fits (some v) (optional s) = Fits v s
   Fits (value.newtype name v) (newtype n s) = (name ≡ n) × Fits v s

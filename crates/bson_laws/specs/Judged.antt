@@ -1,5 +1,5 @@
 -- What a shape does first with a value, and how a value is dropped. Source: serde's data model, over the node that the value is, and the limits of this library.
-use Rattle.std.specs.Prelude.{ℕ, suc, Bool, false, Option, Some, None, Result, Ok, Err, codes}
+use Rattle.std.specs.Prelude.{ℕ, suc, Option, Some, None, Result, Ok, Err, codes}
 use Rattle.bson_base.specs.Text.{Utf8}
 use Rattle.bson_base.specs.Outcome.{◌>>=◌}
 use Rattle.bson_rawdoc.specs.Node.{Node, document, array, extended, too_deep, Extended, javascript_code_with_scope, Nodes, ended, faulty, then_node, fault}

@@ -16,6 +16,7 @@ pub mod Taken
 pub mod ReadsLeaf
 pub mod Containers
 pub mod Slots
+pub mod Settled
 pub mod Shaped
 pub mod Wrapped
 pub mod Trees
@@ -23,4 +24,5 @@ pub mod Unmarked
 pub mod Represented
 pub mod ReadsExtended
 pub mod Reads
+pub mod CompactReads
 pub mod Spell

@@ -1,14 +1,56 @@
 -- The shapes whose documents are read back as they were written. Source: bsonspec.org, version 1.1, `e_name` and `cstring`, with serde's data model.
 use Rattle.std.specs.Prelude.{◌≡◌, true}
 use Rattle.bson_base.specs.Text.{IsFreeName}
-use Rattle.bson_shape.specs.Form.{Form, leaf, optional, sequence, newtype, unit_structure, map, tuple, tuple_structure, structure, enumeration, Fields, no_fields, field, Parts, no_parts, part, Content, unit_content, newtype_content, tuple_content, struct_content, Variants, no_variants, variant}
+use Rattle.bson_shape.specs.Form.{Form, leaf, optional, lossy, human_readable, by_mode, sequence, newtype, unit_structure, map, tuple, tuple_structure, structure, enumeration, Fields, no_fields, field, Parts, no_parts, part, Content, unit_content, newtype_content, tuple_content, struct_content, Variants, no_variants, variant}
 use Rattle.bson_shape.specs.Makers.{are_units}
+use Rattle.bson_shape.specs.declared.leaf.Leaf.{Leaf}
+use Rattle.bson_shape.specs.declared.leaf.Leaf.TheVariants.{Str}
 use Rattle.bson_laws.specs.Leaves.{LeafKind, ignored, texts, leaf_kind}
 
 -- a leaf that keeps what it reads
 abbrev pub IsKept : LeafKind → Type 0
 IsKept ignored = ⊥
 IsKept k = Unit {0}
+
+-- a leaf that does not borrow a text
+abbrev pub OwnsTextLeaf : Leaf → Type 0
+OwnsTextLeaf Str = ⊥
+OwnsTextLeaf l = Unit {0}
+
+abbrev mutual
+  -- no text and no key is borrowed: `str` stands nowhere in the form
+  pub OwnsTexts : Form → Type 0
+  OwnsTexts (leaf l) = OwnsTextLeaf l
+  OwnsTexts (optional s) = OwnsTexts s
+  OwnsTexts (lossy s) = OwnsTexts s
+  OwnsTexts (human_readable s) = OwnsTexts s
+  OwnsTexts (by_mode readable compact) = OwnsTexts readable × OwnsTexts compact
+  OwnsTexts (newtype name s) = OwnsTexts s
+  OwnsTexts (unit_structure name) = Unit {0}
+  OwnsTexts (sequence s) = OwnsTexts s
+  OwnsTexts (map key s) = OwnsTexts key × OwnsTexts s
+  OwnsTexts (tuple ps) = PartsOwnTexts ps
+  OwnsTexts (tuple_structure name ps) = PartsOwnTexts ps
+  OwnsTexts (enumeration vs) = VariantsOwnTexts vs
+  OwnsTexts (structure name fs) = FieldsOwnTexts fs
+
+  pub FieldsOwnTexts : Fields → Type 0
+  FieldsOwnTexts no_fields = Unit {0}
+  FieldsOwnTexts (field name s fs) = OwnsTexts s × FieldsOwnTexts fs
+
+  pub PartsOwnTexts : Parts → Type 0
+  PartsOwnTexts no_parts = Unit {0}
+  PartsOwnTexts (part s ps) = OwnsTexts s × PartsOwnTexts ps
+
+  pub VariantsOwnTexts : Variants → Type 0
+  VariantsOwnTexts no_variants = Unit {0}
+  VariantsOwnTexts (variant name c vs) = ContentOwnsTexts c × VariantsOwnTexts vs
+
+  pub ContentOwnsTexts : Content → Type 0
+  ContentOwnsTexts unit_content = Unit {0}
+  ContentOwnsTexts (newtype_content s) = OwnsTexts s
+  ContentOwnsTexts (tuple_content ps) = PartsOwnTexts ps
+  ContentOwnsTexts (struct_content fs) = FieldsOwnTexts fs
 
 -- the keys of a map are texts, or the names of unit variants
 abbrev pub IsPlainKey : Form → Type 0
@@ -17,11 +59,15 @@ IsPlainKey (enumeration vs) = are_units vs ≡ true
 IsPlainKey s = ⊥
 
 abbrev mutual
-  -- Each name of a newtype, a struct, a field and a variant is free, each map has texts or unit variants as its keys, and nothing is ignored. The
-  -- names of tuple structs and unit structs may be any: none of them is reserved.
+  -- Each name of a newtype, a struct, a field and a variant is free, each map has texts or unit variants as its keys, and nothing is ignored. Where texts are
+  -- mended none is borrowed, and nothing depends on whether the reader is human. The names of tuple structs and unit structs may be any: none of them is
+  -- reserved.
   pub IsPlain : Form → Type 0
   IsPlain (leaf l) = IsKept (leaf_kind l)
   IsPlain (optional s) = IsPlain s
+  IsPlain (lossy s) = OwnsTexts s × IsPlain s
+  IsPlain (human_readable s) = ⊥
+  IsPlain (by_mode readable compact) = ⊥
   IsPlain (newtype name s) = IsFreeName name × IsPlain s
   IsPlain (unit_structure name) = Unit {0}
   IsPlain (sequence s) = IsPlain s

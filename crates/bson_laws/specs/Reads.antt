@@ -1,5 +1,5 @@
 -- Reading a value at a shape. Source: serde's data model, over the node that the value is.
-use Rattle.std.specs.Prelude.{ℕ, Bool, Result, Ok, Err}
+use Rattle.std.specs.Prelude.{ℕ, Bool, false, Result, Ok, Err}
 use Rattle.bson_base.specs.Text.{Bytes, Utf8}
 use Rattle.bson_base.specs.Outcome.{result_map}
 use Rattle.bson_base.specs.Sound.{max_levels}
@@ -15,6 +15,7 @@ use Rattle.bson_laws.specs.Judged.{Reading}
 use Rattle.bson_laws.specs.Leaves.{LeafKind}
 use Rattle.bson_laws.specs.ReadsLeaf.{read_leaf_with}
 use Rattle.bson_laws.specs.ReadsExtended.{read_extended}
+use Rattle.bson_laws.specs.Settled.{settled}
 use Rattle.bson_laws.specs.Shaped as shaped
 use Rattle.bson_laws.specs.Slots.{Slots}
 
@@ -22,7 +23,7 @@ use Rattle.bson_laws.specs.Slots.{Slots}
 abbrev pub read_leaf : (is_borrowing : Bool) → LeafKind → Node → Reading Marked
 read_leaf = read_leaf_with read_extended
 
--- the value that a node is at a shape
+-- the value that a node is at a settled form
 abbrev pub reads : Form → Node → Reading Marked
 reads = shaped.reads read_extended
 
@@ -47,9 +48,9 @@ abbrev pub answered : {A : Type 0} → Reading A → Result A (Failure ReadFault
 answered (Ok x) = Ok x
 answered (Err r) = Err (with_path r)
 
--- The bytes of a whole document at a shape: a fault of the envelope has no path, every other refusal has one.
+-- The bytes of a whole document at a shape, for a reader who is not human: a fault of the envelope has no path, every other refusal has one.
 abbrev pub reads_marked : Form → Bytes → Result Marked (Failure ReadFault)
-reads_marked s b = elim (envelope b) [ Ok d ↦ answered (reads s (node_in max_levels EmbeddedDocument d)) | Err e ↦ Err (bare (unreadable (raw e))) ]
+reads_marked s b = elim (envelope b) [ Ok d ↦ answered (reads (settled false s) (node_in max_levels EmbeddedDocument d)) | Err e ↦ Err (bare (unreadable (raw e))) ]
 
 -- the same without marks
 abbrev pub reads_document : Form → Bytes → Result Value (Failure ReadFault)

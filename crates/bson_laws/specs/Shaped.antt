@@ -3,29 +3,31 @@ use Rattle.std.specs.Prelude.{ℕ, suc, [], ◌∷◌, if◌then◌else◌, None
 use Rattle.std.specs.Str.{bytes_eq}
 use Rattle.bson_base.specs.Text.{Utf8}
 use Rattle.bson_base.specs.Outcome.{◌>>=◌, result_map}
-use Rattle.bson_rawdoc.specs.Node.{Node, Nodes}
+use Rattle.bson_rawdoc.specs.Node.{Node, Nodes, mended}
 use Rattle.bson_rawdoc.specs.Piece.{made}
-use Rattle.bson_shape.specs.Form.{Form, leaf, optional, sequence, newtype, unit_structure, map, tuple, tuple_structure, structure, enumeration, Fields, no_fields, field, Parts, no_parts, part, Content, unit_content, newtype_content, tuple_content, struct_content, Variants, no_variants, variant}
+use Rattle.bson_shape.specs.Form.{Form, leaf, optional, lossy, human_readable, by_mode, sequence, newtype, unit_structure, map, tuple, tuple_structure, structure, enumeration, Fields, no_fields, field, Parts, no_parts, part, Content, unit_content, newtype_content, tuple_content, struct_content, Variants, no_variants, variant}
 use Rattle.bson_datum.specs.Value as value
-use Rattle.bson_datum.specs.Value.{no_items, item, no_entries}
+use Rattle.bson_datum.specs.Value.{readable_newtype, no_items, item, no_entries}
 use Rattle.bson_datum.specs.Marked.{Marked, MarkedItems}
 use Rattle.bson_datum.specs.Cause.{unknown_variant, unit_in_document}
 use Rattle.bson_datum.specs.Refusal.{under}
 use Rattle.bson_laws.specs.Leaves.{ExtendedLeaf, leaf_kind}
-use Rattle.bson_laws.specs.Views.{absent}
 use Rattle.bson_laws.specs.Judged.{Reading, refused, judged}
 use Rattle.bson_laws.specs.Taken.{null_of, document_of, array_of}
 use Rattle.bson_laws.specs.ReadsLeaf.{borrows, read_leaf_with}
 use Rattle.bson_laws.specs.Containers.{reads_option, reads_items, reads_next, reads_unit, read_enum, reads_key, reads_entries}
-use Rattle.bson_laws.specs.Slots.{Slots, read_structure}
+use Rattle.bson_laws.specs.Slots.{Slots, missing_value, read_structure}
 
 -- how a judged value is read at an extended leaf is given
 module _ (extended : ExtendedLeaf → Node → Reading Marked) where
   abbrev mutual
-    -- the value that a node is at a shape
+    -- The value that a node is at a settled form, whose two forms of a value are the same. At a form whose texts are mended it is what the mended value is.
     pub reads : Form → Node → Reading Marked
     reads (leaf l) n = judged n >>= read_leaf_with extended (borrows l) (leaf_kind l)
     reads (optional s) n = reads_option n (reads s n)
+    reads (lossy s) n = reads s (mended n)
+    reads (human_readable s) n = result_map (value.newtype (made readable_newtype)) (reads s n)
+    reads (by_mode readable compact) n = reads compact n
     reads (newtype name s) n = result_map (value.newtype (made name)) (reads s n)
     reads (unit_structure name) n = judged n >>= null_of >>= λ _. Ok (value.unit_structure (made name))
     reads (sequence s) n = judged n >>= array_of >>= λ ns. result_map value.sequence (reads_items (reads s) 0 ns)
@@ -43,7 +45,7 @@ module _ (extended : ExtendedLeaf → Node → Reading Marked) where
     -- the fields of a struct, for which no value has been read yet
     pub slots_of : Fields → Slots
     slots_of no_fields = []
-    slots_of (field name s fs) = record { name = name; missing = absent s; read = reads s; value = None } ∷ slots_of fs
+    slots_of (field name s fs) = record { name = name; missing = missing_value s; read = reads s; value = None } ∷ slots_of fs
 
     -- the value at a key at the variant that the key names
     pub reads_variant : Variants → Utf8 → Node → Reading Marked

@@ -5,13 +5,20 @@ use Rattle.bson_base.specs.Text.{Utf8}
 use Rattle.bson_base.specs.Outcome.{◌>>=◌, result_map}
 use Rattle.bson_rawdoc.specs.Node.{Node, array, Nodes, ended, faulty, then_node}
 use Rattle.bson_rawdoc.specs.Piece.{made}
-use Rattle.bson_datum.specs.Value.{no_field_values, field_value}
+use Rattle.bson_shape.specs.Form.{Form, by_mode}
+use Rattle.bson_datum.specs.Value.{ValueOf, no_field_values, field_value}
 use Rattle.bson_datum.specs.Marked.{Marked, MarkedFields}
 use Rattle.bson_datum.specs.Cause.{raw, missing_field, duplicate_field}
 use Rattle.bson_datum.specs.Refusal.{under}
+use Rattle.bson_laws.specs.Views.{absent}
 use Rattle.bson_laws.specs.Judged.{Reading, refused, ignores}
 use Rattle.bson_laws.specs.Taken.{document_of}
 use Rattle.bson_laws.specs.Containers.{reads_next}
+
+-- The value of a field that is missing: none, where its form is an option, or the form that is due of two is one. It is looked through two forms once.
+abbrev pub missing_value : {T : Type 0} → Form → Option (ValueOf T)
+missing_value (by_mode readable compact) = absent compact
+missing_value s = absent s
 
 -- a field of a struct that is read
 pub record Slot : Type 0 where

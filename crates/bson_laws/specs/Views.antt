@@ -5,7 +5,7 @@ use Rattle.bson_base.specs.Text.{Utf8}
 use Rattle.bson_base.specs.Pairs.{lookup}
 use Rattle.bson_base.specs.Kind.{byte}
 use Rattle.bson_base.specs.Tree.{Tree, kind, object_id, double, string, document, array, binary, boolean, null, int32, int64, Pairs, no_pairs, pair, Trees, no_trees, tree}
-use Rattle.bson_shape.specs.Form.{Form, leaf, optional, sequence, newtype, unit_structure, map, tuple, tuple_structure, structure, enumeration, Fields, no_fields, field, Parts, no_parts, part, Content, unit_content, newtype_content, tuple_content, struct_content, Variants, no_variants, variant}
+use Rattle.bson_shape.specs.Form.{Form, leaf, optional, lossy, sequence, newtype, unit_structure, map, tuple, tuple_structure, structure, enumeration, Fields, no_fields, field, Parts, no_parts, part, Content, unit_content, newtype_content, tuple_content, struct_content, Variants, no_variants, variant}
 use Rattle.bson_laws.specs.Variants.{content_of}
 use Rattle.bson_laws.specs.Leaves.{LeafKind, anything, booleans, numbers, doubles, characters, texts, byte_strings, byte_buffers, units, extended_values, ExtendedLeaf, object_ids, uuids, of_kind, trees, documents, leaf_kind}
 use Rattle.bson_laws.specs.Datum.{datum, uuid_datum, itself, sorted_tree}
@@ -115,7 +115,8 @@ views_at views missing None = missing
 views_at views missing (Some t) = views t
 
 abbrev mutual
-  -- The value that a tree is at a shape, where it is one. A sequence takes the values of an array, each at its shape, a map the pairs of a
+  -- The value that a tree is at a shape, where it is one. The texts of a tree are texts, so none of them is mended. What is read for a reader who is human
+  -- has no view. A sequence takes the values of an array, each at its shape, a map the pairs of a
   -- document in their order. A struct takes each of its fields from the document by its key, in the shape's order; other keys are dropped. A tuple
   -- takes an array of as many values as it has parts. An enum takes a text that names a unit variant, and a document of one pair whose key names a
   -- variant with contents.
@@ -123,6 +124,7 @@ abbrev mutual
   views (leaf l) t = views_leaf (leaf_kind l) t
   views (optional s) null = Some value.none
   views (optional s) t = option_map value.some (views s t)
+  views (lossy s) t = views s t
   views (newtype name s) t = option_map (value.newtype name) (views s t)
   views (unit_structure name) null = Some (value.unit_structure name)
   views (sequence s) (array ts) = option_map value.sequence (views_items (views s) ts)

@@ -1,7 +1,7 @@
 -- The shapes at which each value that is read is written again, unless it is too large. Source: bsonspec.org, version 1.1, `document` and `e_name`.
 use Rattle.std.specs.Prelude.{◌≡◌, false}
 use Rattle.bson_base.specs.Text.{has_zero}
-use Rattle.bson_shape.specs.Form.{Form, leaf, optional, sequence, newtype, unit_structure, map, tuple, tuple_structure, structure, enumeration, Fields, no_fields, field, Parts, no_parts, part, Content, unit_content, newtype_content, tuple_content, struct_content, Variants, no_variants, variant}
+use Rattle.bson_shape.specs.Form.{Form, leaf, optional, lossy, human_readable, by_mode, sequence, newtype, unit_structure, map, tuple, tuple_structure, structure, enumeration, Fields, no_fields, field, Parts, no_parts, part, Content, unit_content, newtype_content, tuple_content, struct_content, Variants, no_variants, variant}
 use Rattle.bson_base.specs.declared.element_type.ElementType.TheVariants.{RegularExpression, JavaScriptCodeWithScope, EmbeddedDocument, Array}
 use Rattle.bson_base.specs.declared.element_type.ElementType.{ElementType}
 use Rattle.bson_laws.specs.Leaves.{LeafKind, ignored, extended_values, of_kind, trees, documents, leaf_kind}
@@ -25,10 +25,14 @@ IsWritableLeaf k = Unit {0}
 
 abbrev mutual
   -- Each field's name is a cstring, which holds no zero character, and each map has texts or unit variants as its keys. The name of a
-  -- variant needs no such condition: as a key it was read from a key, which holds no zero character, and elsewhere it is written as a text.
+  -- variant needs no such condition: as a key it was read from a key, which holds no zero character, and elsewhere it is written as a text. Forms that depend
+  -- on whether the reader is human are left out.
   pub HasWritableKeys : Form → Type 0
   HasWritableKeys (leaf l) = IsWritableLeaf (leaf_kind l)
   HasWritableKeys (optional s) = HasWritableKeys s
+  HasWritableKeys (lossy s) = HasWritableKeys s
+  HasWritableKeys (human_readable s) = ⊥
+  HasWritableKeys (by_mode readable compact) = ⊥
   HasWritableKeys (sequence s) = HasWritableKeys s
   HasWritableKeys (newtype name s) = HasWritableKeys s
   HasWritableKeys (unit_structure name) = Unit {0}
@@ -67,6 +71,9 @@ KeepsDocumentLeaf k = Unit {0}
 abbrev pub KeepsDocument : Form → Type 0
 KeepsDocument (leaf l) = KeepsDocumentLeaf (leaf_kind l)
 KeepsDocument (optional s) = KeepsDocument s
+KeepsDocument (lossy s) = KeepsDocument s
+KeepsDocument (human_readable s) = ⊥
+KeepsDocument (by_mode readable compact) = ⊥
 KeepsDocument (newtype name s) = KeepsDocument s
 KeepsDocument s = Unit {0}
 

@@ -16,6 +16,7 @@ ghost use Rattle.bson_laws.specs.Views.{views};
 ghost use Rattle.bson_laws.specs.Means.{means, norm};
 ghost use Rattle.bson_laws.specs.Fits.{Fits};
 ghost use Rattle.bson_laws.specs.Plain.{IsPlain};
+ghost use Rattle.bson_laws.specs.Settled.{IsSettled};
 ghost use Rattle.bson_laws.specs.Writable.{IsWritable};
 ghost use Rattle.bson_laws.specs.InRange.{IsInRange, ArePairsInRange};
 ghost use Rattle.bson_laws.specs.Encodable.{IsEncodable};
@@ -115,7 +116,8 @@ pub fn law_read_back()
 /// The shape can be written (`IsWritable`). No name of a field holds a zero character, since an option's field that no pair has is read as none, and
 /// a struct takes the values of an array by their places: each is written under its name. The keys of maps are `str`, `string` or unit variants. No
 /// leaf is `regex`, `codews`, `bson` or `document`, since a regular expression that is given as texts in a document may hold a zero character. The
-/// document is read neither at `ignored` nor at an extended leaf, so that it is a document again. The call does nothing.
+/// document is read neither at `ignored` nor at an extended leaf, so that it is a document again. Nothing depends on whether the reader is human. The call
+/// does nothing.
 pub fn law_reads_spell()
     ensures spells { (s : Form) (bytes : Bytes) (d : Value) → IsShape s → IsWritable s → AreBytes bytes → reads_document s bytes ≡ Ok d
         → IsWrittenUnlessLarge (spell_document d) }
@@ -131,8 +133,10 @@ pub fn law_reads_numbers()
 
 /// What is read at a shape from bytes, and written, is read at the shape from what was written, and written as the same again.
 ///
-/// This holds at every shape and for every byte string, sound or not: a migration may be run again without harm. The call does nothing.
+/// This holds at every shape that does not depend on whether the reader is human (`IsSettled`), and for every byte string, sound or not: a migration may be
+/// run again without harm. The call does nothing.
 pub fn law_fixed_point()
-    ensures again { (s : Form) (bytes : Bytes) (d : Value) (t : Tree) → IsShape s → AreBytes bytes → reads_document s bytes ≡ Ok d → spell_document d ≡ Ok t
+    ensures again { (s : Form) (bytes : Bytes) (d : Value) (t : Tree) → IsShape s → IsSettled s → AreBytes bytes → reads_document s bytes ≡ Ok d
+        → spell_document d ≡ Ok t
         → length (enc t) ≤ max_bytes → (v : Value) × (reads_document s (enc t) ≡ Ok v) × (spell_document v ≡ Ok t) }
 {}

@@ -21,6 +21,7 @@ use Rattle.bson_laws.specs.ReadsLeaf.{put_entry}
 use Rattle.std.specs.Prelude.{option_map}
 use Rattle.bson_leaves.specs.EntriesView.{entry_place, IsIndexed}
 use Rattle.bson_keys.specs.KeysView.{key_place, HasPlacesBelow}
+use Rattle.bson_keys.specs.Places.{place_or, next_place}
 use Rattle.bson_leaves.specs.declared.entries.Entries as code
 use Rattle.bson_keys.specs.declared.places.Keys.{Keys}
 use Rattle.bson_leaves.proofs.KeyTexts.{key_same}
@@ -151,7 +152,7 @@ module _ (e : code.Entries) (indexed : IsIndexed e) (text : Utf8) (k : Marked) (
       ∙ sym (put_last e.entries.items x (ap (λ v. entry_place (contents v) (entries_marked e.entries.items)) named ∙ among None is))
       ∙ ap (λ v. put_entry v (marked x.value) (entries_marked e.entries.items)) named
 
-  pub new_indexed : (x : Entry) (entries : Vec Entry) (keys : Keys) (n : ℕ) → marked x.key ≡ k → None ≡ key_place e.keys text → entries.items ≡ e.entries.items ++ x ∷ [] → n ≡ length e.entries.items → HasPlacesBelow (n + 1) keys
+  new_indexed : (x : Entry) (entries : Vec Entry) (keys : Keys) (n : ℕ) → marked x.key ≡ k → None ≡ key_place e.keys text → entries.items ≡ e.entries.items ++ x ∷ [] → n ≡ length e.entries.items → HasPlacesBelow (n + 1) keys
       → ((t : Utf8) → key_place keys t ≡ cond (bytes_eq text t) (Some n) (key_place e.keys t)) → IsIndexed (record { key = e.key; entries = entries; keys = keys })
   new_indexed x entries keys n named is pushed many below places = record {
     text = indexed.text;
@@ -164,10 +165,29 @@ module _ (e : code.Entries) (indexed : IsIndexed e) (text : Utf8) (k : Marked) (
         ∙ ap (λ es. entry_place l (entries_marked es)) (sym pushed);
   }
 
-pub known_indexed : (e : code.Entries) (entries : Vec Entry) (i : ℕ) (d x : Entry) → IsIndexed e → entries.items ≡ set e.entries.items i x → marked x.key ≡ marked (get_or e.entries.items i d).key
-    → IsIndexed (record { key = e.key; entries = entries; keys = e.keys })
-known_indexed e entries i d x indexed put same_key = record {
+-- Where the key of a text is there, the places of texts are what they were, and those of the entries too.
+known_indexed : (e : code.Entries) (entries : Vec Entry) (keys : Keys) (text : Utf8) (i n : ℕ) (d x : Entry) → IsIndexed e → Some i ≡ key_place e.keys text → entries.items ≡ set e.entries.items i x → marked x.key ≡ marked (get_or e.entries.items i d).key
+    → n ≡ length e.entries.items → HasPlacesBelow n keys → ((t : Utf8) → key_place keys t ≡ cond (bytes_eq text t) (Some i) (key_place e.keys t)) → IsIndexed (record { key = e.key; entries = entries; keys = keys })
+known_indexed e entries keys text i n d x indexed there put same_key many below places = record {
   text = indexed.text;
-  next = subst (λ n. HasPlacesBelow n e.keys) (sym (ap length put ∙ length-set e.entries.items i x)) indexed.next;
-  places = λ t l u r. indexed.places t l u r ∙ sym (ap (λ es. entry_place l (entries_marked es)) put ∙ place_set e.entries.items i d x l same_key);
+  next = subst (λ m. HasPlacesBelow m keys) (many ∙ sym (ap length put ∙ length-set e.entries.items i x)) below;
+  places = λ t l u r. places t ∙ as_before t (bytes_eq text t) refl ∙ indexed.places t l u r ∙ sym (ap (λ es. entry_place l (entries_marked es)) put ∙ place_set e.entries.items i d x l same_key);
 }
+  where
+    as_before : (t : Utf8) (b : Bool) → bytes_eq text t ≡ b → cond b (Some i) (key_place e.keys t) ≡ key_place e.keys t
+    as_before t true one = there ∙ ap (key_place e.keys) ((bytes_eq-Decides text t).0 one)
+    as_before t false other = refl
+
+-- the places where one search has found the place of a text or has given it the next one
+abbrev PutPlaces : (old new : Keys) → Utf8 → (n : ℕ) → Option ℕ → Type 0
+PutPlaces old new text n o = (t : Utf8) → key_place new t ≡ cond (bytes_eq text t) (Some (place_or n o)) (key_place old t)
+
+pub found_indexed : (e : code.Entries) (entries : Vec Entry) (keys : Keys) (text : Utf8) (o : Option ℕ) (i n : ℕ) (d x : Entry) → IsIndexed e → o ≡ Some i → o ≡ key_place e.keys text → entries.items ≡ set e.entries.items i x → marked x.key ≡ marked (get_or e.entries.items i d).key
+    → n ≡ length e.entries.items → HasPlacesBelow (next_place n o) keys → PutPlaces e.keys keys text n o → IsIndexed (record { key = e.key; entries = entries; keys = keys })
+found_indexed e entries keys text o i n d x indexed is found put same_key many below places =
+    known_indexed e entries keys text i n d x indexed (sym is ∙ found) put same_key many (subst (λ p. HasPlacesBelow (next_place n p) keys) is below) (subst (PutPlaces e.keys keys text n) is places)
+
+pub fresh_indexed : (e : code.Entries) → IsIndexed e → (text : Utf8) (k : Marked) → IsUtf8 text → key_value (form_view e.key) text ≡ Ok (contents k) → (x : Entry) (entries : Vec Entry) (keys : Keys) (o : Option ℕ) (n : ℕ) → marked x.key ≡ k → o ≡ None
+    → o ≡ key_place e.keys text → entries.items ≡ e.entries.items ++ x ∷ [] → n ≡ length e.entries.items → HasPlacesBelow (next_place n o) keys → PutPlaces e.keys keys text n o → IsIndexed (record { key = e.key; entries = entries; keys = keys })
+fresh_indexed e indexed text k utf8 reads x entries keys o n named is found pushed many below places =
+    new_indexed e indexed text k utf8 reads x entries keys n named (sym is ∙ found) pushed many (subst (λ p. HasPlacesBelow (next_place n p) keys) is below) (subst (PutPlaces e.keys keys text n) is places)

@@ -85,14 +85,14 @@ impl<'s, 'de> Entries<'s, 'de> {
         ensures entries { IfOk result (λ _. entries_marked (entries_of self.new)
             ≡ put_entry (marked key.entry) (marked value.entry) (entries_marked (entries_of self.old))) }
     {
-        let entry = Entry { key, value };
-        if let Some(place) = self.keys.place_of(text) {
-            renew(&mut self.entries[place], entry);
-            return Ok(());
-        }
         let alloc = *self.entries.allocator();
-        match self.keys.push(alloc, text, self.entries.len()) {
-            Ok(()) => Ok(self.entries.push(entry)?),
+        let entry = Entry { key, value };
+        match self.keys.place_or_push(alloc, text, self.entries.len()) {
+            Ok(Some(place)) => {
+                renew(&mut self.entries[place], entry);
+                Ok(())
+            }
+            Ok(None) => Ok(self.entries.push(entry)?),
             Err(error) => {
                 discard(entry);
                 Err(error)

@@ -15,6 +15,7 @@ use Rattle.bson_datum.specs.declared.de.Fault.{Fault}
 use Rattle.bson_datum.specs.declared.stop.Stop.{Stop}
 use Rattle.bson_laws.specs.Judged.{Reading, refused, ignores}
 use Rattle.bson_laws.specs.Reads.{reads}
+use Rattle.bson_laws.specs.Settled.{settled}
 use Rattle.bson_laws.specs.Slots.{Slot, Slots, fill_slot, put_at}
 use Rattle.bson_laws.proofs.Placed.{names_of, IsFirst, IsNone, put_first, put_none}
 use Rattle.bson_slots.specs.FieldSlots.{field_slots, slot_of, value_at, with_value}
@@ -101,40 +102,41 @@ slot_again key n slots i default first old =
 
 -- ---- the slots of fields
 
-pub names_are : (fs : List FieldShape) (first : List Field) (later : List (Option Datum)) → names_of (field_slots fs first later) ≡ map (λ (f : FieldShape). string_bytes f.name) fs
-names_are [] first later = refl
-names_are (f ∷ fs) (x ∷ first) later = ap (λ names. string_bytes f.name ∷ names) (names_are fs first later)
-names_are (f ∷ fs) [] (v ∷ later) = ap (λ names. string_bytes f.name ∷ names) (names_are fs [] later)
-names_are (f ∷ fs) [] [] = ap (λ names. string_bytes f.name ∷ names) (names_are fs [] [])
+pub names_are : (readable : Bool) (fs : List FieldShape) (first : List Field) (later : List (Option Datum)) → names_of (field_slots readable fs first later) ≡ map (λ (f : FieldShape). string_bytes f.name) fs
+names_are readable [] first later = refl
+names_are readable (f ∷ fs) (x ∷ first) later = ap (λ names. string_bytes f.name ∷ names) (names_are readable fs first later)
+names_are readable (f ∷ fs) [] (v ∷ later) = ap (λ names. string_bytes f.name ∷ names) (names_are readable fs [] later)
+names_are readable (f ∷ fs) [] [] = ap (λ names. string_bytes f.name ∷ names) (names_are readable fs [] [])
 
-pub slot_reads : (fs : List FieldShape) (first : List Field) (later : List (Option Datum)) (i : ℕ) (d : FieldShape) → (get_or (field_slots fs first later) i (slot_of d None)).read ≡ reads (get_or fs i d).shape
-slot_reads [] first later i d = refl
-slot_reads (f ∷ fs) (x ∷ first) later zero d = refl
-slot_reads (f ∷ fs) (x ∷ first) later (suc i) d = slot_reads fs first later i d
-slot_reads (f ∷ fs) [] (v ∷ later) zero d = refl
-slot_reads (f ∷ fs) [] (v ∷ later) (suc i) d = slot_reads fs [] later i d
-slot_reads (f ∷ fs) [] [] zero d = refl
-slot_reads (f ∷ fs) [] [] (suc i) d = slot_reads fs [] [] i d
+pub slot_reads : (readable : Bool) (fs : List FieldShape) (first : List Field) (later : List (Option Datum)) (i : ℕ) (d : FieldShape)
+    → (get_or (field_slots readable fs first later) i (slot_of readable d None)).read ≡ reads (settled readable (get_or fs i d).shape)
+slot_reads readable [] first later i d = refl
+slot_reads readable (f ∷ fs) (x ∷ first) later zero d = refl
+slot_reads readable (f ∷ fs) (x ∷ first) later (suc i) d = slot_reads readable fs first later i d
+slot_reads readable (f ∷ fs) [] (v ∷ later) zero d = refl
+slot_reads readable (f ∷ fs) [] (v ∷ later) (suc i) d = slot_reads readable fs [] later i d
+slot_reads readable (f ∷ fs) [] [] zero d = refl
+slot_reads readable (f ∷ fs) [] [] (suc i) d = slot_reads readable fs [] [] i d
 
 -- the place of a key among the names of the fields of slots
 abbrev pub key_place : code.Slots → Utf8 → Option ℕ
 key_place s key = place_of (map (λ (f : FieldShape). string_bytes f.name) s.fields.now) key
 
 first_key : (s : code.Slots) (key : Utf8) (i : ℕ) → key_place s key ≡ Some i → IsFirst key (names_of (slots_view s)) i
-first_key s key i e = first_at key (names_of (slots_view s)) i (ap (λ names. place_of names key) (names_are s.fields.now s.first.items s.later.items) ∙ e)
+first_key s key i e = first_at key (names_of (slots_view s)) i (ap (λ names. place_of names key) (names_are s.readable s.fields.now s.first.items s.later.items) ∙ e)
 
 -- the key is the name of a field that has no value: the value is read at the field's shape
 module _ (s : code.Slots) (key : Utf8) (n : Node) (i : ℕ) (d : FieldShape) (place : key_place s key ≡ Some i) (unfilled : is_some (value_at (slots_view s) i) ≡ false) where
-  pub put_unfilled : put_at key n (slots_view s) ≡ (under key (reads (get_or s.fields.now i d).shape n) >>= λ v. Ok (with_value (slots_view s) i v))
+  pub put_unfilled : put_at key n (slots_view s) ≡ (under key (reads (settled s.readable (get_or s.fields.now i d).shape) n) >>= λ v. Ok (with_value (slots_view s) i v))
   put_unfilled =
-      slot_new key n (slots_view s) i (slot_of d None) (first_key s key i place) unfilled
-      ∙ ap (λ (read : Node → Reading Marked). under key (read n) >>= λ v. Ok (with_value (slots_view s) i v)) (slot_reads s.fields.now s.first.items s.later.items i d)
+      slot_new key n (slots_view s) i (slot_of s.readable d None) (first_key s key i place) unfilled
+      ∙ ap (λ (read : Node → Reading Marked). under key (read n) >>= λ v. Ok (with_value (slots_view s) i v)) (slot_reads s.readable s.fields.now s.first.items s.later.items i d)
 
-  pub value_put : (v : Marked) → under key (reads (get_or s.fields.now i d).shape n) ≡ Ok v → put_at key n (slots_view s) ≡ Ok (with_value (slots_view s) i v)
+  pub value_put : (v : Marked) → under key (reads (settled s.readable (get_or s.fields.now i d).shape) n) ≡ Ok v → put_at key n (slots_view s) ≡ Ok (with_value (slots_view s) i v)
   value_put v e = put_unfilled ∙ ap (λ r. r >>= λ x. Ok (with_value (slots_view s) i x)) e
 
-  pub value_refused : (t : Stop Fault) → StopsAs t (under key (reads (get_or s.fields.now i d).shape n)) → StopsAs t (put_at key n (slots_view s))
-  value_refused t h = subst (λ (r : Reading Slots). StopsAs t r) (sym put_unfilled) (stops_bind t (under key (reads (get_or s.fields.now i d).shape n)) (λ v. Ok (with_value (slots_view s) i v)) h)
+  pub value_refused : (t : Stop Fault) → StopsAs t (under key (reads (settled s.readable (get_or s.fields.now i d).shape) n)) → StopsAs t (put_at key n (slots_view s))
+  value_refused t h = subst (λ (r : Reading Slots). StopsAs t r) (sym put_unfilled) (stops_bind t (under key (reads (settled s.readable (get_or s.fields.now i d).shape) n)) (λ v. Ok (with_value (slots_view s) i v)) h)
 
 -- the key is the name of a field that has a value: the element is refused
 module _ (s : code.Slots) (key : Utf8) (n : Node) (i : ℕ) (place : key_place s key ≡ Some i) (filled : is_some (value_at (slots_view s) i) ≡ true) (default : Slot) where
@@ -144,7 +146,7 @@ module _ (s : code.Slots) (key : Utf8) (n : Node) (i : ℕ) (place : key_place s
 -- the key is the name of no field: the element is dropped
 module _ (s : code.Slots) (key : Utf8) (n : Node) (unknown : key_place s key ≡ None) where
   pub put_unknown : put_at key n (slots_view s) ≡ (under key (ignores n) >>= λ _. Ok (slots_view s))
-  put_unknown = put_none key n (slots_view s) (none_is key (names_of (slots_view s)) (ap (λ names. place_of names key) (names_are s.fields.now s.first.items s.later.items) ∙ unknown))
+  put_unknown = put_none key n (slots_view s) (none_is key (names_of (slots_view s)) (ap (λ names. place_of names key) (names_are s.readable s.fields.now s.first.items s.later.items) ∙ unknown))
 
   pub unknown_dropped : (u : Unit {0}) → under key (ignores n) ≡ Ok u → put_at key n (slots_view s) ≡ Ok (slots_view s)
   unknown_dropped u e = put_unknown ∙ ap (λ r. r >>= λ _. Ok (slots_view s)) e

@@ -2,11 +2,13 @@
 #![tactic(auto)]
 
 mod index;
+mod mode;
 mod named;
 mod next_item;
 mod slots;
 
 pub use index::{NameIndex, scan};
+pub use mode::due_shape;
 pub use named::{named_field, named_struct, named_struct_variant};
 pub use next_item::due;
 pub use slots::Slots;

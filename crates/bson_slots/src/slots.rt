@@ -1,18 +1,22 @@
-ghost use Rattle.std.specs.Prelude.{◌≡◌, ◌<◌, ◌≤◌, ◌+◌, [], ◌∷◌, length, false, Some, is_some, option_map, string_bytes, IfOk, List, Option};
+ghost use Rattle.std.specs.Prelude.{◌≡◌, Bool, ◌<◌, ◌≤◌, ◌+◌, [], ◌∷◌, length, false, if◌then◌else◌, Some, None, is_some, option_map, string_bytes, IfOk, List, Option};
 ghost use Rattle.std.specs.Bool.{OnTrue};
 ghost use Rattle.bson_shape.specs.ShapeView.{fields_of};
+ghost use Rattle.bson_rawdoc.specs.Piece.{Piece};
 ghost use Rattle.bson_datum.specs.MarkedView.{marked};
+ghost use Rattle.bson_datum.specs.Value.{none};
 ghost use Rattle.bson_datum.specs.declared.datum.Datum.{Datum};
 ghost use Rattle.bson_laws.specs.Reads.{slots_of};
+ghost use Rattle.bson_laws.specs.Settled.{settled, settled_fields};
 ghost use Rattle.bson_laws.specs.Slots as laws;
 ghost use Rattle.bson_laws.specs.Views.{absent};
 ghost use Rattle.bson_slots.specs.FieldSlots.{AreFirst, AreFirst-prop, field_slots, fields_marked, value_at, with_value};
 ghost use Rattle.bson_met.specs.Gives.{Reaches};
 
+use crate::mode::due_shape;
 use crate::named::named_field;
 use bson_datum::{Cause, Datum, Field};
 use bson_met::{Reading, refused};
-use bson_shape::{FieldShape, Form};
+use bson_shape::{FieldShape, Form, Shape};
 use std::alloc::{AllocError, Global};
 use std::mem;
 
@@ -24,6 +28,8 @@ use std::mem;
 pub struct Slots<'s, 'de> {
     /// The fields, in the shape's order.
     pub fields: &'s [FieldShape],
+    /// Whether the reader is human.
+    pub readable: bool,
     /// The first of them, with the values that came in order.
     first: Vec<Field<'de>>,
     /// The values of the fields behind the first, once one came out of order; those behind these have none.
@@ -35,20 +41,26 @@ pub struct Slots<'s, 'de> {
 impl<'s, 'de> Slots<'s, 'de> {
     ghost use Rattle.bson_slots.specs.SlotsView.{slots_view};
 
-    /// The slots of these fields, of which none has a value.
+    /// The slots of these fields, of which none has a value, for a reader who is human or not.
     ///
     /// # Errors
     ///
     /// Memory ran out.
     #[tactic(auto, using(crate::proofs::Finished::none_yet))]
-    pub fn new(alloc: Global, fields: &'s [FieldShape]) -> Result<Slots<'s, 'de>, AllocError>
-        ensures empty { IfOk result (λ s. slots_view s ≡ slots_of (fields_of fields.now)) }
+    pub fn new(
+        alloc: Global,
+        fields: &'s [FieldShape],
+        readable: bool,
+    ) -> Result<Slots<'s, 'de>, AllocError>
+        ensures empty { IfOk result (λ s. slots_view s ≡ slots_of (settled_fields readable (fields_of fields.now))) }
         ensures fields { IfOk result (λ s. s.fields ≡ fields.entry) }
+        ensures readable { IfOk result (λ s. s.readable ≡ readable) }
     {
         let first = Vec::with_capacity(alloc, fields.len())?;
         let later = Vec::new(alloc);
         Ok(Slots {
             fields,
+            readable,
             first,
             later,
         })
@@ -79,6 +91,7 @@ impl<'s, 'de> Slots<'s, 'de> {
         ensures put { IfOk result (λ _. slots_view self.new
             ≡ with_value (slots_view self.old) place (marked value.entry)) }
         ensures fields { self.new.fields ≡ self.old.fields }
+        ensures readable { self.new.readable ≡ self.old.readable }
     {
         if self.is_next(place) {
             return push(alloc, self.fields, &mut self.first, value);
@@ -102,6 +115,7 @@ impl<'s, 'de> Slots<'s, 'de> {
         ensures put { IfOk result (λ _. slots_view self.new
             ≡ with_value (slots_view self.old) (length self.old.first.items + place) (marked value.entry)) }
         ensures fields { self.new.fields ≡ self.old.fields }
+        ensures readable { self.new.readable ≡ self.old.readable }
     {
         match self.reach(place) {
             Ok(()) => {
@@ -122,6 +136,7 @@ impl<'s, 'de> Slots<'s, 'de> {
         ensures slots { slots_view self.new ≡ slots_view self.old }
         ensures first { self.new.first ≡ self.old.first }
         ensures fields { self.new.fields ≡ self.old.fields }
+        ensures readable { self.new.readable ≡ self.old.readable }
     {
         while self.later.len() <= place {
             self.later.push(None)?;
@@ -129,9 +144,10 @@ impl<'s, 'de> Slots<'s, 'de> {
         Ok(())
     }
 
-    /// All fields with their values, in the shape's order. A field of an option that has no value is none.
+    /// All fields with their values, in the shape's order. A field that has no value is none, where its shape is an option, or the one of two shapes that is due
+    /// is one.
     ///
-    /// The struct is refused for `MissingField`, with the name of the first field that has no value and is no option.
+    /// The struct is refused for `MissingField`, with the name of the first field that has no value and is no such option.
     /// Returns `NoMemory` where memory runs out.
     pub fn finish(self, alloc: Global) -> Reading<Vec<Field<'de>>>
         ensures exact { Reaches (λ v. fields_marked v.items) result (laws.finish (slots_view self.entry)) }
@@ -147,14 +163,14 @@ impl<'s, 'de> Slots<'s, 'de> {
     fn finish_later(self, alloc: Global) -> Reading<Vec<Field<'de>>>
         ensures exact { Reaches (λ v. fields_marked v.items) result (laws.finish (slots_view self.entry)) }
     {
-        let fields = self.fields;
+        let (fields, readable) = (self.fields, self.readable);
         let mut first = self.first;
         for value in self.later {
-            let value = value_or_missing(alloc, &fields[first.len()], value)?;
+            let value = value_or_missing(alloc, &fields[first.len()], readable, value)?;
             push(alloc, fields, &mut first, value)?;
         }
         while let Some(field) = fields.get(first.len()) {
-            let value = value_or_missing(alloc, field, None)?;
+            let value = value_or_missing(alloc, field, readable, None)?;
             push(alloc, fields, &mut first, value)?;
         }
         Ok(first)
@@ -172,8 +188,8 @@ fn push<'de>(
 ) -> Result<(), AllocError>
     requires within { length first.old.items < length fields.now }
     requires named { AreFirst fields.now first.old.items }
-    ensures pushed { IfOk result (λ _. (later : List (Option Datum)) → field_slots fields.now first.new.items later
-        ≡ field_slots fields.now first.old.items (Some value.entry ∷ later)) }
+    ensures pushed { IfOk result (λ _. (readable : Bool) (later : List (Option Datum)) → field_slots readable fields.now first.new.items later
+        ≡ field_slots readable fields.now first.old.items (Some value.entry ∷ later)) }
     ensures named { AreFirst fields.now first.new.items }
     ensures within { length first.new.items ≤ length first.old.items + 1 }
     ensures grown { IfOk result (λ _. length first.new.items ≡ length first.old.items + 1) }
@@ -188,19 +204,36 @@ fn push<'de>(
 fn value_or_missing<'de>(
     alloc: Global,
     field: &FieldShape,
+    readable: bool,
     value: Option<Datum<'de>>,
 ) -> Reading<Datum<'de>>
     ensures exact { Reaches marked result
-        (laws.value_or (string_bytes field.now.name) (absent field.now.shape) (option_map marked value.entry)) }
+        (laws.value_or (string_bytes field.now.name) (laws.missing_value (settled readable field.now.shape)) (option_map marked value.entry)) }
 {
     if let Some(value) = value {
         return Ok(value);
     }
-    match field.shape.form() {
-        Form::Option(_) => Ok(Datum::None),
-        _ => {
-            let name = String::from_str(alloc, field.name.as_str())?;
-            Err(refused(alloc, Cause::MissingField(name)))
-        }
+    if may_be_missing(&field.shape, readable) {
+        return Ok(Datum::None);
     }
+    let name = String::from_str(alloc, field.name.as_str())?;
+    Err(refused(alloc, Cause::MissingField(name)))
+}
+
+/// Whether a field of the shape may be missing: where it is an option, or the one of two shapes that is due is one. It is looked through two shapes once.
+fn may_be_missing(shape: &Shape, readable: bool) -> bool
+    ensures missing { laws.missing_value {T = Piece} (settled readable shape.now) ≡ (if result then Some none else None) }
+{
+    match shape.form() {
+        Form::Option(_) => true,
+        Form::Mode(human, compact) => is_option(due_shape(readable, human, compact)),
+        _ => false,
+    }
+}
+
+/// Whether the shape is an option.
+fn is_option(shape: &Shape) -> bool
+    ensures absent { absent {T = Piece} shape.now ≡ (if result then Some none else None) }
+{
+    matches!(shape.form(), Form::Option(_))
 }

@@ -38,15 +38,15 @@ pub(crate) fn extended_scalar<'de>(
         Extended::ObjectId(id) => data::object_id(alloc, id.bytes),
         Extended::DateTime(time) => data::date_time(alloc, time),
         Extended::RegularExpression(pattern, options) => {
-            let pattern = String::from_str(alloc, pattern.text)?;
-            let options = String::from_str(alloc, options.text)?;
+            let pattern = pattern.to_string(alloc)?;
+            let options = options.to_string(alloc)?;
             data::regular_expression(alloc, pattern, options)
         }
         Extended::DbPointer(namespace, id) => {
-            data::db_pointer(alloc, String::from_str(alloc, namespace.text)?, id)
+            data::db_pointer(alloc, namespace.to_string(alloc)?, id)
         }
-        Extended::JavaScriptCode(code) => data::code(alloc, String::from_str(alloc, code.text)?),
-        Extended::Symbol(symbol) => data::symbol(alloc, String::from_str(alloc, symbol.text)?),
+        Extended::JavaScriptCode(code) => data::code(alloc, code.to_string(alloc)?),
+        Extended::Symbol(symbol) => data::symbol(alloc, symbol.to_string(alloc)?),
         Extended::JavaScriptCodeWithScope(..) => unreachable!(),
         Extended::Timestamp(time) => data::timestamp(alloc, time),
         Extended::Decimal128(bits) => data::decimal128(alloc, bits.bytes.to_vec(alloc)?),

@@ -185,6 +185,6 @@ fn read_extended_value<'de>(alloc: Global, value: Extended<'de>) -> Reading<Datu
         return Ok(extended_scalar(alloc, value)?);
     };
     let scope = read_scope(alloc, SCOPE_KEY, &Met::of_scope(scope))?;
-    let code = String::from_str(alloc, code.text)?;
+    let code = code.to_string(alloc)?;
     Ok(data::scoped_code(alloc, code, scope)?)
 }

@@ -3,15 +3,20 @@ ghost use Rattle.std.specs.Prelude.{◌≡◌, false};
 ghost use Rattle.uuid.specs.Text.{parsed};
 ghost use Rattle.bson_base.specs.Tree as tree;
 ghost use Rattle.bson_base.specs.Tree.{no_pairs};
+ghost use Rattle.bson_datum.specs.Cause as cause;
+ghost use Rattle.bson_datum.specs.ErrorView.{read_fault};
 ghost use Rattle.bson_datum.specs.MarkedView.{marked};
+ghost use Rattle.bson_datum.specs.Stop.{stop_view};
+ghost use Rattle.bson_datum.specs.Value.{kind_of};
+ghost use Rattle.bson_datum.specs.View.{view};
 ghost use Rattle.bson_laws.specs.ReadsExtended as laws;
-ghost use Rattle.bson_met.specs.Gives.{Reaches};
+ghost use Rattle.bson_met.specs.Gives.{Reaches, IsRefusedOrNoMemory};
 ghost use Rattle.bson_met.specs.PieceView.{met_text, str_piece};
 ghost use Rattle.bson_trees.specs.Leaves.{uuid_from, uuid_datum_from, uuid_elements, uuid_wrapped, makes_binary, tree_passed};
 
 use crate::trees::{read_under, read_wrapped};
 use bson_base::{BinarySubtype, ElementType, Uuid};
-use bson_datum::{Cause, Datum, Wrapper};
+use bson_datum::{Cause, Datum, Stop, Wrapper, de};
 use bson_met::{Elements, Extended, Met, MetText, Reading, Step, Value, refused};
 use bson_wrapped::{data, read_binary, read_uuid};
 use std::alloc::Global;
@@ -89,7 +94,12 @@ fn pass_tree(alloc: Global, step: &Step<'_>) -> Reading<()>
 }
 
 /// The UUID that a wrapper key stands for, with the elements behind it.
-fn wrapped_id(alloc: Global, wrapper: Wrapper, step: &Step<'_>, rest: Elements<'_>) -> Reading<Uuid>
+fn wrapped_id<'de>(
+    alloc: Global,
+    wrapper: Wrapper,
+    step: &Step<'de>,
+    rest: Elements<'de>,
+) -> Reading<Uuid>
     ensures exact { Reaches (λ id. id.0) result
         (uuid_wrapped wrapper (str_piece step.now.key).bytes step.now.value rest.entry) }
 {
@@ -107,13 +117,27 @@ fn wrapped_id(alloc: Global, wrapper: Wrapper, step: &Step<'_>, rest: Elements<'
 }
 
 /// The refusal of another wrapper key, with the elements behind it.
-fn not_binary(alloc: Global, wrapper: Wrapper, step: &Step<'_>, rest: Elements<'_>) -> Reading<Uuid>
+fn not_binary<'de>(
+    alloc: Global,
+    wrapper: Wrapper,
+    step: &Step<'de>,
+    rest: Elements<'de>,
+) -> Reading<Uuid>
     requires other { makes_binary wrapper ≡ false }
     ensures exact { Reaches (λ id. id.0) result
         (uuid_wrapped wrapper (str_piece step.now.key).bytes step.now.value rest.entry) }
 {
     let value = read_wrapped(alloc, wrapper, step, rest)?;
-    Err(refused(alloc, Cause::WrongKind(value.element_type())))
+    Err(wrong_kind(alloc, value))
+}
+
+/// The refusal of a value that is no binary.
+#[cold]
+#[inline(never)]
+fn wrong_kind(alloc: Global, value: Datum<'_>) -> Stop<de::Fault>
+    ensures here { IsRefusedOrNoMemory (cause.wrong_kind (kind_of (view value.entry))) (stop_view read_fault result) }
+{
+    refused(alloc, Cause::WrongKind(value.element_type()))
 }
 
 /// The UUID of a binary in a document, which may also be of subtype 0.

@@ -1,5 +1,6 @@
 // Extended values as data: the structs of their reserved names. All texts, names and byte strings in them are owned.
-ghost use Rattle.std.specs.Prelude.{◌≡◌, true, string_bytes, IfOk};
+ghost use Rattle.std.specs.Prelude.{◌≡◌, [], ◌∷◌, true, codes, string_bytes, IfOk};
+ghost use Rattle.bson_base.specs.Made.{digits};
 ghost use Rattle.bson_base.specs.Instant.{millis};
 ghost use Rattle.bson_base.specs.Sorted.{sorted};
 ghost use Rattle.bson_base.specs.Tree as tree;
@@ -153,9 +154,26 @@ pub fn binary<'de>(
         return bytes(alloc, content);
     }
     let base64 = text_of(alloc, MetText::Base64(elsewhere(content)))?;
-    let digits = text_of(alloc, MetText::Subtype(subtype))?;
-    let body = struct_of_two(alloc, "", ("base64", base64), ("subType", digits))?;
+    let body = binary_body(alloc, base64, subtype)?;
     wrap(alloc, "$binary", body)
+}
+
+/// The struct of the base64 of a binary and of its subtype.
+fn binary_body<'de>(
+    alloc: Global,
+    base64: Datum<'de>,
+    subtype: BinarySubtype,
+) -> Result<Datum<'de>, AllocError>
+    ensures { IfOk result (λ d. marked d ≡ values.structure (made [])
+        (two made (codes "base64") (marked base64.entry) (codes "subType") (values.str (made (digits (subtype.0 ∷ [])))))) }
+{
+    match text_of(alloc, MetText::Subtype(subtype)) {
+        Ok(digits) => struct_of_two(alloc, "", ("base64", base64), ("subType", digits)),
+        Err(error) => {
+            drop(base64);
+            Err(error)
+        }
+    }
 }
 
 /// A binary whose bytes are owned.

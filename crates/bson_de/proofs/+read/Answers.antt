@@ -18,6 +18,7 @@ use Rattle.bson_datum.specs.Value.{no_entries}
 use Rattle.bson_laws.specs.Containers.{reads_items, reads_entries, reads_key}
 use Rattle.bson_laws.specs.Judged.{Reading, judged, refused, ignores}
 use Rattle.bson_laws.specs.Reads.{reads, reads_parts, reads_variant, reads_content, slots_of}
+use Rattle.bson_laws.specs.Settled.{settled, settled_fields, settled_parts, settled_variants, settled_content}
 use Rattle.bson_laws.specs.Slots.{Slot, Slots, read_structure, reads_places}
 use Rattle.bson_met.specs.Gives.{Reaches}
 use Rattle.bson_met.specs.PieceView.{str_piece}
@@ -39,17 +40,17 @@ use Rattle.bson_de.proofs.Nulls.{option_null}
 use Rattle.bson_texts.proofs.MarkedLists.{marked-Seq, marked-Tuple, marked-TupleStruct, marked-TupleVariant, marked-Map}
 use Rattle.bson_de.proofs.Parts.{items_before, parts_step, parts_stop, parts_end, all_left}
 use Rattle.bson_de.proofs.VariantContents.{contents_at_key}
-use Rattle.bson_de.proofs.Variants.{first_read, element_read, content_read, named_smaller, named_content}
+use Rattle.bson_de.proofs.Variants.{first_read, element_read, content_read, named_smaller, named_content, unit_settled}
 use Rattle.bson_de.proofs.+read.Goals as goal
 
 pub value::read_items-step-init : goal.value::read_items-step-init
 value::read_items-step-init t c =
-    let read = reads c.args.item.now in
+    let read = reads (settled c.args.readable c.args.item.now) in
     (omega (arith, c.start-value.ensures.few), (λ i. each (items_by read) 0 c.args.elements (items_marked (c.new-items.ensures.items i))) ∙ items_each read c.args.elements)
 
 pub value::read_items-step-preserved : goal.value::read_items-step-preserved
 value::read_items-step-preserved t c =
-    let read = reads c.args.item.now in
+    let read = reads (settled c.args.readable c.args.item.now) in
     let v = c.advance.new.value in
     let i = c.step.index in
     let old = items_marked c.step.items.items in
@@ -62,22 +63,22 @@ value::read_items-step-preserved t c =
 
 pub value::read_sequence-returns : goal.value::read_sequence-returns
 value::read_sequence-returns t c = record {
-  exact = ap (λ r. r >>= λ ns. result_map value.sequence (reads_items (reads c.args.item.now) 0 ns)) c.in_ok-elements.ensures.array ∙ ap (result_map value.sequence) c.in_ok-items.ensures.exact ∙ ap Ok (sym (marked-Seq c.in_ok-items.items));
+  exact = ap (λ r. r >>= λ ns. result_map value.sequence (reads_items (reads (settled c.args.readable c.args.item.now)) 0 ns)) c.in_ok-elements.ensures.array ∙ ap (result_map value.sequence) c.in_ok-items.ensures.exact ∙ ap Ok (sym (marked-Seq c.in_ok-items.items));
 }
 
 pub tuple::read_tuple-returns : goal.tuple::read_tuple-returns
 tuple::read_tuple-returns t c = record {
-  exact = ap (λ r. r >>= λ ns. result_map value.tuple (reads_parts (parts_of c.args.parts.now) 0 ns)) c.in_ok-elements.ensures.array ∙ ap (result_map value.tuple) c.in_ok-items.ensures.exact ∙ ap Ok (sym (marked-Tuple c.in_ok-items.items));
+  exact = ap (λ r. r >>= λ ns. result_map value.tuple (reads_parts (settled_parts c.args.readable (parts_of c.args.parts.now)) 0 ns)) c.in_ok-elements.ensures.array ∙ ap (result_map value.tuple) c.in_ok-items.ensures.exact ∙ ap Ok (sym (marked-Tuple c.in_ok-items.items));
 }
 
 pub map::read_map-returns : goal.map::read_map-returns
 map::read_map-returns t c = record {
-  exact = ap (λ r. r >>= λ ns. result_map value.map (reads_entries (reads_key c.args.key.now) (reads c.args.item.now) ns no_entries)) c.in_ok-elements.ensures.document ∙ ap (result_map value.map) c.in_ok-entries.ensures.exact ∙ ap Ok (sym (marked-Map c.in_ok-entries.entries));
+  exact = ap (λ r. r >>= λ ns. result_map value.map (reads_entries (reads_key c.args.key.now) (reads (settled c.args.readable c.args.item.now)) ns no_entries)) c.in_ok-elements.ensures.document ∙ ap (result_map value.map) c.in_ok-entries.ensures.exact ∙ ap Ok (sym (marked-Map c.in_ok-entries.entries));
 }
 
 pub tuple::read_parts-loop-place-init : goal.tuple::read_parts-loop-place-init
 tuple::read_parts-loop-place-init t c =
-    let ps = parts_of c.args.parts.now in
+    let ps = settled_parts c.args.readable (parts_of c.args.parts.now) in
     (λ i. result_map (items_before (c.new-values.ensures.items i)) (reads_parts ps 0 c.args.elements)) ∙ all_left (reads_parts ps 0 c.args.elements)
 
 pub tuple::read_parts-read_next-requires : goal.tuple::read_parts-read_next-requires
@@ -91,12 +92,12 @@ tuple::read_parts-read_next-requires t c =
 
 pub tuple::read_parts-loop-place-preserved : goal.tuple::read_parts-loop-place-preserved
 tuple::read_parts-loop-place-preserved t c =
-    parts_step c.args.parts.now c.loop-place.place c.loop-place.values.items c.loop-place.elements _ c.loop-place.invariant c.index-parts-place.result c.loop-place-test.true c.index-parts-place.is c.read_next.new.elements c.in_ok-value.value c.push.new.self.items
+    parts_step c.args.readable c.args.parts.now c.loop-place.place c.loop-place.values.items c.loop-place.elements _ c.loop-place.invariant c.index-parts-place.result c.loop-place-test.true c.index-parts-place.is c.read_next.new.elements c.in_ok-value.value c.push.new.self.items
     c.in_ok-value.ensures.rest c.in_ok-value.ensures.value c.in_ok-push.ensures.items
 
 pub tuple::read_parts-returns : goal.tuple::read_parts-returns
 tuple::read_parts-returns t c = record {
-  exact = parts_end c.args.parts.now c.loop-place.place c.loop-place.values.items c.loop-place.elements _ c.loop-place.invariant (omega (arith, c.loop-place-test.false));
+  exact = parts_end c.args.readable c.args.parts.now c.loop-place.place c.loop-place.values.items c.loop-place.elements _ c.loop-place.invariant (omega (arith, c.loop-place-test.false));
 }
 
 pub structure::read_by_place-read_next-requires : goal.structure::read_by_place-read_next-requires
@@ -108,8 +109,8 @@ structure::read_by_place-read_next-requires t c =
     let less : 8 * nodes f.shape + 2 < 8 * fields_nodes (fields_of fs) + 3 = omega (arith, smaller, same) in
     (search rules, tt)
 
-pub structure::fill_one-read_value-requires : goal.structure::fill_one-read_value-requires
-structure::fill_one-read_value-requires t c =
+pub structure::fill_one-read_settled-requires : goal.structure::fill_one-read_settled-requires
+structure::fill_one-read_settled-requires t c =
     let fs = c.args.index.now.items.now in
     let smaller = field_smaller fs c.in-Some.place c.index-fields-place.result c.in-Some.ensures.within in
     let less : 8 * nodes (get_or fs c.in-Some.place c.index-fields-place.result).shape < 8 * fields_nodes (fields_of fs) + 1 = omega (arith, smaller) in
@@ -126,7 +127,7 @@ enumeration::read_variant-read_content-requires t c =
 
 pub value::read_items-returns-in_err-read_item : goal.value::read_items-returns-in_err-read_item
 value::read_items-returns-in_err-read_item t c =
-    let read = reads c.args.item.now in
+    let read = reads (settled c.args.readable c.args.item.now) in
     let v = c.advance.new.value in
     let i = c.step.index in
     let old = items_marked c.step.items.items in
@@ -138,13 +139,13 @@ value::read_items-returns-in_err-read_item t c =
 pub tuple::read_parts-returns-in_err-value : goal.tuple::read_parts-returns-in_err-value
 tuple::read_parts-returns-in_err-value t c =
     let stop = c.in_err-value.field-0.0 in
-    let here = parts_stop c.args.parts.now c.loop-place.place c.loop-place.values.items c.loop-place.elements _ c.loop-place.invariant c.index-parts-place.result c.loop-place-test.true c.index-parts-place.is stop c.in_err-value.ensures.value in
+    let here = parts_stop c.args.readable c.args.parts.now c.loop-place.place c.loop-place.values.items c.loop-place.elements _ c.loop-place.invariant c.index-parts-place.result c.loop-place-test.true c.index-parts-place.is stop c.in_err-value.ensures.value in
     record { exact = search (rules, here) }
 
 pub tuple::read_tuple_struct-returns : goal.tuple::read_tuple_struct-returns
 tuple::read_tuple_struct-returns t c =
     let name = c.args.name.now in
-    let ps = parts_of c.args.parts.now in
+    let ps = settled_parts c.args.readable (parts_of c.args.parts.now) in
     record {
       exact = ap (λ r. r >>= λ ns. result_map (value.tuple_structure (made name)) (reads_parts ps 0 ns)) c.in_ok-elements.ensures.array ∙ ap (result_map (value.tuple_structure (made name))) c.in_ok-items.ensures.exact
           ∙ ap (λ n. Ok (value.tuple_structure (made n) (items_marked c.in_ok-items.items.items))) (sym c.in_ok-from_str.ensures.ok) ∙ ap Ok (sym (marked-TupleStruct (Owned c.in_ok-from_str.field-0) c.in_ok-items.items));
@@ -153,7 +154,7 @@ tuple::read_tuple_struct-returns t c =
 pub enumeration::read_tuple_variant-returns : goal.enumeration::read_tuple_variant-returns
 enumeration::read_tuple_variant-returns t c =
     let name = c.args.name.now in
-    let ps = parts_of c.args.parts.now in
+    let ps = settled_parts c.args.readable (parts_of c.args.parts.now) in
     record {
       exact = ap (λ r. r >>= λ ns. result_map (value.tuple_variant (made name)) (reads_parts ps 0 ns)) c.in_ok-elements.ensures.array ∙ ap (result_map (value.tuple_variant (made name))) c.in_ok-items.ensures.exact
           ∙ ap (λ n. Ok (value.tuple_variant (made n) (items_marked c.in_ok-items.items.items))) (sym c.in_ok-from_str.ensures.ok) ∙ ap Ok (sym (marked-TupleVariant (Owned c.in_ok-from_str.field-0) c.in_ok-items.items));
@@ -162,7 +163,7 @@ enumeration::read_tuple_variant-returns t c =
 pub map::read_entries-step-init : goal.map::read_entries-step-init
 map::read_entries-step-init t c =
     let read_key = reads_key c.args.key.now in
-    let read = reads c.args.item.now in (
+    let read = reads (settled c.args.readable c.args.item.now) in (
       c.new-entries.ensures.indexed,
       ap form_view c.new-entries.ensures.key ∙ c.form.ensures.form,
       (λ i. each (entries_by read_key read) 0 c.args.elements (entries_marked (c.new-entries.ensures.none i))) ∙ entries_each read_key read 0 c.args.elements no_entries,
@@ -179,7 +180,7 @@ map::read_entries-put-requires t c =
 pub map::read_entries-step-preserved : goal.map::read_entries-step-preserved
 map::read_entries-step-preserved t c =
     let read_key = reads_key c.args.key.now in
-    let read = reads c.args.item.now in
+    let read = reads (settled c.args.readable c.args.item.now) in
     let s = c.advance.new.step in
     let k = str_piece s.key in
     let old = entries_marked (entries_of c.step.entries) in
@@ -196,7 +197,7 @@ map::read_entries-step-preserved t c =
 pub map::read_entries-returns-in_err-key : goal.map::read_entries-returns-in_err-key
 map::read_entries-returns-in_err-key t c =
     let read_key = reads_key c.args.key.now in
-    let read = reads c.args.item.now in
+    let read = reads (settled c.args.readable c.args.item.now) in
     let s = c.advance.new.step in
     let k = str_piece s.key in
     let old = entries_marked (entries_of c.step.entries) in
@@ -209,7 +210,7 @@ map::read_entries-returns-in_err-key t c =
 pub map::read_entries-returns-in-Err : goal.map::read_entries-returns-in-Err
 map::read_entries-returns-in-Err t c =
     let read_key = reads_key c.args.key.now in
-    let read = reads c.args.item.now in
+    let read = reads (settled c.args.readable c.args.item.now) in
     let s = c.advance.new.step in
     let k = str_piece s.key in
     let old = entries_marked (entries_of c.step.entries) in
@@ -224,16 +225,16 @@ enumeration::read_variant-returns t c =
     let vs = c.args.variants.now in
     let s = c.in_ok-step.step in
     let ns = c.args.elements in
-    let parts = first_read (reads_variant (variants_of vs)) ns ∙ ap (λ r. r >>= λ p. reads_variant (variants_of vs) p.key.bytes p.value) c.in_ok-step.ensures ∙ element_read vs (str_piece s.key).bytes s.value in
-    record { exact = subst (λ (r : Reading Marked). Reaches marked c.read_content.result r) (sym (parts ∙ ap (λ r. r >>= content_read s.value) c.in_ok-variant.ensures)) c.read_content.ensures.exact }
+    let parts = first_read (reads_variant (settled_variants c.args.readable (variants_of vs))) ns ∙ ap (λ r. r >>= λ p. reads_variant (settled_variants c.args.readable (variants_of vs)) p.key.bytes p.value) c.in_ok-step.ensures ∙ element_read c.args.readable vs (str_piece s.key).bytes s.value in
+    record { exact = subst (λ (r : Reading Marked). Reaches marked c.read_content.result r) (sym (parts ∙ ap (λ r. r >>= content_read c.args.readable s.value) c.in_ok-variant.ensures)) c.read_content.ensures.exact }
 
 pub enumeration::read_variant-returns-in_err-variant : goal.enumeration::read_variant-returns-in_err-variant
 enumeration::read_variant-returns-in_err-variant t c =
     let vs = c.args.variants.now in
     let s = c.in_ok-step.step in
     let ns = c.args.elements in
-    let parts = first_read (reads_variant (variants_of vs)) ns ∙ ap (λ r. r >>= λ p. reads_variant (variants_of vs) p.key.bytes p.value) c.in_ok-step.ensures ∙ element_read vs (str_piece s.key).bytes s.value in
-    let here : Reaches marked c.from_residual-in_err-variant.result (variant_named vs (str_piece s.key).bytes >>= content_read s.value) = search rules in
+    let parts = first_read (reads_variant (settled_variants c.args.readable (variants_of vs))) ns ∙ ap (λ r. r >>= λ p. reads_variant (settled_variants c.args.readable (variants_of vs)) p.key.bytes p.value) c.in_ok-step.ensures ∙ element_read c.args.readable vs (str_piece s.key).bytes s.value in
+    let here : Reaches marked c.from_residual-in_err-variant.result (variant_named vs (str_piece s.key).bytes >>= content_read c.args.readable s.value) = search rules in
     record { exact = subst (λ (r : Reading Marked). Reaches marked c.from_residual-in_err-variant.result r) (sym parts) here }
 
 pub enumeration::read_content-returns-in-Tuple : goal.enumeration::read_content-returns-in-Tuple
@@ -241,8 +242,8 @@ enumeration::read_content-returns-in-Tuple t c =
     let own = string_bytes c.args.variant.now.name in
     let content : tuple_content (parts_of c.deref.result.now) ≡ content_of c.args.variant.now.content = ap (λ xs. tuple_content (parts_of xs)) c.deref.ensures.value ∙ ap content_of (sym c.in-Tuple.is) in
     record {
-      exact = subst (λ k. Reaches marked c.at_key-in-Tuple.result (reads_content own k c.args.step.now.value)) content
-          (contents_at_key own c.as_str-name.result.now (tuple_content (parts_of c.deref.result.now)) c.args.step.now.value c.read_tuple_variant.result c.at_key-in-Tuple.result refl c.as_str-name.ensures.value c.at_key-in-Tuple.ensures c.read_tuple_variant.ensures.exact);
+      exact = subst (λ k. Reaches marked c.at_key-in-Tuple.result (reads_content own (settled_content c.args.readable k) c.args.step.now.value)) content
+          (contents_at_key own c.as_str-name.result.now (settled_content c.args.readable (tuple_content (parts_of c.deref.result.now))) c.args.step.now.value c.read_tuple_variant.result c.at_key-in-Tuple.result refl c.as_str-name.ensures.value c.at_key-in-Tuple.ensures c.read_tuple_variant.ensures.exact);
     }
 
 pub enumeration::read_content-returns-in-Struct : goal.enumeration::read_content-returns-in-Struct
@@ -250,8 +251,8 @@ enumeration::read_content-returns-in-Struct t c =
     let own = string_bytes c.args.variant.now.name in
     let content : struct_content (fields_of c.deref-in-Struct.result.now) ≡ content_of c.args.variant.now.content = ap (λ xs. struct_content (fields_of xs)) c.deref-in-Struct.ensures.value ∙ ap content_of (sym c.in-Struct.is) in
     record {
-      exact = subst (λ k. Reaches marked c.at_key-in-Struct.result (reads_content own k c.args.step.now.value)) content
-          (contents_at_key own c.as_str-name.result.now (struct_content (fields_of c.deref-in-Struct.result.now)) c.args.step.now.value c.read_struct_variant.result c.at_key-in-Struct.result refl c.as_str-name.ensures.value c.at_key-in-Struct.ensures c.read_struct_variant.ensures.exact);
+      exact = subst (λ k. Reaches marked c.at_key-in-Struct.result (reads_content own (settled_content c.args.readable k) c.args.step.now.value)) content
+          (contents_at_key own c.as_str-name.result.now (settled_content c.args.readable (struct_content (fields_of c.deref-in-Struct.result.now))) c.args.step.now.value c.read_struct_variant.result c.at_key-in-Struct.result refl c.as_str-name.ensures.value c.at_key-in-Struct.ensures c.read_struct_variant.ensures.exact);
     }
 
 pub structure::read_by_key-new-index-requires : goal.structure::read_by_key-new-index-requires
@@ -259,7 +260,7 @@ structure::read_by_key-new-index-requires t c = ap has_repeat (field_names_are c
 
 pub structure::read_by_key-step-init : goal.structure::read_by_key-step-init
 structure::read_by_key-step-init t c =
-    let slots = slots_of (fields_of c.args.fields.now) in (
+    let slots = slots_of (settled_fields c.args.readable (fields_of c.args.fields.now)) in (
       ap (λ (fs : Bor (List FieldShape)). fs.now) c.new-index.ensures,
       ap (λ (fs : Bor (List FieldShape)). fs.now) c.in_ok-slots.ensures.fields,
       ap (each slots_by 0 c.args.elements) c.in_ok-slots.ensures.empty ∙ fill_each 0 c.args.elements slots,
@@ -282,20 +283,20 @@ structure::fill_one-returns-in_ok-put-in-Ok-clause-exact t c =
     let slots = c.args.slots.now in
     let place = ap (λ xs. place_of (map (λ (f : FieldShape). string_bytes f.name) xs) key) c.requires ∙ sym c.in-Some.ensures.place in
     let f = c.index-fields-place.result in
-    let at = ap (λ xs. under key (reads (get_or xs i f).shape s.value)) c.requires in
+    let at = ap (λ xs. under key (reads (settled slots.readable (get_or xs i f).shape) s.value)) c.requires in
     value_put slots key s.value i f place (sym c.if-is_filled.ensures) (marked c.in-Ok.value) (at ∙ ap (under key) c.in-Ok.ensures.exact) ∙ ap Ok (sym c.in_ok-put-in-Ok.ensures.put)
 
-pub structure::fill_one-returns-in-Err-read_value-clause-exact : goal.structure::fill_one-returns-in-Err-read_value-clause-exact
-structure::fill_one-returns-in-Err-read_value-clause-exact t c =
+pub structure::fill_one-returns-in-Err-read_settled-clause-exact : goal.structure::fill_one-returns-in-Err-read_settled-clause-exact
+structure::fill_one-returns-in-Err-read_settled-clause-exact t c =
     let s = c.args.step.now in
     let key = (str_piece s.key).bytes in
     let i = c.in-Some.place in
     let slots = c.args.slots.now in
     let place = ap (λ xs. place_of (map (λ (f : FieldShape). string_bytes f.name) xs) key) c.requires ∙ sym c.in-Some.ensures.place in
     let f = c.index-fields-place.result in
-    let stop = c.under_key-in-Err-read_value.result in
-    let here = stops_inside (at_key key) c.in-Err-read_value.stop stop (reads (get_or c.args.index.now.items.now i f).shape s.value) c.under_key-in-Err-read_value.ensures.under c.in-Err-read_value.ensures.exact in
-    value_refused slots key s.value i f place (sym c.if-is_filled.ensures) stop (subst (λ xs. StopsAs stop (under key (reads (get_or xs i f).shape s.value))) (sym c.requires) here)
+    let stop = c.under_key-in-Err-read_settled.result in
+    let here = stops_inside (at_key key) c.in-Err-read_settled.stop stop (reads (settled slots.readable (get_or c.args.index.now.items.now i f).shape) s.value) c.under_key-in-Err-read_settled.ensures.under c.in-Err-read_settled.ensures.exact in
+    value_refused slots key s.value i f place (sym c.if-is_filled.ensures) stop (subst (λ xs. StopsAs stop (under key (reads (settled slots.readable (get_or xs i f).shape) s.value))) (sym c.requires) here)
 
 pub structure::fill_one-returns-then-is_filled-clause-exact : goal.structure::fill_one-returns-then-is_filled-clause-exact
 structure::fill_one-returns-then-is_filled-clause-exact t c =
@@ -327,47 +328,52 @@ structure::fill_one-returns-in_default-clause-exact t c =
 
 pub structure::read_struct-returns : goal.structure::read_struct-returns
 structure::read_struct-returns t c = record {
-  exact = taken (value.structure (made c.args.name.now)) (judged c.args.value.now) (read_structure (slots_of (fields_of c.args.fields.now))) _ c.in_ok-fields.ensures.exact ∙ ap Ok (sym c.in_ok-named_struct.ensures.marked);
+  exact = taken (value.structure (made c.args.name.now)) (judged c.args.value.now) (read_structure (slots_of (settled_fields c.args.readable (fields_of c.args.fields.now)))) _ c.in_ok-fields.ensures.exact ∙ ap Ok (sym c.in_ok-named_struct.ensures.marked);
 }
 
 pub structure::read_struct-returns-in_err-fields : goal.structure::read_struct-returns-in_err-fields
 structure::read_struct-returns-in_err-fields t c =
-    let here = not_taken (value.structure (made c.args.name.now)) (judged c.args.value.now) (read_structure (slots_of (fields_of c.args.fields.now))) c.in_err-fields.field-0.0 c.in_err-fields.ensures.exact in
+    let here = not_taken (value.structure (made c.args.name.now)) (judged c.args.value.now) (read_structure (slots_of (settled_fields c.args.readable (fields_of c.args.fields.now)))) c.in_err-fields.field-0.0 c.in_err-fields.ensures.exact in
     record { exact = search (rules, here) }
 
 pub enumeration::read_struct_variant-returns : goal.enumeration::read_struct_variant-returns
 enumeration::read_struct_variant-returns t c = record {
-  exact = taken (value.structure_variant (made c.args.name.now)) (judged c.args.value.now) (read_structure (slots_of (fields_of c.args.fields.now))) _ c.in_ok-fields.ensures.exact ∙ ap Ok (sym c.in_ok-named_struct_variant.ensures.marked);
+  exact = taken (value.structure_variant (made c.args.name.now)) (judged c.args.value.now) (read_structure (slots_of (settled_fields c.args.readable (fields_of c.args.fields.now)))) _ c.in_ok-fields.ensures.exact ∙ ap Ok (sym c.in_ok-named_struct_variant.ensures.marked);
 }
 
 pub enumeration::read_struct_variant-returns-in_err-fields : goal.enumeration::read_struct_variant-returns-in_err-fields
 enumeration::read_struct_variant-returns-in_err-fields t c =
-    let here = not_taken (value.structure_variant (made c.args.name.now)) (judged c.args.value.now) (read_structure (slots_of (fields_of c.args.fields.now))) c.in_err-fields.field-0.0 c.in_err-fields.ensures.exact in
+    let here = not_taken (value.structure_variant (made c.args.name.now)) (judged c.args.value.now) (read_structure (slots_of (settled_fields c.args.readable (fields_of c.args.fields.now)))) c.in_err-fields.field-0.0 c.in_err-fields.ensures.exact in
     record { exact = search (rules, here) }
 
 pub map::read_entries-read_key-requires : goal.map::read_entries-read_key-requires
 map::read_entries-read_key-requires t c = c.step.invariant.0.text
 
 pub value::read_option-returns-then-is_null : goal.value::read_option-returns-then-is_null
-value::read_option-returns-then-is_null t c = record { exact = option_null c.args.value.now (reads c.args.inner.now c.args.value.now) (sym c.if-is_null.ensures.null) }
+value::read_option-returns-then-is_null t c = record { exact = option_null c.args.value.now (reads (settled c.args.readable c.args.inner.now) c.args.value.now) (sym c.if-is_null.ensures.null) }
 
 pub structure::read_by_place-loop-place-init : goal.structure::read_by_place-loop-place-init
 structure::read_by_place-loop-place-init t c =
-    let slots = slots_of (fields_of c.args.fields.now) in
+    let slots = slots_of (settled_fields c.args.readable (fields_of c.args.fields.now)) in
     (λ i. result_map (values_before (c.new-values.ensures.items i)) (reads_places 0 slots c.args.elements)) ∙ no_values (reads_places 0 slots c.args.elements)
 
 pub structure::read_by_place-loop-place-preserved : goal.structure::read_by_place-loop-place-preserved
 structure::read_by_place-loop-place-preserved t c =
-    places_step c.args.fields.now c.loop-place.place c.loop-place.values.items c.loop-place.elements _ c.loop-place.invariant c.index-fields-place.result c.loop-place-test.true c.index-fields-place.is c.read_next.new.elements c.in_ok-named_field.field-0 c.push.new.self.items
+    places_step c.args.readable c.args.fields.now c.loop-place.place c.loop-place.values.items c.loop-place.elements _ c.loop-place.invariant c.index-fields-place.result c.loop-place-test.true c.index-fields-place.is c.read_next.new.elements c.in_ok-named_field.field-0 c.push.new.self.items
     c.in_ok-value.ensures.rest (c.in_ok-value.ensures.value ∙ ap (λ d. Ok (marked d)) (sym c.in_ok-named_field.ensures.value)) (c.in_ok-named_field.ensures.name ∙ ap made c.as_str.ensures.value) c.in_ok-push.ensures.items
 
 pub structure::read_by_place-returns-in_err-value : goal.structure::read_by_place-returns-in_err-value
 structure::read_by_place-returns-in_err-value t c =
     let stop = c.in_err-value.field-0.0 in
-    let here = places_stop c.args.fields.now c.loop-place.place c.loop-place.values.items c.loop-place.elements _ c.loop-place.invariant c.index-fields-place.result c.loop-place-test.true c.index-fields-place.is stop c.in_err-value.ensures.value in
+    let here = places_stop c.args.readable c.args.fields.now c.loop-place.place c.loop-place.values.items c.loop-place.elements _ c.loop-place.invariant c.index-fields-place.result c.loop-place-test.true c.index-fields-place.is stop c.in_err-value.ensures.value in
     record { exact = search (rules, here) }
 
 pub structure::read_by_place-returns : goal.structure::read_by_place-returns
 structure::read_by_place-returns t c = record {
-  exact = places_end c.args.fields.now c.loop-place.place c.loop-place.values.items c.loop-place.elements _ c.loop-place.invariant (omega (arith, c.loop-place-test.false));
+  exact = places_end c.args.readable c.args.fields.now c.loop-place.place c.loop-place.values.items c.loop-place.elements _ c.loop-place.invariant (omega (arith, c.loop-place-test.false));
 }
+
+pub enumeration::read_enum-returns-in_ok-name-in-String : goal.enumeration::read_enum-returns-in_ok-name-in-String
+enumeration::read_enum-returns-in_ok-name-in-String t c =
+    let units = unit_settled c.args.readable (variants_of c.args.variants.now) c.as_str.result.now in
+    record { exact = search (rules, units) }

@@ -4,6 +4,7 @@ use Rattle.bson_shape.specs.ShapeView.{form_view, content_of, fields_of, parts_o
 use Rattle.bson_datum.specs.Value.{no_entries}
 use Rattle.bson_laws.specs.Containers.{reads_items, reads_entries, reads_key}
 use Rattle.bson_laws.specs.Reads.{reads, reads_parts, slots_of}
+use Rattle.bson_laws.specs.Settled.{settled, settled_fields, settled_parts}
 use Rattle.bson_laws.specs.Slots.{fill, reads_places}
 use Rattle.bson_met.specs.Sizes.{count}
 use Rattle.bson_slots.specs.SlotsView.{slots_view}
@@ -16,11 +17,17 @@ use Rattle.bson_texts.proofs.Loops.{items_by, entries_by}
 use Rattle.bson_de.proofs.Parts.{items_before}
 use Rattle.bson_de.proofs.+read.Given as goal
 
-abbrev pub decreases-value::read_value : goal.decreases-value::read_value
-decreases-value::read_value l = 8 * nodes l.shape.now
+abbrev pub decreases-value::read_settled : goal.decreases-value::read_settled
+decreases-value::read_settled l = 8 * nodes l.shape.now
 
 abbrev pub decreases-value::read_option : goal.decreases-value::read_option
 decreases-value::read_option l = 8 * nodes l.inner.now + 1
+
+abbrev pub decreases-value::read_mended : goal.decreases-value::read_mended
+decreases-value::read_mended l = 8 * nodes l.inner.now + 1
+
+abbrev pub decreases-value::read_human_readable : goal.decreases-value::read_human_readable
+decreases-value::read_human_readable l = 8 * nodes l.inner.now + 2
 
 abbrev pub decreases-value::read_newtype : goal.decreases-value::read_newtype
 decreases-value::read_newtype l = 8 * nodes l.inner.now + 1
@@ -37,7 +44,7 @@ decreases-value::read_sequence l = 8 * nodes l.item.now + 3
 -- the items so far, and what is left of the array, are all that is in it
 abbrev pub invariant-value::read_items-step : goal.invariant-value::read_items-step
 invariant-value::read_items-step l =
-    let read = reads l.item in
+    let read = reads (settled l.readable l.item) in
     (l.index + count l.elements < 2 ^ 64) × (each (items_by read) l.index l.elements (items_marked l.items.items) ≡ reads_items read 0 l.fn.elements)
 
 abbrev pub decreases-value::read_items-step : goal.decreases-value::read_items-step
@@ -58,7 +65,7 @@ decreases-tuple::read_tuple_struct l = 8 * parts_nodes (parts_of l.parts.now) + 
 -- the values so far, and those of the parts that are left, are all
 abbrev pub invariant-tuple::read_parts-loop-place : goal.invariant-tuple::read_parts-loop-place
 invariant-tuple::read_parts-loop-place l =
-    result_map (items_before l.values.items) (reads_parts (parts_of (drop l.place l.parts)) l.place l.elements) ≡ reads_parts (parts_of l.parts) 0 l.fn.elements
+    result_map (items_before l.values.items) (reads_parts (settled_parts l.readable (parts_of (drop l.place l.parts))) l.place l.elements) ≡ reads_parts (settled_parts l.readable (parts_of l.parts)) 0 l.fn.elements
 
 abbrev pub decreases-map::read_at_key : goal.decreases-map::read_at_key
 decreases-map::read_at_key l = 8 * nodes l.shape.now + 1
@@ -73,7 +80,7 @@ decreases-map::read_map l = 8 * nodes l.item.now + 3
 abbrev pub invariant-map::read_entries-step : goal.invariant-map::read_entries-step
 invariant-map::read_entries-step l =
     IsIndexed l.entries × (form_view (key_form l.entries) ≡ l.fn.key)
-    × (each (entries_by (reads_key l.fn.key) (reads l.item)) 0 l.elements (entries_marked (entries_of l.entries)) ≡ reads_entries (reads_key l.fn.key) (reads l.item) l.fn.elements no_entries)
+    × (each (entries_by (reads_key l.fn.key) (reads (settled l.readable l.item))) 0 l.elements (entries_marked (entries_of l.entries)) ≡ reads_entries (reads_key l.fn.key) (reads (settled l.readable l.item)) l.fn.elements no_entries)
 
 abbrev pub decreases-map::read_entries-step : goal.decreases-map::read_entries-step
 decreases-map::read_entries-step l = count l.elements
@@ -114,7 +121,7 @@ decreases-structure::read_struct l = 8 * fields_nodes (fields_of l.fields.now) +
 -- what is left of the document fills the slots so far as the whole document fills empty ones
 abbrev pub invariant-structure::read_by_key-step : goal.invariant-structure::read_by_key-step
 invariant-structure::read_by_key-step l =
-    (l.index.items.now ≡ l.fields) × (l.slots.fields.now ≡ l.fields) × (each slots_by 0 l.elements (slots_view l.slots) ≡ fill l.fn.elements (slots_of (fields_of l.fields)))
+    (l.index.items.now ≡ l.fields) × (l.slots.fields.now ≡ l.fields) × (each slots_by 0 l.elements (slots_view l.slots) ≡ fill l.fn.elements (slots_of (settled_fields l.readable (fields_of l.fields))))
 
 abbrev pub decreases-structure::read_by_key-step : goal.decreases-structure::read_by_key-step
 decreases-structure::read_by_key-step l = count l.elements
@@ -122,4 +129,4 @@ decreases-structure::read_by_key-step l = count l.elements
 -- the values so far, and those of the fields that are left, are all
 abbrev pub invariant-structure::read_by_place-loop-place : goal.invariant-structure::read_by_place-loop-place
 invariant-structure::read_by_place-loop-place l =
-    result_map (values_before l.values.items) (reads_places l.place (slots_of (fields_of (drop l.place l.fields))) l.elements) ≡ reads_places 0 (slots_of (fields_of l.fields)) l.fn.elements
+    result_map (values_before l.values.items) (reads_places l.place (slots_of (settled_fields l.readable (fields_of (drop l.place l.fields)))) l.elements) ≡ reads_places 0 (slots_of (settled_fields l.readable (fields_of l.fields))) l.fn.elements

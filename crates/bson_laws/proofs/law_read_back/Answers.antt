@@ -4,4 +4,4 @@ use Rattle.bson_laws.proofs.ReadBack.{views_reads}
 use Rattle.bson_laws.proofs.law_read_back.Goals as goal
 
 pub returns : goal.returns
-returns c = record { reads = λ s d t shape plain fits means sound. views_reads s t (norm d) shape sound (views_means d s t plain fits means sound.clean) }
+returns c = record { reads = λ s d t shape plain fits means sound. views_reads s t (norm d) shape plain sound (views_means d s t plain fits means sound.clean) }

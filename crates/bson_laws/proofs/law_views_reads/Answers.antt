@@ -4,7 +4,7 @@ use Rattle.bson_laws.proofs.law_views_reads.Goals as goal
 
 pub returns : goal.returns
 returns c = record {
-  reads = λ s t d shape plain sound is. views_reads s t d shape sound is;
+  reads = λ s t d shape plain sound is. views_reads s t d shape plain sound is;
   fits = λ s t d shape plain sound is. views_fit s t d sound.clean is;
   normal = λ s t d shape plain sound is. norm_same s t d plain sound.clean is;
 }

@@ -9,7 +9,7 @@ use Rattle.bson_rawdoc.specs.Piece.{made}
 use Rattle.bson_shape.specs.ShapeView.{form_view}
 use Rattle.bson_datum.specs.Marked.{Marked}
 use Rattle.bson_datum.specs.MarkedView.{marked}
-use Rattle.bson_datum.specs.Refusal.{at_index, under, under_index}
+use Rattle.bson_datum.specs.Refusal.{at_index, under_index}
 use Rattle.bson_datum.specs.Value as value
 use Rattle.bson_laws.specs.Datum.{datum, pair_data}
 use Rattle.bson_laws.specs.Judged.{Reading, scope_key}
@@ -20,7 +20,7 @@ use Rattle.bson_laws.specs.Wrapped.{meaning}
 use Rattle.bson_laws.proofs.Tame.{judged_is}
 use Rattle.bson_met.specs.Gives.{Reaches}
 use Rattle.bson_met.specs.OpenedView.{extended_view}
-use Rattle.bson_met.specs.PieceView.{str_piece}
+use Rattle.bson_met.specs.PieceView.{str_piece, met_text}
 use Rattle.bson_met.specs.Sizes.{count, size, sizes, scope_size}
 use Rattle.bson_met.specs.ValueView.{value_view}
 use Rattle.bson_met.proofs.Refusals.{StopsAs, stops_inside}
@@ -147,7 +147,7 @@ after_code-returns-then-eq t c =
 
 pub read_extended_value-returns-in_err-scope : goal.read_extended_value-returns-in_err-scope
 read_extended_value-returns-in_err-scope t c =
-    let p = str_piece c.in-JavaScriptCodeWithScope.code in
+    let p = met_text c.in-JavaScriptCodeWithScope.code in
     let n = c.of_scope.result in
     let stop = c.in_err-scope.field-0.0 in
     let whole = ap (λ x. extended_at (extended_view x)) c.in-JavaScriptCodeWithScope.is ∙ ap (λ m. extended_at (node.javascript_code_with_scope p m)) (sym c.of_scope.ensures.node) ∙ extended_scoped p n in
@@ -156,12 +156,12 @@ read_extended_value-returns-in_err-scope t c =
 
 pub read_extended_value-returns : goal.read_extended_value-returns
 read_extended_value-returns t c =
-    let p = str_piece c.in-JavaScriptCodeWithScope.code in
+    let p = met_text c.in-JavaScriptCodeWithScope.code in
     let n = c.of_scope.result in
     let es = entries_marked c.in_ok-scope.scope.items in
     record {
       exact = ap (λ x. extended_at (extended_view x)) c.in-JavaScriptCodeWithScope.is ∙ ap (λ m. extended_at (node.javascript_code_with_scope p m)) (sym c.of_scope.ensures.node) ∙ extended_scoped p n
-          ∙ scoped_read p.bytes scope_key n es c.in_ok-scope.ensures.exact ∙ ap (λ b. Ok (scoped_datum b es)) (sym c.in_ok-code.ensures.ok) ∙ ap Ok (sym c.in_ok-scoped_code.ensures.datum);
+          ∙ scoped_read p.bytes scope_key n es c.in_ok-scope.ensures.exact ∙ ap (λ b. Ok (scoped_datum b es)) (sym c.in_ok-code.ensures.text) ∙ ap Ok (sym c.in_ok-scoped_code.ensures.datum);
     }
 
 pub read_entries-returns : goal.read_entries-returns

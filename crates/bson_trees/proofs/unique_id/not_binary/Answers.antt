@@ -33,12 +33,12 @@ returns c =
     let key = (str_piece s.key).bytes in
     let w = c.args.wrapper in
     let d = c.in_ok-value.value in
-    let stop = c.refused.result in
+    let stop = c.wrong_kind.result in
     let whole = wrapped_tree w key s.value c.args.rest in
     let m = map_ok (datum made) whole (marked d) c.in_ok-value.ensures.exact in
     let other = other_uuid m.0 (wrapped_other w c.requires.other key s.value c.args.rest (read_tree s.value) m.0 m.1) in
     record {
       exact = subst (λ (r : Reading Bytes). StopsAs stop r) (sym (ap (λ (r : Reading Tree). r >>= uuid_in) m.1 ∙ other))
           (refused_stops Bytes (wrong_kind (kind m.0)) stop
-          (subst (λ k. IsRefusedOrNoMemory (wrong_kind k) (stop_view read_fault stop)) (c.element_type.ensures.kind ∙ kind_is d m.0 m.2) c.refused.ensures.here));
+          (subst (λ k. IsRefusedOrNoMemory (wrong_kind k) (stop_view read_fault stop)) (kind_is d m.0 m.2) c.wrong_kind.ensures.here));
     }
