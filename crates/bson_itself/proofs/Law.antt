@@ -1,11 +1,11 @@
--- The law: a tree of its own form is read at `any` as a value that is written as this tree, so its bytes are written as they are.
-use Rattle.std.proofs.Common.{◌≡◌, ℕ, zero, suc, List, [], ◌∷◌, ◌++◌, length, true, false, cond, Ok, Err, refl, ap, sym, subst, ◌∙◌}
+-- The law at `any`: a tree of its own form is read as a value that is written as this tree, so its bytes are written as they are.
+use Rattle.std.proofs.Common.{◌≡◌, ℕ, zero, suc, List, [], ◌∷◌, ◌++◌, length, false, cond, Ok, Err, refl, ap, sym, subst, ◌∙◌, arith}
 use Rattle.std.proofs.lemmas.Bool.{le-ltb}
 use Rattle.bson_base.specs.Outcome.{◌>>=◌, result_map}
 use Rattle.bson_base.specs.Sound.{max_binary}
 use Rattle.bson_base.specs.Text.{Utf8}
 use Rattle.bson_base.specs.Tree as tree
-use Rattle.bson_base.specs.Tree.{Tree, double, string, document, array, binary, boolean, null, int32, int64, Pairs, no_pairs, pair, Trees, no_trees, kind, enc, behind_subtype}
+use Rattle.bson_base.specs.Tree.{Tree, double, string, document, array, binary, boolean, null, int32, int64, Pairs, no_pairs, pair, Trees, no_trees, behind_subtype}
 use Rattle.bson_rawdoc.specs.Node as node
 use Rattle.bson_rawdoc.specs.Node.{from_input, Node, Nodes, tree_node, pair_nodes, tree_nodes}
 use Rattle.bson_datum.specs.Value as value
@@ -19,8 +19,8 @@ use Rattle.bson_laws.specs.Judged.{Reading, judged}
 use Rattle.bson_laws.specs.ReadsLeaf.{put_entry, read_any, any_items, any_entries}
 use Rattle.bson_laws.specs.Spell.{spell, spell_items, spell_entries}
 use Rattle.bson_laws.proofs.Writable.{wide_small}
-use Rattle.bson_laws.proofs.Coded.{IsCoded, ArePairsCoded, AreTreesCoded}
 use Rattle.bson_itself.specs.Itself.{IsItself, ArePairsThemselves, AreTreesThemselves}
+use Rattle.bson_itself.specs.declared.untyped.UntypedLeaf.TheVariants.{Any}
 use Rattle.bson_keys.proofs.Distinct.{bytes_eq-swap}
 use Rattle.bson_itself.proofs.Names.{LacksAll, lacked_rest}
 
@@ -89,26 +89,26 @@ entries_of : (ns : Nodes) (ps : Pairs) (m : ℕ) → AreSameEntries ns ps [] m �
 entries_of ns ps m h = record { given = value.map h.given; read = ap (result_map value.map) (h.read no_entries refl); spelled = ap (result_map document) h.spelled }
 
 mutual
-  pub same_tree : (t : Tree) (levels : ℕ) → IsItself t levels → AtLevel t levels
+  pub same_tree : (t : Tree) (levels : ℕ) → IsItself Any t levels → AtLevel t levels
   same_tree (double b) levels h = record { given = value.double b; read = refl; spelled = refl }
   same_tree (string t) levels h = record { given = str (borrowed t); read = rw h refl; spelled = refl }
   same_tree (document ps) zero h = absurd h
   same_tree (document ps) (suc m) h = entries_of (pair_nodes from_input ps m) ps m (same_pairs ps [] m h tt)
   same_tree (array ts) zero h = absurd h
   same_tree (array ts) (suc m) h = items_of (tree_nodes from_input 0 ts m) ts m (same_trees ts 0 m h)
-  same_tree (binary zero b) levels h = record { given = value.bytes (borrowed b); read = refl; spelled = ap (λ c. cond c (Err (here (unwritable (binary_too_long (length (behind_subtype 0 b)))))) (Ok (binary 0 b))) (le-ltb (max_binary 0) (length b) h) }
-  same_tree (binary (suc n) b) levels h = absurd h
+  same_tree (binary zero b) levels h = record { given = value.bytes (borrowed b); read = refl; spelled = ap (λ c. cond c (Err (here (unwritable (binary_too_long (length (behind_subtype 0 b)))))) (Ok (binary 0 b))) (le-ltb (max_binary 0) (length b) h.1.fits) }
+  same_tree (binary (suc n) b) levels h = absurd (omega (arith, h.0))
   same_tree (boolean b) levels h = record { given = value.boolean b; read = refl; spelled = refl }
   same_tree null levels h = record { given = value.unit; read = refl; spelled = refl }
   same_tree (int32 n) levels h = record { given = value.integer value.i32 n; read = refl; spelled = refl }
   same_tree (int64 n) levels h = record { given = value.integer value.i64 n; read = refl; spelled = ap (λ b. cond b (Err (here (unsigned_exceeds n))) (Ok (int64 n))) (wide_small n h) }
   same_tree t levels h = absurd h
 
-  pub same_pairs : (ps : Pairs) (before : List Utf8) (levels : ℕ) → ArePairsThemselves ps levels → LacksAll before ps → AreSameEntries (pair_nodes from_input ps levels) ps before levels
+  pub same_pairs : (ps : Pairs) (before : List Utf8) (levels : ℕ) → ArePairsThemselves Any ps levels → LacksAll before ps → AreSameEntries (pair_nodes from_input ps levels) ps before levels
   same_pairs no_pairs before levels h lacked = record { given = no_entries; read = λ es keys. ap Ok (sym (behind_none es)); spelled = refl }
   same_pairs (pair key t ps) before levels h lacked =
-      let one = same_tree t levels h.3 in
-      let rest = same_pairs ps (before ++ key ∷ []) levels h.4 (lacked_rest before key t ps lacked h.2) in
+      let one = same_tree t levels h.4 in
+      let rest = same_pairs ps (before ++ key ∷ []) levels h.5 (lacked_rest before key t ps lacked h.3) in
       let ns = pair_nodes from_input ps levels in
       record {
         given = entry (str (borrowed key)) one.given rest.given;
@@ -120,34 +120,9 @@ mutual
         spelled = rw (h.1, one.spelled, rest.spelled) refl;
       }
 
-  pub same_trees : (ts : Trees) (index levels : ℕ) → AreTreesThemselves ts levels → AreSameItems (tree_nodes from_input index ts levels) ts index levels
+  pub same_trees : (ts : Trees) (index levels : ℕ) → AreTreesThemselves Any ts levels → AreSameItems (tree_nodes from_input index ts levels) ts index levels
   same_trees no_trees i levels h = record { given = no_items; read = refl; spelled = refl }
   same_trees (tree.tree t ts) i levels h =
       let one = same_tree t levels h.0 in
       let rest = same_trees ts (suc i) levels h.1 in
       record { given = item one.given rest.given; read = rw (one.read, rest.read) refl; spelled = rw (one.spelled, rest.spelled) refl }
-
--- ---- they are coded
-
-mutual
-  pub itself_coded : (t : Tree) (levels : ℕ) → IsItself t levels → IsCoded t
-  itself_coded (double b) levels h = h
-  itself_coded (string t) levels h = h
-  itself_coded (document ps) zero h = absurd h
-  itself_coded (document ps) (suc m) h = pairs_coded ps m h
-  itself_coded (array ts) zero h = absurd h
-  itself_coded (array ts) (suc m) h = trees_coded ts m h
-  itself_coded (binary n b) levels h = tt
-  itself_coded (boolean b) levels h = tt
-  itself_coded null levels h = tt
-  itself_coded (int32 n) levels h = h
-  itself_coded (int64 n) levels h = h
-  itself_coded t levels h = absurd h
-
-  pairs_coded : (ps : Pairs) (levels : ℕ) → ArePairsThemselves ps levels → ArePairsCoded ps
-  pairs_coded no_pairs levels h = tt
-  pairs_coded (pair key t ps) levels h = ((h.0, h.1), itself_coded t levels h.3, pairs_coded ps levels h.4)
-
-  trees_coded : (ts : Trees) (levels : ℕ) → AreTreesThemselves ts levels → AreTreesCoded ts
-  trees_coded no_trees levels h = tt
-  trees_coded (tree.tree t ts) levels h = (itself_coded t levels h.0, trees_coded ts levels h.1)

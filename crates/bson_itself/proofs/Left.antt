@@ -15,8 +15,9 @@ use Rattle.bson_base.specs.declared.element_type.ElementType.{ElementType}
 use Rattle.bson_base.proofs.Outcomes.{some_is}
 use Rattle.bson_rawdoc.specs.Extent.{in_front, cut_at_zero}
 use Rattle.bson_itself.specs.Encoded.{EncodesItself, ArePairs, AreTrees}
-use Rattle.bson_itself.specs.Itself.{ArePairsThemselves, AreTreesThemselves}
+use Rattle.bson_itself.specs.Itself.{ArePairsThemselves, AreTreesThemselves, IsTakenKey}
 use Rattle.bson_itself.specs.Keys.{IsKey}
+use Rattle.bson_itself.specs.declared.untyped.UntypedLeaf.{UntypedLeaf}
 use Rattle.bson_keys.proofs.Distinct.{distinct_last}
 use Rattle.bson_itself.proofs.Names.{LacksAll, lacked_last, lacked_pair}
 
@@ -37,43 +38,44 @@ byte_is b k e = byte_among b all_kinds k e
 -- ---- the elements that are left
 
 -- Whatever pairs the rest is, with them the whole is pairs, if the keys of those before them are different.
-abbrev pub PairsLeft : (whole : Bytes) → (levels : ℕ) → (before : List Utf8) → (rest : Bytes) → Type 0
-PairsLeft whole levels before rest = (ps : Pairs) → ArePairsThemselves ps levels → LacksAll before ps → elements ps ≡ rest → IsDistinct bytes_eq before → ArePairs levels whole
+abbrev pub PairsLeft : UntypedLeaf → (whole : Bytes) → (levels : ℕ) → (before : List Utf8) → (rest : Bytes) → Type 0
+PairsLeft leaf whole levels before rest = (ps : Pairs) → ArePairsThemselves leaf ps levels → LacksAll before ps → elements ps ≡ rest → IsDistinct bytes_eq before → ArePairs leaf levels whole
 
-pub pairs_first : (whole : Bytes) (levels : ℕ) → PairsLeft whole levels [] whole
-pairs_first whole levels ps all lacked is different = (ps, all, is)
+pub pairs_first : (leaf : UntypedLeaf) (whole : Bytes) (levels : ℕ) → PairsLeft leaf whole levels [] whole
+pairs_first leaf whole levels ps all lacked is different = (ps, all, is)
 
 none_lacked : (ks : List Utf8) → LacksAll ks no_pairs
 none_lacked [] = tt
 none_lacked (k ∷ ks) = (tt, none_lacked ks)
 
-pub pairs_end : (whole : Bytes) (levels : ℕ) (before : List Utf8) (rest : Bytes) → PairsLeft whole levels before rest → rest ≡ [] → IsDistinct bytes_eq before → ArePairs levels whole
-pairs_end whole levels before rest left none different = left no_pairs tt (none_lacked before) (sym none) different
+pub pairs_end : (leaf : UntypedLeaf) (whole : Bytes) (levels : ℕ) (before : List Utf8) (rest : Bytes) → PairsLeft leaf whole levels before rest → rest ≡ [] → IsDistinct bytes_eq before → ArePairs leaf levels whole
+pairs_end leaf whole levels before rest left none different = left no_pairs tt (none_lacked before) (sym none) different
 
 element_before : (k : ℕ) (key value more : Bytes) → (k ∷ (key ++ (0 ∷ value))) ++ more ≡ k ∷ (key ++ (0 ∷ (value ++ more)))
 element_before k key value more = ap (λ (b : Bytes). k ∷ b) (append_assoc key (0 ∷ value) more)
 
 -- one more: its kind, its key, its value
-pub pairs_step : (whole : Bytes) (levels : ℕ) (before : List Utf8) (k : ElementType) (key value rest : Bytes) → PairsLeft whole levels before (byte k ∷ (key ++ (0 ∷ (value ++ rest)))) → is_utf8 key ≡ true → has_zero key ≡ false
-    → EncodesItself k levels value → PairsLeft whole levels (before ++ key ∷ []) rest
-pairs_step whole levels before k key value rest left text closed one ps all lacked is different =
+pub pairs_step : (leaf : UntypedLeaf) (whole : Bytes) (levels : ℕ) (before : List Utf8) (k : ElementType) (key value rest : Bytes) → PairsLeft leaf whole levels before (byte k ∷ (key ++ (0 ∷ (value ++ rest)))) → is_utf8 key ≡ true
+    → has_zero key ≡ false → IsTakenKey leaf key → EncodesItself leaf k levels value → PairsLeft leaf whole levels (before ++ key ∷ []) rest
+pairs_step leaf whole levels before k key value rest left text closed taken one ps all lacked is different =
     let parts = distinct_last before key different in
-    left (pair key one.0 ps) (text, closed, lacked_last before key ps lacked, one.2, all) (lacked_pair before key one.0 ps parts.0 lacked)
+    left (pair key one.0 ps) (text, closed, taken, lacked_last before key ps lacked, one.2, all) (lacked_pair before key one.0 ps parts.0 lacked)
     (element_before (byte (kind one.0)) key (enc one.0) (elements ps)
     ∙ (λ i. byte (one.1 i) ∷ (key ++ (0 ∷ (one.3 i ++ is i))))) parts.1
 
 -- the same for arrays
-abbrev pub TreesLeft : (whole : Bytes) → (levels index : ℕ) → (rest : Bytes) → Type 0
-TreesLeft whole levels i rest = (ts : Trees) → AreTreesThemselves ts levels → array_elements i ts ≡ rest → AreTrees levels whole
+abbrev pub TreesLeft : UntypedLeaf → (whole : Bytes) → (levels index : ℕ) → (rest : Bytes) → Type 0
+TreesLeft leaf whole levels i rest = (ts : Trees) → AreTreesThemselves leaf ts levels → array_elements i ts ≡ rest → AreTrees leaf levels whole
 
-pub trees_first : (whole : Bytes) (levels : ℕ) → TreesLeft whole levels 0 whole
-trees_first whole levels ts all is = (ts, all, is)
+pub trees_first : (leaf : UntypedLeaf) (whole : Bytes) (levels : ℕ) → TreesLeft leaf whole levels 0 whole
+trees_first leaf whole levels ts all is = (ts, all, is)
 
-pub trees_end : (whole : Bytes) (levels i : ℕ) (rest : Bytes) → TreesLeft whole levels i rest → rest ≡ [] → AreTrees levels whole
-trees_end whole levels i rest left none = left no_trees tt (sym none)
+pub trees_end : (leaf : UntypedLeaf) (whole : Bytes) (levels i : ℕ) (rest : Bytes) → TreesLeft leaf whole levels i rest → rest ≡ [] → AreTrees leaf levels whole
+trees_end leaf whole levels i rest left none = left no_trees tt (sym none)
 
-pub trees_step : (whole : Bytes) (levels i : ℕ) (k : ElementType) (value rest : Bytes) → TreesLeft whole levels i (byte k ∷ (decimal i ++ (0 ∷ (value ++ rest)))) → EncodesItself k levels value → TreesLeft whole levels (suc i) rest
-trees_step whole levels i k value rest left one ts all is =
+pub trees_step : (leaf : UntypedLeaf) (whole : Bytes) (levels i : ℕ) (k : ElementType) (value rest : Bytes) → TreesLeft leaf whole levels i (byte k ∷ (decimal i ++ (0 ∷ (value ++ rest)))) → EncodesItself leaf k levels value
+    → TreesLeft leaf whole levels (suc i) rest
+trees_step leaf whole levels i k value rest left one ts all is =
     left (tree one.0 ts) (one.2, all)
     (element_before (byte (kind one.0)) (decimal i) (enc one.0) (array_elements (suc i) ts)
     ∙ (λ j. byte (one.1 j) ∷ (decimal i ++ (0 ∷ (one.3 j ++ is j)))))

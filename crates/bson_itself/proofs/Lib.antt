@@ -1,5 +1,9 @@
 pub mod Names
 pub mod Parts
 pub mod Left
+mod TwoParts
+mod Expressions
 mod Law
-mod Kept
+mod Bounds
+mod Given
+pub mod Kept

@@ -1,40 +1,67 @@
--- The trees that are written at `any` as they were read. Source: serde's data model, and bsonspec.org, version 1.1, `element`, `binary` and `string`.
-use Rattle.std.specs.Prelude.{◌≡◌, ℕ, zero, suc, ◌≤◌, length, true, false, FitsSigned}
+-- The trees that are written at `any`, or at `bson`, as they were read. Source: serde's data model, MongoDB's extended JSON, version 2, and bsonspec.org, version 1.1, `element`,
+-- `binary` and `string`.
+use Rattle.std.specs.Prelude.{◌≡◌, ℕ, zero, suc, ◌<◌, ◌^◌, true, false, None, FitsSigned}
 use Rattle.std.specs.Int.{w32, w64}
 use Rattle.std.specs.Str.{is_utf8}
-use Rattle.bson_base.specs.Sound.{max_binary, Lacks}
-use Rattle.bson_base.specs.Text.{Bytes, has_zero}
-use Rattle.bson_base.specs.Tree.{Tree, double, string, document, array, binary, boolean, null, int32, int64, Pairs, no_pairs, pair, Trees, no_trees, tree}
+use Rattle.bson_base.specs.Sorted.{sorted}
+use Rattle.bson_base.specs.Sound.{Lacks, HasBytes, IsBinary, IsZeroFree}
+use Rattle.bson_base.specs.Text.{Utf8, has_zero}
+use Rattle.bson_base.specs.Tree.{Tree, double, string, document, array, binary, undefined, object_id, boolean, date_time, null, regular_expression, db_pointer, javascript_code, symbol, javascript_code_with_scope, int32, timestamp, int64, decimal128, max_key, min_key, Pairs, no_pairs, pair, Trees, no_trees, tree}
+use Rattle.bson_datum.specs.Wrapper.{of_key}
+use Rattle.bson_itself.specs.declared.untyped.UntypedLeaf.{UntypedLeaf}
+use Rattle.bson_itself.specs.declared.untyped.UntypedLeaf.TheVariants.{Any, Bson}
 
--- a document or an array takes one of the levels that are left
+-- a document, an array or a scope takes one of the levels that are left
 abbrev pub OneLevel : (ℕ → Type 0) → (levels : ℕ) → Type 0
 OneLevel inside zero = ⊥
 OneLevel inside (suc levels) = inside levels
 
--- a binary of this subtype that is read as a byte string: one of subtype 0
-abbrev pub IsByteString : (subtype : ℕ) → Bytes → Type 0
-IsByteString zero b = length b ≤ max_binary 0
-IsByteString (suc subtype) b = ⊥
+-- an extended value, which `any` lacks
+abbrev pub AtBson : UntypedLeaf → Type 0 → Type 0
+AtBson Any taken = ⊥
+AtBson Bson taken = taken
+
+-- a key that is read as that key: at `bson` it is no wrapper key
+abbrev pub IsTakenKey : UntypedLeaf → Utf8 → Type 0
+IsTakenKey Any key = Unit {0}
+IsTakenKey Bson key = of_key key ≡ None
+
+-- the subtype of a binary that is read as one: at `any` it is 0, that of a byte string
+abbrev pub IsTakenSubtype : UntypedLeaf → ℕ → Type 0
+IsTakenSubtype Any subtype = subtype ≡ 0
+IsTakenSubtype Bson subtype = Unit {0}
 
 abbrev mutual
-  -- A tree that is read at `any` as a value that is written as this tree, with so many levels left: it has no extended value, its texts are UTF-8, and the keys of
-  -- each document are different. (The keys of arrays are no part of a tree.) It is a clean tree (`IsClean`) of fewer kinds and within the levels, whose keys may begin with `$`.
-  pub IsItself : Tree → (levels : ℕ) → Type 0
-  IsItself (double b) levels = length b ≡ 8
-  IsItself (string t) levels = is_utf8 t ≡ true
-  IsItself (document ps) levels = OneLevel (ArePairsThemselves ps) levels
-  IsItself (array ts) levels = OneLevel (AreTreesThemselves ts) levels
-  IsItself (binary subtype b) levels = IsByteString subtype b
-  IsItself (boolean b) levels = Unit {0}
-  IsItself null levels = Unit {0}
-  IsItself (int32 n) levels = FitsSigned w32 n
-  IsItself (int64 n) levels = FitsSigned w64 n
-  IsItself t levels = ⊥
+  -- A tree that is read at the leaf as a value that is written as this tree, with so many levels left: its texts are UTF-8, the keys of each document are different, and at `any` it has
+  -- no extended value, at `bson` no wrapper key and no options out of order. (The keys of arrays are no part of a tree.) It is a clean tree (`IsClean`) within the levels, whose keys may
+  -- begin with `$`.
+  pub IsItself : UntypedLeaf → Tree → (levels : ℕ) → Type 0
+  IsItself leaf (double b) levels = HasBytes 8 b
+  IsItself leaf (string t) levels = is_utf8 t ≡ true
+  IsItself leaf (document ps) levels = OneLevel (ArePairsThemselves leaf ps) levels
+  IsItself leaf (array ts) levels = OneLevel (AreTreesThemselves leaf ts) levels
+  IsItself leaf (binary subtype b) levels = IsTakenSubtype leaf subtype × IsBinary subtype b
+  IsItself leaf undefined levels = AtBson leaf (Unit {0})
+  IsItself leaf (object_id id) levels = AtBson leaf (HasBytes 12 id)
+  IsItself leaf (boolean b) levels = Unit {0}
+  IsItself leaf (date_time n) levels = AtBson leaf (FitsSigned w64 n)
+  IsItself leaf null levels = Unit {0}
+  IsItself leaf (regular_expression pattern options) levels = AtBson leaf (IsZeroFree pattern × IsZeroFree options × (sorted options ≡ options))
+  IsItself leaf (db_pointer namespace id) levels = AtBson leaf ((is_utf8 namespace ≡ true) × HasBytes 12 id)
+  IsItself leaf (javascript_code t) levels = AtBson leaf (is_utf8 t ≡ true)
+  IsItself leaf (symbol t) levels = AtBson leaf (is_utf8 t ≡ true)
+  IsItself leaf (javascript_code_with_scope code scope) levels = AtBson leaf ((is_utf8 code ≡ true) × OneLevel (ArePairsThemselves leaf scope) levels)
+  IsItself leaf (int32 n) levels = FitsSigned w32 n
+  IsItself leaf (timestamp time increment) levels = AtBson leaf ((time < 2 ^ 32) × (increment < 2 ^ 32))
+  IsItself leaf (int64 n) levels = FitsSigned w64 n
+  IsItself leaf (decimal128 b) levels = AtBson leaf (HasBytes 16 b)
+  IsItself leaf max_key levels = AtBson leaf (Unit {0})
+  IsItself leaf min_key levels = AtBson leaf (Unit {0})
 
-  pub ArePairsThemselves : Pairs → (levels : ℕ) → Type 0
-  ArePairsThemselves no_pairs levels = Unit {0}
-  ArePairsThemselves (pair key t ps) levels = (is_utf8 key ≡ true) × (has_zero key ≡ false) × Lacks key ps × IsItself t levels × ArePairsThemselves ps levels
+  pub ArePairsThemselves : UntypedLeaf → Pairs → (levels : ℕ) → Type 0
+  ArePairsThemselves leaf no_pairs levels = Unit {0}
+  ArePairsThemselves leaf (pair key t ps) levels = (is_utf8 key ≡ true) × (has_zero key ≡ false) × IsTakenKey leaf key × Lacks key ps × IsItself leaf t levels × ArePairsThemselves leaf ps levels
 
-  pub AreTreesThemselves : Trees → (levels : ℕ) → Type 0
-  AreTreesThemselves no_trees levels = Unit {0}
-  AreTreesThemselves (tree t ts) levels = IsItself t levels × AreTreesThemselves ts levels
+  pub AreTreesThemselves : UntypedLeaf → Trees → (levels : ℕ) → Type 0
+  AreTreesThemselves leaf no_trees levels = Unit {0}
+  AreTreesThemselves leaf (tree t ts) levels = IsItself leaf t levels × AreTreesThemselves leaf ts levels

@@ -18,10 +18,9 @@ use Rattle.bson_shape.proofs.Names.{field_names_are}
 use Rattle.bson_datum.specs.Marked.{Marked, field_contents}
 use Rattle.bson_datum.specs.Value.{none}
 use Rattle.bson_laws.specs.Judged.{ignores}
-use Rattle.bson_laws.specs.Reads.{reads, slots_of}
+use Rattle.bson_laws.specs.CompactReads.{reads, slots_of, missing_value}
 use Rattle.bson_laws.specs.Slots.{Slots, fill, finish, put_at, value_or}
 use Rattle.bson_laws.specs.Spell.{spell_fields}
-use Rattle.bson_laws.specs.Views.{absent}
 use Rattle.bson_one_pass.specs.Found.{name_of, names, IsField, slots_with, AreReadAs, IsNoted, AreFound, AreWritten, IsFoundPut, AreFoundPut, AreOthersPut}
 use Rattle.bson_one_pass.specs.Free.{is_free}
 use Rattle.bson_one_pass.specs.Put.{recast_by, recast_node, IsElementPut, ArePairsPut}
@@ -171,7 +170,7 @@ if_element_put levels f e made new None closed put = tt
 if_element_put levels f e made new (Some x) closed put = element_put levels f e made new closed put
 
 -- a field that has none
-pub if_missing_put : {A : Type 0} (levels : ℕ) (f : FieldShape) (made new : Bytes) (r : Option A) → IfSome r (λ _. has_zero (name_of f) ≡ false) → IfSome r (λ _. absent {T = Piece} f.shape ≡ Some none) → IfSome r (λ _. new ≡ made ++ element Null (name_of f) [])
+pub if_missing_put : {A : Type 0} (levels : ℕ) (f : FieldShape) (made new : Bytes) (r : Option A) → IfSome r (λ _. has_zero (name_of f) ≡ false) → IfSome r (λ _. missing_value {T = Piece} f.shape ≡ Some none) → IfSome r (λ _. new ≡ made ++ element Null (name_of f) [])
     → IfSome r (λ _. IsFoundPut levels f None made new)
 if_missing_put levels f made new None closed none_there put = tt
 if_missing_put levels f made new (Some x) closed none_there put = (

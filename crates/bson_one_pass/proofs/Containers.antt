@@ -17,7 +17,7 @@ use Rattle.bson_datum.specs.Marked.{contents, item_contents, field_contents}
 use Rattle.bson_datum.specs.Value as value
 use Rattle.bson_laws.specs.Containers.{reads_items}
 use Rattle.bson_laws.specs.Judged.{Reading}
-use Rattle.bson_laws.specs.Reads.{reads, slots_of}
+use Rattle.bson_laws.specs.CompactReads.{reads, slots_of}
 use Rattle.bson_laws.specs.Slots.{fill, finish}
 use Rattle.bson_laws.specs.Spell.{Writing, spell, spell_items, spell_fields}
 use Rattle.bson_one_pass.specs.Put.{of_writing, recast_by, recast_node, recast_items, recast_fields, ArePut, IsPut, AreItemsPut, ArePairsPut}

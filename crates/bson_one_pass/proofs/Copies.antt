@@ -1,5 +1,5 @@
 -- Values whose bytes are kept.
-use Rattle.std.proofs.Common.{◌≡◌, ℕ, ◌^◌, ◌<◌, ◌≤◌, ◌++◌, length, false, Result, Ok, Err, refl, ap, sym, subst, ◌∙◌, arith}
+use Rattle.std.proofs.Common.{◌≡◌, ℕ, ◌^◌, ◌<◌, ◌≤◌, ◌++◌, [], length, false, Result, Ok, Err, refl, ap, sym, subst, ◌∙◌, arith}
 use Rattle.std.specs.Option.{IfSome}
 use Rattle.std.specs.Result.{IfOk, result_ok}
 use Rattle.bson_base.specs.Outcome.{result_map}
@@ -12,20 +12,36 @@ use Rattle.bson_rawdoc.specs.Envelope.{envelope}
 use Rattle.bson_rawdoc.specs.Node.{node_in}
 use Rattle.bson_shape.specs.Form.{Form}
 use Rattle.bson_datum.specs.Cause.{raw}
-use Rattle.bson_datum.specs.Marked.{contents}
+use Rattle.bson_datum.specs.Marked.{Marked, contents}
 use Rattle.bson_datum.specs.Refusal.{bare, unreadable}
-use Rattle.bson_laws.specs.Reads.{reads, answered}
-use Rattle.bson_laws.specs.Spell.{spell, at_top}
+use Rattle.bson_laws.specs.CompactReads.{reads}
+use Rattle.bson_laws.specs.Judged.{Reading}
+use Rattle.bson_laws.specs.Reads.{answered}
+use Rattle.bson_laws.specs.Spell.{Writing, spell, at_top}
 use Rattle.bson_laws.proofs.ReadBack.{envelope_again}
 use Rattle.bson_laws.proofs.Sizes.{spell_kind}
 use Rattle.bson_itself.specs.Kept.{IsWrittenAsRead}
 use Rattle.bson_one_pass.specs.Put.{of_writing, recast_by, recast_node, IsPut}
 use Rattle.bson_one_pass.specs.Recast.{IsRecastAs}
+use Rattle.bson_one_pass.specs.Run.{IsKept}
 
 -- what is kept is recast as its bytes
 pub kept_put : (s : Form) (levels : ℕ) (k : ElementType) (b old new : Bytes) → IsWrittenAsRead s levels k b → new ≡ old ++ b → IsPut (recast_node s levels (node_in levels k b)) old new k
 kept_put s levels k b old new h put =
     subst (λ o. IsPut o old new k) (sym (ap (recast_by (λ v. spell (contents v) levels)) h.read ∙ ap of_writing h.spelled)) (h.kind_is, put ∙ ap (λ (x : Bytes). old ++ x) (sym h.encoded))
+
+-- what is kept is read as a value that is written as its bytes
+module _ (s : Form) (levels : ℕ) (k : ElementType) (b : Bytes) where
+  spelled_so : (v : Marked) (w : Writing Tree) → reads s (node_in levels k b) ≡ Ok v → spell (contents v) levels ≡ w → IsPut (of_writing w) [] b k → IsWrittenAsRead s levels k b
+  spelled_so v (Err r) read is h = absurd h
+  spelled_so v (Ok t) read is h = record { given = v; tree = t; read = read; spelled = is; kind_is = h.0; encoded = sym h.1 }
+
+  read_so : (r : Reading Marked) → reads s (node_in levels k b) ≡ r → IsPut (recast_by (λ v. spell (contents v) levels) r) [] b k → IsWrittenAsRead s levels k b
+  read_so (Err e) is h = absurd h
+  read_so (Ok v) is h = spelled_so v (spell (contents v) levels) is refl h
+
+  pub kept_written : IsKept s levels k b → IsWrittenAsRead s levels k b
+  kept_written h = read_so (reads s (node_in levels k b)) refl h
 
 -- ---- a whole document
 
@@ -33,8 +49,8 @@ document_of : (t : Tree) → kind t ≡ EmbeddedDocument → (ps : Pairs) × (t 
 document_of (document ps) e = (ps, refl)
 document_of t e = absurd cc
 
-pub document_kept : (s : Form) (b made : Bytes) → IsWrittenAsRead s max_levels EmbeddedDocument b → length b ≤ max_bytes → made ≡ b → IsRecastAs s b made
-document_kept s b made h few copied =
+pub document_copied : (s : Form) (b made : Bytes) → IsWrittenAsRead s max_levels EmbeddedDocument b → length b ≤ max_bytes → made ≡ b → IsRecastAs s b made
+document_copied s b made h few copied =
     let d = document_of h.tree h.kind_is in
     let is : enc (document d.0) ≡ b = ap enc (sym d.1) ∙ h.encoded in
     let short : length (enc (document d.0)) < 2 ^ 31 = subst (λ (x : Bytes). length x < 2 ^ 31) (sym is) (omega (arith, few)) in

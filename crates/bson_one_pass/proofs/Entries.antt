@@ -19,7 +19,7 @@ use Rattle.bson_datum.specs.Same.{same}
 use Rattle.bson_datum.specs.Value as value
 use Rattle.bson_datum.specs.Value.{str, no_entries, entry}
 use Rattle.bson_laws.specs.Containers.{reads_key, reads_entries}
-use Rattle.bson_laws.specs.Reads.{reads}
+use Rattle.bson_laws.specs.CompactReads.{reads}
 use Rattle.bson_laws.specs.ReadsLeaf.{put_entry}
 use Rattle.bson_laws.specs.Spell.{spell, spell_entries}
 use Rattle.bson_keys.specs.New.{is_new}

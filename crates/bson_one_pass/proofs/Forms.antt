@@ -6,7 +6,7 @@ use Rattle.bson_base.specs.Text.{Utf8}
 use Rattle.bson_base.specs.Tree as tree
 use Rattle.bson_rawdoc.specs.Node.{Node, string}
 use Rattle.bson_rawdoc.specs.Piece.{borrowed, made}
-use Rattle.bson_shape.specs.Form.{Form, newtype, enumeration, Variants, Content, unit_content, newtype_content, tuple_content, struct_content}
+use Rattle.bson_shape.specs.Form.{Form, newtype, enumeration, Variants, no_variants, variant, Content, unit_content, newtype_content, tuple_content, struct_content}
 use Rattle.bson_shape.specs.Makers.{is_reserved_newtype, is_unit}
 use Rattle.bson_shape.specs.ShapeView as shape_view
 use Rattle.bson_shape.specs.ShapeView.{variants_of}
@@ -14,7 +14,8 @@ use Rattle.bson_shape.specs.declared.shape.VariantShape.{VariantShape}
 use Rattle.bson_datum.specs.Marked.{Marked, contents}
 use Rattle.bson_datum.specs.Value as value
 use Rattle.bson_laws.specs.Judged.{Reading}
-use Rattle.bson_laws.specs.Reads.{reads}
+use Rattle.bson_laws.specs.CompactReads.{reads}
+use Rattle.bson_laws.specs.Settled.{settled_variants, settled_content}
 use Rattle.bson_laws.specs.Spell.{spell}
 use Rattle.bson_laws.specs.Variants.{content_of}
 use Rattle.bson_laws.proofs.Free.{free_spelled}
@@ -48,6 +49,18 @@ pub names_is : (vs : List VariantShape) (name : Utf8) → names_unit name vs ≡
 names_is [] name e = absurd cc
 names_is (v ∷ vs) name e = named_unit (bytes_eq (string_bytes v.name) name) (shape_view.content_of v.content) (names_unit name vs) (content_of (variants_of vs) name) (names_is vs name) e
 
+-- a unit variant has its name alone for each reader
+settled_either : (b : Bool) (c : Content) (o p : Option Content) → (o ≡ Some unit_content → p ≡ Some unit_content) → cond b (Some c) o ≡ Some unit_content → cond b (Some (settled_content false c)) p ≡ Some unit_content
+settled_either true unit_content o p others e = refl
+settled_either true (newtype_content s) o p others e = absurd cc
+settled_either true (tuple_content ps) o p others e = absurd cc
+settled_either true (struct_content fs) o p others e = absurd cc
+settled_either false c o p others e = others e
+
+settled_unit : (vs : Variants) (name : Utf8) → content_of vs name ≡ Some unit_content → content_of (settled_variants false vs) name ≡ Some unit_content
+settled_unit no_variants name e = absurd cc
+settled_unit (variant n c vs) name e = settled_either (bytes_eq n name) c (content_of vs name) (content_of (settled_variants false vs) name) (settled_unit vs name) e
+
 -- the name of a unit variant is written as it is
 pub unit_read : (vs : Variants) (name : Utf8) (levels : ℕ) → is_utf8 name ≡ true → content_of vs name ≡ Some unit_content → recast_node (enumeration vs) levels (string (borrowed name)) ≡ Some (tree.string name)
-unit_read vs name levels text found = rw (text, found) refl
+unit_read vs name levels text found = rw (text, settled_unit vs name found) refl

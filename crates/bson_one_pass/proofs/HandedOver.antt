@@ -11,7 +11,7 @@ use Rattle.bson_datum.specs.Value.{kind_as}
 use Rattle.bson_datum.specs.View.{view}
 use Rattle.bson_datum.specs.declared.datum.Datum.{Datum}
 use Rattle.bson_datum.proofs.Marks.{marked-contents}
-use Rattle.bson_laws.specs.Reads.{reads}
+use Rattle.bson_laws.specs.CompactReads.{reads}
 use Rattle.bson_laws.specs.Spell.{Writing, spell, spell_as}
 use Rattle.bson_laws.proofs.Sizes.{spell_kind}
 use Rattle.bson_ser_stream.specs.Writing.{with_tree}

@@ -15,7 +15,7 @@ use Rattle.bson_datum.specs.Refusal.{under_index}
 use Rattle.bson_datum.specs.Value.{item}
 use Rattle.bson_laws.specs.Containers.{reads_items}
 use Rattle.bson_laws.specs.Judged.{Reading}
-use Rattle.bson_laws.specs.Reads.{reads}
+use Rattle.bson_laws.specs.CompactReads.{reads}
 use Rattle.bson_laws.specs.Spell.{Writing, spell, spell_items}
 use Rattle.bson_one_pass.specs.Put.{of_writing, recast_by, recast_node, recast_items, IsElementPut, AreItemsPut}
 

@@ -20,7 +20,7 @@ use Rattle.bson_datum.specs.Value.{str, i32, i64, in_range}
 use Rattle.bson_datum.specs.Cause.{out_of_range}
 use Rattle.bson_laws.specs.Datum.{datum, sorted_tree, uuid_datum}
 use Rattle.bson_laws.specs.Judged.{refused}
-use Rattle.bson_laws.specs.Reads.{reads}
+use Rattle.bson_laws.specs.CompactReads.{reads}
 use Rattle.bson_laws.specs.Spell.{spell}
 use Rattle.bson_laws.proofs.Coded.{IsCoded, clean_coded}
 use Rattle.bson_laws.proofs.Codec.{seen_again}

@@ -13,7 +13,9 @@ mod Forms
 mod Containers
 mod Tuples
 mod Entries
+mod Variants
 mod Whole
 mod Copies
 mod Passed
 mod HandedOver
+mod KnownNames

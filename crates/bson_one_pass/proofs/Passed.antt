@@ -5,7 +5,7 @@ use Rattle.bson_base.specs.Outcome.{◌>>=◌}
 use Rattle.bson_base.specs.Text.{Bytes, Utf8}
 use Rattle.bson_base.specs.declared.element_type.ElementType.TheVariants as kinds
 use Rattle.bson_rawdoc.specs.Node as node
-use Rattle.bson_rawdoc.specs.Node.{Nodes, ended, then_node, inner_node, node_in, nodes_with, opens}
+use Rattle.bson_rawdoc.specs.Node.{ended, inner_node, node_in, nodes_with, opens}
 use Rattle.bson_rawdoc.specs.Piece.{borrowed}
 use Rattle.bson_rawdoc.specs.Walk.{Element, Walk, then_walk, walk}
 use Rattle.bson_datum.specs.Refusal.{inside, under}

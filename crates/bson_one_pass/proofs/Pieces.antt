@@ -1,5 +1,5 @@
 -- Bytes that are written over the place of a kind and of a length.
-use Rattle.std.proofs.Common.{◌≡◌, ℕ, ◌+◌, ◌-◌, ◌≤◌, [], ◌∷◌, ◌++◌, length, take, drop, Option, Some, None, subst, ap, sym, ◌∙◌, arith}
+use Rattle.std.proofs.Common.{◌≡◌, ℕ, ◌+◌, ◌-◌, ◌<◌, ◌≤◌, [], ◌∷◌, ◌++◌, length, take, drop, Option, Some, None, subst, ap, sym, ◌∙◌, arith}
 use Rattle.std.proofs.lemmas.List.{append_assoc, length-append, length-drop, take-append-le, drop-append-le}
 use Rattle.std.proofs.Math.Seq.{take-append_seam, drop-append-add}
 use Rattle.bson_base.specs.Kind.{byte}
@@ -46,3 +46,8 @@ item_put None p first key k place old with_front made new is at front h set = ab
 item_put (Some t) p first key k place old with_front made new is at front h set =
     subst (λ (o : Option Tree). IsElementPut o key old new) (sym is)
     (set ∙ ap (λ n. take n made ++ (byte k ∷ drop (n + 1) made)) at ∙ element_is old made with_front first key (enc t) k front h.1 ∙ ap (λ kk. old ++ element kk key (enc t)) (sym h.0))
+
+-- there is a place for the kind in front of a value
+pub put_within : (o : Option Tree) (old with_front made : Bytes) (first : ℕ) (rest : Bytes) (k : ElementType) → with_front ≡ old ++ (first ∷ rest) → IsPut o with_front made k → length old < length made
+put_within None old with_front made first rest k front h = absurd h
+put_within (Some t) old with_front made first rest k front h = omega (arith, ap length h.1, length-append with_front (enc t), ap length front, length-append old (first ∷ rest))

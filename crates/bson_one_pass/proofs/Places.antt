@@ -19,10 +19,9 @@ use Rattle.bson_shape.proofs.Names.{repeat_found, field_names_are}
 use Rattle.bson_datum.specs.Marked.{Marked, contents}
 use Rattle.bson_datum.specs.Value.{none}
 use Rattle.bson_laws.specs.Judged.{Reading, ignores}
-use Rattle.bson_laws.specs.Reads.{reads, slots_of}
+use Rattle.bson_laws.specs.CompactReads.{reads, slots_of, missing_value}
 use Rattle.bson_laws.specs.Slots.{Slot, Slots, value_or}
 use Rattle.bson_laws.specs.Spell.{Writing, spell}
-use Rattle.bson_laws.specs.Views.{absent}
 use Rattle.bson_one_pass.specs.Free.{is_free}
 use Rattle.bson_one_pass.specs.Put.{of_writing, recast_by, recast_node, recast_fields, IsElementPut, ArePairsPut}
 use Rattle.bson_one_pass.specs.Found.{name_of, names, AreWritten}
@@ -30,7 +29,7 @@ use Rattle.bson_one_pass.proofs.Fields.{LacksName, names-append, filled, put_dro
 
 -- the slot of a field
 abbrev pub slot_of : FieldShape → Slot
-slot_of f = record { name = string_bytes f.name; missing = absent f.shape; read = reads f.shape; value = None }
+slot_of f = record { name = string_bytes f.name; missing = missing_value f.shape; read = reads f.shape; value = None }
 
 -- The fields up to a place were written: what is left of the document fills the other slots, and these bytes were appended.
 pub record AreUnderWay (fs : List FieldShape) (levels : ℕ) (whole : Option Pairs) (ns : Nodes) (place : ℕ) (old made : Bytes) : Type 0 where
@@ -156,7 +155,7 @@ module _ (fs : List FieldShape) (levels : ℕ) (whole : Option Pairs) (place : �
       }
 
   -- a field that no element has
-  pub missing_step : (f : FieldShape) (new : Bytes) → AreUnderWay fs levels whole ended place old made → place < length fs → f ≡ get_or fs place f → has_zero (name_of f) ≡ false → absent {T = Piece} f.shape ≡ Some none
+  pub missing_step : (f : FieldShape) (new : Bytes) → AreUnderWay fs levels whole ended place old made → place < length fs → f ≡ get_or fs place f → has_zero (name_of f) ≡ false → missing_value {T = Piece} f.shape ≡ Some none
       → new ≡ made ++ element Null (name_of f) [] → AreUnderWay fs levels whole ended (place + 1) old new
   missing_step f new p lt got closed none_there h =
       let s = slot_of f in

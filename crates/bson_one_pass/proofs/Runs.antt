@@ -1,8 +1,8 @@
 -- Elements in bytes one behind another, and runs of them.
 use Rattle.std.proofs.Common.{◌≡◌, ℕ, zero, suc, ◌+◌, ◌-◌, ◌≤◌, [], ◌∷◌, ◌++◌, length, take, drop, Bool, true, false, cond, Option, Some, None, Result, Ok, Err, refl, ap, sym, subst, ◌∙◌, arith}
-use Rattle.std.specs.Prelude.{nat_lt, not}
-use Rattle.std.specs.Str.{is_utf8, bytes_eq}
-use Rattle.std.proofs.lemmas.List.{append_assoc, append-nil, length-append, take-append-drop, take_at, drop_at, drop-drop, length-drop, take-take, take_rest}
+use Rattle.std.specs.Prelude.{nat_lt}
+use Rattle.std.specs.Str.{is_utf8}
+use Rattle.std.proofs.lemmas.List.{append_assoc, append-nil, length-append, take-append-drop, take_at, drop_at, drop-drop, length-drop, take-take, take_rest, drop_all}
 use Rattle.bson_base.specs.Kind.{byte, of_byte}
 use Rattle.bson_base.specs.Text.{Bytes, Utf8, has_zero}
 use Rattle.bson_base.specs.Tree.{Tree, element}
@@ -160,6 +160,13 @@ pub next_changed : (o : Option Tree) (key : Utf8) (bytes : Bytes) (from at n : �
 next_changed o key bytes from at n made flushed new put h =
     subst (λ (x : Bytes). IsElementPut o key (made ++ run bytes from at) x) (sym (ap (λ (x : Bytes). new ++ x) (run_none bytes n) ∙ append-nil new)) (subst (λ (x : Bytes). IsElementPut o key x new) put h)
 
+-- the one element of bytes, and the run in which it may be left
+pub run_put : (o : Option Tree) (key : Utf8) (bytes : Bytes) (from behind n : ℕ) (old made new : Bytes) → behind ≡ n → IsElementPut o key (old ++ run bytes 0 0) (made ++ run bytes from (0 + n)) → new ≡ made ++ run bytes from behind → IsElementPut o key old new
+run_put o key bytes from behind n old made new is h put =
+    let there : behind ≡ 0 + n = omega (arith, is) in
+    subst (λ (x : Bytes). IsElementPut o key x new) (ap (λ (x : Bytes). old ++ x) (run_none bytes 0) ∙ append-nil old)
+    (subst (λ (x : Bytes). IsElementPut o key (old ++ run bytes 0 0) x) (sym (put ∙ ap (λ m. made ++ run bytes from m) there)) h)
+
 -- ---- steps
 
 -- the bytes behind a place
@@ -173,15 +180,12 @@ first_at bytes at e first = subst (λ (x : Bytes). IsFirst x e) (sym (take_rest 
 pub walk_next : (bytes : Bytes) (at n : ℕ) (e : Element) → IsHead (drop at bytes) e → n ≡ size e → walk_elements (drop at bytes) ≡ then_walk e (walk_elements (drop (at + n) bytes))
 walk_next bytes at n e head is = head.behind ∙ ap (λ m. then_walk e (walk_elements (drop m (drop at bytes)))) (sym is) ∙ ap (λ (x : Bytes). then_walk e (walk_elements x)) (drop-drop n at bytes)
 
+-- no element is left behind the last byte
+pub walk_over : (bytes : Bytes) (at : ℕ) → length bytes ≤ at → walk_elements (drop at bytes) ≡ ended
+walk_over bytes at all = ap walk_elements (drop_all at bytes all) ∙ walk-nil
+
 pub next_within : (bytes : Bytes) (at n : ℕ) (e : Element) → at ≤ length bytes → IsHead (drop at bytes) e → n ≡ size e → at + n ≤ length bytes
 next_within bytes at n e within head is = omega (arith, head.fits, is, length-drop at bytes)
-
--- two keys that do not differ
-pub is_same : (a b : Utf8) → false ≡ not (bytes_eq a b) → bytes_eq a b ≡ true
-is_same a b e = not_false (bytes_eq a b) e where
-  not_false : (c : Bool) → false ≡ not c → c ≡ true
-  not_false true e = refl
-  not_false false e = absurd cc
 
 -- nothing is left of a run that was written
 pub run_written : (bytes made flushed : Bytes) (from at : ℕ) → flushed ≡ made ++ run bytes from at → (n : ℕ) → flushed ++ run bytes n n ≡ made ++ run bytes from at

@@ -8,18 +8,19 @@ use Rattle.bson_rawdoc.specs.Node.{node_in, nodes_with}
 use Rattle.bson_rawdoc.specs.Walk.{Element, walk_elements}
 use Rattle.bson_shape.specs.Form.{Form}
 use Rattle.bson_shape.specs.Makers.{AreDistinct}
-use Rattle.bson_shape.specs.ShapeView.{fields_of}
+use Rattle.bson_shape.specs.ShapeView.{fields_of, parts_of}
 use Rattle.bson_shape.specs.declared.leaf.Leaf.{Leaf}
 use Rattle.bson_shape.specs.declared.shape.FieldShape.{FieldShape}
 use Rattle.bson_keys.specs.New.{is_new}
 use Rattle.bson_one_pass.specs.Free.{takes_keys}
 use Rattle.bson_one_pass.specs.Found.{name_of}
-use Rattle.bson_one_pass.specs.Put.{recast_node, recast_items, IsElementPut}
+use Rattle.bson_one_pass.specs.Put.{recast_node, recast_items, recast_parts, IsElementPut}
 use Rattle.bson_one_pass.specs.Run.{IsHead, IsKept, run, size}
 use Rattle.bson_one_pass.proofs.Entries.{AreEntriesPut, entry_step}
 use Rattle.bson_one_pass.proofs.Items.{AreLeft, item_step}
 use Rattle.bson_one_pass.proofs.Places.{AreUnderWay, due_step, same_name}
 use Rattle.bson_one_pass.proofs.Runs.{walk_next, next_kept}
+use Rattle.bson_one_pass.proofs.Tuples.{part_at_put}
 
 -- the element of the field that is due
 pub next_due : (fs : List FieldShape) (levels : ℕ) (whole : Option Pairs) (place at n : ℕ) (bytes : Bytes) (e : Element) (f : FieldShape) (old made new : Bytes)
@@ -53,6 +54,21 @@ pub next_item_kept : (s : Form) (levels i j : ℕ) (whole : Option Trees) (at n 
 next_item_kept s levels i j whole at n bytes e before head is index next kept =
     let put = subst (λ m. IsElementPut (recast_node s levels (node_in levels e.kind e.value)) e.key (run bytes 0 at) (run bytes 0 (at + m))) (sym is) (next_kept s levels bytes 0 at e [] (omega arith) head kept) in
     next_item s levels i j whole at n bytes e e.key [] (run bytes 0 at) (run bytes 0 (at + n)) before head is index next put
+
+-- the part of a tuple that is due
+pub next_part : (ss : List Form) (s : Form) (levels i : ℕ) (whole : Option Trees) (at n : ℕ) (bytes : Bytes) (e : Element) (key : Utf8) (old made new : Bytes) → i < length ss → s ≡ get_or ss i s
+    → AreLeft whole (recast_parts (parts_of (drop i ss)) levels i (nodes_with (node_in levels) (walk_elements (drop at bytes)))) i old made → IsHead (drop at bytes) e → n ≡ size e → key ≡ decimal i
+    → IsElementPut (recast_node s levels (node_in levels e.kind e.value)) key made new → AreLeft whole (recast_parts (parts_of (drop (i + 1) ss)) levels (i + 1) (nodes_with (node_in levels) (walk_elements (drop (at + n) bytes)))) (i + 1) old new
+next_part ss s levels i whole at n bytes e key old made new lt got before head is index put =
+    part_at_put ss s levels i (walk_elements (drop at bytes)) (walk_elements (drop (at + n) bytes)) e whole key old made new lt got (walk_next bytes at n e head is) index before put
+
+-- the same, where it is left in the run from the first byte on
+pub next_part_kept : (ss : List Form) (s : Form) (levels i : ℕ) (whole : Option Trees) (at n : ℕ) (bytes : Bytes) (e : Element) → i < length ss → s ≡ get_or ss i s
+    → AreLeft whole (recast_parts (parts_of (drop i ss)) levels i (nodes_with (node_in levels) (walk_elements (drop at bytes)))) i [] (run bytes 0 at) → IsHead (drop at bytes) e → n ≡ size e → e.key ≡ decimal i → IsKept s levels e.kind e.value
+    → AreLeft whole (recast_parts (parts_of (drop (i + 1) ss)) levels (i + 1) (nodes_with (node_in levels) (walk_elements (drop (at + n) bytes)))) (i + 1) [] (run bytes 0 (at + n))
+next_part_kept ss s levels i whole at n bytes e lt got before head is index kept =
+    let put = subst (λ m. IsElementPut (recast_node s levels (node_in levels e.kind e.value)) e.key (run bytes 0 at) (run bytes 0 (at + m))) (sym is) (next_kept s levels bytes 0 at e [] (omega arith) head kept) in
+    next_part ss s levels i whole at n bytes e e.key [] (run bytes 0 at) (run bytes 0 (at + n)) lt got before head is index put
 
 -- an entry of a new key
 pub next_entry : (key : Leaf) (s : Form) (levels : ℕ) (whole : Option Pairs) (names : List Utf8) (name : Bor Utf8) (at n : ℕ) (bytes : Bytes) (e : Element) (old made new : Bytes) → takes_keys key ≡ true

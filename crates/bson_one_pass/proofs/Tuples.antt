@@ -1,5 +1,5 @@
 -- Recasting the parts of a tuple one by one.
-use Rattle.std.proofs.Common.{◌≡◌, ℕ, suc, ◌+◌, ◌<◌, ◌≤◌, List, ◌++◌, length, get_or, drop, Option, Some, None, refl, ap, sym, subst, ◌∙◌, add-one}
+use Rattle.std.proofs.Common.{◌≡◌, ℕ, suc, ◌+◌, ◌<◌, ◌≤◌, List, [], ◌++◌, length, get_or, drop, true, Option, Some, None, refl, ap, sym, subst, ◌∙◌, add-one}
 use Rattle.std.specs.Fmt.{decimal}
 use Rattle.std.specs.Option.{option_map}
 use Rattle.std.proofs.Math.Seq.{drop-cons}
@@ -9,6 +9,7 @@ use Rattle.bson_base.specs.Text.{Bytes, Utf8}
 use Rattle.bson_base.specs.Tree as tree
 use Rattle.bson_base.specs.Tree.{Tree, Trees, enc, kind, element, enclosed}
 use Rattle.bson_base.specs.declared.element_type.ElementType.TheVariants as kinds
+use Rattle.bson_rawdoc.specs.Envelope.{inside, is_closed}
 use Rattle.bson_rawdoc.specs.Node.{Node, Nodes, then_node, inner_node, node_in, nodes_with}
 use Rattle.bson_rawdoc.specs.Piece.{Piece, borrowed, made}
 use Rattle.bson_rawdoc.specs.Walk.{Element, Walk, then_walk, walk}
@@ -16,10 +17,10 @@ use Rattle.bson_shape.specs.Form.{Form, Parts, part, tuple, tuple_structure}
 use Rattle.bson_shape.specs.ShapeView.{parts_of}
 use Rattle.bson_datum.specs.Marked.{Marked, MarkedItems, contents, item_contents}
 use Rattle.bson_datum.specs.Value as value
-use Rattle.bson_laws.specs.Reads.{reads, reads_parts}
+use Rattle.bson_laws.specs.CompactReads.{reads, reads_parts}
 use Rattle.bson_laws.specs.Spell.{spell, spell_items}
 use Rattle.bson_one_pass.specs.Put.{recast_by, recast_node, recast_parts, IsPut, IsElementPut, AreItemsPut}
-use Rattle.bson_one_pass.proofs.Containers.{recast_mapped, elements_put}
+use Rattle.bson_one_pass.proofs.Containers.{recast_mapped, elements_put, array_node, frame_wraps}
 use Rattle.bson_one_pass.proofs.Items.{items_by, AreLeft, left_next, left_none}
 
 -- a part and then the others
@@ -70,3 +71,9 @@ pub tuple_structure_put : (name : Utf8) (ps : Parts) (levels m : ℕ) (b old beg
     → AreItemsPut (recast_parts ps m 0 (nodes_with (node_in m) (walk b))) 0 begun filled → IsPut (recast_node (tuple_structure name ps) levels (inner_node levels kinds.Array b)) old ended kinds.Array
 tuple_structure_put name ps levels m b old begun filled ended e wraps h =
     elements_put (tuple_structure name ps) (recast_parts ps m 0 (nodes_with (node_in m) (walk b))) levels m b old begun filled ended (parts_by (value.tuple_structure (made name)) ps m b (λ vs. refl)) e wraps h
+
+-- an array whose parts are kept
+pub tuple_kept : (ps : Parts) (levels m : ℕ) (b : Bytes) → levels ≡ suc m → is_closed b ≡ true → enclosed (inside b) ≡ b → AreItemsPut (recast_parts ps m 0 (nodes_with (node_in m) (walk b))) 0 [] (inside b)
+    → IsPut (recast_node (tuple ps) levels (node_in levels kinds.Array b)) [] b kinds.Array
+tuple_kept ps levels m b e closed frame h =
+    subst (λ n. IsPut (recast_node (tuple ps) levels n) [] b kinds.Array) (sym (array_node levels m b e closed)) (tuple_put ps levels m b [] [] (inside b) b e (frame_wraps b frame) h)

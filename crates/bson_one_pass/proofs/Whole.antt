@@ -10,7 +10,8 @@ use Rattle.bson_rawdoc.specs.Node.{inner_node}
 use Rattle.bson_shape.specs.Form.{Form}
 use Rattle.bson_datum.specs.Marked.{Marked, contents}
 use Rattle.bson_laws.specs.Judged.{Reading}
-use Rattle.bson_laws.specs.Reads.{reads, answered, reads_document}
+use Rattle.bson_laws.specs.CompactReads.{reads}
+use Rattle.bson_laws.specs.Reads.{answered, reads_document}
 use Rattle.bson_laws.specs.Spell.{Writing, spell, at_top, spell_document}
 use Rattle.bson_laws.proofs.Enveloped.{document_read}
 use Rattle.bson_laws.proofs.Sizes.{spell_kind}

@@ -8,10 +8,9 @@ use Rattle.bson_rawdoc.specs.Walk.{Element, Walk}
 use Rattle.bson_shape.specs.ShapeView.{fields_of}
 use Rattle.bson_shape.specs.declared.shape.FieldShape.{FieldShape}
 use Rattle.bson_datum.specs.Marked.{Marked, contents}
-use Rattle.bson_laws.specs.Reads.{reads, slots_of}
+use Rattle.bson_laws.specs.CompactReads.{reads, slots_of, missing_value}
 use Rattle.bson_laws.specs.Slots.{Slot, Slots, fill, put_at, value_or}
 use Rattle.bson_laws.specs.Spell.{spell}
-use Rattle.bson_laws.specs.Views.{absent}
 
 -- ---- names
 
@@ -34,7 +33,7 @@ names (s ∷ ss) = s.name ∷ names ss
 
 -- the slot of a field, with the value that was read for it, if one was
 abbrev pub slot_with : FieldShape → Option Marked → Slot
-slot_with f v = record { name = name_of f; missing = absent f.shape; read = reads f.shape; value = v }
+slot_with f v = record { name = name_of f; missing = missing_value f.shape; read = reads f.shape; value = v }
 
 -- the slots of fields, each with its value
 abbrev pub slots_with : List FieldShape → List (Option Marked) → Slots

@@ -1,17 +1,19 @@
 -- What the parts of the pass append: the tree of a node, and the elements of a document or an array. It is for the contracts of these parts; what the pass
 -- promises is in `Recast`.
-use Rattle.std.specs.Prelude.{◌≡◌, ℕ, ◌++◌, Option, Some, None, Ok, Err}
+use Rattle.std.specs.Prelude.{◌≡◌, ℕ, suc, [], ◌++◌, Option, Some, None, Ok, Err}
 use Rattle.bson_base.specs.Outcome.{◌>>=◌}
 use Rattle.bson_base.specs.Text.{Bytes, Utf8}
+use Rattle.bson_base.specs.Tree as tree
 use Rattle.bson_base.specs.Tree.{Tree, Trees, Pairs, enc, elements, array_elements, element, kind}
 use Rattle.bson_base.specs.declared.element_type.ElementType.{ElementType}
+use Rattle.bson_rawdoc.specs.Node as node
 use Rattle.bson_rawdoc.specs.Node.{Node, Nodes}
-use Rattle.bson_shape.specs.Form.{Form, leaf, Parts}
+use Rattle.bson_shape.specs.Form.{Form, leaf, tuple, structure, Parts, Content, unit_content, newtype_content, tuple_content, struct_content}
 use Rattle.bson_shape.specs.declared.leaf.Leaf.{Leaf}
 use Rattle.bson_datum.specs.Marked.{MarkedEntries, contents, item_contents, entry_contents, field_contents}
 use Rattle.bson_laws.specs.Containers.{reads_items, reads_key, reads_entries}
 use Rattle.bson_laws.specs.Judged.{Reading}
-use Rattle.bson_laws.specs.Reads.{reads, reads_parts}
+use Rattle.bson_laws.specs.CompactReads.{reads, reads_parts}
 use Rattle.bson_laws.specs.Slots.{Slots, fill, finish}
 use Rattle.bson_laws.specs.Spell.{Writing, spell, spell_items, spell_entries, spell_fields}
 
@@ -45,6 +47,13 @@ recast_fields slots levels ns = recast_by (λ vs. spell_fields (field_contents v
 abbrev pub recast_entries : Leaf → Form → MarkedEntries → (levels : ℕ) → Nodes → Option Pairs
 recast_entries key s before levels ns = recast_by (λ es. spell_entries (entry_contents es) levels) (reads_entries (reads_key (leaf key)) (reads s) ns before)
 
+-- the tree of the contents of a variant: those of a tuple variant are written as a tuple, and those of a struct variant as a struct
+abbrev pub recast_content : Content → (levels : ℕ) → Node → Option Tree
+recast_content unit_content levels n = None
+recast_content (newtype_content s) levels n = recast_node s levels n
+recast_content (tuple_content ps) levels n = recast_node (tuple ps) levels n
+recast_content (struct_content fs) levels n = recast_node (structure [] fs) levels n
+
 -- the bytes of what there is were appended
 abbrev pub ArePut : {A : Type 0} (bytes : A → Bytes) → Option A → (old new : Bytes) → Type 0
 ArePut bytes None old new = ⊥
@@ -66,3 +75,7 @@ AreItemsPut o i old new = ArePut (array_elements i) o old new
 -- the elements of a document were appended
 abbrev pub ArePairsPut : Option Pairs → (old new : Bytes) → Type 0
 ArePairsPut o old new = ArePut elements o old new
+
+-- the elements were appended of the document that a document of these nodes is written as
+abbrev pub AreInsidePut : Form → (levels : ℕ) → Nodes → (old new : Bytes) → Type 0
+AreInsidePut s levels ns old new = (ps : Pairs) × (recast_node s (suc levels) (node.document ns) ≡ Some (tree.document ps)) × (new ≡ old ++ elements ps)

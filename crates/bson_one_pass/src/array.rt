@@ -4,18 +4,20 @@ ghost use Rattle.bson_base.specs.Kind.{byte};
 ghost use Rattle.bson_base.specs.declared.element_type.ElementType.TheVariants as kinds;
 ghost use Rattle.bson_rawdoc.specs.Node.{inner_node, node_in, nodes_with, value_node};
 ghost use Rattle.bson_rawdoc.specs.ValueView.{raw_value};
-ghost use Rattle.bson_rawdoc.specs.Walk.{walk_elements};
+ghost use Rattle.bson_rawdoc.specs.Walk.{Element, walk_elements};
 ghost use Rattle.bson_shape.specs.Form.{sequence};
 ghost use Rattle.bson_one_pass.specs.Put.{recast_node, recast_items, IsPut, AreItemsPut, IsElementPut};
-ghost use Rattle.bson_one_pass.specs.Run.{IsFirst, run, size};
+ghost use Rattle.bson_one_pass.specs.Run.{IsFirst, IsHead, element_of, run, size};
 
 use crate::alone::recast_alone;
 use crate::bytes::{close, put, put_front, set_kind};
+use crate::enumeration::recast_enum;
 use crate::kept::{MOST_NESTED, is_kept};
 use crate::leaf::{recast_int32, recast_int64};
-use crate::run::{element_front, element_len, put_element, put_run};
+use crate::named::{named_front, named_len, value_under};
+use crate::run::{element_len, put_element, put_run};
 use crate::structure::recast_struct;
-use crate::taken::{is_integer, is_taken};
+use crate::taken::{is_integer, is_taken, names_taken};
 use crate::value::recast_value;
 use bson_base::ElementType;
 use bson_rawdoc::reading::{inside, is_closed};
@@ -55,18 +57,23 @@ fn recast_items(made: &mut Vec<u8>, item: &Shape, levels: u32, elements: &[u8]) 
     let mut nested = MOST_NESTED;
     let mut from = 0;
     let mut at = 0;
-    while let Some(step) = next_element(&elements[at..]) {
-        let Ok((element, _)) = step else {
-            return None;
-        };
+    while at < elements.len() {
         let key = digits.format(index);
-        let behind = at + element_len(&elements[at..], &element);
-        from = recast_item_at(
-            made, item, levels, nested, elements, from, at, &element, key,
-        )?;
-        nested = nested_behind(nested, from == behind);
+        match value_under(&elements[at..], key) {
+            Some((kind, value)) => {
+                let behind = at + named_len(&elements[at..], kind, key, value);
+                from = recast_known(
+                    made, item, levels, nested, elements, from, at, key, kind, value,
+                )?;
+                nested = nested_behind(nested, from == behind);
+                at = behind;
+            }
+            None => {
+                at = recast_misnamed(made, item, levels, elements, from, at, key)?;
+                from = at;
+            }
+        }
         index = index.checked_add(1)?;
-        at = behind;
     }
     put_run(made, elements, from, at)?;
     Some(())
@@ -77,33 +84,33 @@ fn nested_behind(nested: u32, changed: bool) -> u32 {
     if changed { 0 } else { nested }
 }
 
-/// The element at a place, under this key: as `recast_next` where it has the key, else it is written behind the run.
-#[inline(always)]
+/// The element at a place whose key is not this: it is written under this key, behind the run. The answer is the place behind it.
+#[inline(never)]
 #[cycle(recast)]
-fn recast_item_at(
+pub(crate) fn recast_misnamed(
     made: &mut Vec<u8>,
     shape: &Shape,
     levels: u32,
-    nested: u32,
     elements: &[u8],
     from: usize,
     at: usize,
-    element: &RawElement<'_>,
     key: &str,
 ) -> Option<usize>
     requires order { from ≤ at }
     requires within { at ≤ length elements.now }
-    requires first { IsFirst (drop at elements.now) element.now }
-    ensures behind { IfSome result (λ next. next ≤ at + size element.now) }
-    ensures put { IfSome result (λ next. IsElementPut (recast_node shape.now levels (node_in levels element.now.kind element.now.value)) key.now
-        (made.old.items ++ run elements.now from at) (made.new.items ++ run elements.now next (at + size element.now))) }
+    ensures { IfSome result (λ next. (e : Element) × IsHead (drop at elements.now) e × (next ≡ at + size e)
+        × IsElementPut (recast_node shape.now levels (node_in levels e.kind e.value)) key.now (made.old.items ++ run elements.now from at) made.new.items) }
 {
-    if element.key() == key {
-        return recast_next(made, shape, levels, nested, elements, from, at, element);
-    }
+    let Some(step) = next_element(&elements[at..]) else {
+        return None;
+    };
+    let Ok((element, _)) = step else {
+        return None;
+    };
+    let behind = at + element_len(&elements[at..], &element);
     put_run(made, elements, from, at)?;
-    recast_item(made, shape, levels, &element.clone(), key)?;
-    Some(at + element_len(&elements[at..], element))
+    recast_item(made, shape, levels, &element, key)?;
+    Some(behind)
 }
 
 /// The element at a place, under the key that it has. Where it is written as it was read, it is left to the run that begins at `from`; else that run and the
@@ -127,34 +134,119 @@ pub(crate) fn recast_next(
     ensures put { IfSome result (λ next. IsElementPut (recast_node shape.now levels (node_in levels element.now.kind element.now.value)) element.now.key
         (made.old.items ++ run elements.now from at) (made.new.items ++ run elements.now next (at + size element.now))) }
 {
-    let (kind, bytes) = (element.element_type(), element.slice());
-    if is_kept(*made.allocator(), shape, levels, nested, kind, bytes) {
-        return Some(from);
-    }
-    put_run(made, elements, from, at)?;
-    let front = element_front(&elements[at..], element);
-    recast_changed(made, shape, levels, &element.clone(), front)?;
-    Some(at + element_len(&elements[at..], element))
+    recast_known(
+        made,
+        shape,
+        levels,
+        nested,
+        elements,
+        from,
+        at,
+        element.key(),
+        element.element_type(),
+        element.slice(),
+    )
 }
 
-/// An element whose front this is, and whose value is written anew.
+/// The same, for the element of this kind, this key and this value.
+#[inline(always)]
+#[cycle(recast)]
+pub(crate) fn recast_known(
+    made: &mut Vec<u8>,
+    shape: &Shape,
+    levels: u32,
+    nested: u32,
+    elements: &[u8],
+    from: usize,
+    at: usize,
+    key: &str,
+    kind: ElementType,
+    value: &[u8],
+) -> Option<usize>
+    requires order { from ≤ at }
+    requires within { at ≤ length elements.now }
+    requires head { IsHead (drop at elements.now) (element_of kind key.now value.now) }
+    ensures behind { IfSome result (λ next. next ≤ at + size (element_of kind key.now value.now)) }
+    ensures put { IfSome result (λ next. IsElementPut (recast_node shape.now levels (node_in levels kind value.now)) key.now
+        (made.old.items ++ run elements.now from at) (made.new.items ++ run elements.now next (at + size (element_of kind key.now value.now)))) }
+{
+    if is_kept(*made.allocator(), shape, levels, nested, kind, value) {
+        return Some(from);
+    }
+    let behind = at + named_len(&elements[at..], kind, key, value);
+    put_run(made, elements, from, at)?;
+    recast_changed(made, shape, levels, &elements[at..], key, kind, value)?;
+    Some(behind)
+}
+
+/// The element of this kind, this key and this value that begins these bytes; its value is written anew.
 #[cycle(recast)]
 fn recast_changed(
     made: &mut Vec<u8>,
     shape: &Shape,
     levels: u32,
-    element: &RawElement<'_>,
-    front: &[u8],
+    bytes: &[u8],
+    key: &str,
+    kind: ElementType,
+    value: &[u8],
 ) -> Option<()>
-    requires front { front.now ≡ byte element.now.kind ∷ (element.now.key ++ 0 ∷ []) }
-    ensures { IfSome result (λ _. IsElementPut (recast_node shape.now levels (node_in levels element.now.kind element.now.value)) element.now.key
-        made.old.items made.new.items) }
+    requires head { IsHead bytes.now (element_of kind key.now value.now) }
+    ensures { IfSome result (λ _. IsElementPut (recast_node shape.now levels (node_in levels kind value.now)) key.now made.old.items made.new.items) }
 {
     let place = made.len();
-    put(made, front)?;
-    let kind = recast_element(made, shape, levels, element)?;
+    put(made, named_front(bytes, kind, key, value))?;
+    let kind = recast_bytes(made, shape, levels, bytes, key, kind, value)?;
     set_kind(made, place, kind);
     Some(())
+}
+
+/// The value of the element of this kind and this key that begins these bytes: that of a common kind at once, any other once it is looked at.
+#[inline(always)]
+#[cycle(recast)]
+fn recast_bytes(
+    made: &mut Vec<u8>,
+    shape: &Shape,
+    levels: u32,
+    bytes: &[u8],
+    key: &str,
+    kind: ElementType,
+    value: &[u8],
+) -> Option<ElementType>
+    requires head { IsHead bytes.now (element_of kind key.now value.now) }
+    ensures { IfSome result (IsPut (recast_node shape.now levels (node_in levels kind value.now)) made.old.items made.new.items) }
+{
+    shape.known();
+    match (shape.form(), kind) {
+        (Form::Leaf(leaf), ElementType::Int32) if is_integer(leaf) => {
+            recast_int32(made, leaf, levels, value)
+        }
+        (Form::Leaf(leaf), ElementType::Int64) if is_integer(leaf) => {
+            recast_int64(made, leaf, levels, value)
+        }
+        (Form::Seq(item), ElementType::Array) => recast_array(made, item, levels, value),
+        (Form::Struct(name, fields), ElementType::EmbeddedDocument) => {
+            recast_struct(made, name, fields, levels, value)
+        }
+        (Form::Enum(variants), ElementType::EmbeddedDocument) if names_taken(variants, value) => {
+            recast_enum(made, variants, levels, value)
+        }
+        _ => recast_first(made, shape, levels, bytes),
+    }
+}
+
+// The value of the element that begins these bytes, once it is looked at.
+#[inline(never)]
+#[cycle(recast)]
+fn recast_first(made: &mut Vec<u8>, shape: &Shape, levels: u32, bytes: &[u8]) -> Option<ElementType>
+    ensures { (e : Element) → IsHead bytes.now e → IfSome result (IsPut (recast_node shape.now levels (node_in levels e.kind e.value)) made.old.items made.new.items) }
+{
+    let Some(step) = next_element(bytes) else {
+        return None;
+    };
+    let Ok((element, _)) = step else {
+        return None;
+    };
+    recast_other(made, shape, levels, &element)
 }
 
 /// The value of an element: that of a common kind from its bytes, any other once it is looked at.

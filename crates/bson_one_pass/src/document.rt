@@ -1,13 +1,12 @@
 // A whole document.
 ghost use Rattle.std.specs.Prelude.{IfSome};
-ghost use Rattle.bson_shape.specs.Form.{leaf};
-ghost use Rattle.bson_shape.specs.declared.leaf.Leaf.TheVariants.{Any};
+ghost use Rattle.bson_shape.specs.Form as form;
 ghost use Rattle.bson_one_pass.specs.Recast.{IsRecastAs};
 
+use crate::kept::is_leaf_kept;
 use crate::value::recast_value;
 use bson_base::{ElementType, MAX_NESTING_LEVEL};
 use bson_io::MOST;
-use bson_itself::is_itself;
 use bson_rawdoc::{RawBsonRef, RawDocument};
 use bson_shape::{Form, Leaf, Shape};
 use std::alloc::Global;
@@ -16,15 +15,15 @@ use std::alloc::Global;
 ///
 /// `None` says nothing of the document: it is for the shapes and documents that the pass does not take, for those that are refused, and where memory runs
 /// out. It takes structs, those of more than 64 fields where the document has them in the shape's order and nothing else, options, sequences, tuples, tuple
-/// structs, newtypes, unit structs, texts at the unit variants of enums, maps of different keys at `str` or `string`, and the leaves `bool`, `double`, `unit`,
+/// structs, newtypes, unit structs, enums, maps of different keys at `str` or `string`, and the leaves `bool`, `double`, `unit`,
 /// `str`, `string`, `bytes`, `bytebuf`, `oid`, `datetime`, `timestamp`, `decimal`, `binary`, `uuid` and those of integers, where the value is of the kind of the
-/// leaf. It takes no binary of the old subtype 2. At `any` it takes what is written as it was read: values without an extended value in them, whose arrays have their indexes as
-/// keys and whose documents have no key twice. A value inside the document that it does not take is read and written by itself.
+/// leaf, and `regex`, `codews` and `dbpointer` where it is written as it was read. At `any`, `bson` and `document` it takes what is written as it was read: values whose arrays have their indexes as keys and whose documents
+/// have no key twice, at `any` without an extended value in them, at the others without a wrapper key. A value inside the document that it does not take is read and written by itself.
 pub fn recast_at_once(alloc: Global, shape: &Shape, bytes: &[u8]) -> Option<Vec<u8>>
     ensures recast { IfSome result (λ v. IsRecastAs shape.now bytes.now v.items) }
 {
-    if let Form::Leaf(Leaf::Any) = shape.form() {
-        return keep_document(alloc, bytes);
+    if let Form::Leaf(leaf) = shape.form() {
+        return keep_document(alloc, leaf, bytes);
     }
     let Ok(document) = RawDocument::from_bytes(bytes) else {
         return None;
@@ -43,12 +42,12 @@ pub fn recast_at_once(alloc: Global, shape: &Shape, bytes: &[u8]) -> Option<Vec<
     }
 }
 
-/// A document that is written at `any` as it was read: a copy of its bytes.
-fn keep_document(alloc: Global, bytes: &[u8]) -> Option<Vec<u8>>
-    ensures { IfSome result (λ v. IsRecastAs (leaf Any) bytes.now v.items) }
+/// A document that is written at a leaf as it was read: a copy of its bytes.
+fn keep_document(alloc: Global, leaf: Leaf, bytes: &[u8]) -> Option<Vec<u8>>
+    ensures { IfSome result (λ v. IsRecastAs (form.leaf leaf) bytes.now v.items) }
 {
     let kind = ElementType::EmbeddedDocument;
-    if bytes.len() > MOST || !is_itself(alloc, kind, bytes, MAX_NESTING_LEVEL) {
+    if bytes.len() > MOST || !is_leaf_kept(alloc, leaf, MAX_NESTING_LEVEL, kind, bytes) {
         return None;
     }
     Vec::from_slice(alloc, bytes).ok()

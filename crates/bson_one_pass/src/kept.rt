@@ -8,20 +8,20 @@ ghost use Rattle.bson_rawdoc.specs.Envelope.{is_closed};
 ghost use Rattle.bson_rawdoc.specs.Node.{node_in, nodes_with};
 ghost use Rattle.bson_rawdoc.specs.Walk.{walk_elements};
 ghost use Rattle.bson_shape.specs.Form as form;
-ghost use Rattle.bson_shape.specs.Makers.{AreDistinct, is_reserved_newtype};
-ghost use Rattle.bson_shape.specs.ShapeView.{fields_of};
-ghost use Rattle.bson_laws.specs.Reads.{slots_of};
+ghost use Rattle.bson_shape.specs.Makers.{AreDistinct, AreVariants, IsContent, has_repeat, is_reserved_newtype, variant_names};
+ghost use Rattle.bson_shape.specs.ShapeView.{content_of, fields_of, parts_of, variants_of};
+ghost use Rattle.bson_laws.specs.Leaves.{extended_values, leaf_kind, of_kind};
+ghost use Rattle.bson_laws.specs.CompactReads.{slots_of};
 ghost use Rattle.bson_itself.specs.Encoded.{IsFrame, IsTextValue, IsTrueOrFalse};
-ghost use Rattle.bson_one_pass.specs.Put.{recast_items, recast_fields, AreItemsPut, ArePairsPut};
+ghost use Rattle.bson_one_pass.specs.Put.{recast_items, recast_parts, recast_fields, recast_content, IsPut, AreItemsPut, ArePairsPut, AreInsidePut};
 ghost use Rattle.bson_one_pass.specs.Run.{IsKept, IsUuid};
 
-use crate::run::element_len;
+use crate::named::{named_len, named_variant, value_under};
 use bson_base::ElementType;
 use bson_io::MOST;
-use bson_itself::{boolean_len, frame_len, is_itself, text_len};
-use bson_rawdoc::next_element;
+use bson_itself::{UntypedLeaf, boolean_len, frame_len, is_itself, text_len};
 use bson_rawdoc::reading::{inside, is_closed, known_bytes, uint32_in};
-use bson_shape::{FieldShape, Form, Leaf, Shape};
+use bson_shape::{FieldShape, Form, Leaf, Shape, VariantContent, VariantShape};
 use std::alloc::Global;
 
 /// Documents and arrays are looked at up to so many inside one another, since they are looked at again by those around them.
@@ -83,6 +83,18 @@ fn is_form_kept(
             }
             _ => false,
         },
+        Form::Tuple(parts) => match kind {
+            ElementType::Array if nested > 0 => {
+                is_tuple_kept(alloc, parts, levels, nested - 1, bytes)
+            }
+            _ => false,
+        },
+        Form::Enum(variants) => match kind {
+            ElementType::EmbeddedDocument if nested > 0 => {
+                is_enum_kept(alloc, variants, levels, nested - 1, bytes)
+            }
+            _ => false,
+        },
         _ => false,
     }
 }
@@ -105,9 +117,15 @@ fn is_newtype_kept(
     is_kept(alloc, inner, levels, nested, kind, bytes)
 }
 
-// Whether a value of the kind in these bytes is written at a leaf as these bytes.
+/// Whether a value of the kind in these bytes is written at a leaf as these bytes.
 #[inline(always)]
-fn is_leaf_kept(alloc: Global, leaf: Leaf, levels: u32, kind: ElementType, bytes: &[u8]) -> bool
+pub(crate) fn is_leaf_kept(
+    alloc: Global,
+    leaf: Leaf,
+    levels: u32,
+    kind: ElementType,
+    bytes: &[u8],
+) -> bool
     ensures { IsTrue result → IsKept (form.leaf leaf) levels kind bytes.now }
 {
     known_bytes(bytes);
@@ -122,9 +140,37 @@ fn is_leaf_kept(alloc: Global, leaf: Leaf, levels: u32, kind: ElementType, bytes
         (Leaf::DateTime, ElementType::DateTime) => bytes.len() == 8,
         (Leaf::Decimal128, ElementType::Decimal128) => bytes.len() == 16,
         (Leaf::Uuid, ElementType::Binary) => is_uuid(bytes),
-        (Leaf::Any, _) => is_itself(alloc, kind, bytes, levels),
+        (Leaf::Any, _) => is_itself(alloc, UntypedLeaf::Any, kind, bytes, levels),
+        (Leaf::Bson, _) => is_itself(alloc, UntypedLeaf::Bson, kind, bytes, levels),
+        (Leaf::Document, ElementType::EmbeddedDocument) => {
+            is_itself(alloc, UntypedLeaf::Bson, kind, bytes, levels)
+        }
+        (Leaf::Timestamp, ElementType::Timestamp) => {
+            is_extended_kept(alloc, leaf, levels, kind, bytes)
+        }
+        (Leaf::Binary, ElementType::Binary) => {
+            is_extended_kept(alloc, leaf, levels, kind, bytes)
+        }
+        (Leaf::Regex, ElementType::RegularExpression) => {
+            is_extended_kept(alloc, leaf, levels, kind, bytes)
+        }
+        (Leaf::CodeWithScope, ElementType::JavaScriptCodeWithScope) => {
+            is_extended_kept(alloc, leaf, levels, kind, bytes)
+        }
+        (Leaf::DbPointer, ElementType::DbPointer) => {
+            is_extended_kept(alloc, leaf, levels, kind, bytes)
+        }
         _ => false,
     }
+}
+
+// The same for an extended value at a leaf of its kind.
+#[inline(never)]
+fn is_extended_kept(alloc: Global, leaf: Leaf, levels: u32, kind: ElementType, bytes: &[u8]) -> bool
+    requires kind { leaf_kind leaf ≡ extended_values (of_kind kind) }
+    ensures { IsTrue result → IsKept (form.leaf leaf) levels kind bytes.now }
+{
+    is_itself(alloc, UntypedLeaf::Bson, kind, bytes, levels)
 }
 
 // Whether these bytes are a text, its length in front and a zero behind it.
@@ -198,29 +244,21 @@ fn are_items_kept(alloc: Global, item: &Shape, levels: u32, nested: u32, element
     let mut digits = itoa::Buffer::new();
     let mut index: u64 = 0;
     let mut at = 0;
-    while let Some(step) = next_element(&elements[at..]) {
-        let Ok((element, _)) = step else {
+    while at < elements.len() {
+        let key = digits.format(index);
+        let Some((kind, value)) = value_under(&elements[at..], key) else {
             return false;
         };
-        if element.key() != digits.format(index)
-            || !is_kept(
-                alloc,
-                item,
-                levels,
-                nested,
-                element.element_type(),
-                element.slice(),
-            )
-        {
+        if !is_kept(alloc, item, levels, nested, kind, value) {
             return false;
         }
-        at += element_len(&elements[at..], &element);
+        at += named_len(&elements[at..], kind, key, value);
         let Some(more) = index.checked_add(1) else {
             return false;
         };
         index = more;
     }
-    at == elements.len()
+    true
 }
 
 // Whether the document in these bytes is written as these bytes, with these fields.
@@ -260,27 +298,134 @@ fn are_fields_kept(
 {
     let mut place = 0;
     let mut at = 0;
-    while let Some(step) = next_element(&elements[at..]) {
-        let Ok((element, _)) = step else {
-            return false;
-        };
+    while at < elements.len() {
         let Some(field) = fields.get(place) else {
             return false;
         };
-        if field.name.as_str() != element.key()
-            || !is_kept(
-                alloc,
-                &field.shape,
-                levels,
-                nested,
-                element.element_type(),
-                element.slice(),
-            )
-        {
+        let name = field.name.as_str();
+        let Some((kind, value)) = value_under(&elements[at..], name) else {
+            return false;
+        };
+        if !is_kept(alloc, &field.shape, levels, nested, kind, value) {
             return false;
         }
-        at += element_len(&elements[at..], &element);
+        at += named_len(&elements[at..], kind, name, value);
         place += 1;
     }
-    place == fields.len() && at == elements.len()
+    place == fields.len()
+}
+
+// Whether the array in these bytes is written as these bytes, with its parts at shapes.
+#[inline(never)]
+#[cycle(kept)]
+fn is_tuple_kept(alloc: Global, parts: &[Shape], levels: u32, nested: u32, bytes: &[u8]) -> bool
+    ensures { IsTrue result → IsKept (form.tuple (parts_of parts.now)) levels kinds.Array bytes.now }
+{
+    if levels == 0 || !is_frame(bytes) {
+        return false;
+    }
+    are_parts_kept(alloc, parts, levels - 1, nested, inside(bytes))
+}
+
+// Whether the elements of an array are written as these bytes: they are one for each part, and their keys are their indexes.
+#[inline(always)]
+#[cycle(kept)]
+fn are_parts_kept(alloc: Global, parts: &[Shape], levels: u32, nested: u32, elements: &[u8]) -> bool
+    ensures { IsTrue result → AreItemsPut (recast_parts (parts_of parts.now) levels 0 (nodes_with (node_in levels) (walk_elements elements.now))) 0 [] elements.now }
+{
+    let mut digits = itoa::Buffer::new();
+    let mut index: u64 = 0;
+    let mut at = 0;
+    for part in parts {
+        let name = digits.format(index);
+        let Some((kind, value)) = value_under(&elements[at..], name) else {
+            return false;
+        };
+        if !is_kept(alloc, part, levels, nested, kind, value) {
+            return false;
+        }
+        at += named_len(&elements[at..], kind, name, value);
+        let Some(more) = index.checked_add(1) else {
+            return false;
+        };
+        index = more;
+    }
+    at == elements.len()
+}
+
+// Whether the document in these bytes is written at an enum as these bytes.
+#[inline(never)]
+#[cycle(kept)]
+fn is_enum_kept(
+    alloc: Global,
+    variants: &[VariantShape],
+    levels: u32,
+    nested: u32,
+    bytes: &[u8],
+) -> bool
+    requires distinct { has_repeat (variant_names (variants_of variants.now)) ≡ false }
+    requires shapes { AreVariants (variants_of variants.now) }
+    ensures { IsTrue result → IsKept (form.enumeration (variants_of variants.now)) levels kinds.EmbeddedDocument bytes.now }
+{
+    if levels == 0 || !is_frame(bytes) {
+        return false;
+    }
+    is_pair_kept(alloc, variants, levels - 1, nested, inside(bytes))
+}
+
+// Whether the elements of a document are written at an enum as these bytes: they are one, whose key names a variant.
+#[inline(always)]
+#[cycle(kept)]
+fn is_pair_kept(
+    alloc: Global,
+    variants: &[VariantShape],
+    levels: u32,
+    nested: u32,
+    elements: &[u8],
+) -> bool
+    requires distinct { has_repeat (variant_names (variants_of variants.now)) ≡ false }
+    requires shapes { AreVariants (variants_of variants.now) }
+    ensures { IsTrue result → AreInsidePut (form.enumeration (variants_of variants.now)) levels (nodes_with (node_in levels) (walk_elements elements.now))
+        [] elements.now }
+{
+    let Some((variant, kind, value)) = named_variant(variants, elements) else {
+        return false;
+    };
+    let name = variant.name.as_str();
+    if named_len(elements, kind, name, value) < elements.len() {
+        return false;
+    }
+    is_content_kept(alloc, &variant.content, levels, nested, kind, value)
+}
+
+// Whether a value of the kind in these bytes is written as the contents of a variant as these bytes.
+#[inline(always)]
+#[cycle(kept)]
+fn is_content_kept(
+    alloc: Global,
+    content: &VariantContent,
+    levels: u32,
+    nested: u32,
+    kind: ElementType,
+    bytes: &[u8],
+) -> bool
+    requires shape { IsContent (content_of content.now) }
+    ensures { IsTrue result → IsPut (recast_content (content_of content.now) levels (node_in levels kind bytes.now)) [] bytes.now kind }
+{
+    match content {
+        VariantContent::Newtype(shape) => is_kept(alloc, shape, levels, nested, kind, bytes),
+        VariantContent::Tuple(parts) => match kind {
+            ElementType::Array if nested > 0 => {
+                is_tuple_kept(alloc, parts, levels, nested - 1, bytes)
+            }
+            _ => false,
+        },
+        VariantContent::Struct(fields) => match kind {
+            ElementType::EmbeddedDocument if nested > 0 => {
+                is_struct_kept(alloc, "", fields, levels, nested - 1, bytes)
+            }
+            _ => false,
+        },
+        VariantContent::Unit => false,
+    }
 }

@@ -1,6 +1,5 @@
 // Elements that are written as they were read: they lie one behind another in the document, and are copied in one piece.
-ghost use Rattle.std.specs.Prelude.{◌≡◌, ◌≤◌, ◌++◌, ◌∷◌, [], length, IfSome};
-ghost use Rattle.bson_base.specs.Kind.{byte};
+ghost use Rattle.std.specs.Prelude.{◌≡◌, ◌≤◌, ◌++◌, length, IfSome};
 ghost use Rattle.bson_base.specs.Tree.{element};
 ghost use Rattle.bson_one_pass.specs.Run.{IsFirst, IsHead, run, size};
 
@@ -16,15 +15,6 @@ pub(crate) fn element_len(bytes: &[u8], element: &RawElement<'_>) -> usize
     ensures head { IsHead bytes.now element.now }
 {
     element.key().len() + element.slice().len() + 2
-}
-
-/// The front of the element that begins these bytes: its kind, its key, a zero.
-#[inline(always)]
-pub(crate) fn element_front<'a>(bytes: &'a [u8], element: &RawElement<'_>) -> &'a [u8]
-    requires { IsFirst bytes.now element.now }
-    ensures { result.now ≡ byte element.now.kind ∷ (element.now.key ++ 0 ∷ []) }
-{
-    &bytes[..element.key().len() + 2]
 }
 
 /// Appends a run: the elements between two places.

@@ -11,16 +11,16 @@ ghost use Rattle.bson_shape.specs.Form.{structure};
 ghost use Rattle.bson_shape.specs.Makers.{AreDistinct};
 ghost use Rattle.bson_shape.specs.ShapeView.{fields_of};
 ghost use Rattle.bson_datum.specs.Value.{none};
-ghost use Rattle.bson_laws.specs.Reads.{slots_of};
-ghost use Rattle.bson_laws.specs.Views.{absent};
+ghost use Rattle.bson_laws.specs.CompactReads.{slots_of, missing_value};
 ghost use Rattle.bson_one_pass.specs.Found.{IsFoundPut, AreFoundPut, AreOthersPut};
 ghost use Rattle.bson_one_pass.specs.Put.{recast_node, recast_fields, IsPut, IsElementPut, ArePairsPut};
 
-use crate::array::{recast_item, recast_next};
+use crate::array::{recast_item, recast_known};
 use crate::bytes::{close, put, put_front, set_kind};
 use crate::dropped::drop_value;
 use crate::found::{find_elements, is_free};
 use crate::kept::MOST_NESTED;
+use crate::named::{named_len, value_under};
 use crate::run::{element_len, put_run};
 use bson_base::{ElementType, has_zero};
 use bson_rawdoc::reading::{inside, is_closed};
@@ -73,14 +73,12 @@ fn recast_fields(
     let mut place = 0;
     let mut from = 0;
     let mut at = 0;
-    while let Some(step) = next_element(&elements[at..]) {
-        let Ok((element, _)) = step else {
-            return None;
-        };
-        let behind = at + element_len(&elements[at..], &element);
-        match fields.get(place) {
-            Some(field) if field.name.as_str() == element.key() => {
-                from = recast_next(
+    while at < elements.len() {
+        if let Some(field) = fields.get(place) {
+            let name = field.name.as_str();
+            if let Some((kind, value)) = value_under(&elements[at..], name) {
+                let behind = at + named_len(&elements[at..], kind, name, value);
+                from = recast_known(
                     made,
                     &field.shape,
                     levels,
@@ -88,22 +86,32 @@ fn recast_fields(
                     elements,
                     from,
                     at,
-                    &element,
+                    name,
+                    kind,
+                    value,
                 )?;
                 place += 1;
-            }
-            _ if fields.len() > MOST_COMPARED => return None,
-            _ => {
-                put_run(made, elements, from, at)?;
-                if !is_free(fields, element.key()) {
-                    let (front, others) = fields.split_at(place);
-                    return recast_others(made, front, others, levels, &elements[at..]);
-                }
-                drop_value(levels, &element)?;
-                from = behind;
+                at = behind;
+                continue;
             }
         }
-        at = behind;
+        let Some(step) = next_element(&elements[at..]) else {
+            return None;
+        };
+        let Ok((element, _)) = step else {
+            return None;
+        };
+        if fields.len() > MOST_COMPARED {
+            return None;
+        }
+        put_run(made, elements, from, at)?;
+        if !is_free(fields, element.key()) {
+            let (front, others) = fields.split_at(place);
+            return recast_others(made, front, others, levels, &elements[at..]);
+        }
+        drop_value(levels, &element)?;
+        at += element_len(&elements[at..], &element);
+        from = at;
     }
     put_run(made, elements, from, at)?;
     while let Some(field) = fields.get(place) {
@@ -186,7 +194,7 @@ fn put_field(
 /// A field that no element has: an option is null.
 fn put_missing(made: &mut Vec<u8>, field: &FieldShape) -> Option<()>
     ensures name { IfSome result (λ _. has_zero (string_bytes field.now.name) ≡ false) }
-    ensures absent { IfSome result (λ _. absent {T = Piece} field.now.shape ≡ Some none) }
+    ensures absent { IfSome result (λ _. missing_value {T = Piece} field.now.shape ≡ Some none) }
     ensures put { IfSome result (λ _. made.new.items ≡ made.old.items ++ element kinds.Null (string_bytes field.now.name) []) }
 {
     let name = field.name.as_str();

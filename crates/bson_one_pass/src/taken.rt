@@ -1,8 +1,10 @@
 // What the pass takes of a value, before any of it is written.
 use crate::map::takes_keys;
-use bson_base::BinarySubtype;
+use crate::named::named_variant;
+use bson_base::{BinarySubtype, ElementType};
 use bson_rawdoc::RawBsonRef;
-use bson_shape::{Form, Leaf, Shape};
+use bson_rawdoc::reading::inside;
+use bson_shape::{Form, Leaf, Shape, VariantContent, VariantShape};
 
 /// Whether the pass takes a value at a shape, as far as the shape and the kind of the value tell. It answers for the cost alone: any answer is right.
 #[cycle(taken)]
@@ -23,7 +25,28 @@ pub(crate) fn is_taken(shape: &Shape, value: &RawBsonRef<'_>) -> bool {
         },
         Form::Struct(_, _) => matches!(value, RawBsonRef::Document(_)),
         Form::UnitStruct(_) => matches!(value, RawBsonRef::Null),
-        Form::Enum(_) => matches!(value, RawBsonRef::String(_)),
+        Form::Enum(variants) => match value {
+            RawBsonRef::String(_) => true,
+            RawBsonRef::Document(document) => names_taken(variants, document.as_bytes()),
+            _ => false,
+        },
+        Form::Lossy(_) | Form::Readable(_) | Form::Mode(_, _) => false,
+    }
+}
+
+/// The same for the document in these bytes at an enum: its first key names a variant with contents of the kind of its value.
+pub(crate) fn names_taken(variants: &[VariantShape], bytes: &[u8]) -> bool {
+    if bytes.len() < 5 {
+        return false;
+    }
+    let Some((variant, kind, _)) = named_variant(variants, inside(bytes)) else {
+        return false;
+    };
+    match variant.content {
+        VariantContent::Unit => false,
+        VariantContent::Newtype(_) => true,
+        VariantContent::Tuple(_) => matches!(kind, ElementType::Array),
+        VariantContent::Struct(_) => matches!(kind, ElementType::EmbeddedDocument),
     }
 }
 

@@ -2,64 +2,83 @@
 ghost use Rattle.std.specs.Prelude.{IfSome};
 ghost use Rattle.bson_base.specs.Text.{Utf8};
 ghost use Rattle.bson_base.specs.declared.element_type.ElementType.TheVariants as kinds;
-ghost use Rattle.bson_rawdoc.specs.DocumentView.{array_bytes};
 ghost use Rattle.bson_rawdoc.specs.Node.{inner_node, node_in, nodes_with};
+ghost use Rattle.bson_rawdoc.specs.Walk.{walk_elements};
 ghost use Rattle.bson_shape.specs.Form.{tuple, tuple_structure};
 ghost use Rattle.bson_shape.specs.ShapeView.{parts_of};
 ghost use Rattle.bson_one_pass.specs.Put.{recast_node, recast_parts, IsPut, AreItemsPut};
 
-use crate::array::recast_item;
+use crate::array::{recast_known, recast_misnamed};
 use crate::bytes::{close, put};
+use crate::kept::MOST_NESTED;
+use crate::named::{named_len, value_under};
+use crate::run::put_run;
 use bson_base::ElementType;
-use bson_rawdoc::{RawArray, RawIter};
+use bson_rawdoc::reading::{inside, is_closed};
 use bson_shape::Shape;
 
-/// The array at a tuple, or at a tuple struct, whose parts have these shapes.
+/// The array in these bytes at a tuple, or at a tuple struct, whose parts have these shapes.
 #[inline(never)]
 #[cycle(recast)]
 pub(crate) fn recast_tuple(
     made: &mut Vec<u8>,
     parts: &[Shape],
     levels: u32,
-    array: RawArray<'_>,
+    bytes: &[u8],
 ) -> Option<ElementType>
-    ensures nameless { IfSome result (IsPut (recast_node (tuple (parts_of parts.now)) levels (inner_node levels kinds.Array (array_bytes array.entry)))
+    ensures nameless { IfSome result (IsPut (recast_node (tuple (parts_of parts.now)) levels (inner_node levels kinds.Array bytes.now))
         made.old.items made.new.items) }
-    ensures named { (name : Utf8) → IfSome result (IsPut (recast_node (tuple_structure name (parts_of parts.now)) levels
-        (inner_node levels kinds.Array (array_bytes array.entry))) made.old.items made.new.items) }
+    ensures named { (name : Utf8) → IfSome result (IsPut (recast_node (tuple_structure name (parts_of parts.now)) levels (inner_node levels kinds.Array bytes.now))
+        made.old.items made.new.items) }
+    ensures met { IfSome result (IsPut (recast_node (tuple (parts_of parts.now)) levels (node_in levels kinds.Array bytes.now))
+        made.old.items made.new.items) }
 {
-    if levels == 0 {
+    if levels == 0 || bytes.len() < 5 || !is_closed(bytes) {
         return None;
     }
     let start = made.len();
     put(made, &[0; 4])?;
-    recast_parts(made, parts, levels - 1, array.as_doc().iter_elements())?;
+    recast_parts(made, parts, levels - 1, inside(bytes))?;
     close(made, start)?;
     Some(ElementType::Array)
 }
 
 /// The parts from the elements of an array, one each. Further elements stay unread.
 #[cycle(recast)]
-fn recast_parts(
-    made: &mut Vec<u8>,
-    parts: &[Shape],
-    levels: u32,
-    mut elements: RawIter<'_>,
-) -> Option<()>
-    ensures { IfSome result (λ _. AreItemsPut (recast_parts (parts_of parts.now) levels 0 (nodes_with (node_in levels) elements.entry)) 0
+fn recast_parts(made: &mut Vec<u8>, parts: &[Shape], levels: u32, elements: &[u8]) -> Option<()>
+    ensures { IfSome result (λ _. AreItemsPut (recast_parts (parts_of parts.now) levels 0 (nodes_with (node_in levels) (walk_elements elements.now))) 0
         made.old.items made.new.items) }
 {
     let mut digits = itoa::Buffer::new();
     let mut index: u64 = 0;
+    let mut from = 0;
+    let mut at = 0;
     for part in parts {
-        let Some(element) = elements.next() else {
-            return None;
-        };
-        let Ok(element) = element else {
-            return None;
-        };
-        recast_item(made, part, levels, &element, digits.format(index))?;
+        let key = digits.format(index);
+        match value_under(&elements[at..], key) {
+            Some((kind, value)) => {
+                let behind = at + named_len(&elements[at..], kind, key, value);
+                from = recast_known(
+                    made,
+                    part,
+                    levels,
+                    MOST_NESTED,
+                    elements,
+                    from,
+                    at,
+                    key,
+                    kind,
+                    value,
+                )?;
+                at = behind;
+            }
+            None => {
+                at = recast_misnamed(made, part, levels, elements, from, at, key)?;
+                from = at;
+            }
+        }
         index = index.checked_add(1)?;
     }
+    put_run(made, elements, from, at)?;
     Some(())
 }

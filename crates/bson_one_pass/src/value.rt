@@ -7,6 +7,7 @@ ghost use Rattle.bson_shape.specs.Makers.{is_reserved_newtype};
 ghost use Rattle.bson_one_pass.specs.Put.{recast_node, IsPut};
 
 use crate::array::recast_array;
+use crate::enumeration::recast_enum;
 use crate::leaf::recast_leaf;
 use crate::map::recast_map;
 use crate::structure::recast_struct;
@@ -36,11 +37,11 @@ pub(crate) fn recast_value(
             _ => None,
         },
         Form::Tuple(parts) => match value {
-            RawBsonRef::Array(array) => recast_tuple(made, parts, levels, *array),
+            RawBsonRef::Array(array) => recast_tuple(made, parts, levels, array.as_bytes()),
             _ => None,
         },
         Form::TupleStruct(_, parts) => match value {
-            RawBsonRef::Array(array) => recast_tuple(made, parts, levels, *array),
+            RawBsonRef::Array(array) => recast_tuple(made, parts, levels, array.as_bytes()),
             _ => None,
         },
         Form::Struct(name, fields) => match value {
@@ -65,8 +66,12 @@ pub(crate) fn recast_value(
         },
         Form::Enum(variants) => match value {
             RawBsonRef::String(name) => recast_variant(made, variants, levels, name),
+            RawBsonRef::Document(document) => {
+                recast_enum(made, variants, levels, document.as_bytes())
+            }
             _ => None,
         },
+        Form::Lossy(_) | Form::Readable(_) | Form::Mode(_, _) => None,
     }
 }
 

@@ -1,84 +1,82 @@
-use Rattle.std.proofs.Common.{◌≡◌, ◌≤◌, ◌<◌, ◌+◌, ◌-◌, ◌*◌, suc, [], length, get_or, drop, refl, ap, sym, subst, ◌∙◌, arith, rules}
-use Rattle.std.proofs.lemmas.Bool.{eqb-true}
-use Rattle.std.proofs.lemmas.List.{take_rest}
-use Rattle.std.proofs.lemmas.Slice.Eq.{bytes_eq-Decides}
+use Rattle.std.proofs.Common.{◌≡◌, ◌<◌, ◌≤◌, ◌+◌, ◌-◌, ◌*◌, suc, [], length, get_or, drop, refl, ap, sym, subst, ◌∙◌, arith, rules}
 use Rattle.std.specs.Fmt.{decimal}
-use Rattle.std.specs.Str.{bytes_eq}
+use Rattle.std.proofs.lemmas.Bool.{eqb-true}
 use Rattle.bson_base.specs.Text.{Bytes}
 use Rattle.bson_rawdoc.specs.Node.{node_in, nodes_with}
-use Rattle.bson_rawdoc.specs.Walk.{walk_elements, ended}
-use Rattle.bson_shape.specs.ShapeView.{fields_of, nodes, fields_nodes}
+use Rattle.bson_rawdoc.specs.Walk.{walk_elements}
+use Rattle.bson_shape.specs.ShapeView.{fields_of, parts_of, variants_of, nodes, fields_nodes}
 use Rattle.bson_shape.specs.declared.shape.FieldShape.{FieldShape}
-use Rattle.bson_shape.proofs.Shapes.{field_smaller}
-use Rattle.bson_laws.specs.Reads.{slots_of}
-use Rattle.bson_one_pass.specs.Put.{recast_items, recast_fields, AreItemsPut, ArePairsPut}
-use Rattle.bson_one_pass.specs.Run.{run}
+use Rattle.bson_shape.proofs.Shapes.{field_smaller, part_smaller}
+use Rattle.bson_laws.specs.CompactReads.{slots_of}
+use Rattle.bson_one_pass.specs.Put.{recast_items, recast_parts, recast_fields, AreItemsPut, ArePairsPut}
+use Rattle.bson_one_pass.specs.Found.{name_of}
+use Rattle.bson_one_pass.specs.Run.{element_of, run, size}
 use Rattle.bson_one_pass.proofs.Containers.{array_kept, struct_kept}
 use Rattle.bson_one_pass.proofs.Items.{AreLeft, left_none}
 use Rattle.bson_one_pass.proofs.Options.{optional_kept}
 use Rattle.bson_one_pass.proofs.Places.{AreUnderWay, places_end}
-use Rattle.bson_one_pass.proofs.Runs.{head_at, next_within, is_same, run_all}
-use Rattle.bson_one_pass.proofs.Steps.{next_field_kept, next_item_kept}
+use Rattle.bson_one_pass.proofs.KnownNames.{bytes_same}
+use Rattle.bson_one_pass.proofs.Runs.{head_at, next_within, run_all, walk_over}
+use Rattle.bson_one_pass.proofs.Steps.{next_field_kept, next_item_kept, next_part_kept}
+use Rattle.bson_one_pass.proofs.Tuples.{parts_put, tuple_kept}
+use Rattle.bson_one_pass.proofs.Variants.{enum_kept, named_content, named_smaller, pair_kept, variant_name}
 use Rattle.bson_one_pass.proofs.kept.+kept.Goals as goal
 
 pub are_fields_kept-is_kept-requires : goal.are_fields_kept-is_kept-requires
 are_fields_kept-is_kept-requires t c =
     let fs = c.args.fields.now in
-    let f = c.in-Some-get.field.now in
-    let found = c.in-Some-get.ensures.lookup in
-    let smaller = field_smaller fs c.loop-step.place f found.3.0 in
-    let same : nodes (get_or fs c.loop-step.place f).shape ≡ nodes f.shape = ap (λ (g : FieldShape). nodes g.shape) (sym found.1) in
+    let f = c.in-Some.field.now in
+    let found = c.in-Some.ensures.lookup in
+    let smaller = field_smaller fs c.loop-at.place f found.3.0 in
+    let same : nodes (get_or fs c.loop-at.place f).shape ≡ nodes f.shape = ap (λ (g : FieldShape). nodes g.shape) (sym found.1) in
     let less : 8 * nodes f.shape + 1 < 8 * fields_nodes (fields_of fs) + 4 = omega (arith, smaller, same) in
     search rules
 
-pub are_fields_kept-loop-step-preserved : goal.are_fields_kept-loop-step-preserved
-are_fields_kept-loop-step-preserved t c =
+pub are_fields_kept-loop-at-preserved : goal.are_fields_kept-loop-at-preserved
+are_fields_kept-loop-at-preserved t c =
     let fs = c.args.fields.now in
     let levels = c.args.levels in
-    let e = c.in-Ok.element in
     let bytes = c.args.elements.now in
-    let at = c.loop-step.at in
-    let n = c.element_len-at.result in
-    let head = head_at bytes at e c.element_len-at.ensures.head in
-    let found = c.in-Some-get.ensures.lookup in
-    let f = c.in-Some-get.field.now in
-    let same = ap (λ x. bytes_eq x e.key) (sym c.as_str.ensures.value) ∙ ap (λ k. bytes_eq c.as_str.result.now k) (sym c.key.ensures.key) ∙ is_same c.as_str.result.now c.key.result.now (sym c.if-ne.false ∙ c.ne.ensures) in
-    let kept = rw (c.element_type.ensures.kind, c.slice.ensures.slice) at (c.if-not-is_kept.ensures refl) in (
-      next_within bytes at n e c.loop-step.invariant.0 head c.element_len-at.ensures.size,
+    let at = c.loop-at.at in
+    let n = c.named_len-at.result in
+    let found = c.in-Some.ensures.lookup in
+    let f = c.in-Some.field.now in
+    let e = element_of c.in-Some-value_under.kind c.as_str-name.result.now c.in-Some-value_under.value.now in
+    let head = head_at bytes at e c.in-Some-value_under.ensures in
+    let same = bytes_same (name_of f) e.key (sym c.as_str-name.ensures.value) in (
+      next_within bytes at n e c.loop-at.invariant.0 head c.named_len-at.ensures,
       omega (arith, found.3.0),
-      next_field_kept fs levels (recast_fields (slots_of (fields_of fs)) levels (nodes_with (node_in levels) (walk_elements bytes))) c.loop-step.place at n bytes e f c.loop-step.invariant.2 head c.element_len-at.ensures.size found.3.0 found.1 same
-          c.requires.distinct kept,
+      next_field_kept fs levels (recast_fields (slots_of (fields_of fs)) levels (nodes_with (node_in levels) (walk_elements bytes))) c.loop-at.place at n bytes e f c.loop-at.invariant.2 head c.named_len-at.ensures found.3.0 found.1 same
+          c.requires.distinct (c.if-not-is_kept.ensures refl),
     )
 
-pub are_fields_kept-returns-then-place-fields : goal.are_fields_kept-returns-then-place-fields
-are_fields_kept-returns-then-place-fields t c = λ h.
+pub are_fields_kept-returns : goal.are_fields_kept-returns
+are_fields_kept-returns t c = λ h.
     let fs = c.args.fields.now in
     let levels = c.args.levels in
     let bytes = c.args.elements.now in
-    let at = c.loop-step.at in
+    let at = c.loop-at.at in
+    let place = c.loop-at.place in
     let whole = recast_fields (slots_of (fields_of fs)) levels (nodes_with (node_in levels) (walk_elements bytes)) in
-    let over : walk_elements (drop at bytes) ≡ ended = ap walk_elements (sym (take_rest bytes at)) ∙ rw c.in_default.is at c.next_element.ensures in
-    let all : length bytes ≤ at = omega (arith, eqb-true at (length bytes) h) in
-    let put = places_end fs levels whole c.loop-step.place [] (run bytes 0 at) (subst (λ w. AreUnderWay fs levels whole (nodes_with (node_in levels) w) c.loop-step.place [] (run bytes 0 at)) over c.loop-step.invariant.2) (omega (arith, c.if-place-fields.true)) in
+    let all = c.loop-at-test.false in
+    let put = places_end fs levels whole place [] (run bytes 0 at) (subst (λ w. AreUnderWay fs levels whole (nodes_with (node_in levels) w) place [] (run bytes 0 at)) (walk_over bytes at all) c.loop-at.invariant.2)
+    (omega (arith, eqb-true place (length fs) h)) in
     subst (λ (x : Bytes). ArePairsPut whole [] x) (run_all bytes at all) put
 
-pub are_items_kept-loop-step-preserved : goal.are_items_kept-loop-step-preserved
-are_items_kept-loop-step-preserved t c =
+pub are_items_kept-loop-at-preserved : goal.are_items_kept-loop-at-preserved
+are_items_kept-loop-at-preserved t c =
     let s = c.args.item.now in
     let levels = c.args.levels in
-    let e = c.in-Ok.element in
     let bytes = c.args.elements.now in
-    let at = c.loop-step.at in
-    let i = c.loop-step.index in
+    let at = c.loop-at.at in
+    let i = c.loop-at.index in
     let j = c.in-Some-checked_add.more in
-    let n = c.element_len-at.result in
-    let head = head_at bytes at e c.element_len-at.ensures.head in
-    let named : c.key.result.now ≡ c.format.result.now = (bytes_eq-Decides c.key.result.now c.format.result.now).0 (is_same c.key.result.now c.format.result.now (sym c.if-ne.false ∙ c.ne.ensures)) in
-    let index : e.key ≡ decimal i = sym c.key.ensures.key ∙ named ∙ c.format.ensures.text in
-    let next : j ≡ suc i = omega (arith, c.in-Some-checked_add.ensures) in
-    let kept = rw (c.element_type.ensures.kind, c.slice.ensures.slice) at (c.if-not-is_kept.ensures refl) in (
-      next_within bytes at n e c.loop-step.invariant.0 head c.element_len-at.ensures.size,
-      next_item_kept s levels i j (recast_items s levels 0 (nodes_with (node_in levels) (walk_elements bytes))) at n bytes e c.loop-step.invariant.1 head c.element_len-at.ensures.size index next kept,
+    let n = c.named_len-at.result in
+    let e = element_of c.in-Some.kind c.format-key.result.now c.in-Some.value.now in
+    let head = head_at bytes at e c.in-Some.ensures in
+    let next : j ≡ suc i = omega (arith, c.in-Some-checked_add.ensures) in (
+      next_within bytes at n e c.loop-at.invariant.0 head c.named_len-at.ensures,
+      next_item_kept s levels i j (recast_items s levels 0 (nodes_with (node_in levels) (walk_elements bytes))) at n bytes e c.loop-at.invariant.1 head c.named_len-at.ensures c.format-key.ensures.text next (c.if-not-is_kept.ensures refl),
     )
 
 pub are_items_kept-returns : goal.are_items_kept-returns
@@ -86,12 +84,11 @@ are_items_kept-returns t c = λ h.
     let s = c.args.item.now in
     let levels = c.args.levels in
     let bytes = c.args.elements.now in
-    let at = c.loop-step.at in
-    let i = c.loop-step.index in
+    let at = c.loop-at.at in
+    let i = c.loop-at.index in
     let whole = recast_items s levels 0 (nodes_with (node_in levels) (walk_elements bytes)) in
-    let over : walk_elements (drop at bytes) ≡ ended = ap walk_elements (sym (take_rest bytes at)) ∙ rw c.in_default.is at c.next_element.ensures in
-    let all : length bytes ≤ at = omega (arith, eqb-true at (length bytes) h) in
-    let put = left_none whole i [] (run bytes 0 at) (subst (λ w. AreLeft whole (recast_items s levels i (nodes_with (node_in levels) w)) i [] (run bytes 0 at)) over c.loop-step.invariant.1) in
+    let all = c.loop-at-test.false in
+    let put = left_none whole i [] (run bytes 0 at) (subst (λ w. AreLeft whole (recast_items s levels i (nodes_with (node_in levels) w)) i [] (run bytes 0 at)) (walk_over bytes at all) c.loop-at.invariant.1) in
     subst (λ (x : Bytes). AreItemsPut whole 0 [] x) (run_all bytes at all) put
 
 pub is_array_kept-returns : goal.is_array_kept-returns
@@ -106,6 +103,10 @@ pub is_form_kept-returns-in_default-kind : goal.is_form_kept-returns-in_default-
 is_form_kept-returns-in_default-kind t c = λ h.
     rw (sym (c.in-Option.ensures.form)) (optional_kept c.in-Option.inner.now c.args.levels c.args.kind c.args.bytes.now c.in_default-kind.not-Null (c.is_kept.ensures h))
 
+pub is_form_kept-returns-in-EmbeddedDocument-kind : goal.is_form_kept-returns-in-EmbeddedDocument-kind
+is_form_kept-returns-in-EmbeddedDocument-kind t c = λ h.
+    rw (sym c.in-Enum.ensures.form, c.in-EmbeddedDocument-kind.is) (c.is_enum_kept.ensures h)
+
 pub is_struct_kept-returns : goal.is_struct_kept-returns
 is_struct_kept-returns t c = λ h.
     let b = c.args.bytes.now in
@@ -113,3 +114,71 @@ is_struct_kept-returns t c = λ h.
     let m = levels - 1 in
     let fields = rw c.inside.ensures at (c.are_fields_kept.ensures h) in
     struct_kept c.args.name.now (fields_of c.args.fields.now) levels m b c.requires.1.1.0 (omega (arith, c.if-levels-eq0.false)) (c.if-not-is_frame.ensures.closed refl) (c.if-not-is_frame.ensures.frame refl) fields
+
+pub are_parts_kept-is_kept-requires : goal.are_parts_kept-is_kept-requires
+are_parts_kept-is_kept-requires t c =
+    let smaller = part_smaller c.args.parts.now c.loop-part.part-index c.part-item.result c.loop-part-test.true in
+    omega (arith, smaller, ap nodes c.part-item.is)
+
+pub are_parts_kept-loop-part-preserved : goal.are_parts_kept-loop-part-preserved
+are_parts_kept-loop-part-preserved t c =
+    let ss = c.args.parts.now in
+    let levels = c.args.levels in
+    let bytes = c.args.elements.now in
+    let at = c.loop-part.at in
+    let i = c.loop-part.part-index in
+    let n = c.named_len-at.result in
+    let e = element_of c.in-Some.kind c.format-name.result.now c.in-Some.value.now in
+    let head = head_at bytes at e c.in-Some.ensures in
+    let index = c.format-name.ensures.text ∙ ap decimal c.loop-part.invariant.0 in (
+      omega (arith, c.in-Some-checked_add.ensures, c.loop-part.invariant.0),
+      next_within bytes at n e c.loop-part.invariant.1 head c.named_len-at.ensures,
+      next_part_kept ss c.part-item.result levels i (recast_parts (parts_of ss) levels 0 (nodes_with (node_in levels) (walk_elements bytes))) at n bytes e c.loop-part-test.true c.part-item.is c.loop-part.invariant.2 head c.named_len-at.ensures index
+          (c.if-not-is_kept.ensures refl),
+    )
+
+pub are_parts_kept-returns : goal.are_parts_kept-returns
+are_parts_kept-returns t c = λ h.
+    let levels = c.args.levels in
+    let bytes = c.args.elements.now in
+    let at = c.loop-part.at in
+    let whole = recast_parts (parts_of c.args.parts.now) levels 0 (nodes_with (node_in levels) (walk_elements bytes)) in
+    let all : length bytes ≤ at = omega (arith, eqb-true at (length bytes) h) in
+    let put = parts_put c.args.parts.now levels c.loop-part.part-index (walk_elements (drop at bytes)) whole [] (run bytes 0 at) c.loop-part-test.false c.loop-part.invariant.2 in
+    subst (λ (x : Bytes). AreItemsPut whole 0 [] x) (run_all bytes at all) put
+
+pub is_tuple_kept-returns : goal.is_tuple_kept-returns
+is_tuple_kept-returns t c = λ h.
+    let b = c.args.bytes.now in
+    let levels = c.args.levels in
+    let m = levels - 1 in
+    let parts = rw c.inside.ensures at (c.are_parts_kept.ensures h) in
+    tuple_kept (parts_of c.args.parts.now) levels m b (omega (arith, c.if-levels-eq0.false)) (c.if-not-is_frame.ensures.closed refl) (c.if-not-is_frame.ensures.frame refl) parts
+
+pub is_enum_kept-returns : goal.is_enum_kept-returns
+is_enum_kept-returns t c = λ h.
+    let b = c.args.bytes.now in
+    let levels = c.args.levels in
+    let m = levels - 1 in
+    let inner = rw c.inside.ensures at (c.is_pair_kept.ensures h) in
+    enum_kept (variants_of c.args.variants.now) levels m b (omega (arith, c.if-levels-eq0.false)) (c.if-not-is_frame.ensures.closed refl) (c.if-not-is_frame.ensures.frame refl) inner
+
+pub is_pair_kept-is_content_kept-requires : goal.is_pair_kept-is_content_kept-requires
+is_pair_kept-is_content_kept-requires t c =
+    let vs = c.args.variants.now in
+    let v = c.in-Some.variant.now in
+    let bytes = c.args.elements.now in
+    let k = c.in-Some.kind in
+    let b = c.in-Some.value.now in
+    let smaller = named_smaller vs v bytes k b c.in-Some.ensures in
+    (omega (arith, smaller), named_content vs v bytes k b c.in-Some.ensures c.requires.shapes)
+
+pub is_pair_kept-returns : goal.is_pair_kept-returns
+is_pair_kept-returns t c = λ h.
+    let vs = c.args.variants.now in
+    let v = c.in-Some.variant.now in
+    let bytes = c.args.elements.now in
+    let k = c.in-Some.kind in
+    let b = c.in-Some.value.now in
+    let all : length bytes ≤ size (element_of k (variant_name v) b) = omega (arith, c.named_len.ensures, c.if-named_len-elements.false, ap length c.as_str-name.ensures.value) in
+    pair_kept vs v c.args.levels bytes k b c.in-Some.ensures c.requires.distinct all (c.is_content_kept.ensures h)

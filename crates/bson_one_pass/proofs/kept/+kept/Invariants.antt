@@ -1,9 +1,9 @@
-use Rattle.std.proofs.Common.{◌+◌, ◌*◌, ◌-◌, ◌≤◌, [], length, drop}
+use Rattle.std.proofs.Common.{◌≡◌, ◌+◌, ◌*◌, ◌-◌, ◌≤◌, [], length, drop}
 use Rattle.bson_rawdoc.specs.Node.{node_in, nodes_with}
 use Rattle.bson_rawdoc.specs.Walk.{walk_elements}
-use Rattle.bson_shape.specs.ShapeView.{fields_of, nodes, fields_nodes}
-use Rattle.bson_laws.specs.Reads.{slots_of}
-use Rattle.bson_one_pass.specs.Put.{recast_items, recast_fields}
+use Rattle.bson_shape.specs.ShapeView.{fields_of, parts_of, variants_of, content_of, nodes, fields_nodes, parts_nodes, variants_nodes, content_nodes}
+use Rattle.bson_laws.specs.CompactReads.{slots_of}
+use Rattle.bson_one_pass.specs.Put.{recast_items, recast_parts, recast_fields}
 use Rattle.bson_one_pass.specs.Run.{run}
 use Rattle.bson_one_pass.proofs.Places.{AreUnderWay}
 use Rattle.bson_one_pass.proofs.Items.{AreLeft}
@@ -30,18 +30,38 @@ decreases-is_struct_kept l = 8 * fields_nodes (fields_of l.fields.now) + 5
 abbrev pub decreases-are_fields_kept : goal.decreases-are_fields_kept
 decreases-are_fields_kept l = 8 * fields_nodes (fields_of l.fields.now) + 4
 
-abbrev pub invariant-are_items_kept-loop-step : goal.invariant-are_items_kept-loop-step
-invariant-are_items_kept-loop-step l =
+abbrev pub decreases-is_tuple_kept : goal.decreases-is_tuple_kept
+decreases-is_tuple_kept l = 8 * parts_nodes (parts_of l.parts.now) + 1
+
+abbrev pub decreases-are_parts_kept : goal.decreases-are_parts_kept
+decreases-are_parts_kept l = 8 * parts_nodes (parts_of l.parts.now)
+
+abbrev pub decreases-is_enum_kept : goal.decreases-is_enum_kept
+decreases-is_enum_kept l = 8 * variants_nodes (variants_of l.variants.now) + 1
+
+abbrev pub decreases-is_pair_kept : goal.decreases-is_pair_kept
+decreases-is_pair_kept l = 8 * variants_nodes (variants_of l.variants.now)
+
+abbrev pub decreases-is_content_kept : goal.decreases-is_content_kept
+decreases-is_content_kept l = 8 * content_nodes (content_of l.content.now) + 6
+
+abbrev pub invariant-are_items_kept-loop-at : goal.invariant-are_items_kept-loop-at
+invariant-are_items_kept-loop-at l =
     (l.at ≤ length l.elements)
     × AreLeft (recast_items l.item l.levels 0 (nodes_with (node_in l.levels) (walk_elements l.elements))) (recast_items l.item l.levels l.index (nodes_with (node_in l.levels) (walk_elements (drop l.at l.elements)))) l.index [] (run l.elements 0 l.at)
 
-abbrev pub decreases-are_items_kept-loop-step : goal.decreases-are_items_kept-loop-step
-decreases-are_items_kept-loop-step l = length l.elements - l.at
+abbrev pub decreases-are_items_kept-loop-at : goal.decreases-are_items_kept-loop-at
+decreases-are_items_kept-loop-at l = length l.elements - l.at
 
-abbrev pub invariant-are_fields_kept-loop-step : goal.invariant-are_fields_kept-loop-step
-invariant-are_fields_kept-loop-step l =
+abbrev pub invariant-are_fields_kept-loop-at : goal.invariant-are_fields_kept-loop-at
+invariant-are_fields_kept-loop-at l =
     (l.at ≤ length l.elements) × (l.place ≤ length l.fields)
     × AreUnderWay l.fields l.levels (recast_fields (slots_of (fields_of l.fields)) l.levels (nodes_with (node_in l.levels) (walk_elements l.elements))) (nodes_with (node_in l.levels) (walk_elements (drop l.at l.elements))) l.place [] (run l.elements 0 l.at)
 
-abbrev pub decreases-are_fields_kept-loop-step : goal.decreases-are_fields_kept-loop-step
-decreases-are_fields_kept-loop-step l = length l.elements - l.at
+abbrev pub decreases-are_fields_kept-loop-at : goal.decreases-are_fields_kept-loop-at
+decreases-are_fields_kept-loop-at l = length l.elements - l.at
+
+abbrev pub invariant-are_parts_kept-loop-part : goal.invariant-are_parts_kept-loop-part
+invariant-are_parts_kept-loop-part l =
+    (l.index ≡ l.part-index) × (l.at ≤ length l.elements)
+    × AreLeft (recast_parts (parts_of l.parts) l.levels 0 (nodes_with (node_in l.levels) (walk_elements l.elements))) (recast_parts (parts_of (drop l.part-index l.parts)) l.levels l.part-index (nodes_with (node_in l.levels) (walk_elements (drop l.at l.elements)))) l.part-index [] (run l.elements 0 l.at)

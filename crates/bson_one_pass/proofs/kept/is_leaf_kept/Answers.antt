@@ -1,8 +1,12 @@
-use Rattle.std.proofs.Common.{arith}
+use Rattle.std.proofs.Common.{subst, arith}
 use Rattle.std.proofs.lemmas.Bool.{eqb-true}
 use Rattle.bson_shape.specs.Form.{leaf}
 use Rattle.bson_shape.specs.declared.leaf.Leaf.TheVariants as leaves
+use Rattle.bson_base.specs.declared.element_type.ElementType.{ElementType}
 use Rattle.bson_base.specs.declared.element_type.ElementType.TheVariants as kinds
+use Rattle.bson_itself.specs.Encoded.{EncodesItself}
+use Rattle.bson_itself.specs.declared.untyped.UntypedLeaf.TheVariants.{Bson}
+use Rattle.bson_itself.proofs.Kept.{document_kept}
 use Rattle.bson_one_pass.proofs.KeptLeaves.{kept_as_read, text_kept, string_kept, int32_kept, int64_kept, id_kept, date_kept, uuid_kept}
 use Rattle.bson_one_pass.proofs.kept.is_leaf_kept.Goals as goal
 
@@ -41,3 +45,11 @@ pub returns-in-Uuid-Binary : goal.returns-in-Uuid-Binary
 returns-in-Uuid-Binary c = λ h.
     let b = c.args.bytes.now in
     rw (c.in-Uuid-Binary.is-0, c.in-Uuid-Binary.is-1) (kept_as_read (leaf leaves.Uuid) c.args.levels kinds.Binary b (uuid_kept c.args.levels b (c.is_uuid.ensures.uuid h) (c.is_uuid.ensures.few h)))
+
+pub returns-in-Document-EmbeddedDocument : goal.returns-in-Document-EmbeddedDocument
+returns-in-Document-EmbeddedDocument c = λ h.
+    let b = c.args.bytes.now in
+    let at = c.in-Document-EmbeddedDocument in
+    let test = c.is_itself-in-Document-EmbeddedDocument.ensures in
+    let one : EncodesItself Bson kinds.EmbeddedDocument c.args.levels b = subst (λ (k : ElementType). EncodesItself Bson k c.args.levels b) at.is-1 (test.itself h) in
+    rw (at.is-0, at.is-1) (kept_as_read (leaf leaves.Document) c.args.levels kinds.EmbeddedDocument b (document_kept c.args.levels b (omega (arith, test.few h)) one))
