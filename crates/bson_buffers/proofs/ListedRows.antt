@@ -4,6 +4,7 @@ use Rattle.std.specs.Prelude.{◌⊎◌, IfOk}
 use Rattle.std.specs.declared.alloc.AllocError.{AllocError}
 use Rattle.bson_base.specs.Text.{Bytes, Utf8}
 use Rattle.bson_shape.specs.Form.{Form}
+use Rattle.bson_laws.specs.Settled.{IsSettled}
 use Rattle.bson_migrate_run.specs.declared.migrating.Migration.{Migration}
 use Rattle.bson_migrate_run.specs.declared.migrating.Refused.{Refused}
 use Rattle.bson_migrate_run.specs.Migrating.{NotRecast, Migrating, broken, migrated, migration_of, AreListed, IsMigration}
@@ -23,20 +24,20 @@ use Rattle.bson_buffers.proofs.Records.{are_records}
 
 -- ---- what is due for a migration that was done
 
-by_list : (shape file output : Bytes) (s : Form) (ds : List NotRecast) (xs : List Refused) → DenotesShape shape s → migration_of s file ≡ migrated output ds → migration_of s output ≡ migrated output [] → AreListed ds xs
+by_list : (shape file output : Bytes) (s : Form) (ds : List NotRecast) (xs : List Refused) → DenotesShape shape s → migration_of s file ≡ migrated output ds → (IsSettled s → migration_of s output ≡ migrated output []) → AreListed ds xs
     → IsForListing shape file (listed_status xs) 0 output (texts_of xs) (records_from file 0 xs)
 by_list shape file output s [] [] n is again h = (s, n, is, again, refl, refl, refl)
 by_list shape file output s [] (x ∷ xs) n is again h = absurd h
 by_list shape file output s (d ∷ ds) [] n is again h = absurd h
 by_list shape file output s (d ∷ ds) (x ∷ xs) n is again h = (s, d, ds, n, is, again, are_records file 0 (d ∷ ds) (x ∷ xs) h, refl)
 
-by_answer : (shape file : Bytes) (s : Form) (m : Migration) (r : Migrating) → DenotesShape shape s → migration_of s file ≡ r → IsMigration r (Ok m) → migration_of s m.output.items ≡ migrated m.output.items []
+by_answer : (shape file : Bytes) (s : Form) (m : Migration) (r : Migrating) → DenotesShape shape s → migration_of s file ≡ r → IsMigration r (Ok m) → (IsSettled s → migration_of s m.output.items ≡ migrated m.output.items [])
     → IsForListing shape file (listed_status m.refused.items) 0 m.output.items (texts_of m.refused.items) (records_from file 0 m.refused.items)
 by_answer shape file s m (broken place) n is h again = absurd h
 by_answer shape file s m (migrated out ds) n is h again = by_list shape file m.output.items s ds m.refused.items n (is ∙ ap (λ o. migrated o ds) (sym h.0)) again h.1
 
 -- the same of what is in hand
-pub due_for_file : (shape file : Bytes) (s : Form) (m : Migration) (r : Result DueList AllocError) → DenotesShape shape s → IsMigration (migration_of s file) (Ok m) → migration_of s m.output.items ≡ migrated m.output.items []
+pub due_for_file : (shape file : Bytes) (s : Form) (m : Migration) (r : Result DueList AllocError) → DenotesShape shape s → IsMigration (migration_of s file) (Ok m) → (IsSettled s → migration_of s m.output.items ≡ migrated m.output.items [])
     → IfOk r (λ d. IsListingOf file m d) → IfOk r (λ d. IsForListing shape file d.due.status d.due.place d.due.output.items (string_bytes d.due.text) d.refusals.items)
 due_for_file shape file s m (Err e) n h again is = tt
 due_for_file shape file s m (Ok d) n h again is =

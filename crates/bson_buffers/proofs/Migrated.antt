@@ -4,6 +4,7 @@ use Rattle.std.specs.Prelude.{◌⊎◌, IfOk}
 use Rattle.std.specs.declared.alloc.AllocError.{AllocError}
 use Rattle.bson_base.specs.Text.{Bytes, Utf8}
 use Rattle.bson_shape.specs.Form.{Form}
+use Rattle.bson_laws.specs.Settled.{IsSettled}
 use Rattle.bson_migrate_run.specs.declared.migrating.Migration.{Migration}
 use Rattle.bson_migrate_run.specs.declared.migrating.Refused.{Refused}
 use Rattle.bson_migrate_run.specs.Lines.{refused_lines}
@@ -22,17 +23,17 @@ use Rattle.bson_buffers.proofs.Delivery.{within_or_above, fits, lacks}
 
 -- ---- what is due for a migration that was done
 
-by_list : (shape file output : Bytes) (s : Form) (xs : List Refused) → DenotesShape shape s → rows.AnswersMigration (migration_of s file) (rows.listed_status xs) output (refused_lines xs) → migration_of s output ≡ migrated output []
+by_list : (shape file output : Bytes) (s : Form) (xs : List Refused) → DenotesShape shape s → rows.AnswersMigration (migration_of s file) (rows.listed_status xs) output (refused_lines xs) → (IsSettled s → migration_of s output ≡ migrated output [])
     → IsForMigration shape file (listed_status xs) 0 output (refused_lines xs)
 by_list shape file output s [] n h again = (s, n, h.answer, again, refl, h.no_line)
 by_list shape file output s (x ∷ xs) n h again = (s, h.first, h.others, n, h.answer, again, h.say, refl)
 
-due_for_migrated : (shape file : Bytes) (s : Form) (m : Migration) → DenotesShape shape s → IsMigration (migration_of s file) (Ok m) → migration_of s m.output.items ≡ migrated m.output.items []
+due_for_migrated : (shape file : Bytes) (s : Form) (m : Migration) → DenotesShape shape s → IsMigration (migration_of s file) (Ok m) → (IsSettled s → migration_of s m.output.items ≡ migrated m.output.items [])
     → IsForMigration shape file (listed_status m.refused.items) 0 m.output.items (refused_lines m.refused.items)
 due_for_migrated shape file s m n h again = by_list shape file m.output.items s m.refused.items n (answers_of s file m h) again
 
 -- the same of what is in hand
-pub due_for_file : (shape file : Bytes) (s : Form) (m : Migration) (r : Result Due AllocError) → DenotesShape shape s → IsMigration (migration_of s file) (Ok m) → migration_of s m.output.items ≡ migrated m.output.items []
+pub due_for_file : (shape file : Bytes) (s : Form) (m : Migration) (r : Result Due AllocError) → DenotesShape shape s → IsMigration (migration_of s file) (Ok m) → (IsSettled s → migration_of s m.output.items ≡ migrated m.output.items [])
     → IfOk r (λ d. IsOfMigration m d) → IfOk r (λ d. IsForMigration shape file d.status d.place d.output.items (string_bytes d.text))
 due_for_file shape file s m (Err e) n h again is = tt
 due_for_file shape file s m (Ok d) n h again is =

@@ -4,6 +4,7 @@ use Rattle.bson_base.specs.Text.{Bytes, Utf8}
 use Rattle.bson_datum.specs.Printed.{printed_failure, printed_read_fault, printed_write_fault}
 use Rattle.bson_datum.specs.Refusal as refusal
 use Rattle.bson_shape.specs.Form.{Form}
+use Rattle.bson_laws.specs.Settled.{IsSettled}
 use Rattle.bson_recast_run.specs.Recasting.{recast_of, writes, unread, Unwritten}
 use Rattle.bson_migrate_run.specs.declared.migrating.Migration.{Migration}
 use Rattle.bson_migrate_run.specs.declared.migrating.Refused.{Refused}
@@ -33,7 +34,7 @@ IsForCheck shape status place output said = ⊥
 
 -- the same for a document and its recast
 abbrev pub IsForRecast : (shape bytes : Bytes) → Status → (place : ℕ) → (output : Bytes) → (said : Utf8) → Type 0
-IsForRecast shape bytes statuses.Done place output said = (s : Form) × DenotesShape shape s × (recast_of s bytes ≡ writes output) × (recast_of s output ≡ writes output) × (place ≡ 0) × (said ≡ [])
+IsForRecast shape bytes statuses.Done place output said = (s : Form) × DenotesShape shape s × (recast_of s bytes ≡ writes output) × (IsSettled s → recast_of s output ≡ writes output) × (place ≡ 0) × (said ≡ [])
 IsForRecast shape bytes statuses.ShapeRefused place output said = DenotesNone shape (record { place = place; said = said }) × (output ≡ [])
 IsForRecast shape bytes statuses.ReadRefused place output said =
     (s : Form) × (f : refusal.Failure refusal.ReadFault) × DenotesShape shape s × (recast_of s bytes ≡ unread f) × (said ≡ printed_failure printed_read_fault f) × (place ≡ 0) × (output ≡ [])
@@ -44,9 +45,9 @@ IsForRecast shape bytes status place output said = ⊥
 -- the same for a file and its migration
 abbrev pub IsForMigration : (shape file : Bytes) → Status → (place : ℕ) → (output : Bytes) → (said : Utf8) → Type 0
 IsForMigration shape file statuses.Done place output said =
-    (s : Form) × DenotesShape shape s × (migration_of s file ≡ migrated output []) × (migration_of s output ≡ migrated output []) × (place ≡ 0) × (said ≡ [])
+    (s : Form) × DenotesShape shape s × (migration_of s file ≡ migrated output []) × (IsSettled s → migration_of s output ≡ migrated output []) × (place ≡ 0) × (said ≡ [])
 IsForMigration shape file statuses.SomeRefused place output said =
-    (s : Form) × (first : NotRecast) × (others : List NotRecast) × DenotesShape shape s × (migration_of s file ≡ migrated output (first ∷ others)) × (migration_of s output ≡ migrated output []) × AreLines (first ∷ others) said × (place ≡ 0)
+    (s : Form) × (first : NotRecast) × (others : List NotRecast) × DenotesShape shape s × (migration_of s file ≡ migrated output (first ∷ others)) × (IsSettled s → migration_of s output ≡ migrated output []) × AreLines (first ∷ others) said × (place ≡ 0)
 IsForMigration shape file statuses.ShapeRefused place output said = DenotesNone shape (record { place = place; said = said }) × (output ≡ [])
 IsForMigration shape file statuses.Broken place output said = (s : Form) × DenotesShape shape s × (migration_of s file ≡ broken place) × (output ≡ []) × (said ≡ [])
 IsForMigration shape file status place output said = ⊥

@@ -2,6 +2,7 @@
 use Rattle.std.specs.Prelude.{◌≡◌, ◌⊎◌, ℕ, List, [], ◌∷◌, length, Result, Ok, Err}
 use Rattle.bson_base.specs.Text.{Bytes, Utf8}
 use Rattle.bson_shape.specs.Form.{Form}
+use Rattle.bson_laws.specs.Settled.{IsSettled}
 use Rattle.bson_migrate_run.specs.Lines.{AreLines}
 use Rattle.bson_migrate_run.specs.Migrating.{NotRecast, Migrating, broken, migrated, migration_of}
 use Rattle.bson_buffers.specs.Asked.{NoShape, shape_of_bytes, DenotesShape}
@@ -11,18 +12,20 @@ use Rattle.bson_buffers.specs.Buffers.{Call, Writes, LacksSpace, Tells, IsSilent
 use Rattle.bson_buffers.specs.declared.status.Status.{Status}
 use Rattle.bson_buffers.specs.declared.status.Status.TheVariants as statuses
 
--- Every document is recast, and the buffer holds what the recasts write; migrated again at the shape, that is given back.
+-- Every document is recast, and the buffer holds what the recasts write; migrated again at the shape, that is given back,
+-- where the shape does not depend on whether the reader is human.
 pub record MigratedRow (shape file : Bytes) (c : Call) : Type 0 where
   pub form : Form
   pub notation : DenotesShape shape form
   pub output : Bytes
   pub migration : migration_of form file ≡ migrated output []
-  pub again : migration_of form output ≡ migrated output []
+  pub again : IsSettled form → migration_of form output ≡ migrated output []
   pub put : Writes c output
   pub no_text : Tells c []
   pub no_place : c.place ≡ 0
 
--- Some documents are not recast, and what is said tells of them so; the buffer holds what the others' recasts write, and migrated again that is given back.
+-- Some documents are not recast, and what is said tells of them so; the buffer holds what the others' recasts write, and migrated again that is given back, where the
+-- shape does not depend on whether the reader is human.
 pub record RefusedRow (TellsOf : List NotRecast → Utf8 → Type 0) (shape file : Bytes) (c : Call) : Type 0 where
   pub form : Form
   pub notation : DenotesShape shape form
@@ -30,7 +33,7 @@ pub record RefusedRow (TellsOf : List NotRecast → Utf8 → Type 0) (shape file
   pub first : NotRecast
   pub others : List NotRecast
   pub migration : migration_of form file ≡ migrated output (first ∷ others)
-  pub again : migration_of form output ≡ migrated output []
+  pub again : IsSettled form → migration_of form output ≡ migrated output []
   pub said : Utf8
   pub tells : TellsOf (first ∷ others) said
   pub put : Writes c output

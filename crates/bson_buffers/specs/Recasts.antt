@@ -4,6 +4,7 @@ use Rattle.bson_base.specs.Text.{Bytes}
 use Rattle.bson_datum.specs.Printed.{printed_failure, printed_read_fault, printed_write_fault}
 use Rattle.bson_datum.specs.Refusal.{ReadFault, WriteFault, Failure}
 use Rattle.bson_shape.specs.Form.{Form}
+use Rattle.bson_laws.specs.Settled.{IsSettled}
 use Rattle.bson_recast_run.specs.Recasting.{Recast, writes, unread, unwritten, recast_of, Unwritten}
 use Rattle.bson_buffers.specs.Asked.{NoShape, shape_of_bytes, DenotesShape}
 use Rattle.bson_buffers.specs.Checks.{NoShapeRow}
@@ -11,13 +12,14 @@ use Rattle.bson_buffers.specs.Buffers.{Call, Writes, LacksSpace, Tells, IsSilent
 use Rattle.bson_buffers.specs.declared.status.Status.{Status}
 use Rattle.bson_buffers.specs.declared.status.Status.TheVariants as statuses
 
--- The document is recast, and the buffer holds what the recast writes; recast again at the shape, that is given back.
+-- The document is recast, and the buffer holds what the recast writes; recast again at the shape, that is given back, where the
+-- shape does not depend on whether the reader is human.
 pub record RecastRow (shape bytes : Bytes) (c : Call) : Type 0 where
   pub form : Form
   pub notation : DenotesShape shape form
   pub output : Bytes
   pub recast : recast_of form bytes ≡ writes output
-  pub again : recast_of form output ≡ writes output
+  pub again : IsSettled form → recast_of form output ≡ writes output
   pub put : Writes c output
   pub no_text : Tells c []
   pub no_place : c.place ≡ 0

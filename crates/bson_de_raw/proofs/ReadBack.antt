@@ -22,6 +22,7 @@ use Rattle.bson_laws.specs.Reads.{reads_document, reads_marked}
 use Rattle.bson_laws.proofs.Fitted.{views_means}
 use Rattle.bson_laws.proofs.ReadBack.{views_reads}
 use Rattle.bson_de_raw.specs.Gives.{FailsAs, Gives, GivesValue}
+use Rattle.bson_de_raw.specs.ReadsLossy.{reads_lossy_marked, reads_lossy}
 
 -- where the answer is a value, only out of memory fails
 fails_for_memory : (f : Failure ReadFault) (v : Value) (answer : Result Value (Failure ReadFault)) → answer ≡ Ok v → FailsAs f answer → f ≡ no_memory
@@ -46,6 +47,9 @@ gives_without (Err e) answer h = fails_without (read_failure e) answer h
 pub gives_document : (s : Form) (bytes : Bytes) (r : Result Datum Error) → Gives marked r (reads_marked s bytes) → Gives view r (reads_document s bytes)
 gives_document s bytes r h = gives_without r (reads_marked s bytes) h
 
+pub gives_lossy : (s : Form) (bytes : Bytes) (r : Result Datum Error) → Gives marked r (reads_lossy_marked s bytes) → Gives view r (reads_lossy s bytes)
+gives_lossy s bytes r h = gives_without r (reads_lossy_marked s bytes) h
+
 pub read_back : (s : Form) (bytes : Bytes) (v : Value) (t : Tree) (r : Result Datum Error) → IsShape s → IsPlain s → Fits v s → means v ≡ Some t → IsSound t → bytes ≡ enc t → Gives marked r (reads_marked s bytes) → GivesValue (norm v) r
 read_back s bytes v t r shape plain fits mean sound is exact =
-    gives_value (norm v) r (reads_document s bytes) (ap (reads_document s) is ∙ views_reads s t (norm v) shape sound (views_means v s t plain fits mean sound.clean)) (gives_document s bytes r exact)
+    gives_value (norm v) r (reads_document s bytes) (ap (reads_document s) is ∙ views_reads s t (norm v) shape plain sound (views_means v s t plain fits mean sound.clean)) (gives_document s bytes r exact)

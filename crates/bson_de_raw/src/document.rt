@@ -8,6 +8,7 @@ ghost use Rattle.bson_laws.specs.Means.{means, norm};
 ghost use Rattle.bson_laws.specs.Plain.{IsPlain};
 ghost use Rattle.bson_laws.specs.Reads.{reads_marked};
 ghost use Rattle.bson_de_raw.specs.Gives.{Gives, GivesValue};
+ghost use Rattle.bson_de_raw.specs.ReadsLossy.{reads_lossy_marked};
 
 use bson_datum::{Datum, MAX_NESTING_LEVEL, de};
 use bson_de::read_value;
@@ -115,6 +116,34 @@ fn read_document<'de>(alloc: Global, shape: &Shape, bytes: &'de [u8]) -> de::Res
 {
     let document = RawDocument::from_bytes(bytes)?;
     match read_value(alloc, shape, &Met::of_document(MAX_NESTING_LEVEL, document)) {
+        Ok(value) => Ok(value),
+        Err(stop) => Err(de::Error::from_stop(alloc, stop)),
+    }
+}
+
+/// The value that the bytes of a document are at a shape, where its texts are mended.
+///
+/// It reads as [`from_slice_at`] does, with two exceptions:
+///
+/// - Each String, JavaScriptCode, Symbol and namespace of a DbPointer, the two texts of a RegularExpression and the code of a JavaScriptCodeWithScope are
+///   mended: U+FFFD stands for each ill-formed sequence, as `String::from_utf8_lossy` writes it. Keys are not mended: one that is not UTF-8 is refused.
+/// - No text and no key is borrowed, and a Binary is borrowed at `bytes` alone. All others are owned, also at `any`.
+///
+/// # Errors
+///
+/// Those of [`from_slice_at`], with two exceptions: no value of these kinds is refused for a text that is not UTF-8, and `NotBorrowed` comes at `str` for every
+/// text, key and byte string that it takes, and at `bytes` for every text.
+pub fn from_slice_utf8_lossy_at<'de>(
+    alloc: Global,
+    shape: &Shape,
+    bytes: &'de [u8],
+) -> de::Result<Datum<'de>>
+    // The value, and which of its texts and byte strings are borrowed.
+    ensures exact { Gives marked result (reads_lossy_marked shape.now bytes.now) }
+{
+    let document = RawDocument::from_bytes(bytes)?;
+    let document = Met::of_document(MAX_NESTING_LEVEL, document);
+    match read_value(alloc, shape, &document.mended()) {
         Ok(value) => Ok(value),
         Err(stop) => Err(de::Error::from_stop(alloc, stop)),
     }

@@ -3,4 +3,4 @@
 
 mod document;
 
-pub use document::from_slice_at;
+pub use document::{from_slice_at, from_slice_utf8_lossy_at};

@@ -18,6 +18,7 @@ use Rattle.bson_rawdoc.proofs.Extents.{announced_found, number_within}
 use Rattle.bson_rawdoc.proofs.Pieces.{cut-nil, cut_more}
 use Rattle.bson_shape.specs.Form.{Form}
 use Rattle.bson_shape.specs.Makers.{IsShape}
+use Rattle.bson_laws.specs.Settled.{IsSettled}
 use Rattle.bson_recast_run.specs.Recasting.{Recast, writes, unread, unwritten, recast_of}
 use Rattle.bson_recast_run.proofs.Again.{recast_again, recast_framed}
 use Rattle.bson_migrate_run.specs.declared.migrating.Migration.{Migration}
@@ -105,14 +106,14 @@ outputs_joined s (p ∷ ps) = ap (λ o. bytes_of (recast_of s p) ++ o) (outputs_
 abbrev IsKept : Form → Bytes → Type 0
 IsKept s b = recast_of s b ≡ writes b
 
-front_kept : (s : Form) (p : Bytes) (rest : List Bytes) → IsShape s → AreBytes p → (r : Recast) → recast_of s p ≡ r → Each (IsKept s) rest → Each (IsKept s) (with_written r rest)
-front_kept s p rest shape are (writes b) is h = (recast_again s p b shape are is, h)
-front_kept s p rest shape are (unread f) is h = h
-front_kept s p rest shape are (unwritten due long) is h = h
+front_kept : (s : Form) (p : Bytes) (rest : List Bytes) → IsShape s → IsSettled s → AreBytes p → (r : Recast) → recast_of s p ≡ r → Each (IsKept s) rest → Each (IsKept s) (with_written r rest)
+front_kept s p rest shape due are (writes b) is h = (recast_again s p b shape due are is, h)
+front_kept s p rest shape due are (unread f) is h = h
+front_kept s p rest shape due are (unwritten refusal long) is h = h
 
-written_kept : (s : Form) (ps : List Bytes) → IsShape s → Each AreBytes ps → Each (IsKept s) (written s ps)
-written_kept s [] shape are = tt
-written_kept s (p ∷ ps) shape are = front_kept s p (written s ps) shape are.0 (recast_of s p) refl (written_kept s ps shape are.1)
+written_kept : (s : Form) (ps : List Bytes) → IsShape s → IsSettled s → Each AreBytes ps → Each (IsKept s) (written s ps)
+written_kept s [] shape due are = tt
+written_kept s (p ∷ ps) shape due are = front_kept s p (written s ps) shape due are.0 (recast_of s p) refl (written_kept s ps shape due are.1)
 
 kept_framed : (s : Form) (bs : List Bytes) → Each (IsKept s) bs → Each IsFramed bs
 kept_framed s [] h = tt
@@ -128,20 +129,20 @@ none_listed s n (b ∷ bs) h = ap (λ r. listed n r (not_recast s (suc n) bs)) h
 
 -- ---- the migration of what was migrated
 
-output_again : (s : Form) (ps : List Bytes) → IsShape s → Each AreBytes ps → migration_of s (outputs s ps) ≡ migrated (outputs s ps) []
-output_again s ps shape are =
+output_again : (s : Form) (ps : List Bytes) → IsShape s → IsSettled s → Each AreBytes ps → migration_of s (outputs s ps) ≡ migrated (outputs s ps) []
+output_again s ps shape due are =
     let bs = written s ps in
-    let kept = written_kept s ps shape are in
+    let kept = written_kept s ps shape due are in
     let is : outputs s ps ≡ joined bs = outputs_joined s ps in
     let cuts : cut (joined bs) ≡ record { pieces = bs; broken = None } = cut_joined 0 bs (kept_framed s bs kept) in
     subst (λ o. migration_of s o ≡ migrated o []) (sym is)
     (ap (λ (c : Cut). migration_by c.broken (outputs s c.pieces) (not_recast s 0 c.pieces)) cuts
     ∙ ap (λ o. migrated o (not_recast s 0 bs)) (outputs_kept s bs kept) ∙ ap (migrated (joined bs)) (none_listed s 0 bs kept))
 
-answer_again : (s : Form) (ps : List Bytes) (break : Option ℕ) (m : Migration) → IsShape s → Each AreBytes ps → IsMigration (migration_by break (outputs s ps) (not_recast s 0 ps)) (Ok m) → migration_of s m.output.items ≡ migrated m.output.items []
-answer_again s ps (Some place) m shape are h = absurd h
-answer_again s ps None m shape are h = subst (λ o. migration_of s o ≡ migrated o []) (sym h.0) (output_again s ps shape are)
+answer_again : (s : Form) (ps : List Bytes) (break : Option ℕ) (m : Migration) → IsShape s → IsSettled s → Each AreBytes ps → IsMigration (migration_by break (outputs s ps) (not_recast s 0 ps)) (Ok m) → migration_of s m.output.items ≡ migrated m.output.items []
+answer_again s ps (Some place) m shape due are h = absurd h
+answer_again s ps None m shape due are h = subst (λ o. migration_of s o ≡ migrated o []) (sym h.0) (output_again s ps shape due are)
 
-pub migrated_again : (s : Form) (file : Bytes) → IsShape s → AreBytes file → (r : Result Migration MigrateError) → IsMigration (migration_of s file) r → IfOk r (λ m. migration_of s m.output.items ≡ migrated m.output.items [])
-migrated_again s file shape are (Ok m) h = answer_again s (cut file).pieces (cut file).broken m shape (bytes_cut file are) h
-migrated_again s file shape are (Err e) h = tt
+pub migrated_again : (s : Form) (file : Bytes) → IsShape s → IsSettled s → AreBytes file → (r : Result Migration MigrateError) → IsMigration (migration_of s file) r → IfOk r (λ m. migration_of s m.output.items ≡ migrated m.output.items [])
+migrated_again s file shape due are (Ok m) h = answer_again s (cut file).pieces (cut file).broken m shape due (bytes_cut file are) h
+migrated_again s file shape due are (Err e) h = tt

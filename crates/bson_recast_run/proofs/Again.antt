@@ -1,5 +1,5 @@
 -- What was recast is recast again as the same bytes.
-use Rattle.std.proofs.Common.{◌≡◌, ◌≤◌, [], length, Bool, true, false, Result, Ok, Err, Option, Some, refl, ap, sym, subst, ◌∙◌, arith, inl, inr}
+use Rattle.std.proofs.Common.{◌≡◌, ◌≤◌, [], length, Bool, true, false, Result, Ok, Err, Option, Some, None, refl, ap, sym, subst, ◌∙◌, arith, inl, inr}
 use Rattle.std.specs.Prelude.{◌⊎◌, ℕ, nat_lt, IfOk}
 use Rattle.std.specs.Global.{Vec}
 use Rattle.std.specs.Io.KnownBytes.{Appends}
@@ -9,6 +9,7 @@ use Rattle.bson_base.specs.Sound.{max_bytes, max_levels}
 use Rattle.bson_base.specs.Text.{Bytes, AreBytes}
 use Rattle.bson_base.specs.Tree.{Tree, enc}
 use Rattle.bson_base.specs.declared.element_type.ElementType.TheVariants.{EmbeddedDocument}
+use Rattle.bson_base.proofs.Outcomes.{ok_is}
 use Rattle.bson_rawdoc.specs.Envelope.{envelope}
 use Rattle.bson_rawdoc.specs.Node.{node_in}
 use Rattle.bson_rawdoc.specs.declared.raw.Error.{Error}
@@ -18,57 +19,98 @@ use Rattle.bson_datum.specs.Cause.{raw}
 use Rattle.bson_datum.specs.Marked.{contents}
 use Rattle.bson_datum.specs.Refusal.{ReadFault, Failure, bare, unreadable}
 use Rattle.bson_datum.specs.Value.{Value}
-use Rattle.bson_laws.specs.Reads.{reads, answered, reads_document}
+use Rattle.bson_laws.specs.CompactReads.{reads}
+use Rattle.bson_laws.specs.Reads.{answered, reads_document}
+use Rattle.bson_laws.specs.Settled.{IsSettled}
 use Rattle.bson_laws.specs.Spell.{Writing, spell_document, size}
 use Rattle.bson_laws.proofs.ReadAgain.{document_again, document_size}
 use Rattle.bson_program.proofs.Inputs.{whole}
 use Rattle.bson_program.specs.Command.{IsAskedFor}
 use Rattle.bson_program.specs.Ends.{ReadAs}
 use Rattle.bson_program.specs.Input.{OnInput}
-use Rattle.bson_program.specs.OneShape.{one_shape, request}
 use Rattle.bson_program.specs.Program.{IsDue, IsAnswered}
 use Rattle.bson_program.specs.Run.{Run, AllQuiet, AreKept, AreWritten, Told, CutShort}
+use Rattle.bson_de_raw.specs.ReadsLossy.{reads_lossy}
+use Rattle.bson_de_raw.proofs.Lossy.{lossy_document_again}
+use Rattle.bson_recast_run.specs.declared.options.Job.{Job}
 use Rattle.bson_recast_run.specs.declared.recasting.RecastError.{RecastError}
 use Rattle.bson_recast_run.specs.declared.status.Status.{Status}
 use Rattle.bson_recast_run.specs.declared.status.Status.TheVariants as statuses
-use Rattle.bson_recast_run.specs.Due.{recast_usage}
-use Rattle.bson_recast_run.specs.Recasting.{writes, written, recast_read, recast_of, IsRecast}
-use Rattle.bson_recast_run.specs.Rows.{AnswersRecast, recast_input, recast_program, WritesExactly}
-use Rattle.bson_recast_run.proofs.Headline.{writes_recast}
+use Rattle.bson_recast_run.specs.Digits.{document_in, shown}
+use Rattle.bson_recast_run.specs.Options.{recast_command, request, AskForDigits}
+use Rattle.bson_recast_run.specs.Recasting.{writes, written, recast_read, recast_of, lossy_recast_of, recast_with, IsRecast}
+use Rattle.bson_recast_run.specs.Rows.{AnswersDocument, AnswersJob, recast_input, recast_program, WritesExactly}
+use Rattle.bson_recast_run.proofs.AskedFor.{options_asked}
+use Rattle.bson_recast_run.proofs.DigitsBack.{document_are, shown_holds}
+use Rattle.bson_recast_run.proofs.Headline.{writes_job}
+
+-- how a document's bytes are read
+abbrev Reader : Type 0
+Reader = Bytes → Result Value (Failure ReadFault)
 
 -- a value that was read, and the document that it is written as
-pub record IsWrittenAs (s : Form) (bytes out : Bytes) : Type 0 where
+pub record IsWrittenAs (read : Reader) (bytes out : Bytes) : Type 0 where
   pub value : Value
   pub tree : Tree
-  pub read : reads_document s bytes ≡ Ok value
+  pub is_read : read bytes ≡ Ok value
   pub spelled : spell_document value ≡ Ok tree
   pub fits : size value ≤ max_bytes
   pub is : out ≡ enc tree
 
-value_written : (s : Form) (bytes out : Bytes) (d : Value) (long : Bool) (w : Writing Tree) → reads_document s bytes ≡ Ok d → nat_lt max_bytes (size d) ≡ long → spell_document d ≡ w → written long w ≡ writes out → IsWrittenAs s bytes out
-value_written s bytes out d long (Err r) read fits spelled e = absurd cc
-value_written s bytes out d true (Ok t) read fits spelled e = absurd cc
-value_written s bytes out d false (Ok t) read fits spelled e = record { value = d; tree = t; read = read; spelled = spelled; fits = ltb-false _ _ fits; is = cc }
+value_written : (read : Reader) (bytes out : Bytes) (d : Value) (long : Bool) (w : Writing Tree) → read bytes ≡ Ok d → nat_lt max_bytes (size d) ≡ long → spell_document d ≡ w → written long w ≡ writes out → IsWrittenAs read bytes out
+value_written read bytes out d long (Err r) is fits spelled e = absurd cc
+value_written read bytes out d true (Ok t) is fits spelled e = absurd cc
+value_written read bytes out d false (Ok t) is fits spelled e = record { value = d; tree = t; is_read = is; spelled = spelled; fits = ltb-false _ _ fits; is = cc }
 
-written_as : (s : Form) (bytes out : Bytes) (answer : Result Value (Failure ReadFault)) → reads_document s bytes ≡ answer → recast_read answer ≡ writes out → IsWrittenAs s bytes out
-written_as s bytes out (Err f) is e = absurd cc
-written_as s bytes out (Ok d) is e = value_written s bytes out d (nat_lt max_bytes (size d)) (spell_document d) is refl refl e
+written_as : (read : Reader) (bytes out : Bytes) (answer : Result Value (Failure ReadFault)) → read bytes ≡ answer → recast_read answer ≡ writes out → IsWrittenAs read bytes out
+written_as read bytes out (Err f) is e = absurd cc
+written_as read bytes out (Ok d) is e = value_written read bytes out d (nat_lt max_bytes (size d)) (spell_document d) is refl refl e
+
+-- what is written has at most as many bytes as a document may
+written_fits : (read : Reader) (bytes out : Bytes) → recast_read (read bytes) ≡ writes out → length out ≤ max_bytes
+written_fits read bytes out e =
+    let w = written_as read bytes out (read bytes) refl e in
+    omega (arith, w.fits, document_size w.value w.tree w.spelled, ap length w.is)
 
 -- what is read as a value that is written as a document of few enough bytes is recast as the document
-recast_as : (s : Form) (bytes : Bytes) (d : Value) (t : Tree) → reads_document s bytes ≡ Ok d → spell_document d ≡ Ok t → length (enc t) ≤ max_bytes → recast_of s bytes ≡ writes (enc t)
-recast_as s bytes d t read spelled fits =
-    ap recast_read read ∙ ap (written (nat_lt max_bytes (size d))) spelled ∙ ap (λ b. written b (Ok t)) (le-ltb _ _ (omega (arith, document_size d t spelled, fits)))
+recast_as : (read : Reader) (bytes : Bytes) (d : Value) (t : Tree) → read bytes ≡ Ok d → spell_document d ≡ Ok t → length (enc t) ≤ max_bytes → recast_read (read bytes) ≡ writes (enc t)
+recast_as read bytes d t is spelled fits =
+    ap recast_read is ∙ ap (written (nat_lt max_bytes (size d))) spelled ∙ ap (λ b. written b (Ok t)) (le-ltb _ _ (omega (arith, document_size d t spelled, fits)))
 
-pub recast_again : (s : Form) (bytes out : Bytes) → IsShape s → AreBytes bytes → recast_of s bytes ≡ writes out → recast_of s out ≡ writes out
-recast_again s bytes out shape are e =
-    let w = written_as s bytes out (reads_document s bytes) refl e in
+-- what is read and spelled as a document is read of the document again, as what is spelled as it
+abbrev ReadsAgain : Reader → Type 0
+ReadsAgain read = (bytes : Bytes) (d : Value) (t : Tree) → AreBytes bytes → read bytes ≡ Ok d → spell_document d ≡ Ok t → length (enc t) ≤ max_bytes
+    → (v : Value) × (read (enc t) ≡ Ok v) × (spell_document v ≡ Ok t)
+
+written_again : (read : Reader) → ReadsAgain read → (bytes out : Bytes) → AreBytes bytes → recast_read (read bytes) ≡ writes out → recast_read (read out) ≡ writes out
+written_again read reads bytes out are e =
+    let w = written_as read bytes out (read bytes) refl e in
     let fits : length (enc w.tree) ≤ max_bytes = omega (arith, w.fits, document_size w.value w.tree w.spelled) in
-    let next = document_again s bytes w.value w.tree shape are w.read w.spelled fits in
-    subst (λ b. recast_of s b ≡ writes b) (sym w.is) (recast_as s (enc w.tree) next.0 w.tree next.1 next.2 fits)
+    let next = reads bytes w.value w.tree are w.is_read w.spelled fits in
+    subst (λ b. recast_read (read b) ≡ writes b) (sym w.is) (recast_as read (enc w.tree) next.0 w.tree next.1 next.2 fits)
 
-pub given_back : (s : Form) (bytes : Bytes) → IsShape s → AreBytes bytes → (r : Result (Vec ℕ) RecastError) → IsRecast (recast_of s bytes) r → IfOk r (λ v. recast_of s v.items ≡ writes v.items)
-given_back s bytes shape are (Ok v) h = recast_again s bytes v.items shape are h
-given_back s bytes shape are (Err e) h = tt
+pub recast_again : (s : Form) (bytes out : Bytes) → IsShape s → IsSettled s → AreBytes bytes → recast_of s bytes ≡ writes out → recast_of s out ≡ writes out
+recast_again s bytes out shape due are e = written_again (reads_document s) (λ b d t h. document_again s b d t shape due h) bytes out are e
+
+lossy_again : (s : Form) (bytes out : Bytes) → IsShape s → IsSettled s → AreBytes bytes → lossy_recast_of s bytes ≡ writes out → lossy_recast_of s out ≡ writes out
+lossy_again s bytes out shape due are e = written_again (reads_lossy s) (λ b d t h. lossy_document_again s b d t shape due h) bytes out are e
+
+pub given_back : (s : Form) (bytes : Bytes) → IsShape s → IsSettled s → AreBytes bytes → (r : Result (Vec ℕ) RecastError) → IsRecast (recast_of s bytes) r → IfOk r (λ v. recast_of s v.items ≡ writes v.items)
+given_back s bytes shape due are (Ok v) h = recast_again s bytes v.items shape due are h
+given_back s bytes shape due are (Err e) h = tt
+
+pub given_lossy_back : (s : Form) (bytes : Bytes) → IsShape s → IsSettled s → AreBytes bytes → (r : Result (Vec ℕ) RecastError) → IsRecast (lossy_recast_of s bytes) r → IfOk r (λ v. lossy_recast_of s v.items ≡ writes v.items)
+given_lossy_back s bytes shape due are (Ok v) h = lossy_again s bytes v.items shape due are h
+given_lossy_back s bytes shape due are (Err e) h = tt
+
+-- the same with the option or without it
+with_again : (lossy : Bool) (s : Form) (bytes out : Bytes) → IsShape s → IsSettled s → AreBytes bytes → recast_with lossy s bytes ≡ writes out → recast_with lossy s out ≡ writes out
+with_again false s bytes out shape due are e = recast_again s bytes out shape due are e
+with_again true s bytes out shape due are e = lossy_again s bytes out shape due are e
+
+with_fits : (lossy : Bool) (s : Form) (bytes out : Bytes) → recast_with lossy s bytes ≡ writes out → length out ≤ max_bytes
+with_fits false s bytes out e = written_fits (reads_document s) bytes out e
+with_fits true s bytes out e = written_fits (reads_lossy s) bytes out e
 
 -- ---- two runs
 
@@ -78,14 +120,27 @@ grown before after bytes out empty holds grew =
     let both : Appends (Some []) (Some out) bytes = subst (λ a. Appends (Some []) a bytes) holds (subst (λ b. Appends b after bytes) empty grew) in
     sym both
 
--- a run that ended well: the shape that was asked for, the input, and its recast, which was written
+-- what was written for a document that an input held
+pub record IsDone (job : Job) (held : Option Bytes) (out : Bytes) : Type 0 where
+  pub document : Bytes
+  pub holds : held ≡ Some document
+  pub written : Bytes
+  pub answer : recast_with job.options.lossy job.shape document ≡ writes written
+  pub are_bytes : AreBytes written
+  pub shows : out ≡ shown job.options.hex written
+
+done_for : (job : Job) (held : Option Bytes) (out line : Bytes) → AnswersDocument job held statuses.Done out line → IsDone job held out
+done_for job (Some document) out line h = record { document = document; holds = refl; written = h.document; answer = h.answer; are_bytes = h.are_bytes; shows = h.shows }
+done_for job None out line h = absurd h
+
+-- a run that ended well: the job that was asked for, the input, and what was written
 pub record HasWritten (r : Run Status) : Type 0 where
-  pub shape : Form
-  pub asked : IsAskedFor (one_shape recast_usage) r.words shape
+  pub job : Job
+  pub asked : IsAskedFor recast_command r.words job
   pub bytes : Bytes
   pub read : ReadAs r.input bytes
   pub out : Bytes
-  pub answer : recast_of shape bytes ≡ writes out
+  pub done : IsDone job (document_in job.options.hex bytes) out
   pub out_grew : Appends r.out.before r.out.after out
 
 has_written : (r : Run Status) → r.status ≡ statuses.Done → IsAnswered recast_program r → HasWritten r
@@ -93,8 +148,9 @@ has_written r done answers = by_end answers.ended where
   by_due : (bytes lines : Bytes) → AreWritten bytes lines r.out r.err → IsDue recast_program r.words r.input statuses.Done bytes lines → HasWritten r
   by_due bytes lines written (inr row) = absurd (let e = row.ended in cc)
   by_due bytes lines written (inl row) = by_input row.answer where
-    by_input : OnInput recast_input (λ doc. AnswersRecast (recast_of row.job doc)) r.input statuses.Done bytes lines → HasWritten r
-    by_input (inl h) = record { shape = row.job; asked = row.asked; bytes = h.bytes; read = h.read; out = bytes; answer = h.answer.answer; out_grew = written.out_grew }
+    by_input : OnInput recast_input (AnswersJob row.job) r.input statuses.Done bytes lines → HasWritten r
+    by_input (inl h) =
+        record { job = row.job; asked = row.asked; bytes = h.bytes; read = h.read; out = bytes; done = done_for row.job (document_in row.job.options.hex h.bytes) bytes lines h.answer; out_grew = written.out_grew }
     by_input (inr (inl h)) = absurd (let e = h.ended in cc)
     by_input (inr (inr h)) = absurd (let e = h.ended in cc)
 
@@ -103,18 +159,31 @@ has_written r done answers = by_end answers.ended where
   by_end (inr (inl h)) = absurd (let e = sym done ∙ h.0 in cc)
   by_end (inr (inr h)) = absurd (let e = sym done ∙ h.0 in cc)
 
--- A run that ended well on an input of bytes wrote `out` to an empty output: a run with the same words on `out` writes exactly it, or nothing.
-pub run_again : (first second : Run Status) (given out : Bytes) → IsAnswered recast_program first → first.status ≡ statuses.Done → AreBytes given → first.input.before ≡ Some given
-    → first.out.before ≡ Some [] → first.out.after ≡ Some out → IsAnswered recast_program second → second.words ≡ first.words → second.input.before ≡ Some out → AllQuiet second
-    → WritesExactly second out
-run_again first second given out answers done are told empty holds again words input quiet =
+-- what was shown is no longer than an input may be: not so where it is shown in digits
+shown_fits : (hex : Bool) (document out : Bytes) → length document ≤ max_bytes → out ≡ shown hex document → (hex ≡ true → length out ≤ max_bytes) → length out ≤ max_bytes
+shown_fits false document out small is digits = omega (arith, small, ap length is)
+shown_fits true document out small is digits = digits refl
+
+-- A run that ended well on an input of bytes, at a shape that does not depend on whether the reader is human, wrote `out` to an empty output: a run with the
+-- same words on `out` writes exactly it, or nothing. Digits may be more than an input may have.
+pub run_again : (first second : Run Status) (job : Job) (given out : Bytes) → request first.words ≡ Ok job → IsSettled job.shape → IsAnswered recast_program first → first.status ≡ statuses.Done → AreBytes given → first.input.before ≡ Some given
+    → first.out.before ≡ Some [] → first.out.after ≡ Some out → (AskForDigits first.words → length out ≤ max_bytes) → IsAnswered recast_program second → second.words ≡ first.words
+    → second.input.before ≡ Some out → AllQuiet second → WritesExactly second out
+run_again first second job given out asked due answers done are told empty holds short again words input quiet =
     let h = has_written first done answers in
+    let d = h.done in
+    let o = h.job.options in
+    let s = h.job.shape in
     let is_input : h.bytes ≡ given = whole first.input.before first.input.after h.bytes given h.read.taken h.read.ended told in
     let is_out : h.out ≡ out = grown first.out.before first.out.after h.out out empty holds h.out_grew in
-    let once : recast_of h.shape given ≡ writes out = subst (λ b. recast_of h.shape b ≡ writes out) is_input (h.answer ∙ ap writes is_out) in
-    let w = written_as h.shape given out (reads_document h.shape given) refl once in
-    let small : length out ≤ max_bytes = omega (arith, w.fits, document_size w.value w.tree w.spelled, ap length w.is) in
-    writes_recast h.shape out out second again small (recast_again h.shape given out h.asked.asks.made are once) (ap (request recast_usage) words ∙ h.asked.is) input quiet
+    let settled : IsSettled s = subst (λ (j : Job). IsSettled j.shape) (ok_is job h.job (sym asked ∙ h.asked.is)) due in
+    let held : document_in o.hex given ≡ Some d.document = sym (ap (document_in o.hex) is_input) ∙ d.holds in
+    let shows : out ≡ shown o.hex d.written = sym is_out ∙ d.shows in
+    let small : length out ≤ max_bytes =
+    shown_fits o.hex d.written out (with_fits o.lossy s d.document d.written d.answer) shows (λ hex. short (ap (λ p. p.hex) (options_asked first.words h.job h.asked.is) ∙ hex)) in
+    let next : recast_with o.lossy s d.written ≡ writes d.written = with_again o.lossy s d.document d.written h.asked.asks.made settled (document_are o.hex given d.document are held) d.answer in
+    subst (WritesExactly second) (sym shows)
+    (writes_job h.job out d.written d.written second again small (ap (document_in o.hex) shows ∙ shown_holds o.hex d.written d.are_bytes) next (ap request words ∙ h.asked.is) input quiet)
 
 -- ---- the frame
 
@@ -127,5 +196,5 @@ read_framed s bytes d (Err f) is h = absurd cc
 -- bytes that are recast are framed as a document
 pub recast_framed : (s : Form) (bytes out : Bytes) → recast_of s bytes ≡ writes out → (b : Bytes) × (envelope bytes ≡ Ok b)
 recast_framed s bytes out e =
-    let w = written_as s bytes out (reads_document s bytes) refl e in
-    read_framed s bytes w.value (envelope bytes) refl w.read
+    let w = written_as (reads_document s) bytes out (reads_document s bytes) refl e in
+    read_framed s bytes w.value (envelope bytes) refl w.is_read

@@ -6,24 +6,27 @@ use Rattle.std.proofs.lemmas.Bool.{eqb-true}
 use Rattle.bson_base.specs.Sound.{IsSound, max_bytes}
 use Rattle.bson_base.specs.Text.{Bytes, Utf8}
 use Rattle.bson_base.specs.Tree.{Tree, enc}
-use Rattle.bson_shape.specs.Form.{Form, leaf, optional, newtype, unit_structure, sequence, map, tuple, tuple_structure, structure, enumeration}
+use Rattle.bson_shape.specs.Form.{Form, leaf, optional, lossy, human_readable, by_mode, newtype, unit_structure, sequence, map, tuple, tuple_structure, structure, enumeration}
 use Rattle.bson_shape.specs.Makers.{IsShape}
 use Rattle.bson_shape.specs.Notation.{text, bare, quoted}
 use Rattle.bson_shape.specs.Leaf.{word}
 use Rattle.bson_shape.proofs.Words.{bare-word}
 use Rattle.bson_datum.specs.Value.{Value}
 use Rattle.bson_laws.specs.Means.{means}
+use Rattle.bson_laws.specs.Plain.{IsPlain}
 use Rattle.bson_laws.specs.Views.{views}
+use Rattle.bson_recast_run.specs.declared.options.Job.{Job}
 use Rattle.bson_recast_run.specs.declared.status.Status.{Status}
 use Rattle.bson_recast_run.specs.declared.status.Status.TheVariants as statuses
 use Rattle.bson_recast_run.specs.Due.{recast_usage}
 use Rattle.bson_program.proofs.Answered.{quiet_read}
-use Rattle.bson_program.proofs.OneShape.{requested}
-use Rattle.bson_program.specs.OneShape.{request}
 use Rattle.bson_program.specs.Program.{IsAnswered}
 use Rattle.bson_program.specs.Run.{Run, AllQuiet, AreKept, Told}
-use Rattle.bson_recast_run.specs.Recasting.{writes, recast_of}
-use Rattle.bson_recast_run.specs.Rows.{AnswersRecast, recast_input, recast_program, WritesExactly}
+use Rattle.bson_recast_run.specs.Digits.{document_in, shown}
+use Rattle.bson_recast_run.specs.Options.{no_options, job_of, request}
+use Rattle.bson_recast_run.specs.Recasting.{writes, recast_with}
+use Rattle.bson_recast_run.specs.Rows.{AnswersRecast, AnswersDocument, AnswersJob, recast_input, recast_program, WritesExactly}
+use Rattle.bson_recast_run.proofs.AskedFor.{asked_alone}
 use Rattle.bson_recast_run.proofs.Migrates.{recasts_it}
 
 -- ---- the words
@@ -53,6 +56,9 @@ bare_no_option (c ∷ name) e = not_both (nat_eq 45 c) _ (bare_no_dash c name e)
 pub no_option : (s : Form) → recast_usage.is_option (text s) ≡ false
 no_option (leaf l) = bare_no_option (word l) (bare-word l)
 no_option (optional s) = refl
+no_option (lossy s) = refl
+no_option (human_readable s) = refl
+no_option (by_mode readable compact) = refl
 no_option (newtype name s) = begins_no_option (bare name) name _ refl
 no_option (unit_structure name) = begins_no_option (bare name) name _ refl
 no_option (sequence s) = refl
@@ -71,24 +77,26 @@ keeps_from None b h = tt
 keeps_from (Some x) None h = absurd h
 keeps_from (Some x) (Some y) h = h ∙ append-nil x
 
--- what is due where the recast writes these bytes
-writes_due : (out : Bytes) (status : Status) (bytes line : Bytes) → AnswersRecast (writes out) status bytes line → (status ≡ statuses.Done) × (bytes ≡ out) × (line ≡ [])
-writes_due out statuses.Done bytes line h = (refl, (let e = h.answer in cc), h.no_line)
-writes_due out statuses.ReadRefused bytes line h = absurd (let e = h.answer in cc)
-writes_due out statuses.WriteRefused bytes line h = absurd h.answer
-writes_due out status bytes line h = absurd h
+-- what is due where the recast writes this document
+writes_due : (hex : Bool) (document : Bytes) (status : Status) (bytes line : Bytes) → AnswersRecast hex (writes document) status bytes line → (status ≡ statuses.Done) × (bytes ≡ shown hex document) × (line ≡ [])
+writes_due hex document statuses.Done bytes line h = (refl, h.shows ∙ ap (shown hex) (let e = h.answer in cc), h.no_line)
+writes_due hex document statuses.ReadRefused bytes line h = absurd (let e = h.answer in cc)
+writes_due hex document statuses.WriteRefused bytes line h = absurd h.answer
+writes_due hex document status bytes line h = absurd h
 
--- Asked for a recast of this input at a shape, where the recast writes `out`, exactly that is written, or nothing.
-pub writes_recast : (s : Form) (doc out : Bytes) (r : Run Status) → IsAnswered recast_program r → length doc ≤ max_bytes → recast_of s doc ≡ writes out → request recast_usage r.words ≡ Ok s → r.input.before ≡ Some doc → AllQuiet r → WritesExactly r out
-writes_recast s doc out r answers small recast_is asked told quiet =
-    by_end (quiet_read recast_program recast_input (λ bytes. AnswersRecast (recast_of s bytes)) r s doc quiet asked (λ status bytes line h. h) told small answers) where
-      by_end : Told (AnswersRecast (recast_of s doc)) r ⊎ ((r.status ≡ statuses.NoMemory) × AreKept r.out r.err) → WritesExactly r out
+-- Asked for a job on this input, which holds a document whose recast writes another, exactly that is written, or nothing.
+pub writes_job : (job : Job) (doc held out : Bytes) (r : Run Status) → IsAnswered recast_program r → length doc ≤ max_bytes → document_in job.options.hex doc ≡ Some held
+    → recast_with job.options.lossy job.shape held ≡ writes out → request r.words ≡ Ok job → r.input.before ≡ Some doc → AllQuiet r → WritesExactly r (shown job.options.hex out)
+writes_job job doc held out r answers small holds recast_is asked told quiet =
+    by_end (quiet_read recast_program recast_input (AnswersJob job) r job doc quiet asked (λ status bytes line h. h) told small answers) where
+      by_end : Told (AnswersJob job doc) r ⊎ ((r.status ≡ statuses.NoMemory) × AreKept r.out r.err) → WritesExactly r (shown job.options.hex out)
       by_end (inl h) =
-          let due = writes_due out r.status h.bytes h.lines (subst (λ c. AnswersRecast c r.status h.bytes h.lines) recast_is h.due) in
+          let of_held : AnswersDocument job (Some held) r.status h.bytes h.lines = subst (λ d. AnswersDocument job d r.status h.bytes h.lines) holds h.due in
+          let due = writes_due job.options.hex out r.status h.bytes h.lines (subst (λ c. AnswersRecast job.options.hex c r.status h.bytes h.lines) recast_is of_held) in
           inl (due.0, subst (Appends r.out.before r.out.after) due.1 h.written.out_grew, keeps_from r.err.before r.err.after (subst (Appends r.err.before r.err.after) due.2 h.written.err_grew))
       by_end (inr h) = inr h
 
 -- Given the notation of a shape and the bytes of a sound document, whose value at the shape means a sound document, exactly that document is written, or nothing.
-pub headline : (s : Form) (t u : Tree) (d : Value) (r : Run Status) → IsAnswered recast_program r → IsShape s → IsSound t → views s t ≡ Some d → means d ≡ Some u → IsSound u → r.words ≡ text s ∷ [] → r.input.before ≡ Some (enc t) → AllQuiet r → WritesExactly r (enc u)
-headline s t u d r answers shape sound view mean clean words told quiet =
-    writes_recast s (enc t) (enc u) r answers sound.fits (recasts_it s (enc t) t u d shape sound view mean clean refl) (requested recast_usage s r.words (no_option s) shape words) told quiet
+pub headline : (s : Form) (t u : Tree) (d : Value) (r : Run Status) → IsAnswered recast_program r → IsShape s → IsPlain s → IsSound t → views s t ≡ Some d → means d ≡ Some u → IsSound u → r.words ≡ text s ∷ [] → r.input.before ≡ Some (enc t) → AllQuiet r → WritesExactly r (enc u)
+headline s t u d r answers shape plain sound view mean clean words told quiet =
+    writes_job (job_of no_options s) (enc t) (enc t) (enc u) r answers sound.fits refl (recasts_it s (enc t) t u d shape plain sound view mean clean refl) (asked_alone s r.words (no_option s) shape words) told quiet

@@ -1,4 +1,7 @@
 pub mod RecastErrors
+pub mod DigitsBack
+mod LeadingOptions
+pub mod AskedFor
 pub mod Migrates
 pub mod Headline
 pub mod Settled

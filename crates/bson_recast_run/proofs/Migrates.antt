@@ -13,6 +13,7 @@ use Rattle.bson_datum.specs.Cause.{too_long}
 use Rattle.bson_datum.specs.Refusal.{ReadFault, WriteFault, unwritable, here, Failure, bare, placed}
 use Rattle.bson_datum.specs.ErrorView.{read_failure, write_failure}
 use Rattle.bson_laws.specs.Means.{means}
+use Rattle.bson_laws.specs.Plain.{IsPlain}
 use Rattle.bson_laws.specs.Reads.{reads_document}
 use Rattle.bson_laws.specs.Spell.{Writing, IsWrittenUnlessLarge, IsNumber, HoldsNumbers, spell_document, size}
 use Rattle.bson_laws.specs.Views.{views}
@@ -20,14 +21,16 @@ use Rattle.bson_laws.specs.Writable.{IsWritable}
 use Rattle.bson_laws.proofs.ReadBack.{views_reads}
 use Rattle.bson_laws.proofs.Documents.{document_written, document_numbers}
 use Rattle.bson_laws.proofs.Spelled.{spell_means}
+use Rattle.bson_de_raw.specs.ReadsLossy.{reads_lossy}
+use Rattle.bson_de_raw.proofs.Lossy.{lossy_numbers}
 use Rattle.bson_ser_stream.specs.Writing.{IsDue, too_long_failure}
 use Rattle.bson_recast_run.specs.declared.recasting.RecastError.{RecastError}
 use Rattle.bson_recast_run.specs.declared.recasting.RecastError.TheVariants.{Read, Write, NoMemory}
-use Rattle.bson_recast_run.specs.Recasting.{writes, unread, written, recast_read, recast_of, Unwritten, IsRecast, GivesBytes, IsForSize, IsForNoNumber, IfUnwritten}
+use Rattle.bson_recast_run.specs.Recasting.{writes, unread, written, recast_read, recast_of, lossy_recast_of, Unwritten, IsRecast, GivesBytes, IsForSize, IsForNoNumber, IfUnwritten}
 
-module _ (s : Form) (bytes : Bytes) (t u : Tree) (d : Value) (shape : IsShape s) (sound : IsSound t) (view : views s t ≡ Some d) (mean : means d ≡ Some u) (clean : IsSound u) (is : bytes ≡ enc t) where
+module _ (s : Form) (bytes : Bytes) (t u : Tree) (d : Value) (shape : IsShape s) (plain : IsPlain s) (sound : IsSound t) (view : views s t ≡ Some d) (mean : means d ≡ Some u) (clean : IsSound u) (is : bytes ≡ enc t) where
   reads_it : reads_document s bytes ≡ Ok d
-  reads_it = ap (reads_document s) is ∙ views_reads s t d shape sound view
+  reads_it = ap (reads_document s) is ∙ views_reads s t d shape plain sound view
 
   fits : size d ≤ max_bytes
   fits = let whole = spell_means d u mean clean in let small = clean.fits in omega (arith, whole.1, small)
@@ -53,14 +56,23 @@ value_refused d true (Ok t) f e (inr long) = inr (long.1, ltb-true _ _ e)
 value_refused d false (Ok t) f e h = absurd h
 
 -- a value that was read and is not written, for the refusal that is due or for its size
-pub record IsValueRefused (s : Form) (bytes : Bytes) (f : Failure WriteFault) : Type 0 where
+pub record IsValueRefused (answer : Result Value (Failure ReadFault)) (f : Failure WriteFault) : Type 0 where
   pub value : Value
-  pub read : reads_document s bytes ≡ Ok value
+  pub read : answer ≡ Ok value
   pub refused : IsDue (spell_document value) f ⊎ ((f ≡ too_long_failure) × (max_bytes < size value))
 
-unwritten_is : (s : Form) (bytes : Bytes) (f : Failure WriteFault) (answer : Result Value (Failure ReadFault)) → reads_document s bytes ≡ answer → Unwritten (recast_read answer) f → IsValueRefused s bytes f
-unwritten_is s bytes f (Err e) is h = absurd h
-unwritten_is s bytes f (Ok d) is h = record { value = d; read = is; refused = value_refused d (nat_lt max_bytes (size d)) (spell_document d) f refl h }
+unwritten_is : (f : Failure WriteFault) (answer : Result Value (Failure ReadFault)) → Unwritten (recast_read answer) f → IsValueRefused answer f
+unwritten_is f (Err e) h = absurd h
+unwritten_is f (Ok d) h = record { value = d; read = refl; refused = value_refused d (nat_lt max_bytes (size d)) (spell_document d) f refl h }
+
+-- a property of each failure of the writer for what was read
+of_each : (answer : Result Value (Failure ReadFault)) (P : Failure WriteFault → Type 0) → ((f : Failure WriteFault) → IsValueRefused answer f → P f) → (r : Result (Vec ℕ) RecastError) → IsRecast (recast_read answer) r → IfUnwritten P r
+of_each answer P holds (Ok v) h = tt
+of_each answer P holds (Err (Read e)) h = tt
+of_each answer P holds (Err (Write e)) h = holds (write_failure e) (unwritten_is (write_failure e) answer h)
+of_each answer P holds (Err NoMemory) h = tt
+
+-- ---- its size alone
 
 module _ (s : Form) (bytes : Bytes) (are : AreBytes bytes) where
   abbrev read : Value → Result Value (Failure ReadFault)
@@ -69,42 +81,41 @@ module _ (s : Form) (bytes : Bytes) (are : AreBytes bytes) where
   value_is : (d e : Value) → reads_document s bytes ≡ Ok d → reads_document s bytes ≡ Ok e → d ≡ e
   value_is d e p q = let both : read d ≡ read e = sym p ∙ q in cc
 
-  -- a property of each failure of the writer for what was read
-  of_each : (P : Failure WriteFault → Type 0) → ((f : Failure WriteFault) → IsValueRefused s bytes f → P f) → (r : Result (Vec ℕ) RecastError) → IsRecast (recast_of s bytes) r → IfUnwritten P r
-  of_each P holds (Ok v) h = tt
-  of_each P holds (Err (Read e)) h = tt
-  of_each P holds (Err (Write e)) h = holds (write_failure e) (unwritten_is s bytes (write_failure e) (reads_document s bytes) refl h)
-  of_each P holds (Err NoMemory) h = tt
-
-  -- ---- its size alone
-
   due_for_size : (w : Writing Tree) (f : Failure WriteFault) → IsWrittenUnlessLarge w → IsDue w f → IsForSize s bytes f
   due_for_size (Ok t) f u due = absurd due
   due_for_size (Err r) f u due = inr (r.path, r.fault, due, u)
 
-  too_large : IsShape s → IsWritable s → (f : Failure WriteFault) (h : IsValueRefused s bytes f) → IsForSize s bytes f
+  too_large : IsShape s → IsWritable s → (f : Failure WriteFault) (h : IsValueRefused (reads_document s bytes) f) → IsForSize s bytes f
   too_large shape writable f h = by_cause h.refused where
     by_cause : IsDue (spell_document h.value) f ⊎ ((f ≡ too_long_failure) × (max_bytes < size h.value)) → IsForSize s bytes f
     by_cause (inl due) = due_for_size (spell_document h.value) f (document_written s bytes h.value shape writable are h.read) due
     by_cause (inr long) = inl (long.0, λ d is. subst (λ x. max_bytes < size x) (value_is h.value d h.read is) long.1)
 
   pub for_size : IsShape s → IsWritable s → (r : Result (Vec ℕ) RecastError) → IsRecast (recast_of s bytes) r → IfUnwritten (IsForSize s bytes) r
-  for_size shape writable r h = of_each (IsForSize s bytes) (too_large shape writable) r h
+  for_size shape writable r h = of_each (reads_document s bytes) (IsForSize s bytes) (too_large shape writable) r h
 
-  -- ---- no number
+-- ---- no number
 
-  due_for_none : (w : Writing Tree) (f : Failure WriteFault) → HoldsNumbers w → IsDue w f → IsForNoNumber f
-  due_for_none (Ok t) f u due = absurd due
-  due_for_none (Err r) f u due = λ path fault is n.
-      let both : placed r.path (bare r.fault) ≡ placed path (bare fault) = sym due ∙ is in
-      let same : r.fault ≡ fault = cc in
-      u (subst IsNumber (sym same) n)
+due_for_none : (w : Writing Tree) (f : Failure WriteFault) → HoldsNumbers w → IsDue w f → IsForNoNumber f
+due_for_none (Ok t) f u due = absurd due
+due_for_none (Err r) f u due = λ path fault is n.
+    let both : placed r.path (bare r.fault) ≡ placed path (bare fault) = sym due ∙ is in
+    let same : r.fault ≡ fault = cc in
+    u (subst IsNumber (sym same) n)
 
-  no_number : (f : Failure WriteFault) (h : IsValueRefused s bytes f) → IsForNoNumber f
-  no_number f h = by_cause h.refused where
-    by_cause : IsDue (spell_document h.value) f ⊎ ((f ≡ too_long_failure) × (max_bytes < size h.value)) → IsForNoNumber f
-    by_cause (inl due) = due_for_none (spell_document h.value) f (document_numbers s bytes h.value are h.read) due
-    by_cause (inr long) = due_for_none (Err (here (unwritable too_long))) f (λ e. e) long.0
+-- what was read has no such number
+abbrev HasNumbers : Result Value (Failure ReadFault) → Type 0
+HasNumbers answer = (d : Value) → answer ≡ Ok d → HoldsNumbers (spell_document d)
 
-  pub for_no_number : (r : Result (Vec ℕ) RecastError) → IsRecast (recast_of s bytes) r → IfUnwritten IsForNoNumber r
-  for_no_number r h = of_each IsForNoNumber no_number r h
+no_number : (answer : Result Value (Failure ReadFault)) → HasNumbers answer → (f : Failure WriteFault) (h : IsValueRefused answer f) → IsForNoNumber f
+no_number answer holds f h = by_cause h.refused where
+  by_cause : IsDue (spell_document h.value) f ⊎ ((f ≡ too_long_failure) × (max_bytes < size h.value)) → IsForNoNumber f
+  by_cause (inl due) = due_for_none (spell_document h.value) f (holds h.value h.read) due
+  by_cause (inr long) = due_for_none (Err (here (unwritable too_long))) f (λ e. e) long.0
+
+pub for_no_number : (s : Form) (bytes : Bytes) → AreBytes bytes → (r : Result (Vec ℕ) RecastError) → IsRecast (recast_of s bytes) r → IfUnwritten IsForNoNumber r
+for_no_number s bytes are r h = let read = reads_document s bytes in of_each read IsForNoNumber (no_number read (λ d is. document_numbers s bytes d are is)) r h
+
+-- the same where texts are mended
+pub lossy_no_number : (s : Form) (bytes : Bytes) → AreBytes bytes → (r : Result (Vec ℕ) RecastError) → IsRecast (lossy_recast_of s bytes) r → IfUnwritten IsForNoNumber r
+lossy_no_number s bytes are r h = let read = reads_lossy s bytes in of_each read IsForNoNumber (no_number read (λ d is. lossy_numbers s bytes d are is)) r h

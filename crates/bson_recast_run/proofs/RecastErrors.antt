@@ -6,17 +6,15 @@ use Rattle.bson_base.specs.Text.{Bytes}
 use Rattle.bson_base.specs.Outcome.{result_map}
 use Rattle.bson_base.specs.Sound.{max_bytes}
 use Rattle.bson_base.specs.Tree.{Tree, enc}
-use Rattle.bson_shape.specs.Form.{Form}
 use Rattle.bson_datum.specs.Value.{Value}
 use Rattle.bson_datum.specs.Refusal.{WriteFault, Failure, no_memory}
 use Rattle.bson_datum.specs.ErrorView.{write_failure}
 use Rattle.bson_datum.specs.declared.ser.Error as ser
-use Rattle.bson_laws.specs.Reads.{reads_document}
 use Rattle.bson_laws.specs.Spell.{Writing, spell_document, size}
 use Rattle.bson_ser_stream.specs.Writing.{Fails, IsDue, too_long_failure}
 use Rattle.bson_recast_run.specs.declared.recasting.RecastError.{RecastError}
 use Rattle.bson_recast_run.specs.declared.recasting.RecastError.TheVariants.{Read, Write, NoMemory}
-use Rattle.bson_recast_run.specs.Recasting.{writes, written, recast_read, recast_of, Unwritten, IsRefusal, IsWriteError}
+use Rattle.bson_recast_run.specs.Recasting.{writes, written, recast_read, Unwritten, IsRefusal, IsWriteError}
 
 -- ---- from the halves to the whole
 
@@ -39,9 +37,9 @@ due d f n (inl none) = absurd (n none)
 due d f n (inr (inl h)) = inl h
 due d f n (inr (inr h)) = inr (lt-ltb _ _ h.1, h.0)
 
-pub write_error : (s : Form) (bytes : Bytes) (d : Value) (e : ser.Error) (r : RecastError) → reads_document s bytes ≡ Ok d → Fails (size d) (spell_document d) (write_failure e) → IsWriteError e r → IsRefusal (recast_of s bytes) r
-write_error s bytes d e NoMemory read h is = tt
-write_error s bytes d e (Write x) read h is =
-    let answer : Unwritten (recast_of s bytes) (write_failure e) = subst (λ a. Unwritten (recast_read a) (write_failure e)) (sym read) (refused_or (nat_lt max_bytes (size d)) (spell_document d) (write_failure e) (due d (write_failure e) is.1 h)) in
-    subst (λ y. Unwritten (recast_of s bytes) (write_failure y)) (sym is.0) answer
-write_error s bytes d e (Read x) read h is = absurd is
+pub write_error : (d : Value) (e : ser.Error) (r : RecastError) → Fails (size d) (spell_document d) (write_failure e) → IsWriteError e r → IsRefusal (recast_read (Ok d)) r
+write_error d e NoMemory h is = tt
+write_error d e (Write x) h is =
+    let answer : Unwritten (recast_read (Ok d)) (write_failure e) = refused_or (nat_lt max_bytes (size d)) (spell_document d) (write_failure e) (due d (write_failure e) is.1 h) in
+    subst (λ y. Unwritten (recast_read (Ok d)) (write_failure y)) (sym is.0) answer
+write_error d e (Read x) h is = absurd is

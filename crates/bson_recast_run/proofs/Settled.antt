@@ -1,27 +1,37 @@
 -- What is due for a document settles the status.
-use Rattle.std.proofs.Common.{◌≡◌, ap, refl, sym}
+use Rattle.std.proofs.Common.{◌≡◌, Bool, Option, Some, None, ap, refl, sym}
 use Rattle.bson_base.specs.Text.{Bytes}
 use Rattle.bson_datum.specs.Refusal.{WriteFault, Failure}
 use Rattle.bson_program.proofs.Answered.{Settles}
 use Rattle.bson_program.proofs.Inputs.{input_settles}
+use Rattle.bson_recast_run.specs.declared.options.Job.{Job}
 use Rattle.bson_recast_run.specs.declared.status.Status.{Status}
 use Rattle.bson_recast_run.specs.declared.status.Status.TheVariants as statuses
-use Rattle.bson_recast_run.specs.Recasting.{Recast, writes, unread, unwritten, recast_of, Unwritten}
-use Rattle.bson_recast_run.specs.Rows.{AnswersRecast, recast_status, recast_input, recast_program}
+use Rattle.bson_recast_run.specs.Digits.{document_in}
+use Rattle.bson_recast_run.specs.Recasting.{Recast, writes, unread, unwritten, recast_with, Unwritten}
+use Rattle.bson_recast_run.specs.Rows.{AnswersRecast, AnswersNotDigits, AnswersDocument, AnswersJob, recast_status, document_status, recast_input, recast_program}
 
 status_unwritten : (r : Recast) (f : Failure WriteFault) → Unwritten r f → recast_status r ≡ statuses.WriteRefused
 status_unwritten (writes bytes) f h = absurd h
 status_unwritten (unread e) f h = absurd h
 status_unwritten (unwritten due too_long) f h = refl
 
-status_is : (r : Recast) (status : Status) (out line : Bytes) → AnswersRecast r status out line → status ≡ recast_status r
-status_is r statuses.Done out line h = sym (ap recast_status h.answer)
-status_is r statuses.ReadRefused out line h = sym (ap recast_status h.answer)
-status_is r statuses.WriteRefused out line h = sym (status_unwritten r h.failure h.answer)
-status_is r status out line h = absurd h
+status_is : (hex : Bool) (r : Recast) (status : Status) (out line : Bytes) → AnswersRecast hex r status out line → status ≡ recast_status r
+status_is hex r statuses.Done out line h = sym (ap recast_status h.answer)
+status_is hex r statuses.ReadRefused out line h = sym (ap recast_status h.answer)
+status_is hex r statuses.WriteRefused out line h = sym (status_unwritten r h.failure h.answer)
+status_is hex r status out line h = absurd h
+
+not_digits_is : (status : Status) (out line : Bytes) → AnswersNotDigits status out line → status ≡ statuses.ReadRefused
+not_digits_is statuses.ReadRefused out line h = refl
+not_digits_is status out line h = absurd h
+
+document_is : (job : Job) (held : Option Bytes) (status : Status) (out line : Bytes) → AnswersDocument job held status out line → status ≡ document_status job held
+document_is job (Some document) status out line h = status_is job.options.hex (recast_with job.options.lossy job.shape document) status out line h
+document_is job None status out line h = not_digits_is status out line h
 
 pub settled : Settles recast_program
 settled = record {
-  settles = λ s input doc told quiet.
-      input_settles recast_input (λ bytes. AnswersRecast (recast_of s bytes)) input doc told quiet (λ bytes. recast_status (recast_of s bytes)) (λ bytes. status_is (recast_of s bytes));
+  settles = λ job input doc told quiet.
+      input_settles recast_input (AnswersJob job) input doc told quiet (λ bytes. document_status job (document_in job.options.hex bytes)) (λ bytes. document_is job (document_in job.options.hex bytes));
 }

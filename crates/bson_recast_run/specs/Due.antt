@@ -7,7 +7,7 @@ use Rattle.bson_datum.specs.Printed.{printed_failure, printed_read_fault, printe
 use Rattle.bson_program.specs.OneShape.{Usage}
 use Rattle.bson_program.specs.ShapeWord.{newline}
 
--- A word that begins with `--` is an option of the recast, and there is no option yet.
+-- A word that begins with `--` is an option, of the recast or of none.
 abbrev pub recast_usage : Usage
 recast_usage = record { line = codes "usage: bson_recast [OPTIONS] SHAPE\n"; is_option = λ word. starts_with nat_eq word (codes "--") }
 
@@ -19,3 +19,6 @@ write_refused_line f = codes "write refused: " ++ printed_failure printed_write_
 
 abbrev pub too_long_line : Utf8
 too_long_line = codes "read refused: input too long\n"
+
+abbrev pub not_digits_line : Utf8
+not_digits_line = codes "read refused: not hexadecimal\n"

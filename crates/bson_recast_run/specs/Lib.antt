@@ -2,4 +2,6 @@ pub mod Number
 pub mod Recasting
 pub mod Printed
 pub mod Due
+pub mod Options
+pub mod Digits
 pub mod Rows

@@ -10,6 +10,7 @@ use Rattle.bson_datum.specs.Refusal.{Path, Refusal, ReadFault, WriteFault, Failu
 use Rattle.bson_datum.specs.declared.de.Error as de
 use Rattle.bson_datum.specs.declared.ser.Error as ser
 use Rattle.bson_datum.specs.ErrorView.{read_failure, write_failure}
+use Rattle.bson_de_raw.specs.ReadsLossy.{reads_lossy}
 use Rattle.bson_laws.specs.Reads.{reads_document}
 use Rattle.bson_laws.specs.Spell.{Writing, spell_document, size, IsTooLarge, IsNumber}
 use Rattle.bson_ser_stream.specs.Writing.{too_long_failure}
@@ -39,6 +40,15 @@ recast_read (Ok d) = written (nat_lt max_bytes (size d)) (spell_document d)
 -- the recast of a document's bytes at a shape
 abbrev pub recast_of : Form → Bytes → Recast
 recast_of s bytes = recast_read (reads_document s bytes)
+
+-- the same where texts are mended
+abbrev pub lossy_recast_of : Form → Bytes → Recast
+lossy_recast_of s bytes = recast_read (reads_lossy s bytes)
+
+-- the recast where texts are mended or not
+abbrev pub recast_with : (lossy : Bool) → Form → Bytes → Recast
+recast_with false s bytes = recast_of s bytes
+recast_with true s bytes = lossy_recast_of s bytes
 
 -- the refusal that is due, with its path
 abbrev pub Is : Option (Refusal WriteFault) → Failure WriteFault → Type 0

@@ -1,60 +1,88 @@
--- The program: the rows of its table of answers for a document that was read whole, and what it shares with every other.
-use Rattle.std.specs.Prelude.{◌≡◌, ◌⊎◌, []}
+-- The program: the rows of its table of answers for an input that was read whole, and what it shares with every other.
+use Rattle.std.specs.Prelude.{◌≡◌, ◌⊎◌, [], Bool, Option, Some, None}
 use Rattle.std.specs.Io.KnownBytes.{Appends, Keeps}
-use Rattle.bson_base.specs.Text.{Bytes}
+use Rattle.bson_base.specs.Text.{Bytes, AreBytes}
 use Rattle.bson_datum.specs.Refusal.{ReadFault, WriteFault, Failure}
-use Rattle.bson_shape.specs.Form.{Form}
 use Rattle.bson_program.specs.Input.{InputEnds, OnInput, input_status}
-use Rattle.bson_program.specs.OneShape.{one_shape}
 use Rattle.bson_program.specs.Program.{Program}
 use Rattle.bson_program.specs.Run.{Run, Due, AreKept}
+use Rattle.bson_recast_run.specs.declared.options.Job.{Job}
 use Rattle.bson_recast_run.specs.declared.status.Status.{Status}
 use Rattle.bson_recast_run.specs.declared.status.Status.TheVariants as statuses
-use Rattle.bson_recast_run.specs.Due.{recast_usage, read_refused_line, write_refused_line, too_long_line}
-use Rattle.bson_recast_run.specs.Recasting.{Recast, writes, unread, unwritten, recast_of, Unwritten}
+use Rattle.bson_recast_run.specs.Digits.{document_in, shown}
+use Rattle.bson_recast_run.specs.Due.{read_refused_line, write_refused_line, too_long_line, not_digits_line}
+use Rattle.bson_recast_run.specs.Options.{recast_command}
+use Rattle.bson_recast_run.specs.Recasting.{Recast, writes, unread, unwritten, recast_with, Unwritten}
 
--- The recast writes this, and nothing is told.
-pub record DoneRow (recast : Recast) (out line : Bytes) : Type 0 where
-  pub answer : recast ≡ writes out
+-- The recast writes a document, which is shown in its bytes or in digits, and nothing is told.
+pub record DoneRow (hex : Bool) (recast : Recast) (out line : Bytes) : Type 0 where
+  pub document : Bytes
+  pub answer : recast ≡ writes document
+  pub are_bytes : AreBytes document
+  pub shows : out ≡ shown hex document
   pub no_line : line ≡ []
 
--- The input is not read at the shape, as this line tells.
+-- The document is not read at the shape, as this line tells.
 pub record ReadRefusedRow (recast : Recast) (out line : Bytes) : Type 0 where
   pub failure : Failure ReadFault
   pub answer : recast ≡ unread failure
   pub says : line ≡ read_refused_line failure
   pub nothing : out ≡ []
 
--- The input was read, and its value is not written, as this line tells.
+-- The document was read, and its value is not written, as this line tells.
 pub record WriteRefusedRow (recast : Recast) (out line : Bytes) : Type 0 where
   pub failure : Failure WriteFault
   pub answer : Unwritten recast failure
   pub says : line ≡ write_refused_line failure
   pub nothing : out ≡ []
 
--- what is due for what the recast of a whole input comes to
-abbrev pub AnswersRecast : Recast → Due Status
-AnswersRecast recast statuses.Done out line = DoneRow recast out line
-AnswersRecast recast statuses.ReadRefused out line = ReadRefusedRow recast out line
-AnswersRecast recast statuses.WriteRefused out line = WriteRefusedRow recast out line
-AnswersRecast recast status out line = ⊥
+-- The input is to be digits and is not, as this line tells.
+pub record NotDigitsRow (out line : Bytes) : Type 0 where
+  pub says : line ≡ not_digits_line
+  pub nothing : out ≡ []
 
--- the status for what it comes to
+-- what is due for what the recast of a whole document comes to
+abbrev pub AnswersRecast : (hex : Bool) → Recast → Due Status
+AnswersRecast hex recast statuses.Done out line = DoneRow hex recast out line
+AnswersRecast hex recast statuses.ReadRefused out line = ReadRefusedRow recast out line
+AnswersRecast hex recast statuses.WriteRefused out line = WriteRefusedRow recast out line
+AnswersRecast hex recast status out line = ⊥
+
+-- what is due where an input is to be digits and is not
+abbrev pub AnswersNotDigits : Due Status
+AnswersNotDigits statuses.ReadRefused out line = NotDigitsRow out line
+AnswersNotDigits status out line = ⊥
+
+-- what is due for a job on the document that an input holds
+abbrev pub AnswersDocument : Job → Option Bytes → Due Status
+AnswersDocument job (Some document) = AnswersRecast job.options.hex (recast_with job.options.lossy job.shape document)
+AnswersDocument job None = AnswersNotDigits
+
+-- what is due for a job on a whole input
+abbrev pub AnswersJob : Job → Bytes → Due Status
+AnswersJob job bytes = AnswersDocument job (document_in job.options.hex bytes)
+
+-- the status for what a recast comes to
 abbrev pub recast_status : Recast → Status
 recast_status (writes bytes) = statuses.Done
 recast_status (unread f) = statuses.ReadRefused
 recast_status (unwritten due too_long) = statuses.WriteRefused
 
+-- the status for a job on the document that an input holds
+abbrev pub document_status : Job → Option Bytes → Status
+document_status job (Some document) = recast_status (recast_with job.options.lossy job.shape document)
+document_status job None = statuses.ReadRefused
+
 -- an input that failed, and one that is too long
 abbrev pub recast_input : InputEnds Status
 recast_input = record { source_fault = statuses.SourceFault; too_long = statuses.ReadRefused; too_long_line = too_long_line }
 
--- The program takes one shape and reads an input to its end.
-abbrev pub recast_program : Program Form Status
+-- The program takes options and one shape, and reads an input to its end. The input may have as many bytes as a document may, digits or not.
+abbrev pub recast_program : Program Job Status
 recast_program = record {
-  command = one_shape recast_usage;
-  Answers = λ s. OnInput recast_input (λ bytes. AnswersRecast (recast_of s bytes));
-  status = λ s. input_status recast_input (λ bytes. recast_status (recast_of s bytes));
+  command = recast_command;
+  Answers = λ job. OnInput recast_input (AnswersJob job);
+  status = λ job. input_status recast_input (λ bytes. document_status job (document_in job.options.hex bytes));
   usage = statuses.Usage;
   endings = record { sink_fault = statuses.SinkFault; no_memory = statuses.NoMemory };
 }

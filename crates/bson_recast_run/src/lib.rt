@@ -1,10 +1,12 @@
 //! A document read at a shape and written anew, and the run of the program that does it.
 #![tactic(auto)]
 
+mod digits;
+mod options;
 mod recasting;
 mod running;
 mod status;
 
-pub use recasting::{RecastError, recast, recast_to_buf};
+pub use recasting::{RecastError, recast, recast_to_buf, recast_utf8_lossy};
 pub use running::{law_run_again, run};
 pub use status::Status;

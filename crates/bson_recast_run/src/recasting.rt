@@ -7,12 +7,14 @@ ghost use Rattle.bson_laws.specs.Views.{views};
 ghost use Rattle.bson_laws.specs.Means.{means};
 ghost use Rattle.bson_laws.specs.Plain.{IsPlain};
 ghost use Rattle.bson_laws.specs.Reads.{reads_document};
+ghost use Rattle.bson_laws.specs.Settled.{IsSettled};
 ghost use Rattle.bson_laws.specs.Writable.{IsWritable};
 ghost use Rattle.bson_de_raw.specs.Gives.{Gives};
-ghost use Rattle.bson_recast_run.specs.Recasting.{recast_of, writes, IsRecast, IsAppended, GivesBytes, IsForSize, IsForNoNumber, IfUnwritten};
+ghost use Rattle.bson_de_raw.specs.ReadsLossy.{reads_lossy};
+ghost use Rattle.bson_recast_run.specs.Recasting.{recast_of, recast_read, lossy_recast_of, writes, IsRecast, IsAppended, GivesBytes, IsForSize, IsForNoNumber, IfUnwritten};
 
 use bson_datum::{Datum, de, ser};
-use bson_de_raw::from_slice_at;
+use bson_de_raw::{from_slice_at, from_slice_utf8_lossy_at};
 use bson_io::{Out, Steps, Tally};
 use bson_one_pass::recast_at_once;
 use bson_ser_stream::to_buf;
@@ -99,7 +101,7 @@ impl From<ser::Error> for RecastError {
 /// `to_vec_at` refuses, each with that call's error; `NoMemory` where memory ran out.
 ///
 /// A recast of the bytes that it gives, at the same shape, gives the same bytes, or memory runs out: a migration may be run again without harm.
-/// This holds at every shape and for every byte string.
+/// This holds at every shape that does not depend on whether the reader is human (`IsSettled`), and for every byte string.
 ///
 /// What was read is refused by the writer for its size alone, where no field of the shape has a zero character in its
 /// name, the keys of its maps are `str`, `string` or unit variants, none of its leaves is `regex`, `codews`, `bson` or
@@ -113,8 +115,8 @@ pub fn recast(alloc: Global, shape: &Shape, bytes: &[u8]) -> Result<Vec<u8>, Rec
     // A sound document, whose value at a plain shape means a sound document, becomes that document.
     ensures migrates { (t u : Tree) (d : Value) → IsPlain shape.now → IsSound t → views shape.now t ≡ Some d → means d ≡ Some u → IsSound u
         → bytes.now ≡ enc t → GivesBytes (enc u) result }
-    // What was written is written as the same bytes when it is recast at the shape again.
-    ensures again { IfOk result (λ v. recast_of shape.now v.items ≡ writes v.items) }
+    // What was written at a shape that does not depend on whether the reader is human is written as the same bytes when it is recast at the shape again.
+    ensures again { IsSettled shape.now → IfOk result (λ v. recast_of shape.now v.items ≡ writes v.items) }
     // What was read at a shape whose keys can be written, which reads no regular expression, and which keeps the document, is refused by the
     // writer for its size alone.
     ensures too_large { IsWritable shape.now → IfUnwritten (IsForSize shape.now bytes.now) result }
@@ -125,11 +127,50 @@ pub fn recast(alloc: Global, shape: &Shape, bytes: &[u8]) -> Result<Vec<u8>, Rec
     through(alloc, shape, bytes)
 }
 
+/// Reads the bytes of a document at a shape, where its texts are mended, and gives the bytes of what was read.
+///
+/// It goes the way of reading and then writing: [`recast`] is faster where most documents have no text that is not UTF-8.
+///
+/// # Errors
+///
+/// `Read` exactly where `from_slice_utf8_lossy_at` refuses the bytes at the shape, `Write` exactly where it reads a value that `to_vec_at` refuses, each
+/// with that call's error; `NoMemory` where memory ran out.
+///
+/// A recast of the bytes that it gives, at the same shape, gives the same bytes, or memory runs out, where the shape does not depend on whether the reader is
+/// human (`IsSettled`). At every shape what was read is never refused as `UnsignedIntegerExceededRange`.
+pub fn recast_utf8_lossy(alloc: Global, shape: &Shape, bytes: &[u8]) -> Result<Vec<u8>, RecastError>
+    // What is read at the shape, where texts are mended, is written.
+    ensures exact { IsRecast (lossy_recast_of shape.now bytes.now) result }
+    // What was written at a shape that does not depend on whether the reader is human is written as the same bytes when it is recast at the shape again.
+    ensures again { IsSettled shape.now → IfOk result (λ v. lossy_recast_of shape.now v.items ≡ writes v.items) }
+    // At no shape is what was read refused for a number that no Int64 holds.
+    ensures numbers { IfUnwritten IsForNoNumber result }
+{
+    shape.known();
+    through_lossy(alloc, shape, bytes)
+}
+
 // The value of the document, without its marks.
 fn read<'de>(alloc: Global, shape: &Shape, bytes: &'de [u8]) -> de::Result<Datum<'de>>
     ensures exact { Gives view result (reads_document shape.now bytes.now) }
 {
     from_slice_at(alloc, shape, bytes)
+}
+
+// The same where texts are mended.
+fn read_lossy<'de>(alloc: Global, shape: &Shape, bytes: &'de [u8]) -> de::Result<Datum<'de>>
+    ensures exact { Gives view result (reads_lossy shape.now bytes.now) }
+{
+    from_slice_utf8_lossy_at(alloc, shape, bytes)
+}
+
+// Appends the bytes of what was read.
+fn write(datum: &Datum<'_>, out: &mut Out) -> Result<(), RecastError>
+    ensures exact { IsAppended (recast_read (Ok (view datum.now))) out.old.bytes out.new.bytes result }
+{
+    let mut steps = Steps::<Tally>::new();
+    to_buf(datum, out, &mut steps)?;
+    Ok(())
 }
 
 /// Reads the bytes of a document at a shape, and appends the bytes of what was read to an output buffer.
@@ -170,9 +211,7 @@ fn recast_in_two(
     ensures exact { IsAppended (recast_of shape.now bytes.now) out.old.bytes out.new.bytes result }
 {
     let datum = read(alloc, shape, bytes)?;
-    let mut steps = Steps::<Tally>::new();
-    to_buf(&datum, out, &mut steps)?;
-    Ok(())
+    write(&datum, out)
 }
 
 // `recast`, but for its other promises.
@@ -184,5 +223,15 @@ fn through(alloc: Global, shape: &Shape, bytes: &[u8]) -> Result<Vec<u8>, Recast
     }
     let mut out = Out::new(alloc);
     recast_in_two(alloc, shape, bytes, &mut out)?;
+    Ok(out.into_vec())
+}
+
+// `recast_utf8_lossy`, but for its other promises.
+fn through_lossy(alloc: Global, shape: &Shape, bytes: &[u8]) -> Result<Vec<u8>, RecastError>
+    ensures { IsRecast (lossy_recast_of shape.now bytes.now) result }
+{
+    let datum = read_lossy(alloc, shape, bytes)?;
+    let mut out = Out::new(alloc);
+    write(&datum, &mut out)?;
     Ok(out.into_vec())
 }

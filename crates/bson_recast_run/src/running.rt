@@ -1,6 +1,6 @@
 // The run: the words are judged, the input is read to its end, the recast runs, and all is written.
-ghost use Rattle.std.specs.Prelude.{◌≡◌, ◌≤◌, [], ◌∷◌, map, string_bytes, IfOk, Some};
-ghost use Rattle.bson_base.specs.Sound.{IsSound};
+ghost use Rattle.std.specs.Prelude.{◌≡◌, ◌≤◌, [], ◌∷◌, length, map, string_bytes, IfOk, Some, Ok};
+ghost use Rattle.bson_base.specs.Sound.{IsSound, max_bytes};
 ghost use Rattle.bson_base.specs.Text.{Bytes, AreBytes};
 ghost use Rattle.bson_base.specs.Tree.{Tree, enc};
 ghost use Rattle.bson_shape.specs.Form.{Form};
@@ -10,17 +10,24 @@ ghost use Rattle.bson_datum.specs.Value.{Value};
 ghost use Rattle.bson_laws.specs.Views.{views};
 ghost use Rattle.bson_laws.specs.Means.{means};
 ghost use Rattle.bson_laws.specs.Plain.{IsPlain};
+ghost use Rattle.bson_laws.specs.Settled.{IsSettled};
 ghost use Rattle.bson_program.specs.Command.{Asked};
+ghost use Rattle.bson_program.specs.OneShape.{one_shape};
 ghost use Rattle.bson_program.specs.Ends.{source_change, sink_change};
 ghost use Rattle.bson_program.specs.Prepared.{Says};
 ghost use Rattle.bson_program.specs.Program.{IsDue, IsAnswered};
 ghost use Rattle.bson_program.specs.Run.{Run, run_of, AllQuiet};
-ghost use Rattle.bson_recast_run.specs.Recasting.{recast_of};
-ghost use Rattle.bson_recast_run.specs.Rows.{AnswersRecast, recast_program, WritesExactly};
+ghost use Rattle.bson_recast_run.specs.Due.{recast_usage};
+ghost use Rattle.bson_recast_run.specs.Options.{AskForDigits, request};
+ghost use Rattle.bson_recast_run.specs.Recasting.{recast_with};
+ghost use Rattle.bson_recast_run.specs.Rows.{AnswersRecast, AnswersNotDigits, AnswersJob, recast_program, WritesExactly};
+ghost use Rattle.bson_recast_run.specs.declared.options.Job.{Job};
 ghost use Rattle.bson_recast_run.specs.declared.status.Status.{Status};
 ghost use Rattle.bson_recast_run.specs.declared.status.Status.TheVariants as statuses;
 
-use crate::recasting::{RecastError, recast};
+use crate::digits::{bytes_of_digits, shown};
+use crate::options::{Job, leading_options};
+use crate::recasting::RecastError;
 use crate::status::Status;
 use bson_io::{Sink, Source};
 use bson_program::{Answer, Endings, InputEndings, finish, read_input, shape_of_word};
@@ -29,6 +36,9 @@ use std::alloc::{AllocError, Global};
 
 /// The line for words that ask for no recast.
 const USAGE: &str = "usage: bson_recast [OPTIONS] SHAPE\n";
+
+/// The line for an input that is to be hexadecimal digits and is not.
+const NOT_DIGITS: &str = "read refused: not hexadecimal\n";
 
 const ENDINGS: Endings<Status> = Endings {
     sink_fault: Status::SinkFault,
@@ -41,9 +51,9 @@ const INPUT_ENDINGS: InputEndings<Status> = InputEndings {
     too_long_line: "read refused: input too long\n",
 };
 
-// The shape that the words ask for, or the line that refuses them. The outer error means out of memory.
-fn asked(alloc: Global, words: &[String]) -> Result<Result<Shape, String>, AllocError>
-    ensures { IfOk result (Asked recast_program.command (map string_bytes words.now)) }
+// The shape that the words behind the options ask for, or the line that refuses them. The outer error means out of memory.
+fn asked_shape(alloc: Global, words: &[String]) -> Result<Result<Shape, String>, AllocError>
+    ensures { IfOk result (Asked (one_shape recast_usage) (map string_bytes words.now)) }
 {
     match words {
         [word] if !word.as_str().starts_with("--") => shape_of_word(alloc, word.as_str()),
@@ -51,14 +61,25 @@ fn asked(alloc: Global, words: &[String]) -> Result<Result<Shape, String>, Alloc
     }
 }
 
-// What is due for an input that was read to its end. An error means out of memory.
-fn answer_to(alloc: Global, shape: &Shape, bytes: &[u8]) -> Result<Answer<Status>, AllocError>
-    ensures { IfOk result (Says (AnswersRecast (recast_of shape.now bytes.now))) }
+// What the words ask for, or the line that refuses them. The outer error means out of memory.
+fn asked(alloc: Global, words: &[String]) -> Result<Result<Job, String>, AllocError>
+    ensures { IfOk result (Asked recast_program.command (map string_bytes words.now)) }
 {
-    match recast(alloc, shape, bytes) {
+    let (options, rest) = leading_options(words);
+    match asked_shape(alloc, rest)? {
+        Ok(shape) => Ok(Ok(Job { options, shape })),
+        Err(line) => Ok(Err(line)),
+    }
+}
+
+// What is due for a document. An error means out of memory.
+fn answer_to(alloc: Global, job: &Job, document: &[u8]) -> Result<Answer<Status>, AllocError>
+    ensures { IfOk result (Says (AnswersRecast job.now.options.hex (recast_with job.now.options.lossy job.now.shape document.now))) }
+{
+    match job.recast(alloc, document) {
         Ok(written) => Ok(Answer {
             status: Status::Done,
-            bytes: written,
+            bytes: shown(alloc, job.options.hex, written)?,
             lines: String::new(alloc),
         }),
         Err(RecastError::Read(e)) => {
@@ -73,6 +94,27 @@ fn answer_to(alloc: Global, shape: &Shape, bytes: &[u8]) -> Result<Answer<Status
     }
 }
 
+// What is due for an input that is to be digits and is not. An error means out of memory.
+fn not_digits(alloc: Global) -> Result<Answer<Status>, AllocError>
+    ensures { IfOk result (Says AnswersNotDigits) }
+{
+    let line = String::from_str(alloc, NOT_DIGITS)?;
+    Ok(Answer::line(alloc, Status::ReadRefused, line))
+}
+
+// What is due for an input that was read to its end. An error means out of memory.
+fn answer_to_input(alloc: Global, job: &Job, bytes: Vec<u8>) -> Result<Answer<Status>, AllocError>
+    ensures { IfOk result (Says (AnswersJob job.now bytes.items)) }
+{
+    if !job.options.hex {
+        return answer_to(alloc, job, &bytes);
+    }
+    match bytes_of_digits(alloc, bytes)? {
+        Some(document) => answer_to(alloc, job, &document),
+        None => not_digits(alloc),
+    }
+}
+
 // What is due for these words on this input. An error means out of memory.
 fn prepare<I: Source>(
     alloc: Global,
@@ -82,34 +124,39 @@ fn prepare<I: Source>(
     ensures due { IfOk result (Says (IsDue recast_program (map string_bytes words.now) (source_change I.left I.faults input.old input.new))) }
     ensures later { I.faults input.old ≤ I.faults input.new }
 {
-    let shape = match asked(alloc, words)? {
-        Ok(shape) => shape,
+    let job = match asked(alloc, words)? {
+        Ok(job) => job,
         Err(line) => return Ok(Answer::line(alloc, Status::Usage, line)),
     };
     match read_input(alloc, INPUT_ENDINGS, input)? {
-        Ok(bytes) => answer_to(alloc, &shape, &bytes),
+        Ok(bytes) => answer_to_input(alloc, &job, bytes),
         Err(answer) => Ok(answer),
     }
 }
 
 /// What a run wrote, given to a run with the same words, is written again as the same bytes, or memory runs out.
 ///
-/// The first run ended as `Done`, its input was `given`, and its output, which was empty, holds `out` now. It says so of the table of answers that each
-/// `run` meets (*answers*). The call does nothing.
+/// The words ask for a recast at a shape that does not depend on whether the reader is human. The first run ended as `Done`, its input was `given`, and its
+/// output, which was empty, holds `out` now. It says so of the table of answers that each `run` meets (*answers*). With `--hex` the output may have more bytes
+/// than an input may; without it that is never so. The call does nothing.
 pub fn law_run_again()
-    ensures again { (first second : Run Status) (given out : Bytes) → IsAnswered recast_program first → first.status ≡ statuses.Done → AreBytes given → first.input.before ≡ Some given
-        → first.out.before ≡ Some [] → first.out.after ≡ Some out → IsAnswered recast_program second → second.words ≡ first.words → second.input.before ≡ Some out
+    ensures again { (first second : Run Status) (job : Job) (given out : Bytes) → request first.words ≡ Ok job → IsSettled job.shape → IsAnswered recast_program first
+        → first.status ≡ statuses.Done → AreBytes given → first.input.before ≡ Some given → first.out.before ≡ Some [] → first.out.after ≡ Some out
+        → (AskForDigits first.words → length out ≤ max_bytes) → IsAnswered recast_program second → second.words ≡ first.words → second.input.before ≡ Some out
         → AllQuiet second → WritesExactly second out }
 {}
 
 /// Judges the words, reads the input to its end, recasts it, and writes what is due.
 ///
-/// The words ask for a recast where they are exactly one word, which does not begin with `--` and is the notation of a
-/// shape. All memory is taken before the first write. The status says how it ended:
+/// The words ask for a recast where they are options, each at most once and in any order, and behind them exactly one word, which does not begin with
+/// `--` and is the notation of a shape. With `--lossy` the texts of the document are mended, as `recast_utf8_lossy` does. With `--hex` the input is
+/// hexadecimal digits, in either case, between which spaces, tabs, carriage returns and line feeds may stand, and the output is lower-case digits and one
+/// line feed. All memory is taken before the first write. The status says how it ended:
 ///
 /// - `Done`: the document was written to `out`, and nothing to `err`.
 /// - `Usage`: the words ask for no recast. The input is not touched.
-/// - `ReadRefused`: the input is no document that can be read at the shape, or has more than 2147483647 bytes.
+/// - `ReadRefused`: the input is no document that can be read at the shape, or is to be an even number of digits and is not, or has more than 2147483647
+///   bytes, digits or not.
 /// - `WriteRefused`: what was read cannot be written.
 /// - `SourceFault`: a call on the input failed. For these four a line tells why on `err`, and `out` is unchanged.
 /// - `SinkFault`: a call on `out` or `err` failed. Each got a first part of what was due.

@@ -6,6 +6,7 @@ use Rattle.bson_datum.specs.ErrorView.{read_failure, write_failure}
 use Rattle.bson_shape.specs.Form.{Form}
 use Rattle.bson_recast_run.specs.declared.recasting.RecastError.{RecastError}
 use Rattle.bson_recast_run.specs.declared.recasting.RecastError.TheVariants.{Read, Write, NoMemory}
+use Rattle.bson_laws.specs.Settled.{IsSettled}
 use Rattle.bson_migrate_run.specs.declared.migrating.Migration.{Migration}
 use Rattle.bson_migrate_run.specs.declared.migrating.Refused.{Refused}
 use Rattle.bson_migrate_run.specs.Migrating.{NotRecast, broken, migrated, migration_of}
@@ -60,9 +61,9 @@ pub record IsListingOf (file : Bytes) (m : Migration) (d : DueList) : Type 0 whe
 -- what is due for a file
 abbrev pub IsForListing : (shape file : Bytes) → Status → (place : ℕ) → (output : Bytes) → (said : Utf8) → (records : List Refusal) → Type 0
 IsForListing shape file statuses.Done place output said records =
-    (s : Form) × DenotesShape shape s × (migration_of s file ≡ migrated output []) × (migration_of s output ≡ migrated output []) × (place ≡ 0) × (said ≡ []) × (records ≡ [])
+    (s : Form) × DenotesShape shape s × (migration_of s file ≡ migrated output []) × (IsSettled s → migration_of s output ≡ migrated output []) × (place ≡ 0) × (said ≡ []) × (records ≡ [])
 IsForListing shape file statuses.SomeRefused place output said records =
-    (s : Form) × (first : NotRecast) × (others : List NotRecast) × DenotesShape shape s × (migration_of s file ≡ migrated output (first ∷ others)) × (migration_of s output ≡ migrated output []) × lists.AreRecords file 0 (first ∷ others) records said × (place ≡ 0)
+    (s : Form) × (first : NotRecast) × (others : List NotRecast) × DenotesShape shape s × (migration_of s file ≡ migrated output (first ∷ others)) × (IsSettled s → migration_of s output ≡ migrated output []) × lists.AreRecords file 0 (first ∷ others) records said × (place ≡ 0)
 IsForListing shape file statuses.ShapeRefused place output said records = DenotesNone shape (record { place = place; said = said }) × (output ≡ []) × (records ≡ [])
 IsForListing shape file statuses.Broken place output said records = (s : Form) × DenotesShape shape s × (migration_of s file ≡ broken place) × (output ≡ []) × (said ≡ []) × (records ≡ [])
 IsForListing shape file status place output said records = ⊥

@@ -1,9 +1,8 @@
-use Rattle.std.proofs.Common.{◌≡◌, Ok, ap, sym, subst, ◌∙◌}
+use Rattle.std.proofs.Common.{ap, sym, subst, ◌∙◌}
 use Rattle.bson_datum.specs.ErrorView.{read_fault, read_failure}
-use Rattle.bson_datum.specs.Marked.{Marked}
-use Rattle.bson_datum.specs.Refusal.{ReadFault, Failure}
 use Rattle.bson_datum.specs.Stop.{stop_view}
-use Rattle.bson_laws.specs.Reads.{reads, answered, reads_marked}
+use Rattle.bson_laws.specs.CompactReads.{reads}
+use Rattle.bson_laws.specs.Reads.{answered}
 use Rattle.bson_rawdoc.specs.DocumentView.{document_bytes}
 use Rattle.bson_de_raw.specs.Gives.{FailsAs}
 use Rattle.bson_laws.proofs.Enveloped.{document_read}

@@ -1,18 +1,14 @@
-use Rattle.std.proofs.Common.{◌≡◌, ◌<◌, ℕ, zero, suc, List, [], ◌∷◌, length, get_or, refl, arith}
+use Rattle.std.proofs.Common.{arith}
 use Rattle.bson_recast_run.proofs.Again.{given_back}
+use Rattle.bson_recast_run.proofs.DigitsBack.{same_at}
 use Rattle.bson_recast_run.proofs.Migrates.{migrates, for_size, for_no_number}
 use Rattle.bson_recast_run.proofs.recasting.recast.Goals as goal
 
-same_at : (bs : List ℕ) (k d : ℕ) → k < length bs → get_or bs k d ≡ get_or bs k 0
-same_at [] k d lt = absurd (omega arith)
-same_at (b ∷ bs) zero d lt = refl
-same_at (b ∷ bs) (suc k) d lt = same_at bs k d (omega arith)
-
 pub returns-clause-migrates : goal.returns-clause-migrates
-returns-clause-migrates c = λ t u d plain sound view mean clean is. migrates c.args.shape.now c.args.bytes.now t u d c.known.ensures.shape sound view mean clean is c.through.result c.through.ensures
+returns-clause-migrates c = λ t u d plain sound view mean clean is. migrates c.args.shape.now c.args.bytes.now t u d c.known.ensures.shape plain sound view mean clean is c.through.result c.through.ensures
 
 pub returns-clause-again : goal.returns-clause-again
-returns-clause-again c = given_back c.args.shape.now c.args.bytes.now c.known.ensures.shape (λ k d lt. omega (arith, c.type_inv.bytes k, same_at c.args.bytes.now k d lt)) c.through.result c.through.ensures
+returns-clause-again c = λ due. given_back c.args.shape.now c.args.bytes.now c.known.ensures.shape due (λ k d lt. omega (arith, c.type_inv.bytes k, same_at c.args.bytes.now k d lt)) c.through.result c.through.ensures
 
 pub returns-clause-too_large : goal.returns-clause-too_large
 returns-clause-too_large c = λ writable. for_size c.args.shape.now c.args.bytes.now (λ k d lt. omega (arith, c.type_inv.bytes k, same_at c.args.bytes.now k d lt)) c.known.ensures.shape writable c.through.result c.through.ensures

@@ -1,11 +1,6 @@
 use Rattle.std.proofs.Common.{sym, subst}
-use Rattle.std.proofs.lemmas.Result.{err_from_is_err_and}
-use Rattle.bson_recast_run.specs.Recasting.{recast_of, IsAppended}
-use Rattle.bson_recast_run.proofs.RecastErrors.{write_error}
+use Rattle.bson_recast_run.specs.Recasting.{recast_read, IsAppended}
 use Rattle.bson_recast_run.proofs.recasting.recast_in_two.Goals as goal
 
-pub returns-in_err-to_buf : goal.returns-in_err-to_buf
-returns-in_err-to_buf c =
-    let p = err_from_is_err_and c.from_residual-in_err-to_buf.result c.from_residual-in_err-to_buf.ensures.1 in
-    let refused = write_error c.args.shape.now c.args.bytes.now _ c.in_err-to_buf.field-0.0 p.0 c.in_ok-datum.ensures.exact c.in_err-to_buf.ensures.refused p.2 in
-    record { exact = subst (λ r. IsAppended (recast_of c.args.shape.now c.args.bytes.now) c.args.out.now.bytes c.to_buf.new.out.bytes r) (sym p.1) (refused, c.in_err-to_buf.ensures.kept) }
+pub returns : goal.returns
+returns c = record { exact = subst (λ a. IsAppended (recast_read a) c.args.out.now.bytes c.write.new.out.bytes c.write.result) (sym c.in_ok-datum.ensures.exact) c.write.ensures.exact }

@@ -1,0 +1,72 @@
+-- Whole documents whose texts are mended: what is read of one, and what was written of it is read and written so again.
+use Rattle.std.proofs.Common.{◌≡◌, ◌^◌, ◌<◌, ◌≤◌, length, false, Ok, Err, refl, ap, sym, subst, ◌∙◌, arith}
+use Rattle.bson_base.specs.Outcome.{result_map}
+use Rattle.bson_base.specs.Sound.{max_bytes, max_levels}
+use Rattle.bson_base.specs.Text.{Bytes, AreBytes}
+use Rattle.bson_base.specs.Tree.{Tree, document, kind, enc}
+use Rattle.bson_base.specs.declared.element_type.ElementType.{ElementType}
+use Rattle.bson_base.specs.declared.element_type.ElementType.TheVariants.{EmbeddedDocument}
+use Rattle.bson_rawdoc.specs.Envelope.{envelope}
+use Rattle.bson_rawdoc.specs.Node.{from_input, from_marked, node_in, inner_node, tree_node, mended}
+use Rattle.bson_shape.specs.Form.{Form, lossy}
+use Rattle.bson_shape.specs.Makers.{IsShape}
+use Rattle.bson_datum.specs.Cause.{raw}
+use Rattle.bson_datum.specs.Marked.{Marked, contents}
+use Rattle.bson_datum.specs.Refusal.{bare, unreadable}
+use Rattle.bson_datum.specs.Value.{Value, kind_of}
+use Rattle.bson_laws.specs.CompactReads.{reads}
+use Rattle.bson_laws.specs.Reads as at_settled
+use Rattle.bson_laws.specs.Reads.{answered}
+use Rattle.bson_laws.specs.Settled.{settled, IsSettled}
+use Rattle.bson_laws.specs.Spell.{Writing, at_top, spell, spell_document, HoldsNumbers}
+use Rattle.bson_laws.proofs.Again.{again}
+use Rattle.bson_laws.proofs.Codec.{seen_again}
+use Rattle.bson_laws.proofs.Coded.{IsCoded}
+use Rattle.bson_laws.proofs.Documents.{node_read, document_numbers}
+use Rattle.bson_laws.proofs.Enveloped.{document_read}
+use Rattle.bson_laws.proofs.Given.{given_lossy}
+use Rattle.bson_laws.proofs.GivenAt.{reads_given}
+use Rattle.bson_laws.proofs.Mended.{tree_mended}
+use Rattle.bson_laws.proofs.ReadBack.{envelope_again}
+use Rattle.bson_laws.proofs.Settled.{settled_same}
+use Rattle.bson_laws.proofs.Sizes.{spell_kind}
+use Rattle.bson_de_raw.specs.ReadsLossy.{reads_lossy_marked, reads_lossy}
+
+-- a document that passes the test of its envelope
+pub lossy_read : (s : Form) (b d : Bytes) → envelope b ≡ Ok d → reads_lossy_marked s b ≡ answered (reads s (mended (inner_node max_levels EmbeddedDocument d)))
+lossy_read s b d e = document_read (lossy s) b d e
+
+-- what is read is never refused for a number
+pub lossy_numbers : (s : Form) (bytes : Bytes) (d : Value) → AreBytes bytes → reads_lossy s bytes ≡ Ok d → HoldsNumbers (spell_document d)
+lossy_numbers s bytes d are e = document_numbers (lossy s) bytes d are e
+
+-- ---- again
+
+top_ok : (k : ElementType) (r : Writing Tree) (t : Tree) → at_top k r ≡ Ok t → (k ≡ EmbeddedDocument) × (r ≡ Ok t)
+top_ok EmbeddedDocument r t e = (refl, e)
+top_ok k r t e = absurd cc
+
+-- a document is read from its bytes as from itself
+coded_read : (s : Form) (t : Tree) (m : Marked) → IsCoded t → kind t ≡ EmbeddedDocument → length (enc t) < 2 ^ 31 → at_settled.reads (settled false s) (mended (tree_node from_input t max_levels)) ≡ Ok m → reads_lossy s (enc t) ≡ Ok (contents m)
+coded_read s (document ps) m c k small e =
+    ap (λ r. result_map contents (elim r [ Ok b ↦ answered (reads s (mended (node_in max_levels EmbeddedDocument b))) | Err f ↦ Err (bare (unreadable (raw f))) ])) (envelope_again ps small)
+    ∙ ap (λ n. result_map contents (answered (reads s (mended n)))) (seen_again max_levels (document ps) c small)
+    ∙ ap (λ q. result_map contents (answered q)) e
+coded_read s t m c k small e = absurd cc
+
+-- What was read from bytes and is spelled as a tree is read from the bytes of the tree again, as what is spelled as the same tree. The shape may have all
+-- levels that a shape may, so it is not the law at the shape whose texts are mended, which has one more.
+pub lossy_document_again : (s : Form) (bytes : Bytes) (d : Value) (t : Tree) → IsShape s → IsSettled s → AreBytes bytes → reads_lossy s bytes ≡ Ok d → spell_document d ≡ Ok t → length (enc t) ≤ max_bytes
+    → (v : Value) × (reads_lossy s (enc t) ≡ Ok v) × (spell_document v ≡ Ok t)
+lossy_document_again s bytes d t shape due are e spelled fits =
+    let same = settled_same false s due in
+    let r = node_read (lossy s) bytes d are e in
+    let top = top_ok (kind_of d) (spell d max_levels) t spelled in
+    let n = node_in max_levels EmbeddedDocument r.0 in
+    let given = reads_given from_input (lossy s) n r.1 r.2 (subst (λ x. at_settled.reads (lossy x) n ≡ Ok r.1) same r.3) in
+    let k = again from_marked (contents r.1) s max_levels t shape due (given_lossy from_input (contents r.1) s given) (ap (λ v. spell v max_levels) r.4 ∙ top.1) in
+    let is : kind t ≡ EmbeddedDocument = spell_kind false d max_levels t top.1 ∙ top.0 in (
+      contents k.0,
+      coded_read s t k.0 k.3 is (omega (arith, fits)) (ap (λ x. at_settled.reads x (mended (tree_node from_input t max_levels))) same ∙ ap (at_settled.reads s) (tree_mended from_input t max_levels k.3) ∙ k.1),
+      ap (λ x. at_top x (spell (contents k.0) max_levels)) (sym (spell_kind false (contents k.0) max_levels t k.2) ∙ is) ∙ k.2,
+    )

@@ -1,0 +1,91 @@
+-- The options of the command line, and what it asks for.
+use Rattle.std.specs.Prelude.{◌≡◌, ◌⊎◌, List, [], ◌∷◌, ◌++◌, Bool, true, false, not, ◌&&◌, IsTrue, if◌then◌else◌, Option, Some, None, Result, codes}
+use Rattle.std.specs.Str.{bytes_eq}
+use Rattle.bson_base.specs.Outcome.{result_map}
+use Rattle.bson_base.specs.Text.{Utf8}
+use Rattle.bson_shape.specs.Form.{Form}
+use Rattle.bson_shape.specs.Makers.{IsShape}
+use Rattle.bson_shape.specs.Notation.{text}
+use Rattle.bson_program.specs.Command.{Command}
+use Rattle.bson_program.specs.OneShape as one_shape
+use Rattle.bson_program.specs.ShapeWord.{RefusesWord}
+use Rattle.bson_recast_run.specs.Due.{recast_usage}
+use Rattle.bson_recast_run.specs.declared.options.Job.{Job}
+use Rattle.bson_recast_run.specs.declared.options.Options.{Options}
+
+abbrev pub lossy_option : Utf8
+lossy_option = codes "--lossy"
+
+abbrev pub hex_option : Utf8
+hex_option = codes "--hex"
+
+abbrev pub no_options : Options
+no_options = record { lossy = false; hex = false }
+
+-- ---- which words are options
+
+-- The words are these options, each once, in any order.
+abbrev pub AreGiven : (lossy hex : Bool) → List Utf8 → Type 0
+AreGiven false false words = words ≡ []
+AreGiven true false words = words ≡ lossy_option ∷ []
+AreGiven false true words = words ≡ hex_option ∷ []
+AreGiven true true words = (words ≡ lossy_option ∷ hex_option ∷ []) ⊎ (words ≡ hex_option ∷ lossy_option ∷ [])
+
+abbrev pub AreOptions : Options → List Utf8 → Type 0
+AreOptions o words = AreGiven o.lossy o.hex words
+
+-- The words are options and one word behind them.
+pub record IsList (words : List Utf8) (options : Options) (word : Utf8) : Type 0 where
+  pub given : List Utf8
+  pub are : AreOptions options given
+  pub is : words ≡ given ++ word ∷ []
+
+-- The words are options and the notation of this shape.
+pub record AsksFor (words : List Utf8) (job : Job) : Type 0 where
+  pub list : IsList words job.options (text job.shape)
+  pub made : IsShape job.shape
+
+-- The words are no legal list: they are not options and one word behind them, or that word begins as an option does.
+abbrev pub IsNoList : List Utf8 → Type 0
+IsNoList words = (options : Options) (word : Utf8) → IsList words options word → IsTrue (recast_usage.is_option word)
+
+-- They are a legal list, and the line tells why the word behind the options is the notation of no shape.
+pub record IsNoShape (words : List Utf8) (line : Utf8) : Type 0 where
+  pub options : Options
+  pub word : Utf8
+  pub list : IsList words options word
+  pub refused : RefusesWord word line
+
+-- The words ask for nothing, and the line tells why.
+abbrev pub RefusesWords : List Utf8 → (line : Utf8) → Type 0
+RefusesWords words line = (IsNoList words × (line ≡ recast_usage.line)) ⊎ IsNoShape words line
+
+-- ---- what they ask for
+
+-- the options and the one that a word is; none where it is none, or one that was given before
+abbrev pub with_option : Options → Utf8 → Option Options
+with_option o word =
+    if bytes_eq word lossy_option && not o.lossy then Some (record o { lossy = true })
+    else if bytes_eq word hex_option && not o.hex then Some (record o { hex = true })
+    else None
+
+-- the options that the words begin with, each at most once, and the words behind them
+abbrev pub options_of : Options → List Utf8 → Options × List Utf8
+options_of o [] = (o, [])
+options_of o (word ∷ words) = elim (with_option o word) [ Some more ↦ options_of more words | None ↦ (o, word ∷ words) ]
+
+-- the shape with the options before it
+abbrev pub job_of : Options → Form → Job
+job_of o s = record { options = o; shape = s }
+
+-- what is asked for by options, each at most once, and exactly one word behind them, which is no option and the notation of a shape
+abbrev pub request : List Utf8 → Result Job Utf8
+request words = let led = options_of no_options words in result_map (job_of led.0) (one_shape.request recast_usage led.1)
+
+-- the command line of the recast
+abbrev pub recast_command : Command Job
+recast_command = record { AsksFor = AsksFor; Refuses = RefusesWords; request = request }
+
+-- The words ask for hexadecimal digits.
+abbrev pub AskForDigits : List Utf8 → Type 0
+AskForDigits words = (options_of no_options words).0.hex ≡ true

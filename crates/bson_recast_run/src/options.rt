@@ -1,0 +1,72 @@
+// The options of the command line, and what it asks for.
+ghost use Rattle.std.specs.Prelude.{◌≡◌, map, string_bytes};
+ghost use Rattle.bson_recast_run.specs.Options.{no_options, options_of, with_option};
+ghost use Rattle.bson_recast_run.specs.Recasting.{recast_with, IsRecast};
+
+use crate::recasting::{RecastError, recast, recast_utf8_lossy};
+use bson_shape::Shape;
+use std::alloc::Global;
+
+/// What the options ask for.
+#[derive(Clone, Copy)]
+pub(crate) struct Options {
+    /// `--lossy`: texts are mended.
+    pub(crate) lossy: bool,
+    /// `--hex`: the input and the output are hexadecimal digits.
+    pub(crate) hex: bool,
+}
+
+/// A recast at a shape, with options.
+#[derive(Drop)]
+pub(crate) struct Job {
+    pub(crate) options: Options,
+    pub(crate) shape: Shape,
+}
+
+impl Options {
+    // These options and the one that a word is; `None` where it is none, or one that was given before.
+    fn with(self, word: &str) -> Option<Options>
+        ensures { result ≡ with_option self word.now }
+    {
+        match word {
+            "--lossy" if !self.lossy => Some(Options {
+                lossy: true,
+                ..self
+            }),
+            "--hex" if !self.hex => Some(Options { hex: true, ..self }),
+            _ => None,
+        }
+    }
+}
+
+/// The options that the words begin with, each at most once, and the words behind them.
+pub(crate) fn leading_options(words: &[String]) -> (Options, &[String])
+    ensures options { result.0 ≡ (options_of no_options (map string_bytes words.now)).0 }
+    ensures rest { map string_bytes result.1.now ≡ (options_of no_options (map string_bytes words.now)).1 }
+{
+    let mut options = Options {
+        lossy: false,
+        hex: false,
+    };
+    let mut rest = words;
+    while let [word, others @ ..] = rest {
+        let Some(more) = options.with(word.as_str()) else {
+            break;
+        };
+        options = more;
+        rest = others;
+    }
+    (options, rest)
+}
+
+impl Job {
+    /// The recast of a document's bytes.
+    pub(crate) fn recast(&self, alloc: Global, document: &[u8]) -> Result<Vec<u8>, RecastError>
+        ensures { IsRecast (recast_with self.now.options.lossy self.now.shape document.now) result }
+    {
+        if self.options.lossy {
+            return recast_utf8_lossy(alloc, &self.shape, document);
+        }
+        recast(alloc, &self.shape, document)
+    }
+}
