@@ -3,12 +3,14 @@
 
 Makes documents of so many keys of 32 characters and numbers, once with keys that have one hash under std's FoldHasher, by which std's
 HashMap finds them, and once with other keys; each with different keys, and with the first key twice, where the program reads in two
-steps. Runs the built program on these at `any` and at `[string:i32]`, counts instructions by valgrind's cachegrind less those on the
-smallest input, and prints how many times those for the others the colliding ones take. Ends with status 1 where that is more than
---most. A program whose cost is the square of the number of colliding keys shows it at a few thousand: their ratio grows with --count.
+steps. Runs the built bson_recast on these at `any` and at `[string:i32]`, and the built bson_infer, which makes a document in memory of
+them and finds their names; on files of such a document and of one with its keys in the reverse order, too. Counts instructions by
+valgrind's cachegrind less those on the smallest input, and prints how many times those for the others the colliding ones take. Ends with
+status 1 where that is more than --most. A program whose cost is the square of the number of colliding keys shows it at a few thousand:
+their ratio grows with --count.
 
-    python3 bench/colliding_keys.py                              # 100,000 keys, with crates/bson_recast/out/bson_recast
-    python3 bench/colliding_keys.py --count 2000 --program FILE
+    python3 bench/colliding_keys.py                     # 100,000 keys, with the programs in crates/bson_recast/out and crates/bson_infer/out
+    python3 bench/colliding_keys.py --count 2000 --program FILE --infer FILE
 
 How keys collide: the hasher reads a key of 32 bytes as four numbers of 64 bits, the lowest byte first. It starts at a fixed state plus
 the length. It multiplies the first number, xored with the state, by the second, xored with a constant, and joins the halves of the
@@ -17,7 +19,7 @@ whatever the fourth is. So the keys have one beginning of 24 bytes, whose last e
 """
 import argparse, pathlib, string as letters, struct, sys, tempfile
 
-from bench import RECAST, SMALLEST, Draws, instructions
+from bench import INFER, RECAST, SMALLEST, Draws, instructions
 from elements import document, int32
 
 LENGTH = 32
@@ -57,33 +59,60 @@ def different(make, count):
     return list(keys)
 
 
-def documents(count, repeated):
-    """Documents of so many keys that collide, and of so many others, with the first ones again at the end."""
+def key_lists(count):
+    """So many keys that collide, and so many others."""
     draws = Draws(13)
     start = beginning(draws)
     colliding = different(lambda: start + word(draws, LENGTH - len(start)), count)
     others = different(lambda: word(draws, LENGTH), count)
-    return [document(int32(key, i) for i, key in enumerate(keys + keys[:repeated])) for keys in (colliding, others)]
+    return [colliding, others]
+
+
+def of_keys(keys):
+    return document(int32(key, i) for i, key in enumerate(keys))
+
+
+def once(keys):
+    return of_keys(keys)
+
+
+def first_twice(keys):
+    return of_keys(keys + keys[:1])
+
+
+def both_orders(keys):
+    return of_keys(keys) + of_keys(keys[::-1])
+
+
+def ratio(name, command, count, lists, make, folder):
+    """How many times the instructions for other keys those for colliding ones are."""
+    counts = []
+    for keys in lists:
+        path = pathlib.Path(folder, "input")
+        path.write_bytes(make(keys))
+        counts.append(instructions(command, path))
+    path.write_bytes(SMALLEST)
+    least = instructions(command, path)
+    colliding, others = (total - least for total in counts)
+    print(f"{count} {name:44} {colliding / count:9.0f} instructions for each that collides, "
+          f"{others / count:6.0f} for each other, {colliding / others:.2f} times", flush=True)
+    return colliding / others
 
 
 def main():
     parser = argparse.ArgumentParser(description=__doc__, formatter_class=argparse.RawDescriptionHelpFormatter)
     parser.add_argument("--program", default=str(RECAST), help="the built bson_recast")
+    parser.add_argument("--infer", default=str(INFER), help="the built bson_infer")
     parser.add_argument("--count", type=int, default=100_000, help="how many keys")
     parser.add_argument("--most", type=float, default=3.0, help="the largest ratio that passes")
     options = parser.parse_args()
-    worst = 0.0
+    runs = [(f"{what} at {shape}", [options.program, shape], make)
+            for what, make in (("different keys", once), ("keys, one twice,", first_twice)) for shape in ("any", "[string:i32]")]
+    runs += [("different keys, inferred", [options.infer], once), ("keys, one twice, inferred", [options.infer], first_twice),
+             ("keys in both orders, inferred", [options.infer], both_orders)]
+    lists = key_lists(options.count)
     with tempfile.TemporaryDirectory() as folder:
-        paths = [pathlib.Path(folder, name) for name in ("colliding", "others", "smallest")]
-        for keys, repeated in ("different keys", 0), ("keys, one twice", 1):
-            for path, data in zip(paths, documents(options.count, repeated) + [SMALLEST]):
-                path.write_bytes(data)
-            for shape in ("any", "[string:i32]"):
-                least = instructions([options.program, shape], paths[2])
-                colliding, others = (instructions([options.program, shape], path) - least for path in paths[:2])
-                print(f"{options.count} {keys:15} at {shape:12}  {colliding / options.count:9.0f} instructions for each that collides, "
-                      f"{others / options.count:6.0f} for each other, {colliding / others:.2f} times", flush=True)
-                worst = max(worst, colliding / others)
+        worst = max(ratio(name, command, options.count, lists, make, folder) for name, command, make in runs)
     sys.exit(worst > options.most)
 
 

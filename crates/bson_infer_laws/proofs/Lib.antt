@@ -7,4 +7,9 @@ pub mod Covers
 pub mod Shapes
 pub mod PlainJoin
 pub mod Levels
+pub mod SortedOptions
+pub mod RawValues
+pub mod DocumentsBack
+pub mod Usual
+pub mod Recasts
 pub mod Examples

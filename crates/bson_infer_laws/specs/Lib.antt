@@ -2,3 +2,5 @@ pub mod Named
 pub mod Join
 pub mod Inferred
 pub mod Above
+pub mod Encodings
+pub mod Recasts

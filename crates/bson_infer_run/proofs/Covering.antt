@@ -1,31 +1,33 @@
 -- A document in its bytes that adds nothing to a form.
-use Rattle.std.proofs.Common.{◌≡◌, ℕ, zero, suc, ◌+◌, ◌<◌, ◌≤◌, Bool, true, false, cond, List, [], ◌∷◌, length, get_or, drop, Some, Result, Ok, Err, nat_lt, inr, refl, ap, sym, subst, ◌∙◌, string_bytes, arith, add-one}
+use Rattle.std.proofs.Common.{◌≡◌, ℕ, zero, suc, ◌+◌, ◌<◌, ◌≤◌, Bool, true, false, cond, List, [], ◌∷◌, length, get_or, drop, Option, Some, None, Result, Ok, Err, is_some, ◌-◌, nat_lt, inr, refl, ap, sym, subst, ◌∙◌, string_bytes, arith, add-one}
 use Rattle.std.specs.Prelude.{◌||◌}
 use Rattle.std.specs.Str.{bytes_eq}
 use Rattle.std.proofs.lemmas.List.{length-append}
-use Rattle.bson_base.specs.BsonView.{Key}
-use Rattle.bson_base.specs.Outcome.{◌>>=◌}
+use Rattle.bson_base.specs.Outcome.{◌>>=◌, result_map}
 use Rattle.bson_base.specs.Pairs.{put}
 use Rattle.bson_base.specs.Sound.{IsClean, ArePairsClean, Lacks, max_bytes}
-use Rattle.bson_base.specs.Text.{Utf8, IsPlainName}
-use Rattle.bson_base.specs.Tree.{Tree, Pairs, no_pairs, pair, kind, enc, elements, element, depth, pairs_depth}
+use Rattle.bson_base.specs.Text.{Bytes, Utf8, IsPlainName}
+use Rattle.bson_base.specs.Tree.{Tree, document, Pairs, no_pairs, pair, kind, enc, elements, element, depth, pairs_depth}
 use Rattle.bson_base.proofs.Lengths.{length-document}
 use Rattle.bson_laws.proofs.Fitted.{bytes_eq-refl, unlike_swap}
-use Rattle.bson_rawdoc.specs.DocumentTree.{pairs_with, tree_at}
+use Rattle.bson_rawdoc.specs.DocumentTree.{pairs_with, pairs_at, tree_at}
+use Rattle.bson_rawdoc.specs.RawValue as raw
+use Rattle.bson_rawdoc.specs.RawValue.{RawValue}
 use Rattle.bson_rawdoc.specs.ValueView.{raw_value}
-use Rattle.bson_rawdoc.specs.Walk.{Element, Walk, ended, then_walk}
+use Rattle.bson_rawdoc.specs.Walk.{Element, Walk, ended, then_walk, walk}
 use Rattle.bson_rawdoc.specs.declared.raw.Error.{Error}
 use Rattle.bson_rawdoc.specs.declared.value.RawBsonRef.{RawBsonRef}
-use Rattle.bson_shape.specs.Form.{Form, leaf, optional, structure, Fields, no_fields, field}
+use Rattle.bson_shape.specs.Form.{Form, leaf, optional, Fields, no_fields, field}
 use Rattle.bson_shape.specs.declared.leaf.Leaf.{Leaf}
-use Rattle.bson_infer_laws.specs.Above.{Above, FieldsAbove, FieldAbove, NamedIn, AreJoined}
+use Rattle.bson_infer_laws.specs.Above.{Above, FieldsAbove, FieldAbove, NamedIn, IsJoined, AreJoined}
 use Rattle.bson_infer_laws.specs.Inferred.{shape_of, pair_shapes}
 use Rattle.bson_infer_laws.specs.Join.{opt, within}
 use Rattle.bson_infer_laws.specs.Named.{form_of, has}
 use Rattle.bson_infer_laws.proofs.Above.{or_left, or_right, bare_above, name_is, absorbs}
 use Rattle.bson_infer_run.specs.Counted.{opt_if, settled}
-use Rattle.bson_infer_run.specs.Covered.{IsPlain, HasPlain, Takes, element_tree, fields_from, IsCovered}
-use Rattle.bson_infer_run.specs.SummaryView.{counted, counted_field, struct_form, summary_form, IsAt, IsEven, IsKnown}
+use Rattle.bson_infer_run.specs.Covered.{IsPlain, Has, Takes, element_tree, fields_from, IsCovered}
+use Rattle.bson_infer_run.specs.Fits.{Fits}
+use Rattle.bson_infer_run.specs.SummaryView.{counted, counted_field, struct_form, kind_form, summary_form, IsAt, IsEven, IsKind, IsKnown, IsSummary}
 use Rattle.bson_infer_run.specs.declared.summary.FieldSummary.{FieldSummary}
 use Rattle.bson_infer_run.specs.declared.summary.Kind.{Kind}
 use Rattle.bson_infer_run.specs.declared.summary.Kind.TheVariants as kinds
@@ -35,17 +37,33 @@ use Rattle.bson_infer_run.proofs.SoundTests.{sound_decided}
 
 -- ---- one value
 
-pub plain_at : (x : Leaf × ℕ) (v w : RawBsonRef) → v ≡ w → IsPlain (Some x) (tree_at 199 (raw_value w)) → IsPlain (Some x) (tree_at 199 (raw_value v))
-plain_at x v w e h = subst (λ u. IsPlain (Some x) (tree_at 199 (raw_value u))) (sym e) h
+pub plain_at : (x : Leaf × ℕ) (v w : RawBsonRef) → v ≡ w → IsPlain (Some x) (tree_at 0 (raw_value w)) → IsPlain (Some x) (tree_at 0 (raw_value v))
+plain_at x v w e h = subst (λ u. IsPlain (Some x) (tree_at 0 (raw_value u))) (sym e) h
 
 above_leaf : (n : Bool) (l m : Leaf) → within m l ≡ true → Above (summary_form n (kinds.Leaf l)) (leaf m)
 above_leaf true l m w = inr w
 above_leaf false l m w = w
 
-pub has_plain : (n : Bool) (k : Kind) (l m : Leaf) (size : ℕ) (r : Result Tree Error) → k ≡ kinds.Leaf l → within m l ≡ true → IsPlain (Some (m, size)) r → HasPlain (summary_form n k) (Some size) r
+pub has_plain : (n : Bool) (k : Kind) (l m : Leaf) (size : ℕ) (r : Result Tree Error) → k ≡ kinds.Leaf l → within m l ≡ true → IsPlain (Some (m, size)) r → Has 0 (summary_form n k) (Some size) r
 has_plain n k l m size (Ok t) is w h =
     (h.0, h.1, subst (λ f. Above (summary_form n k) f) (sym h.2) (subst (λ j. Above (summary_form n j) (leaf m)) (sym is) (above_leaf n l m w)))
 has_plain n k l m size (Err e) is w h = absurd h
+
+fits_up : (levels : ℕ) (t : Tree) → Fits 0 t → Fits levels t
+fits_up levels t f = record { clean = f.clean; nests = omega (arith, f.nests); small = f.small }
+
+-- a value without inner values, at any level
+pub has_any : (levels : ℕ) (s : Form) (o : Option ℕ) (v : RawValue) → Has 0 s o (tree_at 0 v) → Has levels s o (tree_at levels v)
+has_any levels s None v h = tt
+has_any levels s (Some n) (raw.document b) h = absurd h
+has_any levels s (Some n) (raw.array b) h = absurd h
+has_any levels s (Some n) (raw.javascript_code_with_scope code scope) h = absurd h
+has_any levels s (Some n) v h = (fits_up levels _ h.0, h.1, h.2)
+
+-- what is true of a summary is true of its kind
+pub inner_known : (n : Bool) (k : Kind) → IsSummary n k → IsKind k × IsJoined (kind_form k)
+inner_known true k h = (h.0, h.1.2)
+inner_known false k h = h
 
 -- ---- one element
 
@@ -57,22 +75,22 @@ opt_if_up : (c : Bool) (s b : Form) → Above s b → Above (opt_if c s) b
 opt_if_up true s b e = opt_up s b e
 opt_if_up false s b e = e
 
-from_at : (ks : List Key) (fs : List FieldSummary) (key : Utf8) (i : ℕ) (f : FieldSummary) → IsAt ks key i → i < length fs → f ≡ get_or fs i f
+from_at : (ks : List Utf8) (fs : List FieldSummary) (key : Utf8) (i : ℕ) (f : FieldSummary) → IsAt ks key i → i < length fs → f ≡ get_or fs i f
     → drop i (counted ks fs) ≡ counted_field key f ∷ drop (suc i) (counted ks fs)
 from_at [] fs key i f h lt is = absurd h
 from_at (k ∷ ks) [] key i f h lt is = absurd (omega (arith, lt))
-from_at (k ∷ ks) (g ∷ fs) key zero f h lt is = λ i. counted_field (sym (name_is key (string_bytes k) h) i) (sym is i) ∷ counted ks fs
+from_at (k ∷ ks) (g ∷ fs) key zero f h lt is = λ i. counted_field (sym (name_is key k h) i) (sym is i) ∷ counted ks fs
 from_at (k ∷ ks) (g ∷ fs) key (suc i) f h lt is = from_at ks fs key i f h.1 (omega (arith, lt)) is
 
-fields_at : (s : StructSummary) (key : Utf8) (i : ℕ) (f : FieldSummary) → IsEven s → IsAt s.names.keys key i → f ≡ get_or s.fields.items i f
+fields_at : (s : StructSummary) (key : Utf8) (i : ℕ) (f : FieldSummary) → IsEven s → IsAt s.names key i → f ≡ get_or s.fields.items i f
     → fields_from s i ≡ field key (opt_if (nat_lt f.count s.count) f.summary) (fields_from s (i + 1))
 fields_at s key i f even at is =
-    ap (settled s.count) (from_at s.names.keys s.fields.items key i f at (omega (arith, even, at_less key s.names.keys i at)) is)
-    ∙ ap (λ j. field key (opt_if (nat_lt f.count s.count) f.summary) (settled s.count (drop j (counted s.names.keys s.fields.items)))) (sym (add-one i))
+    ap (settled s.count) (from_at s.names s.fields.items key i f at (omega (arith, even, at_less key s.names i at)) is)
+    ∙ ap (λ j. field key (opt_if (nat_lt f.count s.count) f.summary) (settled s.count (drop j (counted s.names s.fields.items)))) (sym (add-one i))
 
-pub takes_next : (s : StructSummary) (key : Utf8) (i n v : ℕ) (f : FieldSummary) (r : Result Tree Error) → IsEven s → IsAt s.names.keys key i → f ≡ get_or s.fields.items i f → IsPlainName key → n ≡ length key + 2
-    → HasPlain f.summary (Some v) r → Takes (fields_from s i) (fields_from s (i + 1)) key (Some (n + v)) r
-takes_next s key i n v f (Ok t) even at is name size h =
+pub takes_next : (levels : ℕ) (s : StructSummary) (key : Utf8) (i n v : ℕ) (f : FieldSummary) (r : Result Tree Error) → IsEven s → IsAt s.names key i → f ≡ get_or s.fields.items i f → IsPlainName key → n ≡ length key + 2
+    → Has levels f.summary (Some v) r → Takes levels (fields_from s i) (fields_from s (i + 1)) key (Some (n + v)) r
+takes_next levels s key i n v f (Ok t) even at is name size h =
     record {
       form = opt_if (nat_lt f.count s.count) f.summary;
       first = fields_at s key i f even at is;
@@ -81,7 +99,7 @@ takes_next s key i n v f (Ok t) even at is name size h =
       size = omega (arith, size, h.1);
       above = opt_if_up (nat_lt f.count s.count) f.summary (shape_of t) h.2;
     }
-takes_next s key i n v f (Err e) even at is name size h = absurd h
+takes_next levels s key i n v f (Err e) even at is name size h = absurd h
 
 -- ---- the elements so far
 
@@ -92,11 +110,11 @@ Meets no_fields (pair k t ps) rest = ⊥
 Meets (field n x fs) (pair k t ps) rest = (n ≡ k) × Above x (shape_of t) × Meets fs ps rest
 
 -- These pairs were gone over, and the others are left.
-pub record IsPartOf (s : StructSummary) (place total : ℕ) (w : Walk) (all : Result Pairs Error) : Type 0 where
+pub record IsPartOf (s : StructSummary) (levels place total : ℕ) (w : Walk) (all : Result Pairs Error) : Type 0 where
   pub done : Pairs
-  pub way : pairs_with (tree_at 199) done w ≡ all
+  pub way : pairs_with (tree_at levels) done w ≡ all
   pub clean : ArePairsClean done
-  pub flat : pairs_depth done ≡ 0
+  pub flat : pairs_depth done ≤ levels
   pub size : length (elements done) ≡ total
   pub small : total ≤ max_bytes
   pub met : Meets (fields_from s 0) done (fields_from s place)
@@ -117,9 +135,9 @@ clean_after : (k : Utf8) (t : Tree) (ps : Pairs) → Lacks k ps → IsPlainName 
 clean_after k t no_pairs l n c h = (n, tt, c, tt)
 clean_after k t (pair j u ps) l n c h = (h.0, lacks_after j k t ps (unlike_swap k j l.0) h.1, h.2, clean_after k t ps l.1 n c h.3)
 
-flat_after : (k : Utf8) (t : Tree) (ps : Pairs) → depth t ≤ 0 → pairs_depth ps ≡ 0 → pairs_depth (after k t ps) ≡ 0
-flat_after k t no_pairs d e = omega (arith, d)
-flat_after k t (pair j u ps) d e = omega (arith, e, flat_after k t ps d (omega (arith, e)))
+flat_after : (levels : ℕ) (k : Utf8) (t : Tree) (ps : Pairs) → depth t ≤ levels → pairs_depth ps ≤ levels → pairs_depth (after k t ps) ≤ levels
+flat_after levels k t no_pairs d e = omega (arith, d)
+flat_after levels k t (pair j u ps) d e = omega (arith, e, flat_after levels k t ps d (omega (arith, e)))
 
 size_one : (k : Utf8) (t : Tree) (ps : Pairs) → length (elements (pair k t ps)) ≡ length k + 2 + length (enc t) + length (elements ps)
 size_one k t ps = omega (arith, length-append (element (kind t) k (enc t)) (elements ps), length-append k (0 ∷ enc t))
@@ -150,32 +168,37 @@ new_key (field n y fs) (pair j t ps) k x rest p m =
       or_right (bytes_eq n k) (has fs k) r.1,
     )
 
-next_by : (s : StructSummary) (place n total : ℕ) (e : Element) (w : Walk) (all : Result Pairs Error) (r : Result Tree Error) → element_tree e ≡ r → AreJoined (fields_from s 0) → total + n ≤ max_bytes
-    → Takes (fields_from s place) (fields_from s (place + 1)) e.key (Some n) r → IsPartOf s place total (then_walk e w) all → IsPartOf s (place + 1) (total + n) w all
-next_by s place n total e w all (Err x) is joined small one part = absurd one
-next_by s place n total e w all (Ok t) is joined small one part =
+next_by : (s : StructSummary) (levels place n total : ℕ) (e : Element) (w : Walk) (all : Result Pairs Error) (r : Result Tree Error) → element_tree levels e ≡ r → AreJoined (fields_from s 0) → total + n ≤ max_bytes
+    → Takes levels (fields_from s place) (fields_from s (place + 1)) e.key (Some n) r → IsPartOf s levels place total (then_walk e w) all → IsPartOf s levels (place + 1) (total + n) w all
+next_by s levels place n total e w all (Err x) is joined small one part = absurd one
+next_by s levels place n total e w all (Ok t) is joined small one part =
     let ps = part.done in
     let met : Meets (fields_from s 0) ps (field e.key one.form (fields_from s (place + 1))) = subst (Meets (fields_from s 0) ps) one.first part.met in
     let lacks : Lacks e.key ps = (new_key (fields_from s 0) ps e.key one.form (fields_from s (place + 1)) joined met).0 in
     record {
       done = after e.key t ps;
       way =
-          ap (λ qs. pairs_with (tree_at 199) qs w) (sym (put_after e.key t ps lacks))
-          ∙ ap (λ v. v >>= λ u. pairs_with (tree_at 199) (put e.key u ps) w) (sym is) ∙ part.way;
+          ap (λ qs. pairs_with (tree_at levels) qs w) (sym (put_after e.key t ps lacks))
+          ∙ ap (λ v. v >>= λ u. pairs_with (tree_at levels) (put e.key u ps) w) (sym is) ∙ part.way;
       clean = clean_after e.key t ps lacks one.name one.fits.clean part.clean;
-      flat = flat_after e.key t ps one.fits.nests part.flat;
+      flat = flat_after levels e.key t ps one.fits.nests part.flat;
       size = omega (arith, size_after e.key t ps, part.size, one.size);
       small = small;
       met = met_after (fields_from s 0) ps e.key t one.form (fields_from s (place + 1)) one.above met;
     }
 
-pub next_part : (s : StructSummary) (place n total : ℕ) (e : Element) (old w : Walk) (all : Result Pairs Error) → old ≡ then_walk e w → IsKnown s → total + n ≤ max_bytes
-    → Takes (fields_from s place) (fields_from s (place + 1)) e.key (Some n) (element_tree e) → IsPartOf s place total old all → IsPartOf s (place + 1) (total + n) w all
-next_part s place n total e old w all is known small one part =
-    next_by s place n total e w all (element_tree e) refl known.1.1 small one (subst (λ v. IsPartOf s place total v all) is part)
+pub next_part : (s : StructSummary) (levels place n total : ℕ) (e : Element) (old w : Walk) (all : Result Pairs Error) → old ≡ then_walk e w → IsKnown s → total + n ≤ max_bytes
+    → Takes levels (fields_from s place) (fields_from s (place + 1)) e.key (Some n) (element_tree levels e) → IsPartOf s levels place total old all → IsPartOf s levels (place + 1) (total + n) w all
+next_part s levels place n total e old w all is known small one part =
+    next_by s levels place n total e w all (element_tree levels e) refl known.1.1 small one (subst (λ v. IsPartOf s levels place total v all) is part)
 
-pub first_part : (s : StructSummary) (w v : Walk) → w ≡ v → IsPartOf s 0 0 w (pairs_with (tree_at 199) no_pairs v)
-first_part s w v e = record { done = no_pairs; way = ap (pairs_with (tree_at 199) no_pairs) e; clean = tt; flat = refl; size = refl; small = omega arith; met = refl }
+pairs_inside : (levels inner : ℕ) (b : Bytes) → (1 ≤ levels) × (inner ≡ levels - 1) → pairs_with (tree_at inner) no_pairs (walk b) ≡ pairs_at levels b
+pairs_inside zero inner b l = absurd (omega (arith, l.0))
+pairs_inside (suc n) inner b l = let e : inner ≡ n = omega (arith, l.1) in ap (λ k. pairs_with (tree_at k) no_pairs (walk b)) e
+
+pub first_part : (s : StructSummary) (levels inner : ℕ) (w : Walk) (b : Bytes) → (1 ≤ levels) × (inner ≡ levels - 1) → w ≡ walk b → IsPartOf s inner 0 0 w (pairs_at levels b)
+first_part s levels inner w b l e =
+    record { done = no_pairs; way = ap (pairs_with (tree_at inner) no_pairs) e ∙ pairs_inside levels inner b l; clean = tt; flat = omega arith; size = refl; small = omega arith; met = refl }
 
 -- ---- a whole document
 
@@ -207,12 +230,21 @@ named_met no_fields (pair k t ps) m = absurd m
 named_met (field n x fs) (pair k t ps) m =
     (or_left (bytes_eq n k) (has fs k) (subst (λ z. bytes_eq n z ≡ true) m.0 (bytes_eq-refl n)), named_more (pair_shapes ps) fs n x (named_met fs ps m.2))
 
-pub whole_part : (s : StructSummary) (place total : ℕ) (w : Walk) (all : Result Pairs Error) → IsKnown s → w ≡ ended → length s.fields.items ≡ place → total + 5 ≤ max_bytes → IsPartOf s place total w all
-    → IsCovered (struct_form s) all
-whole_part s place total w all known over end small part =
+pub whole_part : (s : StructSummary) (levels inner place total : ℕ) (w : Walk) (all : Result Pairs Error) → IsKnown s → (1 ≤ levels) × (inner ≡ levels - 1) → w ≡ ended → length s.fields.items ≡ place → total + 5 ≤ max_bytes
+    → IsPartOf s inner place total w all → Has levels (struct_form s) (Some (total + 5)) (result_map document all)
+whole_part s levels inner place total w all known l over end small part =
     let ps = part.done in
-    let met : Meets (fields_from s 0) ps no_fields = subst (Meets (fields_from s 0) ps) (ap (settled s.count) (drop_all s.names.keys s.fields.items place end)) part.met in
-    subst (IsCovered (struct_form s)) (ap (pairs_with (tree_at 199) ps) (sym over) ∙ part.way) (
-      (sound_decided ps).1 (record { document = tt; clean = part.clean; nests = omega (arith, part.flat); fits = omega (arith, small, part.size, length-document ps) }),
-      absorbs (struct_form s) (structure [] (pair_shapes ps)) known.1 (fields_met (fields_from s 0) ps known.1.1 met, named_met (fields_from s 0) ps met),
+    let met : Meets (fields_from s 0) ps no_fields = subst (Meets (fields_from s 0) ps) (ap (settled s.count) (drop_all s.names s.fields.items place end)) part.met in
+    subst (λ r. Has levels (struct_form s) (Some (total + 5)) (result_map document r)) (ap (pairs_with (tree_at inner) ps) (sym over) ∙ part.way) (
+      record { clean = part.clean; nests = omega (arith, part.flat, l.0, l.1); small = omega (arith, small, part.size, length-document ps) },
+      omega (arith, part.size, length-document ps),
+      (fields_met (fields_from s 0) ps known.1.1 met, named_met (fields_from s 0) ps met),
     )
+
+by_pairs : (s : Form) (n : ℕ) (r : Result Pairs Error) → IsJoined s → Has 200 s (Some n) (result_map document r) → IsCovered s r
+by_pairs s n (Ok ps) joined h = ((sound_decided ps).1 (record { document = tt; clean = h.0.clean; nests = h.0.nests; fits = h.0.small }), absorbs s (shape_of (document ps)) joined h.2)
+by_pairs s n (Err e) joined h = absurd h
+
+pub covered_by : (s : Form) (o : Option ℕ) (r : Result Pairs Error) → IsJoined s → is_some o ≡ true → Has 200 s o (result_map document r) → IsCovered s r
+covered_by s None r joined e h = absurd cc
+covered_by s (Some n) r joined e h = by_pairs s n r joined h

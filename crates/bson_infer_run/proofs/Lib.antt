@@ -2,6 +2,7 @@ pub mod Puts
 pub mod Settled
 pub mod Summaries
 pub mod Places
+pub mod NamePlaces
 pub mod Structs
 pub mod Scalars
 pub mod ShapeFields
@@ -11,4 +12,5 @@ pub mod SoundTests
 pub mod Covering
 pub mod Gatherings
 pub mod Answered
+pub mod EncodedFiles
 pub mod WholeFiles

@@ -1,6 +1,5 @@
 -- The fields of a shape that is made of a struct, one after another.
 use Rattle.std.proofs.Common.{◌≡◌, ℕ, ◌+◌, ◌<◌, List, [], ◌∷◌, ◌++◌, length, get_or, drop, Result, Ok, nat_lt, refl, ap, sym, subst, ◌∙◌, string_bytes, arith, add-one}
-use Rattle.bson_base.specs.BsonView.{Key}
 use Rattle.bson_base.specs.Text.{Utf8}
 use Rattle.bson_shape.specs.Form.{Form, structure, Fields, no_fields, field, joined}
 use Rattle.bson_shape.specs.Makers.{IsShape, Makes, made_structure}
@@ -14,11 +13,11 @@ use Rattle.bson_infer_run.specs.SummaryView.{counted}
 use Rattle.bson_infer_run.specs.declared.summary.FieldSummary.{FieldSummary}
 use Rattle.bson_infer_run.proofs.Places.{drop_counted}
 
-pub settled_next : (n : ℕ) (ks : List Key) (gs : List FieldSummary) (i : ℕ) (k : Key) (g : FieldSummary) → length ks ≡ length gs → i < length gs → k ≡ get_or ks i k → g ≡ get_or gs i g
-    → settled n (drop i (counted ks gs)) ≡ field (string_bytes k) (opt_if (nat_lt g.count n) g.summary) (settled n (drop (i + 1) (counted ks gs)))
+pub settled_next : (n : ℕ) (ks : List Utf8) (gs : List FieldSummary) (i : ℕ) (k : Utf8) (g : FieldSummary) → length ks ≡ length gs → i < length gs → k ≡ get_or ks i k → g ≡ get_or gs i g
+    → settled n (drop i (counted ks gs)) ≡ field k (opt_if (nat_lt g.count n) g.summary) (settled n (drop (i + 1) (counted ks gs)))
 settled_next n ks gs i k g even lt e s =
     ap (settled n) (drop_counted ks gs i k g (omega (arith, even, lt)) lt e s)
-    ∙ ap (λ j. field (string_bytes k) (opt_if (nat_lt g.count n) g.summary) (settled n (drop j (counted ks gs)))) (sym (add-one i))
+    ∙ ap (λ j. field k (opt_if (nat_lt g.count n) g.summary) (settled n (drop j (counted ks gs)))) (sym (add-one i))
 
 -- one more field that is made
 pub fields_next : (fs : List FieldShape) (f : FieldShape) (name : Utf8) (s : Form) (rest all : Fields) → string_bytes f.name ≡ name → f.shape ≡ s → joined (fields_of fs) (field name s rest) ≡ all

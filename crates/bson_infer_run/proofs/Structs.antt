@@ -1,8 +1,8 @@
 -- The join of two structs, of two options, and of what is none.
 use Rattle.std.proofs.Common.{◌≡◌, ℕ, zero, suc, ◌+◌, ◌<◌, Bool, true, false, cond, List, [], ◌∷◌, length, get_or, inl, inr, refl, ap, sym, subst, ◌∙◌, arith}
 use Rattle.std.specs.Prelude.{◌||◌, ◌⊎◌, slice_set, nat_lt}
-use Rattle.bson_base.specs.BsonView.{Key}
 use Rattle.bson_base.specs.Sound.{ArePairsClean}
+use Rattle.bson_base.specs.Text.{Utf8}
 use Rattle.bson_base.specs.Tree.{Pairs, document}
 use Rattle.bson_shape.specs.Form.{Form, optional, structure}
 use Rattle.bson_shape.specs.ShapeView.{nodes, fields_nodes}
@@ -80,7 +80,7 @@ first_known u ps c even n e = (
 )
 
 -- a field of a struct has fewer nodes
-pub field_falls : (n : ℕ) (ks : List Key) (fs : List FieldSummary) (i : ℕ) (f : FieldSummary) → length ks ≡ length fs → i < length fs → f ≡ get_or fs i f
+pub field_falls : (n : ℕ) (ks : List Utf8) (fs : List FieldSummary) (i : ℕ) (f : FieldSummary) → length ks ≡ length fs → i < length fs → f ≡ get_or fs i f
     → nodes f.summary < fields_nodes (settled n (counted ks fs))
 field_falls n [] fs i f e lt is = absurd (omega (arith, e, lt))
 field_falls n (k ∷ ks) [] i f e lt is = absurd (omega (arith, lt))

@@ -24,29 +24,29 @@ IsPlain None r = Unit {0}
 IsPlain (Some x) (Ok t) = Fits 0 t × (x.1 ≡ length (enc t)) × (shape_of t ≡ leaf x.0)
 IsPlain (Some x) (Err e) = ⊥
 
--- a value without inner values that the form has, and its bytes
-abbrev pub HasPlain : Form → Option ℕ → Result Tree Error → Type 0
-HasPlain s None r = Unit {0}
-HasPlain s (Some n) (Ok t) = Fits 0 t × (n ≡ length (enc t)) × Above s (shape_of t)
-HasPlain s (Some n) (Err e) = ⊥
+-- a value, at most so many levels deep, that the form has, and its bytes
+abbrev pub Has : (levels : ℕ) → Form → Option ℕ → Result Tree Error → Type 0
+Has levels s None r = Unit {0}
+Has levels s (Some n) (Ok t) = Fits levels t × (n ≡ length (enc t)) × Above s (shape_of t)
+Has levels s (Some n) (Err e) = ⊥
 
 -- the first of the fields has this key, and its form has this value
-pub record TakesPair (fs rest : Fields) (n : ℕ) (key : Utf8) (t : Tree) : Type 0 where
+pub record TakesPair (levels : ℕ) (fs rest : Fields) (n : ℕ) (key : Utf8) (t : Tree) : Type 0 where
   pub form : Form
   pub first : fs ≡ field key form rest
   pub name : IsPlainName key
-  pub fits : Fits 0 t
+  pub fits : Fits levels t
   pub size : n ≡ length key + 2 + length (enc t)
   pub above : Above form (shape_of t)
 
-abbrev pub Takes : Fields → Fields → Utf8 → Option ℕ → Result Tree Error → Type 0
-Takes fs rest key None r = Unit {0}
-Takes fs rest key (Some n) (Ok t) = TakesPair fs rest n key t
-Takes fs rest key (Some n) (Err e) = ⊥
+abbrev pub Takes : (levels : ℕ) → Fields → Fields → Utf8 → Option ℕ → Result Tree Error → Type 0
+Takes levels fs rest key None r = Unit {0}
+Takes levels fs rest key (Some n) (Ok t) = TakesPair levels fs rest n key t
+Takes levels fs rest key (Some n) (Err e) = ⊥
 
--- the value of an element of a whole document
-abbrev pub element_tree : Element → Result Tree Error
-element_tree e = value_in e.kind e.value >>= tree_at 199
+-- the value of an element, with so many levels left
+abbrev pub element_tree : (levels : ℕ) → Element → Result Tree Error
+element_tree levels e = value_in e.kind e.value >>= tree_at levels
 
 -- the fields of a struct from this index on
 abbrev pub fields_from : StructSummary → ℕ → Fields

@@ -1,17 +1,15 @@
 -- What the inference from a file of documents comes to.
 use Rattle.std.specs.Prelude.{◌≡◌, ℕ, suc, ◌+◌, List, [], ◌∷◌, Bool, false, if◌then◌else◌, Option, Some, None, Result, Ok, Err}
 use Rattle.bson_base.specs.BsonView.{pairs_of}
-use Rattle.bson_base.specs.Outcome.{◌>>=◌}
 use Rattle.bson_base.specs.Text.{Bytes}
 use Rattle.bson_base.specs.Tree.{Tree, document, Pairs, Trees, no_trees, tree}
 use Rattle.bson_base.specs.declared.document.Document.{Document}
 use Rattle.bson_rawdoc.specs.Cut.{Cut, cut}
-use Rattle.bson_rawdoc.specs.Envelope.{envelope}
 use Rattle.bson_rawdoc.specs.declared.raw.Error.{Error}
 use Rattle.bson_shape.specs.Form.{Form}
+pub use Rattle.bson_infer_laws.specs.Encodings.{piece_pairs}
 use Rattle.bson_infer_laws.specs.Inferred.{shape_of, inferred}
 use Rattle.bson_infer_laws.specs.Join.{join}
-use Rattle.bson_rawdoc.specs.DocumentTree.{document_pairs}
 use Rattle.bson_infer_run.specs.SoundTest.{is_sound}
 use Rattle.bson_infer_run.specs.declared.file.FileError.{FileError}
 use Rattle.bson_infer_run.specs.declared.file.FileError.TheVariants as errors
@@ -34,10 +32,6 @@ pub data Inferring : Type 0 where
   unsound : (number : ℕ) → Inferring
   -- all are sound, and this is their form
   found : Form → Inferring
-
--- the pairs of the document that the bytes are, or the first fault in them
-abbrev pub piece_pairs : Bytes → Result Pairs Error
-piece_pairs piece = envelope piece >>= document_pairs
 
 abbrev pub fault_or : ℕ → Result Pairs Error → Option Fault → Option Fault
 fault_or n (Ok ps) rest = rest

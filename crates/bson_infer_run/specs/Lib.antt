@@ -7,6 +7,7 @@ pub mod Scalar
 pub mod SoundTest
 pub mod SummaryView
 pub mod Lines
+pub mod NamesView
 pub mod NoWords
 pub mod Number
 pub mod Prover

@@ -1,7 +1,6 @@
 -- What contracts see of a summary: the form of the values that were joined.
-use Rattle.std.specs.Prelude.{◌≡◌, ℕ, zero, suc, ◌<◌, Bool, true, false, List, [], ◌∷◌, length, string_bytes}
+use Rattle.std.specs.Prelude.{◌≡◌, ℕ, zero, suc, ◌<◌, Bool, true, false, List, [], ◌∷◌, length}
 use Rattle.std.specs.Str.{bytes_eq}
-use Rattle.bson_base.specs.BsonView.{Key}
 use Rattle.bson_base.specs.Text.{Utf8}
 use Rattle.bson_shape.specs.Form.{Form, leaf, optional, sequence, structure}
 use Rattle.bson_infer_laws.specs.Above.{IsJoined}
@@ -16,13 +15,13 @@ abbrev pub counted_field : Utf8 → FieldSummary → Counted
 counted_field name f = record { name = name; count = f.count; form = f.summary }
 
 -- each name with the field at its index
-abbrev pub counted : List Key → List FieldSummary → List Counted
+abbrev pub counted : List Utf8 → List FieldSummary → List Counted
 counted [] fs = []
 counted (k ∷ ks) [] = []
-counted (k ∷ ks) (f ∷ fs) = counted_field (string_bytes k) f ∷ counted ks fs
+counted (k ∷ ks) (f ∷ fs) = counted_field k f ∷ counted ks fs
 
 abbrev pub counted_of : StructSummary → List Counted
-counted_of s = counted s.names.keys s.fields.items
+counted_of s = counted s.names s.fields.items
 
 abbrev pub struct_form : StructSummary → Form
 struct_form s = structure [] (settled s.count (counted_of s))
@@ -43,13 +42,13 @@ is_option s = false
 
 -- as many names as fields
 abbrev pub IsEven : StructSummary → Type 0
-IsEven s = length s.names.keys ≡ length s.fields.items
+IsEven s = length s.names ≡ length s.fields.items
 
 -- the name is at this index, and not before it
-abbrev pub IsAt : List Key → Utf8 → ℕ → Type 0
+abbrev pub IsAt : List Utf8 → Utf8 → ℕ → Type 0
 IsAt [] name i = ⊥
-IsAt (k ∷ ks) name zero = bytes_eq name (string_bytes k) ≡ true
-IsAt (k ∷ ks) name (suc i) = (bytes_eq name (string_bytes k) ≡ false) × IsAt ks name i
+IsAt (k ∷ ks) name zero = bytes_eq name k ≡ true
+IsAt (k ∷ ks) name (suc i) = (bytes_eq name k ≡ false) × IsAt ks name i
 
 -- some structs were joined, and each field was in some of them
 pub record IsSome (s : StructSummary) : Type 0 where

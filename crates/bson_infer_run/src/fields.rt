@@ -3,9 +3,10 @@ ghost use Rattle.bson_infer_laws.specs.Join.{nothing};
 ghost use Rattle.bson_infer_run.specs.Counted.{Counted, put};
 ghost use Rattle.bson_infer_run.specs.SummaryView.{counted_of, IsEven, IsAt};
 
+use crate::names::Names;
 use crate::summary::{FieldSummary, StructSummary, Summary};
-use indexmap::IndexSet;
 use std::alloc::{AllocError, Global};
+use std::mem;
 
 impl FieldSummary {
     /// A field that no document had.
@@ -29,7 +30,7 @@ impl StructSummary {
     {
         StructSummary {
             count: 0,
-            names: IndexSet::new(alloc),
+            names: Names::new(alloc),
             fields: Vec::new(alloc),
         }
     }
@@ -45,7 +46,7 @@ impl StructSummary {
         ensures even { OnOk result (IsEven self.new) }
         ensures count { OnOk result (self.new.count ≡ self.old.count) }
         ensures within { IfOk result (λ place. place < vec_len self.new.fields) }
-        ensures place { IfOk result (λ place. IsAt self.new.names.keys name.now place) }
+        ensures place { IfOk result (λ place. IsAt self.new.names name.now place) }
         ensures puts { OnOk result ((g : Counted) → g.name ≡ name.now → put g (counted_of self.new) ≡ put g (counted_of self.old)) }
     {
         if self.is_at(name, expected) {
@@ -56,10 +57,9 @@ impl StructSummary {
 
     // Whether a name is at an index.
     pub(crate) fn is_at(&self, name: &str, place: usize) -> bool
-        ensures { IsTrue result → IsAt self.now.names.keys name.now place }
+        ensures { IsTrue result → IsAt self.now.names name.now place }
     {
-        let names = self.names.as_slice();
-        place < names.len() && names[place].as_str() == name
+        self.names.is_at(name, place)
     }
 
     // The index of the field of a name. One that is new goes last, as a field that no document had.
@@ -68,15 +68,16 @@ impl StructSummary {
         ensures even { OnOk result (IsEven self.new) }
         ensures count { OnOk result (self.new.count ≡ self.old.count) }
         ensures within { IfOk result (λ place. place < vec_len self.new.fields) }
-        ensures place { IfOk result (λ place. IsAt self.new.names.keys name.now place) }
+        ensures place { IfOk result (λ place. IsAt self.new.names name.now place) }
         ensures puts { OnOk result ((g : Counted) → g.name ≡ name.now → put g (counted_of self.new) ≡ put g (counted_of self.old)) }
     {
-        if let Some(place) = self.names.get_index_of(name) {
+        if let Some(place) = self.names.place_of(name) {
             return Ok(place);
         }
         let place = self.fields.len();
         self.fields.push(FieldSummary::new())?;
-        self.names.insert(String::from_str(alloc, name)?)?;
+        let names = mem::replace(&mut self.names, Names::new(alloc));
+        self.names = names.with(alloc, name)?;
         Ok(place)
     }
 }

@@ -200,7 +200,7 @@ fn join_fields(
     first.count = total;
     let mut place = 0;
     for field in fields {
-        join_field(alloc, first, names.as_slice()[place].as_str(), field, place)?;
+        join_field(alloc, first, names.name(place), field, place)?;
         place += 1;
     }
     Ok(())

@@ -8,6 +8,8 @@ mod fields;
 mod file;
 mod inferring;
 mod join;
+mod laws;
+mod names;
 mod running;
 mod scalar;
 mod shape;
@@ -17,5 +19,6 @@ mod summary;
 
 pub use error::InferError;
 pub use inferring::infer;
+pub use laws::law_infer_files;
 pub use running::run_infer;
 pub use status::InferStatus;

@@ -2,12 +2,16 @@
 ghost use Rattle.std.specs.Prelude.{◌≡◌, ◌≤◌, ◌⊎◌, [], length, map, string_bytes, IfOk, Some};
 ghost use Rattle.bson_base.specs.Sound.{max_bytes};
 ghost use Rattle.bson_base.specs.Text.{Bytes};
+ghost use Rattle.bson_base.specs.Tree.{Trees};
 ghost use Rattle.bson_shape.specs.Form.{Form};
 ghost use Rattle.bson_program.specs.Ends.{source_change, sink_change};
 ghost use Rattle.bson_program.specs.Prepared.{Says};
 ghost use Rattle.bson_program.specs.Program.{IsDue, IsAnswered};
 ghost use Rattle.bson_program.specs.Run.{run_of, AllQuiet, AreKept};
+ghost use Rattle.bson_infer_laws.specs.Encodings.{encodings};
+ghost use Rattle.bson_infer_laws.specs.Inferred.{inferred};
 ghost use Rattle.bson_infer_run.specs.Files.{found, inferring_of};
+ghost use Rattle.bson_infer_run.specs.Infer.{AreSound};
 ghost use Rattle.bson_infer_run.specs.Rows.{Answers, infer_program, WritesShape};
 ghost use Rattle.bson_infer_run.specs.declared.status.InferStatus.TheVariants as statuses;
 
@@ -97,7 +101,13 @@ pub fn run_infer<I: Source, O: Sink, E: Sink>(
     out: &mut O,
     err: &mut E,
 ) -> InferStatus
-    // Given no word and a whole file of sound documents, it writes the notation of their shape, or reports that memory ran out.
+    // Given no word and the bytes of sound documents, one behind another, it writes the notation of the join of their forms, or reports that memory ran out.
+    ensures documents { let r = run_of (map string_bytes words.now) (source_change I.left I.faults input.old input.new)
+        (sink_change O.written O.room O.faults out.old out.new) (sink_change E.written E.room E.faults err.old err.new) result in
+        (ts : Trees) → AreSound ts → r.words ≡ [] → r.input.before ≡ Some (encodings ts) → length (encodings ts) ≤ max_bytes → AllQuiet r
+        → WritesShape r (inferred ts) ⊎ ((r.status ≡ statuses.NoMemory) × AreKept r.out r.err) }
+
+    // The same of each file that all documents are found in and are sound, however their bytes are made.
     ensures infers { let r = run_of (map string_bytes words.now) (source_change I.left I.faults input.old input.new)
         (sink_change O.written O.room O.faults out.old out.new) (sink_change E.written E.room E.faults err.old err.new) result in
         (file : Bytes) (s : Form) → r.words ≡ [] → r.input.before ≡ Some file → length file ≤ max_bytes → inferring_of file ≡ found s → AllQuiet r

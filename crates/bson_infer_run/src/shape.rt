@@ -52,7 +52,7 @@ fn shape_of_struct(alloc: Global, summary: &StructSummary) -> Result<Shape, Shap
 {
     let mut fields = Vec::with_capacity(alloc, summary.fields.len())?;
     for (i, field) in summary.fields.iter().enumerate() {
-        let name = String::from_str(alloc, summary.names.as_slice()[i].as_str())?;
+        let name = String::from_str(alloc, summary.names.name(i))?;
         let shape = shape_of_field(alloc, field, summary.count)?;
         fields.push(FieldShape { name, shape })?;
     }

@@ -100,7 +100,7 @@ pub(crate) fn size_of_time(time: &DateTime) -> usize
 }
 
 // Two numbers of 32 bits.
-fn size_of_timestamp(timestamp: &Timestamp) -> usize
+pub(crate) fn size_of_timestamp(timestamp: &Timestamp) -> usize
     ensures time { timestamp.now.time < 2 ^ 32 }
     ensures increment { timestamp.now.increment < 2 ^ 32 }
     ensures size { result ≡ 8 }

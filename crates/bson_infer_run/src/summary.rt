@@ -4,8 +4,8 @@ ghost use Rattle.bson_infer_laws.specs.Above.{IsJoined};
 ghost use Rattle.bson_infer_laws.specs.Join.{is_nothing, nothing, opt};
 ghost use Rattle.bson_infer_run.specs.SummaryView.{is_option, kind_form, IsSummary};
 
+use crate::names::Names;
 use bson_shape::Leaf;
-use indexmap::IndexSet;
 use std::alloc::{AllocError, Global};
 use std::marker::Model;
 
@@ -39,7 +39,7 @@ pub(crate) struct StructSummary {
     /// How many documents were joined. One that adds nothing need not be counted.
     pub(crate) count: u64,
     /// The keys. Each field is at the index of its key.
-    pub(crate) names: IndexSet<String>,
+    pub(crate) names: Names,
     pub(crate) fields: Vec<FieldSummary>,
 }
 

@@ -2,7 +2,7 @@
 use Rattle.std.specs.Prelude.{◌≡◌, ◌+◌, ◌≤◌, max, Bool, true, false, nat_lt, List, [], ◌∷◌, length}
 use Rattle.std.proofs.Common.{arith}
 use denote.Param.Weighed.{most}
-use Rattle.bson_base.specs.BsonView.{Key}
+use Rattle.bson_base.specs.Text.{Utf8}
 use Rattle.bson_shape.specs.Form.{Form, optional}
 use Rattle.bson_shape.specs.ShapeView.{nodes, fields_nodes}
 use Rattle.bson_infer_run.specs.Counted.{opt_if, settled}
@@ -21,7 +21,7 @@ pub opt_if_nodes : (b : Bool) (s : Form) → nodes s ≤ nodes (opt_if b s)
 opt_if_nodes true s = opt_nodes s
 opt_if_nodes false s = omega arith
 
-most_falls : (n : _) (ks : List Key) (fs : List FieldSummary) → length ks ≡ length fs → most deep-FieldSummary fs ≤ fields_nodes (settled n (counted ks fs)) + 1
+most_falls : (n : _) (ks : List Utf8) (fs : List FieldSummary) → length ks ≡ length fs → most deep-FieldSummary fs ≤ fields_nodes (settled n (counted ks fs)) + 1
 most_falls n [] [] e = omega arith
 most_falls n [] (f ∷ fs) e = absurd (omega (arith, e))
 most_falls n (k ∷ ks) [] e = absurd (omega (arith, e))
@@ -31,7 +31,7 @@ kind_falls : (n : Bool) (k : Kind) → IsSummary n k → max (deep-Kind k) 0 ≤
 kind_falls n kinds.Nothing h = omega arith
 kind_falls n (kinds.Leaf l) h = omega arith
 kind_falls n (kinds.Sequence item) h = omega arith
-kind_falls n (kinds.Structure s) h = omega (arith, most_falls s.value.count s.value.names.keys s.value.fields.items h.0.even)
+kind_falls n (kinds.Structure s) h = omega (arith, most_falls s.value.count s.value.names s.value.fields.items h.0.even)
 
 pub falls : (n : Bool) (k : Kind) → IsSummary n k → max (deep-Kind k) 0 ≤ nodes (summary_form n k)
 falls true k h = omega (arith, kind_falls true k h)

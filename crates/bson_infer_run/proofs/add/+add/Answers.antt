@@ -16,8 +16,8 @@ add_pair-returns-clause-field t c =
     let new : FieldSummary = record { count = c.in-Some.count; summary = c.in_ok-summary.summary } in
     let old = c.replace-known.result in
     let is : old ≡ get_or s.fields.items c.in_ok-place.place old = rw c.replace-known.ensures.value c.index_mut.ensures.value in
-    ap (counted s.names.keys) (set_twice s.fields.items c.in_ok-place.place c.replace-known.new.dest new)
-    ∙ put_at g s.names.keys s.fields.items c.in_ok-place.place old new c.in_ok-place.ensures.place (omega (arith, c.in_ok-place.ensures.within)) is c.in-Some.ensures.1 c.in_ok-summary.ensures
+    ap (counted s.names) (set_twice s.fields.items c.in_ok-place.place c.replace-known.new.dest new)
+    ∙ put_at g s.names s.fields.items c.in_ok-place.place old new c.in_ok-place.ensures.place (omega (arith, c.in_ok-place.ensures.within)) is c.in-Some.ensures.1 c.in_ok-summary.ensures
     ∙ c.in_ok-place.ensures.puts g refl
 
 pub of_document-of-requires : goal.of_document-of-requires

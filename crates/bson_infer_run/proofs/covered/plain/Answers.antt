@@ -3,7 +3,7 @@ use Rattle.bson_base.specs.Instant.{millis}
 use Rattle.bson_rawdoc.specs.declared.value.RawBsonRef.TheVariants as values
 use Rattle.bson_shape.specs.declared.leaf.Leaf.TheVariants as leaves
 use Rattle.bson_infer_run.proofs.Covering.{plain_at}
-use Rattle.bson_infer_run.proofs.Fitting.{string_answers, int32_answers, int64_answers, date_time_answers}
+use Rattle.bson_infer_run.proofs.Fitting.{string_answers, int32_answers, int64_answers, date_time_answers, timestamp_answers}
 use Rattle.bson_infer_run.proofs.covered.plain.Goals as goal
 
 pub returns-in_ok-size_of_text-in-String : goal.returns-in_ok-size_of_text-in-String
@@ -30,3 +30,11 @@ returns-in-DateTime c =
     let n = c.size_of_time.result in
     let a = date_time_answers 0 n (millis c.in-DateTime.time) c.size_of_time.ensures.range c.size_of_time.ensures.size in
     plain_at (leaves.DateTime, n) c.args.value.now (values.DateTime c.in-DateTime.time) c.in-DateTime.is (a.0, a.1, refl)
+
+pub returns-in-Timestamp : goal.returns-in-Timestamp
+returns-in-Timestamp c =
+    let n = c.size_of_timestamp.result in
+    let time = c.in-Timestamp.time in
+    let e = c.size_of_timestamp.ensures in
+    let a = timestamp_answers 0 n time.time time.increment e.time e.increment e.size in
+    plain_at (leaves.Timestamp, n) c.args.value.now (values.Timestamp time) c.in-Timestamp.is (a.0, a.1, refl)

@@ -21,8 +21,8 @@ join_field-returns-clause-field t c =
     let new : FieldSummary = record { count = c.in-Some.count; summary = c.in_ok-summary.summary } in
     let old = c.replace-known.result in
     let is : old ≡ get_or s.fields.items c.in_ok-place.place old = rw c.replace-known.ensures.value c.index_mut.ensures.value in
-    ap (counted s.names.keys) (set_twice s.fields.items c.in_ok-place.place c.replace-known.new.dest new)
-    ∙ put_at g s.names.keys s.fields.items c.in_ok-place.place old new c.in_ok-place.ensures.place (omega (arith, c.in_ok-place.ensures.within)) is c.in-Some.ensures.1 c.in_ok-summary.ensures
+    ap (counted s.names) (set_twice s.fields.items c.in_ok-place.place c.replace-known.new.dest new)
+    ∙ put_at g s.names s.fields.items c.in_ok-place.place old new c.in_ok-place.ensures.place (omega (arith, c.in_ok-place.ensures.within)) is c.in-Some.ensures.1 c.in_ok-summary.ensures
     ∙ c.in_ok-place.ensures.puts g refl
 
 pub join_structs-of-requires : goal.join_structs-of-requires
@@ -70,7 +70,7 @@ join_fields-join_field-requires t c =
     let long : into_iter_len c.into_iter-field-iterator.result ≡ length s.fields.items = omega (arith, starts.1) in
     let turn = YieldsList-turn (YieldsList-from_vec s.fields.items starts.0 long) c.loop-field.yielded c.loop-field.field-iterator c.loop-field.yielded_by _ c.next.new.self c.in-Some-field.field c.in-Some-field.is c.next.ensures.steps in
     let f = c.in-Some-field.field in
-    let smaller : nodes f.summary < fields_nodes (settled s.count (counted_of s)) = field_falls s.count s.names.keys s.fields.items (length c.loop-field.yielded) f c.requires.second turn.0 turn.1 in
+    let smaller : nodes f.summary < fields_nodes (settled s.count (counted_of s)) = field_falls s.count s.names s.fields.items (length c.loop-field.yielded) f c.requires.second turn.0 turn.1 in
     (omega (arith, smaller, c.decreases), c.loop-field.invariant.even)
 
 pub join_fields-loop-field-preserved : goal.join_fields-loop-field-preserved
@@ -81,17 +81,17 @@ join_fields-loop-field-preserved t c =
     let long : into_iter_len c.into_iter-field-iterator.result ≡ length s.fields.items = omega (arith, starts.1) in
     let turn = YieldsList-turn (YieldsList-from_vec s.fields.items starts.0 long) c.loop-field.yielded c.loop-field.field-iterator c.loop-field.yielded_by _ c.next.new.self c.in-Some-field.field c.in-Some-field.is c.next.ensures.steps in
     let e = c.in_ok-join_field.ensures in
-    let k = c.index-as_slice-place.result in
+    let k = c.name.result.now in
     let f = c.in-Some-field.field in
-    let key : k ≡ get_or s.names.keys c.loop-field.place k = rw (sym c.as_slice.ensures.keys) c.index-as_slice-place.is in
+    let key : k ≡ get_or s.names c.loop-field.place k = c.name.ensures in
     let item : f ≡ get_or s.fields.items c.loop-field.place f = rw i.place turn.1 in
     record {
       place = ap (λ n. n + 1) i.place ∙ sym (length_push c.loop-field.yielded c.in-Some-field.field);
       even = e.even;
       count = e.count ∙ i.count;
-      fields = puts_next (counted_of c.loop-field.first) (counted_of c.join_field.new.fields) s.names.keys s.fields.items c.loop-field.place k f c.requires.second
+      fields = puts_next (counted_of c.loop-field.first) (counted_of c.join_field.new.fields) s.names s.fields.items c.loop-field.place k f c.requires.second
           (omega (arith, i.place, turn.0)) key item
-          (e.field ∙ ap (λ n. put (counted_field n c.in-Some-field.field) (counted_of c.loop-field.first)) c.as_str.ensures.value)
+          e.field
           ∙ i.fields;
     }
 
@@ -102,4 +102,4 @@ join_fields-returns-clause-fields t c =
     let starts = c.into_iter-field-iterator.ensures.into_iter_gives in
     let long : into_iter_len c.into_iter-field-iterator.result ≡ length s.fields.items = omega (arith, starts.1) in
     let end = YieldsList-end (YieldsList-from_vec s.fields.items starts.0 long) c.loop-field.yielded c.loop-field.field-iterator c.loop-field.yielded_by _ c.next.new.self c.in-None.is c.next.ensures.steps in
-    ap (puts (counted_of c.loop-field.first)) (sym (drop_all s.names.keys s.fields.items c.loop-field.place (sym end.1 ∙ sym i.place))) ∙ i.fields
+    ap (puts (counted_of c.loop-field.first)) (sym (drop_all s.names s.fields.items c.loop-field.place (sym end.1 ∙ sym i.place))) ∙ i.fields

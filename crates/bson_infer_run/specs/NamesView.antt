@@ -1,0 +1,26 @@
+-- What contracts see of names: the list of them, in which a B-tree finds each.
+use Rattle.std.specs.Prelude.{◌≡◌, ◌<◌, ℕ, suc, List, [], ◌∷◌, if◌then◌else◌, length, Option, Some, None}
+use Rattle.std.specs.BTreeMap.{BTreeMap, get_by_text}
+use Rattle.std.specs.List.{IsDistinct}
+use Rattle.std.specs.Str.{bytes_eq}
+use Rattle.bson_base.specs.BsonView.{Key}
+use Rattle.bson_base.specs.Text.{Utf8}
+
+-- one place further, or the first place where there is none further on
+abbrev pub further_or_first : Option ℕ → Option ℕ → Option ℕ
+further_or_first (Some i) first = Some (suc i)
+further_or_first None first = first
+
+-- the index of the last of the names that is this one
+abbrev pub place_among : List Utf8 → Utf8 → Option ℕ
+place_among [] name = None
+place_among (n ∷ names) name = further_or_first (place_among names name) (if bytes_eq n name then Some 0 else None)
+
+-- the B-tree has for each name its index
+abbrev pub FindsAll : BTreeMap Key ℕ → List Utf8 → Type 0
+FindsAll places names = (name : Utf8) → get_by_text places name ≡ place_among names name
+
+-- No name is there twice, and where there are more than a few names, the B-tree has the index of each.
+pub record IsIndexed (names : List Utf8) (places : BTreeMap Key ℕ) : Type 0 where
+  pub distinct : IsDistinct bytes_eq names
+  pub finds : 16 < length names → FindsAll places names
