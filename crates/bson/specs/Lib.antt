@@ -79,6 +79,7 @@ pub use Rattle.bson_laws.specs.Means
 pub use Rattle.bson_laws.specs.Plain
 pub use Rattle.bson_laws.specs.Reads
 pub use Rattle.bson_laws.specs.Represented
+pub use Rattle.bson_laws.specs.Settled
 pub use Rattle.bson_laws.specs.Spell
 pub use Rattle.bson_laws.specs.Trees
 pub use Rattle.bson_laws.specs.Unmarked
@@ -103,6 +104,7 @@ pub use Rattle.bson_met.specs.ValueView as MetValueView
 pub use Rattle.bson_texts.specs.ListsMarked
 pub use Rattle.bson_wrapped.specs.Data
 pub use Rattle.bson_de_raw.specs.Gives
+pub use Rattle.bson_de_raw.specs.ReadsLossy
 pub use Rattle.bson_ser_stream.specs.Writing
 pub use Rattle.bson_program.specs.Command
 pub use Rattle.bson_program.specs.Ends as RunEnds
@@ -112,7 +114,10 @@ pub use Rattle.bson_program.specs.Prepared
 pub use Rattle.bson_program.specs.Program
 pub use Rattle.bson_program.specs.Run
 pub use Rattle.bson_program.specs.ShapeWord
+pub use Rattle.bson_recast_run.specs.Digits
+pub use Rattle.bson_recast_run.specs.Due as RunDue
 pub use Rattle.bson_recast_run.specs.Number as RunNumber
+pub use Rattle.bson_recast_run.specs.Options as RunOptions
 pub use Rattle.bson_recast_run.specs.Printed as RecastPrinted
 pub use Rattle.bson_recast_run.specs.Recasting
 pub use Rattle.bson_recast_run.specs.Rows as RunRows

@@ -1,7 +1,11 @@
 //! Laws: functions that do nothing, and whose contracts say what holds of every shape, value and document.
 
 pub use bson_base::law_opened_folds;
-pub use bson_infer_laws::{law_inferred_again, law_inferred_shape, law_inferred_views, law_join};
+pub use bson_infer_laws::{
+    law_encoded_documents, law_inferred_again, law_inferred_recasts, law_inferred_shape,
+    law_inferred_views, law_join,
+};
+pub use bson_infer_run::law_infer_files;
 pub use bson_laws::{
     law_datum_spells, law_fixed_point, law_opened_agrees, law_opened_represents, law_read_back,
     law_reads_numbers, law_reads_spell, law_spell_means, law_views_means, law_views_reads,

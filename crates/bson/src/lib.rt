@@ -6,11 +6,11 @@
 //! | subject | names |
 //! |---|---|
 //! | shapes | `Shape`; `FieldShape`, `VariantShape` and `VariantContent` to make one without its notation; `Form`, `Leaf` and `Named` to look at one |
-//! | reading and writing | `from_slice_at`; `to_vec_at`, `to_buf`, `to_vec_counted`; `Datum` and its parts `Field`, `Entry`, `Text`, `ByteStr`, `Double` |
-//! | both at once | `recast`, `recast_to_buf` |
+//! | reading and writing | `from_slice_at`, `from_slice_utf8_lossy_at`; `to_vec_at`, `to_buf`, `to_vec_counted`; `Datum` and its parts `Field`, `Entry`, `Text`, `ByteStr`, `Double` |
+//! | both at once | `recast`, `recast_utf8_lossy`, `recast_to_buf` |
 //! | the shape of documents | `infer` |
 //! | trees | `Bson`, `Document` with `Iter` and `IntoIter`, and the types of values, such as `ObjectId`, `DateTime` and `Binary`; `read_value` and `Met` to read from one |
-//! | documents in their bytes | `RawDocument`, `RawArray`, `RawElement`, `RawIter`, `RawBsonRef`; `RawDocumentBuf`, `RawArrayBuf` to own the bytes |
+//! | documents in their bytes | `RawDocument`, `RawArray`, `RawElement`, `RawIter`, `RawBsonRef`, `Unjudged`; `RawDocumentBuf`, `RawArrayBuf` to own the bytes |
 //! | files of documents | `RawDocuments`; `migrate`, `Migration`, `Refused`, `lines_of` |
 //! | values of kinds that serde's data model lacks | `data` to make them, `reserved` to look at them, `reserved_kind` |
 //! | errors | `ParseError`, `ShapeError`, `de::Error`, `ser::Error`, `raw::Error`, `EncodeError`, `InferError`, `RecastError`, `MigrateError`; `Cause`, `MAX_NESTING_LEVEL`, `Path`, `Segment`, `Wrapper`, and `Stop` of `read_value` |
@@ -132,7 +132,7 @@
 //! # Reading and writing at once
 //!
 //! `recast` reads a document at a shape and writes it again: fields that the shape lacks are left out, and numbers get the kinds that the shape asks for. What it
-//! returns is returned as it is when it is recast at the same shape again.
+//! returns is returned as it is when it is recast at the same shape again, unless the shape depends on whether the reader is human.
 //!
 //! `bson_examples/src/recasting.rt`:
 //!
@@ -247,6 +247,7 @@
 //! ```rust
 //! ghost use Rattle.std.specs.Prelude.{◌≡◌, [], IfOk};
 //! ghost use Rattle.bson.specs.Migrating.{migrated, migration_of};
+//! ghost use Rattle.bson.specs.Settled.{IsSettled};
 //!
 //! use bson::{MigrateError, RawDocuments, Shape, lines_of, migrate};
 //! use std::alloc::Global;
@@ -269,7 +270,7 @@
 //!     shape: &Shape,
 //!     file: &[u8],
 //! ) -> Result<(Vec<u8>, String), MigrateError>
-//!     ensures again { IfOk result (λ r. migration_of shape.now r.0.items ≡ migrated r.0.items []) }
+//!     ensures again { IsSettled shape.now → IfOk result (λ r. migration_of shape.now r.0.items ≡ migrated r.0.items []) }
 //! {
 //!     let migration = migrate(alloc, shape, file)?;
 //!     let lines = lines_of(alloc, &migration.refused)?;
@@ -403,6 +404,7 @@ pub use bson_datum::de;
 pub use bson_datum::ser;
 pub use bson_de::read_value;
 pub use bson_de_raw::from_slice_at;
+pub use bson_de_raw::from_slice_utf8_lossy_at;
 pub use bson_infer_run::InferError;
 pub use bson_infer_run::InferStatus;
 pub use bson_infer_run::infer;
@@ -446,11 +448,13 @@ pub use bson_rawdoc::RawDocumentBuf;
 pub use bson_rawdoc::RawDocuments;
 pub use bson_rawdoc::RawElement;
 pub use bson_rawdoc::RawIter;
+pub use bson_rawdoc::Unjudged;
 pub use bson_rawdoc::raw;
 pub use bson_recast_run::RecastError;
 pub use bson_recast_run::Status;
 pub use bson_recast_run::recast;
 pub use bson_recast_run::recast_to_buf;
+pub use bson_recast_run::recast_utf8_lossy;
 pub use bson_recast_run::run;
 pub use bson_reserved as reserved;
 pub use bson_ser_stream::to_buf;

@@ -1,5 +1,6 @@
 ghost use Rattle.std.specs.Prelude.{◌≡◌, [], IfOk};
 ghost use Rattle.bson.specs.Migrating.{migrated, migration_of};
+ghost use Rattle.bson.specs.Settled.{IsSettled};
 
 use bson::{MigrateError, RawDocuments, Shape, lines_of, migrate};
 use std::alloc::Global;
@@ -22,7 +23,7 @@ pub fn at_shape(
     shape: &Shape,
     file: &[u8],
 ) -> Result<(Vec<u8>, String), MigrateError>
-    ensures again { IfOk result (λ r. migration_of shape.now r.0.items ≡ migrated r.0.items []) }
+    ensures again { IsSettled shape.now → IfOk result (λ r. migration_of shape.now r.0.items ≡ migrated r.0.items []) }
 {
     let migration = migrate(alloc, shape, file)?;
     let lines = lines_of(alloc, &migration.refused)?;

@@ -16,6 +16,7 @@ fn main(rt: HostRuntime) -> Result<(), Fail> {
     let alloc = rt.alloc();
     debug::print_runs(&rt, alloc)?;
     reading::print_document(&rt, alloc)?;
+    reading::print_mended(&rt, alloc)?;
     tree::print_tree(&rt, alloc)?;
     writing::print_struct(&rt, alloc)?;
     refusals::print_refusals(&rt, alloc)?;

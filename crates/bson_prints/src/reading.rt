@@ -1,7 +1,7 @@
 // What is read where there is memory: a document at a shape.
 use crate::printing::{print_bytes, print_debug};
-use bson_de_raw::from_slice_at;
-use bson_recast_run::recast;
+use bson_de_raw::{from_slice_at, from_slice_utf8_lossy_at};
+use bson_recast_run::{recast, recast_utf8_lossy};
 use bson_shape::Shape;
 use std::alloc::Global;
 use std::io::Print;
@@ -15,4 +15,15 @@ pub fn print_document(rt: &impl Print, alloc: Global) -> Result<(), Fail> {
     let shape = Shape::parse(alloc, "S{i:i32}")?;
     print_debug(rt, &from_slice_at(alloc, &shape, DOCUMENT)?)?;
     print_bytes(rt, alloc, "recast", &recast(alloc, &shape, DOCUMENT)?)
+}
+
+/// The document with the field `s`, a text of one byte that is not UTF-8.
+const ILL_FORMED: &[u8] = b"\x0e\0\0\0\x02s\0\x02\0\0\0\xff\0\0";
+
+/// The same of a document whose text is mended.
+pub fn print_mended(rt: &impl Print, alloc: Global) -> Result<(), Fail> {
+    let shape = Shape::parse(alloc, "S{s:string}")?;
+    print_debug(rt, &from_slice_utf8_lossy_at(alloc, &shape, ILL_FORMED)?)?;
+    let written = recast_utf8_lossy(alloc, &shape, ILL_FORMED)?;
+    print_bytes(rt, alloc, "recast_utf8_lossy", &written)
 }

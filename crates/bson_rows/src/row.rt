@@ -123,8 +123,11 @@ fn program_of(cell: &str) -> Option<(Program, u8)> {
     Some((program, status.parse::<u8>().ok()?))
 }
 
-/// The bytes of a cell: hexadecimal digits in groups, or `-` for none.
+/// The bytes of a cell: hexadecimal digits in groups, a text behind a `'`, or `-` for none.
 fn bytes_of(alloc: Global, cell: &str) -> Result<Vec<u8>, NoRow> {
+    if let Some(text) = cell.strip_prefix("'") {
+        return Ok(text_of(alloc, text)?.into_bytes());
+    }
     let mut bytes = Vec::new(alloc);
     if cell != "-" {
         for group in cell.split_whitespace() {
@@ -132,6 +135,13 @@ fn bytes_of(alloc: Global, cell: &str) -> Result<Vec<u8>, NoRow> {
         }
     }
     Ok(bytes)
+}
+
+/// The text of a cell, in which `␊`, `␍` and `␉` are a line feed, a carriage return and a tab.
+fn text_of(alloc: Global, cell: &str) -> Result<String, AllocError> {
+    let text = cell.replace(alloc, "\u{240A}", "\n")?;
+    let text = text.as_str().replace(alloc, "\u{240D}", "\r")?;
+    text.as_str().replace(alloc, "\u{2409}", "\t")
 }
 
 /// The lines of a cell, with ` / ` between them, or `-` for none.

@@ -1,4 +1,5 @@
-// What the raw layer reads where there is memory: an element of every kind.
+// What the raw layer reads where there is memory: an element of every kind, and a text that is mended.
+use bson_base::Bson;
 use bson_rawdoc::{RawDocument, RawElement};
 use std::alloc::Global;
 use std::io::Print;
@@ -60,6 +61,17 @@ fn print_elements(rt: &impl Print, alloc: Global, bytes: &[u8]) -> Result<(), Fa
 pub fn print_kinds(rt: &impl Print, alloc: Global) -> Result<(), Fail> {
     for (byte, value) in KINDS {
         print_elements(rt, alloc, &document_of(alloc, byte, value)?)?;
+    }
+    Ok(())
+}
+
+/// A text that is not UTF-8, in which U+FFFD stands for its ill-formed byte.
+pub fn print_lossy(rt: &impl Print, alloc: Global) -> Result<(), Fail> {
+    let bytes = b"\x0e\0\0\0\x02s\0\x02\0\0\0\xff\0\0";
+    for element in RawDocument::from_bytes(bytes)?.iter_elements() {
+        if let Some(Bson::String(text)) = element?.value_utf8_lossy(alloc)? {
+            println!(rt; "lossy: {}", hex::encode(alloc, text.as_bytes())?)?;
+        }
     }
     Ok(())
 }

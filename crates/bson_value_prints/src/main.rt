@@ -20,6 +20,7 @@ fn main(rt: HostRuntime) -> Result<(), Fail> {
     debug::print_values(&rt, alloc)?;
     debug::print_shapes(&rt, alloc)?;
     kinds::print_kinds(&rt, alloc)?;
+    kinds::print_lossy(&rt, alloc)?;
     texts::print_ids(&rt, alloc)?;
     texts::print_milliseconds(&rt)?;
     texts::print_dates(&rt, alloc)?;
