@@ -8,7 +8,7 @@ use Rattle.bson_base.specs.Made.{digits, number_text, base64_text}
 use Rattle.bson_base.specs.Parsed.{first_byte, bytes_of_digits}
 use Rattle.bson_base.specs.Text.{Bytes, AreBytes, Utf8}
 use Rattle.bson_base.specs.Opened.{IsExtended, one, two, opened}
-use Rattle.bson_base.specs.Tree.{Tree, double, string, document, array, binary, undefined, object_id, boolean, date_time, null, regular_expression, db_pointer, javascript_code, symbol, javascript_code_with_scope, int32, timestamp, int64, decimal128, max_key, min_key, Pairs, no_pairs}
+use Rattle.bson_base.specs.Tree.{Tree, double, string, document, array, binary, undefined, object_id, boolean, date_time, null, regular_expression, db_pointer, javascript_code, symbol, javascript_code_with_scope, int32, timestamp, int64, decimal128, max_key, min_key, raw, Pairs, no_pairs}
 use Rattle.bson_base.specs.Folded.{uint32_of, or_document, fold, fold_values, IsInKind, HasForm, KeepsScope}
 use Rattle.bson_base.proofs.WrittenTexts.{digits_read, integer_read, base64_read}
 
@@ -73,6 +73,7 @@ folds (int64 n) x h f = absurd x
 folds (decimal128 bytes) x h f = decimal_back bytes h
 folds max_key x h f = refl
 folds min_key x h f = refl
+folds (raw k bytes) x h f = absurd x
 
 -- ---- from inside out
 
@@ -106,3 +107,4 @@ folds_inside_out (int64 n) x h k = absurd x
 folds_inside_out (decimal128 bytes) x h k = decimal_back bytes h
 folds_inside_out max_key x h k = refl
 folds_inside_out min_key x h k = refl
+folds_inside_out (raw k bytes) x h c = absurd x

@@ -3,7 +3,6 @@ pub mod Lengths
 pub mod Encodings
 pub mod Folds
 pub mod Indexes
-pub mod KindBytes
 pub mod Rows
 pub mod Zips
 pub mod Nodes

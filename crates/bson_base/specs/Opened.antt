@@ -3,7 +3,7 @@
 use Rattle.std.specs.Prelude.{◌≢◌, [], ◌∷◌, pos, true, nat_eq, if◌then◌else◌, codes}
 use Rattle.bson_base.specs.Text.{Utf8}
 use Rattle.bson_base.specs.Made.{digits, number_text, base64_text}
-use Rattle.bson_base.specs.Tree.{Tree, double, string, document, array, binary, undefined, object_id, boolean, date_time, null, regular_expression, db_pointer, javascript_code, symbol, javascript_code_with_scope, int32, timestamp, int64, decimal128, max_key, min_key, Pairs, no_pairs, pair}
+use Rattle.bson_base.specs.Tree.{Tree, double, string, document, array, binary, undefined, object_id, boolean, date_time, null, regular_expression, db_pointer, javascript_code, symbol, javascript_code_with_scope, int32, timestamp, int64, decimal128, max_key, min_key, raw, Pairs, no_pairs, pair}
 
 -- an extended value: none of double, string, document, array, binary of subtype 0, boolean, null, int32 and int64
 abbrev pub IsExtended : Tree → Type 0
@@ -16,6 +16,7 @@ IsExtended (boolean b) = ⊥
 IsExtended null = ⊥
 IsExtended (int32 n) = ⊥
 IsExtended (int64 n) = ⊥
+IsExtended (raw k bytes) = ⊥
 IsExtended t = Unit {0}
 
 -- the pair of a key

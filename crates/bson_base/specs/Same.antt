@@ -3,7 +3,8 @@ use Rattle.std.specs.Prelude.{Bool, true, false, ◌&&◌, nat_eq}
 use Rattle.std.specs.Bool.{beq}
 use Rattle.std.specs.Ordering.{int_eq}
 use Rattle.std.specs.Str.{bytes_eq}
-use Rattle.bson_base.specs.Tree.{Tree, double, string, document, array, binary, undefined, object_id, boolean, date_time, null, regular_expression, db_pointer, javascript_code, symbol, javascript_code_with_scope, int32, timestamp, int64, decimal128, max_key, min_key, Pairs, no_pairs, pair, Trees, no_trees, tree}
+use Rattle.bson_base.specs.Kind.{byte}
+use Rattle.bson_base.specs.Tree.{Tree, double, string, document, array, binary, undefined, object_id, boolean, date_time, null, regular_expression, db_pointer, javascript_code, symbol, javascript_code_with_scope, int32, timestamp, int64, decimal128, max_key, min_key, raw, Pairs, no_pairs, pair, Trees, no_trees, tree}
 
 abbrev mutual
   -- two values are of one kind, and their parts are equal
@@ -29,6 +30,7 @@ abbrev mutual
   same (decimal128 bytes) (decimal128 others) = bytes_eq bytes others
   same max_key max_key = true
   same min_key min_key = true
+  same (raw k bytes) (raw l others) = nat_eq (byte k) (byte l) && bytes_eq bytes others
   same t u = false
 
   -- there are as many values, and each is that of the other

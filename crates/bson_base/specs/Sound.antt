@@ -3,7 +3,7 @@ use Rattle.std.specs.Prelude.{◌≡◌, ℕ, ◌^◌, ◌<◌, ◌≤◌, lengt
 use Rattle.std.specs.Int.{w32, w64}
 use Rattle.std.specs.Str.{bytes_eq, is_utf8}
 use Rattle.bson_base.specs.Text.{Bytes, Utf8, AreBytes, has_zero, IsPlainName}
-use Rattle.bson_base.specs.Tree.{Tree, double, string, document, array, binary, undefined, object_id, boolean, date_time, null, regular_expression, db_pointer, javascript_code, symbol, javascript_code_with_scope, int32, timestamp, int64, decimal128, max_key, min_key, Pairs, no_pairs, pair, Trees, no_trees, tree, enc, depth}
+use Rattle.bson_base.specs.Tree.{Tree, double, string, document, array, binary, undefined, object_id, boolean, date_time, null, regular_expression, db_pointer, javascript_code, symbol, javascript_code_with_scope, int32, timestamp, int64, decimal128, max_key, min_key, raw, Pairs, no_pairs, pair, Trees, no_trees, tree, enc, depth}
 
 -- the most levels of documents and arrays
 abbrev pub max_levels : ℕ
@@ -40,7 +40,7 @@ Lacks key (pair k t ps) = (bytes_eq key k ≡ false) × Lacks key ps
 
 abbrev mutual
   -- each text is UTF-8, each number and byte lies in the range of its kind, and each key is a plain name that occurs once in its
-  -- document or scope
+  -- document or scope; nothing is given by its bytes
   pub IsClean : Tree → Type 0
   IsClean (double bytes) = HasBytes 8 bytes
   IsClean (string t) = is_utf8 t ≡ true
@@ -63,6 +63,7 @@ abbrev mutual
   IsClean (decimal128 bytes) = HasBytes 16 bytes
   IsClean max_key = Unit {0}
   IsClean min_key = Unit {0}
+  IsClean (raw k bytes) = ⊥
 
   pub ArePairsClean : Pairs → Type 0
   ArePairsClean no_pairs = Unit {0}

@@ -31,6 +31,8 @@ mutual
     decimal128 : Bytes → Tree
     max_key : Tree
     min_key : Tree
+    -- a value of this kind that is given by its bytes
+    raw : (kind : ElementType) → (bytes : Bytes) → Tree
 
   -- the pairs of a document, in order
   pub data Pairs : Type 0 where
@@ -64,6 +66,7 @@ kind (int64 n) = kinds.Int64
 kind (decimal128 bytes) = kinds.Decimal128
 kind max_key = kinds.MaxKey
 kind min_key = kinds.MinKey
+kind (raw k bytes) = k
 
 -- a number in four bytes, the low byte first
 unfoldable pub le32 : ℕ → Bytes
@@ -121,6 +124,7 @@ abbrev mutual
   enc (decimal128 bytes) = bytes
   enc max_key = []
   enc min_key = []
+  enc (raw k bytes) = bytes
 
   -- the elements of a document
   pub elements : Pairs → Bytes
@@ -133,11 +137,12 @@ abbrev mutual
   array_elements i (tree t ts) = element (kind t) (decimal i) (enc t) ++ array_elements (suc i) ts
 
 abbrev mutual
-  -- how many documents and arrays are inside one another, where a scope is a document
+  -- how many documents and arrays are inside one another, where a scope is a document; what is given by its bytes counts as one
   pub depth : Tree → ℕ
   depth (document ps) = suc (pairs_depth ps)
   depth (array ts) = suc (trees_depth ts)
   depth (javascript_code_with_scope code scope) = suc (pairs_depth scope)
+  depth (raw k bytes) = 1
   depth t = 0
 
   pub pairs_depth : Pairs → ℕ

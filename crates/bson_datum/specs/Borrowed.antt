@@ -1,14 +1,18 @@
--- Which parts of a datum are borrowed: its texts and byte strings, by the input or by a value that is written. Source: serde's data model, borrowed and owned strings.
+-- Which parts of a datum are borrowed: its texts and byte strings, and its documents and arrays in their bytes, by the input or by a value that is written. Source: serde's data model, borrowed and owned strings.
 use Rattle.std.specs.Prelude.{◌≡◌, Bool, true, false, List, [], ◌∷◌, ◌++◌}
 use Rattle.std.specs.List.{flat_map, AllByRecursion}
 use Rattle.bson_datum.specs.declared.text.Text as text
 use Rattle.bson_datum.specs.declared.text.Text.TheVariants as texts
 use Rattle.bson_datum.specs.declared.byte_str.ByteStr as byte_str
 use Rattle.bson_datum.specs.declared.byte_str.ByteStr.TheVariants as byte_strs
+use Rattle.bson_datum.specs.declared.raw_doc.RawDoc as raw_doc
+use Rattle.bson_datum.specs.declared.raw_doc.RawDoc.TheVariants as raw_docs
+use Rattle.bson_datum.specs.declared.raw_arr.RawArr as raw_arr
+use Rattle.bson_datum.specs.declared.raw_arr.RawArr.TheVariants as raw_arrs
 use Rattle.bson_datum.specs.declared.datum.Entry.{Entry}
 use Rattle.bson_datum.specs.declared.datum.Field.{Field}
 use Rattle.bson_datum.specs.declared.datum.Datum as datum
-use Rattle.bson_datum.specs.declared.datum.Datum.{Datum, Str, Bytes, UnitStruct, UnitVariant, NewtypeStruct', NewtypeVariant', Seq', Tuple', TupleStruct', TupleVariant', Map', Struct', StructVariant', Mode', Row_of-Datum, end_of-Datum, more_of-Datum, Row_of-Entry, end_of-Entry, more_of-Entry, Row_of-Field, end_of-Field, more_of-Field}
+use Rattle.bson_datum.specs.declared.datum.Datum.{Datum, Str, Bytes, UnitStruct, UnitVariant, NewtypeStruct', NewtypeVariant', Seq', Tuple', TupleStruct', TupleVariant', Map', Struct', StructVariant', RawDocument, RawArray, Mode', Row_of-Datum, end_of-Datum, more_of-Datum, Row_of-Entry, end_of-Entry, more_of-Entry, Row_of-Field, end_of-Field, more_of-Field}
 
 abbrev pub text_borrowed : text.Text → Bool
 text_borrowed (texts.Borrowed s) = true
@@ -18,8 +22,16 @@ abbrev pub bytes_borrowed : byte_str.ByteStr → Bool
 bytes_borrowed (byte_strs.Borrowed s) = true
 bytes_borrowed (byte_strs.Owned v) = false
 
+abbrev pub raw_document_borrowed : raw_doc.RawDoc → Bool
+raw_document_borrowed (raw_docs.Borrowed d) = true
+raw_document_borrowed (raw_docs.Owned bs) = false
+
+abbrev pub raw_array_borrowed : raw_arr.RawArr → Bool
+raw_array_borrowed (raw_arrs.Borrowed a) = true
+raw_array_borrowed (raw_arrs.Owned a) = false
+
 abbrev mutual
-  -- of each text and byte string in a datum, in order: whether it is borrowed
+  -- of each text, byte string, document and array in its bytes, in order: whether it is borrowed
   pub borrowed_parts : Datum → List Bool
   borrowed_parts (Str t) = text_borrowed t ∷ []
   borrowed_parts (Bytes b) = bytes_borrowed b ∷ []
@@ -35,6 +47,8 @@ abbrev mutual
   borrowed_parts (Map' shape rows) = entry_rows_borrowed rows
   borrowed_parts (Struct' name shape rows) = text_borrowed name ∷ rows_borrowed rows
   borrowed_parts (StructVariant' variant shape rows) = text_borrowed variant ∷ rows_borrowed rows
+  borrowed_parts (RawDocument d) = raw_document_borrowed d ∷ []
+  borrowed_parts (RawArray a) = raw_array_borrowed a ∷ []
   borrowed_parts (Mode' p r q c) = borrowed_parts r ++ borrowed_parts c
   borrowed_parts d = []
 

@@ -40,6 +40,8 @@ pub data Cause : Type 0 where
   contents_wanted : Cause
   -- a document names a variant that has no contents
   unit_in_document : Cause
+  -- a key, or a part of a regular expression, holds a zero character
+  zero_byte : Cause
   -- the whole value is written as this kind, which is no document
   top_level : ElementType → Cause
   -- a binary of so many bytes, which are more than a binary may have

@@ -1,6 +1,7 @@
 pub mod Value
 pub mod TextView
 pub mod ByteStrView
+pub mod RawView
 pub mod Marked
 pub mod View
 pub mod Borrowed

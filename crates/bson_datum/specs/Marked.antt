@@ -1,6 +1,6 @@
--- Values whose texts and byte strings are marked: borrowed from the input, or owned. Source: serde's data model, borrowed and owned strings.
+-- Values whose texts and byte strings, and documents and arrays in their bytes, are marked: borrowed from the input, or owned. Source: serde's data model, borrowed and owned strings.
 use Rattle.bson_rawdoc.specs.Piece.{Piece}
-use Rattle.bson_datum.specs.Value.{ValueOf, Value, ItemsOf, Items, EntriesOf, Entries, FieldsOf, FieldValues, boolean, integer, double, character, str, bytes, none, some, unit, unit_structure, unit_variant, newtype, newtype_variant, sequence, tuple, tuple_structure, tuple_variant, map, structure, structure_variant, mode, no_items, item, no_entries, entry, no_field_values, field_value}
+use Rattle.bson_datum.specs.Value.{ValueOf, Value, ItemsOf, Items, EntriesOf, Entries, FieldsOf, FieldValues, boolean, integer, double, character, str, bytes, none, some, unit, unit_structure, unit_variant, newtype, newtype_variant, sequence, tuple, tuple_structure, tuple_variant, map, structure, structure_variant, raw_document, raw_array, mode, no_items, item, no_entries, entry, no_field_values, field_value}
 
 -- a value that says of each text and byte string whether it is borrowed from the input or owned
 abbrev pub Marked : Type 0
@@ -38,6 +38,8 @@ abbrev mutual
   contents (map es) = map (entry_contents es)
   contents (structure name fs) = structure name.bytes (field_contents fs)
   contents (structure_variant variant fs) = structure_variant variant.bytes (field_contents fs)
+  contents (raw_document d) = raw_document d.bytes
+  contents (raw_array a) = raw_array a.bytes
   contents (mode r c) = mode (contents r) (contents c)
 
   pub item_contents : MarkedItems → Items

@@ -5,7 +5,7 @@ use Rattle.std.specs.Ordering.{int_eq}
 use Rattle.std.specs.Str.{bytes_eq}
 use Rattle.std.specs.Cmp.Lexicographic.{pointwise}
 use Rattle.bson_base.specs.Text.{Utf8}
-use Rattle.bson_datum.specs.Value.{IntegerType, i8, i16, i32, i64, u8, u16, u32, u64, Value, boolean, integer, double, character, str, bytes, none, some, unit, unit_structure, unit_variant, newtype, newtype_variant, sequence, tuple, tuple_structure, tuple_variant, map, structure, structure_variant, mode, Items, no_items, item, Entries, no_entries, entry, FieldValues, no_field_values, field_value}
+use Rattle.bson_datum.specs.Value.{IntegerType, i8, i16, i32, i64, u8, u16, u32, u64, Value, boolean, integer, double, character, str, bytes, none, some, unit, unit_structure, unit_variant, newtype, newtype_variant, sequence, tuple, tuple_structure, tuple_variant, map, structure, structure_variant, raw_document, raw_array, mode, Items, no_items, item, Entries, no_entries, entry, FieldValues, no_field_values, field_value}
 use Rattle.bson_datum.specs.Refusal.{Segment, Path, at_key, at_index}
 
 -- the number of an integer type
@@ -46,6 +46,8 @@ abbrev mutual
   same (map es) (map ds) = same_entries es ds
   same (structure name fs) (structure n gs) = bytes_eq name n && same_fields fs gs
   same (structure_variant variant fs) (structure_variant n gs) = bytes_eq variant n && same_fields fs gs
+  same (raw_document a) (raw_document b) = bytes_eq a b
+  same (raw_array a) (raw_array b) = bytes_eq a b
   same (mode r c) (mode s d) = same r s && same c d
   same v w = false
 

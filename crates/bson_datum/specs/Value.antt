@@ -84,6 +84,9 @@ mutual
     map : (entries : EntriesOf T) → ValueOf T
     structure : (name : T) → (fields : FieldsOf T) → ValueOf T
     structure_variant : (variant : T) → (fields : FieldsOf T) → ValueOf T
+    -- a document and an array, given by their bytes
+    raw_document : T → ValueOf T
+    raw_array : T → ValueOf T
     -- a value with two forms: one for formats that people read, and a compact one
     mode : (readable compact : ValueOf T) → ValueOf T
 
@@ -161,6 +164,8 @@ kind_as readable (tuple_variant variant is) = EmbeddedDocument
 kind_as readable (map es) = EmbeddedDocument
 kind_as readable (structure name fs) = struct_kind name
 kind_as readable (structure_variant variant fs) = EmbeddedDocument
+kind_as readable (raw_document bs) = EmbeddedDocument
+kind_as readable (raw_array bs) = Array
 kind_as readable (mode r c) = if readable then kind_as readable r else kind_as readable c
 
 -- the kind that a value is written as, in its compact form

@@ -3,11 +3,12 @@ use Rattle.std.specs.Prelude.{pos, List, [], ◌∷◌}
 use Rattle.bson_base.specs.Text.{Utf8}
 use Rattle.bson_datum.specs.TextView.{text_view}
 use Rattle.bson_datum.specs.ByteStrView.{bytes_view}
-use Rattle.bson_datum.specs.Value.{Value, boolean, integer, i8, i16, i32, i64, u8, u16, u32, u64, double, character, str, bytes, none, some, unit, unit_structure, unit_variant, newtype, newtype_variant, sequence, tuple, tuple_structure, tuple_variant, map, structure, structure_variant, mode, Items, no_items, item, Entries, no_entries, entry, FieldValues, no_field_values, field_value}
+use Rattle.bson_datum.specs.RawView.{raw_document_view, raw_array_view}
+use Rattle.bson_datum.specs.Value.{Value, boolean, integer, i8, i16, i32, i64, u8, u16, u32, u64, double, character, str, bytes, none, some, unit, unit_structure, unit_variant, newtype, newtype_variant, sequence, tuple, tuple_structure, tuple_variant, map, structure, structure_variant, raw_document, raw_array, mode, Items, no_items, item, Entries, no_entries, entry, FieldValues, no_field_values, field_value}
 use Rattle.bson_datum.specs.declared.datum.Entry.{Entry}
 use Rattle.bson_datum.specs.declared.datum.Field.{Field}
 use Rattle.bson_datum.specs.declared.datum.Datum as datum
-use Rattle.bson_datum.specs.declared.datum.Datum.{Datum, Bool, I8, I16, I32, I64, U8, U16, U32, U64, Double, Char, Str, Bytes, UnitStruct, UnitVariant, NewtypeStruct', NewtypeVariant', Seq', Tuple', TupleStruct', TupleVariant', Map', Struct', StructVariant', Mode', Row_of-Datum, end_of-Datum, more_of-Datum, Row_of-Entry, end_of-Entry, more_of-Entry, Row_of-Field, end_of-Field, more_of-Field}
+use Rattle.bson_datum.specs.declared.datum.Datum.{Datum, Bool, I8, I16, I32, I64, U8, U16, U32, U64, Double, Char, Str, Bytes, UnitStruct, UnitVariant, NewtypeStruct', NewtypeVariant', Seq', Tuple', TupleStruct', TupleVariant', Map', Struct', StructVariant', RawDocument, RawArray, Mode', Row_of-Datum, end_of-Datum, more_of-Datum, Row_of-Entry, end_of-Entry, more_of-Entry, Row_of-Field, end_of-Field, more_of-Field}
 
 abbrev mutual
   pub view : Datum → Value
@@ -38,6 +39,8 @@ abbrev mutual
   view (Map' shape rows) = map (entry_rows_view rows)
   view (Struct' name shape rows) = structure (text_view name) (rows_view rows)
   view (StructVariant' variant shape rows) = structure_variant (text_view variant) (rows_view rows)
+  view (RawDocument d) = raw_document (raw_document_view d)
+  view (RawArray a) = raw_array (raw_array_view a)
   view (Mode' p r q c) = mode (view r) (view c)
 
   pub item_rows_view : {m : _} → Row_of-Datum m → Items

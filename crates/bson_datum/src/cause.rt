@@ -43,6 +43,8 @@ pub enum Cause {
     ContentsWanted,
     /// A document names a variant that has no contents.
     UnitInDocument,
+    /// A key, or a part of a regular expression, holds a zero character.
+    ZeroByte,
     /// The value has this kind, where a document is due.
     TopLevel(ElementType),
     /// A binary of so many bytes, which are more than 16777216.
@@ -87,6 +89,7 @@ impl fmt::Display for Cause {
             Cause::UnitInDocument => {
                 f.write_str("expected a string enum, got a document instead")
             }
+            Cause::ZeroByte => f.write_str("zero byte in a key or regex"),
             Cause::TopLevel(kind) => write!(f, "non-document type at the top level: {kind}"),
             Cause::BinaryTooLong(length) => {
                 write!(f, "binary length {length} exceeded maximum size")

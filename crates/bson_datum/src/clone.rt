@@ -1,11 +1,14 @@
 ghost use Rattle.std.specs.Prelude.{◌≡◌, ◌∷◌, IfOk, false};
 ghost use Rattle.bson_datum.specs.TextView.{text_view};
 ghost use Rattle.bson_datum.specs.ByteStrView.{bytes_view};
+ghost use Rattle.bson_rawdoc.specs.DocumentView.{document_bytes};
+ghost use Rattle.bson_datum.specs.RawView.{raw_document_view, raw_array_view};
 ghost use Rattle.bson_datum.specs.Value.{newtype, newtype_variant, tuple_structure, tuple_variant, structure, structure_variant};
 ghost use Rattle.bson_datum.specs.View.{view, items_view, entry_view, entries_view, field_view, fields_view};
-ghost use Rattle.bson_datum.specs.Borrowed.{text_borrowed, bytes_borrowed, borrowed_parts, items_borrowed, entry_borrowed, entries_borrowed, field_borrowed, fields_borrowed, NoneBorrowed, IsOwned};
+ghost use Rattle.bson_datum.specs.Borrowed.{text_borrowed, bytes_borrowed, raw_document_borrowed, raw_array_borrowed, borrowed_parts, items_borrowed, entry_borrowed, entries_borrowed, field_borrowed, fields_borrowed, NoneBorrowed, IsOwned};
 
-use crate::{ByteStr, Datum, Entry, Field, Text};
+use crate::{ByteStr, Datum, Entry, Field, RawArr, RawDoc, Text};
+use bson_rawdoc::{RawArrayBuf, RawDocument, RawDocumentBuf};
 use std::alloc::{AllocError, Global};
 
 impl<'a> Text<'a> {
@@ -69,6 +72,87 @@ impl<'a> ByteStr<'a> {
             ByteStr::Borrowed(bytes) => Ok(ByteStr::Owned(bytes.to_vec(alloc)?)),
             ByteStr::Owned(bytes) => Ok(ByteStr::Owned(bytes)),
         }
+    }
+}
+
+impl<'a> RawDoc<'a> {
+    /// An equal document: borrowed where this one is, else a copy.
+    ///
+    /// # Errors
+    ///
+    /// Memory ran out.
+    pub fn try_clone(&self, alloc: Global) -> Result<RawDoc<'a>, AllocError>
+        ensures equal { IfOk result (λ d. raw_document_view d ≡ raw_document_view self.now) }
+        ensures borrowed { IfOk result (λ d. raw_document_borrowed d ≡ raw_document_borrowed self.now) }
+    {
+        match self {
+            RawDoc::Borrowed(document) => Ok(RawDoc::Borrowed(*document)),
+            RawDoc::Owned(document) => { Ok(RawDoc::Owned(copied(alloc, document.as_document())?)) }
+        }
+    }
+
+    /// An equal document that is owned: a copy where this one is borrowed.
+    ///
+    /// # Errors
+    ///
+    /// Memory ran out.
+    pub fn into_owned<'x>(self, alloc: Global) -> Result<RawDoc<'x>, AllocError>
+        ensures equal { IfOk result (λ d. raw_document_view d ≡ raw_document_view self.entry) }
+        ensures owned { IfOk result (λ d. raw_document_borrowed d ≡ false) }
+    {
+        match self {
+            RawDoc::Borrowed(document) => Ok(RawDoc::Owned(copied(alloc, document)?)),
+            RawDoc::Owned(document) => Ok(RawDoc::Owned(document)),
+        }
+    }
+}
+
+impl<'a> RawArr<'a> {
+    /// An equal array: borrowed where this one is, else a copy.
+    ///
+    /// # Errors
+    ///
+    /// Memory ran out.
+    pub fn try_clone(&self, alloc: Global) -> Result<RawArr<'a>, AllocError>
+        ensures equal { IfOk result (λ a. raw_array_view a ≡ raw_array_view self.now) }
+        ensures borrowed { IfOk result (λ a. raw_array_borrowed a ≡ raw_array_borrowed self.now) }
+    {
+        match self {
+            RawArr::Borrowed(array) => Ok(RawArr::Borrowed(*array)),
+            RawArr::Owned(array) => {
+                let document = copied(alloc, array.as_array().as_doc())?;
+                Ok(RawArr::Owned(RawArrayBuf::from_document(document)))
+            }
+        }
+    }
+
+    /// An equal array that is owned: a copy where this one is borrowed.
+    ///
+    /// # Errors
+    ///
+    /// Memory ran out.
+    pub fn into_owned<'x>(self, alloc: Global) -> Result<RawArr<'x>, AllocError>
+        ensures equal { IfOk result (λ a. raw_array_view a ≡ raw_array_view self.entry) }
+        ensures owned { IfOk result (λ a. raw_array_borrowed a ≡ false) }
+    {
+        match self {
+            RawArr::Borrowed(array) => {
+                let document = copied(alloc, array.as_doc())?;
+                Ok(RawArr::Owned(RawArrayBuf::from_document(document)))
+            }
+            RawArr::Owned(array) => Ok(RawArr::Owned(array)),
+        }
+    }
+}
+
+// A copy of a document.
+fn copied(alloc: Global, document: RawDocument<'_>) -> Result<RawDocumentBuf, AllocError>
+    ensures equal { IfOk result (λ bytes. bytes ≡ document_bytes document.entry) }
+{
+    let bytes = document.as_bytes().to_vec(alloc)?;
+    match RawDocumentBuf::from_bytes(bytes) {
+        Ok(document) => Ok(document),
+        Err(_) => unreachable!(),
     }
 }
 
@@ -137,6 +221,8 @@ fn copy<'a>(alloc: Global, datum: &Datum<'a>) -> Result<Datum<'a>, AllocError>
         Datum::Map(entries) => Ok(Datum::Map(copy_entries(alloc, entries)?)),
         Datum::Struct { name, fields } => copy_struct(alloc, name, fields),
         Datum::StructVariant { variant, fields } => copy_struct_variant(alloc, variant, fields),
+        Datum::RawDocument(document) => Ok(Datum::RawDocument(document.try_clone(alloc)?)),
+        Datum::RawArray(array) => Ok(Datum::RawArray(array.try_clone(alloc)?)),
         Datum::Mode { readable, compact } => Ok(Datum::Mode {
             readable: copy_box(alloc, readable)?,
             compact: copy_box(alloc, compact)?,
@@ -359,6 +445,8 @@ fn owned<'x>(alloc: Global, datum: Datum<'_>) -> Result<Datum<'x>, AllocError>
         Datum::Map(entries) => Ok(Datum::Map(owned_entries(alloc, entries)?)),
         Datum::Struct { name, fields } => owned_struct(alloc, name, fields),
         Datum::StructVariant { variant, fields } => owned_struct_variant(alloc, variant, fields),
+        Datum::RawDocument(document) => Ok(Datum::RawDocument(document.into_owned(alloc)?)),
+        Datum::RawArray(array) => Ok(Datum::RawArray(array.into_owned(alloc)?)),
         Datum::Mode { readable, compact } => Ok(Datum::Mode {
             readable: owned_box(alloc, readable)?,
             compact: owned_box(alloc, compact)?,

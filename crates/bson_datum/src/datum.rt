@@ -4,6 +4,8 @@ ghost use Rattle.bson_datum.specs.TextView.{text_view};
 ghost use Rattle.bson_datum.specs.View.{view};
 
 use crate::byte_str::ByteStr;
+use crate::raw_arr::RawArr;
+use crate::raw_doc::RawDoc;
 use crate::text::Text;
 use bson_base::{Double, ElementType, reserved_kind};
 
@@ -121,6 +123,10 @@ pub enum Datum<'a> {
         /// Its fields, in order.
         fields: Vec<Field<'a>>,
     },
+    /// A document in its bytes, which a writer copies.
+    RawDocument(RawDoc<'a>),
+    /// An array in its bytes, which a writer copies.
+    RawArray(RawArr<'a>),
     /// A value with two forms, of which a reader or writer picks the one of its mode: a value that would ask serde's
     /// `is_human_readable`.
     Mode {
@@ -158,11 +164,14 @@ impl Datum<'_> {
                 let content = value.element_type_as(readable_inside(readable, name));
                 newtype_kind(name, content)
             }
-            Datum::Seq(_) | Datum::Tuple(_) | Datum::TupleStruct { .. } => ElementType::Array,
+            Datum::Seq(_) | Datum::Tuple(_) | Datum::TupleStruct { .. } | Datum::RawArray(_) => {
+                ElementType::Array
+            }
             Datum::Map(_)
             | Datum::NewtypeVariant { .. }
             | Datum::TupleVariant { .. }
-            | Datum::StructVariant { .. } => ElementType::EmbeddedDocument,
+            | Datum::StructVariant { .. }
+            | Datum::RawDocument(_) => ElementType::EmbeddedDocument,
             Datum::Struct { name, .. } => struct_kind(name),
             Datum::Mode { readable: form, .. } if readable => form.element_type_as(readable),
             Datum::Mode { compact: form, .. } => form.element_type_as(readable),

@@ -2,12 +2,13 @@ ghost use Rattle.std.specs.Prelude.{◌≡◌, ◌↔◌, IsTrue};
 ghost use Rattle.std.specs.Str.{bytes_eq};
 ghost use Rattle.bson_datum.specs.TextView.{text_view};
 ghost use Rattle.bson_datum.specs.ByteStrView.{bytes_view};
+ghost use Rattle.bson_datum.specs.RawView.{raw_document_view, raw_array_view};
 ghost use Rattle.bson_datum.specs.PathView.{path_view, segment_view};
 ghost use Rattle.bson_datum.specs.Value.{newtype, newtype_variant, sequence, tuple, tuple_structure, tuple_variant, map, structure, structure_variant};
 ghost use Rattle.bson_datum.specs.View.{view, items_view, entry_view, entries_view, field_view, fields_view};
 ghost use Rattle.bson_datum.specs.Same.{same, same_items, same_entries, same_entry, same_fields, same_field, same_segment, same_path};
 
-use crate::{ByteStr, Datum, Entry, Field, Path, Segment, Text};
+use crate::{ByteStr, Datum, Entry, Field, Path, RawArr, RawDoc, Segment, Text};
 
 /// Two texts are equal exactly where their contents are, whoever owns them.
 impl PartialEq for Text<'_> {
@@ -40,6 +41,42 @@ impl PartialEq for ByteStr<'_> {
     fn eq(&self, other: &Self) -> bool
         ensures value { result ≡ bytes_eq (bytes_view self.now) (bytes_view other.now) }
         ensures equal { IsTrue result ↔ (bytes_view self.now ≡ bytes_view other.now) }
+    {
+        self.as_bytes() == other.as_bytes()
+    }
+}
+
+/// Two documents in their bytes are equal exactly where their bytes are, whoever owns them.
+impl PartialEq for RawDoc<'_> {
+    ghost use Rattle.std.specs.Str.{bytes_eq};
+    ghost use Rattle.bson_datum.specs.RawView.{raw_document_view};
+    ghost use Rattle.bson_datum.specs.Prover.Decided.{raw_document_laws};
+
+    ghost eq = { λ a b. bytes_eq (raw_document_view a) (raw_document_view b) };
+
+    ghost laws = { raw_document_laws };
+
+    fn eq(&self, other: &Self) -> bool
+        ensures value { result ≡ bytes_eq (raw_document_view self.now) (raw_document_view other.now) }
+        ensures equal { IsTrue result ↔ (raw_document_view self.now ≡ raw_document_view other.now) }
+    {
+        self.as_bytes() == other.as_bytes()
+    }
+}
+
+/// Two arrays in their bytes are equal exactly where their bytes are, whoever owns them.
+impl PartialEq for RawArr<'_> {
+    ghost use Rattle.std.specs.Str.{bytes_eq};
+    ghost use Rattle.bson_datum.specs.RawView.{raw_array_view};
+    ghost use Rattle.bson_datum.specs.Prover.Decided.{raw_array_laws};
+
+    ghost eq = { λ a b. bytes_eq (raw_array_view a) (raw_array_view b) };
+
+    ghost laws = { raw_array_laws };
+
+    fn eq(&self, other: &Self) -> bool
+        ensures value { result ≡ bytes_eq (raw_array_view self.now) (raw_array_view other.now) }
+        ensures equal { IsTrue result ↔ (raw_array_view self.now ≡ raw_array_view other.now) }
     {
         self.as_bytes() == other.as_bytes()
     }
@@ -159,6 +196,8 @@ fn is_same(a: &Datum<'_>, b: &Datum<'_>) -> bool
         (Datum::Char(character), Datum::Char(other)) => character == other,
         (Datum::Str(text), Datum::Str(other)) => text == other,
         (Datum::Bytes(bytes), Datum::Bytes(other)) => bytes == other,
+        (Datum::RawDocument(document), Datum::RawDocument(other)) => document == other,
+        (Datum::RawArray(array), Datum::RawArray(other)) => array == other,
         (Datum::None, Datum::None) | (Datum::Unit, Datum::Unit) => true,
         (Datum::Some(value), Datum::Some(other)) => is_same(value, other),
         (Datum::UnitStruct { name }, Datum::UnitStruct { name: other }) => name == other,

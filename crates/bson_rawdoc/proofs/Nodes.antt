@@ -150,7 +150,7 @@ module _ (inner : ElementType → Bytes → Node) (whole : (k : ElementType) (b 
 
 -- ---- elements
 
-holding_whole : (levels : ℕ) (k : ElementType) (b : Bytes) → fault (holding k (nodes_with (node_in levels) (walk b))) ≡ None
+holding_whole : (levels : ℕ) (k : ElementType) (b : Bytes) → fault (holding k (Some b) (nodes_with (node_in levels) (walk b))) ≡ None
 holding_whole levels kinds.EmbeddedDocument b = refl
 holding_whole levels k b = refl
 

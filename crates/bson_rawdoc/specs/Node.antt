@@ -8,7 +8,7 @@ use Rattle.std.specs.Str.Lossy.{utf8_lossy}
 use Rattle.bson_base.specs.Text.{Bytes, Utf8}
 use Rattle.bson_base.specs.Outcome.{result_map}
 use Rattle.bson_base.specs.Tree as trees
-use Rattle.bson_base.specs.Tree.{Tree, Pairs, no_pairs, pair, Trees, no_trees, tree}
+use Rattle.bson_base.specs.Tree.{Tree, Pairs, no_pairs, pair, Trees, no_trees, tree, enc}
 use Rattle.bson_base.specs.declared.element_type.ElementType.TheVariants as kinds
 use Rattle.bson_base.specs.declared.element_type.ElementType.{ElementType}
 use Rattle.bson_rawdoc.specs.Envelope.{is_closed, inside}
@@ -30,8 +30,9 @@ mutual
   pub data Node : Type 0 where
     double : Bytes → Node
     string : Piece → Node
-    document : Nodes → Node
-    array : Nodes → Node
+    -- a document and an array, with the bytes that they are in the input, where they are in it
+    document : (slice : Option Bytes) → (elements : Nodes) → Node
+    array : (slice : Option Bytes) → (elements : Nodes) → Node
     -- a binary of subtype 0; where texts are mended it is borrowed as a byte string alone
     bytes : (under_mark : Bool) → Piece → Node
     boolean : Bool → Node
@@ -86,8 +87,8 @@ extended_kind min_key = kinds.MinKey
 abbrev pub kind_of : Node → ElementType
 kind_of (double bits) = kinds.Double
 kind_of (string t) = kinds.String
-kind_of (document ns) = kinds.EmbeddedDocument
-kind_of (array ns) = kinds.Array
+kind_of (document slice ns) = kinds.EmbeddedDocument
+kind_of (array slice ns) = kinds.Array
 kind_of (bytes u b) = kinds.Binary
 kind_of (boolean b) = kinds.Boolean
 kind_of null = kinds.Null
@@ -133,6 +134,10 @@ made_text t = string (made t)
 abbrev pub one : Utf8 → Node → Nodes
 one key n = then_node (made key) n ended
 
+-- a document that is made, which is not in the input
+abbrev pub made_document : Nodes → Node
+made_document ns = document None ns
+
 -- the pairs of two keys
 abbrev pub two : Utf8 → Node → Utf8 → Node → Nodes
 two key n other m = then_node (made key) n (one other m)
@@ -141,14 +146,14 @@ two key n other m = then_node (made key) n (one other m)
 -- level.
 abbrev pub opened : Extended → Nodes
 opened (object_id id) = one (codes "$oid") (made_text (digits id.bytes))
-opened (date_time n) = one (codes "$date") (document (one (codes "$numberLong") (made_text (number_text n))))
-opened (binary subtype b) = one (codes "$binary") (document (two (codes "subType") (made_text (digits (subtype ∷ []))) (codes "base64") (made_text (base64_text b.bytes))))
-opened (timestamp time increment) = one (codes "$timestamp") (document (two (codes "t") (int64 (pos time)) (codes "i") (int64 (pos increment))))
-opened (regular_expression pattern options) = one (codes "$regularExpression") (document (two (codes "pattern") (string pattern) (codes "options") (string options)))
+opened (date_time n) = one (codes "$date") (made_document (one (codes "$numberLong") (made_text (number_text n))))
+opened (binary subtype b) = one (codes "$binary") (made_document (two (codes "subType") (made_text (digits (subtype ∷ []))) (codes "base64") (made_text (base64_text b.bytes))))
+opened (timestamp time increment) = one (codes "$timestamp") (made_document (two (codes "t") (int64 (pos time)) (codes "i") (int64 (pos increment))))
+opened (regular_expression pattern options) = one (codes "$regularExpression") (made_document (two (codes "pattern") (string pattern) (codes "options") (string options)))
 opened (javascript_code t) = one (codes "$code") (string t)
 opened (javascript_code_with_scope code scope) = two (codes "$code") (string code) (codes "$scope") scope
 opened (symbol t) = one (codes "$symbol") (string t)
-opened (db_pointer namespace id) = one (codes "$dbPointer") (document (two (codes "$ref") (string namespace) (codes "$id") (document (one (codes "$oid") (made_text (digits id))))))
+opened (db_pointer namespace id) = one (codes "$dbPointer") (made_document (two (codes "$ref") (string namespace) (codes "$id") (made_document (one (codes "$oid") (made_text (digits id))))))
 opened (decimal128 b) = one (codes "$numberDecimalBytes") (bytes false (made b))
 opened undefined = one (codes "$undefined") (boolean true)
 opened max_key = one (codes "$maxKey") (int32 (pos 1))
@@ -169,12 +174,12 @@ abbrev pub mended_text : Piece → Piece
 mended_text t = made (utf8_lossy t.bytes)
 
 abbrev mutual
-  -- The value as it is read where texts are mended. No text and no key of it is in the input, and a binary is borrowed as a byte string alone. Keys are not
-  -- mended, since one that is no text ends its list. What else is wrong with a value stays wrong.
+  -- The value as it is read where texts are mended. No text and no key of it is in the input, and a binary is borrowed as a byte string alone; a document and an
+  -- array stay where they are. Keys are not mended, since one that is no text ends its list. What else is wrong with a value stays wrong.
   pub mended : Node → Node
   mended (string t) = string (mended_text t)
-  mended (document ns) = document (mended_nodes ns)
-  mended (array ns) = array (mended_nodes ns)
+  mended (document slice ns) = document slice (mended_nodes ns)
+  mended (array slice ns) = array slice (mended_nodes ns)
   mended (bytes u b) = bytes true b
   mended (extended x ns) = opens (mended_value x)
   mended n = n
@@ -253,9 +258,9 @@ nodes_with node (walks.faulty e) = faulty e
 nodes_with node (walks.then_walk e w) = then_node (borrowed e.key) (node e.kind e.value) (nodes_with node w)
 
 -- a document, or an array
-abbrev pub holding : ElementType → Nodes → Node
-holding kinds.EmbeddedDocument ns = document ns
-holding k ns = array ns
+abbrev pub holding : ElementType → (slice : Option Bytes) → Nodes → Node
+holding kinds.EmbeddedDocument slice ns = document slice ns
+holding k slice ns = array slice ns
 
 -- the node, where the last byte of the document or array is a zero
 abbrev pub closed_node : ElementType → Bytes → Node → Node
@@ -264,14 +269,14 @@ closed_node k b n = if is_closed b then n else broken k ValueUnclosed
 -- the value of this kind in these bytes, with so many levels of documents left
 abbrev pub node_in : (levels : ℕ) → ElementType → Bytes → Node
 node_in zero k b = node_with (λ c b. closed_node c b (too_deep c)) k b
-node_in (suc levels) k b = node_with (λ c b. closed_node c b (holding c (nodes_with (node_in levels) (walk b)))) k b
+node_in (suc levels) k b = node_with (λ c b. closed_node c b (holding c (Some b) (nodes_with (node_in levels) (walk b)))) k b
 
 -- ---- values of elements
 
 -- a document, an array or a scope of these bytes, which are closed
 abbrev pub inner_node : (levels : ℕ) → ElementType → Bytes → Node
 inner_node zero k b = too_deep k
-inner_node (suc levels) k b = holding k (nodes_with (node_in levels) (walk b))
+inner_node (suc levels) k b = holding k (Some b) (nodes_with (node_in levels) (walk b))
 
 -- the node of the value of an element; a document, an array and a scope are made of their bytes so
 abbrev pub value_node : (ElementType → Bytes → Node) → RawValue → Node
@@ -321,18 +326,27 @@ from_memory = record { texts = false; bytes = false; under_mark = false }
 abbrev pub piece : Bool → Bytes → Piece
 piece in_input b = record { bytes = b; in_input = in_input }
 
+-- the bytes of a document or an array of a finished tree, where they are in the input
+abbrev pub slice_if : Bool → Bytes → Option Bytes
+slice_if in_input b = if in_input then Some b else None
+
 -- a document or an array of these elements takes one of the levels that are left
-abbrev pub one_level : ElementType → (ℕ → Nodes) → (levels : ℕ) → Node
-one_level k ns zero = too_deep k
-one_level k ns (suc levels) = holding k (ns levels)
+abbrev pub one_level : ElementType → (slice : Option Bytes) → (ℕ → Nodes) → (levels : ℕ) → Node
+one_level k slice ns zero = too_deep k
+one_level k slice ns (suc levels) = holding k slice (ns levels)
+
+-- a value that is under a mark or not
+abbrev pub mended_if : (under_mark : Bool) → Node → Node
+mended_if under_mark n = if under_mark then mended n else n
 
 abbrev mutual
-  -- the value that a tree is, with so many levels of documents left
+  -- The value that a tree is, with so many levels of documents left. A document, an array or a scope is in the input where byte strings are; what is given by
+  -- its bytes is the value of these bytes, and always in the input.
   pub tree_node : (at : Sight) → Tree → (levels : ℕ) → Node
   tree_node at (trees.double bits) levels = double bits
   tree_node at (trees.string t) levels = string (piece at.texts t)
-  tree_node at (trees.document ps) levels = one_level kinds.EmbeddedDocument (pair_nodes at ps) levels
-  tree_node at (trees.array ts) levels = one_level kinds.Array (tree_nodes at 0 ts) levels
+  tree_node at (trees.document ps) levels = one_level kinds.EmbeddedDocument (slice_if at.bytes (enc (trees.document ps))) (pair_nodes at ps) levels
+  tree_node at (trees.array ts) levels = one_level kinds.Array (slice_if at.bytes (enc (trees.array ts))) (tree_nodes at 0 ts) levels
   tree_node at (trees.binary subtype b) levels = binary_node at.under_mark subtype (piece at.bytes b)
   tree_node at trees.undefined levels = opens undefined
   tree_node at (trees.object_id id) levels = opens (object_id (piece at.bytes id))
@@ -343,13 +357,14 @@ abbrev mutual
   tree_node at (trees.db_pointer namespace id) levels = opens (db_pointer (piece at.texts namespace) id)
   tree_node at (trees.javascript_code t) levels = opens (javascript_code (piece at.texts t))
   tree_node at (trees.symbol t) levels = opens (symbol (piece at.texts t))
-  tree_node at (trees.javascript_code_with_scope code scope) levels = opens (javascript_code_with_scope (piece at.texts code) (one_level kinds.EmbeddedDocument (pair_nodes at scope) levels))
+  tree_node at (trees.javascript_code_with_scope code scope) levels = opens (javascript_code_with_scope (piece at.texts code) (one_level kinds.EmbeddedDocument (slice_if at.bytes (enc (trees.document scope))) (pair_nodes at scope) levels))
   tree_node at (trees.int32 n) levels = int32 n
   tree_node at (trees.timestamp time increment) levels = opens (timestamp time increment)
   tree_node at (trees.int64 n) levels = int64 n
   tree_node at (trees.decimal128 b) levels = opens (decimal128 b)
   tree_node at trees.max_key levels = opens max_key
   tree_node at trees.min_key levels = opens min_key
+  tree_node at (trees.raw k b) levels = mended_if at.under_mark (node_in levels k b)
 
   pub pair_nodes : (at : Sight) → Pairs → (levels : ℕ) → Nodes
   pair_nodes at no_pairs levels = ended

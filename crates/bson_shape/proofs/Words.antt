@@ -77,6 +77,9 @@ of_word-word leaf.DbPointer = refl
 of_word-word leaf.Uuid = refl
 of_word-word leaf.Bson = refl
 of_word-word leaf.Document = refl
+of_word-word leaf.RawDocument = refl
+of_word-word leaf.RawArray = refl
+of_word-word leaf.RawBson = refl
 
 pub bare-word : (l : Leaf) → bare (word l) ≡ true
 bare-word leaf.Any = refl
@@ -108,3 +111,6 @@ bare-word leaf.DbPointer = refl
 bare-word leaf.Uuid = refl
 bare-word leaf.Bson = refl
 bare-word leaf.Document = refl
+bare-word leaf.RawDocument = refl
+bare-word leaf.RawArray = refl
+bare-word leaf.RawBson = refl

@@ -3,7 +3,7 @@ use Rattle.std.specs.Prelude.{Bool as Test, true, false, List, [], ◌∷◌, if
 use Rattle.std.specs.Str.{bytes_eq}
 use Rattle.bson_base.specs.Text.{Utf8}
 use Rattle.bson_shape.specs.declared.leaf.Leaf.{Leaf}
-use Rattle.bson_shape.specs.declared.leaf.Leaf.TheVariants.{Any, Ignored, Bool, I8, I16, I32, I64, U8, U16, U32, U64, Double, Char, Str, String, Bytes, ByteBuf, Unit, ObjectId, DateTime, Binary, Timestamp, Regex, CodeWithScope, Decimal128, DbPointer, Uuid, Bson, Document}
+use Rattle.bson_shape.specs.declared.leaf.Leaf.TheVariants.{Any, Ignored, Bool, I8, I16, I32, I64, U8, U16, U32, U64, Double, Char, Str, String, Bytes, ByteBuf, Unit, ObjectId, DateTime, Binary, Timestamp, Regex, CodeWithScope, Decimal128, DbPointer, Uuid, Bson, Document, RawDocument, RawArray, RawBson}
 
 abbrev pub word : Leaf → Utf8
 word Any = codes "any"
@@ -35,6 +35,9 @@ word DbPointer = codes "dbpointer"
 word Uuid = codes "uuid"
 word Bson = codes "bson"
 word Document = codes "document"
+word RawDocument = codes "rawdoc"
+word RawArray = codes "rawarray"
+word RawBson = codes "rawbson"
 
 -- a text
 abbrev pub is_text : Leaf → Test
@@ -45,7 +48,7 @@ is_text l = false
 
 -- all leaves
 abbrev pub leaves : List Leaf
-leaves = Any ∷ Ignored ∷ Bool ∷ I8 ∷ I16 ∷ I32 ∷ I64 ∷ U8 ∷ U16 ∷ U32 ∷ U64 ∷ Double ∷ Char ∷ Str ∷ String ∷ Bytes ∷ ByteBuf ∷ Unit ∷ ObjectId ∷ DateTime ∷ Binary ∷ Timestamp ∷ Regex ∷ CodeWithScope ∷ Decimal128 ∷ DbPointer ∷ Uuid ∷ Bson ∷ Document ∷ []
+leaves = Any ∷ Ignored ∷ Bool ∷ I8 ∷ I16 ∷ I32 ∷ I64 ∷ U8 ∷ U16 ∷ U32 ∷ U64 ∷ Double ∷ Char ∷ Str ∷ String ∷ Bytes ∷ ByteBuf ∷ Unit ∷ ObjectId ∷ DateTime ∷ Binary ∷ Timestamp ∷ Regex ∷ CodeWithScope ∷ Decimal128 ∷ DbPointer ∷ Uuid ∷ Bson ∷ Document ∷ RawDocument ∷ RawArray ∷ RawBson ∷ []
 
 -- the one of these leaves that has the word
 abbrev pub with_word : Utf8 → List Leaf → Option Leaf

@@ -5,7 +5,7 @@ ghost use Rattle.bson_shape.specs.ShapeView.{fields_of, content_of, variants_of}
 
 use crate::{FieldShape, Named, VariantContent, VariantShape};
 use std::alloc::{AllocError, Global};
-use std::collections::HashSet;
+use std::collections::BTreeSet;
 
 /// Below this count of names a scan is as fast as a set.
 const FEW: usize = 16;
@@ -25,11 +25,12 @@ fn has_repeated_name<T: Named>(alloc: Global, items: &[T]) -> bool
     }
 }
 
-/// Whether two of these have one name: each name is looked up in a set of those before it.
+/// Whether two of these have one name: each name is looked up in a set of those before it, in as many steps as the logarithm of their number, whatever the
+/// names are.
 fn repeats_by_set<T: Named>(alloc: Global, items: &[T]) -> Result<bool, AllocError>
     ensures { IfOk result (λ b. b ≡ has_repeat (map T.named items.now)) }
 {
-    let mut names = HashSet::with_capacity(alloc, items.len())?;
+    let mut names = BTreeSet::new(alloc);
     for item in items {
         if !names.insert(item.name())? {
             return Ok(true);

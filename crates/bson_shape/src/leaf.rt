@@ -62,6 +62,12 @@ pub enum Leaf {
     Bson,
     /// A document, as a tree.
     Document,
+    /// A document, as its bytes.
+    RawDocument,
+    /// An array, as its bytes.
+    RawArray,
+    /// Any value, a document or an array as its bytes.
+    RawBson,
 }
 
 impl Leaf {
@@ -99,6 +105,9 @@ impl Leaf {
             Leaf::Uuid => "uuid",
             Leaf::Bson => "bson",
             Leaf::Document => "document",
+            Leaf::RawDocument => "rawdoc",
+            Leaf::RawArray => "rawarray",
+            Leaf::RawBson => "rawbson",
         }
     }
 
@@ -144,6 +153,9 @@ impl Leaf {
             "uuid" => Leaf::Uuid,
             "bson" => Leaf::Bson,
             "document" => Leaf::Document,
+            "rawdoc" => Leaf::RawDocument,
+            "rawarray" => Leaf::RawArray,
+            "rawbson" => Leaf::RawBson,
             _ => return None,
         };
         Some(leaf)

@@ -305,6 +305,27 @@ impl Shape {
         Shape::leaf(Leaf::Document)
     }
 
+    /// A document, as its bytes.
+    pub fn raw_document() -> Shape
+        ensures form { result ≡ form.leaf Leaf.RawDocument }
+    {
+        Shape::leaf(Leaf::RawDocument)
+    }
+
+    /// An array, as its bytes.
+    pub fn raw_array() -> Shape
+        ensures form { result ≡ form.leaf Leaf.RawArray }
+    {
+        Shape::leaf(Leaf::RawArray)
+    }
+
+    /// Any value, a document or an array as its bytes.
+    pub fn raw_bson() -> Shape
+        ensures form { result ≡ form.leaf Leaf.RawBson }
+    {
+        Shape::leaf(Leaf::RawBson)
+    }
+
     /// A shape without inner shapes.
     pub fn leaf(leaf: Leaf) -> Shape
         ensures form { result ≡ form.leaf leaf }

@@ -7,7 +7,9 @@ use Rattle.std.specs.Cmp.{IsPartialEquivalence, partial_equiv_from_equiv, decide
 use Rattle.std.proofs.lemmas.Bool.{and_parts, and_from, false≢true}
 use Rattle.std.proofs.lemmas.Slice.Eq.{bytes_eq-Decides}
 use Rattle.bson_base.specs.Text.{Bytes}
-use Rattle.bson_base.specs.Tree.{Tree, double, string, document, array, binary, undefined, object_id, boolean, date_time, null, regular_expression, db_pointer, javascript_code, symbol, javascript_code_with_scope, int32, timestamp, int64, decimal128, max_key, min_key, Pairs, no_pairs, pair, Trees, no_trees, tree}
+use Rattle.bson_base.specs.Kind.{byte}
+use Rattle.bson_base.specs.Prover.KindBytes.{same_byte}
+use Rattle.bson_base.specs.Tree.{Tree, double, string, document, array, binary, undefined, object_id, boolean, date_time, null, regular_expression, db_pointer, javascript_code, symbol, javascript_code_with_scope, int32, timestamp, int64, decimal128, max_key, min_key, raw, Pairs, no_pairs, pair, Trees, no_trees, tree}
 use Rattle.bson_base.specs.Same.{same, same_trees, same_pairs}
 use Rattle.bson_base.specs.BsonView.{tree_of, binary_of, regex_of, pointer_of, scoped_of, pairs_of}
 use Rattle.bson_base.specs.RegexView.{RegexTexts}
@@ -53,6 +55,9 @@ mutual
   same_is (decimal128 bytes) (decimal128 others) e = ap decimal128 ((bytes_eq-Decides bytes others).0 e)
   same_is max_key max_key e = refl
   same_is min_key min_key e = refl
+  same_is (raw k bytes) (raw l others) e =
+      let both = and_parts (nat_eq (byte k) (byte l)) (bytes_eq bytes others) e in
+      λ i. raw (same_byte k l ((unsigned_Decides (byte k) (byte l)).0 both.0) i) ((bytes_eq-Decides bytes others).0 both.1 i)
   same_is t u e = absurd (false≢true e)
 
   trees_are : (ts us : Trees) → same_trees ts us ≡ true → ts ≡ us
@@ -93,6 +98,7 @@ mutual
   same_itself (decimal128 bytes) = bytes_alike bytes
   same_itself max_key = refl
   same_itself min_key = refl
+  same_itself (raw k bytes) = and_from _ _ ((unsigned_Decides (byte k) (byte k)).1 refl) (bytes_alike bytes)
 
   trees_alike : (ts : Trees) → same_trees ts ts ≡ true
   trees_alike no_trees = refl

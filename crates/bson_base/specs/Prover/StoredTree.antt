@@ -5,7 +5,9 @@ use Rattle.std.proofs.Common.{ap, arith}
 use base.Stored.{Gv, gnil, gnum, gcons}
 use Rattle.bson_base.specs.Prover.Stored.{head, tail, num}
 use Rattle.bson_base.specs.Text.{Bytes}
-use Rattle.bson_base.specs.Tree.{Tree, double, string, document, array, binary, undefined, object_id, boolean, date_time, null, regular_expression, db_pointer, javascript_code, symbol, javascript_code_with_scope, int32, timestamp, int64, decimal128, max_key, min_key, Pairs, no_pairs, pair, Trees, no_trees, tree}
+use Rattle.bson_base.specs.Kind.{byte}
+use Rattle.bson_base.specs.Prover.KindBytes.{same_byte}
+use Rattle.bson_base.specs.Tree.{Tree, double, string, document, array, binary, undefined, object_id, boolean, date_time, null, regular_expression, db_pointer, javascript_code, symbol, javascript_code_with_scope, int32, timestamp, int64, decimal128, max_key, min_key, raw, Pairs, no_pairs, pair, Trees, no_trees, tree}
 
 abbrev coded_bytes : Coded Bytes
 coded_bytes = coded_list coded_ℕ
@@ -33,6 +35,7 @@ abbrev mutual
   tree_code (decimal128 bytes) = gcons (gnum 18) (coded_bytes.code bytes)
   tree_code max_key = gcons (gnum 19) gnil
   tree_code min_key = gcons (gnum 20) gnil
+  tree_code (raw k bytes) = gcons (gnum 21) (gcons (coded_ℕ.code (byte k)) (coded_bytes.code bytes))
 
   pub trees_code : Trees → Gv
   trees_code no_trees = gcons (gnum 0) gnil
@@ -65,6 +68,7 @@ mutual
   tree_inj (decimal128 bytes) (decimal128 others) e = ap decimal128 (coded_bytes.inj bytes others (ap (λ g. tail g) e))
   tree_inj max_key max_key p = refl
   tree_inj min_key min_key p = refl
+  tree_inj (raw k bytes) (raw l others) e = λ i. raw (same_byte k l (coded_ℕ.inj (byte k) (byte l) (ap (λ g. head (tail g)) e)) i) (coded_bytes.inj bytes others (ap (λ g. tail (tail g)) e) i)
   tree_inj x y p = absurd (omega (arith, ap (λ g. num (head g)) p))
 
   pub trees_inj : (x y : Trees) → trees_code x ≡ trees_code y → x ≡ y

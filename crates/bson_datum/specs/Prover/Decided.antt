@@ -9,16 +9,19 @@ use Rattle.std.specs.Cmp.Lexicographic.{pointwise_decides}
 use Rattle.std.proofs.lemmas.Bool.{and_parts, and_from, false≢true}
 use Rattle.std.proofs.lemmas.Slice.Eq.{bytes_eq-Decides}
 use Rattle.bson_base.specs.Text.{Bytes, Utf8}
-use Rattle.bson_datum.specs.Value.{IntegerType, i8, i16, i32, i64, u8, u16, u32, u64, Value, boolean, integer, double, character, str, bytes, none, some, unit, unit_structure, unit_variant, newtype, newtype_variant, sequence, tuple, tuple_structure, tuple_variant, map, structure, structure_variant, mode, Items, no_items, item, Entries, no_entries, entry, FieldValues, no_field_values, field_value}
+use Rattle.bson_datum.specs.Value.{IntegerType, i8, i16, i32, i64, u8, u16, u32, u64, Value, boolean, integer, double, character, str, bytes, none, some, unit, unit_structure, unit_variant, newtype, newtype_variant, sequence, tuple, tuple_structure, tuple_variant, map, structure, structure_variant, raw_document, raw_array, mode, Items, no_items, item, Entries, no_entries, entry, FieldValues, no_field_values, field_value}
 use Rattle.bson_datum.specs.Refusal as refusal
 use Rattle.bson_datum.specs.Refusal.{at_key, at_index}
 use Rattle.bson_datum.specs.Same.{type_number, same_type, same, same_items, same_entries, same_entry, same_fields, same_field, same_segment, same_path}
 use Rattle.bson_datum.specs.TextView.{text_view}
 use Rattle.bson_datum.specs.ByteStrView.{bytes_view}
+use Rattle.bson_datum.specs.RawView.{raw_document_view, raw_array_view}
 use Rattle.bson_datum.specs.PathView.{path_view, segment_view}
 use Rattle.bson_datum.specs.View.{view, entry_view, field_view}
 use Rattle.bson_datum.specs.declared.text.Text.{Text}
 use Rattle.bson_datum.specs.declared.byte_str.ByteStr.{ByteStr}
+use Rattle.bson_datum.specs.declared.raw_doc.RawDoc.{RawDoc}
+use Rattle.bson_datum.specs.declared.raw_arr.RawArr.{RawArr}
 use Rattle.bson_datum.specs.declared.path.Segment.{Segment}
 use Rattle.bson_datum.specs.declared.path.Path.{Path}
 use Rattle.bson_datum.specs.declared.datum.Entry.{Entry}
@@ -83,6 +86,8 @@ mutual
   same_is (structure_variant variant fs) (structure_variant n gs) e =
       let b = and_parts (bytes_eq variant n) (same_fields fs gs) e in
       λ i. structure_variant ((bytes_eq-Decides variant n).0 b.0 i) (fields_are fs gs b.1 i)
+  same_is (raw_document a) (raw_document b) e = ap raw_document ((bytes_eq-Decides a b).0 e)
+  same_is (raw_array a) (raw_array b) e = ap raw_array ((bytes_eq-Decides a b).0 e)
   same_is (mode r c) (mode s d) e =
       let b = and_parts (same r s) (same c d) e in
       λ i. mode (same_is r s b.0 i) (same_is c d b.1 i)
@@ -133,6 +138,8 @@ mutual
   same_itself (map es) = entries_alike es
   same_itself (structure name fs) = and_from _ _ (bytes_alike name) (fields_alike fs)
   same_itself (structure_variant variant fs) = and_from _ _ (bytes_alike variant) (fields_alike fs)
+  same_itself (raw_document bs) = bytes_alike bs
+  same_itself (raw_array bs) = bytes_alike bs
   same_itself (mode r c) = and_from _ _ (same_itself r) (same_itself c)
 
   items_alike : (is : Items) → same_items is is ≡ true
@@ -184,6 +191,12 @@ text_laws = partial_equiv_from_equiv (on_equiv text_view (decided bytes_eq bytes
 
 pub byte_str_laws : IsPartialEquivalence (λ (a : ByteStr) (b : ByteStr). bytes_eq (bytes_view a) (bytes_view b))
 byte_str_laws = partial_equiv_from_equiv (on_equiv bytes_view (decided bytes_eq bytes_eq-Decides))
+
+pub raw_document_laws : IsPartialEquivalence (λ (a : RawDoc) (b : RawDoc). bytes_eq (raw_document_view a) (raw_document_view b))
+raw_document_laws = partial_equiv_from_equiv (on_equiv raw_document_view (decided bytes_eq bytes_eq-Decides))
+
+pub raw_array_laws : IsPartialEquivalence (λ (a : RawArr) (b : RawArr). bytes_eq (raw_array_view a) (raw_array_view b))
+raw_array_laws = partial_equiv_from_equiv (on_equiv raw_array_view (decided bytes_eq bytes_eq-Decides))
 
 pub segment_laws : IsPartialEquivalence (λ (a : Segment) (b : Segment). same_segment (segment_view a) (segment_view b))
 segment_laws = partial_equiv_from_equiv (on_equiv segment_view (decided same_segment same_segment_decides))

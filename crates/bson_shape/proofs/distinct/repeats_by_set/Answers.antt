@@ -1,4 +1,8 @@
-use Rattle.std.proofs.Common.{◌∙◌, sym, ap, arith, map, take}
+use Rattle.std.proofs.Common.{◌∙◌, sym, ap, arith, map, take, cond, true}
+use Rattle.std.specs.BTreeSet.{contains_by}
+use Rattle.std.specs.Cmp.Lexicographic.{slice_cmp}
+use Rattle.std.specs.Ordering.{nat_cmp}
+use Rattle.std.proofs.lemmas.Map.Text.{is_eq-slice_cmp}
 use Rattle.std.proofs.lemmas.Bool.{not-true, not-false}
 use Rattle.bson_shape.specs.Makers.{has_name}
 use Rattle.bson_shape.proofs.Names.{repeat_found, repeat_missed, has_name_added}
@@ -18,6 +22,6 @@ loop-item-preserved g c =
     let before = map named (take i c.args.items.now) in
     let new = not-true _ (sym c.in_ok-insert.ensures.added ∙ c.if-not-branch.false) in
     record {
-      known = λ q. c.in_ok-insert.ensures.updates.0 q ∙ has_name_added named q.now _ _ i _ (omega arith) c.item-item.is c.name.ensures _ (c.loop-item.invariant.known q);
+      known = λ q. c.in_ok-insert.ensures.updates.0 q ∙ ap (λ b. cond b true (contains_by (λ k. slice_cmp nat_cmp q.now k.now) c.loop-item.names)) (is_eq-slice_cmp c.name.result.now q.now) ∙ has_name_added named q.now _ _ i _ (omega arith) c.item-item.is c.name.ensures _ (c.loop-item.invariant.known q);
       distinct = repeat_missed named _ i _ (omega arith) c.item-item.is c.loop-item.invariant.distinct (ap (λ name. has_name name before) (sym c.name.ensures) ∙ sym (c.loop-item.invariant.known c.name.result) ∙ new);
     }

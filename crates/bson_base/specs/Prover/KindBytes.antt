@@ -1,5 +1,6 @@
 -- Each kind is found by its byte.
-use Rattle.std.proofs.Common.{◌≡◌, Some, refl}
+use Rattle.std.proofs.Common.{◌≡◌, Some, refl, ap, sym, ◌∙◌}
+use Rattle.std.specs.Prelude.{Option, None}
 use Rattle.bson_base.specs.declared.element_type.ElementType.{ElementType}
 use Rattle.bson_base.specs.declared.element_type.ElementType.TheVariants.{Double, String, EmbeddedDocument, Array, Binary, Undefined, ObjectId, Boolean, DateTime, Null, RegularExpression, DbPointer, JavaScriptCode, Symbol, JavaScriptCodeWithScope, Int32, Timestamp, Int64, Decimal128, MaxKey, MinKey}
 use Rattle.bson_base.specs.Kind.{byte, of_byte}
@@ -26,3 +27,11 @@ of_byte-byte Int64 = refl
 of_byte-byte Decimal128 = refl
 of_byte-byte MaxKey = refl
 of_byte-byte MinKey = refl
+
+abbrev of_some : Option ElementType → ElementType → ElementType
+of_some (Some k) l = k
+of_some None l = l
+
+-- kinds of one byte are one kind
+pub same_byte : (k l : ElementType) → byte k ≡ byte l → k ≡ l
+same_byte k l e = ap (λ o. of_some o k) (sym (of_byte-byte k) ∙ ap of_byte e ∙ of_byte-byte l)
