@@ -28,6 +28,7 @@ use Rattle.bson_laws.proofs.Fitted.{unlike_swap}
 use Rattle.bson_laws.proofs.ReadBack.{envelope_again}
 use Rattle.bson_infer_laws.specs.Encodings.{piece_pairs, encodings, cut_into}
 use Rattle.bson_infer_laws.specs.Inferred.{AllTrees}
+use Rattle.bson_laws.proofs.Judged.{clean_not_raw}
 use Rattle.bson_infer_laws.proofs.RawValues.{raw_of, value_back}
 
 -- ---- pairs one behind another
@@ -121,7 +122,7 @@ abbrev IsMade : ℕ → Type 0
 IsMade levels = (t : Tree) → IsClean t → depth t ≤ levels → length (enc t) < 2 ^ 31 → tree_at levels (raw_of t) ≡ Ok (sorted_tree t)
 
 read_first : (levels : ℕ) → IsMade levels → IsBack levels
-read_first levels make t c d l = ap (λ r. r >>= tree_at levels) (value_back t (clean_coded t c) l) ∙ make t c d l
+read_first levels make t c d l = ap (λ r. r >>= tree_at levels) (value_back t (clean_not_raw t c) (clean_coded t c) l) ∙ make t c d l
 
 tree_back : (levels : ℕ) → IsMade levels
 tree_back zero (document ps) c d l = absurd (omega arith)
@@ -131,6 +132,7 @@ tree_back (suc n) (document ps) c d l = ap (result_map document) (document_back 
 tree_back (suc n) (array ts) c d l = ap (result_map array) (array_back n (read_first n (tree_back n)) ts c (omega arith) (omega (arith, array_elements_size ts)))
 tree_back (suc n) (tree.javascript_code_with_scope code scope) c d l =
     ap (result_map (tree.javascript_code_with_scope code)) (document_back n (read_first n (tree_back n)) scope c.1 (omega arith) (omega (arith, length-javascript_code_with_scope code scope)))
+tree_back levels (tree.raw k b) c d l = absurd c
 tree_back levels t c d l = refl
 
 -- ---- a file

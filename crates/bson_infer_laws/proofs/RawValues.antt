@@ -8,6 +8,7 @@ use Rattle.std.proofs.lemmas.Bool.Decides.{Decides-int_eq}
 use Rattle.std.proofs.lemmas.List.{length-append, take_at, drop_at}
 use Rattle.bson_base.specs.Text.{Bytes, Utf8}
 use Rattle.bson_base.specs.Outcome.{◌>>=◌, result_map}
+use Rattle.bson_base.specs.Tree as tree
 use Rattle.bson_base.specs.Tree.{Tree, double, string, document, array, binary, undefined, object_id, boolean, date_time, null, regular_expression, db_pointer, javascript_code, symbol, javascript_code_with_scope, int32, timestamp, int64, decimal128, max_key, min_key, kind, le32, closed_text, after_length, after_total, enclosed, enc, elements, array_elements}
 use Rattle.bson_base.proofs.Lengths.{length-le32, length-text, length-binary, length-enclosed}
 use Rattle.bson_rawdoc.specs.Numbers.{uint32_in, int32_in}
@@ -17,9 +18,10 @@ use Rattle.bson_rawdoc.specs.RawValue.{RawValue, utf8_in, text_in, closed_in, ol
 use Rattle.bson_rawdoc.specs.declared.raw.Error.TheVariants.{NotUtf8, TextUnclosed, ValueUnclosed}
 use Rattle.bson_laws.proofs.Coded.{IsCoded}
 use Rattle.bson_laws.proofs.Numbers.{int32_again, int64_again, uint32_again, length_again, announced_length}
+use Rattle.bson_laws.proofs.Judged.{IsNotRaw}
 use Rattle.bson_laws.proofs.Closed.{closed_again, inside_again, two_texts_again}
 
--- the value, as it is in its bytes
+-- the value, as it is in its bytes; one that is given by its bytes is not looked at
 abbrev pub raw_of : Tree → RawValue
 raw_of (double bits) = raw.double bits
 raw_of (string t) = raw.string t
@@ -42,6 +44,7 @@ raw_of (int64 n) = raw.int64 n
 raw_of (decimal128 b) = raw.decimal128 b
 raw_of max_key = raw.max_key
 raw_of min_key = raw.min_key
+raw_of (tree.raw k b) = raw.null
 
 -- ---- texts and what is enclosed
 
@@ -134,20 +137,21 @@ scoped_back code scope h l =
 
 -- ---- all kinds
 
-pub value_back : (t : Tree) → IsCoded t → length (enc t) < 2 ^ 31 → value_in (kind t) (enc t) ≡ Ok (raw_of t)
-value_back (string t) c l = ap (result_map raw.string) (text_back t c)
-value_back (document ps) c l = ap (result_map raw.document) (closed_back (elements ps))
-value_back (array ts) c l = ap (result_map raw.array) (closed_back (array_elements 0 ts))
-value_back (binary subtype b) c l = ap (result_map (λ p. raw.binary p.0 p.1)) (binary_back subtype b l)
-value_back (boolean true) c l = refl
-value_back (boolean false) c l = refl
-value_back (date_time n) c l = ap (λ z. Ok (raw.date_time z)) (int64_again n c)
-value_back (regular_expression p q) c l = ap (λ o. result_map (λ r. raw.regular_expression r.0 r.1) (regex_of o)) (two_texts_again p q [] c.0.1 c.1.1) ∙ ap (result_map (λ r. raw.regular_expression r.0 r.1)) (regex_back p q c.0.0 c.1.0)
-value_back (db_pointer namespace id) c l = ap (result_map (λ p. raw.db_pointer p.0 p.1)) (db_pointer_back namespace id c.0 c.1)
-value_back (javascript_code t) c l = ap (result_map raw.javascript_code) (text_back t c)
-value_back (symbol t) c l = ap (result_map raw.symbol) (text_back t c)
-value_back (javascript_code_with_scope code scope) c l = ap (result_map (λ p. raw.javascript_code_with_scope p.0 p.1)) (scoped_back code (elements scope) c.0 l)
-value_back (int32 n) c l = ap (λ z. Ok (raw.int32 z)) (int32_again n c)
-value_back (timestamp time increment) c l = λ i. Ok (raw.timestamp (behind_number increment time c.0 i) (uint32_again increment (le32 time) c.1 i))
-value_back (int64 n) c l = ap (λ z. Ok (raw.int64 z)) (int64_again n c)
-value_back t c l = refl
+pub value_back : (t : Tree) → IsNotRaw t → IsCoded t → length (enc t) < 2 ^ 31 → value_in (kind t) (enc t) ≡ Ok (raw_of t)
+value_back (string t) n c l = ap (result_map raw.string) (text_back t c)
+value_back (document ps) n c l = ap (result_map raw.document) (closed_back (elements ps))
+value_back (array ts) n c l = ap (result_map raw.array) (closed_back (array_elements 0 ts))
+value_back (binary subtype b) n c l = ap (result_map (λ p. raw.binary p.0 p.1)) (binary_back subtype b l)
+value_back (boolean true) n c l = refl
+value_back (boolean false) n c l = refl
+value_back (date_time z) n c l = ap (λ x. Ok (raw.date_time x)) (int64_again z c)
+value_back (regular_expression p q) n c l = ap (λ o. result_map (λ r. raw.regular_expression r.0 r.1) (regex_of o)) (two_texts_again p q [] c.0.1 c.1.1) ∙ ap (result_map (λ r. raw.regular_expression r.0 r.1)) (regex_back p q c.0.0 c.1.0)
+value_back (db_pointer namespace id) n c l = ap (result_map (λ p. raw.db_pointer p.0 p.1)) (db_pointer_back namespace id c.0 c.1)
+value_back (javascript_code t) n c l = ap (result_map raw.javascript_code) (text_back t c)
+value_back (symbol t) n c l = ap (result_map raw.symbol) (text_back t c)
+value_back (javascript_code_with_scope code scope) n c l = ap (result_map (λ p. raw.javascript_code_with_scope p.0 p.1)) (scoped_back code (elements scope) c.0 l)
+value_back (int32 z) n c l = ap (λ x. Ok (raw.int32 x)) (int32_again z c)
+value_back (timestamp time increment) n c l = λ i. Ok (raw.timestamp (behind_number increment time c.0 i) (uint32_again increment (le32 time) c.1 i))
+value_back (int64 z) n c l = ap (λ x. Ok (raw.int64 x)) (int64_again z c)
+value_back (tree.raw k b) n c l = absurd n
+value_back t n c l = refl

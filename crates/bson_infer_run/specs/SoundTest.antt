@@ -3,7 +3,7 @@ use Rattle.std.specs.Prelude.{ℕ, ◌^◌, length, Bool, true, false, ◌&&◌,
 use Rattle.std.specs.Str.{bytes_eq, is_utf8}
 use Rattle.bson_base.specs.Sound.{max_binary, max_levels, max_bytes}
 use Rattle.bson_base.specs.Text.{Bytes, Utf8, has_zero, begins_with_dollar}
-use Rattle.bson_base.specs.Tree.{Tree, double, string, document, array, binary, undefined, object_id, boolean, date_time, null, regular_expression, db_pointer, javascript_code, symbol, javascript_code_with_scope, int32, timestamp, int64, decimal128, max_key, min_key, Pairs, no_pairs, pair, Trees, no_trees, tree, enc, depth}
+use Rattle.bson_base.specs.Tree.{Tree, double, string, document, array, binary, undefined, object_id, boolean, date_time, null, regular_expression, db_pointer, javascript_code, symbol, javascript_code_with_scope, int32, timestamp, int64, decimal128, max_key, min_key, raw, Pairs, no_pairs, pair, Trees, no_trees, tree, enc, depth}
 
 abbrev pub are_bytes : Bytes → Bool
 are_bytes [] = true
@@ -53,6 +53,7 @@ abbrev mutual
   is_clean (decimal128 bytes) = has_bytes 16 bytes
   is_clean max_key = true
   is_clean min_key = true
+  is_clean (raw kind bytes) = false
 
   pub are_pairs_clean : Pairs → Bool
   are_pairs_clean no_pairs = true

@@ -3,8 +3,8 @@ use Rattle.std.proofs.Common.{◌≡◌, List, [], ◌∷◌, Bool, true, false,
 use Rattle.std.specs.Prelude.{option_and_then, codes}
 use Rattle.std.specs.Str.{bytes_eq}
 use Rattle.bson_base.specs.Text.{Utf8}
-use Rattle.bson_datum.specs.Value.{Value, str, map, Entries}
-use Rattle.bson_laws.specs.Unwrap.{Part, a_key, a_value, next_key, next_text, next_map, end_as, scoped_code}
+use Rattle.bson_datum.specs.Value.{Value, str, map, raw_document}
+use Rattle.bson_laws.specs.Unwrap.{Part, a_key, a_value, next_key, next_text, next_scope, end_as, scoped_code}
 
 -- as many parts, with the same keys and the same values, which are written alike
 abbrev pub AreAlike : {S T : Type 0} → (Value → S → T → Type 0) → List (Part S) → List (Part T) → Type 0
@@ -25,6 +25,12 @@ both_then R Q None None f g h next = tt
 both_then R Q (Some a) (Some b) f g h next = next a b h
 both_then R Q None (Some b) f g h next = absurd h
 both_then R Q (Some a) None f g h next = absurd h
+
+-- what a scope is given as: a map, or a document in its bytes
+abbrev pub IsScope : Value → Type 0
+IsScope (map es) = Unit {0}
+IsScope (raw_document b) = Unit {0}
+IsScope v = ⊥
 
 module _ {S T : Type 0} (R : Value → S → T → Type 0) where
   key_both : (b : Bool) (xs : List (Part S)) (ys : List (Part T)) → AreAlike R xs ys → Both (AreAlike R) (cond b (Some xs) None) (cond b (Some ys) None)
@@ -51,22 +57,23 @@ module _ {S T : Type 0} (R : Value → S → T → Type 0) where
   text_alike (a_value v s ∷ xs) (a_value w t ∷ ys) h = subst (λ u. Both SameText (next_text (a_value v s ∷ xs)) (next_text (a_value u t ∷ ys))) h.0 (text_at v s t xs ys h.2)
   text_alike xs ys h = absurd h
 
-  abbrev SameMap : S × List (Part S) → T × List (Part T) → Type 0
-  SameMap p q = ((es : Entries) × R (map es) p.0 q.0) × AreAlike R p.1 q.1
+  abbrev SameNext : S × List (Part S) → T × List (Part T) → Type 0
+  SameNext p q = ((v : Value) × IsScope v × R v p.0 q.0) × AreAlike R p.1 q.1
 
-  map_at : (v : Value) (s : S) (t : T) (xs : List (Part S)) (ys : List (Part T)) → R v s t → AreAlike R xs ys → Both SameMap (next_map (a_value v s ∷ xs)) (next_map (a_value v t ∷ ys))
-  map_at (map es) s t xs ys r h = ((es, r), h)
-  map_at v s t xs ys r h = tt
+  scope_at : (v : Value) (s : S) (t : T) (xs : List (Part S)) (ys : List (Part T)) → R v s t → AreAlike R xs ys → Both SameNext (next_scope (a_value v s ∷ xs)) (next_scope (a_value v t ∷ ys))
+  scope_at (map es) s t xs ys r h = ((map es, tt, r), h)
+  scope_at (raw_document b) s t xs ys r h = ((raw_document b, tt, r), h)
+  scope_at v s t xs ys r h = tt
 
-  map_alike : (xs : List (Part S)) (ys : List (Part T)) → AreAlike R xs ys → Both SameMap (next_map xs) (next_map ys)
-  map_alike [] [] h = tt
-  map_alike (a_key k ∷ xs) (a_key l ∷ ys) h = tt
-  map_alike (a_value v s ∷ xs) (a_value w t ∷ ys) h = subst (λ u. Both SameMap (next_map (a_value v s ∷ xs)) (next_map (a_value u t ∷ ys))) h.0 (map_at v s t xs ys h.1 h.2)
-  map_alike xs ys h = absurd h
+  scope_alike : (xs : List (Part S)) (ys : List (Part T)) → AreAlike R xs ys → Both SameNext (next_scope xs) (next_scope ys)
+  scope_alike [] [] h = tt
+  scope_alike (a_key k ∷ xs) (a_key l ∷ ys) h = tt
+  scope_alike (a_value v s ∷ xs) (a_value w t ∷ ys) h = subst (λ u. Both SameNext (next_scope (a_value v s ∷ xs)) (next_scope (a_value u t ∷ ys))) h.0 (scope_at v s t xs ys h.1 h.2)
+  scope_alike xs ys h = absurd h
 
-  -- the same code, and maps that are written alike
+  -- the same code, and scopes that are written alike
   abbrev pub SameScope : Utf8 × S → Utf8 × T → Type 0
-  SameScope p q = (p.0 ≡ q.0) × ((es : Entries) × R (map es) p.1 q.1)
+  SameScope p q = (p.0 ≡ q.0) × ((v : Value) × IsScope v × R v p.1 q.1)
 
   end_alike : (a : Utf8 × S) (b : Utf8 × T) (xs : List (Part S)) (ys : List (Part T)) → SameScope a b → AreAlike R xs ys → Both SameScope (end_as a xs) (end_as b ys)
   end_alike a b [] [] q h = q
@@ -83,5 +90,5 @@ module _ {S T : Type 0} (R : Value → S → T → Type 0) where
       (λ p q j.
       both_then (AreAlike R) SameScope (next_key (codes "$scope") p.1) (next_key (codes "$scope") q.1) _ _ (key_alike (codes "$scope") p.1 q.1 j.1)
       (λ c d k.
-      both_then SameMap SameScope (next_map c) (next_map d) _ _ (map_alike c d k)
+      both_then SameNext SameScope (next_scope c) (next_scope d) _ _ (scope_alike c d k)
       (λ m n l. end_alike (p.0, m.0) (q.0, n.0) m.1 n.1 (j.0, l.0) l.1))))

@@ -4,7 +4,7 @@ use Rattle.std.specs.Str.{bytes_eq, is_utf8}
 use Rattle.std.proofs.lemmas.Int.{ints}
 use Rattle.bson_base.specs.Outcome.{◌>>=◌, result_map}
 use Rattle.bson_base.specs.Text.{Utf8}
-use Rattle.bson_rawdoc.specs.Node.{Node, string, document, int64, ended, one, two}
+use Rattle.bson_rawdoc.specs.Node.{Node, string, made_document, int64, ended, one, two}
 use Rattle.bson_rawdoc.specs.Piece.{made}
 use Rattle.bson_rawdoc.specs.declared.raw.Error.TheVariants.{NotUtf8}
 use Rattle.bson_shape.specs.Form.{Form, leaf}
@@ -62,7 +62,7 @@ struct_of_one a v = value.structure (made []) (field_value (made a) v no_field_v
 abbrev pub struct_of_two : Utf8 → Marked → Utf8 → Marked → Marked
 struct_of_two a v b w = value.structure (made []) (field_value (made a) v (field_value (made b) w no_field_values))
 
-pub field_read : (a : Utf8) (s : Form) (n : Node) (v : Marked) → bytes_eq a a ≡ true → reads no_extended s n ≡ Ok v → reads no_extended (with_field a s) (document (one a n)) ≡ Ok (struct_of_one a v)
+pub field_read : (a : Utf8) (s : Form) (n : Node) (v : Marked) → bytes_eq a a ≡ true → reads no_extended s n ≡ Ok v → reads no_extended (with_field a s) (made_document (one a n)) ≡ Ok (struct_of_one a v)
 field_read a s n v same p =
     let slot = slot_of a s in
     ap (λ b. of_slots (cond b (result_map (λ x. x ∷ []) (taken a s (reads no_extended s n))) (result_map (λ xs. slot ∷ xs) (put_at a n [])) >>= fill ended)) same
@@ -94,7 +94,7 @@ module _ (a : Utf8) (s : Form) (b : Utf8) (r : Form) (n m : Node) (same : bytes_
       ∙ ap (λ z. result_map (λ x. x ∷ slot ∷ []) (taken a s z)) p
 
   -- a struct of two fields
-  pub fields_read : (v w : Reading Marked) → reads no_extended s n ≡ v → reads no_extended r m ≡ w → reads no_extended (with_fields a s b r) (document (two a n b m)) ≡ both_read a v b w
+  pub fields_read : (v w : Reading Marked) → reads no_extended s n ≡ v → reads no_extended r m ≡ w → reads no_extended (with_fields a s b r) (made_document (two a n b m)) ≡ both_read a v b w
   fields_read v w p q = ap (λ z. of_slots (z >>= fill (one b m))) (first_put (slot_of b r) v p) ∙ rest v w q
     where
       rest : (v w : Reading Marked) → reads no_extended r m ≡ w → of_slots (result_map (λ x. x ∷ slot_of b r ∷ []) (taken a s v) >>= fill (one b m)) ≡ both_read a v b w
@@ -103,7 +103,7 @@ module _ (a : Utf8) (s : Form) (b : Utf8) (r : Form) (n m : Node) (same : bytes_
       rest (Err f) w e = refl
 
   -- and where the second field comes first
-  pub fields_read_turned : (x y : Marked) → reads no_extended s n ≡ Ok x → reads no_extended r m ≡ Ok y → reads no_extended (with_fields a s b r) (document (two b m a n)) ≡ Ok (struct_of_two a x b y)
+  pub fields_read_turned : (x y : Marked) → reads no_extended s n ≡ Ok x → reads no_extended r m ≡ Ok y → reads no_extended (with_fields a s b r) (made_document (two b m a n)) ≡ Ok (struct_of_two a x b y)
   fields_read_turned x y p q =
       ap (λ z. of_slots (z >>= fill (one a n))) (second_put (slot_of a s) (Ok y) refl q)
       ∙ ap (λ z. of_slots (z >>= fill ended)) (first_put (filled b r y) (Ok x) p)

@@ -1,13 +1,16 @@
 -- The trees that are found again in their bytes: each part has the size of its kind, and each key is a name.
-use Rattle.std.proofs.Common.{◌≡◌, ℕ, ◌^◌, ◌<◌, length, true, false}
+use Rattle.std.proofs.Common.{◌≡◌, ℕ, ◌^◌, ◌<◌, ◌++◌, length, true, false}
 use Rattle.std.specs.Fmt.{decimal}
 use Rattle.std.specs.Int.{w32, w64}
 use Rattle.std.specs.Prelude.{FitsSigned}
 use Rattle.std.specs.Str.{is_utf8}
 use Rattle.bson_base.specs.Sound.{IsClean, ArePairsClean, AreTreesClean}
-use Rattle.bson_base.specs.Text.{Utf8, has_zero}
-use Rattle.bson_base.specs.Tree.{Tree, string, javascript_code, symbol, double, document, array, object_id, date_time, regular_expression, db_pointer, javascript_code_with_scope, int32, timestamp, int64, decimal128, Pairs, no_pairs, pair, Trees, no_trees, tree}
+use Rattle.bson_base.specs.Text.{Bytes, Utf8, has_zero}
+use Rattle.bson_base.specs.Tree.{Tree, string, javascript_code, symbol, double, document, array, object_id, date_time, regular_expression, db_pointer, javascript_code_with_scope, int32, timestamp, int64, decimal128, raw, Pairs, no_pairs, pair, Trees, no_trees, tree, closed_text, after_total}
+use Rattle.bson_base.specs.declared.element_type.ElementType.{ElementType}
+use Rattle.bson_base.specs.declared.element_type.ElementType.TheVariants.{EmbeddedDocument, Array, JavaScriptCodeWithScope}
 use Rattle.bson_base.proofs.Indexes.{decimal_plain}
+use Rattle.bson_laws.proofs.Framed.{IsFramed}
 
 -- a text without a zero
 abbrev pub IsName : Utf8 → Type 0
@@ -15,6 +18,13 @@ IsName key = (is_utf8 key ≡ true) × (has_zero key ≡ false)
 
 pub decimal_name : (i : ℕ) → IsName (decimal i)
 decimal_name i = let h = decimal_plain i in (h.text, h.free.no_zero)
+
+-- the bytes of a document or an array that are framed as such, or those of a code with a scope that is so
+abbrev pub IsRawCoded : ElementType → Bytes → Type 0
+IsRawCoded EmbeddedDocument b = IsFramed b
+IsRawCoded Array b = IsFramed b
+IsRawCoded JavaScriptCodeWithScope b = (code : Utf8) × (scope : Bytes) × (is_utf8 code ≡ true) × IsFramed scope × (b ≡ after_total (closed_text code ++ scope))
+IsRawCoded k b = ⊥
 
 abbrev mutual
   pub IsCoded : Tree → Type 0
@@ -33,6 +43,7 @@ abbrev mutual
   IsCoded (timestamp time increment) = (time < 2 ^ 32) × (increment < 2 ^ 32)
   IsCoded (int64 n) = FitsSigned w64 n
   IsCoded (decimal128 bytes) = length bytes ≡ 16
+  IsCoded (raw k bytes) = IsRawCoded k bytes
   IsCoded t = Unit {0}
 
   pub ArePairsCoded : Pairs → Type 0
@@ -61,6 +72,7 @@ mutual
   clean_coded (timestamp time increment) c = c
   clean_coded (int64 n) c = c
   clean_coded (decimal128 bytes) c = c.count
+  clean_coded (raw k bytes) c = absurd c
   clean_coded t c = tt
 
   pairs_coded : (ps : Pairs) → ArePairsClean ps → ArePairsCoded ps

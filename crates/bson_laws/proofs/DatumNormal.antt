@@ -7,7 +7,7 @@ use Rattle.bson_base.specs.Kind.{byte, of_byte}
 use Rattle.bson_base.specs.Tree as tree
 use Rattle.bson_base.specs.Tree.{Tree, Pairs, no_pairs, pair, Trees, no_trees}
 use Rattle.bson_base.specs.declared.element_type.ElementType.{ElementType}
-use Rattle.bson_base.proofs.KindBytes.{of_byte-byte}
+use Rattle.bson_base.specs.Prover.KindBytes.{of_byte-byte}
 use Rattle.bson_base.proofs.Outcomes.{some_is, some_map, some_then, ok_is}
 use Rattle.bson_datum.specs.Value as value
 use Rattle.bson_datum.specs.Value.{item, entry}
@@ -129,6 +129,7 @@ mutual
   datum_means (tree.decimal128 b) u r e = taken_whole (tree.decimal128 b) u _ (accepted (tree.decimal128 b) (in_range_sizes (tree.decimal128 b) r)) refl e
   datum_means tree.max_key u r e = taken_whole tree.max_key u _ (accepted tree.max_key tt) refl e
   datum_means tree.min_key u r e = taken_whole tree.min_key u _ (accepted tree.min_key tt) refl e
+  datum_means (tree.raw k b) u r e = absurd r
 
   pairs_mean : (ps qs : Pairs) → ArePairsInRange ps → means_entries (pair_data itself ps) ≡ Some qs → qs ≡ sorted_pairs ps
   pairs_mean no_pairs qs r e = sym (some_is no_pairs qs e)

@@ -132,6 +132,7 @@ mutual
       (enclosed tree.document (spell_entries_as f (pair_data itself scope)) (sorted_pairs scope) (pairs_depth scope) levels d (λ n le. pairs_spelled f scope n r.1 e le))
   tree_spelled f (tree.int32 n) levels r e d = refl
   tree_spelled f (tree.int64 n) levels r e d = ap (λ b. cond b (Err (here (unsigned_exceeds n))) (Ok (tree.int64 n))) (wide_small n r)
+  tree_spelled f (tree.raw k b) levels r e d = absurd r
   tree_spelled f t levels r e d = ap spell_unwrapped (accepted t (in_range_sizes t r))
 
   pairs_spelled : (readable : Bool) (ps : Pairs) (levels : ℕ) → ArePairsInRange ps → ArePairsEncodable ps → pairs_depth ps ≤ levels → spell_entries_as readable (pair_data itself ps) levels ≡ Ok (sorted_pairs ps)
@@ -167,6 +168,7 @@ mutual
   datum_meant (tree.javascript_code_with_scope code scope) r e = ap (λ o. option_map (with_scope code) (option_map tree.document o)) (pairs_meant scope r.1 e)
   datum_meant (tree.int32 n) r e = refl
   datum_meant (tree.int64 n) r e = ap (λ b. cond b None (Some (tree.int64 n))) (wide_small n r)
+  datum_meant (tree.raw k b) r e = absurd r
   datum_meant t r e = ap unwrapped_means (accepted t (in_range_sizes t r))
 
   pairs_meant : (ps : Pairs) → ArePairsInRange ps → ArePairsEncodable ps → means_entries (pair_data itself ps) ≡ Some (sorted_pairs ps)

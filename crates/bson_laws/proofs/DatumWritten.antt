@@ -76,6 +76,7 @@ mutual
   datum_written f (tree.decimal128 b) levels u r e = (taken_whole (tree.decimal128 b) u _ (accepted (tree.decimal128 b) r.count) refl e, tt, omega arith)
   datum_written f tree.max_key levels u r e = (taken_whole tree.max_key u _ (accepted tree.max_key tt) refl e, tt, omega arith)
   datum_written f tree.min_key levels u r e = (taken_whole tree.min_key u _ (accepted tree.min_key tt) refl e, tt, omega arith)
+  datum_written f (tree.raw k b) levels u r e = absurd r
 
   pairs_written : (readable : Bool) (ps : Pairs) (n : ℕ) (qs : Pairs) → ArePairsInRange ps → spell_entries_as readable (pair_data itself ps) n ≡ Ok qs
       → (qs ≡ sorted_pairs ps) × ArePairsEncodable ps × (pairs_depth ps ≤ n)

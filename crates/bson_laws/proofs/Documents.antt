@@ -1,16 +1,15 @@
 -- What is read from a document is written as a document, unless it is too large.
-use Rattle.std.proofs.Common.{◌≡◌, Bool, true, false, cond, Result, Ok, Err, refl, ap, sym, subst, ◌∙◌}
+use Rattle.std.proofs.Common.{◌≡◌, Bool, true, false, cond, Option, Some, Result, Ok, Err, refl, ap, sym, subst, ◌∙◌}
 use Rattle.std.specs.Str.{bytes_eq}
 use Rattle.bson_base.specs.Text.{Bytes, AreBytes, Utf8}
 use Rattle.bson_base.specs.Outcome.{◌>>=◌, result_map}
 use Rattle.bson_base.specs.Sound.{max_levels}
 use Rattle.bson_base.specs.declared.element_type.ElementType.TheVariants.{EmbeddedDocument}
-use Rattle.bson_base.proofs.Outcomes.{ok_is, map_ok, bind_ok}
+use Rattle.bson_base.proofs.Outcomes.{map_ok, bind_ok}
 use Rattle.bson_rawdoc.specs.Envelope.{is_closed, envelope}
-use Rattle.bson_rawdoc.specs.Node.{from_input, Node, document, broken, Nodes, ended, faulty, then_node, node_in, mended}
+use Rattle.bson_rawdoc.specs.Node.{Sight, from_input, Node, document, broken, Nodes, ended, faulty, then_node, node_in, mended}
 use Rattle.bson_rawdoc.specs.Piece.{made}
 use Rattle.bson_rawdoc.specs.declared.raw.Error as raw_error
-use Rattle.bson_rawdoc.specs.declared.raw.Error.TheVariants.{TooShort, LengthDiffers, NoTerminator}
 use Rattle.bson_shape.specs.Form.{Form, leaf, optional, lossy, human_readable, by_mode, sequence, newtype, unit_structure, map, tuple, tuple_structure, structure, enumeration, Content, unit_content, newtype_content, tuple_content, struct_content, Variants, no_variants, variant}
 use Rattle.bson_shape.specs.Makers.{IsShape}
 use Rattle.bson_datum.specs.Value as value
@@ -18,8 +17,9 @@ use Rattle.bson_datum.specs.Value.{Value, no_entries, kind_of, reserved_or_docum
 use Rattle.bson_datum.specs.Marked.{Marked, contents}
 use Rattle.bson_datum.specs.Cause.{raw}
 use Rattle.bson_datum.specs.Refusal.{Failure, ReadFault, bare, unreadable}
-use Rattle.bson_laws.specs.Leaves.{LeafKind, anything, ignored, extended_values, documents, leaf_kind}
+use Rattle.bson_laws.specs.Leaves.{LeafKind, anything, ignored, extended_values, documents, raw_documents, raw_values, leaf_kind}
 use Rattle.bson_laws.specs.Judged.{Reading, judged}
+use Rattle.bson_laws.specs.ReadsRaw.{slice_of}
 use Rattle.bson_laws.specs.Taken.{null_of, document_of, array_of}
 use Rattle.bson_laws.specs.ReadsLeaf.{borrows, any_entries}
 use Rattle.bson_laws.specs.Containers.{reads_entries, reads_key, read_enum, reads_unit, reads_items}
@@ -31,6 +31,8 @@ use Rattle.bson_laws.specs.Writable.{KeepsDocumentLeaf, KeepsDocument, IsWritabl
 use Rattle.bson_laws.specs.Datum.{datum}
 use Rattle.bson_laws.specs.Trees.{as_tree, pairs_in}
 use Rattle.bson_base.specs.Tree as tree
+use Rattle.bson_laws.proofs.Framed.{IsAnnounced, frame}
+use Rattle.bson_laws.proofs.Given.{IsGiven}
 use Rattle.bson_laws.proofs.GivenAt.{reads_given}
 use Rattle.bson_laws.proofs.Settled.{settled_same, writable_settled}
 use Rattle.bson_laws.proofs.Signed.{document_spelled, given_signed}
@@ -41,8 +43,8 @@ use Rattle.bson_laws.proofs.Tame.{IsTame, after_judged}
 use Rattle.bson_laws.proofs.TameBytes.{seen_tame}
 
 -- the value of a document's bytes: a document, or bytes that are none
-abbrev IsTop : Node → Type 0
-IsTop (document ns) = Unit {0}
+abbrev pub IsTop : Node → Type 0
+IsTop (document slice ns) = Unit {0}
 IsTop (broken k e) = Unit {0}
 IsTop n = ⊥
 
@@ -51,25 +53,27 @@ abbrev IsMapping : Marked → Type 0
 IsMapping v = kind_of (contents v) ≡ EmbeddedDocument
 
 leaf_top : (l : Bool) (k : LeafKind) (n : Node) (v : Marked) → IsTop n → KeepsDocumentLeaf k → read_leaf l k n ≡ Ok v → IsMapping v
-leaf_top l anything (document ns) v t kept e = let m = map_ok value.map (any_entries ns no_entries) v e in subst IsMapping m.2 refl
+leaf_top l anything (document slice ns) v t kept e = let m = map_ok value.map (any_entries ns no_entries) v e in subst IsMapping m.2 refl
 leaf_top l anything (broken k x) v t kept e = absurd cc
 leaf_top l anything n v t kept e = absurd t
 leaf_top l ignored n v t kept e = absurd kept
-leaf_top l (extended_values documents) (document ns) v t kept e = let m = map_ok (λ ps. datum made (tree.document ps)) (as_tree (document ns) >>= pairs_in) v e in subst IsMapping m.2 refl
+leaf_top l (extended_values documents) (document slice ns) v t kept e = let m = map_ok (λ ps. datum made (tree.document ps)) (as_tree (document slice ns) >>= pairs_in) v e in subst IsMapping m.2 refl
 leaf_top l (extended_values documents) (broken k x) v t kept e = absurd cc
 leaf_top l (extended_values documents) n v t kept e = absurd t
+leaf_top l raw_documents (document slice ns) v t kept e = let m = map_ok value.raw_document (slice_of slice) v e in subst IsMapping m.2 refl
+leaf_top l raw_values (document slice ns) v t kept e = let m = map_ok value.raw_document (slice_of slice) v e in subst IsMapping m.2 refl
 leaf_top l (extended_values k) n v t kept e = absurd kept
-leaf_top l k (document ns) v t kept e = absurd cc
+leaf_top l k (document slice ns) v t kept e = absurd cc
 leaf_top l k (broken j x) v t kept e = absurd cc
 leaf_top l k n v t kept e = absurd t
 
 no_array : (n : Node) (ns : Nodes) → IsTop n → array_of n ≡ Ok ns → ⊥
-no_array (document ms) ns t e = absurd cc
+no_array (document slice ms) ns t e = absurd cc
 no_array (broken k x) ns t e = absurd cc
 no_array n ns t e = absurd t
 
 no_null : (n : Node) (x : Unit {0}) → IsTop n → null_of n ≡ Ok x → ⊥
-no_null (document ms) x t e = absurd cc
+no_null (document slice ms) x t e = absurd cc
 no_null (broken k f) x t e = absurd cc
 no_null n x t e = absurd t
 
@@ -100,21 +104,21 @@ variant_kind (variant name c vs) key n v e =
     chosen (bytes_eq name key) (reads_content name c n) (reads_variant vs key n) v (λ is q. content_kind name c n v q) (λ q. variant_kind vs key n v q) e
 
 enum_kind : (vs : Variants) (n : Node) (v : Marked) → IsTop n → read_enum (reads_unit vs) (reads_variant vs) n ≡ Ok v → IsMapping v
-enum_kind vs (document ended) v t e = absurd cc
-enum_kind vs (document (faulty f)) v t e = absurd cc
-enum_kind vs (document (then_node key n ns)) v t e = variant_kind vs key.bytes n v e
+enum_kind vs (document slice ended) v t e = absurd cc
+enum_kind vs (document slice (faulty f)) v t e = absurd cc
+enum_kind vs (document slice (then_node key n ns)) v t e = variant_kind vs key.bytes n v e
 enum_kind vs (broken k x) v t e = absurd cc
 enum_kind vs n v t e = absurd t
 
 -- an option of a document is not none
 some_top : (s : Form) (n : Node) (v : Marked) → IsTop n → ((w : Marked) → reads s n ≡ Ok w → IsMapping w) → reads (optional s) n ≡ Ok v → IsMapping v
-some_top s (document ns) v t inner e = let m = map_ok value.some (reads s (document ns)) v e in subst IsMapping m.2 (inner m.0 m.1)
+some_top s (document slice ns) v t inner e = let m = map_ok value.some (reads s (document slice ns)) v e in subst IsMapping m.2 (inner m.0 m.1)
 some_top s (broken k x) v t inner e = let m = map_ok value.some (reads s (broken k x)) v e in subst IsMapping m.2 (inner m.0 m.1)
 some_top s n v t inner e = absurd t
 
 -- a document whose texts are mended is a document, and bytes that are none stay so
-mended_top : (n : Node) → IsTop n → IsTop (mended n)
-mended_top (document ns) t = tt
+pub mended_top : (n : Node) → IsTop n → IsTop (mended n)
+mended_top (document slice ns) t = tt
 mended_top (broken k e) t = tt
 mended_top n t = absurd t
 
@@ -146,34 +150,34 @@ top_kind (structure name fs) n v t p kept e =
 
 -- ---- documents in bytes
 
-closed_top : (p : Bool) (ns : Nodes) (e : raw_error.Error) → IsTop (cond p (document ns) (broken EmbeddedDocument e))
-closed_top true ns e = tt
-closed_top false ns e = tt
+pub closed_top : (p : Bool) (slice : Option Bytes) (ns : Nodes) (e : raw_error.Error) → IsTop (cond p (document slice ns) (broken EmbeddedDocument e))
+closed_top true slice ns e = tt
+closed_top false slice ns e = tt
 
-answered_is : (r : Reading Marked) (d : Marked) → answered r ≡ Ok d → r ≡ Ok d
+pub answered_is : (r : Reading Marked) (d : Marked) → answered r ≡ Ok d → r ≡ Ok d
 answered_is (Ok v) d e = ap Ok cc
 answered_is (Err f) d e = absurd cc
 
-same_bytes : (a b c : Bool) (x y : Bytes) → cond a (Err TooShort) (cond b (Err LengthDiffers) (cond c (Err NoTerminator) (Ok x))) ≡ Ok y → x ≡ y
-same_bytes true b c x y e = absurd cc
-same_bytes false true c x y e = absurd cc
-same_bytes false false true x y e = absurd cc
-same_bytes false false false x y e = ok_is x y e
-
-abbrev read_in : Form → Result Bytes raw_error.Error → Result Marked (Failure ReadFault)
+abbrev pub read_in : Form → Result Bytes raw_error.Error → Result Marked (Failure ReadFault)
 read_in s r = elim r [ Ok b ↦ answered (reads (settled false s) (node_in max_levels EmbeddedDocument b)) | Err f ↦ Err (bare (unreadable (raw f))) ]
 
 -- what is read from a document's bytes is read from the node that they are
 pub node_read : (s : Form) (bytes : Bytes) (d : Value) → AreBytes bytes → reads_document s bytes ≡ Ok d
     → (b : Bytes) × (m : Marked) × IsTame from_input (node_in max_levels EmbeddedDocument b) × (reads (settled false s) (node_in max_levels EmbeddedDocument b) ≡ Ok m) × (contents m ≡ d)
-node_read s bytes d h e = by_case (envelope bytes) (λ b q. same_bytes _ _ _ bytes b q) e where
-  by_case : (r : Result Bytes raw_error.Error) → ((b : Bytes) → r ≡ Ok b → bytes ≡ b) → result_map contents (read_in s r) ≡ Ok d
+node_read s bytes d h e = by_case (envelope bytes) (λ b q. let f = frame bytes b q in (f.0, f.1)) e where
+  by_case : (r : Result Bytes raw_error.Error) → ((b : Bytes) → r ≡ Ok b → (bytes ≡ b) × IsAnnounced bytes) → result_map contents (read_in s r) ≡ Ok d
       → (b : Bytes) × (m : Marked) × IsTame from_input (node_in max_levels EmbeddedDocument b) × (reads (settled false s) (node_in max_levels EmbeddedDocument b) ≡ Ok m) × (contents m ≡ d)
   by_case (Ok b) same q =
       let n = node_in max_levels EmbeddedDocument b in
       let m = map_ok contents (answered (reads (settled false s) n)) d q in
-      (b, m.0, seen_tame max_levels EmbeddedDocument b (subst AreBytes (same b refl) h) tt, answered_is (reads (settled false s) n) m.0 m.1, m.2)
+      let f = same b refl in
+      (b, m.0, seen_tame max_levels EmbeddedDocument b (subst AreBytes f.0 h) (subst IsAnnounced f.0 f.1), answered_is (reads (settled false s) n) m.0 m.1, m.2)
   by_case (Err f) same q = absurd cc
+
+-- what is read from a document, or from bytes that are none, is written, unless it is too large
+pub top_written : (at : Sight) (s : Form) (n : Node) (m : Marked) → IsTop n → IsShape s → IsWritable s → IsGiven at (contents m) s → reads s n ≡ Ok m → IsWrittenUnlessLarge (spell_document (contents m))
+top_written at s n m t p c given e =
+    subst (λ k. IsWrittenUnlessLarge (at_top k (spell (contents m) max_levels))) (sym (top_kind s n m t p c.document e)) (written at (contents m) s p c.keys given max_levels)
 
 -- what is read is written, unless it is too large
 pub document_written : (s : Form) (bytes : Bytes) (d : Value) → IsShape s → IsWritable s → AreBytes bytes → reads_document s bytes ≡ Ok d → IsWrittenUnlessLarge (spell_document d)
@@ -181,8 +185,7 @@ document_written s bytes d p c h e =
     let r = node_read s bytes d h e in
     let n = node_in max_levels EmbeddedDocument r.0 in
     let there = subst (λ x. reads x n ≡ Ok r.1) (settled_same false s (writable_settled s c.keys)) r.3 in
-    let top = top_kind s n r.1 (closed_top (is_closed r.0) _ _) p c.document there in
-    subst (λ v. IsWrittenUnlessLarge (spell_document v)) r.4 (subst (λ k. IsWrittenUnlessLarge (at_top k (spell (contents r.1) max_levels))) (sym top) (written from_input (contents r.1) s p c.keys (reads_given from_input s n r.1 r.2 there) max_levels))
+    subst (λ v. IsWrittenUnlessLarge (spell_document v)) r.4 (top_written from_input s n r.1 (closed_top (is_closed r.0) (Some r.0) _ _) p c (reads_given from_input s n r.1 r.2 there) there)
 
 -- what is read is never refused for a number
 pub document_numbers : (s : Form) (bytes : Bytes) (d : Value) → AreBytes bytes → reads_document s bytes ≡ Ok d → HoldsNumbers (spell_document d)

@@ -1,35 +1,24 @@
 -- A whole document as a reader meets it.
-use Rattle.std.proofs.Common.{◌≡◌, Bool, true, false, cond, Result, Ok, Err, refl, ap, subst, ◌∙◌, pos, length}
-use Rattle.std.specs.Prelude.{not, nat_lt}
-use Rattle.std.specs.Ordering.{int_eq}
+use Rattle.std.proofs.Common.{◌≡◌, true, false, cond, Some, Result, Ok, Err, ap, subst, ◌∙◌}
 use Rattle.bson_base.specs.Text.{Bytes}
 use Rattle.bson_base.specs.Sound.{max_levels}
 use Rattle.bson_base.specs.declared.element_type.ElementType.TheVariants.{EmbeddedDocument}
 use Rattle.bson_rawdoc.specs.Envelope.{is_closed, envelope}
 use Rattle.bson_rawdoc.specs.Node.{document, broken, nodes_with, node_in, inner_node}
-use Rattle.bson_rawdoc.specs.Numbers.{int32_in}
 use Rattle.bson_rawdoc.specs.Walk.{walk}
 use Rattle.bson_rawdoc.specs.declared.raw.Error.{Error}
-use Rattle.bson_rawdoc.specs.declared.raw.Error.TheVariants.{TooShort, LengthDiffers, NoTerminator, ValueUnclosed}
+use Rattle.bson_rawdoc.specs.declared.raw.Error.TheVariants.{ValueUnclosed}
 use Rattle.bson_shape.specs.Form.{Form}
 use Rattle.bson_datum.specs.Cause.{raw}
 use Rattle.bson_datum.specs.Marked.{Marked}
 use Rattle.bson_datum.specs.Refusal.{ReadFault, unreadable, Failure, bare}
 use Rattle.bson_laws.specs.Reads.{reads, answered, reads_marked}
 use Rattle.bson_laws.specs.Settled.{settled}
+use Rattle.bson_laws.proofs.Framed.{frame}
 
--- bytes that are framed as a document are closed
-framed : (p q r : Bool) (b d : Bytes) → cond p (Err TooShort) (cond (not q) (Err LengthDiffers) (cond (not r) (Err NoTerminator) (Ok b))) ≡ Ok d → (b ≡ d) × (r ≡ true)
-framed true q r b d e = absurd cc
-framed false false r b d e = absurd cc
-framed false true false b d e = absurd cc
-framed false true true b d e = (cc, refl)
-
-frame : (b d : Bytes) → envelope b ≡ Ok d → (b ≡ d) × (is_closed b ≡ true)
-frame b d e = framed (nat_lt (length b) 5) (int_eq (int32_in b) (pos (length b))) (is_closed b) b d e
-
+-- bytes that are closed are the value of their elements
 closed_is : (b : Bytes) → is_closed b ≡ true → node_in max_levels EmbeddedDocument b ≡ inner_node max_levels EmbeddedDocument b
-closed_is b e = ap (λ c. cond c (document (nodes_with (node_in 199) (walk b))) (broken EmbeddedDocument ValueUnclosed)) e
+closed_is b e = ap (λ c. cond c (document (Some b) (nodes_with (node_in 199) (walk b))) (broken EmbeddedDocument ValueUnclosed)) e
 
 -- the bytes of an envelope, or its fault
 abbrev reads_enveloped : Form → Result Bytes Error → Result Marked (Failure ReadFault)
@@ -44,4 +33,4 @@ enveloped s b (Err f) e = ap (λ r. elim r [ Ok d ↦ answered (reads (settled f
 pub document_read : (s : Form) (b d : Bytes) → envelope b ≡ Ok d → reads_marked s b ≡ answered (reads (settled false s) (inner_node max_levels EmbeddedDocument d))
 document_read s b d e =
     let f = frame b d e in
-    enveloped s b (Ok d) e ∙ ap (λ n. answered (reads (settled false s) n)) (subst (λ x. node_in max_levels EmbeddedDocument x ≡ inner_node max_levels EmbeddedDocument x) f.0 (closed_is b f.1))
+    enveloped s b (Ok d) e ∙ ap (λ n. answered (reads (settled false s) n)) (subst (λ x. node_in max_levels EmbeddedDocument x ≡ inner_node max_levels EmbeddedDocument x) f.0 (closed_is b f.2))

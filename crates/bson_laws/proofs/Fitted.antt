@@ -26,9 +26,10 @@ use Rattle.bson_laws.specs.Variants.{content_of}
 use Rattle.bson_laws.specs.Plain.{IsPlainKey, IsPlain, AreFieldsPlain, ArePartsPlain, AreVariantsPlain, IsContentPlain}
 use Rattle.bson_laws.specs.Views.{views_extended, as_integer, one_character, as_character, views_any, views_any_items, views_any_entries, views_leaf, views_leaf_key, views_key, views_entries, named_unit, absent, views_at, views, views_items, views_parts, views_variant, views_content, views_fields}
 use Rattle.bson_laws.specs.Means.{key_text, number_of, some_or_none, under_name, means, means_items, means_entries, means_fields, norm, norm_items, norm_entries, norm_fields}
+use Rattle.bson_laws.specs.InRange.{IsInRange}
 use Rattle.bson_laws.specs.Fits.{IsTreeValue, IsValueOfKind, FitsExtended, IsAny, AreAnyItems, AreAnyEntries, FitsLeaf, FitsLeafKey, FitsKey, Fits, ItemsFit, PartsFit, EntriesFit, FieldsFit}
 use Rattle.bson_laws.proofs.DatumContents.{sorted_kind}
-use Rattle.bson_laws.proofs.DatumNormal.{own_kind, tree_sorted_twice, datum_norm, datum_means}
+use Rattle.bson_laws.proofs.DatumNormal.{own_kind, sorted_in_range, tree_sorted_twice, datum_norm, datum_means}
 use Rattle.bson_laws.proofs.Fitting.{fits_leaf, fits_lossy}
 use Rattle.bson_laws.proofs.Free.{free_means, free_norm, free_struct_means, free_newtype_name, free_struct_name}
 use Rattle.bson_laws.proofs.Spelled.{found, tree_is, trees_are, pairs_are}
@@ -152,23 +153,29 @@ tree_value v t f e =
 value_kind : (k : ElementType) (v : Value) (t : Tree) (f : IsValueOfKind k v) → means v ≡ Some t → kind t ≡ k
 value_kind k v t f e = ap kind (tree_value v t f.of_tree e).0 ∙ sorted_kind f.of_tree.tree ∙ f.has_kind
 
-id_means : (t : Tree) (v : Value) → kind t ≡ kinds.ObjectId → datum itself (sorted_tree t) ≡ norm v → views_extended object_ids t ≡ Some (norm v)
-id_means (tree.object_id id) v is e = ap Some e
-id_means t v is e = absurd cc
+-- it is in its range
+value_ranges : (k : ElementType) (v : Value) (t : Tree) (f : IsValueOfKind k v) → means v ≡ Some t → IsInRange t
+value_ranges k v t f e = subst IsInRange (sym (tree_value v t f.of_tree e).0) (sorted_in_range f.of_tree.tree f.of_tree.ranges)
 
-document_means : (t : Tree) (v : Value) → kind t ≡ kinds.EmbeddedDocument → datum itself (sorted_tree t) ≡ norm v → views_extended documents t ≡ Some (norm v)
-document_means (document ps) v is e = ap Some e
-document_means t v is e = absurd cc
+id_means : (t : Tree) (v : Value) → IsInRange t → kind t ≡ kinds.ObjectId → datum itself (sorted_tree t) ≡ norm v → views_extended object_ids t ≡ Some (norm v)
+id_means (tree.object_id id) v r is e = ap Some e
+id_means (tree.raw k b) v r is e = absurd r
+id_means t v r is e = absurd cc
+
+document_means : (t : Tree) (v : Value) → IsInRange t → kind t ≡ kinds.EmbeddedDocument → datum itself (sorted_tree t) ≡ norm v → views_extended documents t ≡ Some (norm v)
+document_means (document ps) v r is e = ap Some e
+document_means (tree.raw k b) v r is e = absurd r
+document_means t v r is e = absurd cc
 
 extended_means : (k : ExtendedLeaf) (v : Value) (t : Tree) → FitsExtended k v → means v ≡ Some t → views_extended k t ≡ Some (norm v)
-extended_means object_ids v t f e = id_means t v (value_kind kinds.ObjectId v t f e) (tree_value v t f.of_tree e).1
+extended_means object_ids v t f e = id_means t v (value_ranges kinds.ObjectId v t f e) (value_kind kinds.ObjectId v t f e) (tree_value v t f.of_tree e).1
 extended_means uuids v t f e =
     let is : binary 4 f.id ≡ t = tree_is (binary 4 f.id) t (ap means f.is_datum ∙ e) in
     ap (views_extended uuids) (sym is) ∙ ap (λ n. cond (nat_eq n 16) (Some (uuid_datum itself f.id)) None) f.sixteen.count ∙ ap (λ x. Some (norm x)) f.is_datum
 extended_means (of_kind k) v t f e =
     ap (λ j. cond (nat_eq (byte j) (byte k)) (Some (datum itself (sorted_tree t))) None) (value_kind k v t f e) ∙ ap (λ b. cond b (Some (datum itself (sorted_tree t))) None) (own_kind k) ∙ ap Some (tree_value v t f.of_tree e).1
 extended_means trees v t f e = ap Some (tree_value v t f e).1
-extended_means documents v t f e = document_means t v (value_kind kinds.EmbeddedDocument v t f e) (tree_value v t f.of_tree e).1
+extended_means documents v t f e = document_means t v (value_ranges kinds.EmbeddedDocument v t f e) (value_kind kinds.EmbeddedDocument v t f e) (tree_value v t f.of_tree e).1
 
 -- what a leaf takes from the tree that a value of the leaf means
 leaf_means : (k : LeafKind) (v : Value) (t : Tree) → FitsLeaf k v → means v ≡ Some t → views_leaf k t ≡ Some (norm v)

@@ -1,7 +1,7 @@
 -- What fits a leaf, and a form whose texts are mended, of whatever form the value is.
 use Rattle.bson_shape.specs.Form.{Form, leaf, lossy}
 use Rattle.bson_shape.specs.declared.leaf.Leaf.{Leaf}
-use Rattle.bson_datum.specs.Value.{Value, boolean, integer, double, character, str, bytes, none, some, unit, unit_structure, newtype, sequence, map, structure, unit_variant, newtype_variant, tuple, tuple_structure, tuple_variant, structure_variant, mode}
+use Rattle.bson_datum.specs.Value.{Value, boolean, integer, double, character, str, bytes, none, some, unit, unit_structure, newtype, sequence, map, structure, unit_variant, newtype_variant, tuple, tuple_structure, tuple_variant, structure_variant, raw_document, raw_array, mode}
 use Rattle.bson_laws.specs.Leaves.{leaf_kind}
 use Rattle.bson_laws.specs.Fits.{FitsLeaf, Fits}
 
@@ -27,6 +27,8 @@ fits_leaf (tuple vs) l f = f
 fits_leaf (tuple_structure name vs) l f = f
 fits_leaf (tuple_variant name vs) l f = f
 fits_leaf (structure_variant name fs) l f = f
+fits_leaf (raw_document bs) l f = f
+fits_leaf (raw_array bs) l f = f
 fits_leaf (mode v w) l f = f
 
 -- and a value of what a leaf takes fits it
@@ -51,6 +53,8 @@ leaf_fits (tuple vs) l f = f
 leaf_fits (tuple_structure name vs) l f = f
 leaf_fits (tuple_variant name vs) l f = f
 leaf_fits (structure_variant name fs) l f = f
+leaf_fits (raw_document bs) l f = f
+leaf_fits (raw_array bs) l f = f
 leaf_fits (mode v w) l f = f
 
 -- what fits a form whose texts are mended fits the form, and what fits the form fits it so

@@ -12,7 +12,6 @@ use Rattle.bson_base.proofs.Outcomes.{some_is, ok_is, map_ok, bind_ok}
 use Rattle.bson_rawdoc.specs.Node as node
 use Rattle.bson_rawdoc.specs.Node.{Sight, Node, Nodes, ended, faulty, then_node, mended}
 use Rattle.bson_rawdoc.specs.Piece.{Piece, made}
-use Rattle.bson_rawdoc.specs.declared.raw.Error.TheVariants.{NotUtf8}
 use Rattle.bson_shape.specs.Form.{Form, leaf, optional, lossy, human_readable, by_mode, sequence, newtype, unit_structure, map, tuple, tuple_structure, structure, enumeration, Fields, no_fields, field, Parts, no_parts, part, Content, unit_content, newtype_content, tuple_content, struct_content, Variants, no_variants, variant}
 use Rattle.bson_shape.specs.declared.leaf.Leaf.{Leaf}
 use Rattle.bson_datum.specs.Value as value
@@ -21,16 +20,20 @@ use Rattle.bson_datum.specs.Marked.{Marked, MarkedItems, MarkedEntries, MarkedFi
 use Rattle.bson_datum.specs.Same.{same}
 use Rattle.bson_datum.specs.Cause.{out_of_range, not_utf8, not_borrowed}
 use Rattle.bson_datum.specs.Refusal.{at_index, under, under_index}
-use Rattle.bson_laws.specs.Leaves.{LeafKind, anything, ignored, booleans, numbers, doubles, characters, texts, byte_strings, byte_buffers, units, ExtendedLeaf, extended_values, leaf_kind}
+use Rattle.bson_laws.specs.Leaves.{LeafKind, anything, ignored, booleans, numbers, doubles, characters, texts, byte_strings, byte_buffers, units, ExtendedLeaf, extended_values, raw_documents, raw_arrays, raw_values, leaf_kind}
 use Rattle.bson_laws.specs.Variants.{content_of}
 use Rattle.bson_laws.specs.Views.{one_character}
-use Rattle.bson_laws.specs.Judged.{Reading, refused, faultless, judged, passes, ignores}
+use Rattle.bson_laws.specs.Judged.{Reading, refused, judged, passes, ignores}
+use Rattle.bson_laws.specs.ReadsRaw.{raw_document_of, raw_array_of}
 use Rattle.bson_laws.specs.Taken.{owned_under_mark, boolean_of, integer_of, double_of, character_of, borrow, borrow_or_own, as_text, text_of, bytes_of, buffer_of, null_of, read_integer, read_character, document_of, array_of}
 use Rattle.bson_laws.specs.ReadsLeaf.{borrows, put_entry, read_any, any_items, any_entries, no_extended, read_leaf_with}
 use Rattle.bson_laws.specs.Containers.{reads_items, reads_entries, unit_of, reads_unit, reads_key, read_enum, reads_option, reads_next}
 use Rattle.bson_laws.specs.Slots.{Slot, Slots, missing_value, fill_slot, put_at, fill, value_or, finish, reads_places, read_structure}
 use Rattle.bson_laws.specs.Shaped as shaped
+use Rattle.bson_laws.proofs.Framed.{IsFramed}
+use Rattle.bson_laws.proofs.GivenRaw.{IsGivenRaw, document_framed, array_framed, raw_given}
 use Rattle.bson_laws.proofs.GivenTrees.{IsGivenExtended}
+use Rattle.bson_laws.proofs.JudgedTexts.{judged_text}
 use Rattle.bson_laws.proofs.Sizes.{inside_ok, under_ok}
 use Rattle.bson_laws.proofs.Coded.{IsName}
 use Rattle.bson_laws.proofs.Lent.{TextLent, LeafLent, marked}
@@ -88,11 +91,15 @@ IsGivenLeaf byte_strings (value.bytes bs) = Unit {0}
 IsGivenLeaf byte_buffers (value.bytes bs) = Unit {0}
 IsGivenLeaf units value.unit = Unit {0}
 IsGivenLeaf (extended_values k) v = IsGivenExtended k v
+IsGivenLeaf raw_documents (value.raw_document b) = IsFramed b
+IsGivenLeaf raw_arrays (value.raw_array b) = IsFramed b
+IsGivenLeaf raw_values v = IsGivenRaw v
 IsGivenLeaf k v = ⊥
 
 -- a key where the keys are what a leaf takes; one that is not a text is not written
 abbrev pub IsGivenLeafKey : LeafKind → Value → Type 0
 IsGivenLeafKey anything (value.str t) = IsName t
+IsGivenLeafKey raw_values (value.str t) = IsName t
 IsGivenLeafKey texts (value.str t) = IsName t
 IsGivenLeafKey characters (value.character c) = Unit {0}
 IsGivenLeafKey byte_strings (value.bytes bs) = Unit {0}
@@ -101,14 +108,6 @@ IsGivenLeafKey ignored value.unit = Unit {0}
 IsGivenLeafKey k v = ⊥
 
 -- ---- texts
-
-faulty_or : (b : Bool) (n m : Node) → faultless (cond b None (Some NotUtf8)) n ≡ Ok m → b ≡ true
-faulty_or true n m e = refl
-faulty_or false n m e = absurd cc
-
--- a text that is judged without a refusal is UTF-8
-pub judged_text : (p : Piece) (m : Node) → judged (node.string p) ≡ Ok m → is_utf8 p.bytes ≡ true
-judged_text p m e = faulty_or (is_utf8 p.bytes) (node.string p) m e
 
 whole_binary : (b : Bool) (p q : Piece) → is_utf8 p.bytes ≡ b → cond b (Ok p) (refused not_utf8) ≡ Ok q → is_utf8 q.bytes ≡ true
 whole_binary true p q is e = subst (λ (x : Piece). is_utf8 x.bytes ≡ true) (ok_is p q e) is
@@ -227,6 +226,8 @@ module _ (sight : Sight) where
   leaf_given_at l (value.map es) g = g
   leaf_given_at l (value.structure n fs) g = g
   leaf_given_at l (value.structure_variant n fs) g = g
+  leaf_given_at l (value.raw_document b) g = g
+  leaf_given_at l (value.raw_array b) g = g
   leaf_given_at l (value.mode v w) g = g
 
   pub given_leaf : (v : Value) (l : Leaf) → IsGiven sight v (leaf l) → IsGivenLeaf (leaf_kind l) v × LeafLent sight (borrows l) (leaf_kind l)
@@ -250,6 +251,8 @@ module _ (sight : Sight) where
   given_leaf (value.map es) l g = g
   given_leaf (value.structure n fs) l g = g
   given_leaf (value.structure_variant n fs) l g = g
+  given_leaf (value.raw_document b) l g = g
+  given_leaf (value.raw_array b) l g = g
   given_leaf (value.mode v w) l g = g
 
   -- what is given where texts are mended, and at the form that is due of two, of whatever form the value is
@@ -293,8 +296,8 @@ module _ (sight : Sight) where
     any_given (node.string p) m v t j e = subst AnyGiven (ok_is (value.str p) v e) (judged_text p m j)
     any_given (node.bytes u p) m v t j e = subst AnyGiven (ok_is (value.bytes (owned_under_mark u p)) v e) tt
     any_given node.null m v t j e = subst AnyGiven (ok_is value.unit v e) tt
-    any_given (node.array ns) m v t j e = let r = map_ok value.sequence (any_items 0 ns) v e in subst AnyGiven r.2 (any_items_given 0 ns r.0 t r.1)
-    any_given (node.document ns) m v t j e = let r = map_ok value.map (any_entries ns no_entries) v e in map_given r.0 v (any_entries_given ns no_entries r.0 t (tt, tt) r.1) r.2
+    any_given (node.array slice ns) m v t j e = let r = map_ok value.sequence (any_items 0 ns) v e in subst AnyGiven r.2 (any_items_given 0 ns r.0 t.1 r.1)
+    any_given (node.document slice ns) m v t j e = let r = map_ok value.map (any_entries ns no_entries) v e in map_given r.0 v (any_entries_given ns no_entries r.0 t.1 (tt, tt) r.1) r.2
     any_given (node.extended x ns) m v t j e = let r = map_ok value.map (any_entries ns no_entries) v e in map_given r.0 v (any_entries_given ns no_entries r.0 t.1 (tt, tt) r.1) r.2
     any_given n m v t j e = absurd cc
 
@@ -381,6 +384,9 @@ module _ (sight : Sight) where
   leaf_lent extended l byte_buffers n v t e = tt
   leaf_lent extended l units n v t e = tt
   leaf_lent extended l (extended_values k) n v t e = tt
+  leaf_lent extended l raw_documents n v t e = tt
+  leaf_lent extended l raw_arrays n v t e = tt
+  leaf_lent extended l raw_values n v t e = tt
 
   -- ---- keys
 
@@ -389,6 +395,7 @@ module _ (sight : Sight) where
 
   leaf_key_given : (l : Bool) (k : LeafKind) (key : Piece) (v : Marked) → IsName key.bytes → read_leaf_with no_extended l k (node.string key) ≡ Ok v → LeafKeyGiven k v
   leaf_key_given l anything key v h e = subst (LeafKeyGiven anything) (ok_is (value.str key) v e) h
+  leaf_key_given l raw_values key v h e = subst (LeafKeyGiven raw_values) (ok_is (value.str key) v e) h
   leaf_key_given l ignored key v h e = subst (LeafKeyGiven ignored) (ok_is value.unit v e) tt
   leaf_key_given l characters key v h e = by_case (one_character (chars key.bytes)) e where
     by_case : (o : Option ℕ) → read_character o ≡ Ok v → LeafKeyGiven characters v
@@ -530,8 +537,8 @@ module _ (sight : Sight) where
   keyed_given fs slots ns vs t h e = let b = bind_ok (fill ns slots) finish vs e in finish_given fs b.0 vs (fill_given ns fs slots b.0 t h b.1) b.2
 
   structure_given : (fs : Fields) (slots : Slots) (n : Node) (vs : MarkedFields) → IsTame n → AreSlotsOf fs slots → read_structure slots n ≡ Ok vs → StructGiven fs vs
-  structure_given fs slots (node.array ns) vs t h e = places_given fs slots 0 ns vs t h e
-  structure_given fs slots (node.document ns) vs t h e = keyed_given fs slots ns vs t h e
+  structure_given fs slots (node.array slice ns) vs t h e = places_given fs slots 0 ns vs t.1 h e
+  structure_given fs slots (node.document slice ns) vs t h e = keyed_given fs slots ns vs t.1 h e
   structure_given fs slots (node.extended x ns) vs t h e = keyed_given fs slots ns vs t.1 h e
   structure_given fs slots n vs t h e = absurd cc
 
@@ -593,6 +600,9 @@ module _ (at_extended : ExtendedLeaf → Node → Reading Marked)
   leaf_given at l byte_buffers n m v t j e = let r = map_ok (λ b. value.bytes (made b)) (buffer_of n) v e in subst (LeafGiven at byte_buffers) r.2 tt
   leaf_given at l units n m v t j e = let r = map_ok (λ _. value.unit) (null_of n) v e in subst (LeafGiven at units) r.2 tt
   leaf_given at l (extended_values k) n m v t j e = each_extended at k n m v t j e
+  leaf_given at l raw_documents n m v t j e = let r = map_ok value.raw_document (raw_document_of n) v e in subst (LeafGiven at raw_documents) r.2 (document_framed at n r.0 t r.1)
+  leaf_given at l raw_arrays n m v t j e = let r = map_ok value.raw_array (raw_array_of n) v e in subst (LeafGiven at raw_arrays) r.2 (array_framed at n r.0 t r.1)
+  leaf_given at l raw_values n m v t j e = raw_given at n m v t j e
 
   entries_so : (at : Sight) (key s : Form) → EachGiven at (reads s) s → (ns : Nodes) (es out : MarkedEntries) → tame.AreTame at ns → EntriesSo at key s es → reads_entries (reads_key key) (reads s) ns es ≡ Ok out → EntriesSo at key s out
   entries_so at key s each ended es out t h e = subst (EntriesSo at key s) (ok_is es out e) h
@@ -605,7 +615,7 @@ module _ (at_extended : ExtendedLeaf → Node → Reading Marked)
 
   enum_given : (at : Sight) (vs : Variants) → ((key : Utf8) (n : Node) (v : Marked) → tame.IsTame at n → reads_variant vs key n ≡ Ok v → VariantGiven at (content_of vs key) key v) → (n : Node) (v : Marked) → tame.IsTame at n → read_enum (reads_unit vs) (reads_variant vs) n ≡ Ok v → IsGiven at (contents v) (enumeration vs)
   enum_given at vs each (node.string p) v t e = unit_given at vs p.bytes (content_of vs p.bytes) v refl e
-  enum_given at vs each (node.document (then_node key n ns)) v t e = let g = each key.bytes n v t.1 e in variant_given at vs key.bytes g.0 v t.0.1 g.1 g.2
+  enum_given at vs each (node.document slice (then_node key n ns)) v t e = let g = each key.bytes n v t.1.1 e in variant_given at vs key.bytes g.0 v t.1.0.1 g.1 g.2
   enum_given at vs each (node.extended x (then_node key n ns)) v t e = let g = each key.bytes n v t.1.1 e in variant_given at vs key.bytes g.0 v t.1.0.1 g.1 g.2
   enum_given at vs each n v t e = absurd cc
 

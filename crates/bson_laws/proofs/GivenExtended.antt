@@ -19,10 +19,8 @@ use Rattle.bson_base.specs.declared.element_type.ElementType.{ElementType}
 use Rattle.bson_base.specs.declared.element_type.ElementType.TheVariants as kinds
 use Rattle.bson_base.proofs.Outcomes.{some_is, some_map, some_then, ok_is, map_ok, bind_ok}
 use Rattle.bson_rawdoc.specs.Node as node
-use Rattle.bson_rawdoc.specs.Node.{Sight, Node, Extended, Nodes, ended, faulty, then_node, or_else, fault, extended_fault}
+use Rattle.bson_rawdoc.specs.Node.{Sight, Node, Extended, Nodes, ended, faulty, then_node, fault, extended_fault}
 use Rattle.bson_rawdoc.specs.Piece.{Piece, made}
-use Rattle.bson_rawdoc.specs.declared.raw.Error.{Error}
-use Rattle.bson_rawdoc.specs.declared.raw.Error.TheVariants.{NotUtf8}
 use Rattle.bson_shape.specs.Form.{Form, leaf, structure, Fields, no_fields, field}
 use Rattle.bson_shape.specs.declared.leaf.Leaf.{Leaf}
 use Rattle.bson_shape.specs.declared.leaf.Leaf.TheVariants as leaves
@@ -38,7 +36,7 @@ use Rattle.bson_datum.specs.declared.wrapper.Wrapper.TheVariants.{Oid, Symbol, N
 use Rattle.bson_laws.specs.Datum.{datum, itself, uuid_datum}
 use Rattle.bson_laws.specs.Leaves as leaf_kinds
 use Rattle.bson_laws.specs.Leaves.{ExtendedLeaf, object_ids, uuids, of_kind, documents, leaf_kind}
-use Rattle.bson_laws.specs.Judged.{Reading, refused, faultless, judged, scope_key}
+use Rattle.bson_laws.specs.Judged.{Reading, refused, judged, scope_key}
 use Rattle.bson_laws.specs.ReadsLeaf.{no_extended}
 use Rattle.bson_laws.specs.ReadsExtended.{tree_of_kind, with_length, object_id_at, or_bad_uuid, uuid_in, uuid_at, read_extended}
 use Rattle.bson_laws.specs.Shaped.{reads}
@@ -49,8 +47,9 @@ use Rattle.bson_laws.specs.Wrapped.{text_at, text_body, id_of_text, int32_of, do
 use Rattle.bson_laws.proofs.DatumContents.{datum_contents}
 use Rattle.bson_laws.proofs.DateRange.{date_fits}
 use Rattle.bson_laws.proofs.Given as given
-use Rattle.bson_laws.proofs.Given.{IsGivenLeaf, judged_text, whole_text}
+use Rattle.bson_laws.proofs.Given.{IsGivenLeaf, whole_text}
 use Rattle.bson_laws.proofs.GivenTrees.{IsGivenTree, ArePairsGiven, AreTreesGiven, IsGivenExtended, put_given}
+use Rattle.bson_laws.proofs.JudgedTexts.{judged_text, no_fault, neither_fault, unfaulted}
 use Rattle.bson_laws.proofs.ParsedSizes.{digits_sized, uuid_sized, base64_bytes, integer_fits, sorted_text, sorted_twice}
 use Rattle.bson_laws.proofs.Sizes.{inside_ok, under_ok}
 use Rattle.bson_laws.proofs.Tame as tame
@@ -123,24 +122,6 @@ module _ (sight : Sight) where
 
   two_texts_make : (n m : Utf8) (f : Utf8 → Utf8 → Option Tree) → ((x y : Utf8) (t : Tree) → is_utf8 x ≡ true → is_utf8 y ≡ true → f x y ≡ Some t → IsGivenTree t) → Makes (with_fields n text m text) (two_texts f)
   two_texts_make n m f h = two_make n m text text (λ v w. a_text (λ x. a_text (f x) w) v) (λ v w t g k e. text_makes (λ x. a_text (f x) w) (λ x u gx ex. text_makes (f x) (λ y z gy ey. h x y z gx gy ey) w u k ex) v t g e)
-
-  -- ---- no fault
-
-  no_fault : (o : Option Error) (n m : Node) → faultless o n ≡ Ok m → o ≡ None
-  no_fault None n m e = refl
-  no_fault (Some f) n m e = absurd cc
-
-  neither_fault : (o p : Option Error) → or_else o p ≡ None → (o ≡ None) × (p ≡ None)
-  neither_fault None p e = (refl, e)
-  neither_fault (Some f) p e = absurd cc
-
-  whole_or : (b : Bool) → cond b None (Some NotUtf8) ≡ None → b ≡ true
-  whole_or true e = refl
-  whole_or false e = absurd cc
-
-  -- a text without a fault is UTF-8
-  unfaulted : (p : Piece) → node.text_fault p ≡ None → is_utf8 p.bytes ≡ true
-  unfaulted p e = whole_or (is_utf8 p.bytes) e
 
   -- ---- texts
 
@@ -358,8 +339,8 @@ module _ (sight : Sight) where
     tree_given : (n m : Node) (t : Tree) → IsTame n → judged n ≡ Ok m → as_tree n ≡ Ok t → IsGivenTree t
     tree_given (node.double bits) m t k j e = subst IsGivenTree (ok_is (tree.double bits) t e) k
     tree_given (node.string p) m t k j e = subst IsGivenTree (ok_is (tree.string p.bytes) t e) (judged_text p m j)
-    tree_given (node.document ns) m t k j e = document_given ns no_pairs t k tt e
-    tree_given (node.array ns) m t k j e = let r = map_ok tree.array (array_trees 0 ns) t e in subst IsGivenTree r.2 (items_given 0 ns r.0 k r.1)
+    tree_given (node.document slice ns) m t k j e = document_given ns no_pairs t k.1 tt e
+    tree_given (node.array slice ns) m t k j e = let r = map_ok tree.array (array_trees 0 ns) t e in subst IsGivenTree r.2 (items_given 0 ns r.0 k.1 r.1)
     tree_given (node.bytes u b) m t k j e = subst IsGivenTree (ok_is (tree.binary 0 b.bytes) t e) tt
     tree_given (node.boolean b) m t k j e = subst IsGivenTree (ok_is (tree.boolean b) t e) tt
     tree_given node.null m t k j e = subst IsGivenTree (ok_is tree.null t e) tt
@@ -442,6 +423,7 @@ module _ (sight : Sight) where
 
   id_of_kind : (t : Tree) → IsGivenTree t → nat_eq (byte (kind t)) (byte kinds.ObjectId) ≡ true → IsId t
   id_of_kind (tree.object_id id) g e = (id, g, refl)
+  id_of_kind (tree.raw k b) g e = absurd g
   id_of_kind t g e = absurd cc
 
   id_given : (n m : Node) (t : Tree) → IsTame n → judged n ≡ Ok m → object_id_at n ≡ Ok t → IsId t
@@ -449,10 +431,10 @@ module _ (sight : Sight) where
   id_given (node.string p) m t k j e =
       let s = some_map tree.object_id (bytes_of_digits 12 p.bytes) t (made_of Oid (id_of_text p.bytes) t e) in (s.0, digits_sized 12 p.bytes s.0 s.1, sym s.2)
   id_given (node.bytes u b) m t k j e = let r = map_ok tree.object_id (with_length 12 b.bytes) t e in (r.0, (long_is 12 b.bytes r.0 r.1, subst AreBytes (long_same 12 b.bytes r.0 r.1) k.0), sym r.2)
-  id_given (node.document ns) m t k j e =
-      let a = bind_ok (as_tree (node.document ns)) (tree_of_kind kinds.ObjectId) t e in
+  id_given (node.document slice ns) m t k j e =
+      let a = bind_ok (as_tree (node.document slice ns)) (tree_of_kind kinds.ObjectId) t e in
       let is = kind_is kinds.ObjectId a.0 t a.2 in
-      id_of_kind t (subst IsGivenTree is.0 (tree_given (node.document ns) m a.0 k j a.1)) is.1
+      id_of_kind t (subst IsGivenTree is.0 (tree_given (node.document slice ns) m a.0 k j a.1)) is.1
   id_given n m t k j e = absurd cc
 
   uuid_either : (a b : Bool) (x y : Bytes) → nat_eq (length x) 16 ≡ b → cond (a && b) (Ok x) (refused (wrong_kind kinds.Binary)) ≡ Ok y → length y ≡ 16
@@ -475,7 +457,7 @@ module _ (sight : Sight) where
   uuid_given : (n : Node) (b : Bytes) → uuid_at n ≡ Ok b → length b ≡ 16
   uuid_given (node.extended (node.binary s x) ns) b e = uuid_subtype (nat_eq s 4) s x.bytes b _ (λ q. cc) e
   uuid_given (node.string p) b e = (uuid_sized p.bytes b (uuid_text (parsed p.bytes) b e)).0
-  uuid_given (node.document ns) b e = let a = bind_ok (as_tree (node.document ns)) uuid_in b e in uuid_of_tree a.0 b a.2
+  uuid_given (node.document slice ns) b e = let a = bind_ok (as_tree (node.document slice ns)) uuid_in b e in uuid_of_tree a.0 b a.2
   uuid_given n b e = absurd cc
 
   pub extended_given : (k : ExtendedLeaf) (n m : Node) (v : Marked) → IsTame n → judged n ≡ Ok m → read_extended k n ≡ Ok v → IsGivenExtended k (contents v)

@@ -20,7 +20,7 @@ use Rattle.bson_laws.proofs.Fitted.{unlike_swap}
 use Rattle.bson_laws.proofs.TreesRead.{IsReadable, ArePairsReadable, AreTreesReadable}
 
 abbrev mutual
-  -- each part has the size of its kind, texts are UTF-8, options are in order, no key is a wrapper key, and none occurs twice
+  -- each part has the size of its kind, texts are UTF-8, options are in order, no key is a wrapper key, and none occurs twice; nothing is given by its bytes
   pub IsGivenTree : Tree → Type 0
   IsGivenTree (tree.double bits) = length bits ≡ 8
   IsGivenTree (tree.string t) = is_utf8 t ≡ true
@@ -39,6 +39,7 @@ abbrev mutual
   IsGivenTree (tree.timestamp time increment) = (time < 2 ^ 32) × (increment < 2 ^ 32)
   IsGivenTree (tree.int64 n) = FitsSigned w64 n
   IsGivenTree (tree.decimal128 b) = length b ≡ 16
+  IsGivenTree (tree.raw k b) = ⊥
   IsGivenTree t = Unit {0}
 
   pub ArePairsGiven : Pairs → Type 0
@@ -68,6 +69,7 @@ mutual
   given_readable (tree.javascript_code t) g = g
   given_readable (tree.symbol t) g = g
   given_readable (tree.javascript_code_with_scope code scope) g = (g.0, pairs_readable scope g.1)
+  given_readable (tree.raw k b) g = absurd g
   given_readable t g = tt
 
   pairs_readable : (ps : Pairs) → ArePairsGiven ps → ArePairsReadable ps

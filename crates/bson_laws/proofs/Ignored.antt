@@ -2,7 +2,7 @@
 use Rattle.std.proofs.Common.{◌≡◌, ℕ, zero, suc, ◌≤◌, Ok, refl, ap, ◌∙◌, arith}
 use Rattle.bson_base.specs.Outcome.{◌>>=◌}
 use Rattle.bson_base.specs.Sound.{IsClean, ArePairsClean, AreTreesClean}
-use Rattle.bson_base.specs.Tree.{Tree, document, array, binary, javascript_code_with_scope, Pairs, no_pairs, pair, Trees, no_trees, tree, depth, pairs_depth, trees_depth}
+use Rattle.bson_base.specs.Tree.{Tree, document, array, binary, javascript_code_with_scope, raw, Pairs, no_pairs, pair, Trees, no_trees, tree, depth, pairs_depth, trees_depth}
 use Rattle.bson_rawdoc.specs.Node.{Sight, tree_node, pair_nodes, tree_nodes}
 use Rattle.bson_datum.specs.Refusal.{under, under_index}
 use Rattle.bson_laws.specs.Judged.{at_its_key, at_its_index, scope_key, passes, pass_nodes, ignores}
@@ -22,6 +22,7 @@ mutual
   inner_again at (binary (suc s) b) levels c d = refl
   inner_again at (javascript_code_with_scope code scope) zero c d = absurd (omega arith)
   inner_again at (javascript_code_with_scope code scope) (suc n) c d = ap (under scope_key) (pairs_again at scope n 0 c.1 (omega arith))
+  inner_again at (raw k b) levels c d = absurd c
   inner_again at t levels c d = refl
 
   pairs_again : (at : Sight) (ps : Pairs) (n i : ℕ) → ArePairsClean ps → pairs_depth ps ≤ n → pass_nodes at_its_key i (pair_nodes at ps n) ≡ Ok tt

@@ -1,20 +1,27 @@
 -- A clean tree is judged without a refusal, where there are levels for it.
-use Rattle.std.proofs.Common.{◌≡◌, ℕ, zero, suc, ◌-◌, ◌≤◌, true, Option, Some, None, Ok, refl, ap, ◌∙◌, arith}
+use Rattle.std.proofs.Common.{◌≡◌, ℕ, zero, suc, ◌-◌, ◌≤◌, drop, Bool, true, false, cond, Option, Some, None, Result, Ok, Err, refl, ap, sym, subst, ◌∙◌, arith}
 use Rattle.std.specs.Str.{is_utf8}
 use Rattle.std.proofs.lemmas.Bool.{cond-true}
-use Rattle.bson_base.specs.Text.{Utf8}
+use Rattle.bson_base.specs.Text.{Bytes, Utf8}
 use Rattle.bson_base.specs.Outcome.{◌>>=◌, result_map}
 use Rattle.bson_base.specs.Sound.{IsClean}
-use Rattle.bson_base.specs.Tree.{Tree, null, string, document, array, binary, regular_expression, db_pointer, javascript_code, symbol, javascript_code_with_scope, Pairs, Trees, depth}
-use Rattle.bson_base.specs.declared.element_type.ElementType.TheVariants.{EmbeddedDocument}
+use Rattle.bson_base.specs.Tree.{Tree, null, string, document, array, binary, regular_expression, db_pointer, javascript_code, symbol, javascript_code_with_scope, raw, Pairs, Trees, enc, depth}
+use Rattle.bson_base.specs.declared.element_type.ElementType.TheVariants.{EmbeddedDocument, Array, JavaScriptCodeWithScope}
+use Rattle.bson_base.specs.declared.element_type.ElementType.{ElementType}
 use Rattle.bson_rawdoc.specs.declared.raw.Error.{Error}
-use Rattle.bson_rawdoc.specs.declared.raw.Error.TheVariants.{NotUtf8}
-use Rattle.bson_rawdoc.specs.Node.{Sight, or_else, text_fault, fault, piece, one_level, tree_node, pair_nodes, tree_nodes}
+use Rattle.bson_rawdoc.specs.declared.raw.Error.TheVariants.{NotUtf8, ValueUnclosed}
+use Rattle.bson_rawdoc.specs.Envelope.{is_closed}
+use Rattle.bson_rawdoc.specs.Numbers.{int32_in}
+use Rattle.bson_rawdoc.specs.Piece.{Piece}
+use Rattle.bson_rawdoc.specs.Walk.{walk}
+use Rattle.bson_rawdoc.specs.Node as node
+use Rattle.bson_rawdoc.specs.Node.{Node, Nodes, broken, too_deep, opens, or_broken, scoped_bytes, nodes_with, closed_node, node_in, Sight, or_else, text_fault, fault, piece, slice_if, one_level, mended_if, tree_node, pair_nodes, tree_nodes}
 use Rattle.bson_datum.specs.Value as value
 use Rattle.bson_datum.specs.Marked.{Marked}
 use Rattle.bson_laws.specs.Judged.{Reading, with_level, faultless, judged}
 use Rattle.bson_laws.specs.Taken.{document_of, array_of}
 use Rattle.bson_laws.specs.Containers.{reads_option}
+use Rattle.bson_laws.proofs.Coded.{IsRawCoded, IsCoded}
 
 -- ---- what is read from a tree
 
@@ -31,7 +38,7 @@ pub both_whole : (o p : Option Error) → o ≡ None → p ≡ None → or_else 
 both_whole None p e d = d
 both_whole (Some x) p e d = absurd cc
 
-pub scope_whole : (at : Sight) (ps : Pairs) (levels : ℕ) → fault (one_level EmbeddedDocument (pair_nodes at ps) levels) ≡ None
+pub scope_whole : (at : Sight) (ps : Pairs) (levels : ℕ) → fault (one_level EmbeddedDocument (slice_if at.bytes (enc (document ps))) (pair_nodes at ps) levels) ≡ None
 scope_whole at ps zero = refl
 scope_whole at ps (suc levels) = refl
 
@@ -47,21 +54,32 @@ whole at (db_pointer namespace id) levels c = text_whole at namespace c.0
 whole at (javascript_code t) levels c = text_whole at t c
 whole at (symbol t) levels c = text_whole at t c
 whole at (javascript_code_with_scope code scope) levels c = both_whole _ _ (text_whole at code c.0) (scope_whole at scope levels)
+whole at (raw k b) levels c = absurd c
 whole at t levels c = refl
 
 -- ---- levels
 
-pub level_there : (at : Sight) (t : Tree) (levels : ℕ) → depth t ≤ levels → with_level (tree_node at t levels) ≡ Ok (tree_node at t levels)
-level_there at (document ps) zero d = absurd (omega arith)
-level_there at (document ps) (suc levels) d = refl
-level_there at (array ts) zero d = absurd (omega arith)
-level_there at (array ts) (suc levels) d = refl
-level_there at (binary zero b) levels d = refl
-level_there at (binary (suc n) b) levels d = refl
-level_there at t levels d = refl
+-- the tree is not given by its bytes
+abbrev pub IsNotRaw : Tree → Type 0
+IsNotRaw (raw k b) = ⊥
+IsNotRaw t = Unit {0}
+
+pub clean_not_raw : (t : Tree) → IsClean t → IsNotRaw t
+clean_not_raw (raw k b) c = absurd c
+clean_not_raw t c = tt
+
+pub level_there : (at : Sight) (t : Tree) (levels : ℕ) → IsNotRaw t → depth t ≤ levels → with_level (tree_node at t levels) ≡ Ok (tree_node at t levels)
+level_there at (document ps) zero n d = absurd (omega arith)
+level_there at (document ps) (suc levels) n d = refl
+level_there at (array ts) zero n d = absurd (omega arith)
+level_there at (array ts) (suc levels) n d = refl
+level_there at (binary zero b) levels n d = refl
+level_there at (binary (suc m) b) levels n d = refl
+level_there at (raw k b) levels n d = absurd n
+level_there at t levels n d = refl
 
 pub judged_again : (at : Sight) (t : Tree) (levels : ℕ) → IsClean t → depth t ≤ levels → judged (tree_node at t levels) ≡ Ok (tree_node at t levels)
-judged_again at t levels c d = ap (λ o. faultless o (tree_node at t levels)) (whole at t levels c) ∙ level_there at t levels d
+judged_again at t levels c d = ap (λ o. faultless o (tree_node at t levels)) (whole at t levels c) ∙ level_there at t levels (clean_not_raw t c) d
 
 -- ---- documents and arrays
 
@@ -81,13 +99,53 @@ array_again at ts levels c d = ap (λ r. r >>= array_of) (judged_again at (array
 
 -- ---- null, and what is not null
 
+-- a node that is not null is read at an option as some value
+abbrev IsSome : Node → Reading Marked → Type 0
+IsSome n r = reads_option n r ≡ result_map value.some r
+
+opened_some : (u : Bool) (k : ElementType) (o : Result (Piece × Bytes) Error) (container : Bytes → Node) (r : Reading Marked) → IsSome (mended_if u (or_broken k (λ p. opens (node.javascript_code_with_scope p.0 (container p.1))) o)) r
+opened_some true k (Ok p) container r = refl
+opened_some false k (Ok p) container r = refl
+opened_some true k (Err e) container r = refl
+opened_some false k (Err e) container r = refl
+
+document_some : (u c : Bool) (k : ElementType) (slice : Option Bytes) (ns : Nodes) (r : Reading Marked) → IsSome (mended_if u (cond c (node.document slice ns) (broken k ValueUnclosed))) r
+document_some true true k slice ns r = refl
+document_some true false k slice ns r = refl
+document_some false true k slice ns r = refl
+document_some false false k slice ns r = refl
+
+array_some : (u c : Bool) (k : ElementType) (slice : Option Bytes) (ns : Nodes) (r : Reading Marked) → IsSome (mended_if u (cond c (node.array slice ns) (broken k ValueUnclosed))) r
+array_some true true k slice ns r = refl
+array_some true false k slice ns r = refl
+array_some false true k slice ns r = refl
+array_some false false k slice ns r = refl
+
+deep_some : (u c : Bool) (k : ElementType) (r : Reading Marked) → IsSome (mended_if u (cond c (too_deep k) (broken k ValueUnclosed))) r
+deep_some true true k r = refl
+deep_some true false k r = refl
+deep_some false true k r = refl
+deep_some false false k r = refl
+
+-- what is given by its bytes is not null
+raw_some : (u : Bool) (k : ElementType) (b : Bytes) (levels : ℕ) (r : Reading Marked) → IsRawCoded k b → IsSome (mended_if u (node_in levels k b)) r
+raw_some u EmbeddedDocument b zero r c = deep_some u (is_closed b) EmbeddedDocument r
+raw_some u EmbeddedDocument b (suc n) r c = document_some u (is_closed b) EmbeddedDocument (Some b) (nodes_with (node_in n) (walk b)) r
+raw_some u Array b zero r c = deep_some u (is_closed b) Array r
+raw_some u Array b (suc n) r c = array_some u (is_closed b) Array (Some b) (nodes_with (node_in n) (walk b)) r
+raw_some u JavaScriptCodeWithScope b zero r c = opened_some u JavaScriptCodeWithScope (scoped_bytes (int32_in (drop 4 b)) (drop 4 b)) (λ s. closed_node EmbeddedDocument s (too_deep EmbeddedDocument)) r
+raw_some u JavaScriptCodeWithScope b (suc n) r c =
+    opened_some u JavaScriptCodeWithScope (scoped_bytes (int32_in (drop 4 b)) (drop 4 b)) (λ s. closed_node EmbeddedDocument s (node.document (Some s) (nodes_with (node_in n) (walk s)))) r
+raw_some u k b levels r c = absurd c
+
 -- what holds of none, where the tree is null, and of some value elsewhere, holds of what is read at an option
-pub by_null : (P : Reading Marked → Type 0) (at : Sight) (t : Tree) (levels : ℕ) (r : Reading Marked) → (t ≡ null → P (Ok value.none)) → P (result_map value.some r) → P (reads_option (tree_node at t levels) r)
-by_null P at null levels r none some = none refl
-by_null P at (document ps) zero r none some = some
-by_null P at (document ps) (suc n) r none some = some
-by_null P at (array ts) zero r none some = some
-by_null P at (array ts) (suc n) r none some = some
-by_null P at (binary zero b) levels r none some = some
-by_null P at (binary (suc n) b) levels r none some = some
-by_null P at t levels r none some = some
+pub by_null : (P : Reading Marked → Type 0) (at : Sight) (t : Tree) (levels : ℕ) (r : Reading Marked) → IsCoded t → (t ≡ null → P (Ok value.none)) → P (result_map value.some r) → P (reads_option (tree_node at t levels) r)
+by_null P at null levels r c none some = none refl
+by_null P at (document ps) zero r c none some = some
+by_null P at (document ps) (suc n) r c none some = some
+by_null P at (array ts) zero r c none some = some
+by_null P at (array ts) (suc n) r c none some = some
+by_null P at (binary zero b) levels r c none some = some
+by_null P at (binary (suc n) b) levels r c none some = some
+by_null P at (raw k b) levels r c none some = subst P (sym (raw_some at.under_mark k b levels r c)) some
+by_null P at t levels r c none some = some

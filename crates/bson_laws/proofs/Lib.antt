@@ -6,6 +6,8 @@ pub mod Spelled
 pub mod Fitted
 pub mod Fitting
 pub mod Variants
+pub mod Framed
+pub mod RawFree
 pub mod Coded
 pub mod Numbers
 pub mod Closed
@@ -35,8 +37,8 @@ pub mod Given
 pub mod Again
 pub mod ReadAgain
 pub mod Examples
-pub mod BareNodes
-pub mod Bare
+pub mod ChangedNodes
+pub mod Changed
 pub mod Ranges
 pub mod DatumSpelled
 pub mod DatumWritten
@@ -44,6 +46,7 @@ pub mod DatumContents
 pub mod DatumNormal
 pub mod DateRange
 pub mod ParsedSizes
+pub mod ZeroFree
 pub mod TreesRead
 pub mod BodyTexts
 pub mod Represented
@@ -51,9 +54,15 @@ pub mod OpenedTrees
 pub mod RepresentedMended
 pub mod Unmarked
 pub mod GivenTrees
+pub mod JudgedTexts
+pub mod GivenRaw
+pub mod RawAgain
+pub mod ZeroFreeMended
 pub mod GivenExtended
 pub mod GivenAt
 pub mod TreesAgain
-pub mod BareTrees
+pub mod ChangedTrees
 pub mod MendedTexts
 pub mod Mended
+pub mod MarkedNodes
+pub mod MarkedReads

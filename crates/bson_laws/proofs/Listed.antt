@@ -39,7 +39,7 @@ mutual
 scope_made : {S : Type 0} (f : Value → S) (o : Option (Utf8 × Value)) (q : Option (Utf8 × S)) (c : Utf8) (v : Value) → Both (SameScope (IsMade f)) o q → o ≡ Some (c, v) → q ≡ Some (c, f v)
 scope_made f (Some p) (Some q) c v h e =
     let same : p ≡ (c, v) = pair_is p (c, v) e in
-    λ i. Some ((sym h.0 ∙ ap (λ x. x.0) same) i, (h.1.1.1 ∙ ap f (sym h.1.1.0 ∙ ap (λ x. x.1) same)) i)
+    λ i. Some ((sym h.0 ∙ ap (λ x. x.0) same) i, (h.1.2.1 ∙ ap f (sym h.1.2.0 ∙ ap (λ x. x.1) same)) i)
   where
     pair_is : (x y : Utf8 × Value) → Some x ≡ Some y → x ≡ y
     pair_is x y e = cc

@@ -1,6 +1,6 @@
 -- A clean tree is in range, and the format has bytes for it.
 use Rattle.bson_base.specs.Sound.{IsClean, ArePairsClean, AreTreesClean}
-use Rattle.bson_base.specs.Tree.{Tree, document, array, binary, regular_expression, javascript_code_with_scope, Pairs, no_pairs, pair, Trees, no_trees, tree}
+use Rattle.bson_base.specs.Tree.{Tree, document, array, binary, regular_expression, javascript_code_with_scope, raw, Pairs, no_pairs, pair, Trees, no_trees, tree}
 use Rattle.bson_laws.specs.Encodable.{IsEncodable, ArePairsEncodable, AreTreesEncodable}
 use Rattle.bson_laws.specs.InRange.{IsInRange, ArePairsInRange, AreTreesInRange}
 
@@ -28,6 +28,7 @@ mutual
   clean_encodable (binary subtype b) c = c.fits
   clean_encodable (regular_expression p q) c = (c.0.no_zero, c.1.no_zero)
   clean_encodable (javascript_code_with_scope code scope) c = pairs_encodable scope c.1
+  clean_encodable (raw k b) c = absurd c
   clean_encodable t c = tt
 
   pairs_encodable : (ps : Pairs) → ArePairsClean ps → ArePairsEncodable ps

@@ -3,22 +3,23 @@ use Rattle.std.proofs.Common.{◌≡◌, ◌^◌, ◌<◌, ◌≤◌, length, fa
 use Rattle.bson_base.specs.Outcome.{result_map}
 use Rattle.bson_base.specs.Sound.{max_levels, max_bytes}
 use Rattle.bson_base.specs.Text.{Bytes, AreBytes}
-use Rattle.bson_base.specs.Tree.{Tree, document, kind, enc}
+use Rattle.bson_base.specs.Tree.{Tree, document, raw, kind, enc}
 use Rattle.bson_base.specs.declared.element_type.ElementType.{ElementType}
 use Rattle.bson_base.specs.declared.element_type.ElementType.TheVariants.{EmbeddedDocument}
 use Rattle.bson_rawdoc.specs.Node.{from_input, from_memory, node_in, tree_node}
 use Rattle.bson_shape.specs.Form.{Form}
 use Rattle.bson_shape.specs.Makers.{IsShape}
-use Rattle.bson_datum.specs.Cause.{raw}
+use Rattle.bson_datum.specs.Cause as cause
 use Rattle.bson_datum.specs.Marked.{Marked, contents}
 use Rattle.bson_datum.specs.Refusal.{bare, unreadable}
 use Rattle.bson_datum.specs.Value.{Value, kind_of}
+use Rattle.bson_laws.specs.RawFree.{IsRawFree}
 use Rattle.bson_laws.specs.Reads.{reads, answered, reads_document}
 use Rattle.bson_laws.specs.Settled.{settled, IsSettled}
 use Rattle.bson_laws.specs.Spell.{Writing, at_top, spell, spell_document, size}
 use Rattle.bson_laws.proofs.Again.{again}
-use Rattle.bson_laws.proofs.Bare.{tree_bare}
-use Rattle.bson_laws.proofs.BareTrees.{reads_bare}
+use Rattle.bson_laws.proofs.ChangedNodes.{tree_bare}
+use Rattle.bson_laws.proofs.ChangedTrees.{reads_bare}
 use Rattle.bson_laws.proofs.Codec.{seen_again}
 use Rattle.bson_laws.proofs.Coded.{IsCoded}
 use Rattle.bson_laws.proofs.Documents.{node_read}
@@ -38,8 +39,11 @@ document_size d t e = sym (length-spell false d max_levels t (top_ok (kind_of d)
 -- a document is read from its bytes as from itself
 coded_read : (s : Form) (t : Tree) (m : Marked) → IsCoded t → kind t ≡ EmbeddedDocument → length (enc t) < 2 ^ 31 → reads (settled false s) (tree_node from_input t max_levels) ≡ Ok m → reads_document s (enc t) ≡ Ok (contents m)
 coded_read s (document ps) m c k small e =
-    ap (λ r. result_map contents (elim r [ Ok b ↦ answered (reads (settled false s) (node_in max_levels EmbeddedDocument b)) | Err f ↦ Err (bare (unreadable (raw f))) ])) (envelope_again ps small)
+    ap (λ r. result_map contents (elim r [ Ok b ↦ answered (reads (settled false s) (node_in max_levels EmbeddedDocument b)) | Err f ↦ Err (bare (unreadable (cause.raw f))) ])) (envelope_again ps small)
     ∙ ap (λ n. result_map contents (answered (reads (settled false s) n))) (seen_again max_levels (document ps) c small)
+    ∙ ap (λ q. result_map contents (answered q)) e
+coded_read s (raw EmbeddedDocument b) m c k small e =
+    ap (λ r. result_map contents (elim r [ Ok b ↦ answered (reads (settled false s) (node_in max_levels EmbeddedDocument b)) | Err f ↦ Err (bare (unreadable (cause.raw f))) ])) c
     ∙ ap (λ q. result_map contents (answered q)) e
 coded_read s t m c k small e = absurd cc
 
@@ -52,7 +56,7 @@ document_again s bytes d t p due h e q l =
     let top = top_ok (kind_of d) (spell d max_levels) t q in
     let n = node_in max_levels EmbeddedDocument r.0 in
     let given = reads_given from_input s n r.1 r.2 (subst (λ x. reads x n ≡ Ok r.1) same r.3) in
-    let k = again from_input (contents r.1) s max_levels t p due given (ap (λ v. spell v max_levels) r.4 ∙ top.1) in
+    let k = again from_input (contents r.1) s max_levels t p due given (omega (arith, l)) (ap (λ v. spell v max_levels) r.4 ∙ top.1) in
     let is : kind t ≡ EmbeddedDocument = spell_kind false d max_levels t top.1 ∙ top.0 in (
       contents k.0,
       coded_read s t k.0 k.3 is (omega (arith, l)) (ap (λ x. reads x (tree_node from_input t max_levels)) same ∙ k.1),
@@ -60,7 +64,7 @@ document_again s bytes d t p due h e q l =
     )
 
 -- what is read of a finished tree, of which nothing is in the input, is read from its bytes
-pub tree_read : (s : Form) (t : Tree) (m : Marked) → IsCoded t → kind t ≡ EmbeddedDocument → length (enc t) < 2 ^ 31 → reads (settled false s) (tree_node from_memory t max_levels) ≡ Ok m → reads_document s (enc t) ≡ Ok (contents m)
-tree_read s t m c k small e =
-    let h = reads_bare (settled false s) (tree_node from_input t max_levels) m (ap (reads (settled false s)) (tree_bare from_input t max_levels) ∙ e) in
+pub tree_read : (s : Form) (t : Tree) (m : Marked) → IsRawFree t → IsCoded t → kind t ≡ EmbeddedDocument → length (enc t) < 2 ^ 31 → reads (settled false s) (tree_node from_memory t max_levels) ≡ Ok m → reads_document s (enc t) ≡ Ok (contents m)
+tree_read s t m free c k small e =
+    let h = reads_bare (settled false s) (tree_node from_input t max_levels) m (ap (reads (settled false s)) (tree_bare from_input t max_levels free) ∙ e) in
     coded_read s t h.0 c k small h.1 ∙ ap Ok h.2

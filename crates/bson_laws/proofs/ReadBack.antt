@@ -1,8 +1,7 @@
 -- What a sound tree is at a shape is read from it, and so from its bytes.
 use Rattle.std.proofs.Common.{◌≡◌, ℕ, zero, suc, ◌+◌, ◌-◌, ◌^◌, ◌<◌, ◌≤◌, [], ◌∷◌, ◌++◌, length, Bool, true, false, cond, Option, Some, None, Ok, Err, refl, ap, sym, subst, ◌∙◌, arith, pos, ℤ}
-use Rattle.std.specs.Prelude.{option_map, option_and_then, nat_lt, not, ◌||◌}
+use Rattle.std.specs.Prelude.{option_map, option_and_then, ◌||◌}
 use Rattle.std.specs.Str.{bytes_eq, chars}
-use Rattle.std.proofs.lemmas.Bool.{le-ltb}
 use Rattle.bson_base.specs.Pairs.{lookup}
 use Rattle.bson_base.specs.Text.{Bytes, Utf8}
 use Rattle.bson_base.specs.Outcome.{◌>>=◌, result_map}
@@ -11,17 +10,13 @@ use Rattle.bson_base.specs.Tree.{Tree, double, string, boolean, binary, null, in
 use Rattle.bson_base.specs.declared.element_type.ElementType.TheVariants.{EmbeddedDocument}
 use Rattle.bson_base.proofs.Lengths.{length-document}
 use Rattle.bson_base.proofs.Outcomes.{some_is, some_map, some_then}
-use Rattle.bson_rawdoc.specs.declared.raw.Error.TheVariants.{TooShort, LengthDiffers, NoTerminator}
-use Rattle.bson_rawdoc.specs.Envelope.{is_closed, envelope}
+use Rattle.bson_rawdoc.specs.Envelope.{envelope}
 use Rattle.bson_rawdoc.specs.Node as node
 use Rattle.bson_rawdoc.specs.Node.{Sight, from_input, piece, Nodes, node_in, tree_node, pair_nodes, tree_nodes}
-use Rattle.bson_rawdoc.specs.Numbers.{int32_in}
 use Rattle.bson_rawdoc.specs.Piece.{made}
-use Rattle.std.specs.Ordering.{int_eq}
-use Rattle.std.proofs.lemmas.Bool.Decides.{Decides-int_eq}
 use Rattle.bson_shape.specs.Form.{Form, leaf, optional, lossy, human_readable, by_mode, sequence, newtype, unit_structure, map, tuple, tuple_structure, structure, enumeration, Fields, no_fields, field, Parts, no_parts, part, Content, unit_content, newtype_content, tuple_content, struct_content, Variants, no_variants, variant}
 use Rattle.bson_shape.specs.Makers.{has_field, repeats, IsShape, AreShapes, AreParts, AreVariants, IsContent}
-use Rattle.bson_laws.specs.Leaves.{LeafKind, anything, ignored, booleans, numbers, doubles, characters, texts, byte_strings, byte_buffers, units, extended_values, leaf_kind}
+use Rattle.bson_laws.specs.Leaves.{LeafKind, anything, ignored, booleans, numbers, doubles, characters, texts, byte_strings, byte_buffers, units, extended_values, raw_documents, raw_arrays, raw_values, leaf_kind}
 use Rattle.bson_datum.specs.Value as value
 use Rattle.bson_datum.specs.Value.{IntegerType, in_range, Value, Items, no_items, item, no_entries, FieldValues, no_field_values, field_value}
 use Rattle.bson_datum.specs.Marked.{Marked, MarkedItems, MarkedFields, contents, item_contents, field_contents}
@@ -41,7 +36,8 @@ use Rattle.bson_laws.proofs.TreesRead.{extended_again}
 use Rattle.bson_laws.proofs.Fitted.{Unnamed, unlike_swap}
 use Rattle.bson_laws.proofs.Numbers.{length_again}
 use Rattle.bson_laws.proofs.Closed.{closed_again}
-use Rattle.bson_laws.proofs.Coded.{clean_coded}
+use Rattle.bson_laws.proofs.Coded.{IsCoded, clean_coded}
+use Rattle.bson_laws.proofs.Framed.{framed}
 use Rattle.bson_laws.proofs.Codec.{seen_again}
 use Rattle.bson_laws.proofs.Filled.{Distinct, ArePassed, seen_of, seen_at, seen_fields, fields_seen}
 use Rattle.bson_laws.proofs.Ignored.{ignores_again}
@@ -100,6 +96,9 @@ leaf_read at l byte_buffers t v levels lent c d e = absurd cc
 leaf_read at l units null v levels lent c d e = (value.unit, refl, some_is value.unit v e)
 leaf_read at l units t v levels lent c d e = absurd cc
 leaf_read at l (extended_values k) t v levels lent c d e = extended_again at k t v levels c d e
+leaf_read at l raw_documents t v levels lent c d e = absurd cc
+leaf_read at l raw_arrays t v levels lent c d e = absurd cc
+leaf_read at l raw_values t v levels lent c d e = absurd cc
 
 -- ---- the keys of maps
 
@@ -126,12 +125,12 @@ key_again at s lent key v e = absurd cc
 null_viewed : (s : Form) (t : Tree) (v : Value) → t ≡ null → views (optional s) t ≡ Some v → value.none ≡ v
 null_viewed s t v is e = some_is value.none v (ap (views (optional s)) (sym is) ∙ e)
 
-option_again : (at : Sight) (s : Form) (t : Tree) (v : Value) (levels : ℕ) (r : Reading Marked) → ((w : Value) → views s t ≡ Some w → ReadAs contents r w) → views (optional s) t ≡ Some v → ReadAs contents (reads_option (tree_node at t levels) r) v
-option_again at s null v levels r inner e = (value.none, refl, some_is value.none v e)
-option_again at s t v levels r inner e =
+option_again : (at : Sight) (s : Form) (t : Tree) (v : Value) (levels : ℕ) (r : Reading Marked) → IsCoded t → ((w : Value) → views s t ≡ Some w → ReadAs contents r w) → views (optional s) t ≡ Some v → ReadAs contents (reads_option (tree_node at t levels) r) v
+option_again at s null v levels r c inner e = (value.none, refl, some_is value.none v e)
+option_again at s t v levels r c inner e =
     let m = some_map value.some (views s t) v e in
     let h = inner m.0 m.1 in
-    by_null (λ q. ReadAs contents q v) at t levels r (λ is. (value.none, refl, null_viewed s t v is e)) (value.some h.0, ap (result_map value.some) h.1, ap value.some h.2 ∙ m.2)
+    by_null (λ q. ReadAs contents q v) at t levels r c (λ is. (value.none, refl, null_viewed s t v is e)) (value.some h.0, ap (result_map value.some) h.1, ap value.some h.2 ∙ m.2)
 
 unit_again : (at : Sight) (name : Utf8) (t : Tree) (v : Value) (levels : ℕ) → views (unit_structure name) t ≡ Some v → ReadAs contents (reads (unit_structure name) (tree_node at t levels)) v
 unit_again at name null v levels e = (value.unit_structure (made name), refl, some_is (value.unit_structure name) v e)
@@ -235,7 +234,7 @@ under_read key r v h = (h.0, ap (under key) h.1, h.2)
 mutual
   pub reads_again : (at : Sight) (s : Form) (t : Tree) (v : Value) (levels : ℕ) → IsShape s → IsLent at s → IsClean t → depth t ≤ levels → views s t ≡ Some v → ReadAs contents (reads s (tree_node at t levels)) v
   reads_again at (leaf w) t v levels p lent c d e = let h = leaf_read at (borrows w) (leaf_kind w) t v levels lent c d e in (h.0, ap (λ r. r >>= read_leaf (borrows w) (leaf_kind w)) (judged_again at t levels c d) ∙ h.1, h.2)
-  reads_again at (optional s) t v levels p lent c d e = option_again at s t v levels (reads s (tree_node at t levels)) (λ w h. reads_again at s t w levels p.1 lent c d h) e
+  reads_again at (optional s) t v levels p lent c d e = option_again at s t v levels (reads s (tree_node at t levels)) (clean_coded t c) (λ w h. reads_again at s t w levels p.1 lent c d h) e
   reads_again at (lossy s) t v levels p lent c d e =
       let h = reads_again (marked at) s t v levels p.1 lent c d e in (h.0, ap (reads s) (tree_mended at t levels (clean_coded t c)) ∙ h.1, h.2)
   reads_again at (human_readable s) t v levels p lent c d e = absurd cc
@@ -304,17 +303,11 @@ mutual
       under_read n _ v (fields_again at (value.structure_variant n) (value.structure_variant (made n)) fs qs v levels (λ x. refl) p.0 (λ ps vs c' d' h. sees_fields_again at fs ps vs (levels - 1) p.1 lent c' d' h) c d e)
   reads_content_again at (struct_content fs) n t v levels p lent c d e = absurd cc
 
-passed : (a b c : Bool) (x : Bytes) → a ≡ false → b ≡ true → c ≡ true → cond a (Err TooShort) (cond (not b) (Err LengthDiffers) (cond (not c) (Err NoTerminator) (Ok x))) ≡ Ok x
-passed true b c x p q r = absurd cc
-passed false false c x p q r = absurd cc
-passed false true false x p q r = absurd cc
-passed false true true x p q r = refl
-
 pub envelope_again : (ps : Pairs) → length (enc (document ps)) < 2 ^ 31 → envelope (enc (document ps)) ≡ Ok (enc (document ps))
 envelope_again ps l =
-    let bytes = enc (document ps) in
-    passed (nat_lt (length bytes) 5) (int_eq (int32_in bytes) (pos (length bytes))) (is_closed bytes) bytes
-    (le-ltb _ _ (omega (arith, length-document ps))) ((Decides-int_eq _ _).1 (length_again (length (elements ps) + 5) (elements ps ++ 0 ∷ []) (omega (arith, l, length-document ps)) ∙ ap pos (sym (length-document ps)))) (closed_again (length (elements ps) + 5) (elements ps))
+    framed (enc (document ps))
+    (record { least = omega (arith, length-document ps); told = length_again (length (elements ps) + 5) (elements ps ++ 0 ∷ []) (omega (arith, l, length-document ps)) ∙ ap pos (sym (length-document ps)) })
+    (closed_again (length (elements ps) + 5) (elements ps))
 
 -- what a sound tree is at a shape is read from its bytes
 pub views_reads : (s : Form) (t : Tree) (v : Value) → IsShape s → IsPlain s → IsSound t → views s t ≡ Some v → reads_document s (enc t) ≡ Ok v

@@ -10,10 +10,10 @@ use Rattle.bson_base.specs.Sorted.{sorted}
 use Rattle.bson_base.specs.Sound.{HasBytes, IsClean}
 use Rattle.bson_base.specs.Text.{Bytes, Utf8, AreBytes}
 use Rattle.bson_base.specs.Tree as tree
-use Rattle.bson_base.specs.Tree.{Tree, depth}
+use Rattle.bson_base.specs.Tree.{Tree, enc, depth}
 use Rattle.bson_base.specs.declared.element_type.ElementType.TheVariants.{EmbeddedDocument}
 use Rattle.bson_base.proofs.WrittenTexts.{digits_read, integer_read, base64_read}
-use Rattle.bson_rawdoc.specs.Node.{Sight, Node, string, document, int64, extended, Extended, binary, undefined, object_id, date_time, regular_expression, db_pointer, javascript_code, symbol, javascript_code_with_scope, timestamp, decimal128, max_key, min_key, Nodes, ended, one, made_text, or_else, text_fault, fault, opened, opens, piece, one_level, tree_node, pair_nodes}
+use Rattle.bson_rawdoc.specs.Node.{Sight, Node, string, made_document, int64, extended, Extended, binary, undefined, object_id, date_time, regular_expression, db_pointer, javascript_code, symbol, javascript_code_with_scope, timestamp, decimal128, max_key, min_key, Nodes, ended, one, made_text, or_else, text_fault, fault, opened, opens, piece, slice_if, one_level, tree_node, pair_nodes}
 use Rattle.bson_rawdoc.specs.Piece.{Piece, made}
 use Rattle.bson_rawdoc.specs.declared.raw.Error.{Error}
 use Rattle.bson_shape.specs.Form.{leaf}
@@ -48,7 +48,7 @@ as_body key w r = under key (r >>= or_bad w)
 
 -- ---- values whose parts are all made
 
-oid_represented : (id : Piece) → HasBytes 12 id.bytes → read_tree (document (opened (object_id id))) ≡ Ok (tree.object_id id.bytes)
+oid_represented : (id : Piece) → HasBytes 12 id.bytes → read_tree (made_document (opened (object_id id))) ≡ Ok (tree.object_id id.bytes)
 unfolding of_key
 oid_represented id h =
     let text = digits id.bytes in
@@ -56,7 +56,7 @@ oid_represented id h =
     ap (λ r. as_body (codes "$oid") wrappers.Oid (r >>= oid_body)) (made_judged text utf8)
     ∙ ap (λ o. as_body (codes "$oid") wrappers.Oid (Ok (option_map tree.object_id o))) (digits_read 12 id.bytes h.count h.are_bytes)
 
-date_represented : (n : ℤ) → FitsSigned w64 n → read_tree (document (opened (date_time n))) ≡ Ok (tree.date_time n)
+date_represented : (n : ℤ) → FitsSigned w64 n → read_tree (made_document (opened (date_time n))) ≡ Ok (tree.date_time n)
 unfolding of_key
 date_represented n h =
     ap (λ r. as_body (codes "$date") wrappers.Date (result_map (λ v. a_field (a_text (λ t. option_map tree.date_time (integer_of_text t))) (contents v)) r))
@@ -66,7 +66,7 @@ date_represented n h =
 one_made : (n : ℕ) → n < 256 → AreBytes (n ∷ [])
 one_made n h = All-cons (λ b. b < 256) n [] h (All-nil (λ b. b < 256))
 
-binary_represented : (subtype : ℕ) (b : Piece) → subtype < 256 → AreBytes b.bytes → read_tree (document (opened (binary subtype b))) ≡ Ok (tree.binary subtype b.bytes)
+binary_represented : (subtype : ℕ) (b : Piece) → subtype < 256 → AreBytes b.bytes → read_tree (made_document (opened (binary subtype b))) ≡ Ok (tree.binary subtype b.bytes)
 unfolding of_key
 binary_represented subtype b small bytes =
     let first = base64_text b.bytes in
@@ -77,14 +77,14 @@ binary_represented subtype b small bytes =
     ∙ ap (λ o. as_body (codes "$binary") wrappers.Binary (Ok (option_and_then (λ x. option_map (λ n. tree.binary n x) (option_and_then one_byte (bytes_of_digits 1 second))) o))) (base64_read b.bytes bytes)
     ∙ ap (λ o. as_body (codes "$binary") wrappers.Binary (Ok (option_map (λ n. tree.binary n b.bytes) (option_and_then one_byte o)))) (digits_read 1 (subtype ∷ []) refl (one_made subtype small))
 
-timestamp_represented : (time increment : ℕ) → time < 2 ^ 32 → increment < 2 ^ 32 → read_tree (document (opened (timestamp time increment))) ≡ Ok (tree.timestamp time increment)
+timestamp_represented : (time increment : ℕ) → time < 2 ^ 32 → increment < 2 ^ 32 → read_tree (made_document (opened (timestamp time increment))) ≡ Ok (tree.timestamp time increment)
 unfolding of_key
 timestamp_represented time increment h k =
     ap (λ r. as_body (codes "$timestamp") wrappers.Timestamp (result_map (λ v. two_numbers (λ t i. Some (tree.timestamp (unsigned_abs t) (unsigned_abs i))) (contents v)) r))
     (fields_read (codes "t") (leaf U32) (codes "i") (leaf U32) (int64 (pos time)) (int64 (pos increment)) refl refl refl (Ok (value.integer u32 (pos time))) (Ok (value.integer u32 (pos increment)))
     (unsigned_read time h) (unsigned_read increment k))
 
-decimal_represented : (b : Bytes) → length b ≡ 16 → read_tree (document (opened (decimal128 b))) ≡ Ok (tree.decimal128 b)
+decimal_represented : (b : Bytes) → length b ≡ 16 → read_tree (made_document (opened (decimal128 b))) ≡ Ok (tree.decimal128 b)
 unfolding of_key
 decimal_represented b h = ap (λ n. as_body (codes "$numberDecimalBytes") wrappers.NumberDecimalBytes (Ok (cond (nat_eq n 16) (Some (tree.decimal128 b)) None))) h
 
@@ -97,7 +97,7 @@ text_read p o = faultless o (string p) >>= text_of false
 abbrev text_value : Piece → Option Error → Reading Marked
 text_value p o = faultless o (string p) >>= read_leaf_with no_extended false texts
 
-code_represented : (p : Piece) → given (read_tree (document (opened (javascript_code p)))) ≡ given (read_tree (opens (javascript_code p)))
+code_represented : (p : Piece) → given (read_tree (made_document (opened (javascript_code p)))) ≡ given (read_tree (opens (javascript_code p)))
 unfolding of_key
 code_represented p = by_fault (text_fault p)
   where
@@ -105,7 +105,7 @@ code_represented p = by_fault (text_fault p)
     by_fault None = refl
     by_fault (Some e) = refl
 
-symbol_represented : (p : Piece) → given (read_tree (document (opened (symbol p)))) ≡ given (read_tree (opens (symbol p)))
+symbol_represented : (p : Piece) → given (read_tree (made_document (opened (symbol p)))) ≡ given (read_tree (opens (symbol p)))
 unfolding of_key
 symbol_represented p = by_fault (text_fault p)
   where
@@ -113,7 +113,7 @@ symbol_represented p = by_fault (text_fault p)
     by_fault None = refl
     by_fault (Some e) = refl
 
-expression_represented : (p q : Piece) → given (read_tree (document (opened (regular_expression p q)))) ≡ given (read_tree (opens (regular_expression p q)))
+expression_represented : (p q : Piece) → given (read_tree (made_document (opened (regular_expression p q)))) ≡ given (read_tree (opens (regular_expression p q)))
 unfolding of_key
 expression_represented p q =
     ap (λ r. given (as_body (codes "$regularExpression") wrappers.RegularExpression (result_map (λ v. two_texts (λ x o. Some (tree.regular_expression x (sorted o))) (contents v)) r)))
@@ -130,11 +130,11 @@ expression_represented p q =
 abbrev pointer_of : Value → Option Tree
 pointer_of = two_fields (λ v w. a_text (λ t. a_field (a_text (λ id. option_map (tree.db_pointer t) (bytes_of_digits 12 id))) w) v)
 
-pointer_represented : (p : Piece) (id : Bytes) → HasBytes 12 id → given (read_tree (document (opened (db_pointer p id)))) ≡ given (read_tree (opens (db_pointer p id)))
+pointer_represented : (p : Piece) (id : Bytes) → HasBytes 12 id → given (read_tree (made_document (opened (db_pointer p id)))) ≡ given (read_tree (opens (db_pointer p id)))
 unfolding of_key
 pointer_represented p id h =
     ap (λ r. given (as_body (codes "$dbPointer") wrappers.DbPointer (result_map (λ v. pointer_of (contents v)) r)))
-    (fields_read (codes "$ref") text (codes "$id") (with_field (codes "$oid") text) (string p) (document (one (codes "$oid") (made_text (digits id)))) refl refl refl
+    (fields_read (codes "$ref") text (codes "$id") (with_field (codes "$oid") text) (string p) (made_document (one (codes "$oid") (made_text (digits id)))) refl refl refl
     (text_value p (text_fault p)) (Ok (struct_of_one (codes "$oid") (value.str (made (digits id))))) refl
     (field_read (codes "$oid") text (made_text (digits id)) (value.str (made (digits id))) refl (made_read (digits id) (digits_are_text id))))
     ∙ by_fault (text_fault p)
@@ -146,7 +146,7 @@ pointer_represented p id h =
     by_fault (Some e) = refl
 
 -- a code, by its fault and that of its scope
-scope_represented : (p : Piece) (scope : Node) → given (read_tree (document (opened (javascript_code_with_scope p scope)))) ≡ given (read_tree (opens (javascript_code_with_scope p scope)))
+scope_represented : (p : Piece) (scope : Node) → given (read_tree (made_document (opened (javascript_code_with_scope p scope)))) ≡ given (read_tree (opens (javascript_code_with_scope p scope)))
 unfolding of_key
 scope_represented p scope = by_fault (text_fault p)
   where
@@ -163,15 +163,15 @@ scope_represented p scope = by_fault (text_fault p)
 
 -- ---- all values
 
-undefined_represented : read_tree (document (opened undefined)) ≡ Ok tree.undefined
+undefined_represented : read_tree (made_document (opened undefined)) ≡ Ok tree.undefined
 unfolding of_key
 undefined_represented = refl
 
-max_represented : read_tree (document (opened max_key)) ≡ Ok tree.max_key
+max_represented : read_tree (made_document (opened max_key)) ≡ Ok tree.max_key
 unfolding of_key
 max_represented = refl
 
-min_represented : read_tree (document (opened min_key)) ≡ Ok tree.min_key
+min_represented : read_tree (made_document (opened min_key)) ≡ Ok tree.min_key
 unfolding of_key
 min_represented = refl
 
@@ -214,14 +214,15 @@ clean_ranges at (tree.db_pointer namespace id) levels x c e = same_ranges (db_po
 clean_ranges at (tree.javascript_code t) levels x c e = same_ranges (javascript_code (piece at.texts t)) x e tt
 clean_ranges at (tree.symbol t) levels x c e = same_ranges (symbol (piece at.texts t)) x e tt
 clean_ranges at (tree.javascript_code_with_scope code scope) levels x c e =
-    same_ranges (javascript_code_with_scope (piece at.texts code) (one_level EmbeddedDocument (pair_nodes at scope) levels)) x e tt
+    same_ranges (javascript_code_with_scope (piece at.texts code) (one_level EmbeddedDocument (slice_if at.bytes (enc (tree.document scope))) (pair_nodes at scope) levels)) x e tt
 clean_ranges at (tree.timestamp time increment) levels x c e = same_ranges (timestamp time increment) x e c
 clean_ranges at (tree.decimal128 b) levels x c e = same_ranges (decimal128 b) x e c.count
 clean_ranges at tree.max_key levels x c e = same_ranges max_key x e tt
 clean_ranges at tree.min_key levels x c e = same_ranges min_key x e tt
+clean_ranges at (tree.raw k b) levels x c e = absurd c
 clean_ranges at t levels x c e = absurd cc
 
-pub clean_represented : (at : Sight) (t : Tree) (levels : ℕ) (x : Extended) → IsClean t → depth t ≤ levels → tree_node at t levels ≡ opens x → read_tree (document (opened x)) ≡ Ok (sorted_tree t)
+pub clean_represented : (at : Sight) (t : Tree) (levels : ℕ) (x : Extended) → IsClean t → depth t ≤ levels → tree_node at t levels ≡ opens x → read_tree (made_document (opened x)) ≡ Ok (sorted_tree t)
 clean_represented at t levels x c d e =
     let read : read_tree (opens x) ≡ Ok (sorted_tree t) = ap read_tree (sym e) ∙ read_again at t levels (clean_readable t c) d in
-    ok_there (read_tree (document (opened x))) (sorted_tree t) (represents_itself x (clean_ranges at t levels x c e) ∙ ap given read)
+    ok_there (read_tree (made_document (opened x))) (sorted_tree t) (represents_itself x (clean_ranges at t levels x c e) ∙ ap given read)

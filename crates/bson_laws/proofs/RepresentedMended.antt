@@ -5,27 +5,27 @@ use Rattle.std.specs.Result.{result_ok}
 use Rattle.bson_base.specs.Made.{digits, number_text, base64_text}
 use Rattle.bson_base.specs.Text.{Bytes}
 use Rattle.bson_base.proofs.MadeTexts.{digits_are_text, base64_is_text, number_is_text}
-use Rattle.bson_rawdoc.specs.Node.{document, string, Extended, binary, object_id, date_time, regular_expression, db_pointer, javascript_code, symbol, javascript_code_with_scope, decimal128, one, two, made_text, mended_text, opened, mended_value, mended_nodes}
+use Rattle.bson_rawdoc.specs.Node.{made_document, string, Extended, binary, object_id, date_time, regular_expression, db_pointer, javascript_code, symbol, javascript_code_with_scope, decimal128, one, two, made_text, mended_text, opened, mended_value, mended_nodes}
 use Rattle.bson_datum.specs.Wrapper.{of_key}
 use Rattle.bson_laws.specs.Represented.{HasRanges, RepresentsItselfMended}
 use Rattle.bson_laws.specs.Trees.{read_tree}
 use Rattle.bson_laws.proofs.MendedTexts.{whole_mended}
 use Rattle.bson_laws.proofs.Represented.{represents_itself}
 
-decimal_mended : (b : Bytes) → read_tree (document (mended_nodes (opened (decimal128 b)))) ≡ read_tree (document (opened (decimal128 b)))
+decimal_mended : (b : Bytes) → read_tree (made_document (mended_nodes (opened (decimal128 b)))) ≡ read_tree (made_document (opened (decimal128 b)))
 unfolding of_key
 decimal_mended b = refl
 
 -- The texts that are made are texts, and stay as they are.
-opened_mended : (x : Extended) → HasRanges x → read_tree (document (mended_nodes (opened x))) ≡ read_tree (document (opened (mended_value x)))
+opened_mended : (x : Extended) → HasRanges x → read_tree (made_document (mended_nodes (opened x))) ≡ read_tree (made_document (opened (mended_value x)))
 opened_mended (binary subtype b) h =
     let first = whole_mended (digits (subtype ∷ [])) (digits_are_text (subtype ∷ [])) in
     let second = whole_mended (base64_text b.bytes) (base64_is_text b.bytes) in
-    λ i. read_tree (document (one (codes "$binary") (document (two (codes "subType") (made_text (first i)) (codes "base64") (made_text (second i))))))
-opened_mended (object_id id) h = ap (λ t. read_tree (document (one (codes "$oid") (made_text t)))) (whole_mended (digits id.bytes) (digits_are_text id.bytes))
-opened_mended (date_time n) h = ap (λ t. read_tree (document (one (codes "$date") (document (one (codes "$numberLong") (made_text t)))))) (whole_mended (number_text n) (number_is_text n h))
+    λ i. read_tree (made_document (one (codes "$binary") (made_document (two (codes "subType") (made_text (first i)) (codes "base64") (made_text (second i))))))
+opened_mended (object_id id) h = ap (λ t. read_tree (made_document (one (codes "$oid") (made_text t)))) (whole_mended (digits id.bytes) (digits_are_text id.bytes))
+opened_mended (date_time n) h = ap (λ t. read_tree (made_document (one (codes "$date") (made_document (one (codes "$numberLong") (made_text t)))))) (whole_mended (number_text n) (number_is_text n h))
 opened_mended (db_pointer namespace id) h =
-    ap (λ t. read_tree (document (one (codes "$dbPointer") (document (two (codes "$ref") (string (mended_text namespace)) (codes "$id") (document (one (codes "$oid") (made_text t))))))))
+    ap (λ t. read_tree (made_document (one (codes "$dbPointer") (made_document (two (codes "$ref") (string (mended_text namespace)) (codes "$id") (made_document (one (codes "$oid") (made_text t))))))))
     (whole_mended (digits id) (digits_are_text id))
 opened_mended (decimal128 b) h = decimal_mended b
 opened_mended x h = refl

@@ -1,29 +1,33 @@
 -- What is given at a shape is written, unless it is too large.
 use Rattle.std.proofs.Common.{◌≡◌, ℕ, zero, suc, Bool, true, false, cond, Option, Some, Ok, Err, ap, sym, subst, ◌∙◌}
+use Rattle.std.specs.Prelude.{codes}
 use Rattle.bson_base.specs.Reserved.{reserved_kind}
-use Rattle.bson_base.specs.Text.{Utf8, has_zero}
+use Rattle.bson_base.specs.Text.{Bytes, Utf8, has_zero}
 use Rattle.bson_base.specs.Tree as tree
 use Rattle.bson_base.specs.Tree.{Tree, kind, document, array}
-use Rattle.bson_base.specs.declared.element_type.ElementType.TheVariants.{Int32, Int64}
+use Rattle.bson_base.specs.declared.element_type.ElementType.TheVariants.{EmbeddedDocument, Array, Int32, Int64}
+use Rattle.bson_base.specs.declared.element_type.ElementType.{ElementType}
 use Rattle.bson_rawdoc.specs.Node.{Sight}
 use Rattle.bson_shape.specs.Form.{Form, leaf, optional, lossy, human_readable, by_mode, sequence, newtype, unit_structure, map, tuple, tuple_structure, structure, enumeration, Fields, no_fields, field, Parts, no_parts, part, Content, newtype_content, tuple_content, struct_content, Variants, no_variants, variant}
 use Rattle.bson_shape.specs.Makers.{is_reserved_newtype, IsShape, AreShapes, AreParts, AreVariants, IsContent}
 use Rattle.bson_datum.specs.Value as value
 use Rattle.bson_datum.specs.Value.{IntegerType, i8, i16, i32, i64, u8, u16, u32, u64, in_range, written_as, Value, Items, no_items, item, Entries, no_entries, entry, FieldValues, no_field_values, field_value}
 use Rattle.bson_datum.specs.Refusal.{WriteFault, Refusal, at_key, at_index, here, invalid_cstring, under, under_index}
-use Rattle.bson_laws.specs.Leaves.{LeafKind, anything, ignored, booleans, numbers, doubles, characters, texts, byte_strings, byte_buffers, units, ExtendedLeaf, object_ids, uuids, of_kind, trees, documents, extended_values, leaf_kind}
+use Rattle.bson_laws.specs.Leaves.{LeafKind, anything, ignored, booleans, numbers, doubles, characters, texts, byte_strings, byte_buffers, units, ExtendedLeaf, object_ids, uuids, of_kind, trees, documents, extended_values, raw_documents, raw_arrays, raw_values, leaf_kind}
 use Rattle.bson_laws.specs.Plain.{IsPlainKey}
 use Rattle.bson_laws.specs.Variants.{content_of}
-use Rattle.bson_laws.specs.Spell.{enclosed_at, named, spell_key, spell, spell_items, spell_entries, spell_fields, IsWrittenUnlessLarge}
+use Rattle.bson_laws.specs.Spell.{enclosed_at, in_bytes, named, spell_key, spell, spell_items, spell_entries, spell_fields, IsWrittenUnlessLarge}
+use Rattle.bson_laws.specs.Written.{zero_free, with_scope}
 use Rattle.bson_laws.specs.Writable.{HoldsNoExpression, IsWritableLeaf, HasWritableKeys, FieldsHaveWritableKeys, PartsHaveWritableKeys, VariantsHaveWritableKeys, ContentHasWritableKeys}
 use Rattle.bson_laws.specs.Datum.{datum, itself}
 use Rattle.bson_laws.proofs.DatumNormal.{same_kind}
 use Rattle.bson_laws.proofs.DatumSpelled.{accepted}
+use Rattle.bson_laws.proofs.GivenRaw.{a_document, an_array, a_tree, a_binary, a_code, IsWhole, by_whole, IsGivenRaw}
 use Rattle.bson_laws.proofs.GivenTrees.{IsGivenTree, IsGivenExtended}
 use Rattle.bson_laws.proofs.Given.{IsGivenAny, AreGivenItems, AreGivenEntries, IsGivenLeaf, IsGivenLeafKey, IsGivenKey, IsGiven, ItemsGiven, PartsGiven, EntriesGiven, FieldsGiven, given_leaf, given_lossy}
 use Rattle.bson_laws.proofs.Lent.{marked}
 use Rattle.bson_laws.proofs.Free.{free_spelled, free_struct}
-use Rattle.bson_laws.proofs.Writable.{wide_small, short_small, taken, binary_written, unless_bind, unless_inside, unless_named, Written, number_written, bytes_written, enclosed_written, variant_written}
+use Rattle.bson_laws.proofs.Writable.{wide_small, short_small, taken, binary_written, unless_bind, unless_map, unless_inside, unless_named, Written, number_written, bytes_written, enclosed_written, variant_written}
 use Rattle.std.specs.Str.{bytes_eq}
 use Rattle.bson_base.proofs.Outcomes.{some_is}
 
@@ -105,6 +109,7 @@ scalar_written (tree.int64 n) g h levels = number_written Int64 n (wide_small n 
 scalar_written (tree.decimal128 b) g h levels = taken (tree.decimal128 b) _ (accepted (tree.decimal128 b) g) tt
 scalar_written tree.max_key g h levels = taken tree.max_key _ (accepted tree.max_key tt) tt
 scalar_written tree.min_key g h levels = taken tree.min_key _ (accepted tree.min_key tt) tt
+scalar_written (tree.raw k b) g h levels = absurd g
 scalar_written t g h levels = absurd h
 
 extended_written : (k : ExtendedLeaf) (v : Value) → IsWritableLeaf (extended_values k) → IsGivenExtended k v → Written v
@@ -113,6 +118,25 @@ extended_written uuids v c g = subst Written (sym g.2) (λ levels. binary_writte
 extended_written (of_kind k) v c g = subst Written (sym g.3) (scalar_written g.0 g.2 (subst HoldsNoExpression (sym (same_kind (kind g.0) k g.1)) c))
 extended_written trees v c g = absurd c
 extended_written documents v c g = absurd c
+
+-- a regular expression whose texts hold no zero
+expression_written : (p q : Utf8) → IsWhole (tree.regular_expression p q) → Written (datum itself (tree.regular_expression p q))
+expression_written p q w levels =
+    unless_bind (zero_free p) _ (free_written (has_zero p) (here (invalid_cstring p)) p w.2) (λ x. unless_bind (zero_free q) _ (free_written (has_zero q) (here (invalid_cstring q)) q w.3) (λ y. tt))
+
+-- what stays in its bytes
+bytes_kept : (k : ElementType) (b : Bytes) (levels : ℕ) → IsWrittenUnlessLarge (in_bytes k b levels)
+bytes_kept k b = enclosed_written {A = Bytes} (tree.raw k) (λ n. Ok b) (λ n. tt)
+
+raw_written : (v : Value) → IsGivenRaw v → Written v
+raw_written v (a_document b, f, is) = subst Written (sym is) (bytes_kept EmbeddedDocument b)
+raw_written v (an_array b, f, is) = subst Written (sym is) (bytes_kept Array b)
+raw_written v (a_tree t, f, is) = subst Written (sym is) (by_whole (λ u. Written (datum itself u)) scalar_written expression_written t f)
+raw_written v (a_binary n b, f, is) = subst Written (sym is) (λ levels. binary_written n b)
+raw_written v (a_code code scope, f, is) =
+    subst Written (sym is)
+    (λ levels.
+    unless_map (with_scope code) (under (codes "$scope") (in_bytes EmbeddedDocument scope levels)) (unless_inside (at_key (codes "$scope")) (in_bytes EmbeddedDocument scope levels) (bytes_kept EmbeddedDocument scope levels)))
 
 leaf_written : (k : LeafKind) (v : Value) → IsWritableLeaf k → IsGivenLeaf k v → Written v
 leaf_written anything v c g levels = any_written v g levels
@@ -126,6 +150,9 @@ leaf_written byte_strings (value.bytes bs) c g levels = bytes_written bs
 leaf_written byte_buffers (value.bytes bs) c g levels = bytes_written bs
 leaf_written units value.unit c g levels = tt
 leaf_written (extended_values k) v c g levels = extended_written k v c g levels
+leaf_written raw_documents (value.raw_document b) c g levels = bytes_kept EmbeddedDocument b levels
+leaf_written raw_arrays (value.raw_array b) c g levels = bytes_kept Array b levels
+leaf_written raw_values v c g levels = raw_written v g levels
 leaf_written k v c g levels = absurd g
 
 text_key : (k : Value) → IsGivenLeafKey texts k → IsWrittenUnlessLarge (spell_key k)

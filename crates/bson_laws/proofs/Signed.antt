@@ -10,7 +10,7 @@ use Rattle.bson_base.specs.Sound.{max_binary}
 use Rattle.bson_base.specs.Tree as tree
 use Rattle.bson_base.specs.Tree.{Tree, Trees, no_trees, document, array, no_pairs, pair, binary, regular_expression, int64, Pairs, behind_subtype}
 use Rattle.bson_base.specs.declared.element_type.ElementType.{ElementType}
-use Rattle.bson_base.specs.declared.element_type.ElementType.TheVariants.{JavaScriptCodeWithScope, Int32, EmbeddedDocument}
+use Rattle.bson_base.specs.declared.element_type.ElementType.TheVariants.{JavaScriptCodeWithScope, Int32, EmbeddedDocument, Array}
 use Rattle.bson_rawdoc.specs.Node.{Sight}
 use Rattle.bson_shape.specs.Form.{Form, leaf, optional, lossy, human_readable, by_mode, sequence, newtype, unit_structure, map, tuple, tuple_structure, structure, enumeration, Fields, no_fields, field, Parts, no_parts, part}
 use Rattle.bson_datum.specs.Value as value
@@ -18,7 +18,7 @@ use Rattle.bson_datum.specs.Value.{i32, i64, written_as, greatest, uuid_newtype,
 use Rattle.bson_datum.specs.Cause.{binary_too_long}
 use Rattle.bson_datum.specs.Refusal.{Segment, unwritable, here, inside, under, at_key, at_index, under_index, unsigned_exceeds, invalid_cstring}
 use Rattle.bson_laws.specs.Means.{key_text}
-use Rattle.bson_laws.specs.Leaves.{LeafKind, anything, ignored, booleans, numbers, doubles, characters, texts, byte_strings, byte_buffers, units, ExtendedLeaf, object_ids, uuids, of_kind, trees, documents, extended_values, leaf_kind}
+use Rattle.bson_laws.specs.Leaves.{LeafKind, anything, ignored, booleans, numbers, doubles, characters, texts, byte_strings, byte_buffers, units, ExtendedLeaf, object_ids, uuids, of_kind, trees, documents, extended_values, raw_documents, raw_arrays, raw_values, leaf_kind}
 use Rattle.bson_laws.specs.Datum.{datum, itself, pair_data, tree_data}
 use Rattle.bson_laws.specs.Unwrap.{Part, unwrap, scoped_code}
 use Rattle.bson_laws.specs.UuidBytes.{uuid_bytes}
@@ -26,6 +26,7 @@ use Rattle.bson_laws.specs.Written.{zero_free, with_scope}
 use Rattle.bson_laws.specs.Spell.{Writing, spell_binary, spell_whole, spell_unwrapped, spell_scoped, spell_uuid, struct_at, reserved_at, enclosed_at, variant_at, named, written_key, spell_key, spell_number, spell_as, spell_items_as, spell_entries_as, spell_fields_as, spell_list, spell_part, spell, at_top, HoldsNumbers}
 use Rattle.bson_laws.proofs.Alike.{AreAlike, Both, SameScope, scopes_alike}
 use Rattle.bson_laws.proofs.Given.{IsGivenAny, AreGivenItems, AreGivenEntries, IsGivenLeaf, IsGiven, ItemsGiven, PartsGiven, EntriesGiven, FieldsGiven, given_leaf, given_lossy, given_due}
+use Rattle.bson_laws.proofs.GivenRaw.{a_document, an_array, a_tree, a_binary, a_code, by_whole, IsGivenRaw}
 use Rattle.bson_laws.proofs.GivenTrees.{IsGivenTree, ArePairsGiven, AreTreesGiven, IsGivenExtended}
 use Rattle.bson_laws.proofs.Lent.{marked}
 use Rattle.bson_laws.proofs.Writable.{IsSmall, wide_small, short_small}
@@ -126,7 +127,7 @@ HoldsIn v r s = HoldsNumbers r
 
 scoped_or : (o : Option (Utf8 × Writing Tree)) → Both (SameScope HoldsIn) o o → HoldsNumbers (spell_scoped o)
 scoped_or None h = λ e. e
-scoped_or (Some p) h = mapped (with_scope p.0) (under (codes "$scope") p.1) (placed (at_key (codes "$scope")) p.1 h.1.1)
+scoped_or (Some p) h = mapped (with_scope p.0) (under (codes "$scope") p.1) (placed (at_key (codes "$scope")) p.1 h.1.2)
 
 reserved_or : (k : ElementType) (u : Option Tree) (o : Option (Utf8 × Writing Tree)) → Both (SameScope HoldsIn) o o → HoldsNumbers (reserved_at k u o)
 reserved_or JavaScriptCodeWithScope u o h = scoped_or o h
@@ -169,6 +170,8 @@ mutual
   spelled r (value.tuple_structure name vs) g levels = enclosed array (spell_items_as r 0 vs) (items_spelled r 0 vs g) levels
   spelled r (value.tuple_variant name vs) g levels = in_variant name (λ n. enclosed_at array n (spell_items_as r 0 vs)) (enclosed array (spell_items_as r 0 vs) (items_spelled r 0 vs g)) levels
   spelled r (value.structure_variant name fs) g levels = in_variant name (λ n. enclosed_at document n (spell_fields_as r fs)) (enclosed document (spell_fields_as r fs) (fields_spelled r fs g)) levels
+  spelled r (value.raw_document b) g levels = enclosed (tree.raw EmbeddedDocument) (λ n. Ok b) (λ n. tt) levels
+  spelled r (value.raw_array b) g levels = enclosed (tree.raw Array) (λ n. Ok b) (λ n. tt) levels
   spelled r (value.structure name fs) g levels =
       struct_or (reserved_kind name) fs (spell_fields_as r fs) (scoped_code (spell_list r fs levels []))
       (scopes_alike HoldsIn (spell_list r fs levels []) (spell_list r fs levels []) (list_holds r fs levels g [] tt)) (fields_spelled r fs g) levels
@@ -254,6 +257,7 @@ mutual
   tree_signed (tree.decimal128 b) g = (tt, tt)
   tree_signed tree.max_key g = (refl, tt)
   tree_signed tree.min_key g = (refl, tt)
+  tree_signed (tree.raw k b) g = absurd g
 
   pairs_signed : (ps : Pairs) → ArePairsGiven ps → EntriesSigned (pair_data itself ps)
   pairs_signed no_pairs g = tt
@@ -270,6 +274,13 @@ extended_signed (of_kind k) v g = subst AreSigned (sym g.3) (tree_signed g.0 g.2
 extended_signed trees v g = subst AreSigned (sym g.2) (tree_signed g.0 g.1)
 extended_signed documents v g = subst AreSigned (sym g.2) (tree_signed (tree.document g.0) g.1)
 
+raw_signed : (v : Value) → IsGivenRaw v → AreSigned v
+raw_signed v (a_document b, f, is) = subst AreSigned (sym is) tt
+raw_signed v (an_array b, f, is) = subst AreSigned (sym is) tt
+raw_signed v (a_tree t, f, is) = subst AreSigned (sym is) (by_whole (λ u. AreSigned (datum itself u)) (λ u g h. tree_signed u g) (λ p q w. ((tt, (tt, tt)), tt)) t f)
+raw_signed v (a_binary n b, f, is) = subst AreSigned (sym is) ((tt, (word_small n (omega (arith, f)), tt)), tt)
+raw_signed v (a_code code scope, f, is) = subst AreSigned (sym is) (tt, (tt, tt))
+
 leaf_signed : (k : LeafKind) (v : Value) → IsGivenLeaf k v → AreSigned v
 leaf_signed anything v g = any_signed v g
 leaf_signed ignored value.unit g = tt
@@ -282,6 +293,9 @@ leaf_signed byte_strings (value.bytes bs) g = tt
 leaf_signed byte_buffers (value.bytes bs) g = tt
 leaf_signed units value.unit g = tt
 leaf_signed (extended_values k) v g = extended_signed k v g
+leaf_signed raw_documents (value.raw_document b) g = tt
+leaf_signed raw_arrays (value.raw_array b) g = tt
+leaf_signed raw_values v g = raw_signed v g
 leaf_signed k v g = absurd g
 
 mutual

@@ -9,19 +9,19 @@ use Rattle.bson_base.specs.Outcome.{◌>>=◌, result_map}
 use Rattle.bson_base.specs.Reserved.{reserved_kind}
 use Rattle.bson_base.specs.Sound.{max_levels, IsClean, ArePairsClean, AreTreesClean, IsSound, IsDocument}
 use Rattle.bson_base.specs.Tree as tree
-use Rattle.bson_base.specs.Tree.{Tree, string, binary, null, int32, int64, document, array, javascript_code_with_scope, Pairs, no_pairs, pair, Trees, no_trees, kind, enc, depth, pairs_depth, trees_depth}
+use Rattle.bson_base.specs.Tree.{Tree, string, binary, null, int32, int64, document, array, Pairs, no_pairs, pair, Trees, no_trees, kind, enc, depth, pairs_depth, trees_depth}
 use Rattle.bson_base.specs.declared.element_type.ElementType.{ElementType}
-use Rattle.bson_base.specs.declared.element_type.ElementType.TheVariants.{EmbeddedDocument, JavaScriptCodeWithScope, Int32}
+use Rattle.bson_base.specs.declared.element_type.ElementType.TheVariants.{EmbeddedDocument, Array, JavaScriptCodeWithScope, Int32}
 use Rattle.bson_base.proofs.Outcomes.{some_map, some_then}
 use Rattle.bson_shape.specs.Makers.{is_reserved_newtype}
-use Rattle.bson_datum.specs.Value.{written_as, Value, boolean, integer, double, character, str, bytes, none, some, unit, unit_structure, newtype, sequence, map, structure, unit_variant, newtype_variant, tuple, tuple_structure, tuple_variant, structure_variant, mode, Items, no_items, item, Entries, no_entries, entry, FieldValues, no_field_values, field_value, uuid_newtype, readable_inside}
+use Rattle.bson_datum.specs.Value.{written_as, Value, boolean, integer, double, character, str, bytes, none, some, unit, unit_structure, newtype, sequence, map, structure, unit_variant, newtype_variant, tuple, tuple_structure, tuple_variant, structure_variant, raw_document, raw_array, mode, Items, no_items, item, Entries, no_entries, entry, FieldValues, no_field_values, field_value, uuid_newtype, readable_inside}
 use Rattle.bson_datum.specs.Refusal.{WriteFault, Refusal, here, invalid_cstring, under, under_index}
 use Rattle.bson_laws.specs.Unwrap.{Part, unwrap, scoped_code}
 use Rattle.bson_laws.specs.UuidBytes.{uuid_bytes}
 use Rattle.bson_laws.specs.Written.{with_scope}
 use Rattle.bson_laws.specs.Means.{under_name, key_text, scoped_means, reserved_means, struct_means, means_entries, number_of, means, means_items, means_fields, means_list, means_part}
 use Rattle.bson_laws.specs.Spell.{named, variant_at, written_key, spell_entries, Writing, spell_number, spell_binary, spell_whole, spell_unwrapped, spell_scoped, spell_uuid, enclosed_at, struct_at, reserved_at, spell_as, spell_list, spell_part, spell, spell_items, spell_fields, at_top, spell_document, size}
-use Rattle.bson_laws.proofs.Alike.{AreAlike, Both, SameScope, scopes_alike}
+use Rattle.bson_laws.proofs.Alike.{AreAlike, Both, IsScope, SameScope, scopes_alike}
 use Rattle.bson_laws.proofs.Free.{free_spelled}
 use Rattle.bson_laws.proofs.Sizes.{spell_kind, length-spell}
 
@@ -98,15 +98,23 @@ ok_of (Err f) t e = absurd cc
 abbrev IsMeant : ℕ → Value → Option Tree → Writing Tree → Type 0
 IsMeant levels v o r = (o ≡ means v) × ((t : Tree) → o ≡ Some t → IsClean t → depth t ≤ levels → r ≡ Ok t)
 
+-- what is clean in code with its scope
+scope_clean : (code : Utf8) (u t : Tree) (levels : ℕ) → IsDocument u → with_scope code u ≡ t → IsClean t → depth t ≤ levels → IsClean u × (depth u ≤ levels)
+scope_clean code (document ps) t levels w is c d = ((subst IsClean (sym is) c).1, subst (λ x. depth x ≤ levels) (sym is) d)
+scope_clean code u t levels w is c d = absurd w
+
+-- the scope of clean code is a document
+scope_document : (code : Utf8) (v : Value) (u t : Tree) → IsScope v → means v ≡ Some u → with_scope code u ≡ t → IsClean t → IsDocument u
+scope_document code (map es) u t h e is c = let w = some_map document (means_entries es) u e in subst IsDocument w.2 tt
+scope_document code (raw_document b) u t h e is c = absurd (subst IsClean (sym (ap (with_scope code) (tree_is (tree.raw EmbeddedDocument b) u e) ∙ is)) c)
+scope_document code v u t h e is c = absurd h
+
 scoped_spelled : (levels : ℕ) (o : Option (Utf8 × Option Tree)) (s : Option (Utf8 × Writing Tree)) (t : Tree) → Both (SameScope (IsMeant levels)) o s → scoped_means o ≡ Some t → IsClean t → depth t ≤ levels → spell_scoped s ≡ Ok t
 scoped_spelled levels (Some p) (Some q) t h e c d =
     let m = some_map (with_scope p.0) p.1 t e in
-    let es = h.1.0 in
-    let w = some_map document (means_entries es) m.0 (sym h.1.1.0 ∙ m.1) in
-    let is : javascript_code_with_scope p.0 w.0 ≡ t = ap (with_scope p.0) w.2 ∙ m.2 in
-    let clean : IsClean m.0 = subst IsClean w.2 (subst IsClean (sym is) c).1 in
-    let deep : depth m.0 ≤ levels = subst (λ x. depth x ≤ levels) w.2 (subst (λ x. depth x ≤ levels) (sym is) d) in
-    ap (λ r. result_map (with_scope q.0) (under (codes "$scope") r)) (h.1.1.1 m.0 m.1 clean deep) ∙ ap Ok (ap (λ x. with_scope x m.0) (sym h.0) ∙ m.2)
+    let w = scope_document p.0 h.1.0 m.0 t h.1.1 (sym h.1.2.0 ∙ m.1) m.2 c in
+    let inner = scope_clean p.0 m.0 t levels w m.2 c d in
+    ap (λ r. result_map (with_scope q.0) (under (codes "$scope") r)) (h.1.2.1 m.0 m.1 inner.0 inner.1) ∙ ap Ok (ap (λ x. with_scope x m.0) (sym h.0) ∙ m.2)
 scoped_spelled levels None s t h e c d = absurd cc
 scoped_spelled levels (Some p) None t h e c d = absurd h
 
@@ -174,6 +182,8 @@ mutual
       subst (λ x. IsClean x → depth x ≤ levels → spell (structure_variant name fs) levels ≡ Ok x) m.2
       (λ c' d'. variant_is name levels (λ inner. enclosed_at document inner (spell_fields fs)) (document m.0) c'.0.free.no_zero (omega arith)
       (λ n le. enclosed document (spell_fields fs) m.0 (pairs_depth m.0) n le (λ k le'. spell_fields_are fs m.0 k m.1 c'.2 le'))) c d
+  spell_is (raw_document b) t levels e c d = absurd (subst IsClean (sym (tree_is (tree.raw EmbeddedDocument b) t e)) c)
+  spell_is (raw_array b) t levels e c d = absurd (subst IsClean (sym (tree_is (tree.raw Array b) t e)) c)
   spell_is (structure name fs) t levels e c d =
       struct_spelled levels (reserved_kind name) fs (scoped_code (means_list fs [])) (scoped_code (spell_list false fs levels [])) t
       (scopes_alike (IsMeant levels) (means_list fs []) (spell_list false fs levels []) (list_meant fs levels [] [] tt)) (λ ps n h c' le. spell_fields_are fs ps n h c' le) e c d

@@ -1,10 +1,10 @@
--- The nodes of which everything that is read can be written: the keys are texts without a zero, numbers have the size of their kinds, and what can be
--- borrowed can be so of a finished tree that is seen in the same way.
-use Rattle.std.proofs.Common.{◌≡◌, ◌<◌, ◌^◌, length, true, Option, Some, None, Ok, ap, sym, subst, ◌∙◌}
+-- The nodes of which everything that is read can be written: the keys are texts without a zero, numbers have the size of their kinds, what stays in its bytes is
+-- framed as a document, and what can be borrowed can be so of a finished tree that is seen in the same way.
+use Rattle.std.proofs.Common.{◌≡◌, ◌<◌, ◌^◌, length, true, false, Option, Some, None, Ok, ap, sym, subst, ◌∙◌}
 use Rattle.std.specs.Int.{w32, w64}
 use Rattle.std.specs.Prelude.{FitsSigned}
 use Rattle.bson_base.specs.Outcome.{◌>>=◌}
-use Rattle.bson_base.specs.Text.{AreBytes}
+use Rattle.bson_base.specs.Text.{Bytes, AreBytes, has_zero}
 use Rattle.bson_base.proofs.Outcomes.{ok_is, bind_ok}
 use Rattle.bson_rawdoc.specs.Piece.{Piece}
 use Rattle.bson_rawdoc.specs.Node.{Sight, Node, string, double, bytes, binary, document, array, int32, int64, extended, too_deep, Extended, object_id, date_time, regular_expression, db_pointer, javascript_code, symbol, javascript_code_with_scope, timestamp, decimal128, Nodes, ended, faulty, then_node, fault}
@@ -12,6 +12,7 @@ use Rattle.bson_rawdoc.specs.declared.raw.Error.{Error}
 use Rattle.bson_laws.specs.Judged.{Reading, with_level, faultless, judged}
 use Rattle.bson_laws.specs.Taken.{owned_under_mark, document_of, array_of}
 use Rattle.bson_laws.proofs.Coded.{IsName}
+use Rattle.bson_laws.proofs.Framed.{IsFramed}
 
 -- what can be borrowed of a text can be borrowed of one that is seen so, as a text and as bytes
 abbrev pub IsTextSeen : Sight → Piece → Type 0
@@ -20,6 +21,11 @@ IsTextSeen at p = p.in_input ≡ true → (at.texts ≡ true) × (at.bytes ≡ t
 abbrev pub AreBytesSeen : Sight → Piece → Type 0
 AreBytesSeen at p = p.in_input ≡ true → at.bytes ≡ true
 
+-- the bytes of a document or an array are framed as such, where it is in the input
+abbrev pub IsSliceFramed : Option Bytes → Type 0
+IsSliceFramed None = Unit {0}
+IsSliceFramed (Some b) = IsFramed b
+
 abbrev mutual
   pub IsTame : Sight → Node → Type 0
   IsTame at (double bits) = length bits ≡ 8
@@ -27,8 +33,8 @@ abbrev mutual
   IsTame at (int32 n) = FitsSigned w32 n
   IsTame at (int64 n) = FitsSigned w64 n
   IsTame at (bytes u b) = AreBytes b.bytes × AreBytesSeen at b × IsTextSeen at (owned_under_mark u b)
-  IsTame at (document ns) = AreTame at ns
-  IsTame at (array ns) = AreTame at ns
+  IsTame at (document slice ns) = IsSliceFramed slice × AreTame at ns
+  IsTame at (array slice ns) = IsSliceFramed slice × AreTame at ns
   IsTame at (extended x ns) = IsTameValue at x × AreTame at ns
   IsTame at n = Unit {0}
 
@@ -37,7 +43,7 @@ abbrev mutual
   IsTameValue at (binary subtype b) = (subtype < 256) × AreBytes b.bytes
   IsTameValue at (object_id id) = (length id.bytes ≡ 12) × AreBytes id.bytes × AreBytesSeen at id
   IsTameValue at (date_time n) = FitsSigned w64 n
-  IsTameValue at (regular_expression pattern options) = IsTextSeen at pattern × IsTextSeen at options
+  IsTameValue at (regular_expression pattern options) = IsTextSeen at pattern × IsTextSeen at options × (has_zero pattern.bytes ≡ false) × (has_zero options.bytes ≡ false)
   IsTameValue at (db_pointer namespace id) = (length id ≡ 12) × AreBytes id × IsTextSeen at namespace
   IsTameValue at (javascript_code code) = IsTextSeen at code
   IsTameValue at (symbol t) = IsTextSeen at t
@@ -75,10 +81,10 @@ judged_then n read x e = let j = bind_ok (judged n) (λ _. read n) x e in ap (λ
 -- ---- documents and arrays
 
 pub document_tame : (at : Sight) (n : Node) (ns : Nodes) → IsTame at n → document_of n ≡ Ok ns → AreTame at ns
-document_tame at (document ms) ns t e = subst (AreTame at) (ok_is ms ns e) t
+document_tame at (document slice ms) ns t e = subst (AreTame at) (ok_is ms ns e) t.1
 document_tame at (extended x ms) ns t e = subst (AreTame at) (ok_is ms ns e) t.1
 document_tame at n ns t e = absurd cc
 
 pub array_tame : (at : Sight) (n : Node) (ns : Nodes) → IsTame at n → array_of n ≡ Ok ns → AreTame at ns
-array_tame at (array ms) ns t e = subst (AreTame at) (ok_is ms ns e) t
+array_tame at (array slice ms) ns t e = subst (AreTame at) (ok_is ms ns e) t.1
 array_tame at n ns t e = absurd cc

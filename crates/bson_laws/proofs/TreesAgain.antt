@@ -75,6 +75,7 @@ mutual
   datum_spelled (tree.decimal128 b) levels u g e = (taken_whole (tree.decimal128 b) u _ (accepted (tree.decimal128 b) g) refl e, omega arith, g)
   datum_spelled tree.max_key levels u g e = (taken_whole tree.max_key u _ (accepted tree.max_key tt) refl e, omega arith, tt)
   datum_spelled tree.min_key levels u g e = (taken_whole tree.min_key u _ (accepted tree.min_key tt) refl e, omega arith, tt)
+  datum_spelled (tree.raw k b) levels u g e = absurd g
 
   pairs_spelled : (ps : Pairs) (n : ℕ) (qs : Pairs) → ArePairsGiven ps → spell_entries (pair_data itself ps) n ≡ Ok qs → (qs ≡ ps) × (pairs_depth ps ≤ n) × ArePairsCoded ps
   pairs_spelled no_pairs n qs g e = (sym (ok_is no_pairs qs e), omega arith, tt)

@@ -28,7 +28,7 @@ use Rattle.bson_laws.specs.ReadsExtended.{tree_of_kind, read_extended}
 use Rattle.bson_laws.specs.Views.{views_extended}
 use Rattle.bson_laws.proofs.DatumContents.{datum_contents, sorted_kind}
 use Rattle.bson_laws.proofs.Fitted.{unlike_swap, bytes_same}
-use Rattle.bson_laws.proofs.Judged.{ReadAs, text_whole, both_whole, scope_whole, level_there}
+use Rattle.bson_laws.proofs.Judged.{ReadAs, text_whole, both_whole, scope_whole, IsNotRaw, level_there}
 
 -- ---- wrapper keys
 
@@ -55,7 +55,7 @@ no_wrapper key e = none_in wrappers key refl e
 -- ---- trees that are read
 
 abbrev mutual
-  -- the texts are UTF-8, no key is a wrapper key, and none occurs twice
+  -- the texts are UTF-8, no key is a wrapper key, and none occurs twice; nothing is given by its bytes
   pub IsReadable : Tree → Type 0
   IsReadable (tree.string t) = is_utf8 t ≡ true
   IsReadable (tree.document ps) = ArePairsReadable ps
@@ -65,6 +65,7 @@ abbrev mutual
   IsReadable (tree.javascript_code t) = is_utf8 t ≡ true
   IsReadable (tree.symbol t) = is_utf8 t ≡ true
   IsReadable (tree.javascript_code_with_scope code scope) = (is_utf8 code ≡ true) × ArePairsReadable scope
+  IsReadable (tree.raw k b) = ⊥
   IsReadable t = Unit {0}
 
   pub ArePairsReadable : Pairs → Type 0
@@ -86,6 +87,7 @@ mutual
   clean_readable (tree.javascript_code t) c = c
   clean_readable (tree.symbol t) c = c
   clean_readable (tree.javascript_code_with_scope code scope) c = (c.0, pairs_readable scope c.1)
+  clean_readable (tree.raw k b) c = absurd c
   clean_readable t c = tt
 
   pairs_readable : (ps : Pairs) → ArePairsClean ps → ArePairsReadable ps
@@ -110,10 +112,15 @@ whole at (tree.db_pointer namespace id) levels c = text_whole at namespace c
 whole at (tree.javascript_code t) levels c = text_whole at t c
 whole at (tree.symbol t) levels c = text_whole at t c
 whole at (tree.javascript_code_with_scope code scope) levels c = both_whole _ _ (text_whole at code c.0) (scope_whole at scope levels)
+whole at (tree.raw k b) levels c = absurd c
 whole at t levels c = refl
 
+readable_not_raw : (t : Tree) → IsReadable t → IsNotRaw t
+readable_not_raw (tree.raw k b) c = absurd c
+readable_not_raw t c = tt
+
 pub judged_readable : (at : Sight) (t : Tree) (levels : ℕ) → IsReadable t → depth t ≤ levels → judged (tree_node at t levels) ≡ Ok (tree_node at t levels)
-judged_readable at t levels c d = ap (λ o. faultless o (tree_node at t levels)) (whole at t levels c) ∙ level_there at t levels d
+judged_readable at t levels c d = ap (λ o. faultless o (tree_node at t levels)) (whole at t levels c) ∙ level_there at t levels (readable_not_raw t c) d
 
 -- ---- pairs
 
@@ -163,6 +170,7 @@ mutual
   tree_again at (tree.javascript_code_with_scope code scope) zero c d = absurd (omega arith)
   tree_again at (tree.javascript_code_with_scope code scope) (suc n) c d =
       ap (λ r. result_map (tree.javascript_code_with_scope code) (under scope_key (r >>= pairs_in))) (pairs_again at scope n no_pairs c.1 (omega arith) (new_first scope))
+  tree_again at (tree.raw k b) levels c d = absurd c
   tree_again at t levels c d = refl
 
   pairs_again : (at : Sight) (ps : Pairs) (n : ℕ) (done : Pairs) → ArePairsReadable ps → pairs_depth ps ≤ n → AreNew ps done

@@ -12,32 +12,34 @@ use Rattle.bson_base.proofs.Outcomes.{some_is, some_then}
 use Rattle.bson_rawdoc.specs.Node as for_nodes
 use Rattle.bson_rawdoc.specs.Node.{Node, Extended, binary, undefined, object_id, date_time, regular_expression, db_pointer, javascript_code, symbol, javascript_code_with_scope, timestamp, decimal128, max_key, min_key, Sight, tree_node, pair_nodes, tree_nodes}
 use Rattle.bson_rawdoc.specs.Piece.{Piece, made}
+use Rattle.bson_laws.specs.RawFree.{IsRawFree, ArePairsRawFree, AreTreesRawFree}
 use Rattle.bson_laws.specs.Unmarked.{with_document, unmarked, unmarked_pairs, unmarked_trees, AreOpenedAlike}
 
 -- ---- trees
 
 mutual
-  pub tree_unmarked : (at : Sight) (t : Tree) (levels : ℕ) → depth t ≤ levels → unmarked (tree_node at t levels) ≡ Some t
-  tree_unmarked at (tree.document ps) zero d = absurd (omega arith)
-  tree_unmarked at (tree.document ps) (suc n) d = ap (option_map tree.document) (pairs_unmarked at ps n (omega arith))
-  tree_unmarked at (tree.array ts) zero d = absurd (omega arith)
-  tree_unmarked at (tree.array ts) (suc n) d = ap (option_map tree.array) (trees_unmarked at ts 0 n (omega arith))
-  tree_unmarked at (tree.binary zero b) levels d = refl
-  tree_unmarked at (tree.binary (suc k) b) levels d = refl
-  tree_unmarked at (tree.javascript_code_with_scope code scope) zero d = absurd (omega arith)
-  tree_unmarked at (tree.javascript_code_with_scope code scope) (suc n) d =
-      ap (λ o. option_and_then (with_document code) (option_map tree.document o)) (pairs_unmarked at scope n (omega arith))
-  tree_unmarked at t levels d = refl
+  pub tree_unmarked : (at : Sight) (t : Tree) (levels : ℕ) → IsRawFree t → depth t ≤ levels → unmarked (tree_node at t levels) ≡ Some t
+  tree_unmarked at (tree.document ps) zero f d = absurd (omega arith)
+  tree_unmarked at (tree.document ps) (suc n) f d = ap (option_map tree.document) (pairs_unmarked at ps n f (omega arith))
+  tree_unmarked at (tree.array ts) zero f d = absurd (omega arith)
+  tree_unmarked at (tree.array ts) (suc n) f d = ap (option_map tree.array) (trees_unmarked at ts 0 n f (omega arith))
+  tree_unmarked at (tree.binary zero b) levels f d = refl
+  tree_unmarked at (tree.binary (suc k) b) levels f d = refl
+  tree_unmarked at (tree.javascript_code_with_scope code scope) zero f d = absurd (omega arith)
+  tree_unmarked at (tree.javascript_code_with_scope code scope) (suc n) f d =
+      ap (λ o. option_and_then (with_document code) (option_map tree.document o)) (pairs_unmarked at scope n f (omega arith))
+  tree_unmarked at (tree.raw k b) levels f d = absurd f
+  tree_unmarked at t levels f d = refl
 
-  pairs_unmarked : (at : Sight) (ps : Pairs) (n : ℕ) → pairs_depth ps ≤ n → unmarked_pairs (pair_nodes at ps n) ≡ Some ps
-  pairs_unmarked at no_pairs n d = refl
-  pairs_unmarked at (pair key t ps) n d =
-      λ i. option_and_then (λ u. option_map (pair key u) (pairs_unmarked at ps n (omega arith) i)) (tree_unmarked at t n (omega arith) i)
+  pairs_unmarked : (at : Sight) (ps : Pairs) (n : ℕ) → ArePairsRawFree ps → pairs_depth ps ≤ n → unmarked_pairs (pair_nodes at ps n) ≡ Some ps
+  pairs_unmarked at no_pairs n f d = refl
+  pairs_unmarked at (pair key t ps) n f d =
+      λ i. option_and_then (λ u. option_map (pair key u) (pairs_unmarked at ps n f.1 (omega arith) i)) (tree_unmarked at t n f.0 (omega arith) i)
 
-  trees_unmarked : (at : Sight) (ts : Trees) (j n : ℕ) → trees_depth ts ≤ n → unmarked_trees (tree_nodes at j ts n) ≡ Some ts
-  trees_unmarked at no_trees j n d = refl
-  trees_unmarked at (tree.tree t ts) j n d =
-      λ i. option_and_then (λ u. option_map (tree.tree u) (trees_unmarked at ts (suc j) n (omega arith) i)) (tree_unmarked at t n (omega arith) i)
+  trees_unmarked : (at : Sight) (ts : Trees) (j n : ℕ) → AreTreesRawFree ts → trees_depth ts ≤ n → unmarked_trees (tree_nodes at j ts n) ≡ Some ts
+  trees_unmarked at no_trees j n f d = refl
+  trees_unmarked at (tree.tree t ts) j n f d =
+      λ i. option_and_then (λ u. option_map (tree.tree u) (trees_unmarked at ts (suc j) n f.1 (omega arith) i)) (tree_unmarked at t n f.0 (omega arith) i)
 
 -- ---- opened documents
 

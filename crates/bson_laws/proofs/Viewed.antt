@@ -24,7 +24,7 @@ use Rattle.bson_shape.specs.Form.{Form, leaf, optional, lossy, human_readable, b
 use Rattle.bson_datum.specs.Value as value
 use Rattle.bson_datum.specs.Value.{IntegerType, i32, i64, in_range, written_as, Value, Items, no_items, item, Entries, no_entries, entry, FieldValues, no_field_values, field_value}
 use Rattle.bson_datum.specs.Cause.{out_of_range}
-use Rattle.bson_laws.specs.Leaves.{LeafKind, anything, ignored, booleans, numbers, doubles, characters, texts, byte_strings, byte_buffers, units, ExtendedLeaf, object_ids, uuids, of_kind, trees, documents, extended_values, leaf_kind}
+use Rattle.bson_laws.specs.Leaves.{LeafKind, anything, ignored, booleans, numbers, doubles, characters, texts, byte_strings, byte_buffers, units, ExtendedLeaf, object_ids, uuids, of_kind, trees, documents, extended_values, raw_documents, raw_arrays, raw_values, leaf_kind}
 use Rattle.bson_laws.specs.Datum.{datum, itself, uuid_datum, sorted_tree}
 use Rattle.bson_laws.specs.Judged.{refused}
 use Rattle.bson_laws.specs.Variants.{content_of}
@@ -34,7 +34,7 @@ use Rattle.bson_laws.specs.Written.{with_scope}
 use Rattle.bson_laws.specs.Spell.{Writing, spell_whole}
 use Rattle.bson_laws.specs.Means.{number_of, some_or_none, under_name, reserved_means, struct_means, means_list, means, means_items, means_entries, means_fields, norm, norm_items, norm_entries, norm_fields}
 use Rattle.bson_laws.specs.Fits.{IsTreeValue, IsValueOfKind, IsUuidValue, FitsExtended, IsText, IsAny, AreAnyItems, AreAnyEntries, FitsLeaf, FitsLeafKey, FitsKey, Fits, ItemsFit, PartsFit, EntriesFit, FieldsFit}
-use Rattle.bson_laws.proofs.Sizes.{unwrap_kind, whole_kind}
+use Rattle.bson_laws.proofs.Sizes.{unwrap_kind, whole_kind, scope_kind}
 use Rattle.bson_laws.proofs.Spelled.{newtype_meant}
 use Rattle.bson_laws.proofs.DatumContents.{sorted_kind}
 use Rattle.bson_laws.proofs.Ranges.{clean_in_range}
@@ -142,6 +142,9 @@ leaf_taken byte_buffers t v c e = absurd cc
 leaf_taken units null v c e = subst (FitsLeaf units) (some_is value.unit v e) tt
 leaf_taken units t v c e = absurd cc
 leaf_taken (extended_values k) t v c e = extended_taken k t v c e
+leaf_taken raw_documents t v c e = absurd cc
+leaf_taken raw_arrays t v c e = absurd cc
+leaf_taken raw_values t v c e = absurd cc
 
 -- ---- options and missing fields
 
@@ -370,6 +373,9 @@ leaf_normal byte_buffers t v c e = absurd cc
 leaf_normal units null v c e = subst (IsNormal null) (some_is value.unit v e) (refl, λ h. refl)
 leaf_normal units t v c e = absurd cc
 leaf_normal (extended_values k) t v c e = extended_normal k t v c e
+leaf_normal raw_documents t v c e = absurd cc
+leaf_normal raw_arrays t v c e = absurd cc
+leaf_normal raw_values t v c e = absurd cc
 
 -- some value that does not mean null stays
 stays : (o : Option Tree) (v : Value) → (o ≡ Some null → ⊥) → some_or_none o v ≡ value.some v
@@ -406,6 +412,7 @@ no_reserved : (k : ElementType) (fs : FieldValues) (o : Option (Utf8 × Option T
 no_reserved JavaScriptCodeWithScope fs o e =
     let a = some_then (λ p. option_map (with_scope p.0) p.1) o null e in
     let m = some_map (with_scope a.0.0) a.0.1 null a.2 in
+    let is : Null ≡ JavaScriptCodeWithScope = sym (ap kind m.2) ∙ scope_kind a.0.0 m.0 in
     absurd cc
 no_reserved k fs o e =
     let a = some_then (λ t. result_ok (spell_whole t)) (unwrap k fs) null e in

@@ -26,7 +26,7 @@ module _ {T : Type 0} (text : Bytes → T) where
   wrapped name v = structure (text name) (one name v)
 
   abbrev mutual
-    -- the value that a tree is
+    -- the value that a tree is in which nothing is given by its bytes
     pub datum : Tree → ValueOf T
     datum (tree.double bits) = double bits
     datum (tree.string t) = str (text t)
@@ -50,6 +50,7 @@ module _ {T : Type 0} (text : Bytes → T) where
     datum (tree.decimal128 b) = structure (text (codes "$numberDecimal")) (one (codes "$numberDecimalBytes") (bytes (text b)))
     datum tree.max_key = wrapped (codes "$maxKey") (integer i32 (pos 1))
     datum tree.min_key = wrapped (codes "$minKey") (integer i32 (pos 1))
+    datum (tree.raw k b) = unit
 
     -- the entries of a map that pairs are
     pub pair_data : Pairs → EntriesOf T

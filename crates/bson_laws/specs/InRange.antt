@@ -4,10 +4,10 @@ use Rattle.std.specs.Int.{w32, w64}
 use Rattle.std.specs.Str.{is_utf8}
 use Rattle.bson_base.specs.Sound.{HasBytes}
 use Rattle.bson_base.specs.Text.{AreBytes}
-use Rattle.bson_base.specs.Tree.{Tree, double, string, document, array, binary, object_id, date_time, regular_expression, db_pointer, javascript_code, symbol, javascript_code_with_scope, int32, timestamp, int64, decimal128, Pairs, no_pairs, pair, Trees, no_trees, tree}
+use Rattle.bson_base.specs.Tree.{Tree, double, string, document, array, binary, object_id, date_time, regular_expression, db_pointer, javascript_code, symbol, javascript_code_with_scope, int32, timestamp, int64, decimal128, raw, Pairs, no_pairs, pair, Trees, no_trees, tree}
 
 abbrev mutual
-  -- each text and key is UTF-8, each number and byte is in the range of its kind, and what has a fixed number of bytes has as many
+  -- each text and key is UTF-8, each number and byte is in the range of its kind, and what has a fixed number of bytes has as many; nothing is given by its bytes
   pub IsInRange : Tree → Type 0
   IsInRange (double bits) = HasBytes 8 bits
   IsInRange (string t) = is_utf8 t ≡ true
@@ -25,6 +25,7 @@ abbrev mutual
   IsInRange (timestamp time increment) = (time < 2 ^ 32) × (increment < 2 ^ 32)
   IsInRange (int64 n) = FitsSigned w64 n
   IsInRange (decimal128 b) = HasBytes 16 b
+  IsInRange (raw k b) = ⊥
   IsInRange t = Unit {0}
 
   pub ArePairsInRange : Pairs → Type 0

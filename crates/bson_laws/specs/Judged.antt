@@ -46,8 +46,8 @@ scope_key = codes "$scope"
 abbrev mutual
   -- what is inside a judged value, walked to its end and dropped: the elements of a document, those of an array, those of a scope
   pub passes : Node → Reading (Unit {0})
-  passes (document ns) = pass_nodes at_its_key 0 ns
-  passes (array ns) = pass_nodes at_its_index 0 ns
+  passes (document slice ns) = pass_nodes at_its_key 0 ns
+  passes (array slice ns) = pass_nodes at_its_index 0 ns
   passes (extended x ns) = pass_scope x
   passes n = Ok tt
 

@@ -2,7 +2,7 @@
 use Rattle.bson_base.specs.declared.element_type.ElementType.{ElementType}
 use Rattle.bson_base.specs.declared.element_type.ElementType.TheVariants as kinds
 use Rattle.bson_shape.specs.declared.leaf.Leaf.{Leaf}
-use Rattle.bson_shape.specs.declared.leaf.Leaf.TheVariants.{Any, Ignored, Bool, I8, I16, I32, I64, U8, U16, U32, U64, Double, Char, Str, String, Bytes, ByteBuf, Unit, ObjectId, DateTime, Binary, Timestamp, Regex, CodeWithScope, Decimal128, DbPointer, Uuid, Bson, Document}
+use Rattle.bson_shape.specs.declared.leaf.Leaf.TheVariants.{Any, Ignored, Bool, I8, I16, I32, I64, U8, U16, U32, U64, Double, Char, Str, String, Bytes, ByteBuf, Unit, ObjectId, DateTime, Binary, Timestamp, Regex, CodeWithScope, Decimal128, DbPointer, Uuid, Bson, Document, RawDocument, RawArray, RawBson}
 use Rattle.bson_datum.specs.Value.{IntegerType, i8, i16, i32, i64, u8, u16, u32, u64}
 
 -- what an extended leaf takes: one whose values serde's data model lacks
@@ -34,6 +34,11 @@ pub data LeafKind : Type 0 where
   byte_buffers : LeafKind
   units : LeafKind
   extended_values : ExtendedLeaf → LeafKind
+  -- a document and an array of the input, in their bytes
+  raw_documents : LeafKind
+  raw_arrays : LeafKind
+  -- every value, of which documents, arrays and scopes stay in their bytes
+  raw_values : LeafKind
 
 abbrev pub leaf_kind : Leaf → LeafKind
 leaf_kind Any = anything
@@ -65,3 +70,6 @@ leaf_kind DbPointer = extended_values (of_kind kinds.DbPointer)
 leaf_kind Uuid = extended_values uuids
 leaf_kind Bson = extended_values trees
 leaf_kind Document = extended_values documents
+leaf_kind RawDocument = raw_documents
+leaf_kind RawArray = raw_arrays
+leaf_kind RawBson = raw_values

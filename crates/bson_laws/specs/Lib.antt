@@ -4,6 +4,7 @@ pub mod Written
 pub mod Leaves
 pub mod Variants
 pub mod Datum
+pub mod RawFree
 pub mod Views
 pub mod Means
 pub mod InRange
@@ -13,7 +14,9 @@ pub mod Plain
 pub mod Writable
 pub mod Judged
 pub mod Taken
+pub mod ReadsRaw
 pub mod ReadsLeaf
+pub mod Owned
 pub mod Containers
 pub mod Slots
 pub mod Settled

@@ -6,11 +6,11 @@ use Rattle.bson_base.specs.Text.{Bytes, Utf8}
 use Rattle.bson_base.specs.Reserved.{reserved_kind}
 use Rattle.bson_base.specs.Sorted.{sorted}
 use Rattle.bson_base.specs.declared.element_type.ElementType.{ElementType}
-use Rattle.bson_base.specs.declared.element_type.ElementType.TheVariants.{JavaScriptCodeWithScope, RegularExpression, Int32}
+use Rattle.bson_base.specs.declared.element_type.ElementType.TheVariants.{EmbeddedDocument, Array, JavaScriptCodeWithScope, RegularExpression, Int32}
 use Rattle.bson_base.specs.Tree as tree
 use Rattle.bson_base.specs.Tree.{Tree, string, document, array, binary, null, int32, int64, Pairs, no_pairs, pair, Trees, no_trees}
 use Rattle.bson_shape.specs.Makers.{is_reserved_newtype}
-use Rattle.bson_datum.specs.Value.{i64, greatest, written_as, Value, boolean, integer, double, character, str, bytes, none, some, unit, unit_structure, newtype, sequence, map, structure, unit_variant, newtype_variant, tuple, tuple_structure, tuple_variant, structure_variant, mode, uuid_newtype, Items, no_items, item, Entries, no_entries, entry, FieldValues, no_field_values, field_value}
+use Rattle.bson_datum.specs.Value.{i64, greatest, written_as, Value, boolean, integer, double, character, str, bytes, none, some, unit, unit_structure, newtype, sequence, map, structure, unit_variant, newtype_variant, tuple, tuple_structure, tuple_variant, structure_variant, raw_document, raw_array, mode, uuid_newtype, Items, no_items, item, Entries, no_entries, entry, FieldValues, no_field_values, field_value}
 use Rattle.bson_laws.specs.Unwrap.{Part, a_key, a_value, unwrap, scoped_code}
 use Rattle.bson_laws.specs.UuidBytes.{uuid_bytes}
 use Rattle.bson_laws.specs.Written.{with_scope, spell_whole}
@@ -94,6 +94,8 @@ abbrev mutual
   means (tuple_structure name vs) = option_map array (means_items vs)
   means (tuple_variant name vs) = option_map (λ ts. under_name name (array ts)) (means_items vs)
   means (structure_variant name fs) = option_map (λ ps. under_name name (document ps)) (means_fields fs)
+  means (raw_document bs) = Some (tree.raw EmbeddedDocument bs)
+  means (raw_array bs) = Some (tree.raw Array bs)
   means (structure name fs) = struct_means (reserved_kind name) (means_fields fs) (λ k. reserved_means k (unwrap k fs) (scoped_code (means_list fs [])))
 
   pub means_items : Items → Option Trees
@@ -141,6 +143,8 @@ abbrev mutual
   norm (tuple_structure name vs) = tuple_structure name (norm_items vs)
   norm (tuple_variant name vs) = tuple_variant name (norm_items vs)
   norm (structure_variant name fs) = structure_variant name (norm_fields fs)
+  norm (raw_document bs) = raw_document bs
+  norm (raw_array bs) = raw_array bs
   norm (structure name fs) = structure name (norm_struct (reserved_kind name) (norm_fields fs))
 
   pub norm_items : Items → Items

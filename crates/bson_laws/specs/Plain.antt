@@ -5,11 +5,14 @@ use Rattle.bson_shape.specs.Form.{Form, leaf, optional, lossy, human_readable, b
 use Rattle.bson_shape.specs.Makers.{are_units}
 use Rattle.bson_shape.specs.declared.leaf.Leaf.{Leaf}
 use Rattle.bson_shape.specs.declared.leaf.Leaf.TheVariants.{Str}
-use Rattle.bson_laws.specs.Leaves.{LeafKind, ignored, texts, leaf_kind}
+use Rattle.bson_laws.specs.Leaves.{LeafKind, ignored, texts, raw_documents, raw_arrays, raw_values, leaf_kind}
 
--- a leaf that keeps what it reads
+-- a leaf that keeps what it reads, and keeps nothing in its bytes
 abbrev pub IsKept : LeafKind → Type 0
 IsKept ignored = ⊥
+IsKept raw_documents = ⊥
+IsKept raw_arrays = ⊥
+IsKept raw_values = ⊥
 IsKept k = Unit {0}
 
 -- a leaf that does not borrow a text

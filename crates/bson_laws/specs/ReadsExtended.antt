@@ -33,7 +33,7 @@ abbrev pub object_id_at : Node → Reading Tree
 object_id_at (extended (object_id id) ns) = Ok (tree.object_id id.bytes)
 object_id_at (string t) = or_bad Oid (id_of_text t.bytes)
 object_id_at (bytes u b) = result_map tree.object_id (with_length 12 b.bytes)
-object_id_at (document ns) = as_tree (document ns) >>= tree_of_kind kinds.ObjectId
+object_id_at (document slice ns) = as_tree (document slice ns) >>= tree_of_kind kinds.ObjectId
 object_id_at n = refused (invalid_type (kind_of n))
 
 abbrev pub or_bad_uuid : Option Bytes → Reading Bytes
@@ -50,7 +50,7 @@ abbrev pub uuid_at : Node → Reading Bytes
 uuid_at (bytes u b) = refused (cause.subtype 0)
 uuid_at (extended (binary subtype b) ns) = if nat_eq subtype 4 then with_length 16 b.bytes else refused (cause.subtype subtype)
 uuid_at (string t) = or_bad_uuid (parsed t.bytes)
-uuid_at (document ns) = as_tree (document ns) >>= uuid_in
+uuid_at (document slice ns) = as_tree (document slice ns) >>= uuid_in
 uuid_at n = refused (invalid_type (kind_of n))
 
 -- A judged value at an extended leaf. All texts and byte strings of what is read are owned.

@@ -11,8 +11,9 @@ use Rattle.bson_datum.specs.Marked.{Marked, MarkedItems, MarkedEntries, contents
 use Rattle.bson_datum.specs.Same.{same}
 use Rattle.bson_datum.specs.Cause.{raw, invalid_type}
 use Rattle.bson_datum.specs.Refusal.{under, under_index}
-use Rattle.bson_laws.specs.Leaves.{LeafKind, anything, ignored, booleans, numbers, doubles, characters, texts, byte_strings, byte_buffers, units, ExtendedLeaf, extended_values}
+use Rattle.bson_laws.specs.Leaves.{LeafKind, anything, ignored, booleans, numbers, doubles, characters, texts, byte_strings, byte_buffers, units, ExtendedLeaf, extended_values, raw_documents, raw_arrays, raw_values}
 use Rattle.bson_laws.specs.Judged.{Reading, refused, judged, passes}
+use Rattle.bson_laws.specs.ReadsRaw.{raw_document_of, raw_array_of, raw_value_of}
 use Rattle.bson_laws.specs.Taken.{boolean_of, integer_of, double_of, null_of, owned_under_mark, text_of, bytes_of, read_integer, character_of, buffer_of}
 
 -- the entries of a map with one more: a key that is there keeps its place and takes the value; another goes last
@@ -30,8 +31,8 @@ abbrev mutual
   read_any (double bits) = Ok (value.double bits)
   read_any (string t) = Ok (value.str t)
   read_any (bytes u b) = Ok (value.bytes (owned_under_mark u b))
-  read_any (array ns) = result_map value.sequence (any_items 0 ns)
-  read_any (document ns) = result_map value.map (any_entries ns no_entries)
+  read_any (array slice ns) = result_map value.sequence (any_items 0 ns)
+  read_any (document slice ns) = result_map value.map (any_entries ns no_entries)
   read_any (extended x ns) = result_map value.map (any_entries ns no_entries)
   read_any n = result_map (λ _. value.unit) (null_of n)
 
@@ -71,3 +72,6 @@ read_leaf_with read b byte_strings n = result_map value.bytes (bytes_of n)
 read_leaf_with read b byte_buffers n = result_map (λ bs. value.bytes (made bs)) (buffer_of n)
 read_leaf_with read b units n = result_map (λ _. value.unit) (null_of n)
 read_leaf_with read b (extended_values k) n = read k n
+read_leaf_with read b raw_documents n = result_map value.raw_document (raw_document_of n)
+read_leaf_with read b raw_arrays n = result_map value.raw_array (raw_array_of n)
+read_leaf_with read b raw_values n = raw_value_of n

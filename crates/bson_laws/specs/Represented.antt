@@ -4,7 +4,7 @@ use Rattle.std.specs.Int.{w64}
 use Rattle.std.specs.Result.{result_ok}
 use Rattle.bson_base.specs.Sound.{HasBytes}
 use Rattle.bson_base.specs.Text.{AreBytes}
-use Rattle.bson_rawdoc.specs.Node.{document, Extended, binary, object_id, date_time, db_pointer, timestamp, decimal128, opened, opens, mended}
+use Rattle.bson_rawdoc.specs.Node.{made_document, Extended, binary, object_id, date_time, db_pointer, timestamp, decimal128, opened, opens, mended}
 use Rattle.bson_laws.specs.Trees.{read_tree}
 
 -- The numbers and the bytes of an extended value are in the ranges of its kind. Its texts and its scope are judged where they are read.
@@ -19,8 +19,8 @@ HasRanges x = Unit {0}
 
 -- An opened document is read as the tree that its value is read as, and is refused exactly where its value is.
 abbrev pub RepresentsItself : Type 0
-RepresentsItself = (x : Extended) → HasRanges x → result_ok (read_tree (document (opened x))) ≡ result_ok (read_tree (opens x))
+RepresentsItself = (x : Extended) → HasRanges x → result_ok (read_tree (made_document (opened x))) ≡ result_ok (read_tree (opens x))
 
 -- So it is where texts are mended.
 abbrev pub RepresentsItselfMended : Type 0
-RepresentsItselfMended = (x : Extended) → HasRanges x → result_ok (read_tree (mended (document (opened x)))) ≡ result_ok (read_tree (mended (opens x)))
+RepresentsItselfMended = (x : Extended) → HasRanges x → result_ok (read_tree (mended (made_document (opened x)))) ≡ result_ok (read_tree (mended (opens x)))

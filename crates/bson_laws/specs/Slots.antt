@@ -76,5 +76,5 @@ reads_places i (slot ∷ slots) ns = reads_next i slot.read (λ v rest. result_m
 
 -- a struct takes the elements of an array by their places, and those of a document by their keys
 abbrev pub read_structure : Slots → Node → Reading MarkedFields
-read_structure slots (array ns) = reads_places 0 slots ns
+read_structure slots (array slice ns) = reads_places 0 slots ns
 read_structure slots n = document_of n >>= λ ns. fill ns slots >>= finish

@@ -10,8 +10,8 @@ use Rattle.bson_base.specs.Sound.{max_levels, max_binary}
 use Rattle.bson_base.specs.Tree as tree
 use Rattle.bson_base.specs.Tree.{Tree, string, document, array, binary, null, int32, int64, Pairs, no_pairs, pair, Trees, no_trees}
 use Rattle.bson_base.specs.declared.element_type.ElementType.{ElementType}
-use Rattle.bson_base.specs.declared.element_type.ElementType.TheVariants.{EmbeddedDocument, JavaScriptCodeWithScope, Int32}
-use Rattle.bson_datum.specs.Value.{i64, greatest, written_as, Value, boolean, integer, double, character, str, bytes, none, some, unit, unit_structure, newtype, sequence, map, structure, unit_variant, newtype_variant, tuple, tuple_structure, tuple_variant, structure_variant, mode, Items, no_items, item, Entries, no_entries, entry, FieldValues, no_field_values, field_value, kind_of, uuid_newtype, readable_inside}
+use Rattle.bson_base.specs.declared.element_type.ElementType.TheVariants.{EmbeddedDocument, Array, JavaScriptCodeWithScope, Int32}
+use Rattle.bson_datum.specs.Value.{i64, greatest, written_as, Value, boolean, integer, double, character, str, bytes, none, some, unit, unit_structure, newtype, sequence, map, structure, unit_variant, newtype_variant, tuple, tuple_structure, tuple_variant, structure_variant, raw_document, raw_array, mode, Items, no_items, item, Entries, no_entries, entry, FieldValues, no_field_values, field_value, kind_of, uuid_newtype, readable_inside}
 use Rattle.bson_datum.specs.Cause.{too_deep, binary_too_long, top_level}
 use Rattle.bson_datum.specs.Refusal.{WriteFault, unwritable, invalid_document_key, invalid_cstring, unsigned_exceeds, here, under, under_index}
 use Rattle.bson_laws.specs.Means.{number_of, key_text}
@@ -23,6 +23,10 @@ pub use Rattle.bson_laws.specs.Written.{Writing, spell_binary, spell_whole, spel
 abbrev pub enclosed_at : {A : Type 0} → (A → Tree) → ℕ → (ℕ → Writing A) → Writing Tree
 enclosed_at container zero parts = Err (here (unwritable too_deep))
 enclosed_at container (suc levels) parts = result_map container (parts levels)
+
+-- a document or an array that is given by its bytes takes one of the levels that are left
+abbrev pub in_bytes : ElementType → Bytes → ℕ → Writing Tree
+in_bytes k bs levels = enclosed_at (tree.raw k) levels (λ inside. Ok bs)
 
 -- a struct: a document of its fields, or what its reserved name stands for, which takes no level
 abbrev pub struct_at : Option ElementType → ℕ → (ℕ → Writing Pairs) → (ElementType → Writing Tree) → Writing Tree
@@ -62,7 +66,7 @@ abbrev pub newtype_at : (name : Utf8) → (uuid content : Writing Tree) → Writ
 newtype_at name uuid content = if bytes_eq name uuid_newtype then uuid else content
 
 -- What the refusal of a key carries: a scalar as it would be written, null for none, a unit, a unit struct and a number that is not written, an
--- empty array for a sequence, a tuple and a tuple variant, for some value and for a newtype what their content would carry, for a value with two
+-- empty array for a sequence, a tuple, a tuple variant and an array in its bytes, for some value and for a newtype what their content would carry, for a value with two
 -- forms what its readable one would, an empty document for every other value, a tuple struct among them. A text and a unit variant are keys, and never carried.
 abbrev pub carried : Value → Tree
 carried (boolean b) = tree.boolean b
@@ -81,11 +85,13 @@ carried (sequence vs) = array no_trees
 carried (unit_variant name) = string name
 carried (tuple vs) = array no_trees
 carried (tuple_variant name vs) = array no_trees
+carried (raw_array bs) = array no_trees
 carried (map es) = document no_pairs
 carried (newtype_variant name v) = document no_pairs
 carried (tuple_structure name vs) = document no_pairs
 carried (structure_variant name fs) = document no_pairs
 carried (structure name fs) = document no_pairs
+carried (raw_document bs) = document no_pairs
 
 -- the text of a key, which holds no zero character; a value that is no key is refused, and carried
 abbrev pub written_key : Value → Option Utf8 → Writing Utf8
@@ -119,6 +125,8 @@ abbrev mutual
   spell_as readable (tuple_structure name vs) levels = enclosed_at array levels (spell_items_as readable 0 vs)
   spell_as readable (tuple_variant name vs) levels = variant_at name levels (λ inside. enclosed_at array inside (spell_items_as readable 0 vs))
   spell_as readable (structure_variant name fs) levels = variant_at name levels (λ inside. enclosed_at document inside (spell_fields_as readable fs))
+  spell_as readable (raw_document bs) levels = in_bytes EmbeddedDocument bs levels
+  spell_as readable (raw_array bs) levels = in_bytes Array bs levels
   spell_as readable (structure name fs) levels = struct_at (reserved_kind name) levels (spell_fields_as readable fs) (λ k. reserved_at k (unwrap k fs) (scoped_code (spell_list readable fs levels [])))
 
   -- the values of a sequence from this index on
@@ -221,6 +229,8 @@ abbrev mutual
   size_as readable (tuple_structure name vs) = size_items_as readable 0 vs + 5
   size_as readable (tuple_variant name vs) = variant_size name (size_items_as readable 0 vs + 5)
   size_as readable (structure_variant name fs) = variant_size name (size_fields_as readable fs + 5)
+  size_as readable (raw_document bs) = length bs
+  size_as readable (raw_array bs) = length bs
   size_as readable (structure name fs) = struct_size (reserved_kind name) (size_fields_as readable fs) (λ k. reserved_size k (unwrap k fs) (scoped_code (size_list readable fs [])))
 
   -- an element takes one byte for its kind, its key and a zero, and its value; the keys of an array are the decimal indexes from this one on

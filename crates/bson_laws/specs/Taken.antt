@@ -34,13 +34,13 @@ null_of n = refused (invalid_type (kind_of n))
 
 -- the elements of a document, or of the document that a value is opened to
 abbrev pub document_of : Node → Reading Nodes
-document_of (document ns) = Ok ns
+document_of (document slice ns) = Ok ns
 document_of (extended x ns) = Ok ns
 document_of n = refused (invalid_type (kind_of n))
 
 -- the elements of an array
 abbrev pub array_of : Node → Reading Nodes
-array_of (array ns) = Ok ns
+array_of (array slice ns) = Ok ns
 array_of n = refused (invalid_type (kind_of n))
 
 -- ---- texts and byte strings
@@ -108,5 +108,5 @@ reads_bytes i (then_node key n ns) = under_index i (judged n >>= integer_of >>= 
 abbrev pub buffer_of : Node → Reading Bytes
 buffer_of (bytes u b) = Ok b.bytes
 buffer_of (string t) = Ok t.bytes
-buffer_of (array ns) = reads_bytes 0 ns
+buffer_of (array slice ns) = reads_bytes 0 ns
 buffer_of n = refused (invalid_type (kind_of n))

@@ -63,8 +63,8 @@ abbrev mutual
   pub as_tree : Node → Reading Tree
   as_tree (double bits) = Ok (tree.double bits)
   as_tree (string t) = Ok (tree.string t.bytes)
-  as_tree (document ns) = document_tree ns no_pairs
-  as_tree (array ns) = result_map tree.array (array_trees 0 ns)
+  as_tree (document slice ns) = document_tree ns no_pairs
+  as_tree (array slice ns) = result_map tree.array (array_trees 0 ns)
   as_tree (bytes u b) = Ok (tree.binary 0 b.bytes)
   as_tree (boolean b) = Ok (tree.boolean b)
   as_tree null = Ok tree.null

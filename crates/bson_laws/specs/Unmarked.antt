@@ -18,8 +18,8 @@ abbrev mutual
   pub unmarked : Node → Option Tree
   unmarked (double bits) = Some (tree.double bits)
   unmarked (string t) = Some (tree.string t.bytes)
-  unmarked (document ns) = option_map tree.document (unmarked_pairs ns)
-  unmarked (array ns) = option_map tree.array (unmarked_trees ns)
+  unmarked (document slice ns) = option_map tree.document (unmarked_pairs ns)
+  unmarked (array slice ns) = option_map tree.array (unmarked_trees ns)
   unmarked (bytes u b) = Some (tree.binary 0 b.bytes)
   unmarked (boolean b) = Some (tree.boolean b)
   unmarked null = Some tree.null

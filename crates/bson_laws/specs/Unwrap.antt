@@ -9,7 +9,7 @@ use Rattle.bson_base.specs.Tree as tree
 use Rattle.bson_base.specs.Tree.{Tree}
 use Rattle.bson_base.specs.declared.element_type.ElementType.{ElementType}
 use Rattle.bson_base.specs.declared.element_type.ElementType.TheVariants.{Binary, Undefined, ObjectId, DateTime, RegularExpression, DbPointer, JavaScriptCode, Symbol, Timestamp, Decimal128, MaxKey, MinKey}
-use Rattle.bson_datum.specs.Value.{i64, u8, Value, integer, str, bytes, map, structure, mode, FieldValues, no_field_values, field_value}
+use Rattle.bson_datum.specs.Value.{i64, u8, Value, integer, str, bytes, map, structure, raw_document, mode, FieldValues, no_field_values, field_value}
 
 -- a part of the list: a key, or a value, with what this value is written as
 pub data Part (S : Type 0) : Type 0 where
@@ -53,10 +53,11 @@ abbrev pub next_unsigned : {S : Type 0} → List (Part S) → Option (ℕ × Lis
 next_unsigned (a_value (integer i64 (pos n)) s ∷ rest) = if nat_lt n (2 ^ 32) then Some (n, rest) else None
 next_unsigned list = None
 
--- a map, as what it is written as
-abbrev pub next_map : {S : Type 0} → List (Part S) → Option (S × List (Part S))
-next_map (a_value (map es) s ∷ rest) = Some (s, rest)
-next_map list = None
+-- what a scope is given as, a map or a document in its bytes, as what it is written as
+abbrev pub next_scope : {S : Type 0} → List (Part S) → Option (S × List (Part S))
+next_scope (a_value (map es) s ∷ rest) = Some (s, rest)
+next_scope (a_value (raw_document bs) s ∷ rest) = Some (s, rest)
+next_scope list = None
 
 -- the end of a list, which is accepted as this
 abbrev pub end_as : {S A : Type 0} → A → List (Part S) → Option A
@@ -181,7 +182,7 @@ scoped_code list = do
   first ← next_key (codes "$code") list
   text ← next_text first
   second ← next_key (codes "$scope") text.1
-  scope ← next_map second
+  scope ← next_scope second
   end_as (text.0, scope.0) scope.1
 
 -- one field of this name, whose value is not looked at

@@ -1,10 +1,11 @@
 -- What is written of a value that is whole, or why it is not. Source: bsonspec.org, version 1.1, `binary`, `cstring` and the element of a regular expression.
-use Rattle.std.specs.Prelude.{ℕ, length, nat_lt, codes, Option, Some, None, if◌then◌else◌, Result, Ok, Err}
+use Rattle.std.specs.Prelude.{ℕ, ◌++◌, length, nat_lt, codes, Option, Some, None, if◌then◌else◌, Result, Ok, Err}
 use Rattle.bson_base.specs.Outcome.{◌>>=◌, result_map}
 use Rattle.bson_base.specs.Sorted.{sorted}
 use Rattle.bson_base.specs.Sound.{max_binary}
 use Rattle.bson_base.specs.Text.{Bytes, Utf8, has_zero}
-use Rattle.bson_base.specs.Tree.{Tree, document, binary, regular_expression, javascript_code_with_scope, Pairs, no_pairs, behind_subtype, enc}
+use Rattle.bson_base.specs.Tree.{Tree, document, binary, regular_expression, javascript_code_with_scope, raw, no_pairs, closed_text, behind_subtype, after_total, enc}
+use Rattle.bson_base.specs.declared.element_type.ElementType.TheVariants.{JavaScriptCodeWithScope}
 use Rattle.bson_datum.specs.Cause.{binary_too_long, bad_step, bad_uuid}
 use Rattle.bson_datum.specs.Refusal.{WriteFault, unwritable, invalid_cstring, Refusal, here, under}
 
@@ -26,14 +27,11 @@ spell_whole (regular_expression pattern options) = zero_free pattern >>= λ p. z
 spell_whole (binary subtype bs) = spell_binary subtype bs
 spell_whole t = Ok t
 
--- the pairs of a document
-abbrev pub pairs_in : Tree → Pairs
-pairs_in (document ps) = ps
-pairs_in t = no_pairs
-
--- code with the document that its scope is
+-- code with the document that its scope is; with one that is given by its bytes, it is given by its bytes
 abbrev pub with_scope : Utf8 → Tree → Tree
-with_scope code scope = javascript_code_with_scope code (pairs_in scope)
+with_scope code (document ps) = javascript_code_with_scope code ps
+with_scope code (raw k bytes) = raw JavaScriptCodeWithScope (after_total (closed_text code ++ bytes))
+with_scope code t = javascript_code_with_scope code no_pairs
 
 -- a reserved struct, by what it is accepted as
 abbrev pub spell_unwrapped : Option Tree → Writing Tree

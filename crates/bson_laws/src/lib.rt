@@ -8,18 +8,20 @@ ghost use Rattle.bson_base.specs.Sound.{IsClean, IsSound, HasBytes, max_bytes};
 ghost use Rattle.bson_base.specs.Text.{Bytes, Utf8, AreBytes};
 ghost use Rattle.bson_base.specs.Tree as tree;
 ghost use Rattle.bson_base.specs.Tree.{Tree, Pairs, binary, javascript_code_with_scope, enc, kind, depth};
-ghost use Rattle.bson_rawdoc.specs.Node.{Sight, Extended, document, opened, opens, tree_node};
-ghost use Rattle.bson_shape.specs.Form.{Form};
+ghost use Rattle.bson_rawdoc.specs.Node.{Sight, Extended, made_document, opened, opens, tree_node};
+ghost use Rattle.bson_shape.specs.Form.{Form, lossy};
 ghost use Rattle.bson_shape.specs.Makers.{IsShape};
 ghost use Rattle.bson_datum.specs.Value.{Value, kind_as};
 ghost use Rattle.bson_laws.specs.Views.{views};
 ghost use Rattle.bson_laws.specs.Means.{means, norm};
 ghost use Rattle.bson_laws.specs.Fits.{Fits};
 ghost use Rattle.bson_laws.specs.Plain.{IsPlain};
+ghost use Rattle.bson_laws.specs.Owned.{IsOwned};
 ghost use Rattle.bson_laws.specs.Settled.{IsSettled};
 ghost use Rattle.bson_laws.specs.Writable.{IsWritable};
 ghost use Rattle.bson_laws.specs.InRange.{IsInRange, ArePairsInRange};
 ghost use Rattle.bson_laws.specs.Encodable.{IsEncodable};
+ghost use Rattle.bson_laws.specs.RawFree.{IsRawFree};
 ghost use Rattle.bson_laws.specs.Trees.{read_tree};
 ghost use Rattle.bson_laws.specs.Unmarked.{unmarked, AreOpenedAlike};
 ghost use Rattle.bson_laws.specs.Represented.{RepresentsItself, RepresentsItselfMended};
@@ -79,12 +81,12 @@ pub fn law_datum_spells()
 {}
 
 /// The document that a reader opens an extended value to is, without the marks of what is in the input, the document that `Bson::into_extended_document` gives
-/// for the value. What a reader meets of a tree is, without its marks, that tree.
+/// for the value. What a reader meets of a tree in which nothing is given by its bytes is, without its marks, that tree.
 ///
 /// It does nothing.
 pub fn law_opened_agrees()
     ensures opened { AreOpenedAlike }
-    ensures trees { (at : Sight) (t : Tree) (levels : ℕ) → depth t ≤ levels → unmarked (tree_node at t levels) ≡ Some t }
+    ensures trees { (at : Sight) (t : Tree) (levels : ℕ) → IsRawFree t → depth t ≤ levels → unmarked (tree_node at t levels) ≡ Some t }
 {}
 
 /// The document that an extended value is opened to represents the value: as a tree it is read as the value itself is, and refused exactly where the value is.
@@ -96,7 +98,7 @@ pub fn law_opened_represents()
     ensures represents { RepresentsItself }
     ensures mended { RepresentsItselfMended }
     ensures clean { (at : Sight) (t : Tree) (levels : ℕ) (x : Extended) → IsClean t → depth t ≤ levels → tree_node at t levels ≡ opens x
-        → read_tree (document (opened x)) ≡ Ok (sorted_tree t) }
+        → read_tree (made_document (opened x)) ≡ Ok (sorted_tree t) }
     ensures document { (at : Sight) (t : Tree) (levels : ℕ) → IsClean t → IsExtended t → depth (tree.document (for_trees.opened t)) ≤ levels
         → read_tree (tree_node at (tree.document (for_trees.opened t)) levels) ≡ Ok (sorted_tree t) }
 {}
@@ -133,10 +135,20 @@ pub fn law_reads_numbers()
 
 /// What is read at a shape from bytes, and written, is read at the shape from what was written, and written as the same again.
 ///
-/// This holds at every shape that does not depend on whether the reader is human (`IsSettled`), and for every byte string, sound or not: a migration may be
-/// run again without harm. The call does nothing.
+/// This holds at every shape that does not depend on whether the reader is human (`IsSettled`), those that keep values in their bytes included, and for every
+/// byte string, sound or not: a migration may be run again without harm. The call does nothing.
 pub fn law_fixed_point()
     ensures again { (s : Form) (bytes : Bytes) (d : Value) (t : Tree) → IsShape s → IsSettled s → AreBytes bytes → reads_document s bytes ≡ Ok d
         → spell_document d ≡ Ok t
         → length (enc t) ≤ max_bytes → (v : Value) × (reads_document s (enc t) ≡ Ok v) × (spell_document v ≡ Ok t) }
+{}
+
+/// What is read at a shape that borrows nothing is read where texts are mended, too, as the same value: where every text is UTF-8 a mark changes no more than
+/// what is borrowed.
+///
+/// Neither `str` nor `bytes` stands in the shape (`IsOwned`): under a mark no text is in the input, so that `str` takes none, and `bytes` takes no text. The
+/// call does nothing.
+pub fn law_reads_mended()
+    ensures same { (s : Form) (bytes : Bytes) (d : Value) → IsOwned s → reads_document s bytes ≡ Ok d
+        → reads_document (lossy s) bytes ≡ Ok d }
 {}

@@ -1,13 +1,20 @@
-use Rattle.std.proofs.Common.{◌≡◌, ◌+◌, get_or, refl, ◌∙◌, sym, ap, subst, arith}
+use Rattle.std.proofs.Common.{◌≡◌, ◌+◌, IfOk, get_or, refl, ◌∙◌, sym, ap, subst, arith}
 use Rattle.bson_base.specs.BsonView.{tree_of, pairs_of}
 use Rattle.bson_infer_laws.specs.Inferred.{shape_of}
 use Rattle.bson_infer_run.specs.Counted.{once, puts, counted_pairs}
 use Rattle.bson_infer_run.specs.SummaryView.{counted, counted_of, struct_form, IsKnown}
 use Rattle.bson_infer_run.specs.declared.summary.FieldSummary.{FieldSummary}
 use Rattle.bson_infer_run.specs.declared.summary.StructSummary.{StructSummary}
+use Rattle.bson_infer_laws.specs.Join.{join}
 use Rattle.bson_infer_run.proofs.Places.{put_at}
+use Rattle.bson_infer_run.proofs.Scalars.{scalar}
 use Rattle.bson_infer_run.proofs.Structs.{set_twice, document_form, document_known, first_form, first_known}
 use Rattle.bson_infer_run.proofs.add.+add.Goals as goal
+
+pub add-returns-in_default : goal.add-returns-in_default
+add-returns-in_default t c =
+    let is : shape_of (tree_of c.args.value.now) ≡ c.leaf.result = scalar c.args.value.now c.leaf_of.result c.in_default.not-Array c.in_default.not-Document c.leaf_of.ensures ∙ sym c.leaf.ensures in
+    subst (λ k. IfOk c.joined-in_default.result (λ s. s ≡ join c.args.summary k)) (sym is) c.joined-in_default.ensures
 
 pub add_pair-returns-clause-field : goal.add_pair-returns-clause-field
 add_pair-returns-clause-field t c =
