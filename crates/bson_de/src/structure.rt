@@ -51,7 +51,7 @@ pub(crate) fn read_fields<'de>(
     ensures exact { Reaches (λ v. fields_marked v.items) result (fields_read (slots_of (settled_fields readable (fields_of fields.now))) value.now) }
 {
     match value.judge(alloc)? {
-        Value::Array(items) => read_by_place(alloc, readable, fields, items),
+        Value::Array(array) => read_by_place(alloc, readable, fields, Items::of_array(array)),
         other => {
             let elements = other.document(alloc)?;
             read_by_key(alloc, readable, fields, elements)

@@ -1,34 +1,38 @@
 -- Whole documents whose texts are mended: what is read of one, and what was written of it is read and written so again.
-use Rattle.std.proofs.Common.{◌≡◌, ◌^◌, ◌<◌, ◌≤◌, length, false, Ok, Err, refl, ap, sym, subst, ◌∙◌, arith}
+use Rattle.std.proofs.Common.{◌≡◌, ◌^◌, ◌<◌, ◌≤◌, length, false, Some, Ok, Err, refl, ap, sym, subst, ◌∙◌, arith}
 use Rattle.bson_base.specs.Outcome.{result_map}
-use Rattle.bson_base.specs.Sound.{max_bytes, max_levels}
+use Rattle.bson_base.specs.Sound.{IsSound, max_bytes, max_levels}
 use Rattle.bson_base.specs.Text.{Bytes, AreBytes}
-use Rattle.bson_base.specs.Tree.{Tree, document, kind, enc}
+use Rattle.bson_base.specs.Tree.{Tree, document, raw, kind, enc}
 use Rattle.bson_base.specs.declared.element_type.ElementType.{ElementType}
 use Rattle.bson_base.specs.declared.element_type.ElementType.TheVariants.{EmbeddedDocument}
-use Rattle.bson_rawdoc.specs.Envelope.{envelope}
+use Rattle.bson_rawdoc.specs.Envelope.{is_closed, envelope}
 use Rattle.bson_rawdoc.specs.Node.{from_input, from_marked, node_in, inner_node, tree_node, mended}
 use Rattle.bson_shape.specs.Form.{Form, lossy}
 use Rattle.bson_shape.specs.Makers.{IsShape}
-use Rattle.bson_datum.specs.Cause.{raw}
+use Rattle.bson_datum.specs.Cause as cause
 use Rattle.bson_datum.specs.Marked.{Marked, contents}
 use Rattle.bson_datum.specs.Refusal.{bare, unreadable}
 use Rattle.bson_datum.specs.Value.{Value, kind_of}
 use Rattle.bson_laws.specs.CompactReads.{reads}
+use Rattle.bson_laws.specs.Plain.{OwnsTexts, IsPlain}
 use Rattle.bson_laws.specs.Reads as at_settled
 use Rattle.bson_laws.specs.Reads.{answered}
 use Rattle.bson_laws.specs.Settled.{settled, IsSettled}
-use Rattle.bson_laws.specs.Spell.{Writing, at_top, spell, spell_document, HoldsNumbers}
+use Rattle.bson_laws.specs.Spell.{Writing, at_top, spell, spell_document, IsWrittenUnlessLarge, HoldsNumbers}
+use Rattle.bson_laws.specs.Views.{views}
+use Rattle.bson_laws.specs.Writable.{IsWritable}
 use Rattle.bson_laws.proofs.Again.{again}
 use Rattle.bson_laws.proofs.Codec.{seen_again}
-use Rattle.bson_laws.proofs.Coded.{IsCoded}
-use Rattle.bson_laws.proofs.Documents.{node_read, document_numbers}
+use Rattle.bson_laws.proofs.Coded.{IsCoded, clean_coded}
+use Rattle.bson_laws.proofs.Documents.{mended_top, closed_top, node_read, top_written, document_numbers}
 use Rattle.bson_laws.proofs.Enveloped.{document_read}
 use Rattle.bson_laws.proofs.Given.{given_lossy}
 use Rattle.bson_laws.proofs.GivenAt.{reads_given}
+use Rattle.bson_laws.proofs.Lent.{lent_owned}
 use Rattle.bson_laws.proofs.Mended.{tree_mended}
-use Rattle.bson_laws.proofs.ReadBack.{envelope_again}
-use Rattle.bson_laws.proofs.Settled.{settled_same}
+use Rattle.bson_laws.proofs.ReadBack.{envelope_again, reads_again}
+use Rattle.bson_laws.proofs.Settled.{settled_same, plain_settled, writable_settled}
 use Rattle.bson_laws.proofs.Sizes.{spell_kind}
 use Rattle.bson_de_raw.specs.ReadsLossy.{reads_lossy_marked, reads_lossy}
 
@@ -40,6 +44,15 @@ lossy_read s b d e = document_read (lossy s) b d e
 pub lossy_numbers : (s : Form) (bytes : Bytes) (d : Value) → AreBytes bytes → reads_lossy s bytes ≡ Ok d → HoldsNumbers (spell_document d)
 lossy_numbers s bytes d are e = document_numbers (lossy s) bytes d are e
 
+-- what is read is written, unless it is too large
+pub lossy_written : (s : Form) (bytes : Bytes) (d : Value) → IsShape s → IsWritable s → AreBytes bytes → reads_lossy s bytes ≡ Ok d → IsWrittenUnlessLarge (spell_document d)
+lossy_written s bytes d shape c are e =
+    let r = node_read (lossy s) bytes d are e in
+    let n = node_in max_levels EmbeddedDocument r.0 in
+    let there = subst (λ x. at_settled.reads (lossy x) n ≡ Ok r.1) (settled_same false s (writable_settled s c.keys)) r.3 in
+    let given = given_lossy from_input (contents r.1) s (reads_given from_input (lossy s) n r.1 r.2 there) in
+    subst (λ v. IsWrittenUnlessLarge (spell_document v)) r.4 (top_written from_marked s (mended n) r.1 (mended_top n (closed_top (is_closed r.0) (Some r.0) _ _)) shape c given there)
+
 -- ---- again
 
 top_ok : (k : ElementType) (r : Writing Tree) (t : Tree) → at_top k r ≡ Ok t → (k ≡ EmbeddedDocument) × (r ≡ Ok t)
@@ -49,10 +62,24 @@ top_ok k r t e = absurd cc
 -- a document is read from its bytes as from itself
 coded_read : (s : Form) (t : Tree) (m : Marked) → IsCoded t → kind t ≡ EmbeddedDocument → length (enc t) < 2 ^ 31 → at_settled.reads (settled false s) (mended (tree_node from_input t max_levels)) ≡ Ok m → reads_lossy s (enc t) ≡ Ok (contents m)
 coded_read s (document ps) m c k small e =
-    ap (λ r. result_map contents (elim r [ Ok b ↦ answered (reads s (mended (node_in max_levels EmbeddedDocument b))) | Err f ↦ Err (bare (unreadable (raw f))) ])) (envelope_again ps small)
+    ap (λ r. result_map contents (elim r [ Ok b ↦ answered (reads s (mended (node_in max_levels EmbeddedDocument b))) | Err f ↦ Err (bare (unreadable (cause.raw f))) ])) (envelope_again ps small)
     ∙ ap (λ n. result_map contents (answered (reads s (mended n)))) (seen_again max_levels (document ps) c small)
     ∙ ap (λ q. result_map contents (answered q)) e
+coded_read s (raw EmbeddedDocument b) m c k small e =
+    ap (λ r. result_map contents (elim r [ Ok b ↦ answered (reads s (mended (node_in max_levels EmbeddedDocument b))) | Err f ↦ Err (bare (unreadable (cause.raw f))) ])) c
+    ∙ ap (λ q. result_map contents (answered q)) e
 coded_read s t m c k small e = absurd cc
+
+-- what a sound tree is at a plain shape is read from its bytes where texts are mended, if no text is borrowed
+pub lossy_views_read : (s : Form) (t : Tree) (v : Value) → IsShape s → OwnsTexts s → IsPlain s → IsSound t → views s t ≡ Some v → reads_lossy s (enc t) ≡ Ok v
+lossy_views_read s (document ps) v shape owned plain h e =
+    let small : length (enc (document ps)) < 2 ^ 31 = let f = h.fits in omega arith in
+    let coded = clean_coded (document ps) h.clean in
+    let r = reads_again from_marked s (document ps) v max_levels shape (lent_owned from_marked s refl owned) h.clean h.nests e in
+    coded_read s (document ps) r.0 coded refl small
+    (ap (λ x. at_settled.reads x (mended (tree_node from_input (document ps) max_levels))) (settled_same false s (plain_settled s plain)) ∙ ap (at_settled.reads s) (tree_mended from_input (document ps) max_levels coded) ∙ r.1)
+    ∙ ap Ok r.2
+lossy_views_read s t v shape owned plain h e = absurd h.document
 
 -- What was read from bytes and is spelled as a tree is read from the bytes of the tree again, as what is spelled as the same tree. The shape may have all
 -- levels that a shape may, so it is not the law at the shape whose texts are mended, which has one more.
@@ -64,7 +91,7 @@ lossy_document_again s bytes d t shape due are e spelled fits =
     let top = top_ok (kind_of d) (spell d max_levels) t spelled in
     let n = node_in max_levels EmbeddedDocument r.0 in
     let given = reads_given from_input (lossy s) n r.1 r.2 (subst (λ x. at_settled.reads (lossy x) n ≡ Ok r.1) same r.3) in
-    let k = again from_marked (contents r.1) s max_levels t shape due (given_lossy from_input (contents r.1) s given) (ap (λ v. spell v max_levels) r.4 ∙ top.1) in
+    let k = again from_marked (contents r.1) s max_levels t shape due (given_lossy from_input (contents r.1) s given) (omega (arith, fits)) (ap (λ v. spell v max_levels) r.4 ∙ top.1) in
     let is : kind t ≡ EmbeddedDocument = spell_kind false d max_levels t top.1 ∙ top.0 in (
       contents k.0,
       coded_read s t k.0 k.3 is (omega (arith, fits)) (ap (λ x. at_settled.reads x (mended (tree_node from_input t max_levels))) same ∙ ap (at_settled.reads s) (tree_mended from_input t max_levels k.3) ∙ k.1),

@@ -37,6 +37,9 @@ use std::alloc::Global;
 ///   `binary`, `regex`, `codews`, `decimal` and `dbpointer` the kind that they name; `bson` every value, and
 ///   `document` a document. A document with a wrapper key, as `$oid`, is taken there as the value that it
 ///   stands for. Each is the datum that `to_vec_at` writes as that value, and is owned.
+/// - `rawdoc` takes a document and `rawarray` an array: each is its bytes, and what is in it is not looked at. `rawbson`
+///   takes every value. A document and an array are their bytes there. Any other value is the datum that `to_vec_at`
+///   writes as that value; a scope is its bytes, and the options of a RegularExpression stay as they are.
 /// - `ignored` takes every value, and is the unit. The value is walked to its end, and so are every
 ///   document, array and scope in it.
 /// - An option is none at a Null, and some value of its shape at every other kind. A newtype takes what its
@@ -55,8 +58,9 @@ use std::alloc::Global;
 ///   stay unread.
 ///
 /// The texts at `str` and the byte strings at `bytes` are borrowed from the input, and so are all texts and byte
-/// strings at `any` that are there, the keys of its maps included, and the keys of a map whose key is `str`. All
-/// others are owned, and so are the names of structs, fields and variants, which are those in the shape.
+/// strings at `any` that are there, the keys of its maps included, and the keys of a map whose key is `str`. The
+/// documents and arrays at `rawdoc`, `rawarray` and `rawbson` are borrowed, and so are the texts at `rawbson` and the bytes of
+/// a Binary there. All others are owned, and so are the names of structs, fields and variants, which are those in the shape.
 ///
 /// Keys in the shape's order are found at once. The first other key of a struct with sixteen or more
 /// fields has the names put into a map, where it and each key after it that is not found at once is
@@ -82,7 +86,8 @@ use std::alloc::Global;
 ///   - `NotOneChar`: at `char` a String or a key of no character or of more than one.
 ///   - `NotUtf8`: at `str` and `string` a Binary of subtype 0 whose bytes are not UTF-8.
 ///   - `NotBorrowed`: at `str` and `bytes` a text, a key or a byte string that is not in the input, as the digits
-///     of an ObjectId that is opened.
+///     of an ObjectId that is opened; at `rawdoc` and `rawbson` a document that is not in the input, as the one inside the
+///     document that a DateTime is opened to.
 ///   - `InvalidLength`: at a struct, a tuple, a tuple struct and the contents of a tuple or a struct variant an
 ///     array of so many elements, which are fewer than its fields or parts; at `oid` a Binary of subtype 0 that has not
 ///     twelve bytes, and at `uuid` a Binary of subtype 4 that has not sixteen.
@@ -127,7 +132,8 @@ fn read_document<'de>(alloc: Global, shape: &Shape, bytes: &'de [u8]) -> de::Res
 ///
 /// - Each String, JavaScriptCode, Symbol and namespace of a DbPointer, the two texts of a RegularExpression and the code of a JavaScriptCodeWithScope are
 ///   mended: U+FFFD stands for each ill-formed sequence, as `String::from_utf8_lossy` writes it. Keys are not mended: one that is not UTF-8 is refused.
-/// - No text and no key is borrowed, and a Binary is borrowed at `bytes` alone. All others are owned, also at `any`.
+/// - No text and no key is borrowed, and a Binary is borrowed at `bytes` and `rawbson` alone. All others are owned, also at
+///   `any`. A document or an array in its bytes is borrowed, and nothing in it is mended.
 ///
 /// # Errors
 ///

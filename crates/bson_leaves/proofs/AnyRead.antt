@@ -48,10 +48,10 @@ any_entries_are (then_node k n ns) es =
 -- ---- values of the input
 
 -- the values in an array of the input, where a level is left for it
-pub array_within : (levels : ℕ) (b : Bytes) → 0 < levels → inner_node levels kinds.Array b ≡ array (nodes_with (node_in (levels - 1)) (walk b))
+pub array_within : (levels : ℕ) (b : Bytes) → 0 < levels → inner_node levels kinds.Array b ≡ array (Some b) (nodes_with (node_in (levels - 1)) (walk b))
 array_within levels b some = let e : levels ≡ suc (levels - 1) = omega (arith, some) in ap (λ l. inner_node l kinds.Array b) e
 
-pub document_within : (levels : ℕ) (b : Bytes) → 0 < levels → inner_node levels kinds.EmbeddedDocument b ≡ document (nodes_with (node_in (levels - 1)) (walk b))
+pub document_within : (levels : ℕ) (b : Bytes) → 0 < levels → inner_node levels kinds.EmbeddedDocument b ≡ document (Some b) (nodes_with (node_in (levels - 1)) (walk b))
 document_within levels b some = let e : levels ≡ suc (levels - 1) = omega (arith, some) in ap (λ l. inner_node l kinds.EmbeddedDocument b) e
 
 -- an array and a document of the input as values
@@ -106,7 +106,7 @@ walk_first see old new e first = ap (nodes_with see) first
 
 -- what is in a document is smaller than it
 document_of_smaller : (m : Node) (ns : Nodes) → document_of m ≡ Ok ns → sizes ns < size m
-document_of_smaller (document ms) ns e = let same : ms ≡ ns = cc in omega (arith, ap sizes same)
+document_of_smaller (document slice ms) ns e = let same : ms ≡ ns = cc in omega (arith, ap sizes same)
 document_of_smaller (extended x ms) ns e = let same : ms ≡ ns = cc in omega (arith, ap sizes same)
 document_of_smaller m ns e = absurd cc
 

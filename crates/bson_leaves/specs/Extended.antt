@@ -1,7 +1,7 @@
 -- The extended leaves: those whose values serde's data model lacks.
 use Rattle.std.specs.Prelude.{Bool, true, false}
 use Rattle.bson_shape.specs.declared.leaf.Leaf.{Leaf}
-use Rattle.bson_shape.specs.declared.leaf.Leaf.TheVariants.{ObjectId, DateTime, Binary, Timestamp, Regex, CodeWithScope, Decimal128, DbPointer, Uuid, Bson, Document}
+use Rattle.bson_shape.specs.declared.leaf.Leaf.TheVariants.{ObjectId, DateTime, Binary, Timestamp, Regex, CodeWithScope, Decimal128, DbPointer, Uuid, Bson, Document, RawDocument, RawArray, RawBson}
 
 abbrev pub is_extended : Leaf → Bool
 is_extended ObjectId = true
@@ -15,4 +15,7 @@ is_extended DbPointer = true
 is_extended Uuid = true
 is_extended Bson = true
 is_extended Document = true
+is_extended RawDocument = true
+is_extended RawArray = true
+is_extended RawBson = true
 is_extended l = false

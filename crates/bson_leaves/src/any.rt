@@ -58,8 +58,10 @@ fn any_elsewhere<'de>(alloc: Global, value: &Met<'de>) -> Reading<Datum<'de>>
         Value::String(text) => Ok(Datum::Str(text.to_text(alloc)?)),
         Value::Bytes(bytes) => Ok(Datum::Bytes(bytes.to_byte_str(alloc)?)),
         Value::Null => Ok(Datum::Unit),
-        Value::Array(items) => Ok(Datum::Seq(any_items(alloc, items)?)),
-        Value::Document(elements) => Ok(Datum::Map(any_entries(alloc, elements)?)),
+        Value::Array(array) => Ok(Datum::Seq(any_items(alloc, Items::of_array(array))?)),
+        Value::Document(document) => {
+            Ok(Datum::Map(any_entries(alloc, Elements::of_document(document))?))
+        }
         Value::Extended(value) => {
             Ok(Datum::Map(any_entries(alloc, Elements::of_extended(value))?))
         }

@@ -33,6 +33,9 @@ pub fn is_extended(leaf: Leaf) -> bool
             | Leaf::Uuid
             | Leaf::Bson
             | Leaf::Document
+            | Leaf::RawDocument
+            | Leaf::RawArray
+            | Leaf::RawBson
     )
 }
 

@@ -14,7 +14,7 @@ value_kind (symbol t) = refl
 value_kind (javascript_code_with_scope t s) = refl
 value_kind x = refl
 
-mended_kind : (n : Node) → kind_of (mended n) ≡ kind_of n
+pub mended_kind : (n : Node) → kind_of (mended n) ≡ kind_of n
 mended_kind (extended x ns) = value_kind x
 mended_kind n = refl
 
@@ -22,11 +22,11 @@ pub seen_kind : (mends : Bool) (n : Node) → kind_of (seen mends n) ≡ kind_of
 seen_kind false n = refl
 seen_kind true n = mended_kind n
 
-mended_null : (n : Node) → is_null (mended n) ≡ is_null n
+pub mended_null : (n : Node) → is_null (mended n) ≡ is_null n
 mended_null (double b) = refl
 mended_null (string t) = refl
-mended_null (document ns) = refl
-mended_null (array ns) = refl
+mended_null (document s ns) = refl
+mended_null (array s ns) = refl
 mended_null (bytes u b) = refl
 mended_null (boolean b) = refl
 mended_null null = refl

@@ -3,6 +3,7 @@ pub mod StoredNode
 pub mod Gives
 pub mod PieceView
 pub mod OpenedView
+pub mod ContainerView
 pub mod MetView
 pub mod ElementsView
 pub mod ItemsView

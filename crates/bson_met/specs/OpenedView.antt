@@ -1,12 +1,12 @@
 -- What contracts see of values of kinds that serde's data model lacks, and of what is left of the documents that they are opened to.
-use Rattle.std.specs.Prelude.{ℕ, pos, true, false, codes, [], ◌∷◌}
+use Rattle.std.specs.Prelude.{ℕ, pos, true, false, codes, [], ◌∷◌, None}
 use Rattle.bson_base.specs.BsonView.{pairs_of}
 use Rattle.bson_base.specs.Instant.{millis}
 use Rattle.bson_base.specs.declared.element_type.ElementType.TheVariants.{EmbeddedDocument}
 use Rattle.bson_rawdoc.specs.DocumentView.{document_bytes}
 use Rattle.bson_base.specs.Made.{digits, number_text, base64_text}
 use Rattle.bson_rawdoc.specs.Node as node
-use Rattle.bson_rawdoc.specs.Node.{from_memory, Node, Nodes, one, two, made_text, opened, inner_node, one_level, pair_nodes}
+use Rattle.bson_rawdoc.specs.Node.{from_memory, Node, Nodes, one, two, made_document, made_text, opened, inner_node, one_level, pair_nodes}
 use Rattle.bson_rawdoc.specs.Piece.{made}
 use Rattle.bson_met.specs.Seen.{seen}
 use Rattle.bson_met.specs.PieceView.{met_bytes, met_text}
@@ -24,7 +24,7 @@ use Rattle.bson_met.specs.declared.opened.Made.TheVariants as mades
 -- the names of a scope, with so many levels left for them
 abbrev pub names_node : ℕ → Names → Node
 names_node levels (Bytes d) = inner_node levels EmbeddedDocument (document_bytes d)
-names_node levels (Pairs d) = one_level EmbeddedDocument (pair_nodes from_memory (pairs_of d.now)) levels
+names_node levels (Pairs d) = one_level EmbeddedDocument None (pair_nodes from_memory (pairs_of d.now)) levels
 
 abbrev pub scope_node : Scope → Node
 scope_node s = seen s.mends (names_node s.levels s.names)
@@ -52,11 +52,11 @@ left_nodes places.Inside (node.date_time n) = one (codes "$numberLong") (made_te
 left_nodes places.Inside (node.binary s b) = two (codes "subType") (made_text (digits (s ∷ []))) (codes "base64") (made_text (base64_text b.bytes))
 left_nodes places.Inside (node.timestamp t i) = two (codes "t") (node.int64 (pos t)) (codes "i") (node.int64 (pos i))
 left_nodes places.Inside (node.regular_expression p o) = two (codes "pattern") (node.string p) (codes "options") (node.string o)
-left_nodes places.Inside (node.db_pointer n id) = two (codes "$ref") (node.string n) (codes "$id") (node.document (one (codes "$oid") (made_text (digits id))))
+left_nodes places.Inside (node.db_pointer n id) = two (codes "$ref") (node.string n) (codes "$id") (made_document (one (codes "$oid") (made_text (digits id))))
 left_nodes places.InsideBehind (node.binary s b) = one (codes "base64") (made_text (base64_text b.bytes))
 left_nodes places.InsideBehind (node.timestamp t i) = one (codes "i") (node.int64 (pos i))
 left_nodes places.InsideBehind (node.regular_expression p o) = one (codes "options") (node.string o)
-left_nodes places.InsideBehind (node.db_pointer n id) = one (codes "$id") (node.document (one (codes "$oid") (made_text (digits id))))
+left_nodes places.InsideBehind (node.db_pointer n id) = one (codes "$id") (made_document (one (codes "$oid") (made_text (digits id))))
 left_nodes places.Deep (node.db_pointer n id) = one (codes "$oid") (made_text (digits id))
 left_nodes p x = node.ended
 
@@ -69,4 +69,4 @@ made_node (mades.Bytes b) = node.bytes false (made b.bytes.now)
 made_node mades.True = node.boolean true
 made_node mades.One = node.int32 (pos 1)
 made_node (mades.Long n) = node.int64 (pos n)
-made_node (mades.Document o) = node.document (opened_nodes o)
+made_node (mades.Document o) = made_document (opened_nodes o)

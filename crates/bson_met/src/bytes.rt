@@ -37,6 +37,21 @@ impl<'de> MetBytes<'de> {
         Ok(ByteStr::Owned(self.bytes.to_vec(alloc)?))
     }
 
+    /// The bytes, borrowed where they are in the input: a byte string is, also where texts are mended.
+    ///
+    /// # Errors
+    ///
+    /// Memory ran out.
+    #[inline(always)]
+    pub fn borrow_or_copy(self, alloc: Global) -> Result<ByteStr<'de>, AllocError>
+        ensures piece { IfOk result (λ b. bytes_piece b ≡ met_bytes self.entry) }
+    {
+        if self.in_input {
+            return Ok(ByteStr::Borrowed(self.bytes));
+        }
+        Ok(ByteStr::Owned(self.bytes.to_vec(alloc)?))
+    }
+
     /// The bytes, which are not borrowed where texts are mended.
     #[inline(always)]
     pub fn owned_under_mark(self) -> MetBytes<'de>

@@ -1,24 +1,20 @@
-ghost use Rattle.std.specs.Prelude.{◌≡◌, ◌<◌, ◌^◌, false};
-ghost use Rattle.bson_base.specs.BsonView.{pairs_of};
-ghost use Rattle.bson_base.specs.declared.element_type.ElementType.TheVariants as kinds;
-ghost use Rattle.bson_rawdoc.specs.DocumentView.{document_bytes};
-ghost use Rattle.bson_rawdoc.specs.Node as node;
-ghost use Rattle.bson_rawdoc.specs.Node.{from_memory, node_in, nodes_with, inner_node, one_level, pair_nodes, opened, mended_nodes};
-ghost use Rattle.bson_laws.specs.Judged.{with_level};
+ghost use Rattle.std.specs.Prelude.{◌≡◌, ℕ, ◌<◌, ◌^◌, false};
+ghost use Rattle.bson_rawdoc.specs.Node.{from_memory, node_in, nodes_with, pair_nodes, opened};
+ghost use Rattle.bson_met.specs.ContainerView.{document_elements, elements_at};
 ghost use Rattle.bson_met.specs.ElementsView.{source_nodes};
-ghost use Rattle.bson_met.specs.Gives.{Reaches};
 ghost use Rattle.bson_met.specs.Next.{IsAdvanced, IsTaken};
 ghost use Rattle.bson_met.specs.OpenedView.{extended_view, opened_nodes};
 ghost use Rattle.bson_met.specs.Sizes.{count};
 ghost use Rattle.bson_met.specs.Seen.{seen_nodes};
 
+use crate::containers::{DocumentPlace, MetDocument};
 use crate::met::Met;
 use crate::opened::{Extended, First, Made, Opened, Place};
 use crate::reading::{Reading, refused};
 use crate::text::MetStr;
-use bson_base::{Document, Iter};
+use bson_base::Iter;
 use bson_datum::Cause;
-use bson_rawdoc::{RawDocument, RawIter};
+use bson_rawdoc::RawIter;
 use std::alloc::Global;
 use std::marker::Model;
 
@@ -69,45 +65,16 @@ pub struct Step<'de> {
 }
 
 impl<'de> Elements<'de> {
-    /// Those of a document of the input, where a level is left for it.
+    /// Those of a document.
     #[inline(always)]
-    pub(crate) fn in_document(
-        alloc: Global,
-        levels: u32,
-        document: RawDocument<'de>,
-    ) -> Reading<Elements<'de>>
-        ensures { Reaches node.document result
-            (with_level (inner_node levels kinds.EmbeddedDocument (document_bytes document.entry))) }
+    pub fn of_document(document: MetDocument<'de>) -> Elements<'de>
+        ensures elements { result ≡ document_elements document.entry }
     {
-        if levels == 0 {
-            return Err(refused(alloc, Cause::TooDeep));
+        Elements {
+            levels: document.levels,
+            mends: document.mends,
+            source: source_of(document.place),
         }
-        Ok(Elements {
-            levels: levels - 1,
-            mends: false,
-            source: Source::Bytes(document.iter_elements()),
-        })
-    }
-
-    /// Those of a document of a tree, where a level is left for it.
-    pub(crate) fn in_pairs(
-        alloc: Global,
-        levels: u32,
-        document: &'de Document,
-    ) -> Reading<Elements<'de>>
-        ensures { Reaches node.document result
-            (with_level (one_level kinds.EmbeddedDocument (pair_nodes from_memory (pairs_of document.now)) levels)) }
-    {
-        if levels == 0 {
-            return Err(refused(alloc, Cause::TooDeep));
-        }
-        // There are no more pairs than this.
-        let _len = document.len();
-        Ok(Elements {
-            levels: levels - 1,
-            mends: false,
-            source: Source::Pairs(document.iter()),
-        })
     }
 
     /// Those of the document that a value is opened to.
@@ -115,29 +82,10 @@ impl<'de> Elements<'de> {
         ensures opened { result ≡ opened (extended_view value.entry) }
     {
         let place = Place::Start;
-        Elements::of_opened(Opened { value, place })
-    }
-
-    /// Those that are left of the document that a value is opened to.
-    pub(crate) fn of_opened(opened: Opened<'de>) -> Elements<'de>
-        ensures { result ≡ opened_nodes opened.entry }
-    {
         Elements {
             levels: 0,
             mends: false,
-            source: Source::Opened(opened),
-        }
-    }
-
-    /// The same elements, whose texts are mended.
-    #[tactic(auto, using(crate::proofs::SeenAlike::seen_count, crate::proofs::SeenAlike::nodes_mended))]
-    pub(crate) fn mended(self) -> Elements<'de>
-        ensures { result ≡ mended_nodes self.entry }
-    {
-        Elements {
-            levels: self.levels,
-            mends: true,
-            source: self.source,
+            source: Source::Opened(Opened { value, place }),
         }
     }
 
@@ -164,6 +112,23 @@ impl<'de> Elements<'de> {
             Source::Pairs(pairs) => Ok(advance_in_pairs(levels, mends, pairs, step)),
             Source::Opened(opened) => Ok(advance_in_opened(mends, opened, step)),
         }
+    }
+}
+
+/// Where the elements of a document come from. There are fewer than 2 ^ 64.
+#[inline(always)]
+fn source_of<'de>(place: DocumentPlace<'de>) -> Source<'de>
+    ensures elements { (levels : ℕ) → source_nodes levels result ≡ elements_at levels place.entry }
+    ensures few { (levels : ℕ) → count (source_nodes levels result) < 2 ^ 64 }
+{
+    match place {
+        DocumentPlace::Bytes(document) => Source::Bytes(document.iter_elements()),
+        DocumentPlace::Pairs(document) => {
+            // There are no more pairs than this.
+            let _len = document.len();
+            Source::Pairs(document.iter())
+        }
+        DocumentPlace::Opened(opened) => Source::Opened(opened),
     }
 }
 

@@ -1,22 +1,18 @@
-ghost use Rattle.std.specs.Prelude.{◌≡◌, ◌<◌, ◌^◌, false};
-ghost use Rattle.bson_base.specs.BsonView.{trees_of};
-ghost use Rattle.bson_base.specs.declared.element_type.ElementType.TheVariants as kinds;
-ghost use Rattle.bson_rawdoc.specs.DocumentView.{array_bytes};
-ghost use Rattle.bson_rawdoc.specs.Node as node;
-ghost use Rattle.bson_rawdoc.specs.Node.{from_memory, node_in, nodes_with, inner_node, one_level, tree_nodes, mended_nodes};
-ghost use Rattle.bson_laws.specs.Judged.{with_level};
+ghost use Rattle.std.specs.Prelude.{◌≡◌, ℕ, ◌<◌, ◌^◌, false};
+ghost use Rattle.bson_rawdoc.specs.Node.{node_in, nodes_with};
+ghost use Rattle.bson_met.specs.ContainerView.{array_items, items_at};
 ghost use Rattle.bson_met.specs.ItemsView.{array_nodes, value_nodes};
-ghost use Rattle.bson_met.specs.Gives.{Reaches};
 ghost use Rattle.bson_met.specs.Next.{IsItemAdvanced, IsItemTaken};
 ghost use Rattle.bson_met.specs.Sizes.{count};
 ghost use Rattle.bson_met.specs.Seen.{seen_nodes};
 
+use crate::containers::{ArrayPlace, MetArray};
 use crate::met::Met;
 use crate::opened::Made;
 use crate::reading::{Reading, refused};
 use bson_base::Bson;
 use bson_datum::Cause;
-use bson_rawdoc::{RawArray, RawIter};
+use bson_rawdoc::RawIter;
 use std::alloc::Global;
 use std::marker::Model;
 
@@ -63,56 +59,15 @@ impl<'de> Model for Items<'de> {
 }
 
 impl<'de> Items<'de> {
-    /// Those of an array of the input, where a level is left for it.
+    /// Those of an array.
     #[inline(always)]
-    pub(crate) fn in_array(alloc: Global, levels: u32, array: RawArray<'de>) -> Reading<Items<'de>>
-        ensures { Reaches node.array result
-            (with_level (inner_node levels kinds.Array (array_bytes array.entry))) }
-    {
-        if levels == 0 {
-            return Err(refused(alloc, Cause::TooDeep));
-        }
-        Ok(Items {
-            levels: levels - 1,
-            mends: false,
-            array: Array::Bytes(array.as_doc().iter_elements()),
-        })
-    }
-
-    /// Those of an array of a tree, where a level is left for it.
-    pub(crate) fn in_values(
-        alloc: Global,
-        levels: u32,
-        values: &'de Vec<Bson>,
-    ) -> Reading<Items<'de>>
-        ensures { Reaches node.array result
-            (with_level (one_level kinds.Array (tree_nodes from_memory 0 (trees_of values.now.items)) levels)) }
-    {
-        if levels == 0 {
-            return Err(refused(alloc, Cause::TooDeep));
-        }
-        // There are no more values than this.
-        let _len = values.len();
-        let values = Values {
-            all: values.as_slice(),
-            index: 0,
-        };
-        Ok(Items {
-            levels: levels - 1,
-            mends: false,
-            array: Array::Values(values),
-        })
-    }
-
-    /// The same elements, whose texts are mended.
-    #[tactic(auto, using(crate::proofs::SeenAlike::seen_count, crate::proofs::SeenAlike::nodes_mended))]
-    pub(crate) fn mended(self) -> Items<'de>
-        ensures { result ≡ mended_nodes self.entry }
+    pub fn of_array(array: MetArray<'de>) -> Items<'de>
+        ensures elements { result ≡ array_items array.entry }
     {
         Items {
-            levels: self.levels,
-            mends: true,
-            array: self.array,
+            levels: array.levels,
+            mends: array.mends,
+            array: source_of(array.place),
         }
     }
 
@@ -134,6 +89,25 @@ impl<'de> Items<'de> {
         match &mut self.array {
             Array::Bytes(elements) => advance_in_bytes(alloc, levels, mends, elements, value),
             Array::Values(values) => Ok(advance_in_values(levels, mends, values, value)),
+        }
+    }
+}
+
+/// Where the elements of an array come from. There are fewer than 2 ^ 64.
+#[inline(always)]
+fn source_of<'de>(place: ArrayPlace<'de>) -> Array<'de>
+    ensures elements { (levels : ℕ) → array_nodes levels result ≡ items_at levels place.entry }
+    ensures few { (levels : ℕ) → count (array_nodes levels result) < 2 ^ 64 }
+{
+    match place {
+        ArrayPlace::Bytes(array) => Array::Bytes(array.as_doc().iter_elements()),
+        ArrayPlace::Values(values) => {
+            // There are no more values than this.
+            let _len = values.len();
+            Array::Values(Values {
+                all: values.as_slice(),
+                index: 0,
+            })
         }
     }
 }

@@ -1,5 +1,5 @@
 // Values, judged.
-ghost use Rattle.std.specs.Prelude.{◌≡◌, true, false, Ok, string_bytes};
+ghost use Rattle.std.specs.Prelude.{◌≡◌, true, false, None, Ok, string_bytes};
 ghost use Rattle.std.specs.Str.{is_utf8};
 ghost use Rattle.bson_base.specs.BsonView.{tree_of, pairs_of};
 ghost use Rattle.bson_base.specs.declared.element_type.ElementType.TheVariants as kinds;
@@ -17,8 +17,7 @@ ghost use Rattle.bson_met.specs.PieceView.{met_bytes, met_text};
 ghost use Rattle.bson_met.specs.ValueView.{value_view};
 
 use crate::bytes::MetBytes;
-use crate::elements::Elements;
-use crate::items::Items;
+use crate::containers::{MetArray, MetDocument};
 use crate::met::What;
 use crate::opened::{Extended, Made, Names, Scope};
 use crate::reading::{Reading, refused};
@@ -67,17 +66,17 @@ fn judge_document<'de>(
     ensures { Reaches value_view result
         (judged (inner_node levels kinds.EmbeddedDocument (document_bytes document.entry))) }
 {
-    let elements = Elements::in_document(alloc, levels, document)?;
-    Ok(Value::Document(elements))
+    let document = MetDocument::in_bytes(alloc, levels, document)?;
+    Ok(Value::Document(document))
 }
 
 /// A document of a tree.
 fn judge_pairs<'de>(alloc: Global, levels: u32, document: &'de Document) -> Reading<Value<'de>>
     ensures { Reaches value_view result
-        (judged (one_level kinds.EmbeddedDocument (pair_nodes from_memory (pairs_of document.now)) levels)) }
+        (judged (one_level kinds.EmbeddedDocument None (pair_nodes from_memory (pairs_of document.now)) levels)) }
 {
-    let elements = Elements::in_pairs(alloc, levels, document)?;
-    Ok(Value::Document(elements))
+    let document = MetDocument::in_pairs(alloc, levels, document)?;
+    Ok(Value::Document(document))
 }
 
 /// A value in a document that another value is opened to.
@@ -98,7 +97,7 @@ fn judge_made<'de>(made: Made<'de>) -> Value<'de>
         Made::True => Value::Boolean(true),
         Made::One => Value::Int32(1),
         Made::Long(number) => Value::Int64(i64::from(number)),
-        Made::Document(opened) => Value::Document(Elements::of_opened(opened)),
+        Made::Document(opened) => Value::Document(MetDocument::of_opened(opened)),
     }
 }
 
@@ -118,9 +117,9 @@ fn judge_raw<'de>(
         RawBsonRef::Int64(number) => Value::Int64(number),
         RawBsonRef::String(text) => Value::String(input_text(text)),
         RawBsonRef::Document(document) => {
-            Value::Document(Elements::in_document(alloc, levels, document)?)
+            Value::Document(MetDocument::in_bytes(alloc, levels, document)?)
         }
-        RawBsonRef::Array(array) => Value::Array(Items::in_array(alloc, levels, array)?),
+        RawBsonRef::Array(array) => Value::Array(MetArray::in_bytes(alloc, levels, array)?),
         RawBsonRef::Boolean(boolean) => Value::Boolean(boolean),
         RawBsonRef::Double(double) => Value::Double(double),
         RawBsonRef::Null => Value::Null,
@@ -187,9 +186,9 @@ fn judge_tree<'de>(alloc: Global, levels: u32, value: &'de Bson) -> Reading<Valu
         Bson::Int64(number) => Ok(Value::Int64(*number)),
         Bson::String(text) => Ok(Value::String(own_text(as_text(text)))),
         Bson::Document(document) => {
-            Ok(Value::Document(Elements::in_pairs(alloc, levels, document)?))
+            Ok(Value::Document(MetDocument::in_pairs(alloc, levels, document)?))
         }
-        Bson::Array(values) => Ok(Value::Array(Items::in_values(alloc, levels, values)?)),
+        Bson::Array(values) => Ok(Value::Array(MetArray::in_values(alloc, levels, values)?)),
         Bson::Boolean(boolean) => Ok(Value::Boolean(*boolean)),
         Bson::Double(double) => Ok(Value::Double(*double)),
         Bson::Null => Ok(Value::Null),

@@ -1,6 +1,6 @@
 // Values of kinds that serde's data model lacks, and the documents that they are opened to.
 ghost use Rattle.std.specs.Prelude.{◌≡◌, Some};
-ghost use Rattle.bson_rawdoc.specs.Node.{extended_kind, kind_of, string, document, mended, mended_value};
+ghost use Rattle.bson_rawdoc.specs.Node.{extended_kind, kind_of, string, made_document, mended, mended_value};
 ghost use Rattle.bson_met.specs.First.{IsFirst};
 ghost use Rattle.bson_met.specs.OpenedView.{extended_view, made_node, left_nodes, scope_node};
 ghost use Rattle.bson_met.specs.PieceView.{met_text};
@@ -204,7 +204,7 @@ fn text_at<'de>(key: &'de str, text: MetText<'de>, rest: Place) -> First<'de>
 /// The document inside, at a key, behind which nothing is left.
 fn document_at<'de>(key: &'de str, value: Extended<'de>) -> First<'de>
     ensures key { result.key.now ≡ key.now }
-    ensures value { result.value ≡ document (left_nodes Place.Inside (extended_view value.entry)) }
+    ensures value { result.value ≡ made_document (left_nodes Place.Inside (extended_view value.entry)) }
     ensures rest { result.rest ≡ Place.End }
 {
     let place = Place::Inside;

@@ -7,7 +7,7 @@ ghost use Rattle.bson_slots.specs.Place.{place_of};
 
 use bson_shape::Named;
 use std::alloc::{AllocError, Global};
-use std::collections::HashMap;
+use std::collections::BTreeMap;
 
 /// Below this count of names a scan is as fast as a map.
 const FEW: usize = 16;
@@ -20,7 +20,7 @@ pub struct NameIndex<'s, T: Named> {
     /// The place behind that of the one that was found last.
     next: usize,
     /// The places by the names, made for the first name that was not found at once.
-    places: Option<HashMap<&'s str, usize>>,
+    places: Option<BTreeMap<&'s str, usize>>,
     ghost distinct: { has_repeat (map T.named items.now) ≡ false },
     ghost indexed: { ForSome places (λ m. Indexes m (map T.named items.now)) },
 }
@@ -41,8 +41,8 @@ impl<'s, T: Named> NameIndex<'s, T> {
     /// The place of the field or variant that has the name, from 0, or `None` where none has it.
     ///
     /// The one behind that which was found last is tried first, so names in the shape's order are found at once. From 16
-    /// names on, any other name is looked up in a hash map, which is made for the first of them. Where memory for the map
-    /// runs out, the names are scanned instead.
+    /// names on, any other name is looked up in a map, which is made for the first of them, in as many steps as the logarithm
+    /// of their number, whatever the names are. Where memory for the map runs out, the names are scanned instead.
     pub fn place_of(&mut self, alloc: Global, name: &str) -> Option<usize>
         ensures place { result ≡ place_of (map T.named self.old.items.now) name.now }
         ensures within { IfSome result (λ i. i < length self.old.items.now) }
@@ -106,11 +106,11 @@ impl<'s, T: Named> NameIndex<'s, T> {
 }
 
 /// The places of fields or variants, by their names.
-fn places_of<T: Named>(alloc: Global, items: &[T]) -> Result<HashMap<&str, usize>, AllocError>
+fn places_of<T: Named>(alloc: Global, items: &[T]) -> Result<BTreeMap<&str, usize>, AllocError>
     requires { has_repeat (map T.named items.now) ≡ false }
     ensures { IfOk result (λ m. Indexes m (map T.named items.now)) }
 {
-    let mut places = HashMap::with_capacity(alloc, items.len())?;
+    let mut places = BTreeMap::new(alloc);
     for (place, item) in items.iter().enumerate() {
         places.insert(item.name(), place)?;
     }

@@ -41,7 +41,7 @@ pub fn buffer(alloc: Global, value: &Met<'_>) -> Reading<Vec<u8>>
     match value.judge(alloc)? {
         Value::Bytes(bytes) => Ok(bytes.bytes.to_vec(alloc)?),
         Value::String(text) => Ok(text.to_string(alloc)?.into_bytes()),
-        Value::Array(items) => bytes_of_items(alloc, items),
+        Value::Array(array) => bytes_of_items(alloc, Items::of_array(array)),
         other => Err(refused(alloc, Cause::InvalidType(other.kind()))),
     }
 }

@@ -34,8 +34,8 @@ fn ignore_other(alloc: Global, value: &Met<'_>) -> Reading<()>
     ensures exact { Reaches (λ u. u) result (pass_at value.now) }
 {
     match value.judge(alloc)? {
-        Value::Document(elements) => ignore_elements(alloc, elements),
-        Value::Array(items) => ignore_items(alloc, items),
+        Value::Document(document) => ignore_elements(alloc, Elements::of_document(document)),
+        Value::Array(array) => ignore_items(alloc, Items::of_array(array)),
         Value::Extended(value) => ignore_scope(alloc, value),
         Value::Double(_)
         | Value::String(_)

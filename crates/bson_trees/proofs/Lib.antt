@@ -1,3 +1,4 @@
 pub mod ExtendedLeaves
+pub mod ReadKinds
 pub mod TreeData
 pub mod WrappedKinds

@@ -40,7 +40,7 @@ use Rattle.bson_texts.proofs.Loops.{judged_same}
 use Rattle.bson_wrapped.specs.Bodies.{is_body, body_of, body_at}
 use Rattle.bson_wrapped.specs.Data.{scoped_datum}
 use Rattle.bson_wrapped.proofs.Made.{err_is, stops_through, under_map}
-use Rattle.bson_trees.specs.Trees.{tree_at, tree_under, elements_from, wrapped_tree, wrapped_at, code_from, scope_from, entries_at, scope_at, extended_at, is_map}
+use Rattle.bson_trees.specs.Trees.{tree_at, tree_under, elements_from, wrapped_tree, wrapped_at, code_from, scope_from, entries_at, scope_at, extended_at, is_map, is_raw}
 
 -- ---- refusals
 
@@ -213,11 +213,12 @@ pub other_tree : (t : Tree) (v : Marked) → is_map v ≡ false → datum made t
 other_tree (tree.document ps) v none e = absurd (let b : true ≡ false = ap is_map e ∙ none in cc)
 other_tree t v none e = refl
 
-datum_kind : (t : Tree) → kind_of (datum itself t) ≡ kind t
-datum_kind (tree.binary zero b) = refl
-datum_kind (tree.binary (suc n) b) = refl
-datum_kind t = refl
+datum_kind : (t : Tree) → is_raw t ≡ false → kind_of (datum itself t) ≡ kind t
+datum_kind (tree.binary zero b) e = refl
+datum_kind (tree.binary (suc n) b) e = refl
+datum_kind (tree.raw k b) e = absurd cc
+datum_kind t e = refl
 
 -- data are written as the kind of their tree
-pub kind_is : (d : Datum) (t : Tree) → datum made t ≡ marked d → kind_of (view d) ≡ kind t
-kind_is d t e = ap kind_of (sym (marked-contents d) ∙ ap contents (sym e) ∙ datum_contents t) ∙ datum_kind t
+pub kind_is : (d : Datum) (t : Tree) → is_raw t ≡ false → datum made t ≡ marked d → kind_of (view d) ≡ kind t
+kind_is d t plain e = ap kind_of (sym (marked-contents d) ∙ ap contents (sym e) ∙ datum_contents t) ∙ datum_kind t plain

@@ -32,24 +32,26 @@ use Rattle.bson_laws.proofs.Sizes.{under_ok}
 use Rattle.bson_wrapped.specs.Bodies.{body_of}
 use Rattle.bson_trees.specs.Leaves.{makes_binary}
 
-abbrev pub is_binary : Tree → Bool
-is_binary (tree.binary subtype b) = true
-is_binary t = false
+-- a binary, or what is given by its bytes
+abbrev pub is_binary_or_raw : Tree → Bool
+is_binary_or_raw (tree.binary subtype b) = true
+is_binary_or_raw (tree.raw k b) = true
+is_binary_or_raw t = false
 
--- no tree that is made is a binary
+-- no tree that is made is a binary, or is given by its bytes
 abbrev MakesOther : {X : Type 0} → (X → Option Tree) → Type 0
-MakesOther {X = X} make = (x : X) (t : Tree) → make x ≡ Some t → is_binary t ≡ false
+MakesOther {X = X} make = (x : X) (t : Tree) → make x ≡ Some t → is_binary_or_raw t ≡ false
 
 abbrev BodyOther : Body → Type 0
-BodyOther read = (n : Node) (t : Tree) → read n ≡ Ok (Some t) → is_binary t ≡ false
+BodyOther read = (n : Node) (t : Tree) → read n ≡ Ok (Some t) → is_binary_or_raw t ≡ false
 
-some_other : (u t : Tree) → is_binary u ≡ false → Some u ≡ Some t → is_binary t ≡ false
-some_other u t other e = ap is_binary (sym (some_is u t e)) ∙ other
+some_other : (u t : Tree) → is_binary_or_raw u ≡ false → Some u ≡ Some t → is_binary_or_raw t ≡ false
+some_other u t other e = ap is_binary_or_raw (sym (some_is u t e)) ∙ other
 
-mapped_other : {A : Type 0} (f : A → Tree) (o : Option A) (t : Tree) → ((x : A) → is_binary (f x) ≡ false) → option_map f o ≡ Some t → is_binary t ≡ false
-mapped_other f o t other e = let m = some_map f o t e in ap is_binary (sym m.2) ∙ other m.0
+mapped_other : {A : Type 0} (f : A → Tree) (o : Option A) (t : Tree) → ((x : A) → is_binary_or_raw (f x) ≡ false) → option_map f o ≡ Some t → is_binary_or_raw t ≡ false
+mapped_other f o t other e = let m = some_map f o t e in ap is_binary_or_raw (sym m.2) ∙ other m.0
 
-chosen_other : (b : Bool) (u t : Tree) → is_binary u ≡ false → (let o : Option Tree = cond b (Some u) None in o) ≡ Some t → is_binary t ≡ false
+chosen_other : (b : Bool) (u t : Tree) → is_binary_or_raw u ≡ false → (let o : Option Tree = cond b (Some u) None in o) ≡ Some t → is_binary_or_raw t ≡ false
 chosen_other true u t other e = some_other u t other e
 chosen_other false u t other e = absurd cc
 
@@ -91,7 +93,7 @@ judging_other read h n t e = let m = bind_ok (judged n) (read) (Some t) e in h m
 id_other : MakesOther id_of_text
 id_other x t e = mapped_other tree.object_id (bytes_of_digits 12 x) t (λ b. refl) e
 
-length_other : (n : ℕ) (make : Bytes → Tree) → ((b : Bytes) → is_binary (make b) ≡ false) → MakesOther (of_length n make)
+length_other : (n : ℕ) (make : Bytes → Tree) → ((b : Bytes) → is_binary_or_raw (make b) ≡ false) → MakesOther (of_length n make)
 length_other n make h b t e = chosen_other (nat_eq (length b) n) (make b) t (h b) e
 
 oid_other : BodyOther oid_body
@@ -111,13 +113,13 @@ int32_other x t e = let m = some_then int32_of (integer_of_text x) t e in chosen
 
 double_other : MakesOther double_of_text
 double_other x t e = one_of_three _ _ _ (bytes_eq x (codes "Infinity")) (bytes_eq x (codes "-Infinity")) (bytes_eq x (codes "NaN")) e where
-  one_of_three : (u v w : Bytes) (a b c : Bool) → (let o : Option Tree = cond a (Some (tree.double u)) (cond b (Some (tree.double v)) (cond c (Some (tree.double w)) None)) in o) ≡ Some t → is_binary t ≡ false
+  one_of_three : (u v w : Bytes) (a b c : Bool) → (let o : Option Tree = cond a (Some (tree.double u)) (cond b (Some (tree.double v)) (cond c (Some (tree.double w)) None)) in o) ≡ Some t → is_binary_or_raw t ≡ false
   one_of_three u v w true b c e = some_other (tree.double u) t refl e
   one_of_three u v w false true c e = some_other (tree.double v) t refl e
   one_of_three u v w false false true e = some_other (tree.double w) t refl e
   one_of_three u v w false false false e = absurd cc
 
-if_other : (b : Bool) (u t : Tree) → is_binary u ≡ false → tree_if b u ≡ Some t → is_binary t ≡ false
+if_other : (b : Bool) (u t : Tree) → is_binary_or_raw u ≡ false → tree_if b u ≡ Some t → is_binary_or_raw t ≡ false
 if_other true u t other e = some_other u t other e
 if_other false u t other e = absurd cc
 
@@ -172,20 +174,20 @@ body_other NumberDecimalBytes other =
 
 -- ---- code
 
-ok_other : (u t : Tree) → is_binary u ≡ false → (let r : Reading Tree = Ok u in r) ≡ Ok t → is_binary t ≡ false
-ok_other u t other e = ap is_binary (sym (ok_is u t e)) ∙ other
+ok_other : (u t : Tree) → is_binary_or_raw u ≡ false → (let r : Reading Tree = Ok u in r) ≡ Ok t → is_binary_or_raw t ≡ false
+ok_other u t other e = ap is_binary_or_raw (sym (ok_is u t e)) ∙ other
 
-scoped_other : {A : Type 0} (b : Bool) (f : A → Tree) (r : Reading A) (c : Cause) (t : Tree) → ((x : A) → is_binary (f x) ≡ false) → cond b (result_map f r) (refused c) ≡ Ok t → is_binary t ≡ false
-scoped_other true f r c t h e = let m = map_ok f r t e in ap is_binary (sym m.2) ∙ h m.0
+scoped_other : {A : Type 0} (b : Bool) (f : A → Tree) (r : Reading A) (c : Cause) (t : Tree) → ((x : A) → is_binary_or_raw (f x) ≡ false) → cond b (result_map f r) (refused c) ≡ Ok t → is_binary_or_raw t ≡ false
+scoped_other true f r c t h e = let m = map_ok f r t e in ap is_binary_or_raw (sym m.2) ∙ h m.0
 scoped_other false f r c t h e = absurd cc
 
-code_other : (x : Utf8) (ns : Nodes) (t : Tree) → after_code x ns ≡ Ok t → is_binary t ≡ false
+code_other : (x : Utf8) (ns : Nodes) (t : Tree) → after_code x ns ≡ Ok t → is_binary_or_raw t ≡ false
 code_other x ended t e = ok_other (tree.javascript_code x) t refl e
 code_other x (faulty f) t e = absurd cc
 code_other x (then_node k n ns) t e =
     scoped_other (bytes_eq k.bytes scope_key) (tree.javascript_code_with_scope x) (under k.bytes ((judged n >>= λ _. as_tree n) >>= pairs_in)) (unknown_field k.bytes) t (λ ps. refl) e
 
-scope_other : (ps : Pairs) (ns : Nodes) (t : Tree) → after_scope ps ns ≡ Ok t → is_binary t ≡ false
+scope_other : (ps : Pairs) (ns : Nodes) (t : Tree) → after_scope ps ns ≡ Ok t → is_binary_or_raw t ≡ false
 scope_other ps ended t e = absurd cc
 scope_other ps (faulty f) t e = absurd cc
 scope_other ps (then_node k n ns) t e =
@@ -193,22 +195,23 @@ scope_other ps (then_node k n ns) t e =
 
 -- ---- wrapper keys
 
-valid_is : (w : Wrapper) (o : Option Tree) (t : Tree) → or_bad w o ≡ Ok t → o ≡ Some t
+pub valid_is : (w : Wrapper) (o : Option Tree) (t : Tree) → or_bad w o ≡ Ok t → o ≡ Some t
 valid_is w (Some u) t e = ap Some (ok_is u t e)
 valid_is w None t e = absurd cc
 
 by_other : (w : Wrapper) (m : Meaning) (key : Utf8) (n : Node) (ns : Nodes) (r : Reading Tree) (t : Tree) → BodyOther (body_of m)
-    → by_meaning w m key n r (λ x. after_code x ns) (λ ps. after_scope ps ns) ≡ Ok t → is_binary t ≡ false
+    → by_meaning w m key n r (λ x. after_code x ns) (λ ps. after_scope ps ns) ≡ Ok t → is_binary_or_raw t ≡ false
 by_other w (body read) key n ns r t h e =
     let m = bind_ok (read n) (or_bad w) t (under_ok key (read n >>= or_bad w) t e) in h n t (m.1 ∙ ap Ok (valid_is w m.0 t m.2))
 by_other w code key n ns r t h e = let m = bind_ok (under key (text_at n)) (λ x. after_code x ns) t e in code_other m.0 ns t m.2
 by_other w scope key n ns r t h e = let m = bind_ok (under key (r >>= pairs_in)) (λ ps. after_scope ps ns) t e in scope_other m.0 ns t m.2
 
 pub wrapped_other : (w : Wrapper) → makes_binary w ≡ false → (key : Utf8) (n : Node) (ns : Nodes) (r : Reading Tree) (t : Tree)
-    → by_meaning w (meaning w) key n r (λ x. after_code x ns) (λ ps. after_scope ps ns) ≡ Ok t → is_binary t ≡ false
+    → by_meaning w (meaning w) key n r (λ x. after_code x ns) (λ ps. after_scope ps ns) ≡ Ok t → is_binary_or_raw t ≡ false
 wrapped_other w other key n ns r t e = by_other w (meaning w) key n ns r t (body_other w other) e
 
 -- a tree that is no binary is no UUID
-pub other_uuid : (t : Tree) → is_binary t ≡ false → uuid_in t ≡ refused (wrong_kind (kind t))
+pub other_uuid : (t : Tree) → is_binary_or_raw t ≡ false → uuid_in t ≡ refused (wrong_kind (kind t))
 other_uuid (tree.binary subtype b) e = absurd cc
+other_uuid (tree.raw k b) e = absurd cc
 other_uuid t e = refl

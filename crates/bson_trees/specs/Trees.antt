@@ -53,6 +53,11 @@ entries_at n = result_map (pair_data made) (read_tree n >>= pairs_in)
 abbrev pub scope_at : Utf8 → Node → Reading MarkedEntries
 scope_at key n = under key (entries_at n)
 
+-- what is given by its bytes: no tree that is read is
+abbrev pub is_raw : Tree → Bool
+is_raw (tree.raw k b) = true
+is_raw t = false
+
 abbrev pub is_map : Marked → Bool
 is_map (value.map es) = true
 is_map v = false

@@ -1,5 +1,5 @@
 // Values at the leaves of extended kinds.
-ghost use Rattle.std.specs.Prelude.{◌≡◌, true};
+ghost use Rattle.std.specs.Prelude.{◌≡◌, true, false};
 ghost use Rattle.bson_base.specs.Tree.{Tree};
 ghost use Rattle.bson_rawdoc.specs.Piece.{made};
 ghost use Rattle.bson_shape.specs.Form as form;
@@ -9,13 +9,15 @@ ghost use Rattle.bson_laws.specs.Reads.{reads};
 ghost use Rattle.bson_leaves.specs.Extended.{is_extended};
 ghost use Rattle.bson_met.specs.Gives.{Reaches};
 ghost use Rattle.bson_met.specs.PieceView.{met_text};
+ghost use Rattle.bson_trees.specs.Trees.{is_raw};
 ghost use Rattle.bson_trees.specs.Leaves.{object_id_from, id_of_digits, id_of_bytes, kind_from, kind_of_tree, documents_from};
 
+use crate::raw::{raw_array, raw_document, raw_value};
 use crate::trees::{read_elements, read_entries, read_tree};
 use crate::unique_id::uuid;
 use bson_base::ElementType;
 use bson_datum::{Cause, Datum, Wrapper};
-use bson_met::{Extended, Met, MetText, Reading, Value, refused};
+use bson_met::{Elements, Extended, Met, MetText, Reading, Value, refused};
 use bson_shape::Leaf;
 use bson_wrapped::{data, id_of_text};
 use std::alloc::Global;
@@ -23,7 +25,8 @@ use std::alloc::Global;
 /// The number of bytes of an ObjectId.
 const ID_LENGTH: usize = 12;
 
-/// The value at an extended leaf: an extended value, or a document that stands for one. All texts and byte strings in it are owned.
+/// The value at an extended leaf: an extended value, or a document that stands for one. All texts and byte strings in it are owned; at a raw leaf the bytes of a
+/// document and of an array are borrowed, and so are texts and byte strings where they are in the input.
 ///
 /// Source: the extended types of MongoDB's crate `bson`, version 2, and MongoDB's extended JSON, version 2.
 ///
@@ -48,6 +51,9 @@ pub fn read_extended<'de>(alloc: Global, leaf: Leaf, value: &Met<'de>) -> Readin
         Leaf::CodeWithScope => of_kind(alloc, ElementType::JavaScriptCodeWithScope, value),
         Leaf::Decimal128 => of_kind(alloc, ElementType::Decimal128, value),
         Leaf::DbPointer => of_kind(alloc, ElementType::DbPointer, value),
+        Leaf::RawDocument => raw_document(alloc, value),
+        Leaf::RawArray => raw_array(alloc, value),
+        Leaf::RawBson => raw_value(alloc, value),
         _ => unreachable!(),
     }
 }
@@ -62,7 +68,7 @@ fn of_kind<'de>(alloc: Global, kind: ElementType, value: &Met<'de>) -> Reading<D
 
 /// The value, where it is of this kind.
 fn with_kind<'de>(alloc: Global, kind: ElementType, value: Datum<'de>) -> Reading<Datum<'de>>
-    ensures exact { (t : Tree) → datum made t ≡ marked value.entry → Reaches marked result (kind_of_tree kind t) }
+    ensures exact { (t : Tree) → is_raw t ≡ false → datum made t ≡ marked value.entry → Reaches marked result (kind_of_tree kind t) }
 {
     let found = value.element_type();
     if found == kind {
@@ -80,8 +86,8 @@ fn object_id<'de>(alloc: Global, value: &Met<'de>) -> Reading<Datum<'de>>
         Value::Extended(Extended::ObjectId(id)) => Ok(data::object_id(alloc, id.bytes)?),
         Value::String(text) => digits(alloc, text),
         Value::Bytes(bytes) => id_bytes(alloc, bytes.bytes),
-        Value::Document(elements) => {
-            let value = read_elements(alloc, elements)?;
+        Value::Document(document) => {
+            let value = read_elements(alloc, Elements::of_document(document))?;
             with_kind(alloc, ElementType::ObjectId, value)
         }
         other => Err(refused(alloc, Cause::InvalidType(other.kind()))),

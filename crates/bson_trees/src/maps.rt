@@ -1,5 +1,5 @@
 // Data that are maps.
-ghost use Rattle.std.specs.Prelude.{◌≡◌, true};
+ghost use Rattle.std.specs.Prelude.{◌≡◌, true, false};
 ghost use Rattle.bson_base.specs.Outcome.{result_map};
 ghost use Rattle.bson_base.specs.Tree.{Tree};
 ghost use Rattle.bson_rawdoc.specs.Piece.{made};
@@ -9,7 +9,7 @@ ghost use Rattle.bson_laws.specs.Datum.{datum, pair_data};
 ghost use Rattle.bson_laws.specs.Trees.{pairs_in};
 ghost use Rattle.bson_met.specs.Gives.{Reaches};
 ghost use Rattle.bson_texts.specs.ListsMarked.{entries_marked};
-ghost use Rattle.bson_trees.specs.Trees.{is_map};
+ghost use Rattle.bson_trees.specs.Trees.{is_map, is_raw};
 
 use bson_datum::{Cause, Datum, Entry};
 use bson_met::{Reading, refused};
@@ -17,7 +17,7 @@ use std::alloc::Global;
 
 /// The entries of a value that was read as a tree, where it is a document.
 pub(crate) fn entries_of<'de>(alloc: Global, value: Datum<'de>) -> Reading<Vec<Entry<'de>>>
-    ensures exact { (t : Tree) → datum made t ≡ marked value.entry
+    ensures exact { (t : Tree) → is_raw t ≡ false → datum made t ≡ marked value.entry
         → Reaches (λ v. entries_marked v.items) result (result_map (pair_data made) (pairs_in t)) }
 {
     if is_map(&value) {

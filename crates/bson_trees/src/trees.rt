@@ -38,8 +38,8 @@ pub(crate) fn read_tree<'de>(alloc: Global, value: &Met<'de>) -> Reading<Datum<'
         Value::String(text) => Ok(Datum::Str(Text::Owned(text.to_string(alloc)?))),
         Value::Bytes(bytes) => Ok(data::bytes(alloc, bytes.bytes)?),
         Value::Null => Ok(Datum::Unit),
-        Value::Array(items) => Ok(Datum::Seq(read_items(alloc, items)?)),
-        Value::Document(elements) => read_elements(alloc, elements),
+        Value::Array(array) => Ok(Datum::Seq(read_items(alloc, Items::of_array(array))?)),
+        Value::Document(document) => read_elements(alloc, Elements::of_document(document)),
         Value::Extended(value) => read_extended_value(alloc, value),
     }
 }

@@ -45,7 +45,7 @@ fn id_of(alloc: Global, value: &Met<'_>) -> Reading<Uuid>
             Err(refused(alloc, Cause::Subtype(subtype.0)))
         }
         Value::String(text) => id_of_text(alloc, text),
-        Value::Document(elements) => id_in(alloc, elements),
+        Value::Document(document) => id_in(alloc, Elements::of_document(document)),
         other => Err(refused(alloc, Cause::InvalidType(other.kind()))),
     }
 }

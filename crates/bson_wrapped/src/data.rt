@@ -1,4 +1,4 @@
-// Extended values as data: the structs of their reserved names. All texts, names and byte strings in them are owned.
+// Extended values as data: the structs of their reserved names. All texts, names and byte strings in them are owned, but those in data that are handed in.
 ghost use Rattle.std.specs.Prelude.{◌≡◌, [], ◌∷◌, true, codes, string_bytes, IfOk};
 ghost use Rattle.bson_base.specs.Made.{digits};
 ghost use Rattle.bson_base.specs.Instant.{millis};
@@ -56,26 +56,34 @@ fn elsewhere(bytes: &[u8]) -> MetBytes<'_>
 }
 
 /// The struct of this name with one field.
-fn struct_of_one<'de>(
+///
+/// # Errors
+///
+/// Memory ran out.
+pub fn struct_of_one<'de>(
     alloc: Global,
     name: &str,
     key: &str,
     value: Datum<'de>,
 ) -> Result<Datum<'de>, AllocError>
-    ensures { IfOk result (λ d. marked d ≡ values.structure (made name.now) (one made key.now (marked value.entry))) }
+    ensures datum { IfOk result (λ d. marked d ≡ values.structure (made name.now) (one made key.now (marked value.entry))) }
 {
     let fields = vec![in alloc; named_field(alloc, key, value)?]?;
     named_struct(alloc, name, fields)
 }
 
 /// The struct of this name with two fields.
-fn struct_of_two<'de>(
+///
+/// # Errors
+///
+/// Memory ran out.
+pub fn struct_of_two<'de>(
     alloc: Global,
     name: &str,
     first: (&str, Datum<'de>),
     second: (&str, Datum<'de>),
 ) -> Result<Datum<'de>, AllocError>
-    ensures { IfOk result (λ d. marked d ≡ values.structure (made name.now)
+    ensures datum { IfOk result (λ d. marked d ≡ values.structure (made name.now)
         (two made first.entry.0.now (marked first.entry.1) second.entry.0.now (marked second.entry.1))) }
 {
     let fields = match named_field(alloc, first.0, first.1) {
@@ -107,8 +115,12 @@ fn two_fields<'de>(
 }
 
 /// The struct of a reserved name whose one field has the same name.
-fn wrap<'de>(alloc: Global, name: &str, value: Datum<'de>) -> Result<Datum<'de>, AllocError>
-    ensures { IfOk result (λ d. marked d ≡ wrapped made name.now (marked value.entry)) }
+///
+/// # Errors
+///
+/// Memory ran out.
+pub fn wrap<'de>(alloc: Global, name: &str, value: Datum<'de>) -> Result<Datum<'de>, AllocError>
+    ensures datum { IfOk result (λ d. marked d ≡ wrapped made name.now (marked value.entry)) }
 {
     struct_of_one(alloc, name, name, value)
 }

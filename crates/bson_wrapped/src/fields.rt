@@ -119,7 +119,7 @@ pub(crate) fn one_field<T: FieldValue>(alloc: Global, name: &str, value: &Met<'_
     ensures exact { Reaches (λ x. one made name.now (T.seen x)) result (fields_read (one_slot T.form name.now) value.now) }
 {
     match value.judge(alloc)? {
-        Value::Array(mut items) => next_item(alloc, 0, &mut items),
+        Value::Array(array) => next_item(alloc, 0, &mut Items::of_array(array)),
         other => {
             let elements = other.document(alloc)?;
             one_by_key(alloc, name, elements)
@@ -138,7 +138,8 @@ pub(crate) fn two_fields<A: FieldValue, B: FieldValue>(
         (fields_read (two_slots A.form first.now B.form second.now) value.now) }
 {
     match value.judge(alloc)? {
-        Value::Array(mut items) => {
+        Value::Array(array) => {
+            let mut items = Items::of_array(array);
             let first = next_item(alloc, 0, &mut items)?;
             let second = next_item(alloc, 1, &mut items)?;
             Ok((first, second))

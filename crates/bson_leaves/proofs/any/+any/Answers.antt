@@ -16,8 +16,9 @@ use Rattle.bson_datum.specs.Value as value
 use Rattle.bson_datum.specs.Value.{no_entries}
 use Rattle.bson_shape.specs.ShapeView.{form_view}
 use Rattle.bson_laws.specs.Judged.{Reading}
-use Rattle.bson_laws.specs.ReadsLeaf.{read_any, any_entries}
+use Rattle.bson_laws.specs.ReadsLeaf.{read_any, any_items, any_entries}
 use Rattle.bson_laws.proofs.Tame.{judged_is}
+use Rattle.bson_met.specs.ContainerView.{array_items, document_elements}
 use Rattle.bson_met.specs.Gives.{Reaches}
 use Rattle.bson_met.specs.MetView.{document_at}
 use Rattle.bson_met.specs.OpenedView.{extended_view}
@@ -223,17 +224,15 @@ any_element-returns-in-Err t c =
 pub any_elsewhere-any_items-requires : goal.any_elsewhere-any_items-requires
 any_elsewhere-any_items-requires t c =
     let n = c.args.value.now in
-    let ns = c.in-Array.items in
-    let same : size n ≡ suc (sizes ns) = ap size (judged_is n _ c.in_ok-boolean.ensures.judged ∙ ap value_view c.in-Array.is) in
-    let less : 5 * sizes ns < 5 * size n + 3 = omega (arith, same) in
+    let same : size n ≡ suc (sizes (array_items c.in-Array.array)) = ap size (judged_is n _ c.in_ok-boolean.ensures.judged ∙ ap value_view c.in-Array.is) in
+    let less : 5 * sizes c.of_array.result < 5 * size n + 3 = omega (arith, same, ap sizes c.of_array.ensures.elements) in
     (search rules, tt)
 
 pub any_elsewhere-any_entries-requires : goal.any_elsewhere-any_entries-requires
 any_elsewhere-any_entries-requires t c =
     let n = c.args.value.now in
-    let ns = c.in-Document.elements in
-    let same : size n ≡ suc (sizes ns) = ap size (judged_is n _ c.in_ok-boolean.ensures.judged ∙ ap value_view c.in-Document.is) in
-    let less : 5 * sizes ns < 5 * size n + 3 = omega (arith, same) in
+    let same : size n ≡ suc (sizes (document_elements c.in-Document.document)) = ap size (judged_is n _ c.in_ok-boolean.ensures.judged ∙ ap value_view c.in-Document.is) in
+    let less : 5 * sizes c.of_document.result < 5 * size n + 3 = omega (arith, same, ap sizes c.of_document.ensures.elements) in
     (search rules, tt)
 
 pub any_elsewhere-any_entries-requires-in-Extended : goal.any_elsewhere-any_entries-requires-in-Extended
@@ -246,14 +245,14 @@ any_elsewhere-any_entries-requires-in-Extended t c =
 
 pub any_elsewhere-returns-in_ok-any_items-in-Array : goal.any_elsewhere-returns-in_ok-any_items-in-Array
 any_elsewhere-returns-in_ok-any_items-in-Array t c = record {
-  exact = ap (λ r. r >>= read_any) (c.in_ok-boolean.ensures.judged ∙ ap (λ v. Ok (value_view v)) c.in-Array.is) ∙ ap (result_map value.sequence) c.in_ok-any_items-in-Array.ensures.exact
-      ∙ ap Ok (sym (marked-Seq c.in_ok-any_items-in-Array.field-0));
+  exact = ap (λ r. r >>= read_any) (c.in_ok-boolean.ensures.judged ∙ ap (λ v. Ok (value_view v)) c.in-Array.is)
+      ∙ ap (result_map value.sequence) (ap (any_items 0) (sym c.of_array.ensures.elements) ∙ c.in_ok-any_items-in-Array.ensures.exact) ∙ ap Ok (sym (marked-Seq c.in_ok-any_items-in-Array.field-0));
 }
 
 pub any_elsewhere-returns-in_ok-any_entries-in-Document : goal.any_elsewhere-returns-in_ok-any_entries-in-Document
 any_elsewhere-returns-in_ok-any_entries-in-Document t c = record {
-  exact = ap (λ r. r >>= read_any) (c.in_ok-boolean.ensures.judged ∙ ap (λ v. Ok (value_view v)) c.in-Document.is) ∙ ap (result_map value.map) c.in_ok-any_entries-in-Document.ensures.exact
-      ∙ ap Ok (sym (marked-Map c.in_ok-any_entries-in-Document.field-0));
+  exact = ap (λ r. r >>= read_any) (c.in_ok-boolean.ensures.judged ∙ ap (λ v. Ok (value_view v)) c.in-Document.is)
+      ∙ ap (result_map value.map) (ap (λ ns. any_entries ns no_entries) (sym c.of_document.ensures.elements) ∙ c.in_ok-any_entries-in-Document.ensures.exact) ∙ ap Ok (sym (marked-Map c.in_ok-any_entries-in-Document.field-0));
 }
 
 pub any_elsewhere-returns-in_ok-any_entries-in-Extended : goal.any_elsewhere-returns-in_ok-any_entries-in-Extended

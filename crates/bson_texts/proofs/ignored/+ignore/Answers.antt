@@ -3,6 +3,7 @@ use Rattle.bson_datum.specs.Refusal.{at_key, under}
 use Rattle.bson_rawdoc.specs.Node.{opened}
 use Rattle.bson_laws.specs.Judged.{Reading, at_its_key, at_its_index, scope_key, pass_scope}
 use Rattle.bson_laws.proofs.Tame.{judged_is}
+use Rattle.bson_met.specs.ContainerView.{array_items, document_elements}
 use Rattle.bson_met.specs.OpenedView.{extended_view, scope_node}
 use Rattle.bson_met.specs.PieceView.{str_piece}
 use Rattle.bson_met.specs.Sizes.{size, sizes, scope_size}
@@ -16,22 +17,22 @@ use Rattle.bson_texts.proofs.ignored.+ignore.Goals as goal
 pub ignore_other-ignore_elements-requires : goal.ignore_other-ignore_elements-requires
 ignore_other-ignore_elements-requires t c =
     let n = c.args.value.now in
-    let same : size n ≡ suc (sizes c.in-Document.elements) = ap size (judged_is n _ c.in_ok-elements.ensures.judged ∙ ap value_view c.in-Document.is) in
-    let less : 3 * sizes c.in-Document.elements < 3 * size n = omega (arith, same) in
+    let same : size n ≡ suc (sizes (document_elements c.in-Document.document)) = ap size (judged_is n _ c.in_ok-document.ensures.judged ∙ ap value_view c.in-Document.is) in
+    let less : 3 * sizes c.of_document.result < 3 * size n = omega (arith, same, ap sizes c.of_document.ensures.elements) in
     (search rules, tt)
 
 pub ignore_other-ignore_items-requires : goal.ignore_other-ignore_items-requires
 ignore_other-ignore_items-requires t c =
     let n = c.args.value.now in
-    let same : size n ≡ suc (sizes c.in-Array.items) = ap size (judged_is n _ c.in_ok-elements.ensures.judged ∙ ap value_view c.in-Array.is) in
-    let less : 3 * sizes c.in-Array.items < 3 * size n = omega (arith, same) in
+    let same : size n ≡ suc (sizes (array_items c.in-Array.array)) = ap size (judged_is n _ c.in_ok-document.ensures.judged ∙ ap value_view c.in-Array.is) in
+    let less : 3 * sizes c.of_array.result < 3 * size n = omega (arith, same, ap sizes c.of_array.ensures.elements) in
     (search rules, tt)
 
 pub ignore_other-ignore_scope-requires : goal.ignore_other-ignore_scope-requires
 ignore_other-ignore_scope-requires t c =
     let n = c.args.value.now in
     let x = extended_view c.in-Extended.value in
-    let same : size n ≡ suc (scope_size x + sizes (opened x)) = ap size (judged_is n _ c.in_ok-elements.ensures.judged ∙ ap value_view c.in-Extended.is) in
+    let same : size n ≡ suc (scope_size x + sizes (opened x)) = ap size (judged_is n _ c.in_ok-document.ensures.judged ∙ ap value_view c.in-Extended.is) in
     let less : 3 * scope_size x + 2 < 3 * size n = omega (arith, same) in
     (search rules, tt)
 

@@ -8,6 +8,7 @@ use Rattle.bson_laws.specs.Judged.{Reading}
 use Rattle.bson_laws.specs.Trees.{read_tree}
 use Rattle.bson_met.specs.Gives.{Reaches}
 use Rattle.bson_trees.proofs.ExtendedLeaves.{kind_read, kind_stops}
+use Rattle.bson_trees.proofs.ReadKinds.{read_not_raw}
 use Rattle.bson_trees.proofs.extended.of_kind.Goals as goal
 
 pub returns-in_err-value : goal.returns-in_err-value
@@ -17,4 +18,4 @@ pub returns : goal.returns
 returns c =
     let n = c.args.value.now in
     let m = map_ok (datum made) (read_tree n) (marked c.in_ok-value.value) c.in_ok-value.ensures.exact in
-    record { exact = subst (λ (r : Reading Marked). Reaches marked c.with_kind.result r) (sym (kind_read c.args.kind n m.0 m.1)) (c.with_kind.ensures.exact m.0 m.2) }
+    record { exact = subst (λ (r : Reading Marked). Reaches marked c.with_kind.result r) (sym (kind_read c.args.kind n m.0 m.1)) (c.with_kind.ensures.exact m.0 (read_not_raw n m.0 m.1) m.2) }

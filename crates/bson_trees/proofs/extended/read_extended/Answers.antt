@@ -48,3 +48,12 @@ returns-in-Decimal128 c = record { exact = subst (λ l. Reaches marked c.of_kind
 
 pub returns-in-DbPointer : goal.returns-in-DbPointer
 returns-in-DbPointer c = record { exact = subst (λ l. Reaches marked c.of_kind-in-DbPointer.result (reads (leaf l) c.args.value.now)) (sym c.in-DbPointer.is) c.of_kind-in-DbPointer.ensures.exact }
+
+pub returns-in-RawDocument : goal.returns-in-RawDocument
+returns-in-RawDocument c = record { exact = subst (λ l. Reaches marked c.raw_document.result (reads (leaf l) c.args.value.now)) (sym c.in-RawDocument.is) c.raw_document.ensures.exact }
+
+pub returns-in-RawArray : goal.returns-in-RawArray
+returns-in-RawArray c = record { exact = subst (λ l. Reaches marked c.raw_array.result (reads (leaf l) c.args.value.now)) (sym c.in-RawArray.is) c.raw_array.ensures.exact }
+
+pub returns-in-RawBson : goal.returns-in-RawBson
+returns-in-RawBson c = record { exact = subst (λ l. Reaches marked c.raw_value.result (reads (leaf l) c.args.value.now)) (sym c.in-RawBson.is) c.raw_value.ensures.exact }

@@ -16,7 +16,7 @@ pub returns-then-eq : goal.returns-then-eq
 returns-then-eq c =
     let d = c.args.value in
     let is : c.element_type-found.result ≡ c.args.kind = search rules in
-    record { exact = λ t e. same_tree c.args.kind t (marked d) (sym (kind_is d t e) ∙ sym c.element_type-found.ensures.kind ∙ is) e }
+    record { exact = λ t plain e. same_tree c.args.kind t (marked d) (sym (kind_is d t plain e) ∙ sym c.element_type-found.ensures.kind ∙ is) e }
 
 pub returns : goal.returns
 returns c =
@@ -24,7 +24,7 @@ returns c =
     let stop = c.refused.result in
     let unlike : c.element_type-found.result ≡ c.args.kind → ⊥ = search rules in
     record {
-      exact = λ t e. subst (λ (r : Reading Marked). StopsAs stop r)
-          (sym (unlike_tree c.args.kind t (λ same. unlike (c.element_type-found.ensures.kind ∙ kind_is d t e ∙ same))))
-          (refused_stops Marked (wrong_kind (kind t)) stop (subst (λ k. IsRefusedOrNoMemory (wrong_kind k) (stop_view read_fault stop)) (c.element_type-found.ensures.kind ∙ kind_is d t e) c.refused.ensures.here));
+      exact = λ t plain e. subst (λ (r : Reading Marked). StopsAs stop r)
+          (sym (unlike_tree c.args.kind t (λ same. unlike (c.element_type-found.ensures.kind ∙ kind_is d t plain e ∙ same))))
+          (refused_stops Marked (wrong_kind (kind t)) stop (subst (λ k. IsRefusedOrNoMemory (wrong_kind k) (stop_view read_fault stop)) (c.element_type-found.ensures.kind ∙ kind_is d t plain e) c.refused.ensures.here));
     }

@@ -16,7 +16,7 @@ returns c =
     let d = c.args.value in
     let stop = c.refused.result in
     record {
-      exact = λ t e. subst (λ (r : Reading MarkedEntries). StopsAs stop r) (sym (other_tree t (marked d) (sym c.is_map.ensures ∙ c.if-is_map.false) e))
+      exact = λ t plain e. subst (λ (r : Reading MarkedEntries). StopsAs stop r) (sym (other_tree t (marked d) (sym c.is_map.ensures ∙ c.if-is_map.false) e))
           (refused_stops MarkedEntries (invalid_type (kind t)) stop
-          (subst (λ k. IsRefusedOrNoMemory (invalid_type k) (stop_view read_fault stop)) (c.element_type-found.ensures.kind ∙ kind_is d t e) c.refused.ensures.here));
+          (subst (λ k. IsRefusedOrNoMemory (invalid_type k) (stop_view read_fault stop)) (c.element_type-found.ensures.kind ∙ kind_is d t plain e) c.refused.ensures.here));
     }

@@ -1,6 +1,7 @@
 use Rattle.std.proofs.Common.{◌≡◌, true, rules, suc, Ok, refl, ap, sym, subst, ◌∙◌, ◌+◌, ◌*◌, ◌<◌, arith}
 use Rattle.bson_base.specs.Outcome.{◌>>=◌, result_map}
 use Rattle.std.specs.Prelude.{string_bytes}
+use Rattle.bson_base.specs.Tree as tree
 use Rattle.bson_base.specs.Tree.{Tree, no_pairs}
 use Rattle.bson_base.proofs.Outcomes.{map_ok}
 use Rattle.bson_rawdoc.specs.Node as node
@@ -18,6 +19,7 @@ use Rattle.bson_laws.specs.Trees as laws
 use Rattle.bson_laws.specs.Trees.{as_tree, read_tree, array_trees, pairs_in}
 use Rattle.bson_laws.specs.Wrapped.{meaning}
 use Rattle.bson_laws.proofs.Tame.{judged_is}
+use Rattle.bson_met.specs.ContainerView.{array_items, document_elements}
 use Rattle.bson_met.specs.Gives.{Reaches}
 use Rattle.bson_met.specs.OpenedView.{extended_view}
 use Rattle.bson_met.specs.PieceView.{str_piece, met_text}
@@ -33,6 +35,7 @@ use Rattle.bson_wrapped.specs.Data.{scoped_datum}
 use Rattle.bson_wrapped.proofs.Made.{stops_through}
 use Rattle.bson_trees.specs.Trees.{tree_at, elements_from, wrapped_at, code_from, extended_at}
 use Rattle.bson_trees.proofs.TreeData.{trees_are, array_made, array_stops, pair_read, pair_stops, wrapped_read, body_wrapped, scope_then, scope_stops, scoped_read, scoped_stops, code_scoped, extended_scoped, list_ends}
+use Rattle.bson_trees.proofs.ReadKinds.{read_not_raw}
 use Rattle.bson_trees.proofs.trees.+tree.Goals as goal
 
 pub read_items-step-init : goal.read_items-step-init
@@ -169,7 +172,7 @@ read_entries-returns t c =
     let n = c.args.value.now in
     let m = map_ok (datum made) (read_tree n) _ c.in_ok-value.ensures.exact in
     record {
-      exact = subst (λ (r : Reading Tree). Reaches (λ v. entries_marked v.items) c.entries_of.result (result_map (pair_data made) (r >>= pairs_in))) (sym m.1) (c.entries_of.ensures.exact m.0 m.2);
+      exact = subst (λ (r : Reading Tree). Reaches (λ v. entries_marked v.items) c.entries_of.result (result_map (pair_data made) (r >>= pairs_in))) (sym m.1) (c.entries_of.ensures.exact m.0 (read_not_raw n m.0 m.1) m.2);
     }
 
 pub read_entries-returns-in_err-value : goal.read_entries-returns-in_err-value
@@ -181,17 +184,15 @@ read_entries-returns-in_err-value t c =
 pub read_tree-read_items-requires : goal.read_tree-read_items-requires
 read_tree-read_items-requires t c =
     let n = c.args.value.now in
-    let ns = c.in-Array.items in
-    let same : size n ≡ suc (sizes ns) = ap size (judged_is n _ c.in_ok-boolean.ensures.judged ∙ ap value_view c.in-Array.is) in
-    let less : 8 * sizes ns < 8 * size n + 1 = omega (arith, same) in
+    let same : size n ≡ suc (sizes (array_items c.in-Array.array)) = ap size (judged_is n _ c.in_ok-boolean.ensures.judged ∙ ap value_view c.in-Array.is) in
+    let less : 8 * sizes c.of_array.result < 8 * size n + 1 = omega (arith, same, ap sizes c.of_array.ensures.elements) in
     (search rules, tt)
 
 pub read_tree-read_elements-requires : goal.read_tree-read_elements-requires
 read_tree-read_elements-requires t c =
     let n = c.args.value.now in
-    let ns = c.in-Document.elements in
-    let same : size n ≡ suc (sizes ns) = ap size (judged_is n _ c.in_ok-boolean.ensures.judged ∙ ap value_view c.in-Document.is) in
-    let less : 8 * sizes ns < 8 * size n + 1 = omega (arith, same) in
+    let same : size n ≡ suc (sizes (document_elements c.in-Document.document)) = ap size (judged_is n _ c.in_ok-boolean.ensures.judged ∙ ap value_view c.in-Document.is) in
+    let less : 8 * sizes c.of_document.result < 8 * size n + 1 = omega (arith, same, ap sizes c.of_document.ensures.elements) in
     (search rules, tt)
 
 pub read_tree-read_extended_value-requires : goal.read_tree-read_extended_value-requires
@@ -205,14 +206,17 @@ read_tree-read_extended_value-requires t c =
 pub read_tree-returns-in_ok-read_items-in-Array : goal.read_tree-returns-in_ok-read_items-in-Array
 read_tree-returns-in_ok-read_items-in-Array t c = record {
   exact = ap (λ r. result_map (datum made) (r >>= as_tree)) (c.in_ok-boolean.ensures.judged ∙ ap (λ v. Ok (value_view v)) c.in-Array.is)
-      ∙ array_made (array_trees 0 c.in-Array.items) _ c.in_ok-read_items-in-Array.ensures.exact ∙ ap Ok (sym (marked-Seq c.in_ok-read_items-in-Array.field-0));
+      ∙ ap (λ ns. result_map (datum made) (result_map tree.array (array_trees 0 ns))) (sym c.of_array.ensures.elements)
+      ∙ array_made (array_trees 0 c.of_array.result) _ c.in_ok-read_items-in-Array.ensures.exact ∙ ap Ok (sym (marked-Seq c.in_ok-read_items-in-Array.field-0));
 }
 
 pub read_tree-returns-in_err-read_items-in-Array : goal.read_tree-returns-in_err-read_items-in-Array
 read_tree-returns-in_err-read_items-in-Array t c =
     let stop = c.in_err-read_items-in-Array.field-0.0 in
-    let whole = ap (λ r. result_map (datum made) (r >>= as_tree)) (c.in_ok-boolean.ensures.judged ∙ ap (λ v. Ok (value_view v)) c.in-Array.is) in
-    let here = subst (λ (r : Reading Marked). StopsAs stop r) (sym whole) (array_stops stop (array_trees 0 c.in-Array.items) c.in_err-read_items-in-Array.ensures.exact) in
+    let whole =
+    ap (λ r. result_map (datum made) (r >>= as_tree)) (c.in_ok-boolean.ensures.judged ∙ ap (λ v. Ok (value_view v)) c.in-Array.is)
+    ∙ ap (λ ns. result_map (datum made) (result_map tree.array (array_trees 0 ns))) (sym c.of_array.ensures.elements) in
+    let here = subst (λ (r : Reading Marked). StopsAs stop r) (sym whole) (array_stops stop (array_trees 0 c.of_array.result) c.in_err-read_items-in-Array.ensures.exact) in
     record { exact = search (rules, here) }
 
 pub read_wrapped-returns-in_err-scope-in-Scope : goal.read_wrapped-returns-in_err-scope-in-Scope

@@ -16,6 +16,7 @@ use Rattle.bson_met.specs.Gives.{IsRefusedOrNoMemory}
 use Rattle.bson_met.specs.PieceView.{str_piece}
 use Rattle.bson_met.proofs.Refusals.{StopsAs, refused_stops}
 use Rattle.bson_trees.specs.Trees.{wrapped_tree}
+use Rattle.bson_trees.proofs.ReadKinds.{other_not_raw}
 use Rattle.bson_trees.proofs.TreeData.{kind_is, bind_stops}
 use Rattle.bson_trees.proofs.WrappedKinds.{wrapped_other, other_uuid}
 use Rattle.bson_trees.proofs.unique_id.not_binary.Goals as goal
@@ -36,9 +37,10 @@ returns c =
     let stop = c.wrong_kind.result in
     let whole = wrapped_tree w key s.value c.args.rest in
     let m = map_ok (datum made) whole (marked d) c.in_ok-value.ensures.exact in
-    let other = other_uuid m.0 (wrapped_other w c.requires.other key s.value c.args.rest (read_tree s.value) m.0 m.1) in
+    let neither = wrapped_other w c.requires.other key s.value c.args.rest (read_tree s.value) m.0 m.1 in
+    let other = other_uuid m.0 neither in
     record {
       exact = subst (λ (r : Reading Bytes). StopsAs stop r) (sym (ap (λ (r : Reading Tree). r >>= uuid_in) m.1 ∙ other))
           (refused_stops Bytes (wrong_kind (kind m.0)) stop
-          (subst (λ k. IsRefusedOrNoMemory (wrong_kind k) (stop_view read_fault stop)) (kind_is d m.0 m.2) c.wrong_kind.ensures.here));
+          (subst (λ k. IsRefusedOrNoMemory (wrong_kind k) (stop_view read_fault stop)) (kind_is d m.0 (other_not_raw m.0 neither) m.2) c.wrong_kind.ensures.here));
     }

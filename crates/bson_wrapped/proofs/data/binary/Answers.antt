@@ -15,4 +15,4 @@ returns c =
     let base64 = c.in_ok-base64.ensures ∙ ap (λ x. values.str (made (base64_text x))) c.elsewhere.ensures in
     let body : marked c.in_ok-body.body ≡ nameless made (two made (codes "base64") (values.str (made (base64_text b))) (codes "subType") (values.str (made (digits (n ∷ []))))) =
     c.in_ok-body.ensures ∙ (λ i. nameless made (two made (codes "base64") (base64 i) (codes "subType") (values.str (made (digits (n ∷ [])))))) in
-    record { datum = subst (λ v. IfOk c.wrap.result (λ d. marked d ≡ v)) (ap (wrapped made (codes "$binary")) body ∙ binary_made n b above) c.wrap.ensures }
+    record { datum = subst (λ v. IfOk c.wrap.result (λ d. marked d ≡ v)) (ap (wrapped made (codes "$binary")) body ∙ binary_made n b above) c.wrap.ensures.datum }
