@@ -7,8 +7,8 @@ use Rattle.bson_base.specs.Parsed.{bytes_of_digits, integer_of_text, bytes_of_ba
 use Rattle.bson_base.specs.Tree as tree
 use Rattle.bson_base.specs.declared.element_type.ElementType.{ElementType}
 use Rattle.bson_base.specs.declared.element_type.ElementType.TheVariants as kinds
-use Rattle.bson_datum.specs.Value.{FieldValues, Value, str, bytes, integer, u8, i64, map}
-use Rattle.bson_laws.specs.Unwrap.{Part, a_key, a_value, ◌>>=◌, next_key, next_key_of, next_text, next_bytes, next_byte, next_unsigned, next_map, end_as, object_id_list, date_time_list, base64_text, base64_list, bytes_list, or_else, binary_list, base64_given, timestamp_list, text_list, regular_expression_list, db_pointer_list, sixteen, decimal128_list, scoped_code, listed, unwrap}
+use Rattle.bson_datum.specs.Value.{FieldValues, Value, str, bytes, integer, u8, i64, map, raw_document}
+use Rattle.bson_laws.specs.Unwrap.{Part, a_key, a_value, ◌>>=◌, next_key, next_key_of, next_text, next_bytes, next_byte, next_unsigned, next_scope, end_as, object_id_list, date_time_list, base64_text, base64_list, bytes_list, or_else, binary_list, base64_given, timestamp_list, text_list, regular_expression_list, db_pointer_list, sixteen, decimal128_list, scoped_code, listed, unwrap}
 use Rattle.bson_reserved.specs.Listed.{unwrap_list}
 
 -- the steps accept no list of more than n parts
@@ -52,9 +52,10 @@ number n f h (a_value (integer i64 (pos m)) s ∷ rest) long =
     elim (nat_lt m (2 ^ 32)) as (λ b. (cond b (Some (m, rest)) None >>= f) ≡ None) [ true ↦ h m rest (omega arith) | false ↦ refl ]
 number n f h list long = refl
 
-a_map : {A : Type 0} (n : ℕ) (f : Value × List (Part Value) → Option A) → ((v : Value) → IsShort n (λ list. f (v, list))) → IsShort (suc n) (λ list. next_map list >>= f)
-a_map n f h (a_value (map es) s ∷ rest) long = h s rest (omega arith)
-a_map n f h list long = refl
+scope : {A : Type 0} (n : ℕ) (f : Value × List (Part Value) → Option A) → ((v : Value) → IsShort n (λ list. f (v, list))) → IsShort (suc n) (λ list. next_scope list >>= f)
+scope n f h (a_value (map es) s ∷ rest) long = h s rest (omega arith)
+scope n f h (a_value (raw_document b) s ∷ rest) long = h s rest (omega arith)
+scope n f h list long = refl
 
 object_id_short : IsShort 6 object_id_list
 object_id_short = key _ 5 _ (text 4 _ (λ t list long. none_left (bytes_of_digits 12 t) _ (λ id. ends 4 id list long)))
@@ -94,7 +95,7 @@ decimal128_short : IsShort 6 decimal128_list
 decimal128_short = key_of _ _ 5 _ (byte_string 4 _ (λ b list long. none_left (sixteen b) _ (λ bits. ends 4 _ list long)))
 
 pub scoped_code_short : IsShort 6 (scoped_code {S = Value})
-scoped_code_short = key _ 5 _ (text 4 _ (λ t. key _ 3 _ (a_map 2 _ (λ v. ends 2 _))))
+scoped_code_short = key _ 5 _ (text 4 _ (λ t. key _ 3 _ (scope 2 _ (λ v. ends 2 _))))
 
 pub unwrap_list_short : (kind : ElementType) → IsShort 6 (unwrap_list kind)
 unwrap_list_short kinds.ObjectId list long = ap (option_map tree.object_id) (object_id_short list long)

@@ -7,7 +7,7 @@ use Rattle.bson_base.specs.Tree as tree
 use Rattle.bson_base.specs.Tree.{Tree}
 use Rattle.bson_base.specs.declared.element_type.ElementType.{ElementType}
 use Rattle.bson_base.specs.declared.element_type.ElementType.TheVariants as kinds
-use Rattle.bson_datum.specs.Value.{Value, map}
+use Rattle.bson_datum.specs.Value.{Value, map, raw_document}
 use Rattle.bson_reserved.specs.declared.accepted.Accepted.{Accepted}
 use Rattle.bson_reserved.specs.declared.accepted.Accepted.TheVariants.{ObjectId, DateTime, Base64, Binary, Timestamp, JavaScriptCode, Symbol, RegularExpression, DbPointer, Decimal128, MinKey, MaxKey, Undefined}
 use Rattle.bson_reserved.specs.declared.unique_id.UuidBytes.{UuidBytes}
@@ -34,10 +34,11 @@ abbrev pub base64_view : Accepted → Option (ℕ × Utf8)
 base64_view (Base64 subtype text) = Some (subtype.0, text.now)
 base64_view accepted = None
 
--- the value is a map, as a scope is
-abbrev pub IsMap : Value → Type 0
-IsMap (map es) = Unit {0}
-IsMap v = ⊥
+-- the value is what a scope is given as: a map, or a document in its bytes
+abbrev pub IsScope : Value → Type 0
+IsScope (map es) = Unit {0}
+IsScope (raw_document bs) = Unit {0}
+IsScope v = ⊥
 
 -- the bytes of a UUID
 abbrev pub uuid_view : UuidBytes → Bytes

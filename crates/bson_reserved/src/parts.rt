@@ -3,7 +3,7 @@ ghost use Rattle.std.specs.Prelude.{◌≡◌, ◌≤◌, IfSome, option_map};
 ghost use Rattle.bson_datum.specs.View.{view};
 ghost use Rattle.bson_laws.specs.Unwrap as unwrap;
 ghost use Rattle.bson_reserved.specs.ListView.{parts_view};
-ghost use Rattle.bson_reserved.specs.AcceptedView.{IsMap};
+ghost use Rattle.bson_reserved.specs.AcceptedView.{IsScope};
 ghost use Rattle.bson_reserved.specs.Prover.Sized.{parts_size, IsWithin};
 
 use crate::list::Part;
@@ -93,17 +93,19 @@ pub(crate) fn next_unsigned<'p, 'a, 'b>(
     }
 }
 
-// A map.
-pub(crate) fn next_map<'p, 'a, 'b>(
+// A map, or a document in its bytes: what a scope is given as.
+pub(crate) fn next_scope<'p, 'a, 'b>(
     list: &'p [Part<'a, 'b>],
 ) -> Option<(&'a Datum<'b>, &'p [Part<'a, 'b>])>
-    ensures taken { option_map (λ next. (view next.0.now, parts_view next.1.now)) result ≡ unwrap.next_map (parts_view list.now) }
-    ensures map { IfSome result (λ next. IsMap (view next.0.now)) }
+    ensures taken { option_map (λ next. (view next.0.now, parts_view next.1.now)) result ≡ unwrap.next_scope (parts_view list.now) }
+    ensures scope { IfSome result (λ next. IsScope (view next.0.now)) }
     ensures size { IfSome result (λ next. IsWithin (parts_size list.now) next.0.now) }
 {
     let (first, rest) = list.split_first()?;
     match *first {
-        Part::Value(value) if matches!(value, Datum::Map(_)) => Some((value, rest)),
+        Part::Value(value) if matches!(value, Datum::Map(_) | Datum::RawDocument(_)) => {
+            Some((value, rest))
+        }
         _ => None,
     }
 }

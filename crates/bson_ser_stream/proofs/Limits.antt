@@ -7,12 +7,12 @@ use Rattle.bson_base.specs.Outcome.{◌>>=◌, result_map}
 use Rattle.bson_base.specs.Reserved.{reserved_kind}
 use Rattle.bson_base.specs.Sound.{max_bytes, max_levels, max_binary}
 use Rattle.bson_base.specs.Sorted.{sorted}
-use Rattle.bson_base.specs.Tree.{Tree, int64, document, array, binary, regular_expression, Pairs, no_pairs, pair, tree, behind_subtype}
+use Rattle.bson_base.specs.Tree.{Tree, int64, document, array, binary, regular_expression, raw, Pairs, no_pairs, pair, tree, behind_subtype}
 use Rattle.bson_base.specs.declared.element_type.ElementType.{ElementType}
-use Rattle.bson_base.specs.declared.element_type.ElementType.TheVariants.{EmbeddedDocument, JavaScriptCodeWithScope, Int32}
+use Rattle.bson_base.specs.declared.element_type.ElementType.TheVariants.{EmbeddedDocument, Array, JavaScriptCodeWithScope, Int32}
 use Rattle.bson_datum.specs.Cause.{Cause, binary_too_long, too_long}
 use Rattle.bson_datum.specs.Refusal.{WriteFault, unwritable, invalid_document_key, invalid_cstring, unsigned_exceeds, Refusal, Segment, at_key, at_index, here, inside, under_index, under, Failure, no_memory, bare, placed, with_path}
-use Rattle.bson_datum.specs.Value.{i64, greatest, written_as, Value, boolean, integer, double, character, str, bytes, none, some, unit, unit_structure, newtype, sequence, map, structure, unit_variant, newtype_variant, tuple, tuple_structure, tuple_variant, structure_variant, mode, Items, no_items, item, Entries, no_entries, entry, FieldValues, no_field_values, field_value, kind_of, uuid_newtype, readable_inside}
+use Rattle.bson_datum.specs.Value.{i64, greatest, written_as, Value, boolean, integer, double, character, str, bytes, none, some, unit, unit_structure, newtype, sequence, map, structure, unit_variant, newtype_variant, tuple, tuple_structure, tuple_variant, structure_variant, raw_document, raw_array, mode, Items, no_items, item, Entries, no_entries, entry, FieldValues, no_field_values, field_value, kind_of, uuid_newtype, readable_inside}
 use Rattle.bson_laws.specs.Means.{key_text}
 use Rattle.bson_laws.specs.Unwrap.{Part, unwrap, scoped_code}
 use Rattle.bson_laws.specs.UuidBytes.{uuid_bytes}
@@ -123,7 +123,7 @@ ElseIn v r s = Else r
 
 scoped_else : (o : Option (Utf8 × Writing Tree)) → Both (SameScope ElseIn) o o → Else (spell_scoped o)
 scoped_else None h = λ e. e
-scoped_else (Some p) h = mapped (with_scope p.0) (under (codes "$scope") p.1) (inside_else (at_key (codes "$scope")) p.1 h.1.1)
+scoped_else (Some p) h = mapped (with_scope p.0) (under (codes "$scope") p.1) (inside_else (at_key (codes "$scope")) p.1 h.1.2)
 
 reserved_else : (k : ElementType) (u : Option Tree) (o : Option (Utf8 × Writing Tree)) → Both (SameScope ElseIn) o o → Else (reserved_at k u o)
 reserved_else JavaScriptCodeWithScope u o h = scoped_else o h
@@ -146,6 +146,8 @@ mutual
   spell_else readable (unit_structure name) levels = tt
   spell_else readable (newtype name v) levels =
       uuid_else (bytes_eq name uuid_newtype) (uuid_bytes readable v) (spell_as (readable_inside readable name) v levels) (spell_else (readable_inside readable name) v levels)
+  spell_else readable (raw_document bs) levels = enclosed_else (raw EmbeddedDocument) levels (λ inside. Ok bs) (λ n. tt)
+  spell_else readable (raw_array bs) levels = enclosed_else (raw Array) levels (λ inside. Ok bs) (λ n. tt)
   spell_else true (mode v w) levels = spell_else true v levels
   spell_else false (mode v w) levels = spell_else false w levels
   spell_else readable (str t) levels = tt

@@ -4,16 +4,16 @@ use Rattle.std.specs.Prelude.{codes, IsOk}
 use Rattle.std.proofs.lemmas.List.{length-append, take_at, drop_at}
 use Rattle.bson_base.specs.Outcome.{result_map}
 use Rattle.bson_base.specs.Text.{Bytes, Utf8}
-use Rattle.bson_base.specs.Tree.{Tree, string, document, Pairs, le32, closed_text, after_total, enc}
+use Rattle.bson_base.specs.Tree.{Tree, string, document, raw, le32, closed_text, after_total, enc}
 use Rattle.bson_base.specs.declared.element_type.ElementType.{ElementType}
-use Rattle.bson_base.specs.declared.element_type.ElementType.TheVariants.{JavaScriptCodeWithScope}
+use Rattle.bson_base.specs.declared.element_type.ElementType.TheVariants.{EmbeddedDocument, JavaScriptCodeWithScope}
 use Rattle.bson_base.proofs.Lengths.{length-le32, length-text}
 use Rattle.bson_base.proofs.Outcomes.{map_ok}
 use Rattle.bson_datum.specs.Refusal.{Refusal, WriteFault, under}
 use Rattle.bson_io.specs.Output.{Output, Appended, patched}
 use Rattle.bson_laws.specs.Written.{with_scope}
-use Rattle.bson_datum.specs.Value.{Value, map, FieldValues}
-use Rattle.bson_reserved.specs.AcceptedView.{IsMap}
+use Rattle.bson_datum.specs.Value.{Value, map, raw_document, FieldValues}
+use Rattle.bson_reserved.specs.AcceptedView.{IsScope}
 use Rattle.bson_laws.specs.Unwrap.{listed, scoped_code}
 use Rattle.bson_laws.specs.Spell.{Writing, spell_scoped, scoped_size, enclosed_at, spell_as, spell_entries_as, spell_list, size_as, size_list}
 use Rattle.bson_laws.proofs.Listed.{scope_spelled, scope_sized}
@@ -34,14 +34,18 @@ totaled old b n is =
     let back : drop (length old + length (le32 n)) ((old ++ length_place) ++ b) ≡ b = drop_at (old ++ length_place) b (length old + length (le32 n)) (omega (arith, length-append old length_place, length-le32 n)) in
     (λ i. (front i ++ le32 (is i)) ++ back i) ∙ append_assoc old (le32 (length b + 4)) b
 
--- a map is written as a document
-document_of : (levels : ℕ) (parts : ℕ → Writing Pairs) (u : Tree) → enclosed_at document levels parts ≡ Ok u → (ps : Pairs) × (document ps ≡ u)
-document_of zero parts u e = absurd cc
-document_of (suc levels) parts u e = let m = map_ok document (parts levels) u e in (m.0, m.2)
+-- code with a scope is as long as all of it behind its length: the scope is a document, or given by its bytes
+abbrev IsWhole : Utf8 → Tree → Type 0
+IsWhole code u = enc (with_scope code u) ≡ after_total (closed_text code ++ enc u)
 
-map_document : (readable : Bool) (v : Value) (levels : ℕ) → IsMap v → (u : Tree) → spell_as readable v levels ≡ Ok u → (ps : Pairs) × (document ps ≡ u)
-map_document readable (map es) levels is u e = document_of levels (spell_entries_as readable es) u e
-map_document readable v levels is u e = absurd is
+whole_in : {A : Type 0} (code : Utf8) (container : A → Tree) (levels : ℕ) (parts : ℕ → Writing A) → ((x : A) → IsWhole code (container x)) → (u : Tree) → enclosed_at container levels parts ≡ Ok u → IsWhole code u
+whole_in code container zero parts wholes u e = absurd cc
+whole_in code container (suc levels) parts wholes u e = let m = map_ok container (parts levels) u e in subst (IsWhole code) m.2 (wholes m.0)
+
+scope_whole : (code : Utf8) (readable : Bool) (v : Value) (levels : ℕ) → IsScope v → (u : Tree) → spell_as readable v levels ≡ Ok u → IsWhole code u
+scope_whole code readable (map es) levels is u e = whole_in code document levels (spell_entries_as readable es) (λ ps. refl) u e
+scope_whole code readable (raw_document bs) levels is u e = whole_in code (raw EmbeddedDocument) levels (λ inside. Ok bs) (λ b. refl) u e
+scope_whole code readable v levels is u e = absurd is
 
 -- the answer for a code, and the place of a length
 abbrev spelled : Utf8 → Writing Tree
@@ -50,16 +54,13 @@ spelled code = Ok (string code)
 abbrev placed : ℕ → Writing ℕ
 placed x = Ok x
 
-module _ (code : Utf8) (r : Writing Tree) (n : ℕ) (is_document : (u : Tree) → r ≡ Ok u → (ps : Pairs) × (document ps ≡ u)) (long : (u : Tree) → r ≡ Ok u → length (enc u) ≡ n) where
+module _ (code : Utf8) (r : Writing Tree) (n : ℕ) (whole : (u : Tree) → r ≡ Ok u → IsWhole code u) (long : (u : Tree) → r ≡ Ok u → length (enc u) ≡ n) where
   abbrev due : Writing Tree
   due = spell_scoped (Some (code, r))
 
   -- the parts of all that is written of it
   abbrev parts : Tree → Bytes
   parts u = closed_text code ++ enc u
-
-  whole : (u : Tree) → r ≡ Ok u → enc (with_scope code u) ≡ after_total (parts u)
-  whole u e = let d = is_document u e in ap (λ x. enc (with_scope code x)) (sym d.1) ∙ ap (λ x. after_total (parts x)) d.1
 
   due_ok : (old new : Bytes) → with_tree old due ≡ Ok new → IsOk (with_tree old (under (codes "$scope") r))
   due_ok old new e = let m = map_ok (λ t. old ++ enc t) due new e in let k = map_ok (with_scope code) (under (codes "$scope") r) m.0 m.1 in subst (λ x. IsOk (with_tree old x)) (sym k.1) refl
@@ -152,7 +153,7 @@ module _ (code : Utf8) (r : Writing Tree) (n : ℕ) (is_document : (u : Tree) �
           }
 
 -- the code and the scope that the fields of a struct are accepted as
-module _ (readable : Bool) (fs : FieldValues) (levels : ℕ) (code : Utf8) (v : Value) (is : scoped_code (listed fs []) ≡ Some (code, v)) (is_map : IsMap v) where
+module _ (readable : Bool) (fs : FieldValues) (levels : ℕ) (code : Utf8) (v : Value) (is : scoped_code (listed fs []) ≡ Some (code, v)) (is_scope : IsScope v) where
   -- the struct was appended, or there is a reason not to
   abbrev pub PutsScoped : Output → Output → ℕ → ℕ → Result ElementType Halt → Type 0
   PutsScoped old new before now r = Puts JavaScriptCodeWithScope (scoped_size (scoped_code (size_list readable fs []))) (spell_scoped (scoped_code (spell_list readable fs levels []))) old new before now r
@@ -173,13 +174,13 @@ module _ (readable : Bool) (fs : FieldValues) (levels : ℕ) (code : Utf8) (v : 
 
   -- no place for the length
   pub halts_begin : (old new : Output) (before now : ℕ) (r : Result ElementType Halt) (h : Halt) (x : ℕ) → r ≡ Err h → Grows old new before now → Halts 4 old.spare (placed x) h → PutsScoped old new before now r
-  halts_begin old new before now r h x e grows halts = halted old new before now r h e grows (unbegun code written n (map_document readable v levels is_map) (length-spell readable v levels) h old x halts)
+  halts_begin old new before now r h x e grows halts = halted old new before now r h e grows (unbegun code written n (scope_whole code readable v levels is_scope) (length-spell readable v levels) h old x halts)
 
   module _ (old begun : Output) (s0 s1 : ℕ) (begins : Appended old begun length_place s0 s1) where
     -- no code
     pub halts_code : (new : Output) (now : ℕ) (r : Result ElementType Halt) (h : Halt) → r ≡ Err h → Grows begun new s1 now → Halts (length code + 5) begun.spare (with_tree begun.bytes (spelled code)) h → PutsScoped old new s0 now r
     halts_code new now r h e grows halts =
-        halted old new s0 now r h e (Grows-trans old begun new s0 s1 now (Grows-appended old begun length_place s0 s1 begins) grows) (uncoded code written n (map_document readable v levels is_map) (length-spell readable v levels) h old begun s0 s1 begins halts)
+        halted old new s0 now r h e (Grows-trans old begun new s0 s1 now (Grows-appended old begun length_place s0 s1 begins) grows) (uncoded code written n (scope_whole code readable v levels is_scope) (length-spell readable v levels) h old begun s0 s1 begins halts)
 
     module _ (coded : Output) (start s2 : ℕ) (starts : placed (length old.bytes) ≡ Ok start) (text : with_tree begun.bytes (spelled code) ≡ Ok coded.bytes) (grows : Grows begun coded s1 s2) where
       at : start ≡ length old.bytes
@@ -188,15 +189,15 @@ module _ (readable : Bool) (fs : FieldValues) (levels : ℕ) (code : Utf8) (v : 
       -- no scope
       pub halts_scope : (new : Output) (now : ℕ) (r : Result ElementType Halt) (h : Halt) → r ≡ Err h → Grows coded new s2 now → Halts n coded.spare (with_tree coded.bytes (under (codes "$scope") written)) h → PutsScoped old new s0 now r
       halts_scope new now r h e more halts =
-          halted old new s0 now r h e (Grows-scoped code written n (map_document readable v levels is_map) (length-spell readable v levels) old begun coded start s0 s1 s2 at begins grows text new now more)
-          (unscoped code written n (map_document readable v levels is_map) (length-spell readable v levels) old begun coded start s0 s1 s2 at begins grows text h halts)
+          halted old new s0 now r h e (Grows-scoped code written n (scope_whole code readable v levels is_scope) (length-spell readable v levels) old begun coded start s0 s1 s2 at begins grows text new now more)
+          (unscoped code written n (scope_whole code readable v levels is_scope) (length-spell readable v levels) old begun coded start s0 s1 s2 at begins grows text h halts)
 
       module _ (filled : Output) (s3 : ℕ) (more : Grows coded filled s2 s3) (scope : with_tree coded.bytes (under (codes "$scope") written) ≡ Ok filled.bytes) where
         -- too many bytes
         pub halts_total : (new : Output) (now : ℕ) (r : Result ElementType Halt) (h : Halt) → r ≡ Err h → Grows filled new s3 now → TotalHalts filled start h → PutsScoped old new s0 now r
         halts_total new now r h e last halts =
-            halted old new s0 now r h e (Grows-trans old filled new s0 s3 now (Grows-scoped code written n (map_document readable v levels is_map) (length-spell readable v levels) old begun coded start s0 s1 s2 at begins grows text filled s3 more) last)
-            (untotaled code written n (map_document readable v levels is_map) (length-spell readable v levels) old begun coded start s0 s1 s2 at begins grows text filled s3 more scope h halts)
+            halted old new s0 now r h e (Grows-trans old filled new s0 s3 now (Grows-scoped code written n (scope_whole code readable v levels is_scope) (length-spell readable v levels) old begun coded start s0 s1 s2 at begins grows text filled s3 more) last)
+            (untotaled code written n (scope_whole code readable v levels is_scope) (length-spell readable v levels) old begun coded start s0 s1 s2 at begins grows text filled s3 more scope h halts)
 
         pub puts_total : (new : Output) (now : ℕ) → Totals filled new start s3 now → PutsScoped old new s0 now (Ok JavaScriptCodeWithScope)
-        puts_total new now total = found old new s0 now (Ok JavaScriptCodeWithScope) (puts_scoped code written n (map_document readable v levels is_map) (length-spell readable v levels) old begun coded start s0 s1 s2 at begins grows text filled s3 more scope new now total)
+        puts_total new now total = found old new s0 now (Ok JavaScriptCodeWithScope) (puts_scoped code written n (scope_whole code readable v levels is_scope) (length-spell readable v levels) old begun coded start s0 s1 s2 at begins grows text filled s3 more scope new now total)

@@ -47,7 +47,8 @@ fn put_whole<L: Ledger>(
 /// document of one pair: under the name of the variant is the value of a `NewtypeVariant`, an array of the values of a
 /// `TupleVariant`, or a document of the fields of a `StructVariant`. `Bool` is a boolean, `I8`, `I16`, `I32`, `U8` and `U16` are
 /// an int32, `I64`, `U32` and `U64` an int64, `Double` is a double, `Str`, `Char` and the name of a `UnitVariant` are a string,
-/// and `Bytes` is a binary of subtype 0 (bsonspec.org, version 1.1). `None`, `Unit` and `UnitStruct` are null. `Some` and
+/// `Bytes` is a binary of subtype 0, and `RawDocument` and `RawArray` are their bytes, which are not looked at (bsonspec.org,
+/// version 1.1). `None`, `Unit` and `UnitStruct` are null. `Some` and
 /// `NewtypeStruct` are the value in them. `steps` counts one for each byte that is appended, and one for each byte that is
 /// written over the place of a kind or a length.
 ///
@@ -63,7 +64,8 @@ fn put_whole<L: Ledger>(
 ///
 /// - `SerializationError` with `TopLevel`: the datum is written as a value of this kind, which is no document.
 /// - `SerializationError` with `TooDeep`: a document or an array is at level 201. The whole document is at level 1. What a
-///   `TupleVariant` or a `StructVariant` holds is one level further in than the document of its name.
+///   `TupleVariant` or a `StructVariant` holds is one level further in than the document of its name. A `RawDocument` and a
+///   `RawArray` have one level, whatever is in them.
 /// - `SerializationError` with `BadStep`: the fields of a struct whose name is reserved are not accepted, or the text of its binary
 ///   is not base64. The path is that of the struct.
 /// - `SerializationError` with `BadUuid`: the newtype `$__bson_private_uuid` holds no UUID: bytes, or in a readable form a text of
@@ -73,7 +75,7 @@ fn put_whole<L: Ledger>(
 /// - `UnsignedIntegerExceededRange`: a `U64` is greater than 9223372036854775807, the greatest that an int64 holds.
 /// - `InvalidDocumentKey`: a key of a map is no text. It carries a scalar as it would be written, null for `None`, `Unit`, a
 ///   `UnitStruct` and a number that is not written, what a `Some` or a `NewtypeStruct` holds, the readable form of a `Mode`, an empty array for a sequence, a
-///   tuple and a `TupleVariant`, and an empty document for every other value. The path is that of the map.
+///   tuple, a `TupleVariant` and a `RawArray`, and an empty document for every other value. The path is that of the map.
 /// - `InvalidCString`: a zero character is in the name of a field, in the name of a variant with contents, in a key of a map, or
 ///   in the pattern or the options of a regular expression, the pattern first. The path is that of the struct, of the document
 ///   that the variant is written as, or of the map.

@@ -7,6 +7,7 @@ mod container;
 mod document;
 mod element;
 mod extended;
+mod raw;
 mod reserved;
 mod scalar;
 mod sorting;

@@ -18,6 +18,7 @@ ghost use Rattle.bson_ser_stream.specs.Halting.{Puts, PutsParts};
 
 use crate::container::{Container, Total};
 use crate::element::begin_element;
+use crate::raw::put_raw;
 use crate::reserved::{put_unwrapped, put_uuid};
 use crate::scalar::{
     put_bool, put_bytes, put_char, put_double, put_i32, put_i64, put_text, put_u64,
@@ -118,6 +119,16 @@ pub fn put_value<L: Ledger>(
             Some(kind) => put_reserved(out, steps, kind, fields, readable, levels),
             None => put_document(out, steps, fields, readable, levels),
         },
+        Datum::RawDocument(document) => put_raw(
+            out,
+            steps,
+            ElementType::EmbeddedDocument,
+            document.as_bytes(),
+            levels,
+        ),
+        Datum::RawArray(array) => {
+            put_raw(out, steps, ElementType::Array, array.as_bytes(), levels)
+        }
         Datum::Mode { readable: form, .. } if readable => {
             put_inner(out, steps, form, readable, levels)
         }

@@ -75,7 +75,9 @@ fn key_text<'a>(key: &'a Datum<'_>) -> Option<&'a str>
         | Datum::TupleVariant { .. }
         | Datum::Map(_)
         | Datum::Struct { .. }
-        | Datum::StructVariant { .. } => None,
+        | Datum::StructVariant { .. }
+        | Datum::RawDocument(_)
+        | Datum::RawArray(_) => None,
     }
 }
 
@@ -101,7 +103,7 @@ fn no_text(alloc: Global, key: &Datum<'_>) -> Halt
 
 // The value that the refusal of a key carries: a scalar as it would be written, null for nothing and for a number that is not
 // written, what it holds for some value and for a newtype, the readable form of a value with two, an empty array for a sequence, a
-// tuple and a tuple variant, an empty document for every other value.
+// tuple, a tuple variant and an array in its bytes, an empty document for every other value.
 #[tactic(auto, using(bson_base::proofs::Rows::row_items))]
 fn carried(alloc: Global, key: &Datum<'_>) -> Result<Bson, AllocError>
     ensures value { IfOk result (λ value. tree_of value ≡ carried (view key.now)) }
@@ -126,14 +128,15 @@ fn carried(alloc: Global, key: &Datum<'_>) -> Result<Bson, AllocError>
         Datum::Some(content) => carried(alloc, content),
         Datum::NewtypeStruct { value, .. } => carried(alloc, value),
         Datum::Mode { readable, .. } => carried(alloc, readable),
-        Datum::Seq(_) | Datum::Tuple(_) | Datum::TupleVariant { .. } => {
+        Datum::Seq(_) | Datum::Tuple(_) | Datum::TupleVariant { .. } | Datum::RawArray(_) => {
             Ok(Bson::Array(Vec::new(alloc)))
         }
         Datum::NewtypeVariant { .. }
         | Datum::TupleStruct { .. }
         | Datum::Map(_)
         | Datum::Struct { .. }
-        | Datum::StructVariant { .. } => Ok(Bson::Document(Document::new(alloc))),
+        | Datum::StructVariant { .. }
+        | Datum::RawDocument(_) => Ok(Bson::Document(Document::new(alloc))),
     }
 }
 

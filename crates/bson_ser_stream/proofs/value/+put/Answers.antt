@@ -159,30 +159,30 @@ pub put_scoped-returns-in_err-total : goal.put_scoped-returns-in_err-total
 put_scoped-returns-in_err-total g t c =
     let p = err_from_is_err_and c.from_residual.result c.from_residual.ensures.1 in
     let it = c.in-Some in
-    halts_begin c.args.readable (fields_view c.args.fields.now) c.args.levels it.code.now (view it.scope.now) (sym it.ensures.value) it.ensures.map c.args.out.now c.begin.new.out c.args.steps.now c.begin.new.steps _ c.in_err-total.field-0.0 _ (p.1 ∙ ap Err p.2) c.in_err-total.ensures.grows c.in_err-total.ensures.start
+    halts_begin c.args.readable (fields_view c.args.fields.now) c.args.levels it.code.now (view it.scope.now) (sym it.ensures.value) it.ensures.scope c.args.out.now c.begin.new.out c.args.steps.now c.begin.new.steps _ c.in_err-total.field-0.0 _ (p.1 ∙ ap Err p.2) c.in_err-total.ensures.grows c.in_err-total.ensures.start
 
 pub put_scoped-returns-in_err-put_text : goal.put_scoped-returns-in_err-put_text
 put_scoped-returns-in_err-put_text g t c =
     let p = err_from_is_err_and c.from_residual-in_err-put_text.result c.from_residual-in_err-put_text.ensures.1 in
     let it = c.in-Some in
-    halts_code c.args.readable (fields_view c.args.fields.now) c.args.levels it.code.now (view it.scope.now) (sym it.ensures.value) it.ensures.map c.args.out.now c.begin.new.out c.args.steps.now c.begin.new.steps c.in_ok-total.ensures.ok c.put_text.new.out c.put_text.new.steps _ c.in_err-put_text.field-0.0 (p.1 ∙ ap Err p.2) c.in_err-put_text.ensures.grows c.in_err-put_text.ensures.bytes
+    halts_code c.args.readable (fields_view c.args.fields.now) c.args.levels it.code.now (view it.scope.now) (sym it.ensures.value) it.ensures.scope c.args.out.now c.begin.new.out c.args.steps.now c.begin.new.steps c.in_ok-total.ensures.ok c.put_text.new.out c.put_text.new.steps _ c.in_err-put_text.field-0.0 (p.1 ∙ ap Err p.2) c.in_err-put_text.ensures.grows c.in_err-put_text.ensures.bytes
 
 pub put_scoped-returns-in_err-put_scope : goal.put_scoped-returns-in_err-put_scope
 put_scoped-returns-in_err-put_scope g t c =
     let p = err_from_is_err_and c.from_residual-in_err-put_scope.result c.from_residual-in_err-put_scope.ensures.1 in
     let it = c.in-Some in
-    halts_scope c.args.readable (fields_view c.args.fields.now) c.args.levels it.code.now (view it.scope.now) (sym it.ensures.value) it.ensures.map c.args.out.now c.begin.new.out c.args.steps.now c.begin.new.steps c.in_ok-total.ensures.ok c.put_text.new.out c.in_ok-total.total.start c.put_text.new.steps c.in_ok-total.ensures.start c.in_ok-put_text.ensures.bytes c.in_ok-put_text.ensures.grows c.put_scope.new.out c.put_scope.new.steps _ c.in_err-put_scope.field-0.0 (p.1 ∙ ap Err p.2) c.in_err-put_scope.ensures.grows c.in_err-put_scope.ensures.bytes
+    halts_scope c.args.readable (fields_view c.args.fields.now) c.args.levels it.code.now (view it.scope.now) (sym it.ensures.value) it.ensures.scope c.args.out.now c.begin.new.out c.args.steps.now c.begin.new.steps c.in_ok-total.ensures.ok c.put_text.new.out c.in_ok-total.total.start c.put_text.new.steps c.in_ok-total.ensures.start c.in_ok-put_text.ensures.bytes c.in_ok-put_text.ensures.grows c.put_scope.new.out c.put_scope.new.steps _ c.in_err-put_scope.field-0.0 (p.1 ∙ ap Err p.2) c.in_err-put_scope.ensures.grows c.in_err-put_scope.ensures.bytes
 
 pub put_scoped-returns-in_err-end : goal.put_scoped-returns-in_err-end
 put_scoped-returns-in_err-end g t c =
     let p = err_from_is_err_and c.from_residual-in_err-end.result c.from_residual-in_err-end.ensures.1 in
     let it = c.in-Some in
-    halts_total c.args.readable (fields_view c.args.fields.now) c.args.levels it.code.now (view it.scope.now) (sym it.ensures.value) it.ensures.map c.args.out.now c.begin.new.out c.args.steps.now c.begin.new.steps c.in_ok-total.ensures.ok c.put_text.new.out c.in_ok-total.total.start c.put_text.new.steps c.in_ok-total.ensures.start c.in_ok-put_text.ensures.bytes c.in_ok-put_text.ensures.grows c.put_scope.new.out c.put_scope.new.steps c.in_ok-put_scope.ensures.grows c.in_ok-put_scope.ensures.bytes c.end.new.out c.end.new.steps _ c.in_err-end.field-0.0 (p.1 ∙ ap Err p.2) c.in_err-end.ensures.grows c.in_err-end.ensures.err
+    halts_total c.args.readable (fields_view c.args.fields.now) c.args.levels it.code.now (view it.scope.now) (sym it.ensures.value) it.ensures.scope c.args.out.now c.begin.new.out c.args.steps.now c.begin.new.steps c.in_ok-total.ensures.ok c.put_text.new.out c.in_ok-total.total.start c.put_text.new.steps c.in_ok-total.ensures.start c.in_ok-put_text.ensures.bytes c.in_ok-put_text.ensures.grows c.put_scope.new.out c.put_scope.new.steps c.in_ok-put_scope.ensures.grows c.in_ok-put_scope.ensures.bytes c.end.new.out c.end.new.steps _ c.in_err-end.field-0.0 (p.1 ∙ ap Err p.2) c.in_err-end.ensures.grows c.in_err-end.ensures.err
 
 pub put_scoped-returns : goal.put_scoped-returns
 put_scoped-returns g t c =
     let it = c.in-Some in
-    puts_total c.args.readable (fields_view c.args.fields.now) c.args.levels it.code.now (view it.scope.now) (sym it.ensures.value) it.ensures.map c.args.out.now c.begin.new.out c.args.steps.now c.begin.new.steps c.in_ok-total.ensures.ok c.put_text.new.out c.in_ok-total.total.start c.put_text.new.steps c.in_ok-total.ensures.start c.in_ok-put_text.ensures.bytes c.in_ok-put_text.ensures.grows c.put_scope.new.out c.put_scope.new.steps c.in_ok-put_scope.ensures.grows c.in_ok-put_scope.ensures.bytes c.end.new.out c.end.new.steps c.in_ok-end.ensures.ok
+    puts_total c.args.readable (fields_view c.args.fields.now) c.args.levels it.code.now (view it.scope.now) (sym it.ensures.value) it.ensures.scope c.args.out.now c.begin.new.out c.args.steps.now c.begin.new.steps c.in_ok-total.ensures.ok c.put_text.new.out c.in_ok-total.total.start c.put_text.new.steps c.in_ok-total.ensures.start c.in_ok-put_text.ensures.bytes c.in_ok-put_text.ensures.grows c.put_scope.new.out c.put_scope.new.steps c.in_ok-put_scope.ensures.grows c.in_ok-put_scope.ensures.bytes c.end.new.out c.end.new.steps c.in_ok-end.ensures.ok
 
 pub put_document-returns-in_err-put_fields : goal.put_document-returns-in_err-put_fields
 put_document-returns-in_err-put_fields g t c =
