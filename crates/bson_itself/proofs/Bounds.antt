@@ -1,7 +1,7 @@
 -- A tree that is itself at a leaf is found again in its bytes, and is within the levels.
 use Rattle.std.proofs.Common.{ℕ, zero, suc, ◌≤◌, arith}
 use Rattle.bson_base.specs.Tree as tree
-use Rattle.bson_base.specs.Tree.{Tree, double, string, document, array, binary, undefined, object_id, boolean, date_time, null, regular_expression, db_pointer, javascript_code, symbol, javascript_code_with_scope, int32, timestamp, int64, decimal128, max_key, min_key, Pairs, no_pairs, pair, Trees, no_trees, depth, pairs_depth, trees_depth}
+use Rattle.bson_base.specs.Tree.{Tree, double, string, document, array, binary, undefined, object_id, boolean, date_time, null, regular_expression, db_pointer, javascript_code, symbol, javascript_code_with_scope, int32, timestamp, int64, decimal128, max_key, min_key, raw, Pairs, no_pairs, pair, Trees, no_trees, depth, pairs_depth, trees_depth}
 use Rattle.bson_laws.proofs.Coded.{IsCoded, ArePairsCoded, AreTreesCoded}
 use Rattle.bson_itself.specs.Itself.{AtBson, IsItself, ArePairsThemselves, AreTreesThemselves}
 use Rattle.bson_itself.specs.declared.untyped.UntypedLeaf.{UntypedLeaf}
@@ -38,6 +38,7 @@ mutual
   itself_coded leaf (decimal128 b) levels h = (at_bson leaf _ h).count
   itself_coded leaf max_key levels h = tt
   itself_coded leaf min_key levels h = tt
+  itself_coded leaf (raw k b) levels h = absurd h
 
   pairs_coded : (leaf : UntypedLeaf) (ps : Pairs) (levels : ℕ) → ArePairsThemselves leaf ps levels → ArePairsCoded ps
   pairs_coded leaf no_pairs levels h = tt
@@ -55,6 +56,7 @@ mutual
   itself_within leaf (array ts) (suc m) h = omega (arith, trees_within leaf ts m h)
   itself_within leaf (javascript_code_with_scope code scope) zero h = absurd (at_bson leaf _ h).1
   itself_within leaf (javascript_code_with_scope code scope) (suc m) h = omega (arith, pairs_within leaf scope m (at_bson leaf _ h).1)
+  itself_within leaf (raw k b) levels h = absurd h
   itself_within leaf t levels h = omega arith
 
   pairs_within : (leaf : UntypedLeaf) (ps : Pairs) (levels : ℕ) → ArePairsThemselves leaf ps levels → pairs_depth ps ≤ levels

@@ -1,7 +1,7 @@
 -- A tree that is itself at `bson` is one that reading gives, its parts are in their ranges, and the format has bytes for it.
 use Rattle.std.proofs.Common.{ℕ, zero, suc}
 use Rattle.bson_base.specs.Tree as tree
-use Rattle.bson_base.specs.Tree.{Tree, double, string, document, array, binary, object_id, date_time, regular_expression, db_pointer, javascript_code, symbol, javascript_code_with_scope, int32, timestamp, int64, decimal128, Pairs, no_pairs, pair, Trees, no_trees}
+use Rattle.bson_base.specs.Tree.{Tree, double, string, document, array, binary, object_id, date_time, regular_expression, db_pointer, javascript_code, symbol, javascript_code_with_scope, int32, timestamp, int64, decimal128, raw, Pairs, no_pairs, pair, Trees, no_trees}
 use Rattle.bson_laws.specs.Encodable.{IsEncodable, ArePairsEncodable, AreTreesEncodable}
 use Rattle.bson_laws.specs.InRange.{IsInRange, ArePairsInRange, AreTreesInRange}
 use Rattle.bson_laws.proofs.GivenTrees.{IsGivenTree, ArePairsGiven, AreTreesGiven}
@@ -30,6 +30,7 @@ mutual
   itself_given (timestamp time increment) levels h = h
   itself_given (int64 n) levels h = h
   itself_given (decimal128 b) levels h = h.count
+  itself_given (raw k b) levels h = absurd h
   itself_given t levels h = tt
 
   pairs_given : (ps : Pairs) (levels : ℕ) → ArePairsThemselves Bson ps levels → ArePairsGiven ps
@@ -70,6 +71,7 @@ mutual
   itself_encodable (regular_expression p q) levels h = (h.0.no_zero, h.1.no_zero)
   itself_encodable (javascript_code_with_scope code scope) zero h = absurd h.1
   itself_encodable (javascript_code_with_scope code scope) (suc m) h = pairs_encodable scope m h.1
+  itself_encodable (raw k b) levels h = absurd h
   itself_encodable t levels h = tt
 
   pairs_encodable : (ps : Pairs) (levels : ℕ) → ArePairsThemselves Bson ps levels → ArePairsEncodable ps

@@ -4,7 +4,7 @@ use Rattle.std.proofs.lemmas.List.{length-append, length-drop, length-take-le}
 use Rattle.std.proofs.lemmas.List.Elements.{All-take}
 use Rattle.std.proofs.Math.Seq.{take-add}
 use Rattle.bson_base.specs.Text.{Bytes, AreBytes}
-use Rattle.bson_base.specs.Tree.{Tree, Pairs, document, javascript_code_with_scope, kind, enc, le32, after_total}
+use Rattle.bson_base.specs.Tree.{Tree, Pairs, document, javascript_code_with_scope, raw, kind, enc, le32, after_total}
 use Rattle.bson_base.specs.declared.element_type.ElementType.TheVariants as kinds
 use Rattle.bson_rawdoc.specs.Numbers.{uint32_in}
 use Rattle.bson_laws.proofs.Keys.{dropped}
@@ -20,9 +20,10 @@ pointer_is b n all within text =
     let twelve : length id ≡ 12 = length-take-le 12 (drop n b) (omega (arith, length-drop n b)) in
     (text.0, id, text.1, record { are_bytes = All-take (λ x. x < 256) 12 (drop n b) (dropped n b all); count = twelve }, ap (λ (x : Bytes). x ++ id) text.2 ∙ sym (take-add n 12 b))
 
-document_of : (t : Tree) → kind t ≡ kinds.EmbeddedDocument → (ps : Pairs) × (t ≡ document ps)
-document_of (document ps) e = (ps, refl)
-document_of t e = absurd cc
+document_of : (t : Tree) (levels : ℕ) → kind t ≡ kinds.EmbeddedDocument → IsItself Bson t levels → (ps : Pairs) × (t ≡ document ps)
+document_of (document ps) levels e own = (ps, refl)
+document_of (raw k b) levels e own = absurd own
+document_of t levels e own = absurd cc
 
 -- the length of all, a text, a document
 pub scoped_is : (levels : ℕ) (b : Bytes) (n m : ℕ) → AreBytes b → 4 + n + m ≤ length b → uint32_in b ≡ 4 + n + m → IsTextValue (take n (drop 4 b)) → EncodesItself Bson kinds.EmbeddedDocument levels (take m (drop n (drop 4 b)))
@@ -30,7 +31,7 @@ pub scoped_is : (levels : ℕ) (b : Bytes) (n m : ℕ) → AreBytes b → 4 + n 
 scoped_is levels b n m all within is code scope =
     let parts = drop 4 b in
     let two = take n parts ++ take m (drop n parts) in
-    let d = document_of scope.0 scope.1 in
+    let d = document_of scope.0 levels scope.1 scope.2 in
     let size : length two + 4 ≡ uint32_in b =
     omega (arith, is, length-append (take n parts) (take m (drop n parts)), length-take-le n parts (omega (arith, length-drop 4 b)), length-take-le m (drop n parts) (omega (arith, length-drop 4 b, length-drop n parts))) in
     let spelled : enc (document d.0) ≡ take m (drop n parts) = ap enc (sym d.1) ∙ scope.3 in (

@@ -6,7 +6,7 @@ use Rattle.std.specs.Str.{is_utf8}
 use Rattle.bson_base.specs.Sorted.{sorted}
 use Rattle.bson_base.specs.Sound.{Lacks, HasBytes, IsBinary, IsZeroFree}
 use Rattle.bson_base.specs.Text.{Utf8, has_zero}
-use Rattle.bson_base.specs.Tree.{Tree, double, string, document, array, binary, undefined, object_id, boolean, date_time, null, regular_expression, db_pointer, javascript_code, symbol, javascript_code_with_scope, int32, timestamp, int64, decimal128, max_key, min_key, Pairs, no_pairs, pair, Trees, no_trees, tree}
+use Rattle.bson_base.specs.Tree.{Tree, double, string, document, array, binary, undefined, object_id, boolean, date_time, null, regular_expression, db_pointer, javascript_code, symbol, javascript_code_with_scope, int32, timestamp, int64, decimal128, max_key, min_key, raw, Pairs, no_pairs, pair, Trees, no_trees, tree}
 use Rattle.bson_datum.specs.Wrapper.{of_key}
 use Rattle.bson_itself.specs.declared.untyped.UntypedLeaf.{UntypedLeaf}
 use Rattle.bson_itself.specs.declared.untyped.UntypedLeaf.TheVariants.{Any, Bson}
@@ -34,7 +34,7 @@ IsTakenSubtype Bson subtype = Unit {0}
 abbrev mutual
   -- A tree that is read at the leaf as a value that is written as this tree, with so many levels left: its texts are UTF-8, the keys of each document are different, and at `any` it has
   -- no extended value, at `bson` no wrapper key and no options out of order. (The keys of arrays are no part of a tree.) It is a clean tree (`IsClean`) within the levels, whose keys may
-  -- begin with `$`.
+  -- begin with `$`, so that nothing in it is given by its bytes.
   pub IsItself : UntypedLeaf → Tree → (levels : ℕ) → Type 0
   IsItself leaf (double b) levels = HasBytes 8 b
   IsItself leaf (string t) levels = is_utf8 t ≡ true
@@ -57,6 +57,7 @@ abbrev mutual
   IsItself leaf (decimal128 b) levels = AtBson leaf (HasBytes 16 b)
   IsItself leaf max_key levels = AtBson leaf (Unit {0})
   IsItself leaf min_key levels = AtBson leaf (Unit {0})
+  IsItself leaf (raw k b) levels = ⊥
 
   pub ArePairsThemselves : UntypedLeaf → Pairs → (levels : ℕ) → Type 0
   ArePairsThemselves leaf no_pairs levels = Unit {0}

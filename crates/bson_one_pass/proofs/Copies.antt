@@ -18,7 +18,7 @@ use Rattle.bson_laws.specs.CompactReads.{reads}
 use Rattle.bson_laws.specs.Judged.{Reading}
 use Rattle.bson_laws.specs.Reads.{answered}
 use Rattle.bson_laws.specs.Spell.{Writing, spell, at_top}
-use Rattle.bson_laws.proofs.ReadBack.{envelope_again}
+use Rattle.bson_laws.proofs.Framed.{frame}
 use Rattle.bson_laws.proofs.Sizes.{spell_kind}
 use Rattle.bson_itself.specs.Kept.{IsWrittenAsRead}
 use Rattle.bson_one_pass.specs.Put.{of_writing, recast_by, recast_node, IsPut}
@@ -45,16 +45,9 @@ module _ (s : Form) (levels : ℕ) (k : ElementType) (b : Bytes) where
 
 -- ---- a whole document
 
-document_of : (t : Tree) → kind t ≡ EmbeddedDocument → (ps : Pairs) × (t ≡ document ps)
-document_of (document ps) e = (ps, refl)
-document_of t e = absurd cc
-
-pub document_copied : (s : Form) (b made : Bytes) → IsWrittenAsRead s max_levels EmbeddedDocument b → length b ≤ max_bytes → made ≡ b → IsRecastAs s b made
-document_copied s b made h few copied =
-    let d = document_of h.tree h.kind_is in
-    let is : enc (document d.0) ≡ b = ap enc (sym d.1) ∙ h.encoded in
-    let short : length (enc (document d.0)) < 2 ^ 31 = subst (λ (x : Bytes). length x < 2 ^ 31) (sym is) (omega (arith, few)) in
-    let framed : envelope b ≡ Ok b = subst (λ (x : Bytes). envelope x ≡ Ok x) is (envelope_again d.0 short) in
+pub document_copied : (s : Form) (b d made : Bytes) → envelope b ≡ Ok d → IsWrittenAsRead s max_levels EmbeddedDocument b → length b ≤ max_bytes → made ≡ b → IsRecastAs s b made
+document_copied s b d made passed h few copied =
+    let framed : envelope b ≡ Ok b = passed ∙ ap Ok (sym (frame b d passed).0) in
     record {
       value = contents h.given;
       tree = h.tree;

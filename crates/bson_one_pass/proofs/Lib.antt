@@ -19,3 +19,5 @@ mod Copies
 mod Passed
 mod HandedOver
 mod KnownNames
+mod PartsOwned
+mod Marked

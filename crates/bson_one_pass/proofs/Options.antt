@@ -1,5 +1,5 @@
 -- Values at options that are no null.
-use Rattle.std.proofs.Common.{◌≡◌, ℕ, zero, suc, [], Bool, true, false, cond, Option, Result, Ok, Err, refl, sym, subst}
+use Rattle.std.proofs.Common.{◌≡◌, ℕ, zero, suc, [], Bool, true, false, cond, Option, Some, Result, Ok, Err, refl, sym, subst}
 use Rattle.std.specs.Prelude.{get_or, drop}
 use Rattle.bson_base.specs.Outcome.{result_map}
 use Rattle.bson_base.specs.Text.{Bytes}
@@ -74,8 +74,8 @@ node_there : (levels : ℕ) (k : ElementType) (b : Bytes) → (k ≡ kinds.Null 
 node_there zero k b other =
     with_kind (λ c x. closed_node c x (too_deep c)) (λ x. (closed_there kinds.EmbeddedDocument (is_closed x) (too_deep kinds.EmbeddedDocument) tt, closed_there kinds.Array (is_closed x) (too_deep kinds.Array) tt)) k b other
 node_there (suc levels) k b other =
-    with_kind (λ c x. closed_node c x (holding c (nodes_with (node_in levels) (walk x))))
-    (λ x. let ns = nodes_with (node_in levels) (walk x) in (closed_there kinds.EmbeddedDocument (is_closed x) (node.document ns) tt, closed_there kinds.Array (is_closed x) (node.array ns) tt)) k b other
+    with_kind (λ c x. closed_node c x (holding c (Some x) (nodes_with (node_in levels) (walk x))))
+    (λ x. let ns = nodes_with (node_in levels) (walk x) in (closed_there kinds.EmbeddedDocument (is_closed x) (node.document (Some x) ns) tt, closed_there kinds.Array (is_closed x) (node.array (Some x) ns) tt)) k b other
 
 -- some value is written as the value
 some_by : (levels : ℕ) (r : Reading Marked) → recast_by (λ v. spell (contents v) levels) (result_map value.some r) ≡ recast_by (λ v. spell (contents v) levels) r

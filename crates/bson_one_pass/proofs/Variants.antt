@@ -121,9 +121,9 @@ content_written name (struct_content fs) m n closed = inside_by name m (value.st
 -- ---- the whole document
 
 -- a document whose first key names a variant
-first_written : (vs : List VariantShape) (i : ℕ) (v : VariantShape) (m : ℕ) (n : Node) (ns : Nodes) → i < length vs → v ≡ get_or vs i v → has_repeat (variant_names (variants_of vs)) ≡ false → has_zero (variant_name v) ≡ false
-    → recast_node (enumeration (variants_of vs)) (suc m) (node.document (then_node (borrowed (variant_name v)) n ns)) ≡ option_map (pair_of (variant_name v)) (recast_content (content_of v.content) m n)
-first_written vs i v m n ns lt got distinct closed =
+first_written : (vs : List VariantShape) (i : ℕ) (v : VariantShape) (m : ℕ) (slice : Option Bytes) (n : Node) (ns : Nodes) → i < length vs → v ≡ get_or vs i v → has_repeat (variant_names (variants_of vs)) ≡ false → has_zero (variant_name v) ≡ false
+    → recast_node (enumeration (variants_of vs)) (suc m) (node.document slice (then_node (borrowed (variant_name v)) n ns)) ≡ option_map (pair_of (variant_name v)) (recast_content (content_of v.content) m n)
+first_written vs i v m slice n ns lt got distinct closed =
     ap (recast_by (λ v. spell (contents v) (suc m))) (variant_read vs i v n lt got distinct) ∙ content_written (variant_name v) (content_of v.content) m n closed
 
 -- the element whose key names a variant was put
@@ -135,8 +135,8 @@ pair_put vs v levels bytes k b old new names distinct put = by_tree (recast_cont
   by_tree None is h = absurd h
   by_tree (Some t) is h = (
     pair (variant_name v) t no_pairs,
-    ap (λ w. recast_node (enumeration (variants_of vs)) (suc levels) (node.document (nodes_with (node_in levels) w))) names.head.behind
-        ∙ first_written vs names.place v levels (node_in levels k b) (nodes_with (node_in levels) (walk_elements (drop (size (element_of k (variant_name v) b)) bytes))) names.within names.there distinct names.head.closed
+    λ slice. ap (λ w. recast_node (enumeration (variants_of vs)) (suc levels) (node.document slice (nodes_with (node_in levels) w))) names.head.behind
+        ∙ first_written vs names.place v levels slice (node_in levels k b) (nodes_with (node_in levels) (walk_elements (drop (size (element_of k (variant_name v) b)) bytes))) names.within names.there distinct names.head.closed
         ∙ ap (option_map (pair_of (variant_name v))) is,
     h ∙ ap (λ (x : Bytes). old ++ x) (sym (append-nil (element (kind t) (variant_name v) (enc t)))),
   )
@@ -152,7 +152,7 @@ if_pair_put (Some x) vs v levels bytes k name b old new same names distinct put 
 -- a document that was closed behind this pair
 pub enum_put : (vs : Variants) (levels m : ℕ) (b old begun filled ended : Bytes) → levels ≡ suc m → ((b : Bytes) → filled ≡ begun ++ b → ended ≡ old ++ enclosed b) → AreInsidePut (enumeration vs) m (nodes_with (node_in m) (walk b)) begun filled
     → IsPut (recast_node (enumeration vs) levels (inner_node levels kinds.EmbeddedDocument b)) old ended kinds.EmbeddedDocument
-enum_put vs levels m b old begun filled ended e wraps h = pairs_put (enumeration vs) (Some h.0) levels m b old begun filled ended h.1 e wraps h.2
+enum_put vs levels m b old begun filled ended e wraps h = pairs_put (enumeration vs) (Some h.0) levels m b old begun filled ended (h.1 (Some b)) e wraps h.2
 
 -- ---- what is kept
 

@@ -76,6 +76,6 @@ AreItemsPut o i old new = ArePut (array_elements i) o old new
 abbrev pub ArePairsPut : Option Pairs → (old new : Bytes) → Type 0
 ArePairsPut o old new = ArePut elements o old new
 
--- the elements were appended of the document that a document of these nodes is written as
+-- the elements were appended of the document that a document of these nodes is written as, in the input or not
 abbrev pub AreInsidePut : Form → (levels : ℕ) → Nodes → (old new : Bytes) → Type 0
-AreInsidePut s levels ns old new = (ps : Pairs) × (recast_node s (suc levels) (node.document ns) ≡ Some (tree.document ps)) × (new ≡ old ++ elements ps)
+AreInsidePut s levels ns old new = (ps : Pairs) × ((slice : Option Bytes) → recast_node s (suc levels) (node.document slice ns) ≡ Some (tree.document ps)) × (new ≡ old ++ elements ps)

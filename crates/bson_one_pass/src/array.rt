@@ -290,9 +290,10 @@ fn recast_other(
 ) -> Option<ElementType>
     ensures { IfSome result (IsPut (recast_node shape.now levels (node_in levels element.now.kind element.now.value)) made.old.items made.new.items) }
 {
-    let value = value_of(element, levels)?;
-    if is_taken(shape, &value) {
-        return recast_value(made, shape, levels, &value);
+    if let Some(value) = value_of(element, levels) {
+        if is_taken(shape, &value) {
+            return recast_value(made, shape, levels, &value);
+        }
     }
     recast_alone(made, shape, levels, element)
 }

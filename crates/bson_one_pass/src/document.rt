@@ -4,6 +4,7 @@ ghost use Rattle.bson_shape.specs.Form as form;
 ghost use Rattle.bson_one_pass.specs.Recast.{IsRecastAs};
 
 use crate::kept::is_leaf_kept;
+use crate::owned::borrows_nothing;
 use crate::value::recast_value;
 use bson_base::{ElementType, MAX_NESTING_LEVEL};
 use bson_io::MOST;
@@ -18,7 +19,8 @@ use std::alloc::Global;
 /// structs, newtypes, unit structs, enums, maps of different keys at `str` or `string`, and the leaves `bool`, `double`, `unit`,
 /// `str`, `string`, `bytes`, `bytebuf`, `oid`, `datetime`, `timestamp`, `decimal`, `binary`, `uuid` and those of integers, where the value is of the kind of the
 /// leaf, and `regex`, `codews` and `dbpointer` where it is written as it was read. At `any`, `bson` and `document` it takes what is written as it was read: values whose arrays have their indexes as keys and whose documents
-/// have no key twice, at `any` without an extended value in them, at the others without a wrapper key. A value inside the document that it does not take is read and written by itself.
+/// have no key twice, at `any` without an extended value in them, at the others without a wrapper key; at `rawdoc`, `rawarray` and `rawbson` every document and array. Under a mark it takes what borrows nothing, where every text is UTF-8. A value inside the document
+/// that it does not take is read and written by itself.
 pub fn recast_at_once(alloc: Global, shape: &Shape, bytes: &[u8]) -> Option<Vec<u8>>
     ensures recast { IfSome result (λ v. IsRecastAs shape.now bytes.now v.items) }
 {
@@ -42,10 +44,26 @@ pub fn recast_at_once(alloc: Global, shape: &Shape, bytes: &[u8]) -> Option<Vec<
     }
 }
 
+/// The same where the texts of the document are mended.
+///
+/// It takes the shapes that borrow nothing, in which neither `str` nor `bytes` stands, and documents whose texts are UTF-8.
+pub fn recast_at_once_utf8_lossy(alloc: Global, shape: &Shape, bytes: &[u8]) -> Option<Vec<u8>>
+    ensures recast { IfSome result (λ v. IsRecastAs (form.lossy shape.now) bytes.now v.items) }
+{
+    if !borrows_nothing(shape) {
+        return None;
+    }
+    recast_at_once(alloc, shape, bytes)
+}
+
 /// A document that is written at a leaf as it was read: a copy of its bytes.
 fn keep_document(alloc: Global, leaf: Leaf, bytes: &[u8]) -> Option<Vec<u8>>
     ensures { IfSome result (λ v. IsRecastAs (form.leaf leaf) bytes.now v.items) }
 {
+    let Ok(document) = RawDocument::from_bytes(bytes) else {
+        return None;
+    };
+    let bytes = document.as_bytes();
     let kind = ElementType::EmbeddedDocument;
     if bytes.len() > MOST || !is_leaf_kept(alloc, leaf, MAX_NESTING_LEVEL, kind, bytes) {
         return None;

@@ -17,6 +17,7 @@ ghost use Rattle.bson_one_pass.specs.Put.{recast_items, recast_parts, recast_fie
 ghost use Rattle.bson_one_pass.specs.Run.{IsKept, IsUuid};
 
 use crate::named::{named_len, named_variant, value_under};
+use crate::owned::borrows_nothing;
 use bson_base::ElementType;
 use bson_io::MOST;
 use bson_itself::{UntypedLeaf, boolean_len, frame_len, is_itself, text_len};
@@ -71,6 +72,7 @@ fn is_form_kept(
         Form::Newtype(name, inner) => {
             is_newtype_kept(alloc, name, inner, levels, nested, kind, bytes)
         }
+        Form::Lossy(inner) => is_marked_kept(alloc, inner, levels, nested, kind, bytes),
         Form::Seq(item) => match kind {
             ElementType::Array if nested > 0 => {
                 is_array_kept(alloc, item, levels, nested - 1, bytes)
@@ -117,6 +119,22 @@ fn is_newtype_kept(
     is_kept(alloc, inner, levels, nested, kind, bytes)
 }
 
+// The same at a mark: nothing is mended, since each text is UTF-8.
+#[inline(always)]
+#[cycle(kept)]
+fn is_marked_kept(
+    alloc: Global,
+    inner: &Shape,
+    levels: u32,
+    nested: u32,
+    kind: ElementType,
+    bytes: &[u8],
+) -> bool
+    ensures { IsTrue result → IsKept (form.lossy inner.now) levels kind bytes.now }
+{
+    borrows_nothing(inner) && is_kept(alloc, inner, levels, nested, kind, bytes)
+}
+
 /// Whether a value of the kind in these bytes is written at a leaf as these bytes.
 #[inline(always)]
 pub(crate) fn is_leaf_kept(
@@ -145,6 +163,9 @@ pub(crate) fn is_leaf_kept(
         (Leaf::Document, ElementType::EmbeddedDocument) => {
             is_itself(alloc, UntypedLeaf::Bson, kind, bytes, levels)
         }
+        (Leaf::RawDocument, ElementType::EmbeddedDocument) => is_one_level(levels, bytes),
+        (Leaf::RawArray, ElementType::Array) => is_one_level(levels, bytes),
+        (Leaf::RawBson, _) => is_raw_kept(alloc, levels, kind, bytes),
         (Leaf::Timestamp, ElementType::Timestamp) => {
             is_extended_kept(alloc, leaf, levels, kind, bytes)
         }
@@ -171,6 +192,28 @@ fn is_extended_kept(alloc: Global, leaf: Leaf, levels: u32, kind: ElementType, b
     ensures { IsTrue result → IsKept (form.leaf leaf) levels kind bytes.now }
 {
     is_itself(alloc, UntypedLeaf::Bson, kind, bytes, levels)
+}
+
+// The same for a value at `rawbson`: a document and an array are not looked into.
+#[inline(never)]
+fn is_raw_kept(alloc: Global, levels: u32, kind: ElementType, bytes: &[u8]) -> bool
+    ensures { IsTrue result → IsKept (form.leaf Leaf.RawBson) levels kind bytes.now }
+{
+    match kind {
+        ElementType::EmbeddedDocument => is_one_level(levels, bytes),
+        ElementType::Array => is_one_level(levels, bytes),
+        ElementType::JavaScriptCodeWithScope => false,
+        _ => is_itself(alloc, UntypedLeaf::Bson, kind, bytes, levels),
+    }
+}
+
+// Whether a document or an array in these bytes is closed, and a level is left for it.
+#[inline(always)]
+fn is_one_level(levels: u32, bytes: &[u8]) -> bool
+    ensures level { IsTrue result → 1 ≤ levels }
+    ensures closed { IsTrue result → is_closed bytes.now ≡ true }
+{
+    levels > 0 && bytes.len() >= 5 && is_closed(bytes)
 }
 
 // Whether these bytes are a text, its length in front and a zero behind it.

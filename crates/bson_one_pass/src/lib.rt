@@ -17,6 +17,7 @@ mod kept;
 mod leaf;
 mod map;
 mod named;
+mod owned;
 mod run;
 mod structure;
 mod taken;
@@ -24,4 +25,4 @@ mod tuple;
 mod value;
 mod variant;
 
-pub use document::recast_at_once;
+pub use document::{recast_at_once, recast_at_once_utf8_lossy};

@@ -1,6 +1,7 @@
 // What the pass takes of a value, before any of it is written.
 use crate::map::takes_keys;
 use crate::named::named_variant;
+use crate::owned::borrows_nothing;
 use bson_base::{BinarySubtype, ElementType};
 use bson_rawdoc::RawBsonRef;
 use bson_rawdoc::reading::inside;
@@ -30,7 +31,8 @@ pub(crate) fn is_taken(shape: &Shape, value: &RawBsonRef<'_>) -> bool {
             RawBsonRef::Document(document) => names_taken(variants, document.as_bytes()),
             _ => false,
         },
-        Form::Lossy(_) | Form::Readable(_) | Form::Mode(_, _) => false,
+        Form::Lossy(inner) => borrows_nothing(inner) && is_taken(inner, value),
+        Form::Readable(_) | Form::Mode(_, _) => false,
     }
 }
 

@@ -2,7 +2,7 @@
 ghost use Rattle.std.specs.Prelude.{◌≡◌, false, IfSome};
 ghost use Rattle.bson_rawdoc.specs.Node.{value_node, inner_node};
 ghost use Rattle.bson_rawdoc.specs.ValueView.{raw_value};
-ghost use Rattle.bson_shape.specs.Form.{optional, newtype};
+ghost use Rattle.bson_shape.specs.Form.{optional, lossy, newtype};
 ghost use Rattle.bson_shape.specs.Makers.{is_reserved_newtype};
 ghost use Rattle.bson_one_pass.specs.Put.{recast_node, IsPut};
 
@@ -10,6 +10,7 @@ use crate::array::recast_array;
 use crate::enumeration::recast_enum;
 use crate::leaf::recast_leaf;
 use crate::map::recast_map;
+use crate::owned::borrows_nothing;
 use crate::structure::recast_struct;
 use crate::tuple::recast_tuple;
 use crate::variant::recast_variant;
@@ -71,7 +72,8 @@ pub(crate) fn recast_value(
             }
             _ => None,
         },
-        Form::Lossy(_) | Form::Readable(_) | Form::Mode(_, _) => None,
+        Form::Lossy(inner) => recast_marked(made, inner, levels, value),
+        Form::Readable(_) | Form::Mode(_, _) => None,
     }
 }
 
@@ -88,6 +90,23 @@ fn recast_newtype(
     ensures { IfSome result (IsPut (recast_node (newtype name.now inner.now) levels (value_node (inner_node levels) (raw_value value.now)))
         made.old.items made.new.items) }
 {
+    recast_value(made, inner, levels, value)
+}
+
+/// The value at a mark whose value has this shape: it is read as it stands, since each text of it that is read is UTF-8.
+#[cycle(recast)]
+fn recast_marked(
+    made: &mut Vec<u8>,
+    inner: &Shape,
+    levels: u32,
+    value: &RawBsonRef<'_>,
+) -> Option<ElementType>
+    ensures { IfSome result (IsPut (recast_node (lossy inner.now) levels (value_node (inner_node levels) (raw_value value.now)))
+        made.old.items made.new.items) }
+{
+    if !borrows_nothing(inner) {
+        return None;
+    }
     recast_value(made, inner, levels, value)
 }
 

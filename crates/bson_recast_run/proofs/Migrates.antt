@@ -6,14 +6,14 @@ use Rattle.std.proofs.lemmas.Bool.{le-ltb, ltb-true}
 use Rattle.bson_base.specs.Text.{Bytes, AreBytes}
 use Rattle.bson_base.specs.Sound.{IsSound, max_bytes}
 use Rattle.bson_base.specs.Tree.{Tree, enc}
-use Rattle.bson_shape.specs.Form.{Form}
+use Rattle.bson_shape.specs.Form.{Form, lossy}
 use Rattle.bson_shape.specs.Makers.{IsShape}
 use Rattle.bson_datum.specs.Value.{Value}
 use Rattle.bson_datum.specs.Cause.{too_long}
 use Rattle.bson_datum.specs.Refusal.{ReadFault, WriteFault, unwritable, here, Failure, bare, placed}
 use Rattle.bson_datum.specs.ErrorView.{read_failure, write_failure}
 use Rattle.bson_laws.specs.Means.{means}
-use Rattle.bson_laws.specs.Plain.{IsPlain}
+use Rattle.bson_laws.specs.Plain.{OwnsTexts, IsPlain}
 use Rattle.bson_laws.specs.Reads.{reads_document}
 use Rattle.bson_laws.specs.Spell.{Writing, IsWrittenUnlessLarge, IsNumber, HoldsNumbers, spell_document, size}
 use Rattle.bson_laws.specs.Views.{views}
@@ -22,28 +22,40 @@ use Rattle.bson_laws.proofs.ReadBack.{views_reads}
 use Rattle.bson_laws.proofs.Documents.{document_written, document_numbers}
 use Rattle.bson_laws.proofs.Spelled.{spell_means}
 use Rattle.bson_de_raw.specs.ReadsLossy.{reads_lossy}
-use Rattle.bson_de_raw.proofs.Lossy.{lossy_numbers}
+use Rattle.bson_de_raw.proofs.Lossy.{lossy_numbers, lossy_written, lossy_views_read}
 use Rattle.bson_ser_stream.specs.Writing.{IsDue, too_long_failure}
 use Rattle.bson_recast_run.specs.declared.recasting.RecastError.{RecastError}
 use Rattle.bson_recast_run.specs.declared.recasting.RecastError.TheVariants.{Read, Write, NoMemory}
 use Rattle.bson_recast_run.specs.Recasting.{writes, unread, written, recast_read, recast_of, lossy_recast_of, Unwritten, IsRecast, GivesBytes, IsForSize, IsForNoNumber, IfUnwritten}
 
-module _ (s : Form) (bytes : Bytes) (t u : Tree) (d : Value) (shape : IsShape s) (plain : IsPlain s) (sound : IsSound t) (view : views s t ≡ Some d) (mean : means d ≡ Some u) (clean : IsSound u) (is : bytes ≡ enc t) where
-  reads_it : reads_document s bytes ≡ Ok d
-  reads_it = ap (reads_document s) is ∙ views_reads s t d shape plain sound view
-
+-- what is read as a value that means a sound document
+module _ (answer : Result Value (Failure ReadFault)) (u : Tree) (d : Value) (read : answer ≡ Ok d) (mean : means d ≡ Some u) (clean : IsSound u) where
   fits : size d ≤ max_bytes
   fits = let whole = spell_means d u mean clean in let small = clean.fits in omega (arith, whole.1, small)
 
   -- what it comes to is the document
+  comes_to : recast_read answer ≡ writes (enc u)
+  comes_to = ap recast_read read ∙ ap (written (nat_lt max_bytes (size d))) (spell_means d u mean clean).0 ∙ ap (λ b. written b (Ok u)) (le-ltb _ _ fits)
+
+  gives : (r : Result (Vec ℕ) RecastError) → IsRecast (recast_read answer) r → GivesBytes (enc u) r
+  gives (Ok v) h = let both : writes v.items ≡ writes (enc u) = sym h ∙ comes_to in cc
+  gives (Err (Read e)) h = let both : unread (read_failure e) ≡ writes (enc u) = sym h ∙ comes_to in cc
+  gives (Err (Write e)) h = subst (λ x. Unwritten x (write_failure e)) comes_to h
+  gives (Err NoMemory) h = tt
+
+module _ (s : Form) (bytes : Bytes) (t u : Tree) (d : Value) (shape : IsShape s) (plain : IsPlain s) (sound : IsSound t) (view : views s t ≡ Some d) (mean : means d ≡ Some u) (clean : IsSound u) (is : bytes ≡ enc t) where
+  reads_it : reads_document s bytes ≡ Ok d
+  reads_it = ap (reads_document s) is ∙ views_reads s t d shape plain sound view
+
   pub recasts_it : recast_of s bytes ≡ writes (enc u)
-  recasts_it = ap recast_read reads_it ∙ ap (written (nat_lt max_bytes (size d))) (spell_means d u mean clean).0 ∙ ap (λ b. written b (Ok u)) (le-ltb _ _ fits)
+  recasts_it = comes_to (reads_document s bytes) u d reads_it mean clean
 
   pub migrates : (r : Result (Vec ℕ) RecastError) → IsRecast (recast_of s bytes) r → GivesBytes (enc u) r
-  migrates (Ok v) h = let both : writes v.items ≡ writes (enc u) = sym h ∙ recasts_it in cc
-  migrates (Err (Read e)) h = let both : unread (read_failure e) ≡ writes (enc u) = sym h ∙ recasts_it in cc
-  migrates (Err (Write e)) h = subst (λ x. Unwritten x (write_failure e)) recasts_it h
-  migrates (Err NoMemory) h = tt
+  migrates = gives (reads_document s bytes) u d reads_it mean clean
+
+  -- the same where texts are mended
+  pub lossy_migrates : OwnsTexts s → (r : Result (Vec ℕ) RecastError) → IsRecast (lossy_recast_of s bytes) r → GivesBytes (enc u) r
+  lossy_migrates owned = gives (reads_lossy s bytes) u d (ap (reads_lossy s) is ∙ lossy_views_read s t d shape owned plain sound view) mean clean
 
 -- ---- what was read is refused for its size alone
 
@@ -74,7 +86,8 @@ of_each answer P holds (Err NoMemory) h = tt
 
 -- ---- its size alone
 
-module _ (s : Form) (bytes : Bytes) (are : AreBytes bytes) where
+-- what was read is written, unless it is too large
+module _ (s : Form) (bytes : Bytes) (writes_it : (d : Value) → reads_document s bytes ≡ Ok d → IsWrittenUnlessLarge (spell_document d)) where
   abbrev read : Value → Result Value (Failure ReadFault)
   read d = Ok d
 
@@ -85,14 +98,18 @@ module _ (s : Form) (bytes : Bytes) (are : AreBytes bytes) where
   due_for_size (Ok t) f u due = absurd due
   due_for_size (Err r) f u due = inr (r.path, r.fault, due, u)
 
-  too_large : IsShape s → IsWritable s → (f : Failure WriteFault) (h : IsValueRefused (reads_document s bytes) f) → IsForSize s bytes f
-  too_large shape writable f h = by_cause h.refused where
+  too_large : (f : Failure WriteFault) (h : IsValueRefused (reads_document s bytes) f) → IsForSize s bytes f
+  too_large f h = by_cause h.refused where
     by_cause : IsDue (spell_document h.value) f ⊎ ((f ≡ too_long_failure) × (max_bytes < size h.value)) → IsForSize s bytes f
-    by_cause (inl due) = due_for_size (spell_document h.value) f (document_written s bytes h.value shape writable are h.read) due
+    by_cause (inl due) = due_for_size (spell_document h.value) f (writes_it h.value h.read) due
     by_cause (inr long) = inl (long.0, λ d is. subst (λ x. max_bytes < size x) (value_is h.value d h.read is) long.1)
 
-  pub for_size : IsShape s → IsWritable s → (r : Result (Vec ℕ) RecastError) → IsRecast (recast_of s bytes) r → IfUnwritten (IsForSize s bytes) r
-  for_size shape writable r h = of_each (reads_document s bytes) (IsForSize s bytes) (too_large shape writable) r h
+pub for_size : (s : Form) (bytes : Bytes) → AreBytes bytes → IsShape s → IsWritable s → (r : Result (Vec ℕ) RecastError) → IsRecast (recast_of s bytes) r → IfUnwritten (IsForSize s bytes) r
+for_size s bytes are shape writable r h = of_each (reads_document s bytes) (IsForSize s bytes) (too_large s bytes (λ d read. document_written s bytes d shape writable are read)) r h
+
+-- the same where texts are mended
+pub lossy_for_size : (s : Form) (bytes : Bytes) → AreBytes bytes → IsShape s → IsWritable s → (r : Result (Vec ℕ) RecastError) → IsRecast (lossy_recast_of s bytes) r → IfUnwritten (IsForSize (lossy s) bytes) r
+lossy_for_size s bytes are shape writable r h = of_each (reads_lossy s bytes) (IsForSize (lossy s) bytes) (too_large (lossy s) bytes (λ d read. lossy_written s bytes d shape writable are read)) r h
 
 -- ---- no number
 

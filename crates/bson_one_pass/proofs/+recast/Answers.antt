@@ -25,6 +25,7 @@ use Rattle.bson_one_pass.proofs.Containers.{array_node, array_put, document_node
 use Rattle.bson_one_pass.proofs.Entries.{AreEntriesPut, entries_end, map_put}
 use Rattle.bson_one_pass.proofs.Forms.{newtype_is}
 use Rattle.bson_one_pass.proofs.Items.{AreLeft, left_none}
+use Rattle.bson_one_pass.proofs.Marked.{if_marked_put}
 use Rattle.bson_one_pass.proofs.Pieces.{enclosed_put, item_put, put_within}
 use Rattle.bson_one_pass.proofs.AnyOrder as any_order
 use Rattle.bson_one_pass.proofs.AnyOrder.{if_element_put, if_missing_put, left_less, if_others_put, fewer}
@@ -40,6 +41,10 @@ use Rattle.bson_one_pass.proofs.+recast.Goals as goal
 pub value::recast_newtype-returns : goal.value::recast_newtype-returns
 value::recast_newtype-returns t c =
     rw (newtype_is c.args.name.now c.args.inner.now c.args.levels (value_node (inner_node c.args.levels) (raw_value c.args.value.now)) c.requires.1.1) c.recast_value.ensures.put
+
+pub value::recast_marked-returns : goal.value::recast_marked-returns
+value::recast_marked-returns t c =
+    if_marked_put c.recast_value.result c.args.inner.now c.args.levels (raw_value c.args.value.now) c.args.made.now.items c.recast_value.new.made.items (c.if-not-borrows_nothing.ensures refl) c.recast_value.ensures.put
 
 pub tuple::recast_parts-recast_known-requires : goal.tuple::recast_parts-recast_known-requires
 tuple::recast_parts-recast_known-requires t c =
@@ -324,7 +329,7 @@ map::recast_map-returns t c =
     map_put c.args.key c.args.shape.now c.args.levels m b old begun made new (omega (arith, c.if-levels-eq0.false)) (λ e fills. enclosed_put old begun made new e c.in_ok-put.ensures fills ends) (rw within at c.in_ok-recast_entries.ensures)
 
 pub array::recast_other-returns-then-is_taken : goal.array::recast_other-returns-then-is_taken
-array::recast_other-returns-then-is_taken t c = rw c.in_ok-value.ensures c.recast_value.ensures.put
+array::recast_other-returns-then-is_taken t c = rw c.in-Some.ensures c.recast_value.ensures.put
 
 pub structure::recast_fields-loop-field-preserved : goal.structure::recast_fields-loop-field-preserved
 structure::recast_fields-loop-field-preserved t c =

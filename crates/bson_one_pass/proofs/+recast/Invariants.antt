@@ -22,6 +22,9 @@ decreases-value::recast_value l = 16 * nodes l.shape.now
 abbrev pub decreases-value::recast_option : goal.decreases-value::recast_option
 decreases-value::recast_option l = 16 * nodes l.inner.now + 1
 
+abbrev pub decreases-value::recast_marked : goal.decreases-value::recast_marked
+decreases-value::recast_marked l = 16 * nodes l.inner.now + 1
+
 abbrev pub decreases-value::recast_newtype : goal.decreases-value::recast_newtype
 decreases-value::recast_newtype l = 16 * nodes l.inner.now + 1
 

@@ -13,6 +13,7 @@ use Rattle.bson_one_pass.specs.Found.{name_of}
 use Rattle.bson_one_pass.specs.Run.{element_of, run, size}
 use Rattle.bson_one_pass.proofs.Containers.{array_kept, struct_kept}
 use Rattle.bson_one_pass.proofs.Items.{AreLeft, left_none}
+use Rattle.bson_one_pass.proofs.Marked.{marked_kept}
 use Rattle.bson_one_pass.proofs.Options.{optional_kept}
 use Rattle.bson_one_pass.proofs.Places.{AreUnderWay, places_end}
 use Rattle.bson_one_pass.proofs.KnownNames.{bytes_same}
@@ -106,6 +107,9 @@ is_form_kept-returns-in_default-kind t c = λ h.
 pub is_form_kept-returns-in-EmbeddedDocument-kind : goal.is_form_kept-returns-in-EmbeddedDocument-kind
 is_form_kept-returns-in-EmbeddedDocument-kind t c = λ h.
     rw (sym c.in-Enum.ensures.form, c.in-EmbeddedDocument-kind.is) (c.is_enum_kept.ensures h)
+
+pub is_marked_kept-returns-then-borrows_nothing : goal.is_marked_kept-returns-then-borrows_nothing
+is_marked_kept-returns-then-borrows_nothing t c = λ h. marked_kept c.args.inner.now c.args.levels c.args.kind c.args.bytes.now (c.if-borrows_nothing.ensures refl) (c.is_kept.ensures h)
 
 pub is_struct_kept-returns : goal.is_struct_kept-returns
 is_struct_kept-returns t c = λ h.

@@ -18,6 +18,9 @@ decreases-is_form_kept l = 8 * nodes l.shape.now
 abbrev pub decreases-is_newtype_kept : goal.decreases-is_newtype_kept
 decreases-is_newtype_kept l = 8 * nodes l.inner.now + 2
 
+abbrev pub decreases-is_marked_kept : goal.decreases-is_marked_kept
+decreases-is_marked_kept l = 8 * nodes l.inner.now + 2
+
 abbrev pub decreases-is_array_kept : goal.decreases-is_array_kept
 decreases-is_array_kept l = 8 * nodes l.item.now + 3
 

@@ -6,7 +6,7 @@ use Rattle.bson_base.specs.declared.element_type.ElementType.{ElementType}
 use Rattle.bson_base.specs.declared.element_type.ElementType.TheVariants as kinds
 use Rattle.bson_itself.specs.Encoded.{EncodesItself}
 use Rattle.bson_itself.specs.declared.untyped.UntypedLeaf.TheVariants.{Bson}
-use Rattle.bson_itself.proofs.Kept.{document_kept}
+use Rattle.bson_itself.proofs.Kept.{document_kept, raw_document_kept, raw_array_kept}
 use Rattle.bson_one_pass.proofs.KeptLeaves.{kept_as_read, text_kept, string_kept, int32_kept, int64_kept, id_kept, date_kept, uuid_kept}
 use Rattle.bson_one_pass.proofs.kept.is_leaf_kept.Goals as goal
 
@@ -53,3 +53,16 @@ returns-in-Document-EmbeddedDocument c = λ h.
     let test = c.is_itself-in-Document-EmbeddedDocument.ensures in
     let one : EncodesItself Bson kinds.EmbeddedDocument c.args.levels b = subst (λ (k : ElementType). EncodesItself Bson k c.args.levels b) at.is-1 (test.itself h) in
     rw (at.is-0, at.is-1) (kept_as_read (leaf leaves.Document) c.args.levels kinds.EmbeddedDocument b (document_kept c.args.levels b (omega (arith, test.few h)) one))
+
+pub returns-in-RawDocument-EmbeddedDocument : goal.returns-in-RawDocument-EmbeddedDocument
+returns-in-RawDocument-EmbeddedDocument c = λ h.
+    let b = c.args.bytes.now in
+    let at = c.in-RawDocument-EmbeddedDocument in
+    rw (at.is-0, at.is-1) (kept_as_read (leaf leaves.RawDocument) c.args.levels kinds.EmbeddedDocument b (raw_document_kept c.args.levels b (c.is_one_level.ensures.level h) (c.is_one_level.ensures.closed h)))
+
+pub returns-in-RawArray-Array : goal.returns-in-RawArray-Array
+returns-in-RawArray-Array c = λ h.
+    let b = c.args.bytes.now in
+    let at = c.in-RawArray-Array in
+    let test = c.is_one_level-in-RawArray-Array.ensures in
+    rw (at.is-0, at.is-1) (kept_as_read (leaf leaves.RawArray) c.args.levels kinds.Array b (raw_array_kept c.args.levels b (test.level h) (test.closed h)))
