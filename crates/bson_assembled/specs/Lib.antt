@@ -1,0 +1,3 @@
+pub mod FirstKeys
+pub mod Assembled
+pub mod FreeKeys

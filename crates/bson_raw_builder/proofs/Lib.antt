@@ -1,0 +1,4 @@
+pub mod Putting
+pub mod FirstKeys
+pub mod WrappedIds
+pub mod ReadIds

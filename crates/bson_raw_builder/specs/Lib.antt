@@ -1,0 +1,3 @@
+pub mod RawValueView
+pub mod FirstKeyView
+pub mod Putting

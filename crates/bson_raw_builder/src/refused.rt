@@ -1,0 +1,25 @@
+ghost use Rattle.std.specs.Prelude.{◌≡◌};
+ghost use Rattle.bson_datum.specs.Cause.{bad_body};
+ghost use Rattle.bson_datum.specs.ErrorView.{cause_view, read_failure};
+ghost use Rattle.bson_datum.specs.Refusal.{unreadable, bare};
+
+use bson_datum::de::Error;
+use bson_datum::{Cause, Wrapper};
+
+/// A value is refused for this cause; no path is said.
+#[cold]
+#[inline(never)]
+pub(crate) fn refused(cause: Cause) -> Error
+    ensures { read_failure result ≡ bare (unreadable (cause_view cause)) }
+{
+    Error::DeserializationError { cause }
+}
+
+/// The value of this first key has not the form.
+#[cold]
+#[inline(never)]
+pub(crate) fn bad_body(wrapper: Wrapper) -> Error
+    ensures { read_failure result ≡ bare (unreadable (bad_body wrapper)) }
+{
+    refused(Cause::BadBody(wrapper))
+}
