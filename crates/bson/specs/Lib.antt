@@ -60,6 +60,7 @@ pub use Rattle.bson_datum.specs.Marked
 pub use Rattle.bson_datum.specs.MarkedView
 pub use Rattle.bson_datum.specs.PathView
 pub use Rattle.bson_datum.specs.Printed
+pub use Rattle.bson_datum.specs.RawView
 pub use Rattle.bson_datum.specs.Refusal
 pub use Rattle.bson_datum.specs.Same
 pub use Rattle.bson_datum.specs.Stop
@@ -76,8 +77,11 @@ pub use Rattle.bson_laws.specs.Fits
 pub use Rattle.bson_laws.specs.InRange
 pub use Rattle.bson_laws.specs.Judged
 pub use Rattle.bson_laws.specs.Means
+pub use Rattle.bson_laws.specs.Owned
 pub use Rattle.bson_laws.specs.Plain
+pub use Rattle.bson_laws.specs.RawFree
 pub use Rattle.bson_laws.specs.Reads
+pub use Rattle.bson_laws.specs.ReadsRaw
 pub use Rattle.bson_laws.specs.Represented
 pub use Rattle.bson_laws.specs.Settled
 pub use Rattle.bson_laws.specs.Spell
@@ -85,6 +89,9 @@ pub use Rattle.bson_laws.specs.Trees
 pub use Rattle.bson_laws.specs.Unmarked
 pub use Rattle.bson_laws.specs.Views
 pub use Rattle.bson_laws.specs.Writable
+pub use Rattle.bson_assembled.specs.Assembled
+pub use Rattle.bson_assembled.specs.FirstKeys
+pub use Rattle.bson_assembled.specs.FreeKeys
 pub use Rattle.bson_infer_laws.specs.Above
 pub use Rattle.bson_infer_laws.specs.Inferred
 pub use Rattle.bson_infer_laws.specs.Join
@@ -103,6 +110,8 @@ pub use Rattle.bson_met.specs.ScalarView
 pub use Rattle.bson_met.specs.ValueView as MetValueView
 pub use Rattle.bson_texts.specs.ListsMarked
 pub use Rattle.bson_wrapped.specs.Data
+pub use Rattle.bson_raw_builder.specs.Putting as RawPutting
+pub use Rattle.bson_raw_builder.specs.RawValueView
 pub use Rattle.bson_de_raw.specs.Gives
 pub use Rattle.bson_de_raw.specs.ReadsLossy
 pub use Rattle.bson_ser_stream.specs.Writing

@@ -1,5 +1,6 @@
 //! Laws: functions that do nothing, and whose contracts say what holds of every shape, value and document.
 
+pub use bson_assembled::law_assembled;
 pub use bson_base::law_opened_folds;
 pub use bson_infer_laws::{
     law_encoded_documents, law_inferred_again, law_inferred_recasts, law_inferred_shape,
@@ -8,7 +9,8 @@ pub use bson_infer_laws::{
 pub use bson_infer_run::law_infer_files;
 pub use bson_laws::{
     law_datum_spells, law_fixed_point, law_opened_agrees, law_opened_represents, law_read_back,
-    law_reads_numbers, law_reads_spell, law_spell_means, law_views_means, law_views_reads,
+    law_reads_mended, law_reads_numbers, law_reads_spell, law_spell_means, law_views_means,
+    law_views_reads,
 };
 pub use bson_recast_run::law_run_again;
 pub use bson_shape::law_text;

@@ -6,11 +6,11 @@
 //! | subject | names |
 //! |---|---|
 //! | shapes | `Shape`; `FieldShape`, `VariantShape` and `VariantContent` to make one without its notation; `Form`, `Leaf` and `Named` to look at one |
-//! | reading and writing | `from_slice_at`, `from_slice_utf8_lossy_at`; `to_vec_at`, `to_buf`, `to_vec_counted`; `Datum` and its parts `Field`, `Entry`, `Text`, `ByteStr`, `Double` |
+//! | reading and writing | `from_slice_at`, `from_slice_utf8_lossy_at`; `to_vec_at`, `to_buf`, `to_vec_counted`; `Datum` and its parts `Field`, `Entry`, `Text`, `ByteStr`, `RawDoc`, `RawArr`, `Double` |
 //! | both at once | `recast`, `recast_utf8_lossy`, `recast_to_buf` |
 //! | the shape of documents | `infer` |
 //! | trees | `Bson`, `Document` with `Iter` and `IntoIter`, and the types of values, such as `ObjectId`, `DateTime` and `Binary`; `read_value` and `Met` to read from one |
-//! | documents in their bytes | `RawDocument`, `RawArray`, `RawElement`, `RawIter`, `RawBsonRef`, `Unjudged`; `RawDocumentBuf`, `RawArrayBuf` to own the bytes |
+//! | documents in their bytes | `RawDocument`, `RawArray`, `RawElement`, `RawIter`, `RawBsonRef`, `Unjudged`; `RawDocumentBuf`, `RawArrayBuf` to own the bytes; `RawValue`, a value by its kind and bytes, of `raw_from_element` and `raw_from_bson` |
 //! | files of documents | `RawDocuments`; `migrate`, `Migration`, `Refused`, `lines_of` |
 //! | values of kinds that serde's data model lacks | `data` to make them, `reserved` to look at them, `reserved_kind` |
 //! | errors | `ParseError`, `ShapeError`, `de::Error`, `ser::Error`, `raw::Error`, `EncodeError`, `InferError`, `RecastError`, `MigrateError`; `Cause`, `MAX_NESTING_LEVEL`, `Path`, `Segment`, `Wrapper`, and `Stop` of `read_value` |
@@ -396,6 +396,8 @@ pub use bson_datum::Entry;
 pub use bson_datum::Field;
 pub use bson_datum::MAX_NESTING_LEVEL;
 pub use bson_datum::Path;
+pub use bson_datum::RawArr;
+pub use bson_datum::RawDoc;
 pub use bson_datum::Segment;
 pub use bson_datum::Stop;
 pub use bson_datum::Text;
@@ -440,6 +442,9 @@ pub use bson_program::InputEndings;
 pub use bson_program::finish;
 pub use bson_program::read_input;
 pub use bson_program::shape_of_word;
+pub use bson_raw_builder::RawValue;
+pub use bson_raw_builder::raw_from_bson;
+pub use bson_raw_builder::raw_from_element;
 pub use bson_rawdoc::RawArray;
 pub use bson_rawdoc::RawArrayBuf;
 pub use bson_rawdoc::RawBsonRef;

@@ -17,11 +17,14 @@ fn main(rt: HostRuntime) -> Result<(), Fail> {
     debug::print_runs(&rt, alloc)?;
     reading::print_document(&rt, alloc)?;
     reading::print_mended(&rt, alloc)?;
+    reading::print_raw_array(&rt, alloc)?;
     tree::print_tree(&rt, alloc)?;
     writing::print_struct(&rt, alloc)?;
+    writing::print_raw_document(&rt, alloc)?;
     refusals::print_refusals(&rt, alloc)?;
     refusals::print_long_binary(&rt, alloc)?;
     refusals::print_long_old_binary(&rt, alloc)?;
+    refusals::print_raw_array(&rt, alloc)?;
     faults::print_input_faults(&rt, alloc)?;
     faults::print_output_faults(&rt, alloc)?;
     faults::print_error_fault(&rt, alloc)

@@ -17,6 +17,16 @@ pub fn print_document(rt: &impl Print, alloc: Global) -> Result<(), Fail> {
     print_bytes(rt, alloc, "recast", &recast(alloc, &shape, DOCUMENT)?)
 }
 
+/// The document with the field `a`, an array of 1 and 2 whose keys are `5` and `7`.
+const ARRAY: &[u8] = b"\x1b\0\0\0\x04a\0\x13\0\0\0\x105\0\x01\0\0\0\x107\0\x02\0\0\0\0\0";
+
+/// The document with an array that stays in its bytes, read and recast: its keys stay as they are.
+pub fn print_raw_array(rt: &impl Print, alloc: Global) -> Result<(), Fail> {
+    let shape = Shape::parse(alloc, "S{a:rawarray}")?;
+    print_debug(rt, &from_slice_at(alloc, &shape, ARRAY)?)?;
+    print_bytes(rt, alloc, "rawarray", &recast(alloc, &shape, ARRAY)?)
+}
+
 /// The document with the field `s`, a text of one byte that is not UTF-8.
 const ILL_FORMED: &[u8] = b"\x0e\0\0\0\x02s\0\x02\0\0\0\xff\0\0";
 

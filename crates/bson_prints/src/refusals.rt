@@ -2,7 +2,8 @@
 use crate::printing::print_text;
 use crate::writing::one_field;
 use bson_base::MAX_BINARY;
-use bson_datum::{ByteStr, Datum, Entry, Field, Text, ser};
+use bson_datum::{ByteStr, Datum, Entry, Field, RawArr, Text, ser};
+use bson_rawdoc::{RawArrayBuf, RawDocumentBuf};
 use bson_ser_stream::to_vec_at;
 use std::alloc::{AllocError, Global};
 use std::io::Print;
@@ -96,4 +97,19 @@ pub fn print_long_binary(rt: &impl Print, alloc: Global) -> Result<(), Fail> {
 pub fn print_long_old_binary(rt: &impl Print, alloc: Global) -> Result<(), Fail> {
     let bytes = vec![in alloc; 0; MAX_BINARY - 3]?;
     print_refusal(rt, alloc, old_binary(alloc, &bytes)?)
+}
+
+/// An array without elements in its bytes.
+fn raw_array<'a>(alloc: Global) -> Result<Datum<'a>, Fail> {
+    let document = RawDocumentBuf::from_bytes(vec![in alloc; 5, 0, 0, 0, 0]?)?;
+    let array = RawArrayBuf::from_document(document);
+    Ok(Datum::RawArray(RawArr::Owned(array)))
+}
+
+/// The refusal of an array in its bytes where a document is to be written.
+pub fn print_raw_array(rt: &impl Print, alloc: Global) -> Result<(), Fail> {
+    match to_vec_at(alloc, &raw_array(alloc)?) {
+        Ok(_) => print_text(rt, &"written"),
+        Err(error) => print_text(rt, &error),
+    }
 }

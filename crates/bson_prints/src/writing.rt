@@ -1,7 +1,8 @@
 // What is written where there is memory, by each call.
 use crate::printing::print_bytes;
-use bson_datum::{Datum, Field, Text, ser};
+use bson_datum::{Datum, Field, RawDoc, Text, ser};
 use bson_io::{Out, Steps, Tally};
+use bson_rawdoc::RawDocument;
 use bson_ser_stream::{to_buf, to_vec_at, to_vec_counted};
 use std::alloc::{AllocError, Global};
 use std::io::Print;
@@ -43,4 +44,10 @@ fn print_written(rt: &impl Print, alloc: Global, value: &Datum<'_>) -> Result<()
 /// A struct, written by each call.
 pub fn print_struct(rt: &impl Print, alloc: Global) -> Result<(), Fail> {
     print_written(rt, alloc, &one_field(alloc, "i", Datum::I32(1))?)
+}
+
+/// A document without elements in its bytes, written by each call.
+pub fn print_raw_document(rt: &impl Print, alloc: Global) -> Result<(), Fail> {
+    let document = RawDocument::from_bytes(b"\x05\0\0\0\0")?;
+    print_written(rt, alloc, &Datum::RawDocument(RawDoc::Borrowed(document)))
 }

@@ -1,6 +1,7 @@
 // Data are copied, and errors are made, where there is memory.
-use crate::printing::{print_text, print_whether};
-use bson_datum::{ByteStr, Cause, Datum, Entry, Field, Stop, Text, de, ser};
+use crate::printing::{print_debug, print_text, print_whether};
+use bson_datum::{ByteStr, Cause, Datum, Entry, Field, RawArr, RawDoc, Stop, Text, de, ser};
+use bson_rawdoc::{RawArrayBuf, RawDocument, RawDocumentBuf};
 use std::alloc::{AllocError, Global};
 use std::fmt::Debug;
 use std::io::Print;
@@ -78,6 +79,18 @@ fn borrowed<'a>(alloc: Global) -> Result<Datum<'a>, AllocError> {
     containers(alloc, variants(alloc, value)?)
 }
 
+/// The bytes of a document without elements.
+const EMPTY: &[u8] = &[5, 0, 0, 0, 0];
+
+/// A document in its bytes, borrowed, and an array in its bytes, owned.
+fn in_bytes<'a>(alloc: Global) -> Result<Datum<'a>, Fail> {
+    let document = RawDocument::from_bytes(EMPTY)?;
+    let document = Datum::RawDocument(RawDoc::Borrowed(document));
+    let array = RawDocumentBuf::from_bytes(EMPTY.to_vec(alloc)?)?;
+    let array = Datum::RawArray(RawArr::Owned(RawArrayBuf::from_document(array)));
+    Ok(Datum::Tuple(vec![in alloc; document, array]?))
+}
+
 /// Whether a datum is equal to its copy.
 fn is_copied(alloc: Global, datum: &Datum<'_>) -> Result<bool, AllocError> {
     let copy = datum.try_clone(alloc)?;
@@ -95,6 +108,14 @@ pub fn print_copies(rt: &impl Print, alloc: Global) -> Result<(), Fail> {
     let datum = borrowed(alloc)?;
     print_whether(rt, "equal to its copy", is_copied(alloc, &datum)?)?;
     print_whether(rt, "equal to its owned copy", is_owned(alloc, &datum)?)
+}
+
+/// Prints values in their bytes, their copy, and their owned copy.
+pub fn print_copies_in_bytes(rt: &impl Print, alloc: Global) -> Result<(), Fail> {
+    let datum = in_bytes(alloc)?;
+    print_debug(rt, &datum)?;
+    print_debug(rt, &datum.try_clone(alloc)?)?;
+    print_debug(rt, &datum.into_owned(alloc)?)
 }
 
 /// Prints a value and its copy.

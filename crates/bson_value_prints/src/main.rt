@@ -36,6 +36,7 @@ fn main(rt: HostRuntime) -> Result<(), Fail> {
     shapes::print_notations(&rt, alloc)?;
     shapes::print_levels(&rt, alloc)?;
     data::print_copies(&rt, alloc)?;
+    data::print_copies_in_bytes(&rt, alloc)?;
     data::print_text_copies(&rt, alloc)?;
     data::print_errors(&rt, alloc)?;
     ends::print_adapters(&rt)?;

@@ -51,7 +51,7 @@ pub fn print_made(rt: &impl Print, alloc: Global) -> Result<(), Fail> {
 }
 
 /// Notations, each of which is printed as it was read.
-const NOTATIONS: [&str; 14] = [
+const NOTATIONS: [&str; 15] = [
     "i32",
     "{}",
     "[{a:[[string]],b:u8}]",
@@ -65,6 +65,7 @@ const NOTATIONS: [&str; 14] = [
     "{a:bool,b:double,c:char,d:str,e:bytes,f:bytebuf,g:unit,h:i8,i:i16,j:i64,k:u16,l:u32,m:u64}",
     "{a:oid,b:datetime,c:binary,d:timestamp,e:regex,f:codews,g:decimal,h:dbpointer,i:uuid,j:bson}",
     "(document,<N=oid>)",
+    "(rawdoc,rawarray,rawbson)",
     "Point{x:i32,y:{z:i32},\"\":i32,\"é\\\"\\\\\":i32}",
 ];
 
