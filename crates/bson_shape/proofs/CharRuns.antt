@@ -6,7 +6,7 @@ use Rattle.std.proofs.lemmas.Str.{encode_ascii, length-encode, len_utf8_bounds}
 use Rattle.bson_base.specs.Text.{Utf8}
 use Rattle.bson_shape.specs.Notation.{begins_bare, in_bare, names_form, is_escaped}
 use Rattle.bson_base.specs.Outcome.{◌>>=◌}
-use Rattle.bson_shape.specs.Machine.{Refusal, Not_notation, Group, Braces, Parens, Angles, Level, In_prefix, In_brackets, In_pair, In_compact, In_map, In_item, Owner, Form_at, Item_of, Mode, Form_due, Pair_due, Item_due, Bare, Quoted, Escape, Named, Item_done, Done, State, grown, closing, item_ended, wrapped, enclosed, form_ended, begins_name, begins_form, form_due, name_due, item_begun, item_due, named, word_ended, leaf_ended, bare_name, quoted_name, escape, step, no_more, no_more_behind, other_character, run}
+use Rattle.bson_shape.specs.Machine.{Refusal, Not_notation, Group, Braces, Closed_braces, Parens, Angles, Level, In_prefix, In_brackets, In_pair, In_compact, In_map, In_item, Owner, Form_at, Item_of, Mode, Form_due, Pair_due, Item_due, Bare, Quoted, Escape, Named, Item_done, Done, State, grown, closing, item_ended, wrapped, enclosed, form_ended, begins_name, begins_form, form_due, name_due, field_due, item_begun, item_due, named, word_ended, leaf_ended, bare_name, quoted_name, escape, step, no_more, no_more_behind, other_character, run}
 use Rattle.bson_shape.proofs.NameRuns.{run_step, run_refused}
 use Rattle.std.proofs.lemmas.Bool.Decides.{nat_tests}
 use Rattle.bson_shape.specs.Answers.{Gives}
@@ -55,6 +55,7 @@ not_naming b h = grind (arith, nat_tests)
 
 not_closing : (g : Group) (b : ℕ) → 128 ≤ b → eqb b (closing g) ≡ false
 not_closing (Braces h fs) b l = not_byte b 125 l (omega arith)
+not_closing (Closed_braces place n fs) b l = not_byte b 125 l (omega arith)
 not_closing (Parens h ps) b l = not_byte b 41 l (omega arith)
 not_closing (Angles e) b l = not_byte b 62 l (omega arith)
 
@@ -79,6 +80,7 @@ named_refused : (at : ℕ) (owner : Owner) (n : Utf8) (st : List Level) (b : ℕ
 unfolding named
 named_refused at (Form_at p) n st b h = rw (not_byte b 61 h (omega arith), not_byte b 33 h (omega arith), not_byte b 40 h (omega arith), not_byte b 123 h (omega arith)) refl
 named_refused at (Item_of (Braces k fs)) n st b h = rw (not_byte b 58 h (omega arith)) refl
+named_refused at (Item_of (Closed_braces p m fs)) n st b h = rw (not_byte b 58 h (omega arith)) refl
 named_refused at (Item_of (Parens k ps)) n st b h = refl
 named_refused at (Item_of (Angles e)) n st b h = rw (not_byte b 61 h (omega arith), not_byte b 40 h (omega arith), not_byte b 123 h (omega arith), not_byte b 44 h (omega arith), not_byte b 62 h (omega arith)) refl
 
@@ -95,11 +97,12 @@ unfolding word_ended
 item_word_refused at g n st b h = named_refused at (Item_of g) n st b h
 
 due_refused : (at : ℕ) (g : Group) (st : List Level) (b : ℕ) → 128 ≤ b → item_due at g st b ≡ Err (Not_notation at)
-unfolding item_due item_begun name_due form_due
+unfolding item_due item_begun field_due name_due form_due
 due_refused at g st b h = rw (not_closing g b h) (begun g)
   where
     begun : (g : Group) → item_begun at g st b ≡ Err (Not_notation at)
-    begun (Braces k fs) = rw (not_quote b h) refl
+    begun (Braces k fs) = rw (not_byte b 33 h (omega arith), not_quote b h) refl
+    begun (Closed_braces p m fs) = rw (not_quote b h) refl
     begun (Parens k ps) = rw (not_form b h) refl
     begun (Angles e) = rw (not_quote b h) refl
 

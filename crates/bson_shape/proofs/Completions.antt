@@ -3,9 +3,9 @@ use Rattle.std.proofs.Common.{◌≡◌, ℕ, Bool, true, false, ◌&&◌, List,
 use Rattle.std.specs.List.{list_all}
 use Rattle.std.specs.Str.{is_utf8}
 use Rattle.bson_base.specs.Text.{Utf8}
-use Rattle.bson_shape.specs.Form.{Form, by_mode, sequence, map, unit_structure, structure, enumeration, no_fields, unit_content}
+use Rattle.bson_shape.specs.Form.{dropped, Form, by_mode, sequence, map, unit_structure, structure, enumeration, no_fields, unit_content}
 use Rattle.bson_shape.specs.Notation.{begins_bare, in_bare, bare, escaped, quoted, name_text, text}
-use Rattle.bson_shape.specs.Machine.{Group, Braces, Parens, Angles, Level, In_prefix, In_brackets, In_pair, In_compact, In_map, In_item, Owner, Form_at, Item_of, Mode, Form_due, Pair_due, Item_due, Bare, Quoted, Escape, Named, Item_done, Done, State, grown, grown_enum, closing, Closed, Closed_form, Closed_variant, closed, prefixed}
+use Rattle.bson_shape.specs.Machine.{Group, Braces, Closed_braces, Parens, Angles, Level, In_prefix, In_brackets, In_pair, In_compact, In_map, In_item, Owner, Form_at, Item_of, Mode, Form_due, Pair_due, Item_due, Bare, Quoted, Escape, Named, Item_done, Done, State, grown, grown_enum, closing, Closed, Closed_form, Closed_variant, closed, prefixed}
 use Rattle.bson_shape.specs.Fronts.{HasTextNames, goes_on, BeginsNotation}
 use Rattle.bson_shape.proofs.TextStates.{TextGroup, TextOwner, TextLevels, TextMode, TextState, text-nil, text-one, text-push, variants_texts-snoc, names-grown, names-closed, names-prefixed}
 use Rattle.bson_shape.proofs.States.{group_text, due_text, owner_text, levels_text, mode_text, written, ValidMode, grown_text, grown_enum_text, levels_grown, after, closed_text, closing-alone, levels_prefixed, levels_item, levels_value, levels_compact, levels_sample, name-bare, name-quoted}
@@ -59,7 +59,7 @@ close_levels (In_pair place ∷ st) f v h =
     let l : Level = In_pair place in
     before_byte (levels_text (l ∷ st) ++ text f) 44 refl
     (front ((levels_text (l ∷ st) ++ text f) ++ 44 ∷ []) (123 ∷ 125 ∷ 41 ∷ [])
-    (subst Completion (levels_sample place f st) (close_levels st (by_mode f (structure [] no_fields)) v (h, (text-nil, tt))).whole))
+    (subst Completion (levels_sample place f st) (close_levels st (by_mode f (structure dropped [] no_fields)) v (h, (text-nil, tt))).whole))
 close_levels (In_compact place r ∷ st) f v h =
     let l : Level = In_compact place r in
     before_byte (levels_text (l ∷ st) ++ text f) 41 refl (subst Completion (levels_compact place r f st) (close_levels st (by_mode r f) v.1 (v.0, h)).whole)
@@ -120,27 +120,31 @@ alone_closes f h = record { whole = record { form = f; names = h; rest = []; beg
 
 -- the group with one more item that begins with the name: the field `n:{}`, the part `n!`, the variant `n`
 sampled : Group → Utf8 → Group
-sampled (Braces h fs) n = grown (Braces h fs) n (structure [] no_fields)
+sampled (Braces h fs) n = grown (Braces h fs) n (structure dropped [] no_fields)
+sampled (Closed_braces place m fs) n = grown (Closed_braces place m fs) n (structure dropped [] no_fields)
 sampled (Parens h ps) n = grown (Parens h ps) [] (unit_structure n)
 sampled (Angles e) n = Angles (grown_enum e n unit_content)
 
 behind_sample : Group → Utf8
 behind_sample (Braces h fs) = 58 ∷ 123 ∷ 125 ∷ []
+behind_sample (Closed_braces place m fs) = 58 ∷ 123 ∷ 125 ∷ []
 behind_sample (Parens h ps) = 33 ∷ []
 behind_sample (Angles e) = []
 
+field_sampled : (a b : Utf8) → (a ++ (b ++ 58 ∷ [])) ++ (123 ∷ 125 ∷ []) ≡ a ++ (b ++ (58 ∷ 123 ∷ 125 ∷ []))
+field_sampled a b = simp append_assoc
+
 sampled_text : (g : Group) (n : Utf8) → group_text (sampled g n) ≡ due_text g ++ (name_text n ++ behind_sample g)
 unfolding sampled behind_sample
-sampled_text (Braces h fs) n = grown_text (Braces h fs) n (structure [] no_fields) ∙ regrouped (due_text (Braces h fs)) (name_text n)
-  where
-    regrouped : (a b : Utf8) → (a ++ (b ++ 58 ∷ [])) ++ (123 ∷ 125 ∷ []) ≡ a ++ (b ++ (58 ∷ 123 ∷ 125 ∷ []))
-    regrouped a b = simp append_assoc
+sampled_text (Braces h fs) n = grown_text (Braces h fs) n (structure dropped [] no_fields) ∙ field_sampled (due_text (Braces h fs)) (name_text n)
+sampled_text (Closed_braces place m fs) n = grown_text (Closed_braces place m fs) n (structure dropped [] no_fields) ∙ field_sampled (due_text (Closed_braces place m fs)) (name_text n)
 sampled_text (Parens h ps) n = grown_text (Parens h ps) [] (unit_structure n) ∙ ap (λ xs. xs ++ (name_text n ++ 33 ∷ [])) (append-nil (due_text (Parens h ps)))
 sampled_text (Angles e) n = grown_enum_text e n unit_content ∙ append_assoc (due_text (Angles e)) (name_text n) []
 
 sampled_names : (g : Group) (n : Utf8) → TextGroup g → is_utf8 n ≡ true → TextGroup (sampled g n)
 unfolding sampled
-sampled_names (Braces h fs) n k t = names-grown (Braces h fs) n (structure [] no_fields) k t (text-nil, tt)
+sampled_names (Braces h fs) n k t = names-grown (Braces h fs) n (structure dropped [] no_fields) k t (text-nil, tt)
+sampled_names (Closed_braces place m fs) n k t = names-grown (Closed_braces place m fs) n (structure dropped [] no_fields) k t (text-nil, tt)
 sampled_names (Parens h ps) n k t = names-grown (Parens h ps) [] (unit_structure n) k text-nil t
 sampled_names (Angles e) n k t = variants_texts-snoc e.variants n unit_content k t tt
 
@@ -160,9 +164,9 @@ with_owner (Item_of g) bytes v c =
     regrouped a b c d = simp append_assoc
 
 completion : (m : Mode) → ValidMode m → TextMode m → Completion (mode_text m)
-completion Form_due v t = record { form = structure [] no_fields; names = (text-nil, tt); rest = 123 ∷ 125 ∷ []; begins = refl }
+completion Form_due v t = record { form = structure dropped [] no_fields; names = (text-nil, tt); rest = 123 ∷ 125 ∷ []; begins = refl }
 completion (Pair_due place) v t =
-    let none = structure [] no_fields in
+    let none = structure dropped [] no_fields in
     record { form = by_mode none none; names = ((text-nil, tt), (text-nil, tt)); rest = 40 ∷ 123 ∷ 125 ∷ 44 ∷ 123 ∷ 125 ∷ 41 ∷ []; begins = refl }
 completion (Item_due g) v t = front (due_text g) (97 ∷ []) (with_owner (Item_of g) (97 ∷ []) t (complete_bare (97 ∷ []) refl (text-one 97 (omega arith))))
 completion (Bare owner n) v t = with_owner owner n t.0 (complete_bare n v t.1)

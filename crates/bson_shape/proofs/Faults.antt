@@ -5,10 +5,10 @@ use Rattle.std.proofs.lemmas.Bool.Decides.{nat_tests}
 use Rattle.std.proofs.lemmas.List.Elements.{Contains-append_left, Contains-append_right}
 use Rattle.bson_base.specs.Text.{Utf8}
 use Rattle.bson_base.specs.Reserved.{reserved_kind}
-use Rattle.bson_shape.specs.Form.{Form, leaf, optional, lossy, human_readable, by_mode, sequence, map, tuple, tuple_structure, newtype, unit_structure, structure, enumeration, Fields, no_fields, field, Parts, no_parts, part, Variants, no_variants, variant, Content, unit_content, newtype_content, tuple_content, struct_content}
+use Rattle.bson_shape.specs.Form.{UnknownFields, Form, leaf, optional, lossy, human_readable, by_mode, sequence, map, tuple, tuple_structure, newtype, unit_structure, structure, enumeration, Fields, no_fields, field, Parts, no_parts, part, Variants, no_variants, variant, Content, unit_content, newtype_content, tuple_content, struct_content}
 use Rattle.bson_shape.specs.Levels.{levels, deepest, deepest_part, deepest_variant, deepest_inside}
 use Rattle.bson_shape.specs.Makers.{is_text_key, is_reserved_newtype, repeats, variants_repeat, within_levels, made_form}
-use Rattle.bson_shape.specs.Notation.{text, name_text, struct_name_text, content_text}
+use Rattle.bson_shape.specs.Notation.{text, name_text, struct_name_text, opening_struct, content_text}
 use Rattle.bson_shape.specs.FirstRefusal.{MakerRefusal, or_else, too_deep, refusal_of, form_refusal, first_refusal, fields_refusal, parts_refusal, variants_refusal, content_refusal}
 use Rattle.bson_shape.specs.InnerForms.{Inner, inner_forms, field_forms, part_forms, variant_forms, content_forms, HasCause, HasFault}
 use Rattle.bson_shape.specs.declared.error.ShapeError.{ShapeError}
@@ -70,9 +70,9 @@ mutual
       let inner = at + length (name_text name) + 1 in
       omega (arith, fits f inner (around + 1) (none_here (newtype name f) at around (first_refusal inner (around + 1) f) e).1)
   fits (unit_structure name) at around e = omega (arith, none_here (unit_structure name) at around None e)
-  fits (structure name fs) at around e =
-      let inner = at + length (struct_name_text name) + 1 in
-      let n = none_here (structure name fs) at around (fields_refusal inner (around + 1) fs) e in omega (arith, fields_fit fs inner (around + 1) n.0 n.1)
+  fits (structure u name fs) at around e =
+      let inner = at + length (struct_name_text name) + length (opening_struct u) in
+      let n = none_here (structure u name fs) at around (fields_refusal inner (around + 1) fs) e in omega (arith, fields_fit fs inner (around + 1) n.0 n.1)
 
   fields_fit : (fs : Fields) (at around : ℕ) → around ≤ 512 → fields_refusal at around fs ≡ None → around + deepest fs ≤ 512
   fields_fit no_fields at around few e = omega arith
@@ -148,11 +148,11 @@ newtype_fault : (a : Bool) (n : Utf8) (f : Form) (met at around : ℕ) (rest : L
 newtype_fault true n f met at around rest r p few e = here_fault (record { place = at; around = around; form = newtype n f }) rest met ReservedName r p e
 newtype_fault false n f met at around rest r p few e = absurd (none_made (newtype n f) met at r few e)
 
-struct_fault : (a b : Bool) (n : Utf8) (fs : Fields) (met at around : ℕ) (rest : List Inner) (r : MakerRefusal) → is_some (reserved_kind n) ≡ a → repeats fs ≡ b → levels (structure n fs) ≤ 512
-    → refusal_of met at (cond a (Err ReservedName) (cond b (Err RepeatedName) (within_levels (structure n fs)))) ≡ Some r → FaultIn (record { place = at; around = around; form = structure n fs } ∷ rest) r
-struct_fault true b n fs met at around rest r p q few e = here_fault (record { place = at; around = around; form = structure n fs }) rest met ReservedName r p e
-struct_fault false true n fs met at around rest r p q few e = here_fault (record { place = at; around = around; form = structure n fs }) rest met RepeatedName r q e
-struct_fault false false n fs met at around rest r p q few e = absurd (none_made (structure n fs) met at r few e)
+struct_fault : (a b : Bool) (u : UnknownFields) (n : Utf8) (fs : Fields) (met at around : ℕ) (rest : List Inner) (r : MakerRefusal) → is_some (reserved_kind n) ≡ a → repeats fs ≡ b → levels (structure u n fs) ≤ 512
+    → refusal_of met at (cond a (Err ReservedName) (cond b (Err RepeatedName) (within_levels (structure u n fs)))) ≡ Some r → FaultIn (record { place = at; around = around; form = structure u n fs } ∷ rest) r
+struct_fault true b u n fs met at around rest r p q few e = here_fault (record { place = at; around = around; form = structure u n fs }) rest met ReservedName r p e
+struct_fault false true u n fs met at around rest r p q few e = here_fault (record { place = at; around = around; form = structure u n fs }) rest met RepeatedName r q e
+struct_fault false false u n fs met at around rest r p q few e = absurd (none_made (structure u n fs) met at r few e)
 
 enum_fault : (a : Bool) (vs : Variants) (met at around : ℕ) (rest : List Inner) (r : MakerRefusal) → variants_repeat vs ≡ a → levels (enumeration vs) ≤ 512
     → refusal_of met at (cond a (Err RepeatedName) (within_levels (enumeration vs))) ≡ Some r → FaultIn (record { place = at; around = around; form = enumeration vs } ∷ rest) r
@@ -173,7 +173,7 @@ made_fault (tuple_structure n ps) met at around rest r few e = absurd (none_made
 made_fault (enumeration vs) met at around rest r few e = enum_fault (variants_repeat vs) vs met at around rest r refl few e
 made_fault (newtype n f) met at around rest r few e = newtype_fault (is_reserved_newtype n) n f met at around rest r refl few e
 made_fault (unit_structure n) met at around rest r few e = absurd cc
-made_fault (structure n fs) met at around rest r few e = struct_fault (is_some (reserved_kind n)) (repeats fs) n fs met at around rest r refl refl few e
+made_fault (structure u n fs) met at around rest r few e = struct_fault (is_some (reserved_kind n)) (repeats fs) u n fs met at around rest r refl refl few e
 
 under : (i : Inner) (is : List Inner) (r : MakerRefusal) → FaultIn is r → FaultIn (i ∷ is) r
 under i is r h = in_later (i ∷ []) is r h
@@ -248,9 +248,9 @@ mutual
       let inner = at + length (name_text n) + 1 in
       around_fault (tuple_structure n ps) (part_forms inner (around + 1) ps) (parts_refusal inner (around + 1) ps) at around r few
       (λ less g. parts_fault ps inner (around + 1) r less g) (λ less none. omega (arith, parts_fit ps inner (around + 1) less none)) e
-  form_fault (structure n fs) at around r few e =
-      let inner = at + length (struct_name_text n) + 1 in
-      around_fault (structure n fs) (field_forms inner (around + 1) fs) (fields_refusal inner (around + 1) fs) at around r few
+  form_fault (structure u n fs) at around r few e =
+      let inner = at + length (struct_name_text n) + length (opening_struct u) in
+      around_fault (structure u n fs) (field_forms inner (around + 1) fs) (fields_refusal inner (around + 1) fs) at around r few
       (λ less g. fields_fault fs inner (around + 1) r less g) (λ less none. omega (arith, fields_fit fs inner (around + 1) less none)) e
   form_fault (enumeration vs) at around r few e =
       around_fault (enumeration vs) (variant_forms (at + 1) (around + 1) vs) (variants_refusal (at + 1) (around + 1) vs) at around r few

@@ -2,18 +2,18 @@
 use Rattle.std.proofs.Common.{◌≡◌, ℕ, ◌+◌, Bool, true, false, cond, ◌||◌, List, [], ◌∷◌, ◌++◌, length, Option, Some, None, Result, Ok, Err, refl, sym, ap, ◌∙◌, subst, arith, append_assoc, append-nil, length-append}
 use Rattle.std.specs.Prelude.{nat_le, IfOk}
 use Rattle.bson_base.specs.Text.{Utf8}
-use Rattle.bson_shape.specs.Form.{Form, leaf, optional, lossy, human_readable, by_mode, sequence, map, tuple, tuple_structure, newtype, unit_structure, structure, enumeration, Fields, no_fields, field, joined, push_field, Parts, no_parts, part, joined_parts, push_part, Variants, no_variants, variant, joined_variants, Content, unit_content, newtype_content, tuple_content, struct_content}
+use Rattle.bson_shape.specs.Form.{dropped, denied, Form, leaf, optional, lossy, human_readable, by_mode, sequence, map, tuple, tuple_structure, newtype, unit_structure, structure, enumeration, Fields, no_fields, field, joined, push_field, Parts, no_parts, part, joined_parts, push_part, Variants, no_variants, variant, joined_variants, Content, unit_content, newtype_content, tuple_content, struct_content}
 use Rattle.bson_shape.specs.Leaf.{word}
 use Rattle.bson_shape.specs.declared.leaf.Leaf.{Leaf}
 use Rattle.bson_shape.specs.Makers.{made_form}
 use Rattle.bson_shape.specs.declared.error.ShapeError.{ShapeError}
 use Rattle.bson_shape.specs.declared.error.ShapeError.TheVariants.{TooDeep}
 use Rattle.std.specs.List.{list_all}
-use Rattle.bson_shape.specs.Notation.{begins_bare, in_bare, bare, names_form, escaped, quoted, name_text, struct_name_text, after_commas, listed, text, field_texts, part_texts, variant_texts, content_text}
+use Rattle.bson_shape.specs.Notation.{begins_bare, in_bare, bare, names_form, escaped, quoted, name_text, struct_name_text, opening_struct, after_commas, listed, text, field_texts, part_texts, variant_texts, content_text}
 use Rattle.bson_shape.specs.FirstRefusal.{MakerRefusal, or_else, too_deep, refusal_of, form_refusal, first_refusal, fields_refusal, parts_refusal, variants_refusal, content_refusal}
 use Rattle.bson_shape.specs.Fronts.{goes_on}
 use Rattle.bson_base.specs.Outcome.{◌>>=◌}
-use Rattle.bson_shape.specs.Machine.{Refusal, Refused, OpenEnum, Holder, Nameless_at, Named_at, Variant_of, Group, Braces, Parens, Angles, Prefix, Option_prefix, Lossy_prefix, Readable_prefix, Newtype_prefix, Level, In_prefix, In_brackets, In_pair, In_compact, In_map, In_item, Owner, Form_at, Item_of, Mode, Form_due, Pair_due, Item_due, Bare, Named, Item_done, Done, State, opened_enum, grown, grown_enum, is_empty, closing, Closed, Closed_form, Closed_variant, closed, prefixed, made, form_closed, bracket_closed, group_closed, item_ended, Ended, wrapped, enclosed, form_ended, begins_name, name_begun, opens_form, begins_form, form_begun, form_due, name_due, item_begun, item_due, word_ended, bare_name, alone, step, run, finish}
+use Rattle.bson_shape.specs.Machine.{Refusal, Refused, OpenEnum, Holder, Nameless_at, Named_at, Variant_of, Group, Braces, Closed_braces, Parens, Angles, Prefix, Option_prefix, Lossy_prefix, Readable_prefix, Newtype_prefix, Level, In_prefix, In_brackets, In_pair, In_compact, In_map, In_item, Owner, Form_at, Item_of, Mode, Form_due, Pair_due, Item_due, Bare, Named, Item_done, Done, State, opened_enum, grown, grown_enum, is_empty, closing, Closed, Closed_form, Closed_variant, closed, prefixed, made, form_closed, bracket_closed, group_closed, item_ended, Ended, wrapped, enclosed, form_ended, begins_name, name_begun, opens_form, begins_form, form_begun, form_due, name_due, field_due, item_begun, item_due, word_ended, bare_name, alone, step, run, finish}
 use Rattle.bson_shape.proofs.Made.{made_form-made}
 use Rattle.bson_shape.proofs.Shapes.{joined-assoc, joined-none, joined_parts-assoc, joined_parts-none, joined_variants-assoc, joined_variants-none}
 use Rattle.bson_shape.proofs.Words.{and_true, or_false, differs, of_word-word, bare-word}
@@ -123,6 +123,7 @@ record BehindItem (s : State) (g : Group) (st : List Level) : Type 0 where
 
 item_closes : (g : Group) (at : ℕ) (st : List Level) → item_ended at g st (closing g) ≡ group_closed at g st
 item_closes (Braces h fs) at st = refl
+item_closes (Closed_braces place n fs) at st = refl
 item_closes (Parens h ps) at st = refl
 item_closes (Angles e) at st = refl
 
@@ -168,6 +169,7 @@ none_more st g = λ s behind rest at. bracket_read (closed g) s st at (closing g
 none_due : (g : Group) (at : ℕ) (st : List Level) → is_empty g ≡ true → step at (Item_due g) st (closing g) ≡ group_closed at g st
 unfolding step item_due
 none_due (Braces h fs) at st e = rw e refl
+none_due (Closed_braces place n fs) at st e = rw e refl
 none_due (Parens h ps) at st e = rw e refl
 none_due (Angles v) at st e = rw e refl
 
@@ -197,8 +199,35 @@ comma_and st g h x xs refused all = λ s behind rest at.
 -- ---- where an item is due
 
 field_begins : (at : ℕ) (h : Holder) (fs : Fields) (st : List Level) → BeginsName at (Item_due (Braces h fs)) (Item_of (Braces h fs)) st
+unfolding step item_due item_begun field_due name_due
+field_begins at h fs st b k = rw (differs begins_name b 125 k refl, differs begins_name b 33 k refl, k) refl
+
+closed_field_begins : (at place : ℕ) (m : Utf8) (fs : Fields) (st : List Level) → BeginsName at (Item_due (Closed_braces place m fs)) (Item_of (Closed_braces place m fs)) st
 unfolding step item_due item_begun name_due
-field_begins at h fs st b k = rw (differs begins_name b 125 k refl, k) refl
+closed_field_begins at place m fs st b k = rw (differs begins_name b 125 k refl, k) refl
+
+-- the mark of a struct that denies unknown fields
+mark_step : (at place : ℕ) (st : List Level) → step at (Item_due (Braces (Nameless_at place) no_fields)) st 33 ≡ Ok (Item_due (Closed_braces place [] no_fields), st)
+unfolding step item_due item_begun field_due
+mark_step at place st = refl
+
+named_mark_step : (at place : ℕ) (n : Utf8) (st : List Level) → step at (Item_due (Braces (Named_at place n) no_fields)) st 33 ≡ Ok (Item_due (Closed_braces place n no_fields), st)
+unfolding step item_due item_begun field_due
+named_mark_step at place n st = refl
+
+-- A kind of group that holds fields.
+record HoldsFields (of : Fields → Group) : Type 0 where
+  begins : (at : ℕ) (gs : Fields) (st : List Level) → BeginsName at (Item_due (of gs)) (Item_of (of gs)) st
+  labels : (at : ℕ) (gs : Fields) (n : Utf8) (st : List Level) → step at (name_mode (Item_of (of gs)) n) st 58 ≡ Ok (Form_due, In_item (of gs) n ∷ st)
+  grows : (gs : Fields) (n : Utf8) (f : Form) → grown (of gs) n f ≡ of (push_field gs n f)
+  empty : is_empty (of no_fields) ≡ true
+
+braces_hold : (h : Holder) → HoldsFields (Braces h)
+braces_hold h = record { begins = λ at gs st. field_begins at h gs st; labels = λ at gs n st. name_step at (Item_of (Braces h gs)) n st 58 refl tt; grows = λ gs n f. refl; empty = refl }
+
+closed_braces_hold : (place : ℕ) (m : Utf8) → HoldsFields (Closed_braces place m)
+closed_braces_hold place m =
+    record { begins = λ at gs st. closed_field_begins at place m gs st; labels = λ at gs n st. name_step at (Item_of (Closed_braces place m gs)) n st 58 refl tt; grows = λ gs n f. refl; empty = refl }
 
 variant_begins : (at : ℕ) (e : OpenEnum) (st : List Level) → BeginsName at (Item_due (Angles e)) (Item_of (Angles e)) st
 unfolding step item_due item_begun name_due
@@ -270,8 +299,9 @@ text_begins (tuple_structure n ps) = name_begun_with n (40 ∷ (listed (part_tex
 text_begins (enumeration vs) = record { byte = 60; rest = listed (variant_texts vs) ++ 62 ∷ []; whole = refl; begins = refl }
 text_begins (newtype n f) = name_begun_with n (61 ∷ text f)
 text_begins (unit_structure n) = name_begun_with n (33 ∷ [])
-text_begins (structure [] fs) = record { byte = 123; rest = listed (field_texts fs) ++ 125 ∷ []; whole = refl; begins = refl }
-text_begins (structure (b ∷ bs) fs) = name_begun_with (b ∷ bs) (123 ∷ (listed (field_texts fs) ++ 125 ∷ []))
+text_begins (structure dropped [] fs) = record { byte = 123; rest = listed (field_texts fs) ++ 125 ∷ []; whole = refl; begins = refl }
+text_begins (structure denied [] fs) = record { byte = 123; rest = 33 ∷ (listed (field_texts fs) ++ 125 ∷ []); whole = refl; begins = refl }
+text_begins (structure u (b ∷ bs) fs) = name_begun_with (b ∷ bs) (opening_struct u ++ (listed (field_texts fs) ++ 125 ∷ []))
 
 -- inside 512 others
 deep_read : (f : Form) (rest : Utf8) (at : ℕ) (st : List Level) → nat_le 512 (length st) ≡ true → read at (Form_due, st) (text f ++ rest) ≡ Err (Refused (record { met = at + 1; place = at; cause = TooDeep }))
@@ -362,7 +392,7 @@ pair_group readable compact rest = append_assoc readable (44 ∷ (compact ++ 41 
 
 -- ---- groups
 
--- a group of these items is read, whose opening bracket is behind these bytes
+-- a group of these items is read, of which these bytes and one more are what opens it
 group_read : (pre : Utf8) (b inner : ℕ) (g h : Group) (f : Form) (xs : List Utf8) (refused : ℕ → Option MakerRefusal) (rest : Utf8) (at : ℕ) (st : List Level)
     → text f ≡ pre ++ b ∷ (listed xs ++ closing h ∷ []) → inner ≡ at + length pre + 1 → closed h ≡ Closed_form at f
     → ((more : Utf8) → read at (Form_due, st) (pre ++ b ∷ more) ≡ read inner (Item_due g, st) more) → ReadsAll st g xs refused h
@@ -411,19 +441,19 @@ variant_read b e n c g h xs refused rest at st whole is opens all =
 
 -- ---- items, a row for each kind
 
-field_item : (n : Utf8) (f : Form) (h : Holder) (gs : Fields) (st : List Level) → ReadsForm f
-    → ReadsItem st (Braces h gs) (name_text n ++ 58 ∷ text f) (λ at. first_refusal (at + length (name_text n) + 1) (length st + 1) f) (Braces h (push_field gs n f))
-field_item n f h gs st form =
-    let g : Group = Braces h gs in
+field_item : {of : Fields → Group} (holds : HoldsFields of) (n : Utf8) (f : Form) (gs : Fields) (st : List Level) → ReadsForm f
+    → ReadsItem st (of gs) (name_text n ++ 58 ∷ text f) (λ at. first_refusal (at + length (name_text n) + 1) (length st + 1) f) (of (push_field gs n f))
+field_item {of = of} holds n f gs st form =
+    let g = of gs in
     record {
       state = (Done f, In_item g n ∷ st);
-      behind = behind_form g n f st;
+      behind = subst (λ h. BehindItem (Done f, In_item g n ∷ st) h st) (holds.grows gs n f) (behind_form g n f st);
       reads = λ rest at ends.
           let inner = at + length (name_text n) + 1 in
           let end : inner + length (text f) ≡ at + length (name_text n ++ 58 ∷ text f) = omega (arith, length-append (name_text n) (58 ∷ text f)) in
           ap (read at (Item_due g, st)) (append_assoc (name_text n) (58 ∷ text f) rest)
-          ∙ read_name n (58 ∷ (text f ++ rest)) at (Item_due g) (Item_of g) st (field_begins at h gs st)
-          ∙ read_step (at + length (name_text n)) (name_mode (Item_of g) n) st 58 (text f ++ rest) _ (name_step (at + length (name_text n)) (Item_of g) n st 58 refl tt)
+          ∙ read_name n (58 ∷ (text f ++ rest)) at (Item_due g) (Item_of g) st (holds.begins at gs st)
+          ∙ read_step (at + length (name_text n)) (name_mode (Item_of g) n) st 58 (text f ++ rest) _ (holds.labels (at + length (name_text n)) gs n st)
           ∙ inner_read f (In_item g n) st rest inner form ends
           ∙ ap (λ i. settle (first_refusal inner (length st + 1) f) (read i (Done f, In_item g n ∷ st) rest)) end;
     }
@@ -478,12 +508,12 @@ variant_item n c e st content =
     }
 
 -- one, and those after it
-field_and : (n : Utf8) (f : Form) (fs : Fields) (h : Holder) (gs : Fields) (st : List Level) → ReadsForm f
-    → ReadsMore st (Braces h (push_field gs n f)) (field_texts fs) (λ at. fields_refusal at (length st + 1) fs) (Braces h (joined (push_field gs n f) fs))
-    → ReadsAll st (Braces h gs) (field_texts (field n f fs)) (λ at. fields_refusal at (length st + 1) (field n f fs)) (Braces h (joined gs (field n f fs)))
-field_and n f fs h gs st form more =
-    subst (λ ks. ReadsAll st (Braces h gs) (field_texts (field n f fs)) (λ at. fields_refusal at (length st + 1) (field n f fs)) (Braces h ks)) (joined-assoc gs (field n f no_fields) fs)
-    (item_and st (Braces h gs) (Braces h (push_field gs n f)) (Braces h (joined (push_field gs n f) fs)) (name_text n ++ 58 ∷ text f) (field_texts fs) _ (λ at. fields_refusal at (length st + 1) fs) (field_item n f h gs st form) more)
+field_and : {of : Fields → Group} (holds : HoldsFields of) (n : Utf8) (f : Form) (fs gs : Fields) (st : List Level) → ReadsForm f
+    → ReadsMore st (of (push_field gs n f)) (field_texts fs) (λ at. fields_refusal at (length st + 1) fs) (of (joined (push_field gs n f) fs))
+    → ReadsAll st (of gs) (field_texts (field n f fs)) (λ at. fields_refusal at (length st + 1) (field n f fs)) (of (joined gs (field n f fs)))
+field_and {of = of} holds n f fs gs st form more =
+    subst (λ ks. ReadsAll st (of gs) (field_texts (field n f fs)) (λ at. fields_refusal at (length st + 1) (field n f fs)) (of ks)) (joined-assoc gs (field n f no_fields) fs)
+    (item_and st (of gs) (of (push_field gs n f)) (of (joined (push_field gs n f) fs)) (name_text n ++ 58 ∷ text f) (field_texts fs) _ (λ at. fields_refusal at (length st + 1) fs) (field_item holds n f gs st form) more)
 
 part_and : (f : Form) (ps : Parts) (h : Holder) (gs : Parts) (st : List Level) → ReadsForm f
     → ReadsMore st (Parens h (push_part gs f)) (part_texts ps) (λ at. parts_refusal at (length st + 1) ps) (Parens h (joined_parts (push_part gs f) ps))
@@ -580,27 +610,48 @@ mutual
       by_depth (nat_le 512 (length st)) (tuple_structure n ps) rest at st (parts_refusal (at + length (name_text n) + 1) (length st + 1) ps) refl refl
       (λ d. named_read n 40 (Parens (Named_at at n) no_parts) (Parens (Named_at at n) ps) (tuple_structure n ps) (part_texts ps) (λ i. parts_refusal i (length st + 1) ps) rest at st d refl refl
       (name_step (at + length (name_text n)) (Form_at at) n st 40 refl refl) (reads_parts ps (Named_at at n) st))
-  reads_form (structure [] fs) rest at st ends =
-      by_depth (nat_le 512 (length st)) (structure [] fs) rest at st (fields_refusal (at + length (struct_name_text []) + 1) (length st + 1) fs) refl refl
-      (λ d. group_read [] 123 (at + length (struct_name_text []) + 1) (Braces (Nameless_at at) no_fields) (Braces (Nameless_at at) fs) (structure [] fs) (field_texts fs) (λ i. fields_refusal i (length st + 1) fs) rest at st refl refl refl
-      (λ more. read_step at Form_due st 123 more (Item_due (Braces (Nameless_at at) no_fields), st) (form_step 123 at st refl d) ∙ ap (λ i. read i (Item_due (Braces (Nameless_at at) no_fields), st) more) (omega arith)) (reads_fields fs (Nameless_at at) st))
-  reads_form (structure (b ∷ bs) fs) rest at st ends =
+  reads_form (structure dropped [] fs) rest at st ends =
+      let inner = at + length (struct_name_text []) + length (opening_struct dropped) in
+      let braces : Mode = Item_due (Braces (Nameless_at at) no_fields) in
+      by_depth (nat_le 512 (length st)) (structure dropped [] fs) rest at st (fields_refusal inner (length st + 1) fs) refl refl
+      (λ d. group_read [] 123 inner (Braces (Nameless_at at) no_fields) (Braces (Nameless_at at) fs) (structure dropped [] fs) (field_texts fs) (λ i. fields_refusal i (length st + 1) fs) rest at st refl refl refl
+      (λ more. read_step at Form_due st 123 more (braces, st) (form_step 123 at st refl d) ∙ ap (λ i. read i (braces, st) more) (omega arith)) (reads_fields (braces_hold (Nameless_at at)) fs st))
+  reads_form (structure denied [] fs) rest at st ends =
+      let inner = at + length (struct_name_text []) + length (opening_struct denied) in
+      let braces : Mode = Item_due (Braces (Nameless_at at) no_fields) in
+      let marked : Mode = Item_due (Closed_braces at [] no_fields) in
+      by_depth (nat_le 512 (length st)) (structure denied [] fs) rest at st (fields_refusal inner (length st + 1) fs) refl refl
+      (λ d. group_read (123 ∷ []) 33 inner (Closed_braces at [] no_fields) (Closed_braces at [] fs) (structure denied [] fs) (field_texts fs) (λ i. fields_refusal i (length st + 1) fs) rest at st refl (omega arith) refl
+      (λ more. read_step at Form_due st 123 (33 ∷ more) (braces, st) (form_step 123 at st refl d) ∙ read_step (at + 1) braces st 33 more (marked, st) (mark_step (at + 1) at st)
+      ∙ ap (λ i. read i (marked, st) more) (omega arith)) (reads_fields (closed_braces_hold at []) fs st))
+  reads_form (structure dropped (b ∷ bs) fs) rest at st ends =
       let n = b ∷ bs in
-      by_depth (nat_le 512 (length st)) (structure n fs) rest at st (fields_refusal (at + length (name_text n) + 1) (length st + 1) fs) refl refl
-      (λ d. named_read n 123 (Braces (Named_at at n) no_fields) (Braces (Named_at at n) fs) (structure n fs) (field_texts fs) (λ i. fields_refusal i (length st + 1) fs) rest at st d refl refl
-      (name_step (at + length (name_text n)) (Form_at at) n st 123 refl refl) (reads_fields fs (Named_at at n) st))
+      by_depth (nat_le 512 (length st)) (structure dropped n fs) rest at st (fields_refusal (at + length (name_text n) + 1) (length st + 1) fs) refl refl
+      (λ d. named_read n 123 (Braces (Named_at at n) no_fields) (Braces (Named_at at n) fs) (structure dropped n fs) (field_texts fs) (λ i. fields_refusal i (length st + 1) fs) rest at st d refl refl
+      (name_step (at + length (name_text n)) (Form_at at) n st 123 refl refl) (reads_fields (braces_hold (Named_at at n)) fs st))
+  reads_form (structure denied (b ∷ bs) fs) rest at st ends =
+      let n = b ∷ bs in
+      let end = at + length (name_text n) in
+      let inner = end + length (opening_struct denied) in
+      let braces : Mode = Item_due (Braces (Named_at at n) no_fields) in
+      let marked : Mode = Item_due (Closed_braces at n no_fields) in
+      by_depth (nat_le 512 (length st)) (structure denied n fs) rest at st (fields_refusal inner (length st + 1) fs) refl refl
+      (λ d. group_read (name_text n ++ 123 ∷ []) 33 inner (Closed_braces at n no_fields) (Closed_braces at n fs) (structure denied n fs) (field_texts fs) (λ i. fields_refusal i (length st + 1) fs) rest at st
+      (sym (append_assoc (name_text n) (123 ∷ []) (33 ∷ (listed (field_texts fs) ++ 125 ∷ [])))) (omega (arith, length-append (name_text n) (123 ∷ []))) refl
+      (λ more. ap (read at (Form_due, st)) (append_assoc (name_text n) (123 ∷ []) (33 ∷ more)) ∙ name_and n 123 (33 ∷ more) at st (braces, st) d (name_step end (Form_at at) n st 123 refl refl)
+      ∙ read_step (end + 1) braces st 33 more (marked, st) (named_mark_step (end + 1) at n st) ∙ ap (λ i. read i (marked, st) more) (omega arith)) (reads_fields (closed_braces_hold at n) fs st))
   reads_form (enumeration vs) rest at st ends =
       by_depth (nat_le 512 (length st)) (enumeration vs) rest at st (variants_refusal (at + 1) (length st + 1) vs) refl refl
       (λ d. nameless_read 60 (Angles (opened_enum at)) (with_variants (opened_enum at) vs) (enumeration vs) (variant_texts vs) (λ i. variants_refusal i (length st + 1) vs) rest at st refl refl (form_step 60 at st refl d) (reads_variants vs (opened_enum at) st refl))
 
-  reads_fields : (fs : Fields) (h : Holder) (st : List Level) → ReadsAll st (Braces h no_fields) (field_texts fs) (λ at. fields_refusal at (length st + 1) fs) (Braces h fs)
-  reads_fields no_fields h st = none_at_all st (Braces h no_fields) refl
-  reads_fields (field n f fs) h st = field_and n f fs h no_fields st (reads_form f) (more_fields fs h (push_field no_fields n f) st)
+  reads_fields : {of : Fields → Group} (holds : HoldsFields of) (fs : Fields) (st : List Level) → ReadsAll st (of no_fields) (field_texts fs) (λ at. fields_refusal at (length st + 1) fs) (of fs)
+  reads_fields {of = of} holds no_fields st = none_at_all st (of no_fields) holds.empty
+  reads_fields holds (field n f fs) st = field_and holds n f fs no_fields st (reads_form f) (more_fields holds fs (push_field no_fields n f) st)
 
-  more_fields : (fs : Fields) (h : Holder) (gs : Fields) (st : List Level) → ReadsMore st (Braces h gs) (field_texts fs) (λ at. fields_refusal at (length st + 1) fs) (Braces h (joined gs fs))
-  more_fields no_fields h gs st = subst (λ ks. ReadsMore st (Braces h gs) [] (λ _. None) (Braces h ks)) (sym (joined-none gs)) (none_more st (Braces h gs))
-  more_fields (field n f fs) h gs st =
-      comma_and st (Braces h gs) (Braces h (joined gs (field n f fs))) (name_text n ++ 58 ∷ text f) (field_texts fs) (λ at. fields_refusal at (length st + 1) (field n f fs)) (field_and n f fs h gs st (reads_form f) (more_fields fs h (push_field gs n f) st))
+  more_fields : {of : Fields → Group} (holds : HoldsFields of) (fs gs : Fields) (st : List Level) → ReadsMore st (of gs) (field_texts fs) (λ at. fields_refusal at (length st + 1) fs) (of (joined gs fs))
+  more_fields {of = of} holds no_fields gs st = subst (λ ks. ReadsMore st (of gs) [] (λ _. None) (of ks)) (sym (joined-none gs)) (none_more st (of gs))
+  more_fields {of = of} holds (field n f fs) gs st =
+      comma_and st (of gs) (of (joined gs (field n f fs))) (name_text n ++ 58 ∷ text f) (field_texts fs) (λ at. fields_refusal at (length st + 1) (field n f fs)) (field_and holds n f fs gs st (reads_form f) (more_fields holds fs (push_field gs n f) st))
 
   reads_parts : (ps : Parts) (h : Holder) (st : List Level) → ReadsAll st (Parens h no_parts) (part_texts ps) (λ at. parts_refusal at (length st + 1) ps) (Parens h ps)
   reads_parts no_parts h st = none_at_all st (Parens h no_parts) refl
@@ -632,4 +683,4 @@ mutual
   reads_content (tuple_content ps) e n rest at st ends =
       variant_read 40 e n (tuple_content ps) (Parens (Variant_of e n) no_parts) (Parens (Variant_of e n) ps) (part_texts ps) (λ i. parts_refusal i (length st + 1) ps) rest at st refl refl (name_step at (Item_of (Angles e)) n st 40 refl tt) (reads_parts ps (Variant_of e n) st)
   reads_content (struct_content fs) e n rest at st ends =
-      variant_read 123 e n (struct_content fs) (Braces (Variant_of e n) no_fields) (Braces (Variant_of e n) fs) (field_texts fs) (λ i. fields_refusal i (length st + 1) fs) rest at st refl refl (name_step at (Item_of (Angles e)) n st 123 refl tt) (reads_fields fs (Variant_of e n) st)
+      variant_read 123 e n (struct_content fs) (Braces (Variant_of e n) no_fields) (Braces (Variant_of e n) fs) (field_texts fs) (λ i. fields_refusal i (length st + 1) fs) rest at st refl refl (name_step at (Item_of (Angles e)) n st 123 refl tt) (reads_fields (braces_hold (Variant_of e n)) fs st)

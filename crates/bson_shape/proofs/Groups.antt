@@ -1,5 +1,5 @@
 -- A list without items.
-use Rattle.std.proofs.Common.{◌≡◌, ℕ, eqb, List, [], ◌∷◌, length, refl, arith}
+use Rattle.std.proofs.Common.{◌≡◌, eqb, List, [], ◌∷◌, length, refl, arith}
 use Rattle.std.proofs.lemmas.Bool.Decides.{nat_tests}
 use Rattle.bson_shape.specs.Form.{Form}
 use Rattle.bson_shape.specs.ShapeView.{fields_of, parts_of, variants_of}

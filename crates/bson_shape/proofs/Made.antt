@@ -1,13 +1,14 @@
 -- What the makers let through.
-use Rattle.std.proofs.Common.{◌≡◌, ◌<◌, ◌≤◌, Bool, true, false, cond, nat_lt, Option, Some, None, Result, Ok, Err, is_some, refl, ap, ◌∙◌, arith}
+use Rattle.std.proofs.Common.{ℕ, suc, ◌≡◌, ◌<◌, ◌≤◌, Bool, true, false, cond, nat_lt, Option, Some, None, Result, Ok, Err, is_some, refl, ap, ◌∙◌, arith}
 use Rattle.std.specs.Prelude.{IfOk}
 use Rattle.std.specs.Str.{is_utf8}
 use Rattle.std.proofs.lemmas.Bool.{or_parts, or_from, true≢false, cond-true, cond-false, le-ltb}
+use Rattle.std.proofs.lemmas.Bool.Decides.{nat_tests}
 use Rattle.bson_base.specs.Text.{Utf8}
 use Rattle.bson_base.specs.Reserved.{reserved_kind}
-use Rattle.bson_shape.specs.Form.{Form, leaf, optional, lossy, human_readable, by_mode, sequence, map, tuple, tuple_structure, newtype, unit_structure, structure, enumeration, Fields, Variants, no_variants, variant, Content, unit_content, newtype_content, tuple_content, struct_content}
+use Rattle.bson_shape.specs.Form.{UnknownFields, Form, leaf, optional, lossy, human_readable, by_mode, sequence, map, tuple, tuple_structure, newtype, unit_structure, structure, enumeration, Fields, Variants, no_variants, variant, Content, unit_content, newtype_content, tuple_content, struct_content}
 use Rattle.bson_shape.specs.Levels.{levels, deepest, deepest_variant, max_shape_levels}
-use Rattle.bson_shape.specs.Makers.{is_text_key, is_reserved_newtype, AreDistinct, repeats, has_repeat, variant_names, content_repeats, contents_repeat, variants_repeat, IsNewtype, IsStruct, IsEnum, IsShape, AreShapes, AreVariants, IsContent, Makes, within_levels, made_map, made_newtype, made_structure, made_enumeration, made_form}
+use Rattle.bson_shape.specs.Makers.{is_text_key, is_reserved_newtype, AreDistinct, repeats, has_repeat, variant_names, content_repeats, contents_repeat, variants_repeat, IsNewtype, IsStruct, IsEnum, IsShape, AreVariants, IsContent, Makes, within_levels, made_map, made_newtype, made_structure, made_enumeration, made_form}
 use Rattle.bson_shape.specs.declared.error.ShapeError.{ShapeError}
 use Rattle.bson_shape.specs.declared.error.ShapeError.TheVariants.{ReservedName, RepeatedName, KeyNotText, TooDeep}
 
@@ -15,9 +16,9 @@ none_from : {A : Type 0} (o : Option A) → is_some o ≡ false → o ≡ None
 none_from None e = refl
 none_from (Some x) e = absurd (true≢false e)
 
--- what passes the maker's three tests is a shape
-pub structure_passed : (name : Utf8) (fs : Fields) → is_utf8 name ≡ true → is_some (reserved_kind name) ≡ false → AreDistinct fs → deepest fs < max_shape_levels → AreShapes fs → IsShape (structure name fs)
-structure_passed name fs text free distinct few shapes = (record { text = text; free = none_from _ free; distinct = distinct; few = omega arith }, shapes)
+-- what passes the three tests of the makers of structs is as they ask
+pub structure_passed : (name : Utf8) (fs : Fields) → is_utf8 name ≡ true → is_some (reserved_kind name) ≡ false → AreDistinct fs → deepest fs < max_shape_levels → IsStruct name fs
+structure_passed name fs text free distinct few = record { text = text; free = none_from _ free; distinct = distinct; few = omega arith }
 
 -- so is what passes those of the maker of an enum
 pub enumeration_passed : (vs : Variants) → variants_repeat vs ≡ false → deepest_variant vs < max_shape_levels → AreVariants vs → IsShape (enumeration vs)
@@ -35,10 +36,24 @@ made_map-few k v texts few = cond-true (is_text_key k) _ _ texts ∙ within_leve
 made_newtype-IsNewtype : (name : Utf8) (f : Form) → IsNewtype name f → made_newtype name f ≡ Ok (newtype name f)
 made_newtype-IsNewtype name f is = cond-false (is_reserved_newtype name) _ _ is.free ∙ within_levels-few (newtype name f) is.few
 
--- the maker makes each struct that is as it asks
-made_structure-IsStruct : (name : Utf8) (fs : Fields) → IsStruct name fs → made_structure name fs ≡ Ok (structure name fs)
-made_structure-IsStruct name fs is =
-    cond-false (is_some (reserved_kind name)) _ _ (ap is_some is.free) ∙ cond-false (repeats fs) _ _ is.distinct ∙ within_levels-few (structure name fs) is.few
+-- the makers make each struct that is as they ask
+pub made_structure-IsStruct : (u : UnknownFields) (name : Utf8) (fs : Fields) → IsStruct name fs → made_structure u name fs ≡ Ok (structure u name fs)
+made_structure-IsStruct u name fs is =
+    cond-false (is_some (reserved_kind name)) _ _ (ap is_some is.free) ∙ cond-false (repeats fs) _ _ is.distinct ∙ within_levels-few (structure u name fs) is.few
+
+-- and tell why they make no other
+pub structure_reserved : (u : UnknownFields) (name : Utf8) (fs : Fields) → is_some (reserved_kind name) ≡ true → made_structure u name fs ≡ Err ReservedName
+structure_reserved u name fs h = cond-true (is_some (reserved_kind name)) _ _ h
+
+pub structure_repeated : (u : UnknownFields) (name : Utf8) (fs : Fields) → is_some (reserved_kind name) ≡ false → repeats fs ≡ true → made_structure u name fs ≡ Err RepeatedName
+structure_repeated u name fs free h = cond-false (is_some (reserved_kind name)) _ _ free ∙ cond-true (repeats fs) _ _ h
+
+is_over : (d : ℕ) → max_shape_levels ≤ d → nat_lt max_shape_levels (suc d) ≡ true
+is_over d h = grind (arith, nat_tests)
+
+pub structure_deep : (u : UnknownFields) (name : Utf8) (fs : Fields) → is_some (reserved_kind name) ≡ false → repeats fs ≡ false → max_shape_levels ≤ deepest fs → made_structure u name fs ≡ Err TooDeep
+structure_deep u name fs free distinct deep =
+    cond-false (is_some (reserved_kind name)) _ _ free ∙ cond-false (repeats fs) _ _ distinct ∙ cond-true (nat_lt max_shape_levels (levels (structure u name fs))) _ _ (is_over (deepest fs) deep)
 
 -- no struct variant of an enum's has two fields of one name
 contents_distinct : (vs : Variants) → AreVariants vs → contents_repeat vs ≡ false
@@ -78,10 +93,10 @@ newtype_answers P name f reserved deep made = by_test (is_reserved_newtype name)
     by_test true = reserved
     by_test false = within_answers P (newtype name f) deep made
 
-structure_answers : (P : Result Form ShapeError → Type 0) (name : Utf8) (fs : Fields) → P (Err ReservedName) → P (Err RepeatedName) → P (Err TooDeep) → P (Ok (structure name fs)) → P (made_structure name fs)
-structure_answers P name fs reserved repeated deep made = by_tests (is_some (reserved_kind name)) (repeats fs) (nat_lt max_shape_levels (levels (structure name fs)))
+structure_answers : (P : Result Form ShapeError → Type 0) (u : UnknownFields) (name : Utf8) (fs : Fields) → P (Err ReservedName) → P (Err RepeatedName) → P (Err TooDeep) → P (Ok (structure u name fs)) → P (made_structure u name fs)
+structure_answers P u name fs reserved repeated deep made = by_tests (is_some (reserved_kind name)) (repeats fs) (nat_lt max_shape_levels (levels (structure u name fs)))
   where
-    by_tests : (r t d : Bool) → P (cond r (Err ReservedName) (cond t (Err RepeatedName) (cond d (Err TooDeep) (Ok (structure name fs)))))
+    by_tests : (r t d : Bool) → P (cond r (Err ReservedName) (cond t (Err RepeatedName) (cond d (Err TooDeep) (Ok (structure u name fs)))))
     by_tests true t d = reserved
     by_tests false true d = repeated
     by_tests false false true = deep
@@ -104,8 +119,8 @@ made_map-made k v = map_answers (λ r. IfOk r (λ g. g ≡ map k v)) k v tt tt r
 made_newtype-made : (name : Utf8) (f : Form) → IfOk (made_newtype name f) (λ g. g ≡ newtype name f)
 made_newtype-made name f = newtype_answers (λ r. IfOk r (λ g. g ≡ newtype name f)) name f tt tt refl
 
-made_structure-made : (name : Utf8) (fs : Fields) → IfOk (made_structure name fs) (λ g. g ≡ structure name fs)
-made_structure-made name fs = structure_answers (λ r. IfOk r (λ g. g ≡ structure name fs)) name fs tt tt tt refl
+made_structure-made : (u : UnknownFields) (name : Utf8) (fs : Fields) → IfOk (made_structure u name fs) (λ g. g ≡ structure u name fs)
+made_structure-made u name fs = structure_answers (λ r. IfOk r (λ g. g ≡ structure u name fs)) u name fs tt tt tt refl
 
 made_enumeration-made : (vs : Variants) → IfOk (made_enumeration vs) (λ g. g ≡ enumeration vs)
 made_enumeration-made vs = enumeration_answers (λ r. IfOk r (λ g. g ≡ enumeration vs)) vs tt tt refl
@@ -123,7 +138,7 @@ made_form-made (tuple ps) = within_levels-made (tuple ps)
 made_form-made (tuple_structure n ps) = within_levels-made (tuple_structure n ps)
 made_form-made (newtype n f) = made_newtype-made n f
 made_form-made (unit_structure n) = refl
-made_form-made (structure n fs) = made_structure-made n fs
+made_form-made (structure u n fs) = made_structure-made u n fs
 made_form-made (enumeration vs) = made_enumeration-made vs
 
 -- and it makes each shape
@@ -139,7 +154,7 @@ made_form-IsShape (tuple ps) h = within_levels-few (tuple ps) h.0
 made_form-IsShape (tuple_structure n ps) h = within_levels-few (tuple_structure n ps) h.1
 made_form-IsShape (newtype n f) h = made_newtype-IsNewtype n f h.0
 made_form-IsShape (unit_structure n) h = refl
-made_form-IsShape (structure n fs) h = made_structure-IsStruct n fs h.0
+made_form-IsShape (structure u n fs) h = made_structure-IsStruct u n fs h.0
 made_form-IsShape (enumeration vs) h = made_enumeration-IsEnum vs h.0 h.1
 
 -- the makers of tuples, structs and enums take no memory
@@ -149,5 +164,5 @@ within_levels-makes f = within_answers (λ r. Makes r r) f refl refl
 pub made_enumeration-makes : (vs : Variants) → Makes (made_enumeration vs) (made_enumeration vs)
 made_enumeration-makes vs = enumeration_answers (λ r. Makes r r) vs refl refl refl
 
-pub made_structure-makes : (name : Utf8) (fs : Fields) → Makes (made_structure name fs) (made_structure name fs)
-made_structure-makes name fs = structure_answers (λ r. Makes r r) name fs refl refl refl refl
+pub made_structure-makes : (u : UnknownFields) (name : Utf8) (fs : Fields) → Makes (made_structure u name fs) (made_structure u name fs)
+made_structure-makes u name fs = structure_answers (λ r. Makes r r) u name fs refl refl refl refl

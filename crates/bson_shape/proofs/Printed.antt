@@ -56,13 +56,13 @@ module _ {X : Type 0} (shown : X → Utf8) where
       let all : listed (map shown (take (i + 1) items)) ≡ listed so_far ++ (comma_at i ++ shown x) = ap listed texts ∙ listed-snoc so_far (shown x) ∙ ap (λ c. listed so_far ++ (c ++ shown x)) (sep-comma front i count) in
       ended ∙ ap (λ y. y ++ (comma_at i ++ shown x)) before ∙ append_assoc init (listed so_far) (comma_at i ++ shown x) ∙ ap (λ y. init ++ y) (sym all)
 
-  -- all are, and the closing byte
-  pub all_printed : (items : List X) (i : ℕ) (old init out last : Utf8) (b c : ℕ) → length items ≤ i → init ≡ old ++ b ∷ [] → out ≡ init ++ listed (map shown (take i items)) → last ≡ out ++ c ∷ []
-      → last ≡ old ++ b ∷ (listed (map shown items) ++ c ∷ [])
-  all_printed items i old init out last b c le begun before ended =
+  -- all are, between what opens them and the closing byte
+  pub all_printed : (items : List X) (i : ℕ) (old opening init out last : Utf8) (c : ℕ) → length items ≤ i → init ≡ old ++ opening → out ≡ init ++ listed (map shown (take i items)) → last ≡ out ++ c ∷ []
+      → last ≡ old ++ (opening ++ (listed (map shown items) ++ c ∷ []))
+  all_printed items i old opening init out last c le begun before ended =
       let texts = listed (map shown items) in
-      let all : out ≡ (old ++ b ∷ []) ++ texts = before ∙ ap (λ y. y ++ listed (map shown (take i items))) begun ∙ ap (λ l. (old ++ b ∷ []) ++ listed (map shown l)) (take_all i items le) in
-      let regrouped : ((old ++ b ∷ []) ++ texts) ++ c ∷ [] ≡ old ++ b ∷ (texts ++ c ∷ []) = simp append_assoc in
+      let all : out ≡ (old ++ opening) ++ texts = before ∙ ap (λ y. y ++ listed (map shown (take i items))) begun ∙ ap (λ l. (old ++ opening) ++ listed (map shown l)) (take_all i items le) in
+      let regrouped : ((old ++ opening) ++ texts) ++ c ∷ [] ≡ old ++ (opening ++ (texts ++ c ∷ [])) = simp append_assoc in
       ended ∙ ap (λ y. y ++ c ∷ []) all ∙ regrouped
 
 abbrev pub field_shown : FieldShape → Utf8

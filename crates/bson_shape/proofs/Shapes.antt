@@ -67,7 +67,7 @@ levels_few (tuple ps) shape = shape.0
 levels_few (tuple_structure name ps) shape = shape.1
 levels_few (newtype name f) shape = shape.0.few
 levels_few (unit_structure name) shape = omega arith
-levels_few (structure name fs) shape = shape.0.few
+levels_few (structure u name fs) shape = shape.0.few
 levels_few (enumeration vs) shape = shape.0.few
 
 -- each field's shape has fewer nodes than the fields

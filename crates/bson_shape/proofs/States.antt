@@ -1,11 +1,11 @@
 -- What a state of the machine has read.
 use Rattle.std.proofs.Common.{◌≡◌, ℕ, true, false, List, [], ◌∷◌, ◌++◌, refl, sym, ap, ◌∙◌, append_assoc, append-nil}
 use Rattle.bson_base.specs.Text.{Utf8}
-use Rattle.bson_shape.specs.Form.{Form, by_mode, sequence, map, structure, Fields, no_fields, field, push_field, Parts, no_parts, part, push_part, Variants, no_variants, variant, push_variant, Content, newtype_content, tuple_content, struct_content}
+use Rattle.bson_shape.specs.Form.{dropped, Form, by_mode, sequence, map, structure, Fields, no_fields, field, push_field, Parts, no_parts, part, push_part, Variants, no_variants, variant, push_variant, Content, newtype_content, tuple_content, struct_content}
 use Rattle.bson_shape.specs.Notation.{in_bare, names_form, bare, escaped, quoted, name_text, struct_name_text, after_commas, listed, text, field_texts, part_texts, variant_texts, content_text}
 use Rattle.bson_shape.specs.Fronts.{goes_on}
 use Rattle.bson_shape.proofs.Words.{or_false}
-use Rattle.bson_shape.specs.Machine.{OpenEnum, Holder, Nameless_at, Named_at, Variant_of, Group, Braces, Parens, Angles, Prefix, Option_prefix, Lossy_prefix, Readable_prefix, Newtype_prefix, Level, In_prefix, In_brackets, In_pair, In_compact, In_map, In_item, Owner, Form_at, Item_of, Mode, Form_due, Pair_due, Item_due, Bare, Quoted, Escape, Named, Item_done, Done, State, grown, grown_enum, has_no_fields, has_no_parts, has_no_variants, is_empty, closing, Closed, Closed_form, Closed_variant, closed, prefixed, is_written}
+use Rattle.bson_shape.specs.Machine.{OpenEnum, Holder, Nameless_at, Named_at, Variant_of, Group, Braces, Closed_braces, Parens, Angles, Prefix, Option_prefix, Lossy_prefix, Readable_prefix, Newtype_prefix, Level, In_prefix, In_brackets, In_pair, In_compact, In_map, In_item, Owner, Form_at, Item_of, Mode, Form_due, Pair_due, Item_due, Bare, Quoted, Escape, Named, Item_done, Done, State, grown, grown_enum, has_no_fields, has_no_parts, has_no_variants, is_empty, closing, Closed, Closed_form, Closed_variant, closed, prefixed, is_written}
 
 -- the comma before a further text
 abbrev pub sep : List Utf8 → Utf8
@@ -17,11 +17,14 @@ sep (x ∷ xs) = 44 ∷ []
 -- the texts of the items so far
 abbrev pub item_texts : Group → List Utf8
 item_texts (Braces h fs) = field_texts fs
+item_texts (Closed_braces place n fs) = field_texts fs
 item_texts (Parens h ps) = part_texts ps
 item_texts (Angles e) = variant_texts e.variants
 
+-- the last byte of what opens the group
 abbrev pub opening : Group → ℕ
 opening (Braces h fs) = 123
+opening (Closed_braces place n fs) = 33
 opening (Parens h ps) = 40
 opening (Angles e) = 60
 
@@ -41,15 +44,17 @@ parens_text (Nameless_at place) = []
 parens_text (Named_at place n) = name_text n
 parens_text (Variant_of e n) = variant_text e n
 
--- what is before the opening bracket
+-- what is before that byte
 abbrev pub before_text : Group → Utf8
 before_text (Braces h fs) = braces_text h
+before_text (Closed_braces place n fs) = struct_name_text n ++ 123 ∷ []
 before_text (Parens h ps) = parens_text h
 before_text (Angles e) = []
 
 -- between an item's comma and its form
 abbrev pub label : Group → Utf8 → Utf8
 label (Braces h fs) n = name_text n ++ 58 ∷ []
+label (Closed_braces place m fs) n = name_text n ++ 58 ∷ []
 label (Parens h ps) n = []
 label (Angles e) n = name_text n ++ 61 ∷ []
 
@@ -140,6 +145,14 @@ field_texts-push : (fs : Fields) (n : Utf8) (f : Form) → field_texts (push_fie
 field_texts-push no_fields n f = refl
 field_texts-push (field m g fs) n f = ap (λ xs. (name_text m ++ 58 ∷ text g) ∷ xs) (field_texts-push fs n f)
 
+-- what is before the new form is apart
+field_texts-grown : (fs : Fields) (n : Utf8) (f : Form) → field_texts (push_field fs n f) ≡ field_texts fs ++ ((name_text n ++ 58 ∷ []) ++ text f) ∷ []
+field_texts-grown fs n f = field_texts-push fs n f ∙ ap (λ x. field_texts fs ++ x ∷ []) (sym (append_assoc (name_text n) (58 ∷ []) (text f)))
+
+field_texts-none : (fs : Fields) → has_no_fields fs ≡ true → sep (field_texts fs) ≡ []
+field_texts-none no_fields k = refl
+field_texts-none (field n f fs) k = absurd cc
+
 part_texts-push : (ps : Parts) (f : Form) → part_texts (push_part ps f) ≡ part_texts ps ++ text f ∷ []
 part_texts-push no_parts f = refl
 part_texts-push (part g ps) f = ap (λ xs. text g ∷ xs) (part_texts-push ps f)
@@ -157,7 +170,8 @@ more_text g h x b o e =
     ∙ sym (append_assoc (before_text g) (opening g ∷ listed (item_texts g)) (sep (item_texts g) ++ x)) ∙ sym (append_assoc (group_text g) (sep (item_texts g)) x)
 
 item_texts-grown : (g : Group) (n : Utf8) (f : Form) → item_texts (grown g n f) ≡ item_texts g ++ (label g n ++ text f) ∷ []
-item_texts-grown (Braces h fs) n f = field_texts-push fs n f ∙ ap (λ x. field_texts fs ++ x ∷ []) (sym (append_assoc (name_text n) (58 ∷ []) (text f)))
+item_texts-grown (Braces h fs) n f = field_texts-grown fs n f
+item_texts-grown (Closed_braces place m fs) n f = field_texts-grown fs n f
 item_texts-grown (Parens h ps) n f = part_texts-push ps f
 item_texts-grown (Angles e) n f = variant_texts-push e.variants n (newtype_content f) ∙ ap (λ x. variant_texts e.variants ++ x ∷ []) (sym (append_assoc (name_text n) (61 ∷ []) (text f)))
 
@@ -166,6 +180,7 @@ grown_text g n f = brackets g ∙ sym (append_assoc (due_text g) (label g n) (te
   where
     brackets : (g : Group) → group_text (grown g n f) ≡ due_text g ++ (label g n ++ text f)
     brackets (Braces h fs) = more_text (Braces h fs) (grown (Braces h fs) n f) (label (Braces h fs) n ++ text f) refl refl (item_texts-grown (Braces h fs) n f)
+    brackets (Closed_braces place m fs) = more_text (Closed_braces place m fs) (grown (Closed_braces place m fs) n f) (label (Closed_braces place m fs) n ++ text f) refl refl (item_texts-grown (Closed_braces place m fs) n f)
     brackets (Parens h ps) = more_text (Parens h ps) (grown (Parens h ps) n f) (label (Parens h ps) n ++ text f) refl refl (item_texts-grown (Parens h ps) n f)
     brackets (Angles e) = more_text (Angles e) (grown (Angles e) n f) (label (Angles e) n ++ text f) refl refl (item_texts-grown (Angles e) n f)
 
@@ -184,11 +199,8 @@ sep-variant vs n c = ap sep (variant_texts-push vs n c) ∙ sep-snoc (variant_te
 
 -- before the first none does
 pub sep-empty : (g : Group) → is_empty g ≡ true → sep (item_texts g) ≡ []
-sep-empty (Braces h fs) k = of_fields fs k
-  where
-    of_fields : (fs : Fields) → has_no_fields fs ≡ true → sep (field_texts fs) ≡ []
-    of_fields no_fields k = refl
-    of_fields (field n f fs) k = absurd cc
+sep-empty (Braces h fs) k = field_texts-none fs k
+sep-empty (Closed_braces place n fs) k = field_texts-none fs k
 sep-empty (Parens h ps) k = of_parts ps k
   where
     of_parts : (ps : Parts) → has_no_parts ps ≡ true → sep (part_texts ps) ≡ []
@@ -217,6 +229,8 @@ pub closed_text : (g : Group) → mode_text (after (closed g)) ≡ group_text g 
 closed_text (Braces (Nameless_at place) fs) = refl
 closed_text (Braces (Named_at place n) fs) = closed_list (struct_name_text n) 123 125 (field_texts fs)
 closed_text (Braces (Variant_of e n) fs) = grown_enum_text e n (struct_content fs) ∙ closed_list (variant_text e n) 123 125 (field_texts fs)
+closed_text (Closed_braces place n fs) =
+    sym (append_assoc (struct_name_text n) (123 ∷ []) (33 ∷ (listed (field_texts fs) ++ 125 ∷ []))) ∙ closed_list (struct_name_text n ++ 123 ∷ []) 33 125 (field_texts fs)
 closed_text (Parens (Nameless_at place) ps) = refl
 closed_text (Parens (Named_at place n) ps) = closed_list (name_text n) 40 41 (part_texts ps)
 closed_text (Parens (Variant_of e n) ps) = grown_enum_text e n (tuple_content ps) ∙ closed_list (variant_text e n) 40 41 (part_texts ps)
@@ -225,6 +239,7 @@ closed_text (Angles e) = refl
 -- no word goes on before the closing bracket, nor does it belong to one
 pub closing-alone : (g : Group) → goes_on (closing g ∷ []) ≡ false
 closing-alone (Braces h fs) = refl
+closing-alone (Closed_braces place n fs) = refl
 closing-alone (Parens h ps) = refl
 closing-alone (Angles e) = refl
 
@@ -246,6 +261,7 @@ valid_closed g = valid (closed g) (closed_text g) (has_more g)
     has_more (Braces (Nameless_at place) fs) = tt
     has_more (Braces (Named_at place n) fs) = tt
     has_more (Braces (Variant_of e n) fs) = sep-variant e.variants n (struct_content fs)
+    has_more (Closed_braces place n fs) = tt
     has_more (Parens (Nameless_at place) ps) = tt
     has_more (Parens (Named_at place n) ps) = tt
     has_more (Parens (Variant_of e n) ps) = sep-variant e.variants n (tuple_content ps)
@@ -294,7 +310,7 @@ levels_compact place r c st = regrouped (levels_text st) (text r) (text c)
     regrouped a b c = simp append_assoc
 
 -- two forms, of which the readable one was read, may go on so
-pub levels_sample : (place : ℕ) (r : Form) (st : List Level) → levels_text st ++ text (by_mode r (structure [] no_fields)) ≡ ((levels_text (In_pair place ∷ st) ++ text r) ++ 44 ∷ []) ++ (123 ∷ 125 ∷ 41 ∷ [])
+pub levels_sample : (place : ℕ) (r : Form) (st : List Level) → levels_text st ++ text (by_mode r (structure dropped [] no_fields)) ≡ ((levels_text (In_pair place ∷ st) ++ text r) ++ 44 ∷ []) ++ (123 ∷ 125 ∷ 41 ∷ [])
 levels_sample place r st = regrouped (levels_text st) (text r)
   where
     regrouped : (a b : Utf8) → a ++ 37 ∷ 40 ∷ (b ++ 44 ∷ 123 ∷ 125 ∷ 41 ∷ []) ≡ ((((a ++ 37 ∷ 40 ∷ []) ++ b) ++ 44 ∷ []) ++ (123 ∷ 125 ∷ 41 ∷ []))

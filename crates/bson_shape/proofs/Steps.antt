@@ -4,7 +4,7 @@ use Rattle.std.specs.List.{list_all}
 use Rattle.std.specs.Prelude.{nat_le, IfOk}
 use Rattle.std.proofs.lemmas.Bool.{eqb-true}
 use Rattle.bson_base.specs.Text.{Utf8}
-use Rattle.bson_shape.specs.Form.{Form, leaf, by_mode, sequence, map, unit_structure, no_fields, no_parts, unit_content}
+use Rattle.bson_shape.specs.Form.{Fields, Form, leaf, by_mode, sequence, map, unit_structure, no_fields, field, no_parts, unit_content}
 use Rattle.bson_shape.specs.Leaf.{of_word}
 use Rattle.bson_shape.specs.declared.leaf.Leaf.{Leaf}
 use Rattle.bson_shape.specs.Makers.{made_form}
@@ -13,7 +13,7 @@ use Rattle.bson_shape.specs.declared.error.ShapeError.TheVariants.{TooDeep}
 use Rattle.bson_shape.specs.Notation.{begins_bare, in_bare, bare, names_form, is_escaped, escaped, quoted, name_text, struct_name_text, listed, text}
 use Rattle.bson_shape.specs.FirstRefusal.{MakerRefusal}
 use Rattle.bson_base.specs.Outcome.{◌>>=◌}
-use Rattle.bson_shape.specs.Machine.{Refusal, Not_notation, Refused, Nameless_at, Named_at, Variant_of, Group, Braces, Parens, Angles, Option_prefix, Lossy_prefix, Readable_prefix, Newtype_prefix, Level, In_prefix, In_brackets, In_pair, In_compact, In_map, In_item, Owner, Form_at, Item_of, Mode, Form_due, Pair_due, Item_due, Bare, Quoted, Escape, Named, Item_done, Done, State, opened_enum, grown, grown_enum, is_empty, closing, Closed, Closed_form, Closed_variant, closed, form_closed, bracket_closed, group_closed, item_ended, Ended, wrapped, enclosed, form_ended, begins_name, name_begun, opens_form, begins_form, form_begun, form_due, name_due, item_begun, item_due, is_written, form_named, item_named, named, leaf_ended, word_ended, bare_name, name_closed, quoted_name, escape, step}
+use Rattle.bson_shape.specs.Machine.{Refusal, Not_notation, Refused, Holder, Nameless_at, Named_at, Variant_of, Group, Braces, Closed_braces, Parens, Angles, Option_prefix, Lossy_prefix, Readable_prefix, Newtype_prefix, Level, In_prefix, In_brackets, In_pair, In_compact, In_map, In_item, Owner, Form_at, Item_of, Mode, Form_due, Pair_due, Item_due, Bare, Quoted, Escape, Named, Item_done, Done, State, opened_enum, grown, grown_enum, has_no_fields, is_empty, closing, Closed, Closed_form, Closed_variant, closed, form_closed, bracket_closed, group_closed, item_ended, Ended, wrapped, enclosed, form_ended, begins_name, name_begun, opens_form, begins_form, form_begun, form_due, name_due, struct_marked, field_due, item_begun, item_due, is_written, form_named, field_named, item_named, named, leaf_ended, word_ended, bare_name, name_closed, quoted_name, escape, step}
 use Rattle.bson_shape.proofs.Made.{made_form-made}
 use Rattle.bson_shape.proofs.Words.{and_true, or_rest, differs}
 use Rattle.std.specs.Prelude.{◌⊎◌}
@@ -22,7 +22,7 @@ use Rattle.std.proofs.Common.{◌+◌, ◌<◌, inl, inr, arith}
 use Rattle.std.proofs.lemmas.Bool.Decides.{nat_tests}
 use Rattle.bson_shape.specs.Fronts.{HasTextNames, goes_on}
 use Rattle.bson_shape.proofs.TextStates.{TextGroup, TextOwner, TextLevels, TextMode, TextState, text-nil, text-one, text-push, variants_texts-snoc, names-grown, names-closed}
-use Rattle.bson_shape.proofs.States.{sep, opening, before_text, item_texts, variant_text, group_text, due_text, owner_text, level_text, levels_text, mode_text, written, ValidMode, grown_enum_text, sep-grown, sep-variant, sep-empty, levels_grown, after, closed_text, closing-ends, valid_closed, levels_item, levels_key, levels_readable, levels_compact, levels_value, struct_name-bare, name-bare, name-quoted, struct_name-quoted}
+use Rattle.bson_shape.proofs.States.{sep, label, opening, before_text, item_texts, variant_text, group_text, due_text, owner_text, level_text, levels_text, mode_text, written, ValidMode, grown_enum_text, sep-grown, sep-variant, sep-empty, levels_grown, after, closed_text, closing-ends, valid_closed, levels_item, levels_key, levels_readable, levels_compact, levels_value, struct_name-bare, name-bare, name-quoted, struct_name-quoted}
 use Rattle.bson_shape.proofs.Wraps.{Keeps, wrapped_keeps, IsWord, Behind, behind_text, behind_names, EndsForm}
 
 -- the state after a byte
@@ -60,6 +60,7 @@ chosen at s b false x y f g = g refl
 
 low_closing : (g : Group) → closing g < 128
 low_closing (Braces h fs) = omega arith
+low_closing (Closed_braces place n fs) = omega arith
 low_closing (Parens h ps) = omega arith
 low_closing (Angles e) = omega arith
 
@@ -221,9 +222,35 @@ name_leaves : (at : ℕ) (g : Group) (st : List Level) (b : ℕ) (s : State) →
 unfolding name_due
 name_leaves at g st b s so_far has = chosen at s b (begins_name b) (Ok (name_begun (Item_of g) b, st)) _ (λ h. begun_takes (eqb b 34) (Item_of g) st b s refl h so_far has) (λ h. refl)
 
+-- a group without items, behind what is before it and the last byte of what opens it
+opened_group : (g : Group) (st : List Level) (b : ℕ) (s : State) → item_texts g ≡ [] → eqb b (opening g) ≡ true → written s ≡ levels_text st ++ before_text g → (TextState s → TextGroup g × TextLevels st) → Takes s b (Item_due g, st)
+opened_group g st b s none is so_far has = record {
+  valid = tt;
+  texts = λ k _. record { mode = (has k).0; levels = (has k).1 };
+  grew = ap (λ xs. levels_text st ++ ((before_text g ++ opening g ∷ listed xs) ++ sep xs)) none ∙ ap (λ xs. levels_text st ++ xs) (append-nil (before_text g ++ opening g ∷ [])) ∙ sym (append_assoc (levels_text st) (before_text g) (opening g ∷ [])) ∙ behind_read (levels_text st ++ before_text g) b (opening g) s so_far is;
+}
+
+-- the mark of a struct that denies unknown fields
+marked_leaves : (at : ℕ) (h : Holder) (fs : Fields) (st : List Level) (b : ℕ) (s : State) → eqb b 33 ≡ true → has_no_fields fs ≡ true → written s ≡ levels_text st ++ due_text (Braces h fs) → (TextState s → TextGroup (Braces h fs) × TextLevels st) → Leaves at s b (struct_marked at h st)
+marked_leaves at h (field n f fs) st b s is none so_far has = absurd cc
+marked_leaves at (Nameless_at place) no_fields st b s is none so_far has =
+    opened_group (Closed_braces place [] no_fields) st b s refl is so_far (λ t. ((text-nil, tt), (has t).1))
+marked_leaves at (Named_at place n) no_fields st b s is none so_far has =
+    opened_group (Closed_braces place n no_fields) st b s refl is (so_far ∙ ap (λ xs. levels_text st ++ xs) (append-nil (struct_name_text n ++ 123 ∷ []))) (λ t. (((has t).0.0, tt), (has t).1))
+marked_leaves at (Variant_of e n) no_fields st b s is none so_far has = refl
+
+-- where a field is due
+field_leaves : (at : ℕ) (h : Holder) (fs : Fields) (st : List Level) (b : ℕ) (s : State) → written s ≡ levels_text st ++ due_text (Braces h fs) → (TextState s → TextGroup (Braces h fs) × TextLevels st) → Leaves at s b (field_due at h fs st b)
+unfolding field_due
+field_leaves at h fs st b s so_far has =
+    chosen at s b (eqb b 33 && has_no_fields fs) (struct_marked at h st) _
+    (λ e. let both = and_true (eqb b 33) (has_no_fields fs) e in marked_leaves at h fs st b s both.0 both.1 so_far has)
+    (λ e. name_leaves at (Braces h fs) st b s so_far has)
+
 begun_leaves : (at : ℕ) (g : Group) (st : List Level) (b : ℕ) (s : State) → written s ≡ levels_text st ++ due_text g → (TextState s → TextGroup g × TextLevels st) → Leaves at s b (item_begun at g st b)
 unfolding item_begun
-begun_leaves at (Braces h fs) st b s so_far has = name_leaves at (Braces h fs) st b s so_far has
+begun_leaves at (Braces h fs) st b s so_far has = field_leaves at h fs st b s so_far has
+begun_leaves at (Closed_braces place n fs) st b s so_far has = name_leaves at (Closed_braces place n fs) st b s so_far has
 begun_leaves at (Parens h ps) st b s so_far has =
     let g : Group = Parens h ps in
     form_leaves at (In_item g [] ∷ st) b s (so_far ∙ ap (λ xs. levels_text st ++ xs) (sym (append-nil (due_text g))) ∙ sym (append-nil (levels_text st ++ (due_text g ++ [])))) (λ k. ((has k).0, text-nil, (has k).1))
@@ -237,14 +264,6 @@ due_leaves at g st b =
     (λ h. let both = and_true (eqb b (closing g)) (is_empty g) h in
     group_leaves at g st b s both.0 (ap (λ xs. levels_text st ++ (group_text g ++ xs)) (sep-empty g both.1) ∙ ap (λ xs. levels_text st ++ xs) (append-nil (group_text g))) (λ k. (k.mode, k.levels)))
     (λ h. begun_leaves at g st b s refl (λ k. (k.mode, k.levels)))
-
--- a group without items, behind what is before it and its opening bracket
-opened_group : (g : Group) (st : List Level) (b : ℕ) (s : State) → item_texts g ≡ [] → eqb b (opening g) ≡ true → written s ≡ levels_text st ++ before_text g → (TextState s → TextGroup g × TextLevels st) → Takes s b (Item_due g, st)
-opened_group g st b s none is so_far has = record {
-  valid = tt;
-  texts = λ k _. record { mode = (has k).0; levels = (has k).1 };
-  grew = ap (λ xs. levels_text st ++ ((before_text g ++ opening g ∷ listed xs) ++ sep xs)) none ∙ ap (λ xs. levels_text st ++ xs) (append-nil (before_text g ++ opening g ∷ [])) ∙ sym (append_assoc (levels_text st) (before_text g) (opening g ∷ [])) ∙ behind_read (levels_text st ++ before_text g) b (opening g) s so_far is;
-}
 
 -- a form is due behind a byte that ends the text of a level
 level_takes : (l : Level) (pre : Utf8) (st : List Level) (b c : ℕ) (s : State) → eqb b c ≡ true → level_text l ≡ pre ++ c ∷ [] → written s ≡ levels_text st ++ pre → (TextState s → TextLevels (l ∷ st)) → Takes s b (Form_due, l ∷ st)
@@ -274,14 +293,19 @@ form_named_leaves at place n st b s piece as_struct as_name so_far has =
     opened_group (Braces (Named_at place n) no_fields) st b s refl t.0 (so_far ∙ ap (λ xs. levels_text st ++ xs) (sym (as_struct t.1))) (λ t. (((has t).0, tt), (has t).1)))
     (λ none. refl))))
 
+-- behind a name of a field
+field_named_leaves : (at : ℕ) (g : Group) (n : Utf8) (st : List Level) (b : ℕ) (s : State) → label g n ≡ name_text n ++ 58 ∷ [] → written s ≡ levels_text st ++ (due_text g ++ name_text n)
+    → (TextState s → (TextGroup g × (is_utf8 n ≡ true)) × TextLevels st) → Leaves at s b (field_named at g n st b)
+field_named_leaves at g n st b s is so_far has =
+    chosen at s b (eqb b 58) (Ok (Form_due, In_item g n ∷ st)) _
+    (λ h. level_takes (In_item g n) (due_text g ++ name_text n) st b 58 s h (ap (λ xs. due_text g ++ xs) is ∙ sym (append_assoc (due_text g) (name_text n) (58 ∷ []))) so_far (λ k. ((has k).0.0, (has k).0.1, (has k).1)))
+    (λ h. refl)
+
 -- behind a name of an item
 item_named_leaves : (at : ℕ) (g : Group) (n : Utf8) (st : List Level) (b : ℕ) (s : State) → written s ≡ levels_text st ++ (due_text g ++ name_text n) → (TextState s → (TextGroup g × (is_utf8 n ≡ true)) × TextLevels st) → Leaves at s b (item_named at g n st b)
 item_named_leaves at (Parens h ps) n st b s so_far has = refl
-item_named_leaves at (Braces h fs) n st b s so_far has =
-    let g : Group = Braces h fs in
-    chosen at s b (eqb b 58) (Ok (Form_due, In_item g n ∷ st)) _
-    (λ h. level_takes (In_item g n) (due_text g ++ name_text n) st b 58 s h (sym (append_assoc (due_text g) (name_text n) (58 ∷ []))) so_far (λ k. ((has k).0.0, (has k).0.1, (has k).1)))
-    (λ h. refl)
+item_named_leaves at (Braces h fs) n st b s so_far has = field_named_leaves at (Braces h fs) n st b s refl so_far has
+item_named_leaves at (Closed_braces place m fs) n st b s so_far has = field_named_leaves at (Closed_braces place m fs) n st b s refl so_far has
 item_named_leaves at (Angles e) n st b s so_far has =
     let g : Group = Angles e in
     chosen at s b (eqb b 61) (Ok (Form_due, In_item g n ∷ st)) _

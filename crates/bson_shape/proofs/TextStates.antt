@@ -6,7 +6,7 @@ use lib.Utf8.{encode, low_scalar}
 use Rattle.std.proofs.lemmas.Str.{IsUtf8-append, IsUtf8-encode, IsUtf8-nil, IsUtf8-from_is_utf8, is_utf8-from_IsUtf8, encode_ascii}
 use Rattle.bson_base.specs.Text.{Utf8}
 use Rattle.bson_shape.specs.Form.{Form, Fields, no_fields, field, push_field, Parts, no_parts, part, push_part, Variants, no_variants, variant, push_variant, Content, newtype_content, tuple_content, struct_content}
-use Rattle.bson_shape.specs.Machine.{OpenEnum, Holder, Nameless_at, Named_at, Variant_of, Group, Braces, Parens, Angles, Prefix, Option_prefix, Lossy_prefix, Readable_prefix, Newtype_prefix, Level, In_prefix, In_brackets, In_pair, In_compact, In_map, In_item, Owner, Form_at, Item_of, Mode, Form_due, Pair_due, Item_due, Bare, Quoted, Escape, Named, Item_done, Done, State, grown, closed, prefixed}
+use Rattle.bson_shape.specs.Machine.{OpenEnum, Holder, Nameless_at, Named_at, Variant_of, Group, Braces, Closed_braces, Parens, Angles, Prefix, Option_prefix, Lossy_prefix, Readable_prefix, Newtype_prefix, Level, In_prefix, In_brackets, In_pair, In_compact, In_map, In_item, Owner, Form_at, Item_of, Mode, Form_due, Pair_due, Item_due, Bare, Quoted, Escape, Named, Item_done, Done, State, grown, closed, prefixed}
 use Rattle.bson_shape.proofs.States.{after}
 use Rattle.bson_shape.specs.Fronts.{HasTextNames, HaveTextNames, PartsHaveTextNames, VariantsHaveTextNames, ContentHasTextNames}
 use Rattle.std.proofs.Common.{arith}
@@ -36,6 +36,7 @@ TextHolder (Variant_of e n) = TextEnum e × (is_utf8 n ≡ true)
 
 abbrev pub TextGroup : Group → Type 0
 TextGroup (Braces h fs) = TextHolder h × HaveTextNames fs
+TextGroup (Closed_braces place n fs) = (is_utf8 n ≡ true) × HaveTextNames fs
 TextGroup (Parens h ps) = TextHolder h × PartsHaveTextNames ps
 TextGroup (Angles e) = TextEnum e
 
@@ -88,6 +89,7 @@ variants_texts-snoc (variant m d vs) n c h t k = (h.0, h.1, variants_texts-snoc 
 -- with one more item
 pub names-grown : (g : Group) (n : Utf8) (f : Form) → TextGroup g → is_utf8 n ≡ true → HasTextNames f → TextGroup (grown g n f)
 names-grown (Braces h fs) n f k t i = (k.0, texts-snoc fs n f k.1 t i)
+names-grown (Closed_braces place m fs) n f k t i = (k.0, texts-snoc fs n f k.1 t i)
 names-grown (Parens h ps) n f k t i = (k.0, parts_texts-snoc ps f k.1 i)
 names-grown (Angles e) n f k t i = variants_texts-snoc e.variants n (newtype_content f) k t i
 
@@ -96,6 +98,7 @@ pub names-closed : (g : Group) → TextGroup g → TextMode (after (closed g))
 names-closed (Braces (Nameless_at place) fs) k = (text-nil, k.1)
 names-closed (Braces (Named_at place n) fs) k = k
 names-closed (Braces (Variant_of e n) fs) k = variants_texts-snoc e.variants n (struct_content fs) k.0.0 k.0.1 k.1
+names-closed (Closed_braces place n fs) k = k
 names-closed (Parens (Nameless_at place) ps) k = k.1
 names-closed (Parens (Named_at place n) ps) k = k
 names-closed (Parens (Variant_of e n) ps) k = variants_texts-snoc e.variants n (tuple_content ps) k.0.0 k.0.1 k.1

@@ -8,7 +8,7 @@ use Rattle.bson_shape.specs.declared.error.ShapeError.TheVariants.{TooDeep}
 use Rattle.bson_shape.specs.Form.{Form, leaf, optional, lossy, human_readable, by_mode, sequence, map, tuple, tuple_structure, newtype, unit_structure, structure, enumeration, Fields, no_fields, field, Parts, no_parts, part, Variants, no_variants, variant, Content, unit_content, newtype_content, tuple_content, struct_content}
 use Rattle.bson_shape.specs.Levels.{levels, deepest, deepest_part, deepest_variant, deepest_inside}
 use Rattle.bson_shape.specs.Makers.{IsShape, AreShapes, AreParts, AreVariants, IsContent, made_form}
-use Rattle.bson_shape.specs.Notation.{text, name_text, struct_name_text, content_text}
+use Rattle.bson_shape.specs.Notation.{text, name_text, struct_name_text, opening_struct, content_text}
 use Rattle.bson_shape.specs.FirstRefusal.{MakerRefusal, or_else, refusal_of, form_refusal, first_refusal, fields_refusal, parts_refusal, variants_refusal, content_refusal}
 use Rattle.bson_base.specs.Outcome.{◌>>=◌}
 use Rattle.bson_shape.specs.Machine.{Refusal, Refused, Form_due, Done, wrapped, run, finish, parsed}
@@ -75,9 +75,9 @@ mutual
       let inner = at + length (name_text n) + 1 in
       none_refused (newtype n f) at around (first_refusal inner (around + 1) f) h (few_around around (omega arith)) (first_refusal-IsShape f inner (around + 1) h.1 (omega arith))
   first_refusal-IsShape (unit_structure n) at around h few = none_refused (unit_structure n) at around None h (few_around around (omega arith)) refl
-  first_refusal-IsShape (structure n fs) at around h few =
-      let inner = at + length (struct_name_text n) + 1 in
-      none_refused (structure n fs) at around (fields_refusal inner (around + 1) fs) h (few_around around (omega arith)) (fields_refusal-AreShapes fs inner (around + 1) h.1 (omega arith))
+  first_refusal-IsShape (structure u n fs) at around h few =
+      let inner = at + length (struct_name_text n) + length (opening_struct u) in
+      none_refused (structure u n fs) at around (fields_refusal inner (around + 1) fs) h (few_around around (omega arith)) (fields_refusal-AreShapes fs inner (around + 1) h.1 (omega arith))
 
   fields_refusal-AreShapes : (fs : Fields) (at around : ℕ) → AreShapes fs → around + deepest fs ≤ 512 → fields_refusal at around fs ≡ None
   fields_refusal-AreShapes no_fields at around h few = refl

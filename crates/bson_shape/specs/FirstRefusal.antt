@@ -3,7 +3,7 @@ use Rattle.std.specs.Prelude.{ℕ, ◌+◌, nat_le, if◌then◌else◌, ◌∷�
 use Rattle.bson_shape.specs.Form.{Form, leaf, optional, lossy, human_readable, by_mode, sequence, map, tuple, tuple_structure, newtype, unit_structure, structure, enumeration, Fields, no_fields, field, Parts, no_parts, part, Variants, no_variants, variant, Content, unit_content, newtype_content, tuple_content, struct_content}
 use Rattle.bson_shape.specs.Levels.{max_shape_levels}
 use Rattle.bson_shape.specs.Makers.{made_form}
-use Rattle.bson_shape.specs.Notation.{colon, text, name_text, struct_name_text, content_text}
+use Rattle.bson_shape.specs.Notation.{colon, text, name_text, struct_name_text, opening_struct, content_text}
 use Rattle.bson_shape.specs.declared.error.ShapeError.{ShapeError}
 use Rattle.bson_shape.specs.declared.error.ShapeError.TheVariants.{TooDeep}
 
@@ -50,8 +50,8 @@ abbrev mutual
       form_refusal at around (tuple_structure name ps) (parts_refusal (at + length (name_text name) + 1) (around + 1) ps)
   first_refusal at around (newtype name f) = form_refusal at around (newtype name f) (first_refusal (at + length (name_text name) + 1) (around + 1) f)
   first_refusal at around (unit_structure name) = form_refusal at around (unit_structure name) None
-  first_refusal at around (structure name fs) =
-      form_refusal at around (structure name fs) (fields_refusal (at + length (struct_name_text name) + 1) (around + 1) fs)
+  first_refusal at around (structure u name fs) =
+      form_refusal at around (structure u name fs) (fields_refusal (at + length (struct_name_text name) + length (opening_struct u)) (around + 1) fs)
   first_refusal at around (enumeration vs) = form_refusal at around (enumeration vs) (variants_refusal (at + 1) (around + 1) vs)
 
   -- of fields, where the text of the first one begins at this place

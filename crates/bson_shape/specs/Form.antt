@@ -2,6 +2,13 @@
 use Rattle.bson_base.specs.Text.{Utf8}
 use Rattle.bson_shape.specs.declared.leaf.Leaf.{Leaf}
 
+-- What is done with the fields of a document that a struct does not name.
+pub data UnknownFields : Type 0 where
+  -- they are passed over
+  dropped : UnknownFields
+  -- the document is refused
+  denied : UnknownFields
+
 mutual
   -- what a reader asks for
   pub data Form : Type 0 where
@@ -26,8 +33,8 @@ mutual
     newtype : (name : Utf8) → (inner : Form) → Form
     -- null, under a name
     unit_structure : (name : Utf8) → Form
-    -- a struct with a name and fields in order
-    structure : (name : Utf8) → (fields : Fields) → Form
+    -- a struct with a name and fields in order, and what is done with other ones
+    structure : (unknown : UnknownFields) → (name : Utf8) → (fields : Fields) → Form
     -- one of these variants
     enumeration : (variants : Variants) → Form
 

@@ -22,7 +22,7 @@ abbrev mutual
   HasTextNames (tuple_structure name ps) = (is_utf8 name ≡ true) × PartsHaveTextNames ps
   HasTextNames (newtype name f) = (is_utf8 name ≡ true) × HasTextNames f
   HasTextNames (unit_structure name) = is_utf8 name ≡ true
-  HasTextNames (structure name fs) = (is_utf8 name ≡ true) × HaveTextNames fs
+  HasTextNames (structure u name fs) = (is_utf8 name ≡ true) × HaveTextNames fs
   HasTextNames (enumeration vs) = VariantsHaveTextNames vs
 
   pub HaveTextNames : Fields → Type 0

@@ -4,7 +4,7 @@ use Rattle.bson_base.specs.Reserved.{reserved_kind}
 use Rattle.bson_shape.specs.Form.{Form, leaf, optional, lossy, human_readable, by_mode, sequence, map, tuple, tuple_structure, newtype, unit_structure, structure, enumeration, Fields, no_fields, field, Parts, no_parts, part, Variants, no_variants, variant, Content, unit_content, newtype_content, tuple_content, struct_content}
 use Rattle.bson_shape.specs.Levels.{max_shape_levels}
 use Rattle.bson_shape.specs.Makers.{is_text_key, is_reserved_newtype, repeats, variants_repeat}
-use Rattle.bson_shape.specs.Notation.{colon, text, name_text, struct_name_text, content_text}
+use Rattle.bson_shape.specs.Notation.{colon, text, name_text, struct_name_text, opening_struct, content_text}
 use Rattle.bson_shape.specs.declared.error.ShapeError.{ShapeError}
 use Rattle.bson_shape.specs.declared.error.ShapeError.TheVariants.{ReservedName, RepeatedName, KeyNotText, TooDeep, NoMemory}
 
@@ -32,8 +32,8 @@ abbrev mutual
   inner_forms at around (newtype name f) =
       record { place = at; around = around; form = newtype name f } ∷ inner_forms (at + length (name_text name) + 1) (around + 1) f
   inner_forms at around (unit_structure name) = record { place = at; around = around; form = unit_structure name } ∷ []
-  inner_forms at around (structure name fs) =
-      record { place = at; around = around; form = structure name fs } ∷ field_forms (at + length (struct_name_text name) + 1) (around + 1) fs
+  inner_forms at around (structure u name fs) =
+      record { place = at; around = around; form = structure u name fs } ∷ field_forms (at + length (struct_name_text name) + length (opening_struct u)) (around + 1) fs
   inner_forms at around (enumeration vs) = record { place = at; around = around; form = enumeration vs } ∷ variant_forms (at + 1) (around + 1) vs
 
   -- the forms in fields, where the text of the first one begins at this place
@@ -59,11 +59,11 @@ abbrev mutual
 
 abbrev pub HasReservedName : Form → Type 0
 HasReservedName (newtype name f) = is_reserved_newtype name ≡ true
-HasReservedName (structure name fs) = is_some (reserved_kind name) ≡ true
+HasReservedName (structure u name fs) = is_some (reserved_kind name) ≡ true
 HasReservedName f = ⊥
 
 abbrev pub HasRepeatedName : Form → Type 0
-HasRepeatedName (structure name fs) = repeats fs ≡ true
+HasRepeatedName (structure u name fs) = repeats fs ≡ true
 HasRepeatedName (enumeration vs) = variants_repeat vs ≡ true
 HasRepeatedName f = ⊥
 

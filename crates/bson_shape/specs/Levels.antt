@@ -20,7 +20,7 @@ abbrev mutual
   levels (tuple_structure name ps) = suc (deepest_part ps)
   levels (newtype name f) = suc (levels f)
   levels (unit_structure name) = 1
-  levels (structure name fs) = suc (deepest fs)
+  levels (structure u name fs) = suc (deepest fs)
   levels (enumeration vs) = suc (deepest_variant vs)
 
   -- the levels of the deepest field, 0 where there is none

@@ -2,7 +2,7 @@
 use Rattle.std.specs.Prelude.{ℕ, ◌+◌, Bool, true, false, ◌&&◌, ◌||◌, ◌==◌, nat_le, if◌then◌else◌, List, [], ◌∷◌, ◌++◌, length, Option, Some, None, Result, Ok, Err}
 use Rattle.bson_base.specs.Outcome.{◌>>=◌}
 use Rattle.bson_base.specs.Text.{Utf8}
-use Rattle.bson_shape.specs.Form.{Form, leaf, optional, lossy, human_readable, by_mode, sequence, map, tuple, tuple_structure, newtype, unit_structure, structure, enumeration, Fields, no_fields, field, push_field, Parts, no_parts, part, push_part, Variants, no_variants, variant, push_variant, Content, unit_content, newtype_content, tuple_content, struct_content}
+use Rattle.bson_shape.specs.Form.{dropped, denied, Form, leaf, optional, lossy, human_readable, by_mode, sequence, map, tuple, tuple_structure, newtype, unit_structure, structure, enumeration, Fields, no_fields, field, push_field, Parts, no_parts, part, push_part, Variants, no_variants, variant, push_variant, Content, unit_content, newtype_content, tuple_content, struct_content}
 use Rattle.bson_shape.specs.Leaf.{of_word}
 use Rattle.bson_shape.specs.declared.leaf.Leaf.{Leaf}
 use Rattle.bson_shape.specs.Levels.{max_shape_levels}
@@ -37,6 +37,8 @@ pub data Holder : Type 0 where
 pub data Group : Type 0 where
   -- fields between braces
   Braces : Holder → Fields → Group
+  -- the same, of a struct that denies unknown ones: a form that begins at this place, and its name; a nameless one has the empty one
+  Closed_braces : ℕ → Utf8 → Fields → Group
   -- parts between parentheses
   Parens : Holder → Parts → Group
   -- variants between angle brackets
@@ -112,6 +114,7 @@ grown_enum e name c = record { place = e.place; variants = push_variant e.varian
 -- the group with one more item: this name, and behind it this form
 abbrev pub grown : Group → Utf8 → Form → Group
 grown (Braces h fs) name f = Braces h (push_field fs name f)
+grown (Closed_braces place n fs) name f = Closed_braces place n (push_field fs name f)
 grown (Parens h ps) name f = Parens h (push_part ps f)
 grown (Angles e) name f = Angles (grown_enum e name (newtype_content f))
 
@@ -130,12 +133,14 @@ has_no_variants (variant name c vs) = false
 -- the group has no item yet
 abbrev pub is_empty : Group → Bool
 is_empty (Braces h fs) = has_no_fields fs
+is_empty (Closed_braces place n fs) = has_no_fields fs
 is_empty (Parens h ps) = has_no_parts ps
 is_empty (Angles e) = has_no_variants e.variants
 
 -- the closing bracket
 abbrev pub closing : Group → ℕ
 closing (Braces h fs) = close_brace
+closing (Closed_braces place n fs) = close_brace
 closing (Parens h ps) = close_paren
 closing (Angles e) = close_angle
 
@@ -148,9 +153,10 @@ pub data Closed : Type 0 where
 
 -- what the closing bracket of the group ends
 abbrev pub closed : Group → Closed
-closed (Braces (Nameless_at place) fs) = Closed_form place (structure [] fs)
-closed (Braces (Named_at place name) fs) = Closed_form place (structure name fs)
+closed (Braces (Nameless_at place) fs) = Closed_form place (structure dropped [] fs)
+closed (Braces (Named_at place name) fs) = Closed_form place (structure dropped name fs)
 closed (Braces (Variant_of e name) fs) = Closed_variant (grown_enum e name (struct_content fs))
+closed (Closed_braces place name fs) = Closed_form place (structure denied name fs)
 closed (Parens (Nameless_at place) ps) = Closed_form place (tuple ps)
 closed (Parens (Named_at place name) ps) = Closed_form place (tuple_structure name ps)
 closed (Parens (Variant_of e name) ps) = Closed_variant (grown_enum e name (tuple_content ps))
@@ -279,9 +285,20 @@ pair_due at place st b = if b == open_paren then Ok (Form_due, In_pair place ∷
 unfoldable pub name_due : ℕ → Group → List Level → ℕ → Result State Refusal
 name_due at g st b = if begins_name b then Ok (name_begun (Item_of g) b, st) else Err (Not_notation at)
 
+-- behind `{!`: a struct denies unknown fields, and a variant cannot
+abbrev pub struct_marked : ℕ → Holder → List Level → Result State Refusal
+struct_marked at (Nameless_at place) st = Ok (Item_due (Closed_braces place [] no_fields), st)
+struct_marked at (Named_at place name) st = Ok (Item_due (Closed_braces place name no_fields), st)
+struct_marked at (Variant_of e name) st = Err (Not_notation at)
+
+-- where a field is due; a struct that has none yet may deny unknown ones
+unfoldable pub field_due : ℕ → Holder → Fields → List Level → ℕ → Result State Refusal
+field_due at h fs st b = if (b == exclamation) && has_no_fields fs then struct_marked at h st else name_due at (Braces h fs) st b
+
 -- where an item is due
 unfoldable pub item_begun : ℕ → Group → List Level → ℕ → Result State Refusal
-item_begun at (Braces h fs) st b = name_due at (Braces h fs) st b
+item_begun at (Braces h fs) st b = field_due at h fs st b
+item_begun at (Closed_braces place n fs) st b = name_due at (Closed_braces place n fs) st b
 item_begun at (Parens h ps) st b = form_due at (In_item (Parens h ps) [] ∷ st) b
 item_begun at (Angles e) st b = name_due at (Angles e) st b
 
@@ -313,9 +330,14 @@ variant_named at e name st b =
     else (if b == open_brace then Ok (Item_due (Braces (Variant_of e name) no_fields), st)
     else item_ended at (Angles (grown_enum e name unit_content)) st b))
 
+-- behind the name of a field
+abbrev pub field_named : ℕ → Group → Utf8 → List Level → ℕ → Result State Refusal
+field_named at g name st b = if b == colon then Ok (Form_due, In_item g name ∷ st) else Err (Not_notation at)
+
 -- behind the name of an item; a part has none
 abbrev pub item_named : ℕ → Group → Utf8 → List Level → ℕ → Result State Refusal
-item_named at (Braces h fs) name st b = if b == colon then Ok (Form_due, In_item (Braces h fs) name ∷ st) else Err (Not_notation at)
+item_named at (Braces h fs) name st b = field_named at (Braces h fs) name st b
+item_named at (Closed_braces place n fs) name st b = field_named at (Closed_braces place n fs) name st b
 item_named at (Parens h ps) name st b = Err (Not_notation at)
 item_named at (Angles e) name st b = variant_named at e name st b
 

@@ -1,12 +1,12 @@
 -- What the makers of shapes ask for, and what they answer. Source: serde's data model.
-use Rattle.std.specs.Prelude.{◌≡◌, ◌≤◌, Bool, true, false, ◌&&◌, ◌||◌, if◌then◌else◌, nat_lt, List, [], ◌∷◌, codes, None, is_some, Result, Ok, Err, IsOk}
+use Rattle.std.specs.Prelude.{ℕ, suc, ◌≡◌, ◌≤◌, Bool, true, false, ◌&&◌, ◌||◌, if◌then◌else◌, nat_lt, List, [], ◌∷◌, codes, None, is_some, Result, Ok, Err, IsOk}
 use Rattle.std.specs.List.{list_any}
 use Rattle.std.specs.Str.{bytes_eq, is_utf8}
 use Rattle.bson_base.specs.Text.{Utf8}
 use Rattle.bson_base.specs.Reserved.{reserved_kind}
-use Rattle.bson_shape.specs.Form.{Form, leaf, optional, lossy, human_readable, by_mode, sequence, map, tuple, tuple_structure, newtype, unit_structure, structure, enumeration, Fields, no_fields, field, Parts, no_parts, part, Variants, no_variants, variant, Content, unit_content, newtype_content, tuple_content, struct_content}
+use Rattle.bson_shape.specs.Form.{UnknownFields, Form, leaf, optional, lossy, human_readable, by_mode, sequence, map, tuple, tuple_structure, newtype, unit_structure, structure, enumeration, Fields, no_fields, field, Parts, no_parts, part, Variants, no_variants, variant, Content, unit_content, newtype_content, tuple_content, struct_content}
 use Rattle.bson_shape.specs.Leaf.{is_text}
-use Rattle.bson_shape.specs.Levels.{levels, max_shape_levels}
+use Rattle.bson_shape.specs.Levels.{levels, deepest, max_shape_levels}
 use Rattle.bson_shape.specs.declared.error.ShapeError.{ShapeError}
 use Rattle.bson_shape.specs.declared.error.ShapeError.TheVariants.{ReservedName, RepeatedName, KeyNotText, TooDeep, NoMemory}
 
@@ -88,7 +88,7 @@ pub record IsStruct (name : Utf8) (fields : Fields) : Type 0 where
   pub text : is_utf8 name ≡ true
   pub free : reserved_kind name ≡ None
   pub distinct : AreDistinct fields
-  pub few : levels (structure name fields) ≤ max_shape_levels
+  pub few : suc (deepest fields) ≤ max_shape_levels
 
 -- What the maker of an enum asks of its names and levels: variants of different names, and few levels.
 pub record IsEnum (variants : Variants) : Type 0 where
@@ -109,7 +109,7 @@ abbrev mutual
   IsShape (tuple_structure name ps) = (is_utf8 name ≡ true) × (levels (tuple_structure name ps) ≤ max_shape_levels) × AreParts ps
   IsShape (newtype name f) = IsNewtype name f × IsShape f
   IsShape (unit_structure name) = is_utf8 name ≡ true
-  IsShape (structure name fs) = IsStruct name fs × AreShapes fs
+  IsShape (structure u name fs) = IsStruct name fs × AreShapes fs
   IsShape (enumeration vs) = IsEnum vs × AreVariants vs
 
   pub AreShapes : Fields → Type 0
@@ -169,12 +169,17 @@ made_tuple_structure name ps = within_levels (tuple_structure name ps)
 abbrev pub made_newtype : Utf8 → Form → Result Form ShapeError
 made_newtype name f = if is_reserved_newtype name then Err ReservedName else within_levels (newtype name f)
 
--- what the maker of a struct answers
-abbrev pub made_structure : Utf8 → Fields → Result Form ShapeError
-made_structure name fs =
+-- what the makers of structs answer
+abbrev pub made_structure : UnknownFields → Utf8 → Fields → Result Form ShapeError
+made_structure u name fs =
     if is_some (reserved_kind name) then Err ReservedName
     else (if repeats fs then Err RepeatedName
-    else within_levels (structure name fs))
+    else within_levels (structure u name fs))
+
+-- The levels of a struct that its makers make, or why they refuse it.
+abbrev pub StructLevels : Result ℕ ShapeError → Utf8 → Fields → Type 0
+StructLevels (Ok n) name fs = (n ≡ suc (deepest fs)) × IsStruct name fs × AreShapes fs
+StructLevels (Err e) name fs = (u : UnknownFields) → made_structure u name fs ≡ Err e
 
 -- what the maker of an enum answers
 abbrev pub made_enumeration : Variants → Result Form ShapeError
@@ -193,7 +198,7 @@ made_form (tuple ps) = made_tuple ps
 made_form (tuple_structure name ps) = made_tuple_structure name ps
 made_form (newtype name f) = made_newtype name f
 made_form (unit_structure name) = Ok (unit_structure name)
-made_form (structure name fs) = made_structure name fs
+made_form (structure u name fs) = made_structure u name fs
 made_form (enumeration vs) = made_enumeration vs
 
 -- What a maker that takes memory answers, where this is due: what is due, or that memory ran out where no refusal is due.

@@ -2,7 +2,7 @@
 use Rattle.std.specs.Prelude.{ℕ, Bool, false, ◌&&◌, ◌||◌, nat_le, ◌==◌, if◌then◌else◌, List, [], ◌∷◌, ◌++◌}
 use Rattle.std.specs.List.{list_all}
 use Rattle.bson_base.specs.Text.{Utf8}
-use Rattle.bson_shape.specs.Form.{Form, leaf, optional, lossy, human_readable, by_mode, sequence, map, tuple, tuple_structure, newtype, unit_structure, structure, enumeration, Fields, no_fields, field, Parts, no_parts, part, Variants, no_variants, variant, Content, unit_content, newtype_content, tuple_content, struct_content}
+use Rattle.bson_shape.specs.Form.{UnknownFields, dropped, denied, Form, leaf, optional, lossy, human_readable, by_mode, sequence, map, tuple, tuple_structure, newtype, unit_structure, structure, enumeration, Fields, no_fields, field, Parts, no_parts, part, Variants, no_variants, variant, Content, unit_content, newtype_content, tuple_content, struct_content}
 use Rattle.bson_shape.specs.Leaf.{word}
 
 -- `!`
@@ -136,13 +136,19 @@ in_parens texts = open_paren ∷ (listed texts ++ close_paren ∷ [])
 abbrev pub in_braces : List Utf8 → Utf8
 in_braces texts = open_brace ∷ (listed texts ++ close_brace ∷ [])
 
+-- before the fields of a struct: `{`, and `{!` where unknown ones are denied
+abbrev pub opening_struct : UnknownFields → Utf8
+opening_struct dropped = open_brace ∷ []
+opening_struct denied = open_brace ∷ exclamation ∷ []
+
 -- between angle brackets
 abbrev pub in_angles : List Utf8 → Utf8
 in_angles texts = open_angle ∷ (listed texts ++ close_angle ∷ [])
 
 abbrev mutual
   -- a leaf is its word, an option is `?s`, a lossy form is `~s`, a readable one is `^s`, one of two forms is `%(readable,compact)`, a sequence is `[s]`, a map is `[key:value]`, a tuple is `(s,s)`, a tuple struct is `NAME(s,s)`,
-  -- a newtype is `NAME=s`, a unit struct is `NAME!`, a struct is `NAME{f:s,g:s}`, an enum is `<A,N=s,T(s,s),S{f:s}>`
+  -- a newtype is `NAME=s`, a unit struct is `NAME!`, a struct is `NAME{f:s,g:s}`, and `NAME{!f:s,g:s}` where unknown fields are denied, an enum is
+  -- `<A,N=s,T(s,s),S{f:s}>`
   pub text : Form → Utf8
   text (leaf l) = word l
   text (optional f) = question ∷ text f
@@ -155,7 +161,7 @@ abbrev mutual
   text (tuple_structure name ps) = name_text name ++ in_parens (part_texts ps)
   text (newtype name f) = name_text name ++ equals ∷ text f
   text (unit_structure name) = name_text name ++ exclamation ∷ []
-  text (structure name fs) = struct_name_text name ++ in_braces (field_texts fs)
+  text (structure u name fs) = struct_name_text name ++ (opening_struct u ++ (listed (field_texts fs) ++ close_brace ∷ []))
   text (enumeration vs) = in_angles (variant_texts vs)
 
   pub field_texts : Fields → List Utf8

@@ -29,6 +29,7 @@ holder_view (holders.VariantOf e name) = machine.Variant_of (enum_view e) (strin
 
 abbrev pub group_view : Group → machine.Group
 group_view (groups.Braces holder fields) = machine.Braces (holder_view holder) (fields_of fields.items)
+group_view (groups.ClosedBraces place name fields) = machine.Closed_braces place (string_bytes name) (fields_of fields.items)
 group_view (groups.Parens holder parts) = machine.Parens (holder_view holder) (parts_of parts.items)
 group_view (groups.Angles e) = machine.Angles (enum_view e)
 

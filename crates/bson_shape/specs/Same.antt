@@ -2,8 +2,13 @@
 use Rattle.std.specs.Prelude.{Bool, true, false, ◌&&◌}
 use Rattle.std.specs.Str.{bytes_eq}
 use denote.Enum.Bare.{sameb}
-use Rattle.bson_shape.specs.Form.{Form, leaf, optional, lossy, human_readable, by_mode, sequence, map, tuple, tuple_structure, newtype, unit_structure, structure, enumeration, Fields, no_fields, field, Parts, no_parts, part, Variants, no_variants, variant, Content, unit_content, newtype_content, tuple_content, struct_content}
+use Rattle.bson_shape.specs.Form.{UnknownFields, dropped, denied, Form, leaf, optional, lossy, human_readable, by_mode, sequence, map, tuple, tuple_structure, newtype, unit_structure, structure, enumeration, Fields, no_fields, field, Parts, no_parts, part, Variants, no_variants, variant, Content, unit_content, newtype_content, tuple_content, struct_content}
 use Rattle.bson_shape.specs.contracts.leaf.Leaf as leaf_type
+
+abbrev pub same_unknown : UnknownFields → UnknownFields → Bool
+same_unknown dropped dropped = true
+same_unknown denied denied = true
+same_unknown u w = false
 
 abbrev mutual
   pub same : Form → Form → Bool
@@ -18,7 +23,7 @@ abbrev mutual
   same (tuple_structure name ps) (tuple_structure n qs) = bytes_eq name n && same_parts ps qs
   same (newtype name f) (newtype n g) = bytes_eq name n && same f g
   same (unit_structure name) (unit_structure n) = bytes_eq name n
-  same (structure name fs) (structure n gs) = bytes_eq name n && same_fields fs gs
+  same (structure u name fs) (structure w n gs) = same_unknown u w && (bytes_eq name n && same_fields fs gs)
   same (enumeration vs) (enumeration ws) = same_variants vs ws
   same f g = false
 

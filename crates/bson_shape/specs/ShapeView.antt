@@ -1,6 +1,6 @@
 -- The form of a shape, one level at a time, and its size. Source: serde's data model.
 use Rattle.std.specs.Prelude.{ℕ, ◌+◌, List, [], ◌∷◌, string_bytes}
-use Rattle.bson_shape.specs.Form.{Form, leaf, optional, lossy, human_readable, by_mode, sequence, map, tuple, tuple_structure, newtype, unit_structure, structure, enumeration, Fields, no_fields, field, Parts, no_parts, part, Variants, no_variants, variant, Content, unit_content, newtype_content, tuple_content, struct_content}
+use Rattle.bson_shape.specs.Form.{dropped, denied, Form, leaf, optional, lossy, human_readable, by_mode, sequence, map, tuple, tuple_structure, newtype, unit_structure, structure, enumeration, Fields, no_fields, field, Parts, no_parts, part, Variants, no_variants, variant, Content, unit_content, newtype_content, tuple_content, struct_content}
 use Rattle.bson_shape.specs.declared.shape.Node.{Node}
 use Rattle.bson_shape.specs.declared.shape.Node.TheVariants as node
 use Rattle.bson_shape.specs.declared.form.Form.{Form as BorrowedForm}
@@ -40,7 +40,8 @@ node_view (node.Tuple items) = tuple (parts_of items.items)
 node_view (node.TupleStruct name items) = tuple_structure (string_bytes name) (parts_of items.items)
 node_view (node.Newtype name inner) = newtype (string_bytes name) inner.value
 node_view (node.UnitStruct name) = unit_structure (string_bytes name)
-node_view (node.Struct name fs) = structure (string_bytes name) (fields_of fs.items)
+node_view (node.Struct name fs) = structure dropped (string_bytes name) (fields_of fs.items)
+node_view (node.ClosedStruct name fs) = structure denied (string_bytes name) (fields_of fs.items)
 node_view (node.Enum vs) = enumeration (variants_of vs.items)
 
 abbrev pub form_view : BorrowedForm → Form
@@ -55,7 +56,8 @@ form_view (forms.Tuple items) = tuple (parts_of items.now)
 form_view (forms.TupleStruct name items) = tuple_structure name.now (parts_of items.now)
 form_view (forms.Newtype name inner) = newtype name.now inner.now
 form_view (forms.UnitStruct name) = unit_structure name.now
-form_view (forms.Struct name fs) = structure name.now (fields_of fs.now)
+form_view (forms.Struct name fs) = structure dropped name.now (fields_of fs.now)
+form_view (forms.ClosedStruct name fs) = structure denied name.now (fields_of fs.now)
 form_view (forms.Enum vs) = enumeration (variants_of vs.now)
 
 abbrev mutual
@@ -72,7 +74,7 @@ abbrev mutual
   nodes (tuple_structure name ps) = parts_nodes ps + 1
   nodes (newtype name f) = nodes f + 1
   nodes (unit_structure name) = 1
-  nodes (structure name fs) = fields_nodes fs + 1
+  nodes (structure u name fs) = fields_nodes fs + 1
   nodes (enumeration vs) = variants_nodes vs + 1
 
   pub fields_nodes : Fields → ℕ

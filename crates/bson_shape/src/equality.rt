@@ -49,6 +49,9 @@ fn is_same(a: &Shape, b: &Shape) -> bool
         Form::Struct(name, fields) => {
             matches!(other, Form::Struct(n, f) if name == n && are_same(fields, f))
         }
+        Form::ClosedStruct(name, fields) => {
+            matches!(other, Form::ClosedStruct(n, f) if name == n && are_same(fields, f))
+        }
         Form::Enum(variants) => matches!(other, Form::Enum(v) if are_same_variants(variants, v)),
     }
 }

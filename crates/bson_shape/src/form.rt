@@ -27,6 +27,8 @@ pub enum Form<'a> {
     UnitStruct(&'a str),
     /// A struct: its name and its fields, in order.
     Struct(&'a str, &'a [FieldShape]),
+    /// A struct that denies unknown fields: its name and its fields, in order.
+    ClosedStruct(&'a str, &'a [FieldShape]),
     /// An enum: its variants, in order.
     Enum(&'a [VariantShape]),
 }

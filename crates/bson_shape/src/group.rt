@@ -1,6 +1,6 @@
 // Items between brackets, with commas between. Each kind of group is a row of each function here.
 ghost use Rattle.std.specs.Prelude.{◌≡◌, ℕ, List, IfOk, Result, string_bytes};
-ghost use Rattle.bson_shape.specs.Form.{Form, no_fields, push_field, no_parts, push_part};
+ghost use Rattle.bson_shape.specs.Form.{dropped, denied, Form, no_fields, push_field, no_parts, push_part};
 ghost use Rattle.bson_shape.specs.Machine as machine;
 ghost use Rattle.bson_shape.specs.Makers.{made_structure, Makes};
 ghost use Rattle.bson_shape.specs.ParserView.{enum_view, holder_view, group_view, mode_view, levels_view, Reaches};
@@ -36,6 +36,8 @@ pub(crate) enum Holder {
 pub(crate) enum Group {
     /// Fields between braces.
     Braces(Holder, Vec<FieldShape>),
+    /// The same, of a struct that denies unknown ones: a form that begins at this place, and its name, which may be empty.
+    ClosedBraces(usize, String, Vec<FieldShape>),
     /// Parts between parentheses.
     Parens(Holder, Vec<Shape>),
     /// Variants between angle brackets.
@@ -47,6 +49,29 @@ pub(crate) fn opened_braces(alloc: Global, holder: Holder) -> Mode
     ensures { mode_view result ≡ machine.Item_due (machine.Braces (holder_view holder) no_fields) }
 {
     Mode::ItemDue(Group::Braces(holder, Vec::new(alloc)))
+}
+
+/// The braces of a struct that denies unknown fields, without a field yet. It begins at the place and has this name.
+fn opened_closed_braces(alloc: Global, place: usize, name: String) -> Mode
+    ensures { mode_view result ≡ machine.Item_due (machine.Closed_braces place (string_bytes name) no_fields) }
+{
+    Mode::ItemDue(Group::ClosedBraces(place, name, Vec::new(alloc)))
+}
+
+/// Behind `{!`: the braces of a struct that denies unknown fields, without a field yet; a variant has none.
+pub(crate) fn struct_marked(
+    alloc: Global,
+    holder: Holder,
+    levels: &Vec<Level>,
+    at: usize,
+) -> Result<Mode, ParseError>
+    ensures { Reaches result levels.now.items (machine.struct_marked at (holder_view holder) (levels_view levels.now.items)) }
+{
+    match holder {
+        Holder::NamelessAt(place) => Ok(opened_closed_braces(alloc, place, String::new(alloc))),
+        Holder::NamedAt(place, name) => Ok(opened_closed_braces(alloc, place, name)),
+        Holder::VariantOf(_, _) => Err(ParseError::NotNotation(at)),
+    }
 }
 
 /// Parentheses without a part yet.
@@ -105,6 +130,9 @@ pub(crate) fn grown(group: Group, name: String, shape: Shape) -> Result<Group, A
 {
     Ok(match group {
         Group::Braces(holder, fields) => Group::Braces(holder, with_field(fields, name, shape)?),
+        Group::ClosedBraces(place, struct_name, fields) => {
+            Group::ClosedBraces(place, struct_name, with_field(fields, name, shape)?)
+        }
         Group::Parens(holder, parts) => Group::Parens(holder, with_part(parts, shape)?),
         Group::Angles(opened) => {
             let content = VariantContent::Newtype(shape);
@@ -119,7 +147,7 @@ pub(crate) fn is_empty(group: &Group) -> bool
     ensures { result ≡ machine.is_empty (group_view group.now) }
 {
     match group {
-        Group::Braces(_, fields) => fields.is_empty(),
+        Group::Braces(_, fields) | Group::ClosedBraces(_, _, fields) => fields.is_empty(),
         Group::Parens(_, parts) => parts.is_empty(),
         Group::Angles(opened) => opened.variants.is_empty(),
     }
@@ -130,7 +158,7 @@ pub(crate) fn closing(group: &Group) -> u8
     ensures { result ≡ machine.closing (group_view group.now) }
 {
     match group {
-        Group::Braces(_, _) => b'}',
+        Group::Braces(_, _) | Group::ClosedBraces(_, _, _) => b'}',
         Group::Parens(_, _) => b')',
         Group::Angles(_) => b'>',
     }
@@ -159,9 +187,20 @@ fn variant_closed(
 
 /// The closing brace of a struct that begins at the place.
 fn struct_closed(place: usize, name: String, fields: Vec<FieldShape>) -> Result<Mode, ParseError>
-    ensures { (at : ℕ) → (st : List machine.Level) → Gives (λ m. (mode_view m, st)) result (machine.form_closed at place st (made_structure (string_bytes name) (fields_of fields.items))) }
+    ensures { (at : ℕ) → (st : List machine.Level) → Gives (λ m. (mode_view m, st)) result (machine.form_closed at place st (made_structure dropped (string_bytes name) (fields_of fields.items))) }
 {
     form_closed(place, Shape::structure(name, fields))
+}
+
+/// The closing brace of a struct that begins at the place and denies unknown fields.
+fn closed_struct_closed(
+    place: usize,
+    name: String,
+    fields: Vec<FieldShape>,
+) -> Result<Mode, ParseError>
+    ensures { (at : ℕ) → (st : List machine.Level) → Gives (λ m. (mode_view m, st)) result (machine.form_closed at place st (made_structure denied (string_bytes name) (fields_of fields.items))) }
+{
+    form_closed(place, Shape::closed_structure(name, fields))
 }
 
 /// A closing brace.
@@ -216,6 +255,7 @@ pub(crate) fn group_closed(
 {
     match group {
         Group::Braces(holder, fields) => braces_closed(alloc, holder, fields, levels, at),
+        Group::ClosedBraces(place, name, fields) => closed_struct_closed(place, name, fields),
         Group::Parens(holder, parts) => parens_closed(holder, parts, levels, at),
         Group::Angles(OpenEnum { place, variants }) => {
             form_closed(place, Shape::enumeration(variants))

@@ -2,18 +2,19 @@
 ghost use Rattle.std.specs.Prelude.{◌≡◌, ◌<◌, ◌∷◌, ◌++◌, [], IfOk, OnOk, string_bytes, encode_utf8};
 ghost use Rattle.bson_shape.specs.Notation.{names_form};
 ghost use Rattle.bson_shape.specs.Machine as machine;
-ghost use Rattle.bson_shape.specs.ParserView.{enum_view, group_view, owner_view, mode_view, levels_view, Reaches};
+ghost use Rattle.bson_shape.specs.ShapeView.{fields_of};
+ghost use Rattle.bson_shape.specs.ParserView.{enum_view, holder_view, group_view, owner_view, mode_view, levels_view, Reaches};
 ghost use Rattle.bson_shape.specs.Answers.{Gives};
 
 use crate::ends::{form_ended, last, no_more};
 use crate::group::{
     Group, Holder, OpenEnum, closing, group_closed, grown_enum, is_empty, item_ended,
-    opened_angles, opened_braces, opened_parens,
+    opened_angles, opened_braces, opened_parens, struct_marked,
 };
 use crate::levels::{Level, Prefix};
 use crate::mode::{Mode, Owner};
 use crate::name::{begins_bare, in_bare, is_bare};
-use crate::{Leaf, ParseError, Shape, ShapeError, VariantContent};
+use crate::{FieldShape, Leaf, ParseError, Shape, ShapeError, VariantContent};
 use std::alloc::{AllocError, Global};
 
 /// The most forms that may be around a form.
@@ -132,6 +133,25 @@ fn name_due(
     Err(ParseError::NotNotation(at))
 }
 
+/// Where a field is due; a struct that has none yet may deny unknown ones.
+#[tactic(auto, unfolding(crate::specs::Machine::field_due), using(crate::proofs::Groups::fields_none))]
+fn field_due(
+    alloc: Global,
+    holder: Holder,
+    fields: Vec<FieldShape>,
+    levels: &Vec<Level>,
+    at: usize,
+    b: u8,
+) -> Result<Mode, ParseError>
+    requires { b < 128 }
+    ensures { Reaches result levels.now.items (machine.field_due at (holder_view holder) (fields_of fields.items) (levels_view levels.now.items) b) }
+{
+    if b == b'!' && fields.is_empty() {
+        return struct_marked(alloc, holder, levels, at);
+    }
+    name_due(alloc, Group::Braces(holder, fields), levels, at, b)
+}
+
 /// Where an item is due.
 #[tactic(auto, unfolding(crate::specs::Machine::item_begun))]
 fn item_begun(
@@ -149,8 +169,10 @@ fn item_begun(
             levels.push(Level::InItem(Group::Parens(holder, parts), String::new(alloc)))?;
             form_due(alloc, levels, at, b)
         }
-        Group::Braces(holder, fields) => {
-            name_due(alloc, Group::Braces(holder, fields), levels, at, b)
+        Group::Braces(holder, fields) => field_due(alloc, holder, fields, levels, at, b),
+        Group::ClosedBraces(place, name, fields) => {
+            let group = Group::ClosedBraces(place, name, fields);
+            name_due(alloc, group, levels, at, b)
         }
         Group::Angles(opened) => name_due(alloc, Group::Angles(opened), levels, at, b),
     }
@@ -222,6 +244,23 @@ fn variant_named(
     }
 }
 
+/// Behind the name of a field.
+fn field_named(
+    group: Group,
+    name: String,
+    levels: &mut Vec<Level>,
+    at: usize,
+    b: u8,
+) -> Result<Mode, ParseError>
+    ensures { Reaches result levels.new.items (machine.field_named at (group_view group) (string_bytes name) (levels_view levels.old.items) b) }
+{
+    if b != b':' {
+        return Err(ParseError::NotNotation(at));
+    }
+    levels.push(Level::InItem(group, name))?;
+    Ok(Mode::FormDue)
+}
+
 /// Behind the name of an item; a part has none.
 fn item_named(
     alloc: Global,
@@ -235,11 +274,11 @@ fn item_named(
 {
     match group {
         Group::Braces(holder, fields) => {
-            if b == b':' {
-                levels.push(Level::InItem(Group::Braces(holder, fields), name))?;
-                return Ok(Mode::FormDue);
-            }
-            Err(ParseError::NotNotation(at))
+            field_named(Group::Braces(holder, fields), name, levels, at, b)
+        }
+        Group::ClosedBraces(place, struct_name, fields) => {
+            let group = Group::ClosedBraces(place, struct_name, fields);
+            field_named(group, name, levels, at, b)
         }
         Group::Parens(_, _) => Err(ParseError::NotNotation(at)),
         Group::Angles(opened) => variant_named(alloc, opened, name, levels, at, b),

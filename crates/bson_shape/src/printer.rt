@@ -127,7 +127,11 @@ fn put(out: &mut String, shape: &Shape) -> Result<(), AllocError>
         }
         Form::Struct(name, fields) => {
             put_struct_name(out, name)?;
-            put_fields(out, fields)
+            put_fields(out, "{", fields)
+        }
+        Form::ClosedStruct(name, fields) => {
+            put_struct_name(out, name)?;
+            put_fields(out, "{!", fields)
         }
         Form::Enum(variants) => put_variants(out, variants),
     }
@@ -160,12 +164,12 @@ fn put_forms(out: &mut String, readable: &Shape, compact: &Shape) -> Result<(), 
     Ok(())
 }
 
-/// Appends fields between braces.
+/// Appends fields between what opens the braces and what closes them.
 #[cycle(put)]
-fn put_fields(out: &mut String, fields: &[FieldShape]) -> Result<(), AllocError>
-    ensures { OnOk result (string_bytes out.new ≡ string_bytes out.old ++ notation.in_braces (notation.field_texts (fields_of fields.now))) }
+fn put_fields(out: &mut String, opening: &str, fields: &[FieldShape]) -> Result<(), AllocError>
+    ensures { OnOk result (string_bytes out.new ≡ string_bytes out.old ++ (opening.now ++ (notation.listed (notation.field_texts (fields_of fields.now)) ++ notation.close_brace ∷ []))) }
 {
-    out.push('{')?;
+    out.push_str(opening)?;
     for (i, field) in fields.iter().enumerate() {
         put_field_name(out, i, field.name.as_str())?;
         put(out, &field.shape)?;
@@ -214,7 +218,7 @@ fn put_content(out: &mut String, content: &VariantContent) -> Result<(), AllocEr
             put(out, shape)
         }
         VariantContent::Tuple(parts) => put_parts(out, parts),
-        VariantContent::Struct(fields) => put_fields(out, fields),
+        VariantContent::Struct(fields) => put_fields(out, "{", fields),
     }
 }
 

@@ -1,7 +1,7 @@
 ghost use Rattle.std.specs.Prelude.{◌≡◌, ◌≤◌, false, string_bytes};
 ghost use Rattle.bson_shape.specs.Form as form;
 ghost use Rattle.bson_shape.specs.Levels.{levels, deepest, deepest_part, deepest_variant, deepest_inside, max_shape_levels};
-ghost use Rattle.bson_shape.specs.Makers.{IsShape, AreShapes, AreParts, AreVariants, IsContent, Makes, is_text_key, is_unit, are_units, contents_repeat, content_repeats, made_optional, made_lossy, made_human_readable, made_by_mode, made_sequence, made_map, made_tuple, made_tuple_structure, made_newtype, made_structure, made_enumeration};
+ghost use Rattle.bson_shape.specs.Makers.{IsShape, AreShapes, AreParts, AreVariants, IsContent, StructLevels, Makes, is_text_key, is_unit, are_units, contents_repeat, content_repeats, made_optional, made_lossy, made_human_readable, made_by_mode, made_sequence, made_map, made_tuple, made_tuple_structure, made_newtype, made_structure, made_enumeration};
 ghost use Rattle.bson_shape.specs.ShapeView.{fields_of, parts_of, variants_of, content_of, form_view};
 
 use crate::distinct::{has_repeated_field, has_repeated_variant};
@@ -40,6 +40,7 @@ enum Node {
     Newtype(String, Box<Shape>),
     UnitStruct(String),
     Struct(String, Vec<FieldShape>),
+    ClosedStruct(String, Vec<FieldShape>),
     Enum(Vec<VariantShape>),
 }
 
@@ -523,21 +524,27 @@ impl Shape {
     /// The first of these that applies: `ReservedName` where the name is one of the thirteen reserved names, `RepeatedName` where two fields have one
     /// name, `TooDeep` where the struct would have more than 512 levels.
     pub fn structure(name: String, fields: Vec<FieldShape>) -> Result<Shape, ShapeError>
-        ensures made { result ≡ made_structure (string_bytes name) (fields_of fields.items) }
+        ensures made { result ≡ made_structure form.dropped (string_bytes name) (fields_of fields.items) }
     {
-        if reserved_kind(name.as_str()).is_some() {
-            return Err(ShapeError::ReservedName);
-        }
-        if has_repeated_field(&fields) {
-            return Err(ShapeError::RepeatedName);
-        }
-        let levels = deepest(&fields);
-        if levels >= MAX_LEVELS {
-            return Err(ShapeError::TooDeep);
-        }
+        let level_count = struct_levels(&name, &fields)?;
         Ok(Shape {
-            level_count: levels + 1,
+            level_count,
             node: Node::Struct(name, fields),
+        })
+    }
+
+    /// A struct of this name, with these fields in this order, that denies unknown fields.
+    ///
+    /// # Errors
+    ///
+    /// Those of [`Shape::structure`], under the same conditions.
+    pub fn closed_structure(name: String, fields: Vec<FieldShape>) -> Result<Shape, ShapeError>
+        ensures made { result ≡ made_structure form.denied (string_bytes name) (fields_of fields.items) }
+    {
+        let level_count = struct_levels(&name, &fields)?;
+        Ok(Shape {
+            level_count,
+            node: Node::ClosedStruct(name, fields),
         })
     }
 
@@ -580,6 +587,9 @@ impl Shape {
             Node::Newtype(name, inner) => Form::Newtype(name.as_str(), inner),
             Node::UnitStruct(name) => Form::UnitStruct(name.as_str()),
             Node::Struct(name, fields) => Form::Struct(name.as_str(), fields.as_slice()),
+            Node::ClosedStruct(name, fields) => {
+                Form::ClosedStruct(name.as_str(), fields.as_slice())
+            }
             Node::Enum(variants) => Form::Enum(variants.as_slice()),
         }
     }
@@ -629,6 +639,23 @@ fn is_unit(content: &VariantContent) -> bool
     ensures { result ≡ is_unit (content_of content.now) }
 {
     matches!(content, VariantContent::Unit)
+}
+
+/// The levels of a struct of this name with these fields, or why there is none.
+fn struct_levels(name: &String, fields: &Vec<FieldShape>) -> Result<u16, ShapeError>
+    ensures { StructLevels result (string_bytes name.now) (fields_of fields.now.items) }
+{
+    if reserved_kind(name.as_str()).is_some() {
+        return Err(ShapeError::ReservedName);
+    }
+    if has_repeated_field(fields) {
+        return Err(ShapeError::RepeatedName);
+    }
+    let levels = deepest(fields);
+    if levels >= MAX_LEVELS {
+        return Err(ShapeError::TooDeep);
+    }
+    Ok(levels + 1)
 }
 
 /// The levels of the deepest of the parts, 0 where there is none.

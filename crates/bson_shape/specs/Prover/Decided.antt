@@ -8,12 +8,21 @@ use Rattle.std.proofs.lemmas.Bool.{and_parts, and_from, false≢true}
 use Rattle.std.proofs.lemmas.Slice.Eq.{bytes_eq-Decides}
 use denote.Enum.Bare.{same_true, true_same}
 use Rattle.bson_base.specs.Text.{Utf8}
-use Rattle.bson_shape.specs.Form.{Form, leaf, optional, lossy, human_readable, by_mode, sequence, map, tuple, tuple_structure, newtype, unit_structure, structure, enumeration, Fields, no_fields, field, Parts, no_parts, part, Variants, no_variants, variant, Content, unit_content, newtype_content, tuple_content, struct_content}
-use Rattle.bson_shape.specs.Same.{same, same_fields, same_parts, same_variants, same_content}
+use Rattle.bson_shape.specs.Form.{UnknownFields, dropped, denied, Form, leaf, optional, lossy, human_readable, by_mode, sequence, map, tuple, tuple_structure, newtype, unit_structure, structure, enumeration, Fields, no_fields, field, Parts, no_parts, part, Variants, no_variants, variant, Content, unit_content, newtype_content, tuple_content, struct_content}
+use Rattle.bson_shape.specs.Same.{same_unknown, same, same_fields, same_parts, same_variants, same_content}
 use Rattle.bson_shape.specs.contracts.leaf.Leaf as leaf_type
 
 bytes_alike : (name : Utf8) → bytes_eq name name ≡ true
 bytes_alike name = (bytes_eq-Decides name name).1 refl
+
+unknown_is : (u w : UnknownFields) → same_unknown u w ≡ true → u ≡ w
+unknown_is dropped dropped e = refl
+unknown_is denied denied e = refl
+unknown_is u w e = absurd (false≢true e)
+
+unknown_alike : (u : UnknownFields) → same_unknown u u ≡ true
+unknown_alike dropped = refl
+unknown_alike denied = refl
 
 mutual
   same_is : (f g : Form) → same f g ≡ true → f ≡ g
@@ -34,9 +43,10 @@ mutual
       let b = and_parts (bytes_eq name n) (same f g) e in
       λ i. newtype ((bytes_eq-Decides name n).0 b.0 i) (same_is f g b.1 i)
   same_is (unit_structure name) (unit_structure n) e = ap unit_structure ((bytes_eq-Decides name n).0 e)
-  same_is (structure name fs) (structure n gs) e =
-      let b = and_parts (bytes_eq name n) (same_fields fs gs) e in
-      λ i. structure ((bytes_eq-Decides name n).0 b.0 i) (fields_are fs gs b.1 i)
+  same_is (structure u name fs) (structure w n gs) e =
+      let a = and_parts (same_unknown u w) (bytes_eq name n && same_fields fs gs) e in
+      let b = and_parts (bytes_eq name n) (same_fields fs gs) a.1 in
+      λ i. structure (unknown_is u w a.0 i) ((bytes_eq-Decides name n).0 b.0 i) (fields_are fs gs b.1 i)
   same_is (enumeration vs) (enumeration ws) e = ap enumeration (variants_are vs ws e)
   same_is f g e = absurd (false≢true e)
 
@@ -83,7 +93,7 @@ mutual
   same_itself (tuple_structure name ps) = and_from _ _ (bytes_alike name) (parts_alike ps)
   same_itself (newtype name f) = and_from _ _ (bytes_alike name) (same_itself f)
   same_itself (unit_structure name) = bytes_alike name
-  same_itself (structure name fs) = and_from _ _ (bytes_alike name) (fields_alike fs)
+  same_itself (structure u name fs) = and_from _ _ (unknown_alike u) (and_from _ _ (bytes_alike name) (fields_alike fs))
   same_itself (enumeration vs) = variants_alike vs
 
   fields_alike : (fs : Fields) → same_fields fs fs ≡ true

@@ -43,4 +43,5 @@ falls (node.TupleStruct name items) = omega (arith, parts_fall items.items)
 falls (node.Newtype name inner) = omega arith
 falls (node.UnitStruct name) = omega arith
 falls (node.Struct name fs) = omega (arith, most_falls fs.items)
+falls (node.ClosedStruct name fs) = omega (arith, most_falls fs.items)
 falls (node.Enum vs) = omega (arith, variants_fall vs.items)

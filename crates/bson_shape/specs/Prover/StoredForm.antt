@@ -5,11 +5,15 @@ use Rattle.std.proofs.Common.{ap, arith}
 use base.Stored.{Gv, gnil, gnum, gcons}
 use Rattle.bson_base.specs.Prover.Stored.{head, tail, num}
 use Rattle.bson_base.specs.Text.{Utf8}
-use Rattle.bson_shape.specs.Form.{Form, leaf, optional, lossy, human_readable, by_mode, sequence, map, tuple, tuple_structure, newtype, unit_structure, structure, enumeration, Fields, no_fields, field, Parts, no_parts, part, Variants, no_variants, variant, Content, unit_content, newtype_content, tuple_content, struct_content}
+use Rattle.bson_shape.specs.Form.{UnknownFields, dropped, denied, Form, leaf, optional, lossy, human_readable, by_mode, sequence, map, tuple, tuple_structure, newtype, unit_structure, structure, enumeration, Fields, no_fields, field, Parts, no_parts, part, Variants, no_variants, variant, Content, unit_content, newtype_content, tuple_content, struct_content}
 use Rattle.bson_shape.specs.contracts.leaf.Leaf as leaf_type
 
 abbrev text_coded : Coded Utf8
 text_coded = coded_list coded_ℕ
+
+abbrev unknown_code : UnknownFields → Gv
+unknown_code dropped = gnum 0
+unknown_code denied = gnum 1
 
 abbrev mutual
   pub form_code : Form → Gv
@@ -25,7 +29,7 @@ abbrev mutual
   form_code (tuple ps) = gcons (gnum 7) (parts_code ps)
   form_code (tuple_structure n ps) = gcons (gnum 8) (gcons (text_coded.code n) (parts_code ps))
   form_code (enumeration vs) = gcons (gnum 9) (variants_code vs)
-  form_code (structure n fs) = gcons (gnum 1) (gcons (text_coded.code n) (fields_code fs))
+  form_code (structure u n fs) = gcons (gnum 1) (gcons (unknown_code u) (gcons (text_coded.code n) (fields_code fs)))
 
   pub fields_code : Fields → Gv
   fields_code no_fields = gcons (gnum 0) gnil
@@ -45,6 +49,11 @@ abbrev mutual
   content_code (tuple_content ps) = gcons (gnum 2) (parts_code ps)
   content_code (struct_content fs) = gcons (gnum 3) (fields_code fs)
 
+unknown_inj : (u w : UnknownFields) → unknown_code u ≡ unknown_code w → u ≡ w
+unknown_inj dropped dropped p = refl
+unknown_inj denied denied p = refl
+unknown_inj u w p = absurd (omega (arith, ap (λ g. num g) p))
+
 mutual
   pub form_inj : (x y : Form) → form_code x ≡ form_code y → x ≡ y
   form_inj (leaf l) (leaf m) p = ap leaf (leaf_type.the_row.coded.inj l m (ap (λ g. tail g) p))
@@ -59,7 +68,7 @@ mutual
   form_inj (tuple ps) (tuple qs) p = ap tuple (parts_inj ps qs (ap (λ g. tail g) p))
   form_inj (tuple_structure n ps) (tuple_structure m qs) p = λ i. tuple_structure (text_coded.inj n m (ap (λ g. head (tail g)) p) i) (parts_inj ps qs (ap (λ g. tail (tail g)) p) i)
   form_inj (enumeration vs) (enumeration ws) p = ap enumeration (variants_inj vs ws (ap (λ g. tail g) p))
-  form_inj (structure n fs) (structure m gs) p = λ i. structure (text_coded.inj n m (ap (λ g. head (tail g)) p) i) (fields_inj fs gs (ap (λ g. tail (tail g)) p) i)
+  form_inj (structure u n fs) (structure w m gs) p = λ i. structure (unknown_inj u w (ap (λ g. head (tail g)) p) i) (text_coded.inj n m (ap (λ g. head (tail (tail g))) p) i) (fields_inj fs gs (ap (λ g. tail (tail (tail g))) p) i)
   form_inj x y p = absurd (omega (arith, ap (λ g. num (head g)) p))
 
   pub fields_inj : (x y : Fields) → fields_code x ≡ fields_code y → x ≡ y

@@ -1,4 +1,5 @@
 use Rattle.std.proofs.Common.{sym, subst, string_bytes}
+use Rattle.bson_shape.specs.Form.{dropped}
 use Rattle.bson_shape.specs.Makers.{Makes, made_structure}
 use Rattle.bson_shape.specs.ShapeView.{fields_of}
 use Rattle.bson_shape.proofs.Made.{made_structure-makes}
@@ -8,5 +9,5 @@ pub returns : goal.returns
 returns c =
     let name = string_bytes c.args.name in
     let fields = fields_of c.args.fields.items in
-    let due = made_structure name fields in
-    λ at st. c.form_closed.ensures at st due (subst (λ r. Makes r due) (sym c.structure.ensures.made) (made_structure-makes name fields))
+    let due = made_structure dropped name fields in
+    λ at st. c.form_closed.ensures at st due (subst (λ r. Makes r due) (sym c.structure.ensures.made) (made_structure-makes dropped name fields))

@@ -14,7 +14,7 @@ put_fields-put-requires t c =
     let xs = c.args.fields.now in
     let x = c.index-fields-i.result in
     let smaller : nodes x.shape < fields_nodes (fields_of xs) = subst (λ (g : FieldShape). nodes g.shape < fields_nodes (fields_of xs)) (sym c.index-fields-i.is) (field_smaller xs c.loop-i.i x c.loop-i-test.true) in
-    (omega (arith, smaller, c.decreases), tt)
+    (omega (arith, smaller, c.requires.1), tt)
 
 pub put_fields-loop-i-preserved : goal.put_fields-loop-i-preserved
 put_fields-loop-i-preserved t c =
@@ -26,9 +26,10 @@ pub put_fields-returns : goal.put_fields-returns
 put_fields-returns t c =
     let xs = c.args.fields.now in
     let old = string_bytes c.args.out.now in
-    all_printed field_shown xs c.loop-i.i old _ (string_bytes c.loop-i.out) _ 123 125 c.loop-i-test.false
-    (c.in_ok-push.ensures.bytes ∙ ap (λ ys. old ++ ys) (c.in_ok-push.ensures.ascii (omega arith))) c.loop-i.invariant (c.in_ok-push-2.ensures.bytes ∙ ap (λ ys. string_bytes c.loop-i.out ++ ys) (c.in_ok-push-2.ensures.ascii (omega arith)))
-    ∙ ap (λ ys. old ++ 123 ∷ (listed ys ++ 125 ∷ [])) (fields_shown xs)
+    let opening = c.args.opening.now in
+    all_printed field_shown xs c.loop-i.i old opening _ (string_bytes c.loop-i.out) _ 125 c.loop-i-test.false
+    c.in_ok-push_str.ensures.bytes c.loop-i.invariant (c.in_ok-push.ensures.bytes ∙ ap (λ ys. string_bytes c.loop-i.out ++ ys) (c.in_ok-push.ensures.ascii (omega arith)))
+    ∙ ap (λ ys. old ++ (opening ++ (listed ys ++ 125 ∷ []))) (fields_shown xs)
 
 pub put_parts-put-requires : goal.put_parts-put-requires
 put_parts-put-requires t c =
@@ -47,7 +48,7 @@ pub put_parts-returns : goal.put_parts-returns
 put_parts-returns t c =
     let xs = c.args.parts.now in
     let old = string_bytes c.args.out.now in
-    all_printed text xs c.loop-i.i old _ (string_bytes c.loop-i.out) _ 40 41 c.loop-i-test.false
+    all_printed text xs c.loop-i.i old (40 ∷ []) _ (string_bytes c.loop-i.out) _ 41 c.loop-i-test.false
     (c.in_ok-push.ensures.bytes ∙ ap (λ ys. old ++ ys) (c.in_ok-push.ensures.ascii (omega arith))) c.loop-i.invariant (c.in_ok-push-2.ensures.bytes ∙ ap (λ ys. string_bytes c.loop-i.out ++ ys) (c.in_ok-push-2.ensures.ascii (omega arith)))
     ∙ ap (λ ys. old ++ 40 ∷ (listed ys ++ 41 ∷ [])) (parts_shown xs)
 
@@ -68,6 +69,6 @@ pub put_variants-returns : goal.put_variants-returns
 put_variants-returns t c =
     let xs = c.args.variants.now in
     let old = string_bytes c.args.out.now in
-    all_printed variant_shown xs c.loop-i.i old _ (string_bytes c.loop-i.out) _ 60 62 c.loop-i-test.false
+    all_printed variant_shown xs c.loop-i.i old (60 ∷ []) _ (string_bytes c.loop-i.out) _ 62 c.loop-i-test.false
     (c.in_ok-push.ensures.bytes ∙ ap (λ ys. old ++ ys) (c.in_ok-push.ensures.ascii (omega arith))) c.loop-i.invariant (c.in_ok-push-2.ensures.bytes ∙ ap (λ ys. string_bytes c.loop-i.out ++ ys) (c.in_ok-push-2.ensures.ascii (omega arith)))
     ∙ ap (λ ys. old ++ 60 ∷ (listed ys ++ 62 ∷ [])) (variants_shown xs)
