@@ -28,7 +28,7 @@ pub data Cause : Type 0 where
   duplicate_field : Utf8 → Cause
   -- the enum has no variant of this name
   unknown_variant : Utf8 → Cause
-  -- a key other than `$scope` after `$code`, or other than `$code` after `$scope`
+  -- a key that is no field of a struct which denies unknown ones; or a key other than `$scope` after `$code`, or other than `$code` after `$scope`
   unknown_field : Utf8 → Cause
   -- the value of this wrapper key is not valid, or, at `oid` and `uuid`, a text that is no ObjectId or UUID
   bad_body : Wrapper → Cause
@@ -52,3 +52,23 @@ pub data Cause : Type 0 where
   bad_step : Cause
   -- the document would have more bytes than a document may
   too_long : Cause
+  -- the value is made into one of this kind, which is no document
+  not_document : ElementType → Cause
+  -- a call of the writer was refused before
+  failed : Cause
+  -- the first four bytes announce less than the five of the smallest document
+  too_small : Cause
+  -- a value that no value of the type is written as
+  not_fitting : Cause
+  -- a number that no signed number of 32 bits is
+  not_i32 : ℕ → Cause
+  -- a number that no signed number of 64 bits is
+  not_i64 : ℕ → Cause
+  -- a timestamp whose increment is not zero
+  increment : Cause
+  -- a text that is no date
+  not_date : Utf8 → Cause
+  -- a text that is no ObjectId
+  not_object_id : Utf8 → Cause
+  -- a time, in milliseconds since the start of 1970, outside the years that have a text
+  no_rfc3339 : ℤ → Cause

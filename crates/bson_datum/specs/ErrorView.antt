@@ -2,10 +2,10 @@
 use Rattle.std.specs.Prelude.{pos, string_bytes}
 use Rattle.bson_base.specs.BsonView.{tree_of}
 use Rattle.bson_datum.specs.Cause as cause
-use Rattle.bson_datum.specs.Refusal.{ReadFault, end_of_stream, unreadable, WriteFault, unwritable, invalid_document_key, invalid_cstring, unsigned_exceeds, Failure, no_memory, bare, placed}
+use Rattle.bson_datum.specs.Refusal.{ReadFault, io, end_of_stream, unreadable, WriteFault, unwritable, invalid_document_key, invalid_cstring, unsigned_exceeds, Failure, no_memory, bare, placed}
 use Rattle.bson_datum.specs.PathView.{path_view}
 use Rattle.bson_datum.specs.declared.cause.Cause.{Cause}
-use Rattle.bson_datum.specs.declared.cause.Cause.TheVariants.{Raw, TooDeep, InvalidType, OutOfRange, NotOneChar, NotUtf8, NotBorrowed, InvalidLength, MissingField, DuplicateField, UnknownVariant, UnknownField, BadBody, WrongKind, Subtype, ContentsWanted, UnitInDocument, ZeroByte, TopLevel, BinaryTooLong, BadUuid, BadStep, TooLong}
+use Rattle.bson_datum.specs.declared.cause.Cause.TheVariants.{Raw, TooDeep, InvalidType, OutOfRange, NotOneChar, NotUtf8, NotBorrowed, InvalidLength, MissingField, DuplicateField, UnknownVariant, UnknownField, BadBody, WrongKind, Subtype, ContentsWanted, UnitInDocument, ZeroByte, TopLevel, BinaryTooLong, BadUuid, BadStep, TooLong, NotDocument, Failed, TooSmall, NotFitting, NotI32, NotI64, Increment, NotDate, NotObjectId, NoRfc3339}
 use Rattle.bson_datum.specs.declared.de.Fault as de_fault
 use Rattle.bson_datum.specs.declared.de.Fault.TheVariants as de_faults
 use Rattle.bson_datum.specs.declared.ser.Fault as ser_fault
@@ -37,6 +37,16 @@ cause_view (BinaryTooLong n) = cause.binary_too_long n
 cause_view BadUuid = cause.bad_uuid
 cause_view BadStep = cause.bad_step
 cause_view TooLong = cause.too_long
+cause_view (NotDocument k) = cause.not_document k
+cause_view Failed = cause.failed
+cause_view TooSmall = cause.too_small
+cause_view NotFitting = cause.not_fitting
+cause_view (NotI32 n) = cause.not_i32 n
+cause_view (NotI64 n) = cause.not_i64 n
+cause_view Increment = cause.increment
+cause_view (NotDate t) = cause.not_date (string_bytes t)
+cause_view (NotObjectId t) = cause.not_object_id (string_bytes t)
+cause_view (NoRfc3339 n) = cause.no_rfc3339 n
 
 -- the fault that a value is refused for in reading
 abbrev pub read_fault : de_fault.Fault → ReadFault
@@ -52,6 +62,7 @@ write_fault (ser_faults.Cause c) = unwritable (cause_view c)
 
 -- the failure that a reader's error is
 abbrev pub read_failure : de.Error → Failure ReadFault
+read_failure de.Io = bare io
 read_failure de.EndOfStream = bare end_of_stream
 read_failure (de.DeserializationError c) = bare (unreadable (cause_view c))
 read_failure (de.WithPath' path p source) = placed (path_view path) (read_failure source)

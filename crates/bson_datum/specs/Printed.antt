@@ -5,11 +5,11 @@ use Rattle.bson_base.specs.Text.{Utf8}
 use Rattle.bson_base.specs.Kind.{name}
 use Rattle.bson_base.specs.Tree.{kind}
 use Rattle.bson_rawdoc.specs.Printed.{printed_fault}
-use Rattle.bson_datum.specs.Cause.{Cause, raw, too_deep, invalid_type, out_of_range, not_one_char, not_utf8, not_borrowed, invalid_length, missing_field, duplicate_field, unknown_variant, unknown_field, bad_body, wrong_kind, subtype, contents_wanted, unit_in_document, zero_byte, top_level, binary_too_long, bad_uuid, bad_step, too_long}
+use Rattle.bson_datum.specs.Cause.{Cause, raw, too_deep, invalid_type, out_of_range, not_one_char, not_utf8, not_borrowed, invalid_length, missing_field, duplicate_field, unknown_variant, unknown_field, bad_body, wrong_kind, subtype, contents_wanted, unit_in_document, zero_byte, top_level, binary_too_long, bad_uuid, bad_step, too_long, not_document, failed, too_small, not_fitting, not_i32, not_i64, increment, not_date, not_object_id, no_rfc3339}
 use Rattle.bson_datum.specs.Wrapper.{key}
 use Rattle.bson_datum.specs.declared.wrapper.Wrapper.{Wrapper}
 use Rattle.bson_datum.specs.declared.wrapper.Wrapper.TheVariants.{NumberDouble}
-use Rattle.bson_datum.specs.Refusal.{Segment, Path, at_key, at_index, ReadFault, end_of_stream, unreadable, WriteFault, unwritable, invalid_document_key, invalid_cstring, unsigned_exceeds, Failure, no_memory, bare, placed}
+use Rattle.bson_datum.specs.Refusal.{Segment, Path, at_key, at_index, ReadFault, io, end_of_stream, unreadable, WriteFault, unwritable, invalid_document_key, invalid_cstring, unsigned_exceeds, Failure, no_memory, bare, placed}
 
 -- the segment at a place of a path: a key has a point before it unless it comes first, an index is in brackets
 abbrev pub point_before : ℕ → Utf8
@@ -58,8 +58,19 @@ printed_cause (binary_too_long n) = codes "binary length " ++ decimal n ++ codes
 printed_cause bad_uuid = codes "expected UUID as bytes or text"
 printed_cause bad_step = codes "wrong steps of a reserved struct"
 printed_cause too_long = codes "value exceeds maximum length"
+printed_cause (not_document k) = codes "could not be serialized to Document, got " ++ name k
+printed_cause failed = codes "writer failed before"
+printed_cause too_small = codes "document size too small"
+printed_cause not_fitting = codes "value does not fit the type"
+printed_cause (not_i32 n) = codes "cannot convert " ++ decimal n ++ codes " to i32"
+printed_cause (not_i64 n) = codes "cannot convert " ++ decimal n ++ codes " to i64"
+printed_cause increment = codes "Cannot convert Timestamp with a non-zero increment to u32"
+printed_cause (not_date t) = codes "cannot convert " ++ t ++ codes " to DateTime"
+printed_cause (not_object_id t) = codes "cannot convert " ++ t ++ codes " to ObjectId"
+printed_cause (no_rfc3339 n) = codes "cannot format " ++ signed_decimal n ++ codes " as RFC 3339"
 
 abbrev pub printed_read_fault : ReadFault → Utf8
+printed_read_fault io = codes "i/o fault"
 printed_read_fault end_of_stream = codes "end of stream"
 printed_read_fault (unreadable c) = printed_cause c
 

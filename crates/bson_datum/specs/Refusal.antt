@@ -15,7 +15,9 @@ Path = List Segment
 
 -- what reading refuses for
 pub data ReadFault : Type 0 where
-  -- an empty document, where the name of a variant is due
+  -- a call of the source failed
+  io : ReadFault
+  -- an empty document, where the name of a variant is due; a text in a tree, where the contents of a variant are due; or the source ended before the length of a document
   end_of_stream : ReadFault
   unreadable : Cause → ReadFault
 

@@ -31,7 +31,7 @@ pub enum Cause {
     DuplicateField(String),
     /// The enum has no variant of this name.
     UnknownVariant(String),
-    /// A key other than `$scope` after `$code`, or other than `$code` after `$scope`.
+    /// A key that is no field of a closed struct; or a key other than `$scope` after `$code`, or other than `$code` after `$scope`.
     UnknownField(String),
     /// The value of this wrapper key is not valid, or, at `oid` and `uuid`, a text that is no ObjectId or UUID.
     BadBody(Wrapper),
@@ -55,6 +55,26 @@ pub enum Cause {
     BadStep,
     /// The document would have more than 2147483647 bytes.
     TooLong,
+    /// The value is made into a BSON value of this kind, where a document is due.
+    NotDocument(ElementType),
+    /// A call of the writer was refused before.
+    Failed,
+    /// The first four bytes announce less than the five of the smallest document.
+    TooSmall,
+    /// The datum is none that a value of the type is written as.
+    NotFitting,
+    /// The number is more than an `i32` may be.
+    NotI32(u64),
+    /// The number is more than an `i64` may be.
+    NotI64(u64),
+    /// The increment of a timestamp is not zero.
+    Increment,
+    /// The text is no date.
+    NotDate(String),
+    /// The text is no ObjectId.
+    NotObjectId(String),
+    /// The time, in milliseconds since the start of 1970, is outside the years 0 to 9999.
+    NoRfc3339(i64),
 }
 
 impl fmt::Display for Cause {
@@ -97,6 +117,20 @@ impl fmt::Display for Cause {
             Cause::BadUuid => f.write_str("expected UUID as bytes or text"),
             Cause::BadStep => f.write_str("wrong steps of a reserved struct"),
             Cause::TooLong => f.write_str("value exceeds maximum length"),
+            Cause::NotDocument(kind) => {
+                write!(f, "could not be serialized to Document, got {kind}")
+            }
+            Cause::Failed => f.write_str("writer failed before"),
+            Cause::TooSmall => f.write_str("document size too small"),
+            Cause::NotFitting => f.write_str("value does not fit the type"),
+            Cause::NotI32(number) => write!(f, "cannot convert {number} to i32"),
+            Cause::NotI64(number) => write!(f, "cannot convert {number} to i64"),
+            Cause::Increment => {
+                f.write_str("Cannot convert Timestamp with a non-zero increment to u32")
+            }
+            Cause::NotDate(text) => write!(f, "cannot convert {text} to DateTime"),
+            Cause::NotObjectId(text) => write!(f, "cannot convert {text} to ObjectId"),
+            Cause::NoRfc3339(millis) => write!(f, "cannot format {millis} as RFC 3339"),
         }
     }
 }

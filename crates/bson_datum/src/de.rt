@@ -15,7 +15,7 @@ use std::fmt;
 /// What a value is refused for, without its path.
 #[derive(Debug, Drop)]
 pub enum Fault {
-    /// An empty document, where the name of a variant is due.
+    /// An empty document, where the name of a variant is due; or a text in a tree in memory, where the contents of a variant are due.
     EndOfStream,
     /// A value is refused for this cause.
     Cause(Cause),
@@ -24,7 +24,10 @@ pub enum Fault {
 /// Why a document is not read.
 #[derive(Debug, Drop)]
 pub enum Error {
-    /// An empty document, where the name of a variant is due.
+    /// A call of the source failed.
+    Io,
+    /// An empty document, where the name of a variant is due; a text in a tree in memory, where the contents of a variant are due; or the source ended before the length
+    /// of a document.
     EndOfStream,
     /// A value is refused for this cause.
     DeserializationError {
@@ -60,9 +63,9 @@ impl Error {
         }
     }
 
-    // The fault, without a path.
-    fn from_fault(fault: Fault) -> Error
-        ensures { read_failure result ≡ bare (read_fault fault) }
+    /// The fault, without a path.
+    pub fn from_fault(fault: Fault) -> Error
+        ensures bare { read_failure result ≡ bare (read_fault fault) }
     {
         match fault {
             Fault::EndOfStream => Error::EndOfStream,
@@ -110,6 +113,7 @@ impl fmt::Display for Error {
 
     fn fmt<W: fmt::Write>(&self, f: &mut fmt::Formatter<W>) -> fmt::Result {
         match self {
+            Error::Io => f.write_str("i/o fault"),
             Error::EndOfStream => f.write_str("end of stream"),
             Error::DeserializationError { cause } => write!(f, "{cause}"),
             Error::WithPath { path, source } => {

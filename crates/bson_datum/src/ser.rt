@@ -70,9 +70,9 @@ impl Error {
         }
     }
 
-    // The fault, without a path.
-    fn from_fault(fault: Fault) -> Error
-        ensures { write_failure result ≡ bare (write_fault fault) }
+    /// The fault, without a path.
+    pub fn from_fault(fault: Fault) -> Error
+        ensures bare { write_failure result ≡ bare (write_fault fault) }
     {
         match fault {
             Fault::InvalidDocumentKey(key) => Error::InvalidDocumentKey(key),

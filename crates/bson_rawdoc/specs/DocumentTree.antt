@@ -75,6 +75,10 @@ tree_at levels v = tree_with (pairs_at levels) (trees_at levels) v
 abbrev pub document_pairs : Bytes → Result Pairs Error
 document_pairs b = pairs_at max_levels b
 
+-- the same for the values of a whole array
+abbrev pub array_trees : Bytes → Result Trees Error
+array_trees b = trees_at max_levels b
+
 -- ---- calls
 
 -- the call gives this, seen so, or it is refused so, unless memory ran out

@@ -2,7 +2,7 @@
 ghost use Rattle.std.specs.Prelude.{◌≡◌, IfOk, OnOk};
 ghost use Rattle.bson_base.specs.BsonView.{tree_of, trees_of, pairs_of};
 ghost use Rattle.bson_base.specs.Sorted.{sorted};
-ghost use Rattle.bson_rawdoc.specs.DocumentTree.{and_last, pairs_at, trees_at, tree_at, document_pairs, Gives};
+ghost use Rattle.bson_rawdoc.specs.DocumentTree.{and_last, pairs_at, trees_at, tree_at, document_pairs, array_trees, Gives};
 ghost use Rattle.bson_rawdoc.specs.DocumentView.{document_bytes, array_bytes};
 ghost use Rattle.bson_rawdoc.specs.ValueView.{raw_value};
 
@@ -30,6 +30,20 @@ impl RawDocument<'_> {
     {
         let seed = KeySeed::of(self.as_bytes());
         document_of(alloc, *self, MAX_NESTING_LEVEL, seed)
+    }
+}
+
+impl RawArray<'_> {
+    /// The values of the array, each as in [`RawDocument::to_document`]: with texts, bytes and values of its own.
+    ///
+    /// # Errors
+    ///
+    /// Those of [`RawDocument::to_document`], where the whole array is at level 1.
+    pub fn to_values(&self, alloc: Global) -> Result<Vec<Bson>, Error>
+        ensures values { Gives (λ v. trees_of v.items) result (array_trees (array_bytes self.now)) }
+    {
+        let seed = KeySeed::of(self.as_bytes());
+        values_of(alloc, *self, MAX_NESTING_LEVEL, seed)
     }
 }
 
