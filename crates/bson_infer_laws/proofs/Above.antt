@@ -5,7 +5,7 @@ use Rattle.std.specs.Str.{bytes_eq}
 use Rattle.std.proofs.lemmas.Slice.Eq.{bytes_eq-Decides}
 use denote.Enum.Bare.{same_true, true_same}
 use Rattle.bson_base.specs.Text.{Utf8}
-use Rattle.bson_shape.specs.Form.{Form, leaf, optional, sequence, structure, enumeration, Fields, no_fields, field, no_variants, joined}
+use Rattle.bson_shape.specs.Form.{dropped, Form, leaf, optional, sequence, structure, enumeration, Fields, no_fields, field, no_variants, joined}
 use Rattle.bson_shape.specs.declared.leaf.Leaf.{Leaf}
 use Rattle.bson_shape.specs.declared.leaf.Leaf.TheVariants.{I32, ByteBuf, Unit as UnitLeaf, Bson}
 use Rattle.bson_shape.specs.contracts.leaf.Leaf as leaf_type
@@ -89,6 +89,7 @@ nothing_is b e = absurd cc
 nothing_below : (s : Form) → Above s nothing
 nothing_below (optional x) = inr (nothing_below x)
 nothing_below (leaf l) = tt
+nothing_below (structure dropped n fs) = refl
 nothing_below s = refl
 
 pub nothing_under : (s b : Form) → IsNothing b → Above s b
@@ -102,6 +103,7 @@ under_nothing s b c e f = nothing_under s c (subst (λ x. Above x c) (nothing_is
 pub no_option : (b z : Form) → IsBare b → Above b (optional z) → ⊥
 no_option (optional x) z h e = h
 no_option (leaf l) z h e = e
+no_option (structure dropped n fs) z h e = absurd cc
 no_option b z h e = absurd cc
 
 pub bare_of : (b c : Form) → IsBare b → Above b c → IsBare c
@@ -205,9 +207,9 @@ mutual
   above_trans (sequence x) (sequence y) (sequence z) e f = above_trans x y z e f
   above_trans (sequence x) (sequence y) c e f = nothing_under (sequence x) c f
   above_trans (sequence x) b c e f = under_nothing (sequence x) b c e f
-  above_trans (structure n fs) (structure m gs) (structure k hs) e f = (fields_trans fs gs hs e.0 f.0 f.1, named_trans hs gs fs f.1 e.1)
-  above_trans (structure n fs) (structure m gs) c e f = nothing_under (structure n fs) c f
-  above_trans (structure n fs) b c e f = under_nothing (structure n fs) b c e f
+  above_trans (structure dropped n fs) (structure dropped m gs) (structure dropped k hs) e f = (fields_trans fs gs hs e.0 f.0 f.1, named_trans hs gs fs f.1 e.1)
+  above_trans (structure dropped n fs) (structure dropped m gs) c e f = nothing_under (structure dropped n fs) c f
+  above_trans (structure dropped n fs) b c e f = under_nothing (structure dropped n fs) b c e f
   above_trans a b c e f = under_nothing a b c e f
 
   fields_trans : (fs gs hs : Fields) → FieldsAbove fs gs → FieldsAbove gs hs → NamedIn hs gs → FieldsAbove fs hs
@@ -273,10 +275,10 @@ mutual
   absorbs (sequence x) (sequence y) p e = ap sequence (absorbs x y p e)
   absorbs (sequence x) (enumeration no_variants) p e = refl
   absorbs (sequence x) b p e = absurd cc
-  absorbs (structure n fs) (structure m gs) p e =
-      (λ i. structure (sym p.0 i) (joined (fields_absorb fs gs p.1 e.0 i) (no_new fs gs e.1 i))) ∙ ap (structure n) (joined_nothing fs)
-  absorbs (structure n fs) (enumeration no_variants) p e = refl
-  absorbs (structure n fs) b p e = absurd cc
+  absorbs (structure dropped n fs) (structure dropped m gs) p e =
+      (λ i. structure dropped (sym p.0 i) (joined (fields_absorb fs gs p.1 e.0 i) (no_new fs gs e.1 i))) ∙ ap (structure dropped n) (joined_nothing fs)
+  absorbs (structure dropped n fs) (enumeration no_variants) p e = refl
+  absorbs (structure dropped n fs) b p e = absurd cc
   absorbs (enumeration no_variants) (enumeration no_variants) p e = refl
   absorbs (enumeration no_variants) b p e = absurd cc
   absorbs a b p e = absurd cc

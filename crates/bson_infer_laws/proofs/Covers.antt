@@ -7,7 +7,7 @@ use Rattle.bson_base.specs.Text.{Utf8}
 use Rattle.bson_base.specs.Pairs.{lookup}
 use Rattle.bson_base.specs.Tree as tree
 use Rattle.bson_base.specs.Tree.{Tree, null, document, array, string, binary, int32, int64, Pairs, no_pairs, pair, Trees, no_trees}
-use Rattle.bson_shape.specs.Form.{Form, leaf, optional, sequence, structure, enumeration, Fields, no_fields, field, no_variants}
+use Rattle.bson_shape.specs.Form.{dropped, Form, leaf, optional, sequence, structure, enumeration, Fields, no_fields, field, no_variants}
 use Rattle.bson_shape.specs.declared.leaf.Leaf.{Leaf}
 use Rattle.bson_shape.specs.declared.leaf.Leaf.TheVariants.{I32, ByteBuf, Binary}
 use Rattle.bson_datum.specs.Value as value
@@ -128,9 +128,9 @@ mutual
   holds_up (sequence x) (sequence y) (array ts) e h = all_up (Holds y) (Holds x) (λ t k. holds_up x y t e k) ts h
   holds_up (sequence x) (sequence y) t e h = absurd h
   holds_up (sequence x) b t e h = under_nothing (sequence x) b t e h
-  holds_up (structure n fs) (structure m gs) (document ps) e h = (fields_up fs gs ps e.0 h.0 h.1, keys_up ps gs fs e.1 h.1)
-  holds_up (structure n fs) (structure m gs) t e h = absurd h
-  holds_up (structure n fs) b t e h = under_nothing (structure n fs) b t e h
+  holds_up (structure dropped n fs) (structure dropped m gs) (document ps) e h = (fields_up fs gs ps e.0 h.0 h.1, keys_up ps gs fs e.1 h.1)
+  holds_up (structure dropped n fs) (structure dropped m gs) t e h = absurd h
+  holds_up (structure dropped n fs) b t e h = under_nothing (structure dropped n fs) b t e h
   holds_up a b t e h = under_nothing a b t e h
 
   fields_up : (fs gs : Fields) (ps : Pairs) → FieldsAbove fs gs → FieldsHold gs ps → KeysIn ps gs → FieldsHold fs ps

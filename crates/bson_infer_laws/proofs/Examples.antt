@@ -1,7 +1,7 @@
 -- The join and the inferred form, by examples.
 use Rattle.std.specs.Prelude.{◌≡◌, [], codes, pos, refl}
 use Rattle.bson_base.specs.Tree.{no_pairs, pair, Tree, document, array, string, int32, null, no_trees, tree}
-use Rattle.bson_shape.specs.Form.{Form, leaf, optional, sequence, structure, enumeration, no_fields, field, no_variants}
+use Rattle.bson_shape.specs.Form.{dropped, Form, leaf, optional, sequence, structure, enumeration, no_fields, field, no_variants}
 use Rattle.bson_shape.specs.declared.leaf.Leaf.TheVariants.{I32, String, Unit, Bson}
 use Rattle.bson_infer_laws.specs.Inferred.{inferred}
 use Rattle.bson_infer_laws.specs.Join.{join}
@@ -11,7 +11,7 @@ abbrev one : Tree → Tree
 one t = document (pair (codes "i") t no_pairs)
 
 abbrev with_field : Form → Form
-with_field s = structure [] (field (codes "i") s no_fields)
+with_field s = structure dropped [] (field (codes "i") s no_fields)
 
 none : inferred no_trees ≡ enumeration no_variants
 none = refl

@@ -4,7 +4,7 @@ use Rattle.std.specs.Prelude.{IsSome, option_map, option_and_then}
 use Rattle.bson_base.specs.Pairs.{lookup}
 use Rattle.bson_base.specs.Text.{Utf8}
 use Rattle.bson_base.specs.Tree.{Tree, document, array, null, Pairs, no_pairs, pair, Trees, no_trees, tree}
-use Rattle.bson_shape.specs.Form.{Form, leaf, optional, sequence, structure, Fields, no_fields, field}
+use Rattle.bson_shape.specs.Form.{dropped, Form, leaf, optional, sequence, structure, Fields, no_fields, field}
 use Rattle.bson_datum.specs.Value as value
 use Rattle.bson_datum.specs.Value.{Value, item, field_value}
 use Rattle.bson_laws.specs.Leaves.{leaf_kind}
@@ -29,7 +29,7 @@ abbrev mutual
   Holds (optional s) null = Unit {0}
   Holds (optional s) t = Holds s t
   Holds (sequence s) (array ts) = AllTrees (Holds s) ts
-  Holds (structure name fs) (document ps) = FieldsHold fs ps × KeysIn ps fs
+  Holds (structure dropped name fs) (document ps) = FieldsHold fs ps × KeysIn ps fs
   Holds s t = ⊥
 
   pub FieldsHold : Fields → Pairs → Type 0
@@ -68,7 +68,7 @@ mutual
   held (optional s) null h = refl
   held (optional s) t h = mapped value.some (views s t) (held s t h)
   held (sequence s) (array ts) h = mapped value.sequence (views_items (views s) ts) (items_held (Holds s) (views s) (λ t k. held s t k) ts h)
-  held (structure name fs) (document ps) h = mapped (value.structure name) (views_fields fs ps) (fields_held fs ps h.0)
+  held (structure dropped name fs) (document ps) h = mapped (value.structure name) (views_fields fs ps) (fields_held fs ps h.0)
   held s t h = absurd h
 
   fields_held : (fs : Fields) (ps : Pairs) → FieldsHold fs ps → IsSome (views_fields fs ps)

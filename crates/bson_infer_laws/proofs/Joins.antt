@@ -3,7 +3,7 @@ use Rattle.std.proofs.Common.{◌≡◌, Bool, true, false, cond, Option, Some, 
 use Rattle.std.specs.Prelude.{◌||◌, ◌⊎◌}
 use Rattle.std.specs.Str.{bytes_eq}
 use Rattle.bson_base.specs.Text.{Utf8}
-use Rattle.bson_shape.specs.Form.{Form, leaf, optional, sequence, structure, Fields, no_fields, field, joined}
+use Rattle.bson_shape.specs.Form.{dropped, Form, leaf, optional, sequence, structure, Fields, no_fields, field, joined}
 use Rattle.bson_shape.specs.declared.leaf.Leaf.{Leaf}
 use Rattle.bson_shape.specs.declared.leaf.Leaf.TheVariants.{Bson}
 use Rattle.bson_infer_laws.specs.Named.{form_of, has}
@@ -46,7 +46,7 @@ mutual
   above_itself (optional x) p = inr (above_itself x p.2)
   above_itself (leaf l) p = lies_within l l (inl refl)
   above_itself (sequence x) p = above_itself x p
-  above_itself (structure n fs) p = (fields_itself fs fs p.1 (agrees_all fs p.1), named_agrees fs fs (agrees_all fs p.1))
+  above_itself (structure dropped n fs) p = (fields_itself fs fs p.1 (agrees_all fs p.1), named_agrees fs fs (agrees_all fs p.1))
   above_itself a p = p
 
   fields_itself : (ks fs : Fields) → AreJoined ks → Agrees ks fs → FieldsAbove ks fs
@@ -190,7 +190,7 @@ mutual
   joins a (optional y) p q = joins_option a y q.0 q.2 (joins a y p q.2) (is_nothing a || is_unit a) refl
   joins (leaf l) (leaf m) p q = leaves_join l m (within m l) (within l m) refl refl
   joins (sequence x) (sequence y) p q = joins x y p q
-  joins (structure n fs) (structure m gs) p q =
+  joins (structure dropped n fs) (structure dropped m gs) p q =
       let r = fields_join fs fs gs p.1 q.1 (agrees_all fs p.1) in (
         (fields_both (join_fields fs gs) (new_fields fs gs) fs r.0 (new_left fs gs), left_named fs fs gs (agrees_all fs p.1)),
         (fields_both (join_fields fs gs) (new_fields fs gs) gs r.1 (new_right fs gs gs q.1 (agrees_all gs q.1)), right_named gs fs gs (agrees_all gs q.1)),

@@ -3,7 +3,7 @@ use Rattle.std.proofs.Common.{zero, suc, ◌+◌, ◌≤◌, arith, ◌≡◌, �
 use Rattle.std.specs.Prelude.{◌||◌, max}
 use Rattle.std.specs.Str.{bytes_eq}
 use Rattle.bson_base.specs.Text.{Utf8}
-use Rattle.bson_shape.specs.Form.{Form, leaf, optional, sequence, structure, enumeration, Fields, no_fields, field, no_variants, joined}
+use Rattle.bson_shape.specs.Form.{dropped, Form, leaf, optional, sequence, structure, enumeration, Fields, no_fields, field, no_variants, joined}
 use Rattle.bson_shape.specs.declared.leaf.Leaf.TheVariants.{Bson}
 use Rattle.std.specs.Str.{is_utf8}
 use Rattle.bson_base.specs.Sound.{IsClean, ArePairsClean, AreTreesClean, IsDocument}
@@ -31,7 +31,7 @@ abbrev mutual
   Low (optional s) d = Low s d
   Low (leaf l) d = Unit {0}
   Low (sequence s) d = Under d (λ e. Low s e)
-  Low (structure n fs) d = Under d (λ e. AllLow fs e)
+  Low (structure dropped n fs) d = Under d (λ e. AllLow fs e)
   Low s d = IsNothing s
 
   AllLow : Fields → ℕ → Type 0
@@ -83,7 +83,7 @@ mutual
       cond_low (within m l) (leaf l) (cond (within l m) (leaf m) (join_unlike (leaf l) (leaf m))) d tt
       (cond_low (within l m) (leaf m) (join_unlike (leaf l) (leaf m)) d tt (unlike_low (leaf l) (leaf m) d tt tt))
   join_low (sequence x) (sequence y) d p q = under_both d (λ e. Low x e) (λ e. Low y e) (λ e. Low (join x y) e) (λ e g h. join_low x y e g h) p q
-  join_low (structure n fs) (structure m gs) d p q =
+  join_low (structure dropped n fs) (structure dropped m gs) d p q =
       under_both d (λ e. AllLow fs e) (λ e. AllLow gs e) (λ e. AllLow (joined (join_fields fs gs) (new_fields fs gs)) e) (λ e g h. both_low (join_fields fs gs) (new_fields fs gs) e (fields_low fs gs e g h) (new_low fs gs e h)) p q
   join_low a b d p q = unlike_low a b d p q
 
@@ -135,8 +135,8 @@ mutual
   low_levels (leaf l) d p h = omega arith
   low_levels (sequence s) zero p h = absurd h
   low_levels (sequence s) (suc d) p h = omega (arith, one_more s, low_levels s d p h)
-  low_levels (structure n fs) zero p h = absurd h
-  low_levels (structure n fs) (suc d) p h = omega (arith, low_deepest fs d p.1 h)
+  low_levels (structure dropped n fs) zero p h = absurd h
+  low_levels (structure dropped n fs) (suc d) p h = omega (arith, low_deepest fs d p.1 h)
   low_levels (enumeration no_variants) d p h = omega arith
   low_levels s d p h = absurd cc
 
@@ -164,8 +164,8 @@ mutual
   shape_ok (leaf k) d p h l = tt
   shape_ok (sequence s) zero p h l = absurd h
   shape_ok (sequence s) (suc d) p h l = (omega (arith, l, one_more s, low_levels s d p h), shape_ok s d p h (omega (arith, l)))
-  shape_ok (structure n fs) zero p h l = absurd h
-  shape_ok (structure n fs) (suc d) p h l =
+  shape_ok (structure dropped n fs) zero p h l = absurd h
+  shape_ok (structure dropped n fs) (suc d) p h l =
       (subst (λ m. IsStruct m fs) (sym p.0) (record { text = text-nil; free = refl; distinct = no_repeat fs p.1; few = omega (arith, l, low_deepest fs d p.1 h) }), fields_ok fs d p.1 h (omega (arith, l)))
   shape_ok (enumeration no_variants) d p h l = (record { distinct = refl; few = omega arith }, tt)
   shape_ok s d p h l = absurd cc
@@ -182,14 +182,14 @@ inferred_shape ts c l = shape_ok (inferred ts) 200 (list_joined nothing ts refl 
 
 -- a struct, or nothing
 abbrev IsRecord : Form → Type 0
-IsRecord (structure n fs) = Unit {0}
+IsRecord (structure dropped n fs) = Unit {0}
 IsRecord s = IsNothing s
 
 join_record : (a b : Form) → IsRecord a → IsRecord b → IsRecord (join a b)
-join_record (structure n fs) (structure m gs) p q = tt
-join_record (structure n fs) (enumeration no_variants) p q = tt
-join_record (structure n fs) b p q = absurd cc
-join_record (enumeration no_variants) (structure m gs) p q = tt
+join_record (structure dropped n fs) (structure dropped m gs) p q = tt
+join_record (structure dropped n fs) (enumeration no_variants) p q = tt
+join_record (structure dropped n fs) b p q = absurd cc
+join_record (enumeration no_variants) (structure dropped m gs) p q = tt
 join_record (enumeration no_variants) (enumeration no_variants) p q = refl
 join_record (enumeration no_variants) b p q = absurd cc
 join_record a b p q = absurd cc
@@ -203,7 +203,7 @@ list_record s no_trees p q = p
 list_record s (tree.tree t ts) p q = list_record (join s (shape_of t)) ts (join_record s (shape_of t) p (record_of t q.0)) q.1
 
 record_bare : (s : Form) → IsRecord s → bare s ≡ s
-record_bare (structure n fs) p = refl
+record_bare (structure dropped n fs) p = refl
 record_bare (enumeration no_variants) p = refl
 record_bare s p = absurd cc
 

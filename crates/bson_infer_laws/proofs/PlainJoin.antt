@@ -6,7 +6,7 @@ use Rattle.bson_base.specs.Text.{Utf8, IsFreeName}
 use Rattle.bson_base.specs.Sound.{IsClean, ArePairsClean, AreTreesClean}
 use Rattle.bson_base.specs.Tree as tree
 use Rattle.bson_base.specs.Tree.{Tree, Pairs, no_pairs, pair, Trees, no_trees}
-use Rattle.bson_shape.specs.Form.{Form, leaf, optional, sequence, structure, Fields, no_fields, field, joined}
+use Rattle.bson_shape.specs.Form.{dropped, Form, leaf, optional, sequence, structure, Fields, no_fields, field, joined}
 use Rattle.bson_shape.specs.declared.leaf.Leaf.TheVariants.{Bson}
 use Rattle.bson_laws.specs.Plain.{IsPlain, AreFieldsPlain}
 use Rattle.bson_infer_laws.specs.Named.{form_of, has}
@@ -62,7 +62,7 @@ mutual
       cond_plain (within m l) (leaf l) (cond (within l m) (leaf m) (join_unlike (leaf l) (leaf m))) p
       (cond_plain (within l m) (leaf m) (join_unlike (leaf l) (leaf m)) q (unlike_plain (leaf l) (leaf m) p q))
   join_plain (sequence x) (sequence y) p q = join_plain x y p q
-  join_plain (structure n fs) (structure m gs) p q = (no_name, both_plain (join_fields fs gs) (new_fields fs gs) (fields_plain fs gs p.1 q.1) (new_plain fs gs q.1))
+  join_plain (structure dropped n fs) (structure dropped m gs) p q = (no_name, both_plain (join_fields fs gs) (new_fields fs gs) (fields_plain fs gs p.1 q.1) (new_plain fs gs q.1))
   join_plain a b p q = unlike_plain a b p q
 
   fields_plain : (ks gs : Fields) → AreFieldsPlain ks → AreFieldsPlain gs → AreFieldsPlain (join_fields ks gs)

@@ -3,7 +3,7 @@ use Rattle.std.proofs.Common.{◌≡◌, Bool, true, false, cond, Option, Some, 
 use Rattle.std.specs.Prelude.{◌||◌, ◌&&◌}
 use Rattle.std.specs.Str.{bytes_eq}
 use Rattle.bson_base.specs.Text.{Utf8}
-use Rattle.bson_shape.specs.Form.{Form, leaf, optional, sequence, structure, Fields, no_fields, field, joined}
+use Rattle.bson_shape.specs.Form.{dropped, Form, leaf, optional, sequence, structure, Fields, no_fields, field, joined}
 use Rattle.bson_shape.specs.declared.leaf.Leaf.TheVariants.{Bson}
 use Rattle.bson_infer_laws.specs.Named.{form_of, has}
 use Rattle.bson_infer_laws.specs.Join.{is_nothing, is_unit, opt, within, join_unlike, join_at, new_fields, join, join_fields}
@@ -47,7 +47,7 @@ solid (optional x) b h = cond_solid (is_nothing b || is_unit b) (optional x) (op
 solid a (optional y) h = cond_solid (is_nothing a || is_unit a) (optional y) (opt (join a y)) refl (opt_solid (join a y))
 solid (leaf l) (leaf m) h = cond_solid (within m l) (leaf l) (cond (within l m) (leaf m) (join_unlike (leaf l) (leaf m))) refl (cond_solid (within l m) (leaf m) (join_unlike (leaf l) (leaf m)) refl (unlike_is_solid (leaf l) (leaf m) refl))
 solid (sequence x) (sequence y) h = refl
-solid (structure n fs) (structure m gs) h = refl
+solid (structure dropped n fs) (structure dropped m gs) h = refl
 solid a b h = unlike_is_solid a b h
 
 both_something : (b c : Bool) → b ≡ false → (b && c) ≡ false
@@ -144,7 +144,7 @@ mutual
       cond_joined (within m l) (leaf l) (cond (within l m) (leaf m) (join_unlike (leaf l) (leaf m))) tt
       (cond_joined (within l m) (leaf m) (join_unlike (leaf l) (leaf m)) tt (unlike_joined (leaf l) (leaf m) tt tt tt tt))
   join_joined (sequence x) (sequence y) p q = join_joined x y p q
-  join_joined (structure n fs) (structure m gs) p q =
+  join_joined (structure dropped n fs) (structure dropped m gs) p q =
       (refl, are_both (join_fields fs gs) (new_fields fs gs) (are_join fs gs p.1 q.1) (are_new fs gs q.1) (apart fs fs gs (new_fields fs gs) (λ m h. new_lacks fs gs m h)))
   join_joined a b p q = unlike_joined a b tt tt p q
 

@@ -12,7 +12,7 @@ use Rattle.bson_base.specs.Tree.{Tree, document, array, null, string, boolean, b
 use Rattle.bson_base.specs.declared.element_type.ElementType.{ElementType}
 use Rattle.bson_base.specs.declared.element_type.ElementType.TheVariants as kinds
 use Rattle.bson_base.proofs.Outcomes.{some_is, some_map, some_then}
-use Rattle.bson_shape.specs.Form.{Form, leaf, optional, sequence, structure, enumeration, Fields, no_fields, field, no_variants}
+use Rattle.bson_shape.specs.Form.{dropped, Form, leaf, optional, sequence, structure, enumeration, Fields, no_fields, field, no_variants}
 use Rattle.bson_shape.specs.Makers.{IsShape}
 use Rattle.bson_shape.specs.declared.leaf.Leaf.{Leaf}
 use Rattle.bson_shape.specs.declared.leaf.Leaf.TheVariants.{Bool as BoolLeaf, I32, I64, Double, String, ByteBuf, Binary, Unit as UnitLeaf, ObjectId, DateTime, Timestamp, Regex, CodeWithScope, Decimal128, DbPointer, Bson}
@@ -182,12 +182,12 @@ mutual
       let r = items_written s (λ u w levels h k q. form_written s u w levels p h k q) 0 ts m.0 n c (omega arith) m.1 in
       subst (λ x. IsWritten x (suc n)) m.2 (array r.0, ap (result_map array) r.1)
   form_written (sequence s) t v levels p c d e = absurd cc
-  form_written (structure name fs) (document ps) v zero p c d e = absurd (omega arith)
-  form_written (structure name fs) (document ps) v (suc n) p c d e =
+  form_written (structure dropped name fs) (document ps) v zero p c d e = absurd (omega arith)
+  form_written (structure dropped name fs) (document ps) v (suc n) p c d e =
       let m = some_map (value.structure name) (views_fields fs ps) v e in
       let r = fields_written fs ps m.0 n p.1 c (omega arith) m.1 in
       subst (λ x. IsWritten x (suc n)) m.2 (subst (λ k. IsWritten (value.structure k m.0) (suc n)) (sym p.0) (document r.0, ap (result_map document) r.1))
-  form_written (structure name fs) t v levels p c d e = absurd cc
+  form_written (structure dropped name fs) t v levels p c d e = absurd cc
   form_written (enumeration no_variants) t v levels p c d e = absurd (nothing_viewed t v e)
   form_written s t v levels p c d e = absurd p
 
@@ -208,14 +208,14 @@ mutual
 -- ---- documents
 
 top_written : (s : Form) (t : Tree) (v : Value) → IsUsual s → IsOfDocuments s → IsSound t → views s t ≡ Some v → (u : Tree) × (spell_document v ≡ Ok u)
-top_written (structure name fs) (document ps) v p o h e =
+top_written (structure dropped name fs) (document ps) v p o h e =
     let m = some_map (value.structure name) (views_fields fs ps) v e in
-    let r = form_written (structure name fs) (document ps) v max_levels p h.clean h.nests e in
+    let r = form_written (structure dropped name fs) (document ps) v max_levels p h.clean h.nests e in
     (r.0, by_name name p.0 m.0 v m.2 r.0 r.1)
   where
     by_name : (n : Utf8) → n ≡ [] → (gs : FieldValues) (v : Value) → value.structure n gs ≡ v → (u : Tree) → spell v max_levels ≡ Ok u → spell_document v ≡ Ok u
     by_name n e gs v is u h = subst (λ x. spell x max_levels ≡ Ok u → spell_document x ≡ Ok u) is (subst (λ k. spell (value.structure k gs) max_levels ≡ Ok u → spell_document (value.structure k gs) ≡ Ok u) (sym e) (λ k. k)) h
-top_written (structure name fs) t v p o h e = absurd cc
+top_written (structure dropped name fs) t v p o h e = absurd cc
 top_written (enumeration no_variants) t v p o h e = absurd (nothing_viewed t v e)
 top_written s t v p o h e = absurd o
 

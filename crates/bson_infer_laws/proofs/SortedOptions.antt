@@ -11,7 +11,7 @@ use Rattle.bson_base.specs.Text.{Bytes, Utf8}
 use Rattle.bson_base.specs.Tree as tree
 use Rattle.bson_base.specs.Tree.{Tree, document, Pairs, no_pairs, pair, Trees, no_trees, kind, enc, element, elements, array_elements, depth, pairs_depth, trees_depth}
 use Rattle.bson_base.proofs.Lengths.{length-document, length-array, length-regular_expression, length-javascript_code_with_scope}
-use Rattle.bson_shape.specs.Form.{Form, structure, sequence, field}
+use Rattle.bson_shape.specs.Form.{dropped, Form, structure, sequence, field}
 use Rattle.bson_laws.specs.Datum.{sorted_tree, sorted_pairs, sorted_trees}
 use Rattle.bson_laws.proofs.ZeroFree.{free_sorted}
 use Rattle.bson_infer_laws.specs.Inferred.{shape_of, pair_shapes, joined_shapes}
@@ -115,7 +115,7 @@ sorted_sound ps s =
 
 mutual
   sorted_shape : (t : Tree) → shape_of (sorted_tree t) ≡ shape_of t
-  sorted_shape (tree.document ps) = ap (structure []) (sorted_fields ps)
+  sorted_shape (tree.document ps) = ap (structure dropped []) (sorted_fields ps)
   sorted_shape (tree.array ts) = ap sequence (sorted_joined nothing ts)
   sorted_shape (tree.regular_expression pattern options) = refl
   sorted_shape (tree.javascript_code_with_scope code scope) = refl

@@ -6,7 +6,7 @@ use Rattle.bson_base.specs.Text.{Utf8, has_zero}
 use Rattle.bson_base.specs.Sound.{IsClean, ArePairsClean, AreTreesClean, IsDocument}
 use Rattle.bson_base.specs.Tree as tree
 use Rattle.bson_base.specs.Tree.{Tree, Pairs, no_pairs, pair, Trees, no_trees}
-use Rattle.bson_shape.specs.Form.{Form, leaf, optional, sequence, structure, enumeration, Fields, no_fields, field, no_variants, joined}
+use Rattle.bson_shape.specs.Form.{dropped, Form, leaf, optional, sequence, structure, enumeration, Fields, no_fields, field, no_variants, joined}
 use Rattle.bson_shape.specs.declared.leaf.Leaf.{Leaf}
 use Rattle.bson_shape.specs.declared.leaf.Leaf.TheVariants.{Bool as BoolLeaf, I32, I64, Double, String, ByteBuf, Binary, Unit as UnitLeaf, ObjectId, DateTime, Timestamp, Regex, CodeWithScope, Decimal128, DbPointer, Bson}
 use Rattle.bson_infer_laws.specs.Named.{form_of, has}
@@ -38,7 +38,7 @@ abbrev mutual
   IsUsual (leaf l) = IsUsualLeaf l
   IsUsual (optional s) = IsUsual s
   IsUsual (sequence s) = IsUsual s
-  IsUsual (structure name fs) = (name ≡ []) × AreUsual fs
+  IsUsual (structure dropped name fs) = (name ≡ []) × AreUsual fs
   IsUsual (enumeration no_variants) = Unit {0}
   IsUsual s = ⊥
 
@@ -93,7 +93,7 @@ mutual
       cond_usual (within m l) (leaf l) (cond (within l m) (leaf m) (join_unlike (leaf l) (leaf m))) p
       (cond_usual (within l m) (leaf m) (join_unlike (leaf l) (leaf m)) q (unlike_usual (leaf l) (leaf m) p q))
   join_usual (sequence x) (sequence y) p q = join_usual x y p q
-  join_usual (structure n fs) (structure m gs) p q = (refl, both_usual (join_fields fs gs) (new_fields fs gs) (fields_usual fs gs p.1 q.1) (new_usual fs gs q.1))
+  join_usual (structure dropped n fs) (structure dropped m gs) p q = (refl, both_usual (join_fields fs gs) (new_fields fs gs) (fields_usual fs gs p.1 q.1) (new_usual fs gs q.1))
   join_usual a b p q = unlike_usual a b p q
 
   fields_usual : (ks gs : Fields) → AreUsual ks → AreUsual gs → AreUsual (join_fields ks gs)
@@ -123,18 +123,18 @@ inferred_usual ts c = list_usual nothing ts tt c
 
 -- a struct, or nothing
 abbrev pub IsOfDocuments : Form → Type 0
-IsOfDocuments (structure name fs) = Unit {0}
+IsOfDocuments (structure dropped name fs) = Unit {0}
 IsOfDocuments (enumeration no_variants) = Unit {0}
 IsOfDocuments s = ⊥
 
-join_of : (a : Form) (fs : Fields) → IsOfDocuments a → IsOfDocuments (join a (structure [] fs))
-join_of (structure name gs) fs p = tt
+join_of : (a : Form) (fs : Fields) → IsOfDocuments a → IsOfDocuments (join a (structure dropped [] fs))
+join_of (structure dropped name gs) fs p = tt
 join_of (enumeration no_variants) fs p = tt
 join_of a fs p = absurd p
 
 list_of : (s : Form) (ts : Trees) → IsOfDocuments s → AllTrees IsDocument ts → IsOfDocuments (joined_shapes s ts)
 list_of s no_trees p d = p
-list_of s (tree.tree (tree.document ps) ts) p d = list_of (join s (structure [] (pair_shapes ps))) ts (join_of s (pair_shapes ps) p) d.1
+list_of s (tree.tree (tree.document ps) ts) p d = list_of (join s (structure dropped [] (pair_shapes ps))) ts (join_of s (pair_shapes ps) p) d.1
 list_of s (tree.tree t ts) p d = absurd d.0
 
 pub inferred_of : (ts : Trees) → AllTrees IsDocument ts → IsOfDocuments (inferred ts)

@@ -1,6 +1,6 @@
 -- A form is above another where their join is that form: it has each value that the other has. Source: serde's data model.
 use Rattle.std.specs.Prelude.{◌≡◌, true, false, ◌⊎◌, Option, Some, None, []}
-use Rattle.bson_shape.specs.Form.{Form, leaf, optional, sequence, structure, enumeration, Fields, no_fields, field, no_variants}
+use Rattle.bson_shape.specs.Form.{dropped, Form, leaf, optional, sequence, structure, enumeration, Fields, no_fields, field, no_variants}
 use Rattle.bson_shape.specs.declared.leaf.Leaf.{Leaf}
 use Rattle.bson_shape.specs.declared.leaf.Leaf.TheVariants.{Bson}
 use Rattle.bson_infer_laws.specs.Named.{form_of, has}
@@ -47,7 +47,7 @@ abbrev mutual
   Above (optional x) b = (is_unit (bare b) ≡ true) ⊎ Above x (bare b)
   Above (leaf l) b = LeafAbove l b
   Above (sequence x) b = SequenceAbove (Above x) b
-  Above (structure n fs) (structure m gs) = FieldsAbove fs gs × NamedIn gs fs
+  Above (structure dropped n fs) (structure dropped m gs) = FieldsAbove fs gs × NamedIn gs fs
   Above a b = IsNothing b
 
   pub FieldsAbove : Fields → Fields → Type 0
@@ -55,12 +55,13 @@ abbrev mutual
   FieldsAbove (field name x fs) gs = FieldAbove (Above x) x (form_of gs name) × FieldsAbove fs gs
 
 abbrev mutual
-  -- The forms that joins are of: an option is of what is no option and not nothing, a struct has no name, and the names of its fields are distinct.
+  -- The forms that joins are of: an option is of what is no option and not nothing, a struct drops unknown fields and has no name, and the names of its fields
+  -- are distinct.
   pub IsJoined : Form → Type 0
   IsJoined (leaf l) = Unit {0}
   IsJoined (optional s) = IsBare s × (is_nothing s ≡ false) × IsJoined s
   IsJoined (sequence s) = IsJoined s
-  IsJoined (structure name fs) = (name ≡ []) × AreJoined fs
+  IsJoined (structure dropped name fs) = (name ≡ []) × AreJoined fs
   IsJoined s = IsNothing s
 
   pub AreJoined : Fields → Type 0

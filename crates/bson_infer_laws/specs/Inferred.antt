@@ -2,7 +2,7 @@
 use Rattle.std.specs.Prelude.{zero, suc, []}
 use Rattle.bson_base.specs.Tree as tree
 use Rattle.bson_base.specs.Tree.{Tree, Pairs, no_pairs, pair, Trees, no_trees}
-use Rattle.bson_shape.specs.Form.{Form, leaf, sequence, structure, Fields, no_fields, field}
+use Rattle.bson_shape.specs.Form.{dropped, Form, leaf, sequence, structure, Fields, no_fields, field}
 use Rattle.bson_shape.specs.declared.leaf.Leaf.TheVariants.{Bool, I32, I64, Double, String, ByteBuf, Binary, Unit as UnitLeaf, ObjectId, DateTime, Timestamp, Regex, CodeWithScope, Decimal128, DbPointer, Bson}
 use Rattle.bson_infer_laws.specs.Join.{nothing, join}
 
@@ -11,7 +11,7 @@ abbrev mutual
   pub shape_of : Tree → Form
   shape_of (tree.double bits) = leaf Double
   shape_of (tree.string t) = leaf String
-  shape_of (tree.document ps) = structure [] (pair_shapes ps)
+  shape_of (tree.document ps) = structure dropped [] (pair_shapes ps)
   shape_of (tree.array ts) = sequence (joined_shapes nothing ts)
   shape_of (tree.binary zero b) = leaf ByteBuf
   shape_of (tree.binary (suc n) b) = leaf Binary

@@ -1,7 +1,7 @@
 -- The join of two inferred forms. Source: serde's data model.
 use Rattle.std.specs.Prelude.{Bool, true, false, ◌||◌, if◌then◌else◌, Option, Some, None, []}
 use denote.Enum.Bare.{sameb}
-use Rattle.bson_shape.specs.Form.{Form, leaf, optional, sequence, structure, enumeration, Fields, no_fields, field, no_variants, joined}
+use Rattle.bson_shape.specs.Form.{dropped, Form, leaf, optional, sequence, structure, enumeration, Fields, no_fields, field, no_variants, joined}
 use Rattle.bson_shape.specs.declared.leaf.Leaf.{Leaf}
 use Rattle.bson_shape.specs.declared.leaf.Leaf.TheVariants.{I32, I64, ByteBuf, Binary, Unit, Bson}
 use Rattle.bson_shape.specs.contracts.leaf.Leaf as leaf_type
@@ -60,14 +60,14 @@ new_fields fs no_fields = no_fields
 new_fields fs (field name y gs) = if has fs name then new_fields fs gs else field name (opt y) (new_fields fs gs)
 
 abbrev mutual
-  -- The least form of those that are inferred that has what both have. Equal forms are theirs.
+  -- The least form of those that are inferred that has what both have. Equal forms are theirs. An inferred struct drops unknown fields.
   pub join : Form → Form → Form
   join (optional x) (optional y) = opt (join x y)
   join (optional x) b = if is_nothing b || is_unit b then optional x else opt (join x b)
   join a (optional y) = if is_nothing a || is_unit a then optional y else opt (join a y)
   join (leaf l) (leaf m) = join_leaves l m
   join (sequence x) (sequence y) = sequence (join x y)
-  join (structure n fs) (structure m gs) = structure [] (joined (join_fields fs gs) (new_fields fs gs))
+  join (structure dropped n fs) (structure dropped m gs) = structure dropped [] (joined (join_fields fs gs) (new_fields fs gs))
   join a b = join_unlike a b
 
   -- the fields of the first list, each joined with that of its name

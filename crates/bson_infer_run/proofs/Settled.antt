@@ -6,7 +6,7 @@ use Rattle.std.specs.Str.{bytes_eq}
 use Rattle.std.proofs.lemmas.Bool.{lt-ltb}
 use Rattle.bson_base.specs.Text.{Utf8}
 use Rattle.bson_base.specs.Tree.{Pairs, no_pairs, pair}
-use Rattle.bson_shape.specs.Form.{Form, optional, structure, Fields, field, joined}
+use Rattle.bson_shape.specs.Form.{dropped, Form, optional, structure, Fields, field, joined}
 use Rattle.bson_infer_laws.specs.Above.{IsJoined, AreJoined}
 use Rattle.bson_infer_laws.specs.Inferred.{shape_of, pair_shapes}
 use Rattle.bson_infer_laws.specs.Join.{is_nothing, opt, join_at, new_fields, join, join_fields}
@@ -134,10 +134,10 @@ settled_append n (f ∷ fs) gs = ap (λ hs. field f.name (as_settled n f) hs) (s
 
 -- joining one struct after another is joining their forms
 pub settled_puts : (n m : ℕ) (fs gs : List Counted) → 0 < n → 0 < m → AreCounted n fs → AreCounted m gs → AreJoined (settled n fs) → AreJoined (settled m gs)
-    → structure [] (settled (n + m) (puts fs gs)) ≡ join (structure [] (settled n fs)) (structure [] (settled m gs))
+    → structure dropped [] (settled (n + m) (puts fs gs)) ≡ join (structure dropped [] (settled n fs)) (structure dropped [] (settled m gs))
 settled_puts n m fs gs p q h k u v =
-    ap (λ hs. structure [] (settled (n + m) hs)) (puts_is fs gs (fields_distinct n fs u) (fields_distinct m gs v))
-    ∙ ap (structure []) (settled_append (n + m) (merged fs gs) (fresh fs gs)
+    ap (λ hs. structure dropped [] (settled (n + m) hs)) (puts_is fs gs (fields_distinct n fs u) (fields_distinct m gs v))
+    ∙ ap (structure dropped []) (settled_append (n + m) (merged fs gs) (fresh fs gs)
     ∙ (λ i. joined (merged_settled n m fs gs q h (fields_solid n fs u) k (fields_solid m gs v) i) (fresh_settled n m fs gs p k i)))
 
 -- ---- how often each field was there

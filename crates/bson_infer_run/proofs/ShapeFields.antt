@@ -1,7 +1,7 @@
 -- The fields of a shape that is made of a struct, one after another.
 use Rattle.std.proofs.Common.{◌≡◌, ℕ, ◌+◌, ◌<◌, List, [], ◌∷◌, ◌++◌, length, get_or, drop, Result, Ok, nat_lt, refl, ap, sym, subst, ◌∙◌, string_bytes, arith, add-one}
 use Rattle.bson_base.specs.Text.{Utf8}
-use Rattle.bson_shape.specs.Form.{Form, structure, Fields, no_fields, field, joined}
+use Rattle.bson_shape.specs.Form.{dropped, Form, structure, Fields, no_fields, field, joined}
 use Rattle.bson_shape.specs.Makers.{IsShape, Makes, made_structure}
 use Rattle.bson_shape.specs.ShapeView.{fields_of}
 use Rattle.bson_shape.specs.declared.error.ShapeError.{ShapeError}
@@ -30,7 +30,7 @@ pub made_is : (f g : Form) → Makes (Ok f) (Ok g) → f ≡ g
 made_is f g e = cc
 
 -- the struct of all fields
-pub struct_made : (r : Result Form ShapeError) (name : Utf8) (fs : List FieldShape) (all : Fields) → r ≡ made_structure name (fields_of fs) → name ≡ [] → joined (fields_of fs) no_fields ≡ all → IsShape (structure [] all)
-    → Makes r (Ok (structure [] all))
+pub struct_made : (r : Result Form ShapeError) (name : Utf8) (fs : List FieldShape) (all : Fields) → r ≡ made_structure dropped name (fields_of fs) → name ≡ [] → joined (fields_of fs) no_fields ≡ all → IsShape (structure dropped [] all)
+    → Makes r (Ok (structure dropped [] all))
 struct_made r name fs all e n h s =
-    subst (λ x. Makes x (Ok (structure [] all))) (sym (e ∙ (λ i. made_structure (n i) ((sym (joined-none (fields_of fs)) ∙ h) i)) ∙ made_form-IsShape (structure [] all) s)) refl
+    subst (λ x. Makes x (Ok (structure dropped [] all))) (sym (e ∙ (λ i. made_structure dropped (n i) ((sym (joined-none (fields_of fs)) ∙ h) i)) ∙ made_form-IsShape (structure dropped [] all) s)) refl

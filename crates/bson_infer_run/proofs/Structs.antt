@@ -4,7 +4,7 @@ use Rattle.std.specs.Prelude.{◌||◌, ◌⊎◌, slice_set, nat_lt}
 use Rattle.bson_base.specs.Sound.{ArePairsClean}
 use Rattle.bson_base.specs.Text.{Utf8}
 use Rattle.bson_base.specs.Tree.{Pairs, document}
-use Rattle.bson_shape.specs.Form.{Form, optional, structure}
+use Rattle.bson_shape.specs.Form.{dropped, Form, optional, structure}
 use Rattle.bson_shape.specs.ShapeView.{nodes, fields_nodes}
 use Rattle.bson_infer_laws.specs.Above.{IsBare, IsJoined, AreJoined}
 use Rattle.bson_infer_laws.specs.Inferred.{shape_of}
@@ -25,9 +25,9 @@ use Rattle.bson_infer_run.proofs.Summaries.{kind_bare}
 
 -- a struct that grew by so many with these fields
 pub grown_form : (s u : StructSummary) (m : ℕ) (gs : List Counted) → IsKnown s → 0 < m → AreCounted m gs → AreJoined (settled m gs) → u.count ≡ s.count + m → counted_of u ≡ puts (counted_of s) gs
-    → struct_form u ≡ join (struct_form s) (structure [] (settled m gs))
+    → struct_form u ≡ join (struct_form s) (structure dropped [] (settled m gs))
 grown_form s u m gs h some k v n e =
-    (λ i. structure [] (settled (n i) (e i))) ∙ settled_puts s.count m (counted_of s) gs h.0.some some h.0.counted k h.1.1 v
+    (λ i. structure dropped [] (settled (n i) (e i))) ∙ settled_puts s.count m (counted_of s) gs h.0.some some h.0.counted k h.1.1 v
 
 pub grown_known : (s u : StructSummary) (m : ℕ) (gs : List Counted) → IsKnown s → 0 < m → AreCounted m gs → AreJoined (settled m gs) → IsEven u → u.count ≡ s.count + m → counted_of u ≡ puts (counted_of s) gs
     → IsKnown u
@@ -40,7 +40,7 @@ grown_known s u m gs h some k v even n e = (
         (subst (AreCounted (s.count + m)) (sym e)
         (puts_counted s.count m (counted_of s) gs h.0.counted k (fields_distinct s.count (counted_of s) h.1.1) (fields_distinct m gs v) (fields_solid m gs v)));
   },
-  subst IsJoined (sym (grown_form s u m gs h some k v n e)) (join_joined (struct_form s) (structure [] (settled m gs)) h.1 (refl, v)),
+  subst IsJoined (sym (grown_form s u m gs h some k v n e)) (join_joined (struct_form s) (structure dropped [] (settled m gs)) h.1 (refl, v)),
 )
 
 pub joined_struct : (s t u : StructSummary) → IsKnown s → IsKnown t → u.count ≡ s.count + t.count → counted_of u ≡ puts (counted_of s) (counted_of t) → struct_form u ≡ join (struct_form s) (struct_form t)
@@ -57,7 +57,7 @@ pairs_are ps c = subst AreJoined (sym (pairs_settled ps)) (pairs_joined ps c)
 pub document_form : (s u : StructSummary) (ps : Pairs) → IsKnown s → ArePairsClean ps → u.count ≡ s.count + 1 → counted_of u ≡ puts (counted_of s) (counted_pairs ps)
     → struct_form u ≡ join (struct_form s) (shape_of (document ps))
 document_form s u ps h c n e =
-    grown_form s u 1 (counted_pairs ps) h (omega arith) (pairs_counted ps) (pairs_are ps c) n e ∙ ap (λ fs. join (struct_form s) (structure [] fs)) (pairs_settled ps)
+    grown_form s u 1 (counted_pairs ps) h (omega arith) (pairs_counted ps) (pairs_are ps c) n e ∙ ap (λ fs. join (struct_form s) (structure dropped [] fs)) (pairs_settled ps)
 
 pub document_known : (s u : StructSummary) (ps : Pairs) → IsKnown s → ArePairsClean ps → IsEven u → u.count ≡ s.count + 1 → counted_of u ≡ puts (counted_of s) (counted_pairs ps) → IsKnown u
 document_known s u ps h c even n e = grown_known s u 1 (counted_pairs ps) h (omega arith) (pairs_counted ps) (pairs_are ps c) even n e
@@ -65,7 +65,7 @@ document_known s u ps h c even n e = grown_known s u 1 (counted_pairs ps) h (ome
 -- the first document
 pub first_form : (u : StructSummary) (ps : Pairs) → ArePairsClean ps → u.count ≡ 1 → counted_of u ≡ puts [] (counted_pairs ps) → struct_form u ≡ shape_of (document ps)
 first_form u ps c n e =
-    (λ i. structure [] (settled (n i) ((e ∙ puts_first (counted_pairs ps) (fields_distinct 1 (counted_pairs ps) (pairs_are ps c))) i))) ∙ ap (structure []) (pairs_settled ps)
+    (λ i. structure dropped [] (settled (n i) ((e ∙ puts_first (counted_pairs ps) (fields_distinct 1 (counted_pairs ps) (pairs_are ps c))) i))) ∙ ap (structure dropped []) (pairs_settled ps)
 
 pub first_known : (u : StructSummary) (ps : Pairs) → ArePairsClean ps → IsEven u → u.count ≡ 1 → counted_of u ≡ puts [] (counted_pairs ps) → IsKnown u
 first_known u ps c even n e = (

@@ -2,7 +2,7 @@
 use Rattle.std.specs.Prelude.{◌≡◌, ℕ, zero, suc, ◌<◌, Bool, true, false, List, [], ◌∷◌, length}
 use Rattle.std.specs.Str.{bytes_eq}
 use Rattle.bson_base.specs.Text.{Utf8}
-use Rattle.bson_shape.specs.Form.{Form, leaf, optional, sequence, structure}
+use Rattle.bson_shape.specs.Form.{dropped, Form, leaf, optional, sequence, structure}
 use Rattle.bson_infer_laws.specs.Above.{IsJoined}
 use Rattle.bson_infer_laws.specs.Join.{nothing}
 use Rattle.bson_infer_run.specs.Counted.{Counted, settled, AreCounted}
@@ -24,7 +24,7 @@ abbrev pub counted_of : StructSummary → List Counted
 counted_of s = counted s.names s.fields.items
 
 abbrev pub struct_form : StructSummary → Form
-struct_form s = structure [] (settled s.count (counted_of s))
+struct_form s = structure dropped [] (settled s.count (counted_of s))
 
 abbrev pub kind_form : Kind → Form
 kind_form kinds.Nothing = nothing

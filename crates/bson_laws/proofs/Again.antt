@@ -20,7 +20,7 @@ use Rattle.bson_rawdoc.specs.Node.{Sight, piece, Node, Nodes, tree_node, pair_no
 use Rattle.bson_rawdoc.specs.Piece.{Piece, made}
 use Rattle.bson_shape.proofs.TextStates.{text-encode}
 use Rattle.bson_base.specs.Reserved.{reserved_kind}
-use Rattle.bson_shape.specs.Form.{Form, leaf, optional, lossy, human_readable, by_mode, sequence, newtype, unit_structure, map, tuple, tuple_structure, structure, enumeration, Fields, no_fields, field, Parts, no_parts, part, Content, unit_content, newtype_content, tuple_content, struct_content, Variants, no_variants, variant}
+use Rattle.bson_shape.specs.Form.{UnknownFields, dropped, Form, leaf, optional, lossy, human_readable, by_mode, sequence, newtype, unit_structure, map, tuple, tuple_structure, structure, enumeration, Fields, no_fields, field, Parts, no_parts, part, Content, unit_content, newtype_content, tuple_content, struct_content, Variants, no_variants, variant}
 use Rattle.bson_shape.specs.Makers.{is_reserved_newtype, IsShape, AreShapes, AreParts, AreVariants, IsContent}
 use Rattle.bson_datum.specs.Value as value
 use Rattle.bson_datum.specs.Value.{IntegerType, i8, i16, i32, i64, u8, u16, u32, u64, greatest, in_range, written_as, Value, Items, no_items, item, Entries, no_entries, entry, FieldValues, no_field_values, field_value}
@@ -347,12 +347,12 @@ items_body at read vs n u small e each =
     within (λ k x. IsShort x → ItemsCome at read k x) array n (spell_items 0 vs) u e
     (λ k ts q short. let h = each k ts (omega (arith, short, array_elements_size ts)) q in (h.0, h.1, ap (result_map array) h.2, h.3)) small
 
-abbrev read_struct : Fields → Node → Reading MarkedFields
-read_struct fs = read_structure (slots_of fs)
+abbrev read_struct : UnknownFields → Fields → Node → Reading MarkedFields
+read_struct u fs = read_structure u (slots_of fs)
 
 -- the fields are read from the document again
-abbrev FieldsCome : (at : Sight) → Fields → ℕ → Tree → Type 0
-FieldsCome at fs n u = (out : MarkedFields) × ((judged (tree_node at u n) >>= read_struct fs) ≡ Ok out) × (enclosed_at document n (spell_fields (field_contents out)) ≡ Ok u) × IsCoded u
+abbrev FieldsCome : (at : Sight) → UnknownFields → Fields → ℕ → Tree → Type 0
+FieldsCome at u fs n t = (out : MarkedFields) × ((judged (tree_node at t n) >>= read_struct u fs) ≡ Ok out) × (enclosed_at document n (spell_fields (field_contents out)) ≡ Ok t) × IsCoded t
 
 -- ---- the fields of a struct
 
@@ -368,23 +368,23 @@ keyed_lacks no_fields (pair j t ps) key k u = absurd k
 keyed_lacks (field n s fs) no_pairs key k u = absurd k
 keyed_lacks (field n s fs) (pair j t ps) key k u = (subst (λ x. bytes_eq key x ≡ false) (sym k.0) (unlike_swap n key u.0), keyed_lacks fs ps key k.1 u.1)
 
-passed_more : (at : Sight) (n : ℕ) (name : Utf8) (s : Form) (fs : Fields) (ps : Pairs) → ArePassed at n fs ps → ArePassed at n (field name s fs) ps
-passed_more at n name s fs no_pairs h = tt
-passed_more at n name s fs (pair k t ps) h = (h.0, (λ u. h.1 u.1), passed_more at n name s fs ps h.2)
+passed_more : (at : Sight) (n : ℕ) (u : UnknownFields) (name : Utf8) (s : Form) (fs : Fields) (ps : Pairs) → ArePassed at n u fs ps → ArePassed at n u (field name s fs) ps
+passed_more at n u name s fs no_pairs h = tt
+passed_more at n u name s fs (pair k t ps) h = (h.0, (λ none. h.1 none.1), passed_more at n u name s fs ps h.2)
 
 not_unlike : (b : Bool) → b ≡ true → b ≡ false → ⊥
 not_unlike true h e = absurd cc
 not_unlike false h e = absurd cc
 
--- nothing is dropped
-keyed_passed : (at : Sight) (n : ℕ) (fs : Fields) (ps : Pairs) → Distinct fs → AreKeyed fs ps → ArePassed at n fs ps
-keyed_passed at n no_fields no_pairs d k = tt
-keyed_passed at n no_fields (pair j t ps) d k = absurd k
-keyed_passed at n (field name s fs) no_pairs d k = absurd k
-keyed_passed at n (field name s fs) (pair j t ps) d k = (
+-- nothing is dropped, and nothing is denied
+keyed_passed : (at : Sight) (n : ℕ) (u : UnknownFields) (fs : Fields) (ps : Pairs) → Distinct fs → AreKeyed fs ps → ArePassed at n u fs ps
+keyed_passed at n u no_fields no_pairs d k = tt
+keyed_passed at n u no_fields (pair j t ps) d k = absurd k
+keyed_passed at n u (field name s fs) no_pairs d k = absurd k
+keyed_passed at n u (field name s fs) (pair j t ps) d k = (
   keyed_lacks fs ps j k.1 (subst (λ x. Unnamed x fs) (sym k.0) d.0),
-  (λ u. absurd (not_unlike (bytes_eq name j) (subst (λ x. bytes_eq name x ≡ true) (sym k.0) (bytes_eq-refl name)) u.0)),
-  passed_more at n name s fs ps (keyed_passed at n fs ps d.1 k.1),
+  (λ none. absurd (not_unlike (bytes_eq name j) (subst (λ x. bytes_eq name x ≡ true) (sym k.0) (bytes_eq-refl name)) none.0)),
+  passed_more at n u name s fs ps (keyed_passed at n u fs ps d.1 k.1),
 )
 
 -- a pair that no field takes is not seen
@@ -397,11 +397,11 @@ seen_more at n (field name s fs) key t ps u =
 abbrev FieldsSeen : (at : Sight) → Fields → ℕ → Pairs → Type 0
 FieldsSeen at fs n ps = (out : MarkedFields) × (seen_fields at n fs ps ≡ Some out) × (spell_fields (field_contents out) n ≡ Ok ps) × AreKeyed fs ps × ArePairsCoded ps
 
-fields_body : (at : Sight) (fs : Fields) (vs : FieldValues) (n : ℕ) (u : Tree) → IsShort u → Distinct fs → enclosed_at document n (spell_fields vs) ≡ Ok u
-    → ((k : ℕ) (ps : Pairs) → ArePairsShort ps → spell_fields vs k ≡ Ok ps → FieldsSeen at fs k ps) → FieldsCome at fs n u
-fields_body at fs vs n u small d e each =
-    within (λ k x. IsShort x → FieldsCome at fs k x) document n (spell_fields vs) u e
-    (λ k ps q short. let h = each k ps (omega (arith, short, elements_size ps)) q in (h.0, fields_seen at k fs d ps h.0 (keyed_passed at k fs ps d h.3) h.1, ap (result_map document) h.2, h.4)) small
+fields_body : (at : Sight) (u : UnknownFields) (fs : Fields) (vs : FieldValues) (n : ℕ) (t : Tree) → IsShort t → Distinct fs → enclosed_at document n (spell_fields vs) ≡ Ok t
+    → ((k : ℕ) (ps : Pairs) → ArePairsShort ps → spell_fields vs k ≡ Ok ps → FieldsSeen at fs k ps) → FieldsCome at u fs n t
+fields_body at u fs vs n t small d e each =
+    within (λ k x. IsShort x → FieldsCome at u fs k x) document n (spell_fields vs) t e
+    (λ k ps q short. let h = each k ps (omega (arith, short, elements_size ps)) q in (h.0, fields_seen at k u fs d ps h.0 (keyed_passed at k u fs ps d h.3) h.1, ap (result_map document) h.2, h.4)) small
 
 -- ---- options
 
@@ -444,11 +444,11 @@ mutual
   again at (value.tuple_structure m vs) (tuple_structure n ps) levels t p due g small e =
       let h = items_body at (reads_parts ps 0) vs levels t small e (λ k ts short q. again_parts at vs ps 0 k ts p.2 due g.1 short q) in
       (value.tuple_structure (made n) h.0, built_of (judged (tree_node at t levels) >>= array_of) (reads_parts ps 0) (value.tuple_structure (made n)) h.0 h.1, h.2, h.3)
-  again at (value.structure m vs) (structure n fs) levels t p due g small e =
+  again at (value.structure m vs) (structure u n fs) levels t p due g small e =
       let free = ap reserved_kind g.0 ∙ p.0.free in
       let spelled : enclosed_at document levels (spell_fields vs) ≡ Ok t = sym (free_struct m vs levels free) ∙ e in
-      let h = fields_body at fs vs levels t small (distinct_from fs p.0.distinct) spelled (λ k ps short q. again_fields at vs fs k ps p.1 due (distinct_from fs p.0.distinct) g.1 short q) in
-      (value.structure (made n) h.0, built_of (judged (tree_node at t levels)) (read_struct fs) (value.structure (made n)) h.0 h.1, free_struct n (field_contents h.0) levels p.0.free ∙ h.2, h.3)
+      let h = fields_body at u fs vs levels t small (distinct_from fs p.0.distinct) spelled (λ k ps short q. again_fields at vs fs k ps p.1 due (distinct_from fs p.0.distinct) g.1 short q) in
+      (value.structure (made n) h.0, built_of (judged (tree_node at t levels)) (read_struct u fs) (value.structure (made n)) h.0 h.1, free_struct n (field_contents h.0) levels p.0.free ∙ h.2, h.3)
   again at (value.unit_variant name) (enumeration vs) levels t p due g small e =
       let whole = (variant_shape vs name unit_content p.1 g).0 in
       subst (Comes at (enumeration vs) levels) (ok_is (string name) t e) (
@@ -481,10 +481,10 @@ mutual
       (λ n u short q.
       let shape = (variant_shape vs name (struct_content g.0) p.1 g.1).1 in
       let distinct = distinct_from g.0 shape.0 in
-      let h = fields_body at g.0 ws n u short distinct q (λ k ps few r. again_fields at ws g.0 k ps shape.1 (content_settled vs name (struct_content g.0) due g.1) distinct g.2 few r) in (
+      let h = fields_body at dropped g.0 ws n u short distinct q (λ k ps few r. again_fields at ws g.0 k ps shape.1 (content_settled vs name (struct_content g.0) due g.1) distinct g.2 few r) in (
         value.structure_variant (made name) h.0,
         variant_read vs name (struct_content g.0) (tree_node at u n) g.1
-            ∙ ap (under name) (built_of (judged (tree_node at u n)) (read_struct g.0) (value.structure_variant (made name)) h.0 h.1),
+            ∙ ap (under name) (built_of (judged (tree_node at u n)) (read_struct dropped g.0) (value.structure_variant (made name)) h.0 h.1),
         ap (λ r. result_map document (named name r >>= one_pair name)) h.2,
         h.3,
       ))

@@ -7,7 +7,7 @@ use Rattle.bson_base.specs.Text.{Utf8}
 use Rattle.bson_rawdoc.specs.Node.{Node, string, made_document, int64, ended, one, two}
 use Rattle.bson_rawdoc.specs.Piece.{made}
 use Rattle.bson_rawdoc.specs.declared.raw.Error.TheVariants.{NotUtf8}
-use Rattle.bson_shape.specs.Form.{Form, leaf}
+use Rattle.bson_shape.specs.Form.{dropped, Form, leaf}
 use Rattle.bson_shape.specs.declared.leaf.Leaf.TheVariants.{U32}
 use Rattle.bson_datum.specs.Cause.{out_of_range}
 use Rattle.bson_datum.specs.Marked.{Marked}
@@ -65,8 +65,8 @@ struct_of_two a v b w = value.structure (made []) (field_value (made a) v (field
 pub field_read : (a : Utf8) (s : Form) (n : Node) (v : Marked) → bytes_eq a a ≡ true → reads no_extended s n ≡ Ok v → reads no_extended (with_field a s) (made_document (one a n)) ≡ Ok (struct_of_one a v)
 field_read a s n v same p =
     let slot = slot_of a s in
-    ap (λ b. of_slots (cond b (result_map (λ x. x ∷ []) (taken a s (reads no_extended s n))) (result_map (λ xs. slot ∷ xs) (put_at a n [])) >>= fill ended)) same
-    ∙ ap (λ r. of_slots (result_map (λ x. x ∷ []) (taken a s r) >>= fill ended)) p
+    ap (λ b. of_slots (cond b (result_map (λ x. x ∷ []) (taken a s (reads no_extended s n))) (result_map (λ xs. slot ∷ xs) (put_at dropped a n [])) >>= fill dropped ended)) same
+    ∙ ap (λ r. of_slots (result_map (λ x. x ∷ []) (taken a s r) >>= fill dropped ended)) p
 
 -- two fields in their order, each read or refused
 abbrev pub both_read : Utf8 → Reading Marked → Utf8 → Reading Marked → Reading Marked
@@ -75,11 +75,11 @@ both_read a v b w = under a v >>= λ x. under b w >>= λ y. Ok (struct_of_two a 
 module _ (a : Utf8) (s : Form) (b : Utf8) (r : Form) (n m : Node) (same : bytes_eq a a ≡ true) (other : bytes_eq a b ≡ false) (same_too : bytes_eq b b ≡ true) where
   -- the element of the second field, where nothing or something was read for the first
   second_put : (slot : Slot) (w : Reading Marked) → slot.name ≡ a → reads no_extended r m ≡ w
-      → put_at b m (slot ∷ slot_of b r ∷ []) ≡ result_map (λ y. slot ∷ y ∷ []) (taken b r w)
+      → put_at dropped b m (slot ∷ slot_of b r ∷ []) ≡ result_map (λ y. slot ∷ y ∷ []) (taken b r w)
   second_put slot w is q =
       let late = slot_of b r in
-      ap (λ t. cond t (result_map (λ y. y ∷ late ∷ []) (fill_slot b m slot slot.value)) (result_map (λ xs. slot ∷ xs) (put_at b m (late ∷ [])))) (ap (λ x. bytes_eq x b) is ∙ other)
-      ∙ ap (λ t. result_map (λ xs. slot ∷ xs) (cond t (result_map (λ y. y ∷ []) (taken b r (reads no_extended r m))) (result_map (λ xs. late ∷ xs) (put_at b m [])))) same_too
+      ap (λ t. cond t (result_map (λ y. y ∷ late ∷ []) (fill_slot b m slot slot.value)) (result_map (λ xs. slot ∷ xs) (put_at dropped b m (late ∷ [])))) (ap (λ x. bytes_eq x b) is ∙ other)
+      ∙ ap (λ t. result_map (λ xs. slot ∷ xs) (cond t (result_map (λ y. y ∷ []) (taken b r (reads no_extended r m))) (result_map (λ xs. late ∷ xs) (put_at dropped b m [])))) same_too
       ∙ ap (λ z. result_map (λ xs. slot ∷ xs) (result_map (λ y. y ∷ []) (taken b r z))) q
       ∙ both w
     where
@@ -87,23 +87,23 @@ module _ (a : Utf8) (s : Form) (b : Utf8) (r : Form) (n m : Node) (same : bytes_
       both (Ok y) = refl
       both (Err f) = refl
 
-  first_put : (slot : Slot) (v : Reading Marked) → reads no_extended s n ≡ v → put_at a n (slot_of a s ∷ slot ∷ []) ≡ result_map (λ x. x ∷ slot ∷ []) (taken a s v)
+  first_put : (slot : Slot) (v : Reading Marked) → reads no_extended s n ≡ v → put_at dropped a n (slot_of a s ∷ slot ∷ []) ≡ result_map (λ x. x ∷ slot ∷ []) (taken a s v)
   first_put slot v p =
       let early = slot_of a s in
-      ap (λ t. cond t (result_map (λ x. x ∷ slot ∷ []) (taken a s (reads no_extended s n))) (result_map (λ xs. early ∷ xs) (put_at a n (slot ∷ [])))) same
+      ap (λ t. cond t (result_map (λ x. x ∷ slot ∷ []) (taken a s (reads no_extended s n))) (result_map (λ xs. early ∷ xs) (put_at dropped a n (slot ∷ [])))) same
       ∙ ap (λ z. result_map (λ x. x ∷ slot ∷ []) (taken a s z)) p
 
   -- a struct of two fields
   pub fields_read : (v w : Reading Marked) → reads no_extended s n ≡ v → reads no_extended r m ≡ w → reads no_extended (with_fields a s b r) (made_document (two a n b m)) ≡ both_read a v b w
-  fields_read v w p q = ap (λ z. of_slots (z >>= fill (one b m))) (first_put (slot_of b r) v p) ∙ rest v w q
+  fields_read v w p q = ap (λ z. of_slots (z >>= fill dropped (one b m))) (first_put (slot_of b r) v p) ∙ rest v w q
     where
-      rest : (v w : Reading Marked) → reads no_extended r m ≡ w → of_slots (result_map (λ x. x ∷ slot_of b r ∷ []) (taken a s v) >>= fill (one b m)) ≡ both_read a v b w
-      rest (Ok x) (Ok y) e = ap (λ z. of_slots (z >>= fill ended)) (second_put (filled a s x) (Ok y) refl e)
-      rest (Ok x) (Err f) e = ap (λ z. of_slots (z >>= fill ended)) (second_put (filled a s x) (Err f) refl e)
+      rest : (v w : Reading Marked) → reads no_extended r m ≡ w → of_slots (result_map (λ x. x ∷ slot_of b r ∷ []) (taken a s v) >>= fill dropped (one b m)) ≡ both_read a v b w
+      rest (Ok x) (Ok y) e = ap (λ z. of_slots (z >>= fill dropped ended)) (second_put (filled a s x) (Ok y) refl e)
+      rest (Ok x) (Err f) e = ap (λ z. of_slots (z >>= fill dropped ended)) (second_put (filled a s x) (Err f) refl e)
       rest (Err f) w e = refl
 
   -- and where the second field comes first
   pub fields_read_turned : (x y : Marked) → reads no_extended s n ≡ Ok x → reads no_extended r m ≡ Ok y → reads no_extended (with_fields a s b r) (made_document (two b m a n)) ≡ Ok (struct_of_two a x b y)
   fields_read_turned x y p q =
-      ap (λ z. of_slots (z >>= fill (one a n))) (second_put (slot_of a s) (Ok y) refl q)
-      ∙ ap (λ z. of_slots (z >>= fill ended)) (first_put (filled b r y) (Ok x) p)
+      ap (λ z. of_slots (z >>= fill dropped (one a n))) (second_put (slot_of a s) (Ok y) refl q)
+      ∙ ap (λ z. of_slots (z >>= fill dropped ended)) (first_put (filled b r y) (Ok x) p)

@@ -11,7 +11,7 @@ use Rattle.bson_rawdoc.specs.Node.{Node, double, string, document, array, bytes,
 use Rattle.bson_rawdoc.specs.Piece.{Piece, made}
 use Rattle.bson_rawdoc.specs.declared.raw.Error.{Error}
 use Rattle.bson_rawdoc.specs.declared.raw.Error.TheVariants.{NotUtf8}
-use Rattle.bson_shape.specs.Form.{Form, leaf, optional, lossy, human_readable, by_mode, sequence, newtype, unit_structure, map, tuple, tuple_structure, structure, enumeration, Fields, no_fields, field, Parts, no_parts, part, Content, unit_content, newtype_content, tuple_content, struct_content, Variants, no_variants, variant}
+use Rattle.bson_shape.specs.Form.{UnknownFields, dropped, denied, Form, leaf, optional, lossy, human_readable, by_mode, sequence, newtype, unit_structure, map, tuple, tuple_structure, structure, enumeration, Fields, no_fields, field, Parts, no_parts, part, Content, unit_content, newtype_content, tuple_content, struct_content, Variants, no_variants, variant}
 use Rattle.bson_datum.specs.Value as value
 use Rattle.bson_datum.specs.Value.{u8, readable_newtype, Value, Entries, item, no_entries, entry, field_value}
 use Rattle.bson_datum.specs.Marked.{Marked, MarkedItems, MarkedEntries, MarkedFields, contents, item_contents, entry_contents, field_contents}
@@ -27,7 +27,7 @@ use Rattle.bson_laws.specs.ReadsRaw.{slice_of, raw_document_of, raw_array_of, sc
 use Rattle.bson_laws.specs.Taken.{owned_under_mark, boolean_of, integer_of, double_of, character_of, text_of, bytes_of, null_of, buffer_of, reads_bytes, as_byte, borrow, borrow_or_own, as_text, document_of, array_of, read_integer, read_character}
 use Rattle.bson_laws.specs.ReadsLeaf.{borrows, put_entry, read_any, any_items, any_entries, no_extended, read_leaf_with}
 use Rattle.bson_laws.specs.Containers.{reads_items, reads_entries, unit_of, reads_unit, reads_key, reads_next, read_enum, reads_option}
-use Rattle.bson_laws.specs.Slots.{Slot, Slots, fill_slot, put_at, fill, value_or, finish, reads_places, read_structure}
+use Rattle.bson_laws.specs.Slots.{Slot, Slots, fill_slot, unknown, put_at, fill, value_or, finish, reads_places, read_structure}
 use Rattle.bson_laws.specs.Shaped as shaped
 use Rattle.bson_laws.specs.Views.{one_character}
 use Rattle.bson_laws.proofs.ChangedNodes.{Change, changed, changed_value, changed_nodes}
@@ -509,35 +509,39 @@ module _ (a b : Change) (is_bare : Bool) (f : Follows a b is_bare) where
   slot_after key n x y out None (Some w) h is e = absurd cc
   slot_after key n x y out (Some v) p h is e = absurd cc
 
-  put_after : (key : Utf8) (n : Node) (xs ys out : Slots) → AllAlike xs ys → put_at key (before n) xs ≡ Ok out → SlotsAlike (put_at key (after n) ys) out
-  put_after key n [] [] out h e =
-      let d = bind_ok (under key (ignores (before n))) (λ _. Ok []) out e in
-      ([], ap (λ q. under key q >>= λ _. Ok []) (ignores_after n (under_ok key (ignores (before n)) tt d.1)), subst (λ zs. AllAlike zs []) (ok_is [] out d.2) tt)
-  put_after key n [] (y ∷ ys) out h e = absurd h
-  put_after key n (x ∷ xs) [] out h e = absurd h
-  put_after key n (x ∷ xs) (y ∷ ys) out h e =
-      subst (λ c. SlotsAlike (cond c (result_map (λ z. z ∷ ys) (fill_slot key (after n) y y.value)) (result_map (λ zs. y ∷ zs) (put_at key (after n) ys))) out) (ap (λ name. bytes_eq name key) h.0.name)
-      (by_case (bytes_eq x.name key) (λ zs q. put_after key n xs ys zs h.1 q) e) where
-        by_case : (c : Bool) → ((zs : Slots) → put_at key (before n) xs ≡ Ok zs → SlotsAlike (put_at key (after n) ys) zs)
-            → cond c (result_map (λ z. z ∷ xs) (fill_slot key (before n) x x.value)) (result_map (λ zs. x ∷ zs) (put_at key (before n) xs)) ≡ Ok out
-            → SlotsAlike (cond c (result_map (λ z. z ∷ ys) (fill_slot key (after n) y y.value)) (result_map (λ zs. y ∷ zs) (put_at key (after n) ys))) out
+  unknown_after : (u : UnknownFields) (key : Utf8) (n : Node) → unknown u key (before n) ≡ Ok tt → unknown u key (after n) ≡ Ok tt
+  unknown_after dropped key n e = ap (under key) (ignores_after n (under_ok key (ignores (before n)) tt e))
+  unknown_after denied key n e = absurd cc
+
+  put_after : (u : UnknownFields) (key : Utf8) (n : Node) (xs ys out : Slots) → AllAlike xs ys → put_at u key (before n) xs ≡ Ok out → SlotsAlike (put_at u key (after n) ys) out
+  put_after u key n [] [] out h e =
+      let d = bind_ok (unknown u key (before n)) (λ _. Ok []) out e in
+      ([], ap (λ q. q >>= λ _. Ok []) (unknown_after u key n d.1), subst (λ zs. AllAlike zs []) (ok_is [] out d.2) tt)
+  put_after u key n [] (y ∷ ys) out h e = absurd h
+  put_after u key n (x ∷ xs) [] out h e = absurd h
+  put_after u key n (x ∷ xs) (y ∷ ys) out h e =
+      subst (λ c. SlotsAlike (cond c (result_map (λ z. z ∷ ys) (fill_slot key (after n) y y.value)) (result_map (λ zs. y ∷ zs) (put_at u key (after n) ys))) out) (ap (λ name. bytes_eq name key) h.0.name)
+      (by_case (bytes_eq x.name key) (λ zs q. put_after u key n xs ys zs h.1 q) e) where
+        by_case : (c : Bool) → ((zs : Slots) → put_at u key (before n) xs ≡ Ok zs → SlotsAlike (put_at u key (after n) ys) zs)
+            → cond c (result_map (λ z. z ∷ xs) (fill_slot key (before n) x x.value)) (result_map (λ zs. x ∷ zs) (put_at u key (before n) xs)) ≡ Ok out
+            → SlotsAlike (cond c (result_map (λ z. z ∷ ys) (fill_slot key (after n) y y.value)) (result_map (λ zs. y ∷ zs) (put_at u key (after n) ys))) out
         by_case true later q =
             let m = map_ok (λ z. z ∷ xs) (fill_slot key (before n) x x.value) out q in
             let g = slot_after key n x y m.0 x.value y.value h.0 h.0.value m.1 in
             (g.0 ∷ ys, ap (result_map (λ z. z ∷ ys)) g.1, subst (λ zs. AllAlike zs (g.0 ∷ ys)) m.2 (g.2, h.1))
         by_case false later q =
-            let m = map_ok (λ zs. x ∷ zs) (put_at key (before n) xs) out q in
+            let m = map_ok (λ zs. x ∷ zs) (put_at u key (before n) xs) out q in
             let g = later m.0 m.1 in
             (y ∷ g.0, ap (result_map (λ zs. y ∷ zs)) g.1, subst (λ zs. AllAlike zs (y ∷ g.0)) m.2 (h.0, g.2))
 
-  fill_after : (ns : Nodes) (xs ys out : Slots) → AllAlike xs ys → fill (nodes_before ns) xs ≡ Ok out → SlotsAlike (fill (nodes_after ns) ys) out
-  fill_after ended xs ys out h e = (ys, refl, subst (λ zs. AllAlike zs ys) (ok_is xs out e) h)
-  fill_after (faulty g) xs ys out h e = absurd cc
-  fill_after (then_node key n ns) xs ys out h e =
-      let d = bind_ok (put_at key.bytes (before n) xs) (fill (nodes_before ns)) out e in
-      let first = put_after key.bytes n xs ys d.0 h d.1 in
-      let rest = fill_after ns d.0 first.0 out first.2 d.2 in
-      (rest.0, ap (λ q. q >>= fill (nodes_after ns)) first.1 ∙ rest.1, rest.2)
+  fill_after : (u : UnknownFields) (ns : Nodes) (xs ys out : Slots) → AllAlike xs ys → fill u (nodes_before ns) xs ≡ Ok out → SlotsAlike (fill u (nodes_after ns) ys) out
+  fill_after u ended xs ys out h e = (ys, refl, subst (λ zs. AllAlike zs ys) (ok_is xs out e) h)
+  fill_after u (faulty g) xs ys out h e = absurd cc
+  fill_after u (then_node key n ns) xs ys out h e =
+      let d = bind_ok (put_at u key.bytes (before n) xs) (fill u (nodes_before ns)) out e in
+      let first = put_after u key.bytes n xs ys d.0 h d.1 in
+      let rest = fill_after u ns d.0 first.0 out first.2 d.2 in
+      (rest.0, ap (λ q. q >>= fill u (nodes_after ns)) first.1 ∙ rest.1, rest.2)
 
   finish_after : (xs ys : Slots) (vs : MarkedFields) → AllAlike xs ys → finish xs ≡ Ok vs → ReadAs field_contents (finish ys) (field_contents vs)
   finish_after [] [] vs h e = (vs, e, refl)
@@ -569,18 +573,19 @@ module _ (a b : Change) (is_bare : Bool) (f : Follows a b is_bare) where
         (λ j. field_value (sym h.0.name j) (first.2 j) (rest.2 j)) ∙ ap field_contents m.2,
       )
 
-  keyed_after : (xs ys : Slots) (ns : Nodes) (vs : MarkedFields) → AllAlike xs ys → (fill (nodes_before ns) xs >>= finish) ≡ Ok vs → ReadAs field_contents (fill (nodes_after ns) ys >>= finish) (field_contents vs)
-  keyed_after xs ys ns vs h e =
-      let d = bind_ok (fill (nodes_before ns) xs) finish vs e in
-      let filled = fill_after ns xs ys d.0 h d.1 in
+  keyed_after : (u : UnknownFields) (xs ys : Slots) (ns : Nodes) (vs : MarkedFields) → AllAlike xs ys → (fill u (nodes_before ns) xs >>= finish) ≡ Ok vs → ReadAs field_contents (fill u (nodes_after ns) ys >>= finish) (field_contents vs)
+  keyed_after u xs ys ns vs h e =
+      let d = bind_ok (fill u (nodes_before ns) xs) finish vs e in
+      let filled = fill_after u ns xs ys d.0 h d.1 in
       let done = finish_after d.0 filled.0 vs filled.2 d.2 in
       (done.0, ap (λ q. q >>= finish) filled.1 ∙ done.1, done.2)
 
-  structure_after : (xs ys : Slots) (n : Node) (vs : MarkedFields) → AllAlike xs ys → read_structure xs (before n) ≡ Ok vs → ReadAs field_contents (read_structure ys (after n)) (field_contents vs)
-  structure_after xs ys (array slice ns) vs h e = places_after xs ys 0 ns vs h e
-  structure_after xs ys (document slice ns) vs h e = keyed_after xs ys ns vs h e
-  structure_after xs ys (extended x ns) vs h e = keyed_after xs ys ns vs h e
-  structure_after xs ys n vs h e = absurd cc
+  structure_after : (u : UnknownFields) (xs ys : Slots) (n : Node) (vs : MarkedFields) → AllAlike xs ys → read_structure u xs (before n) ≡ Ok vs → ReadAs field_contents (read_structure u ys (after n)) (field_contents vs)
+  structure_after dropped xs ys (array slice ns) vs h e = places_after xs ys 0 ns vs h e
+  structure_after denied xs ys (array slice ns) vs h e = absurd cc
+  structure_after u xs ys (document slice ns) vs h e = keyed_after u xs ys ns vs h e
+  structure_after u xs ys (extended x ns) vs h e = keyed_after u xs ys ns vs h e
+  structure_after u xs ys n vs h e = absurd cc
 
   -- ---- options, arrays and documents
 
@@ -644,8 +649,8 @@ module _ (a b : Change) (is_bare : Bool) (f : Follows a b is_bare) where
         let r = map_ok value.raw_array (raw_array_of (before n)) m e in (value.raw_array r.0, ap (result_map value.raw_array) (raw_array_after n r.0 r.1), ap contents r.2)
     leaf_after l raw_values n m owned w e = raw_value_after n m w e
 
-    abbrev read_struct : Fields → Node → Reading MarkedFields
-    read_struct fs = read_structure (slots_of fs)
+    abbrev read_struct : UnknownFields → Fields → Node → Reading MarkedFields
+    read_struct u fs = read_structure u (slots_of fs)
 
     enum_after : (vs : Variants) → ((key : Utf8) → EachAfter (reads_variant vs key)) → (n : Node) (m : Marked) → IsWhole n → read_enum (reads_unit vs) (reads_variant vs) (before n) ≡ Ok m → ReadAs contents (read_enum (reads_unit vs) (reads_variant vs) (after n)) (contents m)
     enum_after vs each (string t) m w e = (m, ap (λ x. unit_of x (content_of vs x)) (text_same t w) ∙ e, refl)
@@ -653,14 +658,14 @@ module _ (a b : Change) (is_bare : Bool) (f : Follows a b is_bare) where
     enum_after vs each (extended x (then_node key n ns)) m w e = each key.bytes n m e
     enum_after vs each n m w e = absurd cc
 
-    built_after : (build : MarkedFields → Marked) (make : value.FieldValues → Value) (fs : Fields) (n : Node) (m : Marked) → ((x : MarkedFields) → contents (build x) ≡ make (field_contents x))
-        → ((vs : MarkedFields) → read_struct fs (before n) ≡ Ok vs → ReadAs field_contents (read_struct fs (after n)) (field_contents vs))
-        → (judged (before n) >>= λ k. result_map build (read_struct fs k)) ≡ Ok m → ReadAs contents (judged (after n) >>= λ k. result_map build (read_struct fs k)) (contents m)
-    built_after build make fs n m same_built each e =
-        let j = read_after n (λ k. result_map build (read_struct fs k)) m e in
-        let r = map_ok build (read_struct fs (before n)) m j.2 in
+    built_after : (build : MarkedFields → Marked) (make : value.FieldValues → Value) (u : UnknownFields) (fs : Fields) (n : Node) (m : Marked) → ((x : MarkedFields) → contents (build x) ≡ make (field_contents x))
+        → ((vs : MarkedFields) → read_struct u fs (before n) ≡ Ok vs → ReadAs field_contents (read_struct u fs (after n)) (field_contents vs))
+        → (judged (before n) >>= λ k. result_map build (read_struct u fs k)) ≡ Ok m → ReadAs contents (judged (after n) >>= λ k. result_map build (read_struct u fs k)) (contents m)
+    built_after build make u fs n m same_built each e =
+        let j = read_after n (λ k. result_map build (read_struct u fs k)) m e in
+        let r = map_ok build (read_struct u fs (before n)) m j.2 in
         let h = each r.0 r.1 in
-        (build h.0, ap (λ q. q >>= λ k. result_map build (read_struct fs k)) j.1 ∙ ap (result_map build) h.1, same_built h.0 ∙ ap make h.2 ∙ sym (same_built r.0) ∙ ap contents r.2)
+        (build h.0, ap (λ q. q >>= λ k. result_map build (read_struct u fs k)) j.1 ∙ ap (result_map build) h.1, same_built h.0 ∙ ap make h.2 ∙ sym (same_built r.0) ∙ ap contents r.2)
 
     mutual
       -- what is read after the first change is read after the second, too, where nothing is in the input after the first or the form borrows nothing
@@ -705,8 +710,8 @@ module _ (a b : Change) (is_bare : Bool) (f : Follows a b is_bare) where
           let j = read_after n read m e in
           let h = enum_after vs (λ key k w q. reads_variant_after vs owned key k w q) n m j.0 j.2 in
           (h.0, ap (λ q. q >>= read) j.1 ∙ h.1, h.2)
-      reads_after (structure name fs) owned n m e =
-          built_after (value.structure (made name)) (value.structure name) fs n m (λ x. refl) (λ vs q. structure_after (slots_of fs) (slots_of fs) n vs (slots_after fs owned) q) e
+      reads_after (structure u name fs) owned n m e =
+          built_after (value.structure (made name)) (value.structure name) u fs n m (λ x. refl) (λ vs q. structure_after u (slots_of fs) (slots_of fs) n vs (slots_after fs owned) q) e
 
       slots_after : (fs : Fields) → (is_bare ≡ false → AreFieldsOwned fs) → AllAlike (slots_of fs) (slots_of fs)
       slots_after no_fields owned = tt
@@ -739,5 +744,5 @@ module _ (a b : Change) (is_bare : Bool) (f : Follows a b is_bare) where
           under_as name (judged (before n) >>= array_of >>= λ ns. result_map (value.tuple_variant (made name)) (reads_parts ps 0 ns)) (judged (after n) >>= array_of >>= λ ns. result_map (value.tuple_variant (made name)) (reads_parts ps 0 ns)) m
           (λ q. parts_after item_contents (value.tuple_variant name) (value.tuple_variant (made name)) (reads_parts ps 0) n m (λ x. refl) (λ ns x h. reads_parts_after ps owned 0 ns x h) q) e
       reads_content_after name (struct_content fs) owned n m e =
-          under_as name (judged (before n) >>= λ k. result_map (value.structure_variant (made name)) (read_struct fs k)) (judged (after n) >>= λ k. result_map (value.structure_variant (made name)) (read_struct fs k)) m
-          (λ q. built_after (value.structure_variant (made name)) (value.structure_variant name) fs n m (λ x. refl) (λ vs h. structure_after (slots_of fs) (slots_of fs) n vs (slots_after fs owned) h) q) e
+          under_as name (judged (before n) >>= λ k. result_map (value.structure_variant (made name)) (read_struct dropped fs k)) (judged (after n) >>= λ k. result_map (value.structure_variant (made name)) (read_struct dropped fs k)) m
+          (λ q. built_after (value.structure_variant (made name)) (value.structure_variant name) dropped fs n m (λ x. refl) (λ vs h. structure_after dropped (slots_of fs) (slots_of fs) n vs (slots_after fs owned) h) q) e

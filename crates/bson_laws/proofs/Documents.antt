@@ -10,7 +10,7 @@ use Rattle.bson_rawdoc.specs.Envelope.{is_closed, envelope}
 use Rattle.bson_rawdoc.specs.Node.{Sight, from_input, Node, document, broken, Nodes, ended, faulty, then_node, node_in, mended}
 use Rattle.bson_rawdoc.specs.Piece.{made}
 use Rattle.bson_rawdoc.specs.declared.raw.Error as raw_error
-use Rattle.bson_shape.specs.Form.{Form, leaf, optional, lossy, human_readable, by_mode, sequence, newtype, unit_structure, map, tuple, tuple_structure, structure, enumeration, Content, unit_content, newtype_content, tuple_content, struct_content, Variants, no_variants, variant}
+use Rattle.bson_shape.specs.Form.{dropped, Form, leaf, optional, lossy, human_readable, by_mode, sequence, newtype, unit_structure, map, tuple, tuple_structure, structure, enumeration, Content, unit_content, newtype_content, tuple_content, struct_content, Variants, no_variants, variant}
 use Rattle.bson_shape.specs.Makers.{IsShape}
 use Rattle.bson_datum.specs.Value as value
 use Rattle.bson_datum.specs.Value.{Value, no_entries, kind_of, reserved_or_document}
@@ -94,7 +94,7 @@ content_kind name (tuple_content ps) n v e =
     let d = bind_ok (judged n >>= array_of) (λ ns. result_map (value.tuple_variant (made name)) (reads_parts ps 0 ns)) v (under_ok name (judged n >>= array_of >>= λ ns. result_map (value.tuple_variant (made name)) (reads_parts ps 0 ns)) v e) in
     let m = map_ok (value.tuple_variant (made name)) (reads_parts ps 0 d.0) v d.2 in subst IsMapping m.2 refl
 content_kind name (struct_content fs) n v e =
-    let read = read_structure (slots_of fs) in
+    let read = read_structure dropped (slots_of fs) in
     let d = bind_ok (judged n) (λ k. result_map (value.structure_variant (made name)) (read k)) v (under_ok name (judged n >>= λ k. result_map (value.structure_variant (made name)) (read k)) v e) in
     let m = map_ok (value.structure_variant (made name)) (read d.0) v d.2 in subst IsMapping m.2 refl
 
@@ -142,8 +142,8 @@ top_kind (map key s) n v t p kept e =
     let entries = λ (ns : Nodes). reads_entries (reads_key key) (reads s) ns no_entries in
     let d = bind_ok (judged n >>= document_of) (λ ns. result_map value.map (entries ns)) v e in
     let m = map_ok value.map (entries d.0) v d.2 in subst IsMapping m.2 refl
-top_kind (structure name fs) n v t p kept e =
-    let read = read_structure (slots_of fs) in
+top_kind (structure u name fs) n v t p kept e =
+    let read = read_structure u (slots_of fs) in
     let d = bind_ok (judged n) (λ k. result_map (value.structure (made name)) (read k)) v e in
     let m = map_ok (value.structure (made name)) (read d.0) v d.2 in
     subst IsMapping m.2 (ap reserved_or_document p.0.free)

@@ -10,20 +10,20 @@ use Rattle.bson_base.specs.Made.{digits}
 use Rattle.bson_rawdoc.specs.Node.{from_input, Node, string, document, made_document, array, bytes, boolean, null, int32, int64, broken, too_deep, Nodes, ended, faulty, then_node, mended, object_id, symbol, javascript_code_with_scope, decimal128, opens, tree_node}
 use Rattle.bson_rawdoc.specs.declared.raw.Error.{Error}
 use Rattle.bson_rawdoc.specs.Piece.{borrowed, made}
-use Rattle.bson_shape.specs.Form.{Form, leaf, lossy, map, structure, enumeration, no_fields, field, unit_content, newtype_content, no_variants, variant}
+use Rattle.bson_shape.specs.Form.{dropped, denied, Form, leaf, lossy, map, structure, enumeration, no_fields, field, unit_content, newtype_content, no_variants, variant}
 use Rattle.bson_shape.specs.declared.leaf.Leaf.TheVariants.{Any, I32, Str, String, Unit, RawDocument, RawArray, RawBson}
 use Rattle.bson_shape.specs.declared.leaf.Leaf.TheVariants as leaves
 use Rattle.bson_datum.specs.Value as value
 use Rattle.bson_datum.specs.Value.{i32, u8, no_entries, entry, no_field_values, field_value}
 use Rattle.bson_datum.specs.Cause as causes
-use Rattle.bson_datum.specs.Cause.{raw, invalid_type, not_borrowed, invalid_length, missing_field, duplicate_field, unit_in_document}
+use Rattle.bson_datum.specs.Cause.{raw, invalid_type, not_borrowed, invalid_length, missing_field, duplicate_field, unknown_field, unit_in_document}
 use Rattle.bson_datum.specs.Refusal.{at_key, end_of_stream, here, unreadable, unwritable, invalid_document_key}
 use Rattle.bson_laws.specs.ReadsRaw.{scoped_code}
 use Rattle.bson_laws.specs.Reads.{reads}
 use Rattle.bson_laws.specs.Spell.{spell_binary, spell_as, spell, spell_key, spell_document}
 
 abbrev oid_struct : Form → Form
-oid_struct s = structure (codes "T") (field (codes "$oid") s no_fields)
+oid_struct s = structure dropped (codes "T") (field (codes "$oid") s no_fields)
 
 -- an ObjectId at a struct of its digits: they are made, and owned
 at_string : (id : Bytes) → is_utf8 (digits id) ≡ true
@@ -53,7 +53,7 @@ scope_unread t h = rw h refl
 -- ---- what is borrowed
 
 -- the bytes of an opened decimal cannot be borrowed, whether they are a text or not
-decimal_at_str : (b : Bytes) → reads (structure (codes "T") (field (codes "$numberDecimalBytes") (leaf Str) no_fields)) (opens (decimal128 b)) ≡ Err (record { path = at_key (codes "$numberDecimalBytes") ∷ []; fault = unreadable not_borrowed })
+decimal_at_str : (b : Bytes) → reads (structure dropped (codes "T") (field (codes "$numberDecimalBytes") (leaf Str) no_fields)) (opens (decimal128 b)) ≡ Err (record { path = at_key (codes "$numberDecimalBytes") ∷ []; fault = unreadable not_borrowed })
 decimal_at_str b = refl
 
 -- where texts are mended, a binary without a shape is owned
@@ -78,7 +78,7 @@ repeated k h = rw h refl
 -- ---- structs
 
 abbrev one_field : Form
-one_field = structure (codes "T") (field (codes "a") (leaf I32) no_fields)
+one_field = structure dropped (codes "T") (field (codes "a") (leaf I32) no_fields)
 
 -- a second element of a field is refused before its value is looked at
 field_twice : (n : Node) → reads one_field (made_document (then_node (borrowed (codes "a")) (int32 (pos 5)) (then_node (borrowed (codes "a")) n ended))) ≡ Err (here (unreadable (duplicate_field (codes "a"))))
@@ -104,6 +104,19 @@ by_place ns k = refl
 
 too_few : reads one_field (array None ended) ≡ Err (here (unreadable (invalid_length 0)))
 too_few = refl
+
+-- a struct that denies unknown fields refuses the key of one at the document, before its value is looked at; and it takes no array
+abbrev closed_field : Form
+closed_field = structure denied (codes "T") (field (codes "a") (leaf I32) no_fields)
+
+other_denied : (n : Node) (ns : Nodes) → reads closed_field (made_document (then_node (borrowed (codes "b")) n ns)) ≡ Err (here (unreadable (unknown_field (codes "b"))))
+other_denied n ns = refl
+
+closed_by_key : reads closed_field (made_document (then_node (borrowed (codes "a")) (int64 (pos 5)) ended)) ≡ Ok (value.structure (made (codes "T")) (field_value (made (codes "a")) (value.integer i32 (pos 5)) no_field_values))
+closed_by_key = refl
+
+closed_by_place : (ns : Nodes) → reads closed_field (array None ns) ≡ Err (here (unreadable (invalid_type Array)))
+closed_by_place ns = refl
 
 -- ---- enums
 

@@ -10,12 +10,12 @@ use Rattle.bson_base.specs.Tree.{Tree, Pairs, no_pairs, pair}
 use Rattle.bson_base.proofs.Outcomes.{some_is, some_map, some_then}
 use Rattle.bson_rawdoc.specs.Node.{Sight, tree_node, pair_nodes}
 use Rattle.bson_rawdoc.specs.Piece.{made}
-use Rattle.bson_shape.specs.Form.{Form, Fields, no_fields, field}
+use Rattle.bson_shape.specs.Form.{UnknownFields, Form, Fields, no_fields, field}
 use Rattle.bson_datum.specs.Value.{no_field_values, field_value}
 use Rattle.bson_datum.specs.Marked.{Marked, MarkedFields}
 use Rattle.bson_datum.specs.Refusal.{under}
-use Rattle.bson_laws.specs.Judged.{Reading, ignores}
-use Rattle.bson_laws.specs.Slots.{Slot, Slots, missing_value, fill_slot, put_at, fill, value_or, finish}
+use Rattle.bson_laws.specs.Judged.{Reading}
+use Rattle.bson_laws.specs.Slots.{Slot, Slots, missing_value, fill_slot, unknown, put_at, fill, value_or, finish}
 use Rattle.bson_laws.specs.Reads.{reads, slots_of}
 use Rattle.bson_laws.proofs.Placed.{names_of, IsNone}
 use Rattle.bson_laws.proofs.Fitted.{chosen_t, chosen_f, bytes_same, Unnamed}
@@ -120,17 +120,17 @@ module _ (at : Sight) (levels : ℕ) where
 
   -- ---- one more element
 
-  record Put (k : Utf8) (t : Tree) (ps : Pairs) (slots : Slots) : Type 0 where
+  record Put (u : UnknownFields) (k : Utf8) (t : Tree) (ps : Pairs) (slots : Slots) : Type 0 where
     pub out : Slots
-    pub put : put_at k (tree_node at t levels) slots ≡ Ok out
+    pub put : put_at u k (tree_node at t levels) slots ≡ Ok out
     pub names : names_of out ≡ names_of slots
     pub ready : AreReady ps out
     pub after : all_after ps out ≡ all_after (pair k t ps) slots
 
-  put_ready : (k : Utf8) (t : Tree) (ps : Pairs) (slots : Slots) → Lacks k ps → AreApart (names_of slots) → AreReady (pair k t ps) slots → (IsNone k (names_of slots) → ignores (tree_node at t levels) ≡ Ok tt) → Put k t ps slots
-  put_ready k t ps [] l d r passed = record { out = []; put = ap (λ q. under k q >>= λ _. Ok []) (passed tt); names = refl; ready = tt; after = refl }
-  put_ready k t ps (slot ∷ slots) l d r passed = by_case (λ unlike. put_ready k t ps slots l d.1 r.1 (λ none. passed (unlike, none))) (bytes_eq slot.name k) refl where
-    by_case : (bytes_eq slot.name k ≡ false → Put k t ps slots) → (b : Bool) → bytes_eq slot.name k ≡ b → Put k t ps (slot ∷ slots)
+  put_ready : (u : UnknownFields) (k : Utf8) (t : Tree) (ps : Pairs) (slots : Slots) → Lacks k ps → AreApart (names_of slots) → AreReady (pair k t ps) slots → (IsNone k (names_of slots) → unknown u k (tree_node at t levels) ≡ Ok tt) → Put u k t ps slots
+  put_ready u k t ps [] l d r passed = record { out = []; put = ap (λ q. q >>= λ _. Ok []) (passed tt); names = refl; ready = tt; after = refl }
+  put_ready u k t ps (slot ∷ slots) l d r passed = by_case (λ unlike. put_ready u k t ps slots l d.1 r.1 (λ none. passed (unlike, none))) (bytes_eq slot.name k) refl where
+    by_case : (bytes_eq slot.name k ≡ false → Put u k t ps slots) → (b : Bool) → bytes_eq slot.name k ≡ b → Put u k t ps (slot ∷ slots)
     by_case later true same =
         let is : slot.name ≡ k = bytes_same slot.name k same in
         let there = chosen_t (bytes_eq slot.name k) t (lookup slot.name ps) same in
@@ -140,11 +140,11 @@ module _ (at : Sight) (levels : ℕ) where
         let filled = record slot { value = Some v } in
         record {
           out = filled ∷ slots;
-          put = ap (λ b. cond b (result_map (λ x. x ∷ slots) (fill_slot k (tree_node at t levels) slot slot.value)) (result_map (λ xs. slot ∷ xs) (put_at k (tree_node at t levels) slots))) same
+          put = ap (λ b. cond b (result_map (λ x. x ∷ slots) (fill_slot k (tree_node at t levels) slot slot.value)) (result_map (λ xs. slot ∷ xs) (put_at u k (tree_node at t levels) slots))) same
               ∙ ap (λ o. result_map (λ x. x ∷ slots) (fill_slot k (tree_node at t levels) slot o)) free.0
               ∙ ap (λ q. result_map (λ x. x ∷ slots) (under k q >>= λ w. Ok (record slot { value = Some w }))) free.1.1;
           names = refl;
-          ready = (λ u e. absurd (let both : None ≡ Some u = sym gone ∙ e in cc), ready_less k t ps slots l r.1);
+          ready = (λ x e. absurd (let both : None ≡ Some x = sym gone ∙ e in cc), ready_less k t ps slots l r.1);
           after = (λ i. record slot { value = value_after filled (gone i) } ∷ all_after ps slots)
               ∙ (λ i. record slot { value = ok_of (sym free.1.1 i) } ∷ all_after ps slots)
               ∙ (λ i. record slot { value = value_after slot (sym there i) } ∷ after_other k t ps slots (subst (λ x. IsNone x (names_of slots)) is d.0) i);
@@ -153,24 +153,24 @@ module _ (at : Sight) (levels : ℕ) where
         let p = later unlike in
         record {
           out = slot ∷ p.out;
-          put = ap (λ b. cond b (result_map (λ x. x ∷ slots) (fill_slot k (tree_node at t levels) slot slot.value)) (result_map (λ xs. slot ∷ xs) (put_at k (tree_node at t levels) slots))) unlike ∙ ap (result_map (λ xs. slot ∷ xs)) p.put;
+          put = ap (λ b. cond b (result_map (λ x. x ∷ slots) (fill_slot k (tree_node at t levels) slot slot.value)) (result_map (λ xs. slot ∷ xs) (put_at u k (tree_node at t levels) slots))) unlike ∙ ap (result_map (λ xs. slot ∷ xs)) p.put;
           names = ap (λ xs. slot.name ∷ xs) p.names;
-          ready = (λ u e. r.0 u (still_there slot.name k t u ps l e), p.ready);
+          ready = (λ x e. r.0 x (still_there slot.name k t x ps l e), p.ready);
           after = λ i. record slot { value = value_after slot (sym (chosen_f (bytes_eq slot.name k) t (lookup slot.name ps) unlike) i) } ∷ p.after i;
         }
 
   -- ---- all elements
 
   -- no key occurs twice, and what no field takes is passed
-  abbrev pub ArePassed : Fields → Pairs → Type 0
-  ArePassed fs no_pairs = Unit {0}
-  ArePassed fs (pair k t ps) = Lacks k ps × (Unnamed k fs → ignores (tree_node at t levels) ≡ Ok tt) × ArePassed fs ps
+  abbrev pub ArePassed : UnknownFields → Fields → Pairs → Type 0
+  ArePassed u fs no_pairs = Unit {0}
+  ArePassed u fs (pair k t ps) = Lacks k ps × (Unnamed k fs → unknown u k (tree_node at t levels) ≡ Ok tt) × ArePassed u fs ps
 
-  fill_again : (fs : Fields) (ps : Pairs) (slots : Slots) → names_of slots ≡ names_of (slots_of fs) → AreApart (names_of slots) → ArePassed fs ps → AreReady ps slots → fill (pair_nodes at ps levels) slots ≡ Ok (all_after ps slots)
-  fill_again fs no_pairs slots is d c r = ap Ok (after_none slots)
-  fill_again fs (pair k t ps) slots is d c r =
-      let p = put_ready k t ps slots c.0 d r (λ none. c.1 (unnamed_from fs k (subst (IsNone k) is none))) in
-      ap (λ q. q >>= fill (pair_nodes at ps levels)) p.put ∙ fill_again fs ps p.out (p.names ∙ is) (subst AreApart (sym p.names) d) c.2 p.ready ∙ ap Ok p.after
+  fill_again : (u : UnknownFields) (fs : Fields) (ps : Pairs) (slots : Slots) → names_of slots ≡ names_of (slots_of fs) → AreApart (names_of slots) → ArePassed u fs ps → AreReady ps slots → fill u (pair_nodes at ps levels) slots ≡ Ok (all_after ps slots)
+  fill_again u fs no_pairs slots is d c r = ap Ok (after_none slots)
+  fill_again u fs (pair k t ps) slots is d c r =
+      let p = put_ready u k t ps slots c.0 d r (λ none. c.1 (unnamed_from fs k (subst (IsNone k) is none))) in
+      ap (λ q. q >>= fill u (pair_nodes at ps levels)) p.put ∙ fill_again u fs ps p.out (p.names ∙ is) (subst AreApart (sym p.names) d) c.2 p.ready ∙ ap Ok p.after
 
   -- what a field is at what is at its key, or at nothing, is its value in the end
   one_seen : (n : Utf8) (s : Form) (o : Option Tree) (v : Marked) → seen_at at levels s o ≡ Some v → value_or n (missing_value s) (value_after (record { name = n; missing = missing_value s; read = reads s; value = None }) o) ≡ Ok v
@@ -188,7 +188,7 @@ module _ (at : Sight) (levels : ℕ) where
       )
 
   -- the fields are read as what is seen at their keys
-  pub fields_seen : (fs : Fields) → Distinct fs → (ps : Pairs) (vs : MarkedFields) → ArePassed fs ps → seen_fields at levels fs ps ≡ Some vs → (fill (pair_nodes at ps levels) (slots_of fs) >>= finish) ≡ Ok vs
-  fields_seen fs distinct ps vs c e =
+  pub fields_seen : (u : UnknownFields) (fs : Fields) → Distinct fs → (ps : Pairs) (vs : MarkedFields) → ArePassed u fs ps → seen_fields at levels fs ps ≡ Some vs → (fill u (pair_nodes at ps levels) (slots_of fs) >>= finish) ≡ Ok vs
+  fields_seen u fs distinct ps vs c e =
       let all = all_seen fs ps vs e in
-      ap (λ r. r >>= finish) (fill_again fs ps (slots_of fs) refl (apart_from fs distinct) c all.0) ∙ all.1
+      ap (λ r. r >>= finish) (fill_again u fs ps (slots_of fs) refl (apart_from fs distinct) c all.0) ∙ all.1

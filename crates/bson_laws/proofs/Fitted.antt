@@ -32,6 +32,7 @@ use Rattle.bson_laws.proofs.DatumContents.{sorted_kind}
 use Rattle.bson_laws.proofs.DatumNormal.{own_kind, sorted_in_range, tree_sorted_twice, datum_norm, datum_means}
 use Rattle.bson_laws.proofs.Fitting.{fits_leaf, fits_lossy}
 use Rattle.bson_laws.proofs.Free.{free_means, free_norm, free_struct_means, free_newtype_name, free_struct_name}
+use Rattle.bson_laws.proofs.Known.{fitting_known}
 use Rattle.bson_laws.proofs.Spelled.{found, tree_is, trees_are, pairs_are}
 
 pub bytes_eq-refl : (xs : Utf8) → bytes_eq xs xs ≡ true
@@ -247,11 +248,13 @@ mutual
   views_means (value.map es) (map key s) t p f e c =
       let a = some_map document (means_entries es) t e in
       subst (λ x. IsClean x → views (map key s) x ≡ Some (value.map (norm_entries es))) a.2 (λ c'. ap (option_map value.map) (views_means_entries es key s a.0 p f a.1 c')) c
-  views_means (value.structure m vs) (structure n fs) t p f e c =
-      let u = sym (free_struct_means m vs (ap reserved_kind f.0 ∙ free_struct_name n p.0)) ∙ e in
-      let a = some_map document (means_fields vs) t u in
-      subst (λ x. IsClean x → views (structure n fs) x ≡ Some (value.structure m (norm_fields vs))) a.2
-      (λ c'. ap (option_map (value.structure n)) (views_means_fields vs fs a.0 p.1 f.1 a.1 c') ∙ ap (λ x. Some (value.structure x (norm_fields vs))) (sym f.0)) c
+  views_means (value.structure m vs) (structure u n fs) t p f e c =
+      let a = some_map document (means_fields vs) t (sym (free_struct_means m vs (ap reserved_kind f.0 ∙ free_struct_name n p.0)) ∙ e) in
+      subst (λ x. IsClean x → views (structure u n fs) x ≡ Some (value.structure m (norm_fields vs))) a.2
+      (λ c'.
+      ap (λ b. cond b (option_map (value.structure n) (views_fields fs a.0)) None) (fitting_known u fs vs a.0 f.1 a.1)
+      ∙ ap (option_map (value.structure n)) (views_means_fields vs fs a.0 p.1 f.1 a.1 c')
+      ∙ ap (λ x. Some (value.structure x (norm_fields vs))) (sym f.0)) c
       ∙ ap Some (sym (free_norm m vs (ap reserved_kind f.0 ∙ free_struct_name n p.0)))
   views_means (value.tuple vs) (tuple ps) t p f e c =
       let a = some_map array (means_items vs) t e in

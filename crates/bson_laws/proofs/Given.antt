@@ -12,7 +12,7 @@ use Rattle.bson_base.proofs.Outcomes.{some_is, ok_is, map_ok, bind_ok}
 use Rattle.bson_rawdoc.specs.Node as node
 use Rattle.bson_rawdoc.specs.Node.{Sight, Node, Nodes, ended, faulty, then_node, mended}
 use Rattle.bson_rawdoc.specs.Piece.{Piece, made}
-use Rattle.bson_shape.specs.Form.{Form, leaf, optional, lossy, human_readable, by_mode, sequence, newtype, unit_structure, map, tuple, tuple_structure, structure, enumeration, Fields, no_fields, field, Parts, no_parts, part, Content, unit_content, newtype_content, tuple_content, struct_content, Variants, no_variants, variant}
+use Rattle.bson_shape.specs.Form.{UnknownFields, dropped, denied, Form, leaf, optional, lossy, human_readable, by_mode, sequence, newtype, unit_structure, map, tuple, tuple_structure, structure, enumeration, Fields, no_fields, field, Parts, no_parts, part, Content, unit_content, newtype_content, tuple_content, struct_content, Variants, no_variants, variant}
 use Rattle.bson_shape.specs.declared.leaf.Leaf.{Leaf}
 use Rattle.bson_datum.specs.Value as value
 use Rattle.bson_datum.specs.Value.{readable_newtype, IntegerType, i32, i64, in_range, Value, Items, no_items, item, Entries, no_entries, entry, FieldValues, no_field_values, field_value}
@@ -23,12 +23,12 @@ use Rattle.bson_datum.specs.Refusal.{at_index, under, under_index}
 use Rattle.bson_laws.specs.Leaves.{LeafKind, anything, ignored, booleans, numbers, doubles, characters, texts, byte_strings, byte_buffers, units, ExtendedLeaf, extended_values, raw_documents, raw_arrays, raw_values, leaf_kind}
 use Rattle.bson_laws.specs.Variants.{content_of}
 use Rattle.bson_laws.specs.Views.{one_character}
-use Rattle.bson_laws.specs.Judged.{Reading, refused, judged, passes, ignores}
+use Rattle.bson_laws.specs.Judged.{Reading, refused, judged, passes}
 use Rattle.bson_laws.specs.ReadsRaw.{raw_document_of, raw_array_of}
 use Rattle.bson_laws.specs.Taken.{owned_under_mark, boolean_of, integer_of, double_of, character_of, borrow, borrow_or_own, as_text, text_of, bytes_of, buffer_of, null_of, read_integer, read_character, document_of, array_of}
 use Rattle.bson_laws.specs.ReadsLeaf.{borrows, put_entry, read_any, any_items, any_entries, no_extended, read_leaf_with}
 use Rattle.bson_laws.specs.Containers.{reads_items, reads_entries, unit_of, reads_unit, reads_key, read_enum, reads_option, reads_next}
-use Rattle.bson_laws.specs.Slots.{Slot, Slots, missing_value, fill_slot, put_at, fill, value_or, finish, reads_places, read_structure}
+use Rattle.bson_laws.specs.Slots.{Slot, Slots, missing_value, fill_slot, unknown, put_at, fill, value_or, finish, reads_places, read_structure}
 use Rattle.bson_laws.specs.Shaped as shaped
 use Rattle.bson_laws.proofs.Framed.{IsFramed}
 use Rattle.bson_laws.proofs.GivenRaw.{IsGivenRaw, document_framed, array_framed, raw_given}
@@ -175,7 +175,7 @@ abbrev mutual
   IsGiven at (value.newtype_variant name v) (enumeration vs) = (s : Form) × (content_of vs name ≡ Some (newtype_content s)) × IsGiven at v s × (has_zero name ≡ false)
   IsGiven at (value.tuple_variant name vs) (enumeration ws) = (ps : Parts) × (content_of ws name ≡ Some (tuple_content ps)) × PartsGiven at vs ps × (has_zero name ≡ false)
   IsGiven at (value.structure_variant name vs) (enumeration ws) = (fs : Fields) × (content_of ws name ≡ Some (struct_content fs)) × FieldsGiven at vs fs × (has_zero name ≡ false)
-  IsGiven at (value.structure name vs) (structure n fs) = (name ≡ n) × FieldsGiven at vs fs
+  IsGiven at (value.structure name vs) (structure u n fs) = (name ≡ n) × FieldsGiven at vs fs
   IsGiven at v s = ⊥
 
   pub ItemsGiven : Sight → Items → Form → Type 0
@@ -506,23 +506,23 @@ module _ (sight : Sight) where
       })
   filled_given key name n s slot out (Some v) t h e = absurd cc
 
-  put_given : (key : Utf8) (n : Node) (fs : Fields) (slots out : Slots) → IsTame n → AreSlotsOf fs slots → put_at key n slots ≡ Ok out → AreSlotsOf fs out
-  put_given key n no_fields [] out t h e = let b = bind_ok (under key (ignores n)) (λ _. Ok []) out e in subst (AreSlotsOf no_fields) (ok_is [] out b.2) tt
-  put_given key n no_fields (slot ∷ slots) out t h e = absurd h
-  put_given key n (field name s fs) [] out t h e = absurd h
-  put_given key n (field name s fs) (slot ∷ slots) out t h e = by_case (bytes_eq slot.name key) (λ xs q. put_given key n fs slots xs t h.1 q) e where
-    by_case : (b : Bool) → ((xs : Slots) → put_at key n slots ≡ Ok xs → AreSlotsOf fs xs) → cond b (result_map (λ x. x ∷ slots) (fill_slot key n slot slot.value)) (result_map (λ xs. slot ∷ xs) (put_at key n slots)) ≡ Ok out → AreSlotsOf (field name s fs) out
+  put_given : (u : UnknownFields) (key : Utf8) (n : Node) (fs : Fields) (slots out : Slots) → IsTame n → AreSlotsOf fs slots → put_at u key n slots ≡ Ok out → AreSlotsOf fs out
+  put_given u key n no_fields [] out t h e = let b = bind_ok (unknown u key n) (λ _. Ok []) out e in subst (AreSlotsOf no_fields) (ok_is [] out b.2) tt
+  put_given u key n no_fields (slot ∷ slots) out t h e = absurd h
+  put_given u key n (field name s fs) [] out t h e = absurd h
+  put_given u key n (field name s fs) (slot ∷ slots) out t h e = by_case (bytes_eq slot.name key) (λ xs q. put_given u key n fs slots xs t h.1 q) e where
+    by_case : (b : Bool) → ((xs : Slots) → put_at u key n slots ≡ Ok xs → AreSlotsOf fs xs) → cond b (result_map (λ x. x ∷ slots) (fill_slot key n slot slot.value)) (result_map (λ xs. slot ∷ xs) (put_at u key n slots)) ≡ Ok out → AreSlotsOf (field name s fs) out
     by_case true later q =
         let m = map_ok (λ x. x ∷ slots) (fill_slot key n slot slot.value) out q in
         subst (AreSlotsOf (field name s fs)) m.2 (filled_given key name n s slot m.0 slot.value t h.0 m.1, h.1)
-    by_case false later q = let m = map_ok (λ xs. slot ∷ xs) (put_at key n slots) out q in subst (AreSlotsOf (field name s fs)) m.2 (h.0, later m.0 m.1)
+    by_case false later q = let m = map_ok (λ xs. slot ∷ xs) (put_at u key n slots) out q in subst (AreSlotsOf (field name s fs)) m.2 (h.0, later m.0 m.1)
 
-  fill_given : (ns : Nodes) (fs : Fields) (slots out : Slots) → AreTame ns → AreSlotsOf fs slots → fill ns slots ≡ Ok out → AreSlotsOf fs out
-  fill_given ended fs slots out t h e = subst (AreSlotsOf fs) (ok_is slots out e) h
-  fill_given (faulty f) fs slots out t h e = absurd cc
-  fill_given (then_node key n ns) fs slots out t h e =
-      let b = bind_ok (put_at key.bytes n slots) (fill ns) out e in
-      fill_given ns fs b.0 out t.2 (put_given key.bytes n fs slots b.0 t.1 h b.1) b.2
+  fill_given : (u : UnknownFields) (ns : Nodes) (fs : Fields) (slots out : Slots) → AreTame ns → AreSlotsOf fs slots → fill u ns slots ≡ Ok out → AreSlotsOf fs out
+  fill_given u ended fs slots out t h e = subst (AreSlotsOf fs) (ok_is slots out e) h
+  fill_given u (faulty f) fs slots out t h e = absurd cc
+  fill_given u (then_node key n ns) fs slots out t h e =
+      let b = bind_ok (put_at u key.bytes n slots) (fill u ns) out e in
+      fill_given u ns fs b.0 out t.2 (put_given u key.bytes n fs slots b.0 t.1 h b.1) b.2
 
   places_given : (fs : Fields) (slots : Slots) (i : ℕ) (ns : Nodes) (vs : MarkedFields) → AreTame ns → AreSlotsOf fs slots → reads_places i slots ns ≡ Ok vs → StructGiven fs vs
   places_given no_fields [] i ns vs t h e = subst (StructGiven no_fields) (ok_is no_field_values vs e) tt
@@ -533,14 +533,15 @@ module _ (sight : Sight) where
       let m = map_ok (field_value (made slot.name) r.1) (reads_places (suc i) slots r.2) vs r.6 in
       subst (StructGiven (field n s fs)) m.2 (h.0.name_is, h.0.each r.0 r.1 r.3 r.5, places_given fs slots (suc i) r.2 m.0 r.4 h.1 m.1)
 
-  keyed_given : (fs : Fields) (slots : Slots) (ns : Nodes) (vs : MarkedFields) → AreTame ns → AreSlotsOf fs slots → (fill ns slots >>= finish) ≡ Ok vs → StructGiven fs vs
-  keyed_given fs slots ns vs t h e = let b = bind_ok (fill ns slots) finish vs e in finish_given fs b.0 vs (fill_given ns fs slots b.0 t h b.1) b.2
+  keyed_given : (u : UnknownFields) (fs : Fields) (slots : Slots) (ns : Nodes) (vs : MarkedFields) → AreTame ns → AreSlotsOf fs slots → (fill u ns slots >>= finish) ≡ Ok vs → StructGiven fs vs
+  keyed_given u fs slots ns vs t h e = let b = bind_ok (fill u ns slots) finish vs e in finish_given fs b.0 vs (fill_given u ns fs slots b.0 t h b.1) b.2
 
-  structure_given : (fs : Fields) (slots : Slots) (n : Node) (vs : MarkedFields) → IsTame n → AreSlotsOf fs slots → read_structure slots n ≡ Ok vs → StructGiven fs vs
-  structure_given fs slots (node.array slice ns) vs t h e = places_given fs slots 0 ns vs t.1 h e
-  structure_given fs slots (node.document slice ns) vs t h e = keyed_given fs slots ns vs t.1 h e
-  structure_given fs slots (node.extended x ns) vs t h e = keyed_given fs slots ns vs t.1 h e
-  structure_given fs slots n vs t h e = absurd cc
+  structure_given : (u : UnknownFields) (fs : Fields) (slots : Slots) (n : Node) (vs : MarkedFields) → IsTame n → AreSlotsOf fs slots → read_structure u slots n ≡ Ok vs → StructGiven fs vs
+  structure_given dropped fs slots (node.array slice ns) vs t h e = places_given fs slots 0 ns vs t.1 h e
+  structure_given denied fs slots (node.array slice ns) vs t h e = absurd cc
+  structure_given u fs slots (node.document slice ns) vs t h e = keyed_given u fs slots ns vs t.1 h e
+  structure_given u fs slots (node.extended x ns) vs t h e = keyed_given u fs slots ns vs t.1 h e
+  structure_given u fs slots n vs t h e = absurd cc
 
   -- ---- variants
 
@@ -651,10 +652,10 @@ module _ (at_extended : ExtendedLeaf → Node → Reading Marked)
         let r = array_read at (value.tuple_structure (made name)) (reads_parts ps 0) n v t e in
         subst (λ x. IsGiven at (contents x) (tuple_structure name ps)) r.4 (refl, reads_parts_given at ps 0 r.0 r.1 r.2 r.3)
     reads_given at (enumeration vs) n v t e = enum_given at vs (λ key m w q h. reads_variant_given at vs key m w q h) n v t (after_judged n (read_enum (reads_unit vs) (reads_variant vs)) v e)
-    reads_given at (structure name fs) n v t e =
-        let read = read_structure (slots_of fs) in
+    reads_given at (structure u name fs) n v t e =
+        let read = read_structure u (slots_of fs) in
         let m = map_ok (value.structure (made name)) (read n) v (after_judged n (λ k. result_map (value.structure (made name)) (read k)) v e) in
-        subst (λ x. IsGiven at (contents x) (structure name fs)) m.2 (refl, structure_given at fs (slots_of fs) n m.0 t (slots_given at fs) m.1)
+        subst (λ x. IsGiven at (contents x) (structure u name fs)) m.2 (refl, structure_given at u fs (slots_of fs) n m.0 t (slots_given at fs) m.1)
 
     slots_given : (at : Sight) (fs : Fields) → AreSlotsOf at fs (slots_of fs)
     slots_given at no_fields = tt
@@ -681,6 +682,6 @@ module _ (at_extended : ExtendedLeaf → Node → Reading Marked)
         let r = array_read at (value.tuple_variant (made name)) (reads_parts ps 0) n v t (under_ok name (judged n >>= array_of >>= λ ns. result_map (value.tuple_variant (made name)) (reads_parts ps 0 ns)) v e) in
         (item_contents r.1, ap contents (sym r.4), reads_parts_given at ps 0 r.0 r.1 r.2 r.3)
     reads_content_given at name (struct_content fs) n v t e =
-        let read = read_structure (slots_of fs) in
+        let read = read_structure dropped (slots_of fs) in
         let m = map_ok (value.structure_variant (made name)) (read n) v (after_judged n (λ k. result_map (value.structure_variant (made name)) (read k)) v (under_ok name (judged n >>= λ k. result_map (value.structure_variant (made name)) (read k)) v e)) in
-        (field_contents m.0, ap contents (sym m.2), structure_given at fs (slots_of fs) n m.0 t (slots_given at fs) m.1)
+        (field_contents m.0, ap contents (sym m.2), structure_given at dropped fs (slots_of fs) n m.0 t (slots_given at fs) m.1)

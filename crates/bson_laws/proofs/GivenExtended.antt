@@ -21,7 +21,7 @@ use Rattle.bson_base.proofs.Outcomes.{some_is, some_map, some_then, ok_is, map_o
 use Rattle.bson_rawdoc.specs.Node as node
 use Rattle.bson_rawdoc.specs.Node.{Sight, Node, Extended, Nodes, ended, faulty, then_node, fault, extended_fault}
 use Rattle.bson_rawdoc.specs.Piece.{Piece, made}
-use Rattle.bson_shape.specs.Form.{Form, leaf, structure, Fields, no_fields, field}
+use Rattle.bson_shape.specs.Form.{dropped, Form, leaf, structure, Fields, no_fields, field}
 use Rattle.bson_shape.specs.declared.leaf.Leaf.{Leaf}
 use Rattle.bson_shape.specs.declared.leaf.Leaf.TheVariants as leaves
 use Rattle.bson_datum.specs.Cause.{invalid_length, wrong_kind, unknown_field}
@@ -98,7 +98,7 @@ module _ (sight : Sight) where
   number_makes type l f is h (value.integer other n) t g e = h n t (subst (λ k. IsGivenLeaf k (value.integer other n)) is g.0).1 e
   number_makes type l f is h v t g e = absurd cc
 
-  fields_of : (name n : Utf8) (vs : FieldValues) (fs : Fields) → IsGiven (value.structure name vs) (structure n fs) → FieldsGiven vs fs
+  fields_of : (name n : Utf8) (vs : FieldValues) (fs : Fields) → IsGiven (value.structure name vs) (structure dropped n fs) → FieldsGiven vs fs
   fields_of name n vs fs g = g.1
 
   first_of : (key n : Utf8) (v : Value) (s : Form) (vs : FieldValues) (fs : Fields) → FieldsGiven (field_value key v vs) (field n s fs) → IsGiven v s

@@ -3,6 +3,7 @@ pub mod Free
 pub mod Sizes
 pub mod Listed
 pub mod Spelled
+pub mod Known
 pub mod Fitted
 pub mod Fitting
 pub mod Variants

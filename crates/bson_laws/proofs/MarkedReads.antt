@@ -67,7 +67,7 @@ mutual
   settled_owned r (tuple_structure name ps) h = parts_owned r ps h
   settled_owned r (newtype name s) h = settled_owned r s h
   settled_owned r (unit_structure name) h = tt
-  settled_owned r (structure name fs) h = fields_owned r fs h
+  settled_owned r (structure u name fs) h = fields_owned r fs h
   settled_owned r (enumeration vs) h = variants_owned r vs h
 
   fields_owned : (r : Bool) (fs : Fields) → AreFieldsOwned fs → AreFieldsOwned (settled_fields r fs)

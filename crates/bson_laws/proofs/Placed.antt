@@ -4,9 +4,9 @@ use Rattle.std.specs.Str.{bytes_eq}
 use Rattle.bson_base.specs.Text.{Utf8}
 use Rattle.bson_base.specs.Outcome.{◌>>=◌, result_map}
 use Rattle.bson_rawdoc.specs.Node.{Node}
-use Rattle.bson_datum.specs.Refusal.{under}
-use Rattle.bson_laws.specs.Judged.{Reading, ignores}
-use Rattle.bson_laws.specs.Slots.{Slot, Slots, fill_slot, put_at}
+use Rattle.bson_shape.specs.Form.{UnknownFields}
+use Rattle.bson_laws.specs.Judged.{Reading}
+use Rattle.bson_laws.specs.Slots.{Slot, Slots, fill_slot, unknown, put_at}
 
 abbrev pub names_of : Slots → List Utf8
 names_of [] = []
@@ -31,20 +31,20 @@ mapped_twice : {A B C : Type 0} (f : B → C) (g : A → B) (r : Reading A) → 
 mapped_twice f g (Ok x) = refl
 mapped_twice f g (Err e) = refl
 
--- an element whose key is no name is dropped
-pub put_none : (key : Utf8) (n : Node) (slots : Slots) → IsNone key (names_of slots) → put_at key n slots ≡ (under key (ignores n) >>= λ _. Ok slots)
-put_none key n [] h = refl
-put_none key n (slot ∷ slots) h =
-    ap (λ b. cond b (result_map (λ x. x ∷ slots) (fill_slot key n slot slot.value)) (result_map (λ xs. slot ∷ xs) (put_at key n slots))) h.0
-    ∙ ap (result_map (λ xs. slot ∷ xs)) (put_none key n slots h.1)
-    ∙ mapped_then (λ xs. slot ∷ xs) (under key (ignores n)) slots
+-- an element whose key is no name is dropped, or refused
+pub put_none : (u : UnknownFields) (key : Utf8) (n : Node) (slots : Slots) → IsNone key (names_of slots) → put_at u key n slots ≡ (unknown u key n >>= λ _. Ok slots)
+put_none u key n [] h = refl
+put_none u key n (slot ∷ slots) h =
+    ap (λ b. cond b (result_map (λ x. x ∷ slots) (fill_slot key n slot slot.value)) (result_map (λ xs. slot ∷ xs) (put_at u key n slots))) h.0
+    ∙ ap (result_map (λ xs. slot ∷ xs)) (put_none u key n slots h.1)
+    ∙ mapped_then (λ xs. slot ∷ xs) (unknown u key n) slots
 
 -- an element whose key is a name goes to the slot at the place of the name
-pub put_first : (key : Utf8) (n : Node) (slots : Slots) (i : ℕ) (default : Slot) → IsFirst key (names_of slots) i
-    → put_at key n slots ≡ result_map (λ filled. set slots i filled) (fill_slot key n (get_or slots i default) (get_or slots i default).value)
-put_first key n [] i default h = absurd h
-put_first key n (slot ∷ slots) zero default h = ap (λ b. cond b (result_map (λ x. x ∷ slots) (fill_slot key n slot slot.value)) (result_map (λ xs. slot ∷ xs) (put_at key n slots))) h
-put_first key n (slot ∷ slots) (suc i) default h =
-    ap (λ b. cond b (result_map (λ x. x ∷ slots) (fill_slot key n slot slot.value)) (result_map (λ xs. slot ∷ xs) (put_at key n slots))) h.0
-    ∙ ap (result_map (λ xs. slot ∷ xs)) (put_first key n slots i default h.1)
+pub put_first : (u : UnknownFields) (key : Utf8) (n : Node) (slots : Slots) (i : ℕ) (default : Slot) → IsFirst key (names_of slots) i
+    → put_at u key n slots ≡ result_map (λ filled. set slots i filled) (fill_slot key n (get_or slots i default) (get_or slots i default).value)
+put_first u key n [] i default h = absurd h
+put_first u key n (slot ∷ slots) zero default h = ap (λ b. cond b (result_map (λ x. x ∷ slots) (fill_slot key n slot slot.value)) (result_map (λ xs. slot ∷ xs) (put_at u key n slots))) h
+put_first u key n (slot ∷ slots) (suc i) default h =
+    ap (λ b. cond b (result_map (λ x. x ∷ slots) (fill_slot key n slot slot.value)) (result_map (λ xs. slot ∷ xs) (put_at u key n slots))) h.0
+    ∙ ap (result_map (λ xs. slot ∷ xs)) (put_first u key n slots i default h.1)
     ∙ mapped_twice (λ xs. slot ∷ xs) (λ filled. set slots i filled) (fill_slot key n (get_or slots i default) (get_or slots i default).value)

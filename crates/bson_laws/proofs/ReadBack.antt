@@ -1,6 +1,6 @@
 -- What a sound tree is at a shape is read from it, and so from its bytes.
 use Rattle.std.proofs.Common.{◌≡◌, ℕ, zero, suc, ◌+◌, ◌-◌, ◌^◌, ◌<◌, ◌≤◌, [], ◌∷◌, ◌++◌, length, Bool, true, false, cond, Option, Some, None, Ok, Err, refl, ap, sym, subst, ◌∙◌, arith, pos, ℤ}
-use Rattle.std.specs.Prelude.{option_map, option_and_then, ◌||◌}
+use Rattle.std.specs.Prelude.{option_map, option_and_then, ◌||◌, ◌&&◌}
 use Rattle.std.specs.Str.{bytes_eq, chars}
 use Rattle.bson_base.specs.Pairs.{lookup}
 use Rattle.bson_base.specs.Text.{Bytes, Utf8}
@@ -14,7 +14,7 @@ use Rattle.bson_rawdoc.specs.Envelope.{envelope}
 use Rattle.bson_rawdoc.specs.Node as node
 use Rattle.bson_rawdoc.specs.Node.{Sight, from_input, piece, Nodes, node_in, tree_node, pair_nodes, tree_nodes}
 use Rattle.bson_rawdoc.specs.Piece.{made}
-use Rattle.bson_shape.specs.Form.{Form, leaf, optional, lossy, human_readable, by_mode, sequence, newtype, unit_structure, map, tuple, tuple_structure, structure, enumeration, Fields, no_fields, field, Parts, no_parts, part, Content, unit_content, newtype_content, tuple_content, struct_content, Variants, no_variants, variant}
+use Rattle.bson_shape.specs.Form.{UnknownFields, dropped, denied, Form, leaf, optional, lossy, human_readable, by_mode, sequence, newtype, unit_structure, map, tuple, tuple_structure, structure, enumeration, Fields, no_fields, field, Parts, no_parts, part, Content, unit_content, newtype_content, tuple_content, struct_content, Variants, no_variants, variant}
 use Rattle.bson_shape.specs.Makers.{has_field, repeats, IsShape, AreShapes, AreParts, AreVariants, IsContent}
 use Rattle.bson_laws.specs.Leaves.{LeafKind, anything, ignored, booleans, numbers, doubles, characters, texts, byte_strings, byte_buffers, units, extended_values, raw_documents, raw_arrays, raw_values, leaf_kind}
 use Rattle.bson_datum.specs.Value as value
@@ -31,7 +31,7 @@ use Rattle.bson_laws.specs.Slots.{Slots, missing_value, fill, finish, read_struc
 use Rattle.bson_laws.specs.Reads.{read_leaf, slots_of, reads, reads_parts, reads_variant, reads_content, answered, reads_document}
 use Rattle.bson_laws.specs.Plain.{IsPlain}
 use Rattle.bson_laws.specs.Settled.{settled}
-use Rattle.bson_laws.specs.Views.{absent, views_at, one_character, views_leaf, views_leaf_key, views_key, views_items, views_entries, views, views_fields, views_parts, views_variant, views_content}
+use Rattle.bson_laws.specs.Views.{all_known, are_named, absent, views_at, one_character, views_leaf, views_leaf_key, views_key, views_items, views_entries, views, views_fields, views_parts, views_variant, views_content}
 use Rattle.bson_laws.proofs.TreesRead.{extended_again}
 use Rattle.bson_laws.proofs.Fitted.{Unnamed, unlike_swap}
 use Rattle.bson_laws.proofs.Numbers.{length_again}
@@ -45,6 +45,7 @@ use Rattle.bson_laws.proofs.Judged.{ReadAs, by_null, judged_again, document_agai
 use Rattle.bson_laws.proofs.Lent.{LeafLent, IsLent, AreFieldsLent, ArePartsLent, AreVariantsLent, IsContentLent, marked, lent_from_input, text_lent}
 use Rattle.bson_laws.proofs.Mended.{tree_mended}
 use Rattle.bson_laws.proofs.Settled.{settled_same, plain_settled}
+use Rattle.bson_laws.proofs.Known.{where_known}
 use Rattle.bson_laws.proofs.Items.{ReadsBack, items_again}
 use Rattle.bson_laws.proofs.Entries.{KeepsApart, ReadsKeys, new_first, entries_again}
 use Rattle.bson_laws.proofs.Unshaped.{any_again}
@@ -63,6 +64,15 @@ unnamed_from name (field n s fs) e = let b = neither (bytes_eq name n) (has_fiel
 pub distinct_from : (fs : Fields) → repeats fs ≡ false → Distinct fs
 distinct_from no_fields e = tt
 distinct_from (field n s fs) e = let b = neither (has_field n fs) (repeats fs) e in (unnamed_from n fs b.0, distinct_from fs b.1)
+
+-- the key that a field names is that of a field
+not_named : (a b : Bool) → (a || b) ≡ true → a ≡ false → (b ≡ true → ⊥) → ⊥
+not_named true b h e others = absurd cc
+not_named false b h e others = others h
+
+named_not : (key : Utf8) (fs : Fields) → has_field key fs ≡ true → Unnamed key fs → ⊥
+named_not key no_fields h u = absurd cc
+named_not key (field n s fs) h u = not_named (bytes_eq key n) (has_field key fs) h (unlike_swap n key u.0) (λ others. named_not key fs others u.1)
 
 -- ---- leaves
 
@@ -159,30 +169,39 @@ map_again at key s (document ps) v levels lent each c d e =
 map_again at key s t v levels lent each c d e = absurd cc
 
 -- what a struct reads from a document is read by its keys
-keyed : (at : Sight) (slots : Slots) (ps : Pairs) (levels : ℕ) → depth (document ps) ≤ levels → read_structure slots (tree_node at (document ps) levels) ≡ (fill (pair_nodes at ps (levels - 1)) slots >>= finish)
-keyed at slots ps zero d = absurd (omega arith)
-keyed at slots ps (suc n) d = let below : n ≡ suc n - 1 = omega arith in ap (λ m. fill (pair_nodes at ps m) slots >>= finish) below
+keyed : (at : Sight) (u : UnknownFields) (slots : Slots) (ps : Pairs) (levels : ℕ) → depth (document ps) ≤ levels → read_structure u slots (tree_node at (document ps) levels) ≡ (fill u (pair_nodes at ps (levels - 1)) slots >>= finish)
+keyed at u slots ps zero d = absurd (omega arith)
+keyed at u slots ps (suc n) d = let below : n ≡ suc n - 1 = omega arith in ap (λ m. fill u (pair_nodes at ps m) slots >>= finish) below
 
 -- what the fields are viewed as is what they are seen as
 abbrev SeesFields : (at : Sight) → Fields → ℕ → Type 0
 SeesFields at fs levels = (ps : Pairs) (vs : FieldValues) → ArePairsClean ps → pairs_depth ps ≤ levels → views_fields fs ps ≡ Some vs → (out : MarkedFields) × (seen_fields at levels fs ps ≡ Some out) × (field_contents out ≡ vs)
 
-all_passed : (at : Sight) (fs : Fields) (ps : Pairs) (levels : ℕ) → ArePairsClean ps → pairs_depth ps ≤ levels → ArePassed at levels fs ps
-all_passed at fs no_pairs levels c d = tt
-all_passed at fs (pair k t ps) levels c d = (c.1, (λ e. ignores_again at t levels c.2 (omega arith)), all_passed at fs ps levels c.3 (omega arith))
+both_true : (a b : Bool) → (a && b) ≡ true → (a ≡ true) × (b ≡ true)
+both_true true b e = (refl, e)
+both_true false b e = absurd cc
+
+-- a key that no field names is dropped, and where it is denied there is none
+all_passed : (at : Sight) (u : UnknownFields) (fs : Fields) (ps : Pairs) (levels : ℕ) → ArePairsClean ps → pairs_depth ps ≤ levels → all_known u fs ps ≡ true → ArePassed at levels u fs ps
+all_passed at u fs no_pairs levels c d known = tt
+all_passed at dropped fs (pair k t ps) levels c d known =
+    (c.1, (λ none. ap (under k) (ignores_again at t levels c.2 (omega arith))), all_passed at dropped fs ps levels c.3 (omega arith) refl)
+all_passed at denied fs (pair k t ps) levels c d known =
+    let b = both_true (has_field k fs) (are_named fs ps) known in
+    (c.1, (λ none. absurd (named_not k fs b.0 none)), all_passed at denied fs ps levels c.3 (omega arith) b.1)
 
 -- the fields of a struct, read by their keys where each is
-fields_again : (at : Sight) (f : FieldValues → Value) (g : MarkedFields → Marked) (fs : Fields) (ps : Pairs) (v : Value) (levels : ℕ) → ((x : MarkedFields) → contents (g x) ≡ f (field_contents x)) → repeats fs ≡ false → SeesFields at fs (levels - 1)
-    → IsClean (document ps) → depth (document ps) ≤ levels → option_map f (views_fields fs ps) ≡ Some v
-    → ReadAs contents (judged (tree_node at (document ps) levels) >>= λ m. result_map g (read_structure (slots_of fs) m)) v
-fields_again at f g fs ps v levels same distinct each c d e =
+fields_again : (at : Sight) (u : UnknownFields) (f : FieldValues → Value) (g : MarkedFields → Marked) (fs : Fields) (ps : Pairs) (v : Value) (levels : ℕ) → ((x : MarkedFields) → contents (g x) ≡ f (field_contents x)) → repeats fs ≡ false → SeesFields at fs (levels - 1)
+    → IsClean (document ps) → depth (document ps) ≤ levels → all_known u fs ps ≡ true → option_map f (views_fields fs ps) ≡ Some v
+    → ReadAs contents (judged (tree_node at (document ps) levels) >>= λ m. result_map g (read_structure u (slots_of fs) m)) v
+fields_again at u f g fs ps v levels same distinct each c d known e =
     let below = levels - 1 in
     let m = some_map f (views_fields fs ps) v e in
     let slots = slots_of fs in
     let h = each ps m.0 c (omega arith) m.1 in (
       g h.0,
-      ap (λ r. r >>= λ x. result_map g (read_structure slots x)) (judged_again at (document ps) levels c d)
-          ∙ ap (result_map g) (keyed at slots ps levels d ∙ fields_seen at below fs (distinct_from fs distinct) ps h.0 (all_passed at fs ps below c (omega arith)) h.1),
+      ap (λ r. r >>= λ x. result_map g (read_structure u slots x)) (judged_again at (document ps) levels c d)
+          ∙ ap (result_map g) (keyed at u slots ps levels d ∙ fields_seen at below u fs (distinct_from fs distinct) ps h.0 (all_passed at u fs ps below c (omega arith) known) h.1),
       same h.0 ∙ ap f h.2 ∙ m.2,
     )
 
@@ -249,8 +268,10 @@ mutual
       (λ vs c' d' h. items_again at (views s) (reads s) (levels - 1) (λ u w. reads_again at s u w (levels - 1) p.1 lent) 0 ts vs c' d' h) c d e
   reads_again at (sequence s) t v levels p lent c d e = absurd cc
   reads_again at (map key s) t v levels p lent c d e = map_again at key s t v levels lent.0 (λ u w. reads_again at s u w (levels - 1) p.3 lent.1) c d e
-  reads_again at (structure name fs) (document qs) v levels p lent c d e = fields_again at (value.structure name) (value.structure (made name)) fs qs v levels (λ x. refl) p.0.distinct (λ ps vs c' d' h. sees_fields_again at fs ps vs (levels - 1) p.1 lent c' d' h) c d e
-  reads_again at (structure name fs) t v levels p lent c d e = absurd cc
+  reads_again at (structure u name fs) (document qs) v levels p lent c d e =
+      let k = where_known (all_known u fs qs) (option_map (value.structure name) (views_fields fs qs)) v e in
+      fields_again at u (value.structure name) (value.structure (made name)) fs qs v levels (λ x. refl) p.0.distinct (λ ps vs c' d' h. sees_fields_again at fs ps vs (levels - 1) p.1 lent c' d' h) c d k.0 k.1
+  reads_again at (structure u name fs) t v levels p lent c d e = absurd cc
   reads_again at (tuple ps) (array ts) v levels p lent c d e =
       parts_again at value.tuple value.tuple (views_parts ps) (reads_parts ps 0) ts v levels (λ x. refl) (λ vs c' d' h. reads_parts_again at ps 0 ts vs (levels - 1) p.1 lent c' d' h) c d e
   reads_again at (tuple ps) t v levels p lent c d e = absurd cc
@@ -300,7 +321,7 @@ mutual
       under_read n _ v (parts_again at (value.tuple_variant n) (value.tuple_variant (made n)) (views_parts ps) (reads_parts ps 0) ts v levels (λ x. refl) (λ vs c' d' h. reads_parts_again at ps 0 ts vs (levels - 1) p lent c' d' h) c d e)
   reads_content_again at (tuple_content ps) n t v levels p lent c d e = absurd cc
   reads_content_again at (struct_content fs) n (document qs) v levels p lent c d e =
-      under_read n _ v (fields_again at (value.structure_variant n) (value.structure_variant (made n)) fs qs v levels (λ x. refl) p.0 (λ ps vs c' d' h. sees_fields_again at fs ps vs (levels - 1) p.1 lent c' d' h) c d e)
+      under_read n _ v (fields_again at dropped (value.structure_variant n) (value.structure_variant (made n)) fs qs v levels (λ x. refl) p.0 (λ ps vs c' d' h. sees_fields_again at fs ps vs (levels - 1) p.1 lent c' d' h) c d refl e)
   reads_content_again at (struct_content fs) n t v levels p lent c d e = absurd cc
 
 pub envelope_again : (ps : Pairs) → length (enc (document ps)) < 2 ^ 31 → envelope (enc (document ps)) ≡ Ok (enc (document ps))

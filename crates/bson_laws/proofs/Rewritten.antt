@@ -193,7 +193,7 @@ mutual
   written at (value.map es) (map key s) p c g levels = enclosed_written document (spell_entries es) (entries_written at es key s p.3 c.0 c.1 g.1) levels
   written at (value.tuple vs) (tuple ps) p c g levels = enclosed_written array (spell_items 0 vs) (parts_written at vs ps 0 p.1 c g) levels
   written at (value.tuple_structure m vs) (tuple_structure n ps) p c g levels = enclosed_written array (spell_items 0 vs) (parts_written at vs ps 0 p.2 c g.1) levels
-  written at (value.structure m vs) (structure n fs) p c g levels =
+  written at (value.structure m vs) (structure u n fs) p c g levels =
       subst IsWrittenUnlessLarge (sym (free_struct m vs levels (ap reserved_kind g.0 ∙ p.0.free))) (enclosed_written document (spell_fields vs) (fields_written at vs fs p.1 c g.1) levels)
   written at (value.unit_variant name) (enumeration vs) p c g levels = tt
   written at (value.newtype_variant name v) (enumeration vs) p c g levels =

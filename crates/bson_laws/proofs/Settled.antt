@@ -24,7 +24,7 @@ mutual
   settled_same r (tuple_structure name ps) h = ap (tuple_structure name) (parts_same r ps h)
   settled_same r (newtype name s) h = ap (newtype name) (settled_same r s h)
   settled_same r (unit_structure name) h = refl
-  settled_same r (structure name fs) h = ap (structure name) (fields_same r fs h)
+  settled_same r (structure u name fs) h = ap (structure u name) (fields_same r fs h)
   settled_same r (enumeration vs) h = ap enumeration (variants_same r vs h)
 
   fields_same : (r : Bool) (fs : Fields) → AreFieldsSettled fs → settled_fields r fs ≡ fs
@@ -58,7 +58,7 @@ mutual
   plain_settled (tuple_structure name ps) p = plain_parts ps p
   plain_settled (newtype name s) p = plain_settled s p.1
   plain_settled (unit_structure name) p = tt
-  plain_settled (structure name fs) p = plain_fields fs p.1
+  plain_settled (structure u name fs) p = plain_fields fs p.1
   plain_settled (enumeration vs) p = plain_variants vs p
 
   plain_fields : (fs : Fields) → AreFieldsPlain fs → AreFieldsSettled fs
@@ -92,7 +92,7 @@ mutual
   writable_settled (tuple_structure name ps) w = writable_parts ps w
   writable_settled (newtype name s) w = writable_settled s w
   writable_settled (unit_structure name) w = tt
-  writable_settled (structure name fs) w = writable_fields fs w
+  writable_settled (structure u name fs) w = writable_fields fs w
   writable_settled (enumeration vs) w = writable_variants vs w
 
   writable_fields : (fs : Fields) → FieldsHaveWritableKeys fs → AreFieldsSettled fs
@@ -139,7 +139,7 @@ absent_settled r (tuple ps) = refl
 absent_settled r (tuple_structure name ps) = refl
 absent_settled r (newtype name s) = refl
 absent_settled r (unit_structure name) = refl
-absent_settled r (structure name fs) = refl
+absent_settled r (structure u name fs) = refl
 absent_settled r (enumeration vs) = refl
 
 -- of two forms the one that is due says what stands for a missing value

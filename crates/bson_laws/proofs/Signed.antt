@@ -312,7 +312,7 @@ mutual
   given_signed at (value.map es) (map key s) g = entries_signed at es key s g.1
   given_signed at (value.tuple vs) (tuple ps) g = parts_signed at vs ps g
   given_signed at (value.tuple_structure m vs) (tuple_structure n ps) g = parts_signed at vs ps g.1
-  given_signed at (value.structure m vs) (structure n fs) g = fields_signed at vs fs g.1
+  given_signed at (value.structure m vs) (structure u n fs) g = fields_signed at vs fs g.1
   given_signed at (value.unit_variant name) (enumeration vs) g = tt
   given_signed at (value.newtype_variant name v) (enumeration vs) g = given_signed at v g.0 g.2
   given_signed at (value.tuple_variant name ws) (enumeration vs) g = parts_signed at ws g.0 g.2

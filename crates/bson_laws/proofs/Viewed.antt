@@ -28,7 +28,7 @@ use Rattle.bson_laws.specs.Leaves.{LeafKind, anything, ignored, booleans, number
 use Rattle.bson_laws.specs.Datum.{datum, itself, uuid_datum, sorted_tree}
 use Rattle.bson_laws.specs.Judged.{refused}
 use Rattle.bson_laws.specs.Variants.{content_of}
-use Rattle.bson_laws.specs.Views.{views_extended, one_character, views_any, views_any_items, views_any_entries, views_leaf, views_leaf_key, views_items, views_key, views_entries, absent, views_at, views, views_fields, views_parts, views_variant, views_content}
+use Rattle.bson_laws.specs.Views.{all_known, views_extended, one_character, views_any, views_any_items, views_any_entries, views_leaf, views_leaf_key, views_items, views_key, views_entries, absent, views_at, views, views_fields, views_parts, views_variant, views_content}
 use Rattle.bson_laws.specs.Unwrap.{unwrap, scoped_code}
 use Rattle.bson_laws.specs.Written.{with_scope}
 use Rattle.bson_laws.specs.Spell.{Writing, spell_whole}
@@ -41,6 +41,7 @@ use Rattle.bson_laws.proofs.Ranges.{clean_in_range}
 use Rattle.bson_laws.proofs.DatumNormal.{same_kind, sorted_in_range, tree_sorted_twice, datum_norm, datum_means}
 use Rattle.bson_laws.specs.Plain.{IsPlain, AreFieldsPlain, ArePartsPlain, AreVariantsPlain, IsContentPlain}
 use Rattle.bson_laws.proofs.Free.{free_norm, free_struct_name}
+use Rattle.bson_laws.proofs.Known.{where_known}
 use Rattle.bson_laws.proofs.Fitting.{leaf_fits, lossy_fits}
 use Rattle.bson_laws.proofs.Variants.{unit_is, chosen_holds, FitsContent, FitsVariant, chosen_fits, variant_fits}
 
@@ -220,10 +221,11 @@ mutual
       let b = some_map value.map (views_entries (views_key key) (views s) ps) v e in
       subst (λ x. Fits x (map key s)) b.2 (entries_fit key s (λ t w. views_fit s t w) ps b.0 c b.1)
   views_fit (map key s) t v c e = absurd cc
-  views_fit (structure name fs) (document ps) v c e =
-      let b = some_map (value.structure name) (views_fields fs ps) v e in
-      subst (λ x. Fits x (structure name fs)) b.2 (refl, views_fields_fit fs ps b.0 c b.1)
-  views_fit (structure name fs) t v c e = absurd cc
+  views_fit (structure u name fs) (document ps) v c e =
+      let k = where_known (all_known u fs ps) (option_map (value.structure name) (views_fields fs ps)) v e in
+      let b = some_map (value.structure name) (views_fields fs ps) v k.1 in
+      subst (λ x. Fits x (structure u name fs)) b.2 (refl, views_fields_fit fs ps b.0 c b.1)
+  views_fit (structure u name fs) t v c e = absurd cc
   views_fit (tuple ps) (array ts) v c e =
       let b = some_map value.tuple (views_parts ps ts) v e in
       subst (λ x. Fits x (tuple ps)) b.2 (views_parts_fit ps ts b.0 c b.1)
@@ -483,10 +485,11 @@ mutual
       let b = some_map value.map (views_entries (views_key key) (views s) ps) v e in
       subst (IsNormal (document ps)) b.2 (ap value.map (entries_normal key s (λ t w. views_normal s t w p.2) ps b.0 c b.1), λ h. absurd (no_map b.0 h))
   views_normal (map key s) t v p c e = absurd cc
-  views_normal (structure name fs) (document ps) v p c e =
-      let b = some_map (value.structure name) (views_fields fs ps) v e in
+  views_normal (structure u name fs) (document ps) v p c e =
+      let k = where_known (all_known u fs ps) (option_map (value.structure name) (views_fields fs ps)) v e in
+      let b = some_map (value.structure name) (views_fields fs ps) v k.1 in
       subst (IsNormal (document ps)) b.2 (free_norm name b.0 (free_struct_name name p.0) ∙ ap (value.structure name) (fields_normal fs ps b.0 p.1 c b.1), λ h. absurd (no_structure name b.0 h))
-  views_normal (structure name fs) t v p c e = absurd cc
+  views_normal (structure u name fs) t v p c e = absurd cc
   views_normal (tuple ps) (array ts) v p c e =
       let b = some_map value.tuple (views_parts ps ts) v e in
       subst (IsNormal (array ts)) b.2 (ap value.tuple (parts_normal ps ts b.0 p c b.1), λ h. absurd (no_sequence b.0 h))

@@ -112,7 +112,7 @@ abbrev mutual
   Fits (value.newtype_variant name v) (enumeration vs) = (s : Form) × (content_of vs name ≡ Some (newtype_content s)) × Fits v s
   Fits (value.tuple_variant name vs) (enumeration ws) = (ps : Parts) × (content_of ws name ≡ Some (tuple_content ps)) × PartsFit vs ps
   Fits (value.structure_variant name vs) (enumeration ws) = (fs : Fields) × (content_of ws name ≡ Some (struct_content fs)) × FieldsFit vs fs
-  Fits (value.structure name vs) (structure n fs) = (name ≡ n) × FieldsFit vs fs
+  Fits (value.structure name vs) (structure u n fs) = (name ≡ n) × FieldsFit vs fs
   Fits v s = ⊥
 
   pub ItemsFit : Items → Form → Type 0

@@ -30,7 +30,7 @@ abbrev mutual
   IsOwned (tuple ps) = ArePartsOwned ps
   IsOwned (tuple_structure name ps) = ArePartsOwned ps
   IsOwned (enumeration vs) = AreVariantsOwned vs
-  IsOwned (structure name fs) = AreFieldsOwned fs
+  IsOwned (structure u name fs) = AreFieldsOwned fs
 
   pub AreFieldsOwned : Fields → Type 0
   AreFieldsOwned no_fields = Unit {0}

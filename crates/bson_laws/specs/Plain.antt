@@ -35,7 +35,7 @@ abbrev mutual
   OwnsTexts (tuple ps) = PartsOwnTexts ps
   OwnsTexts (tuple_structure name ps) = PartsOwnTexts ps
   OwnsTexts (enumeration vs) = VariantsOwnTexts vs
-  OwnsTexts (structure name fs) = FieldsOwnTexts fs
+  OwnsTexts (structure u name fs) = FieldsOwnTexts fs
 
   pub FieldsOwnTexts : Fields → Type 0
   FieldsOwnTexts no_fields = Unit {0}
@@ -78,7 +78,7 @@ abbrev mutual
   IsPlain (tuple ps) = ArePartsPlain ps
   IsPlain (tuple_structure name ps) = ArePartsPlain ps
   IsPlain (enumeration vs) = AreVariantsPlain vs
-  IsPlain (structure name fs) = IsFreeName name × AreFieldsPlain fs
+  IsPlain (structure u name fs) = IsFreeName name × AreFieldsPlain fs
 
   pub AreFieldsPlain : Fields → Type 0
   AreFieldsPlain no_fields = Unit {0}

@@ -21,7 +21,7 @@ abbrev mutual
   settled readable (tuple_structure name ps) = tuple_structure name (settled_parts readable ps)
   settled readable (newtype name s) = newtype name (settled readable s)
   settled readable (unit_structure name) = unit_structure name
-  settled readable (structure name fs) = structure name (settled_fields readable fs)
+  settled readable (structure u name fs) = structure u name (settled_fields readable fs)
   settled readable (enumeration vs) = enumeration (settled_variants readable vs)
 
   pub settled_fields : (readable : Bool) → Fields → Fields
@@ -56,7 +56,7 @@ abbrev mutual
   IsSettled (tuple_structure name ps) = ArePartsSettled ps
   IsSettled (newtype name s) = IsSettled s
   IsSettled (unit_structure name) = Unit {0}
-  IsSettled (structure name fs) = AreFieldsSettled fs
+  IsSettled (structure u name fs) = AreFieldsSettled fs
   IsSettled (enumeration vs) = AreVariantsSettled vs
 
   pub AreFieldsSettled : Fields → Type 0

@@ -5,7 +5,7 @@ use Rattle.bson_base.specs.Text.{Utf8}
 use Rattle.bson_base.specs.Outcome.{◌>>=◌, result_map}
 use Rattle.bson_rawdoc.specs.Node.{Node, Nodes, mended}
 use Rattle.bson_rawdoc.specs.Piece.{made}
-use Rattle.bson_shape.specs.Form.{Form, leaf, optional, lossy, human_readable, by_mode, sequence, newtype, unit_structure, map, tuple, tuple_structure, structure, enumeration, Fields, no_fields, field, Parts, no_parts, part, Content, unit_content, newtype_content, tuple_content, struct_content, Variants, no_variants, variant}
+use Rattle.bson_shape.specs.Form.{dropped, Form, leaf, optional, lossy, human_readable, by_mode, sequence, newtype, unit_structure, map, tuple, tuple_structure, structure, enumeration, Fields, no_fields, field, Parts, no_parts, part, Content, unit_content, newtype_content, tuple_content, struct_content, Variants, no_variants, variant}
 use Rattle.bson_datum.specs.Value as value
 use Rattle.bson_datum.specs.Value.{readable_newtype, no_items, item, no_entries}
 use Rattle.bson_datum.specs.Marked.{Marked, MarkedItems}
@@ -34,7 +34,7 @@ module _ (extended : ExtendedLeaf → Node → Reading Marked) where
     reads (map key s) n = judged n >>= document_of >>= λ ns. result_map value.map (reads_entries (reads_key key) (reads s) ns no_entries)
     reads (tuple ps) n = judged n >>= array_of >>= λ ns. result_map value.tuple (reads_parts ps 0 ns)
     reads (tuple_structure name ps) n = judged n >>= array_of >>= λ ns. result_map (value.tuple_structure (made name)) (reads_parts ps 0 ns)
-    reads (structure name fs) n = judged n >>= λ m. result_map (value.structure (made name)) (read_structure (slots_of fs) m)
+    reads (structure u name fs) n = judged n >>= λ m. result_map (value.structure (made name)) (read_structure u (slots_of fs) m)
     reads (enumeration vs) n = judged n >>= read_enum (reads_unit vs) (reads_variant vs)
 
     -- the parts of a tuple in their order from the elements of an array from this index on; further elements and a fault behind them stay unread
@@ -57,4 +57,4 @@ module _ (extended : ExtendedLeaf → Node → Reading Marked) where
     reads_content name unit_content n = refused unit_in_document
     reads_content name (newtype_content s) n = under name (result_map (value.newtype_variant (made name)) (reads s n))
     reads_content name (tuple_content ps) n = under name (judged n >>= array_of >>= λ ns. result_map (value.tuple_variant (made name)) (reads_parts ps 0 ns))
-    reads_content name (struct_content fs) n = under name (judged n >>= λ m. result_map (value.structure_variant (made name)) (read_structure (slots_of fs) m))
+    reads_content name (struct_content fs) n = under name (judged n >>= λ m. result_map (value.structure_variant (made name)) (read_structure dropped (slots_of fs) m))

@@ -3,12 +3,13 @@ use Rattle.std.specs.Prelude.{ℕ, suc, List, [], ◌∷◌, if◌then◌else◌
 use Rattle.std.specs.Str.{bytes_eq}
 use Rattle.bson_base.specs.Text.{Utf8}
 use Rattle.bson_base.specs.Outcome.{◌>>=◌, result_map}
+use Rattle.bson_base.specs.declared.element_type.ElementType.TheVariants.{Array}
 use Rattle.bson_rawdoc.specs.Node.{Node, array, Nodes, ended, faulty, then_node}
 use Rattle.bson_rawdoc.specs.Piece.{made}
-use Rattle.bson_shape.specs.Form.{Form, by_mode}
+use Rattle.bson_shape.specs.Form.{UnknownFields, dropped, denied, Form, by_mode}
 use Rattle.bson_datum.specs.Value.{ValueOf, no_field_values, field_value}
 use Rattle.bson_datum.specs.Marked.{Marked, MarkedFields}
-use Rattle.bson_datum.specs.Cause.{raw, missing_field, duplicate_field}
+use Rattle.bson_datum.specs.Cause.{raw, invalid_type, missing_field, duplicate_field, unknown_field}
 use Rattle.bson_datum.specs.Refusal.{under}
 use Rattle.bson_laws.specs.Views.{absent}
 use Rattle.bson_laws.specs.Judged.{Reading, refused, ignores}
@@ -41,18 +42,23 @@ abbrev pub fill_slot : Utf8 → Node → Slot → Option Marked → Reading Slot
 fill_slot key n slot None = under key (slot.read n) >>= λ v. Ok (record slot { value = Some v })
 fill_slot key n slot (Some v) = refused (duplicate_field key)
 
--- an element at the slot that has its key as its name, or dropped where none has
-abbrev pub put_at : Utf8 → Node → Slots → Reading Slots
-put_at key n [] = under key (ignores n) >>= λ _. Ok []
-put_at key n (slot ∷ slots) =
+-- An element that no field takes: it is read and dropped, or the document is refused for its key before its value is looked at.
+abbrev pub unknown : UnknownFields → Utf8 → Node → Reading (Unit {0})
+unknown dropped key n = under key (ignores n)
+unknown denied key n = refused (unknown_field key)
+
+-- an element at the slot that has its key as its name, or as one that no field takes where none has
+abbrev pub put_at : UnknownFields → Utf8 → Node → Slots → Reading Slots
+put_at u key n [] = unknown u key n >>= λ _. Ok []
+put_at u key n (slot ∷ slots) =
     if bytes_eq slot.name key then result_map (λ filled. filled ∷ slots) (fill_slot key n slot slot.value)
-    else result_map (λ others. slot ∷ others) (put_at key n slots)
+    else result_map (λ others. slot ∷ others) (put_at u key n slots)
 
 -- the elements one after another, up to the fault that ends their list
-abbrev pub fill : Nodes → Slots → Reading Slots
-fill ended slots = Ok slots
-fill (faulty e) slots = refused (raw e)
-fill (then_node key n ns) slots = put_at key.bytes n slots >>= fill ns
+abbrev pub fill : UnknownFields → Nodes → Slots → Reading Slots
+fill u ended slots = Ok slots
+fill u (faulty e) slots = refused (raw e)
+fill u (then_node key n ns) slots = put_at u key.bytes n slots >>= fill u ns
 
 -- the value that was read for a field, or else the one that stands for a missing field
 abbrev pub value_or : Utf8 → (missing value : Option Marked) → Reading Marked
@@ -74,7 +80,12 @@ reads_places i (slot ∷ slots) ns = reads_next i slot.read (λ v rest. result_m
 
 -- ---- either
 
+-- the elements of an array by their places; a struct that denies unknown fields takes none
+abbrev pub by_place : UnknownFields → Slots → Nodes → Reading MarkedFields
+by_place dropped slots ns = reads_places 0 slots ns
+by_place denied slots ns = refused (invalid_type Array)
+
 -- a struct takes the elements of an array by their places, and those of a document by their keys
-abbrev pub read_structure : Slots → Node → Reading MarkedFields
-read_structure slots (array slice ns) = reads_places 0 slots ns
-read_structure slots n = document_of n >>= λ ns. fill ns slots >>= finish
+abbrev pub read_structure : UnknownFields → Slots → Node → Reading MarkedFields
+read_structure u slots (array slice ns) = by_place u slots ns
+read_structure u slots n = document_of n >>= λ ns. fill u ns slots >>= finish

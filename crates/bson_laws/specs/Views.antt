@@ -1,11 +1,12 @@
 -- The value that a tree is at a shape. Source: serde's data model.
-use Rattle.std.specs.Prelude.{ℕ, ◌&&◌, nat_eq, length, [], ◌∷◌, List, zero, if◌then◌else◌, ℤ, Option, Some, None, option_map, option_and_then}
+use Rattle.std.specs.Prelude.{ℕ, Bool, true, ◌&&◌, nat_eq, length, [], ◌∷◌, List, zero, if◌then◌else◌, ℤ, Option, Some, None, option_map, option_and_then}
 use Rattle.std.specs.Str.{bytes_eq, chars}
 use Rattle.bson_base.specs.Text.{Utf8}
 use Rattle.bson_base.specs.Pairs.{lookup}
 use Rattle.bson_base.specs.Kind.{byte}
 use Rattle.bson_base.specs.Tree.{Tree, kind, object_id, double, string, document, array, binary, boolean, null, int32, int64, Pairs, no_pairs, pair, Trees, no_trees, tree}
-use Rattle.bson_shape.specs.Form.{Form, leaf, optional, lossy, sequence, newtype, unit_structure, map, tuple, tuple_structure, structure, enumeration, Fields, no_fields, field, Parts, no_parts, part, Content, unit_content, newtype_content, tuple_content, struct_content, Variants, no_variants, variant}
+use Rattle.bson_shape.specs.Form.{UnknownFields, dropped, denied, Form, leaf, optional, lossy, sequence, newtype, unit_structure, map, tuple, tuple_structure, structure, enumeration, Fields, no_fields, field, Parts, no_parts, part, Content, unit_content, newtype_content, tuple_content, struct_content, Variants, no_variants, variant}
+use Rattle.bson_shape.specs.Makers.{has_field}
 use Rattle.bson_laws.specs.Variants.{content_of}
 use Rattle.bson_laws.specs.Leaves.{LeafKind, anything, booleans, numbers, doubles, characters, texts, byte_strings, byte_buffers, units, extended_values, ExtendedLeaf, object_ids, uuids, of_kind, trees, documents, leaf_kind}
 use Rattle.bson_laws.specs.Datum.{datum, uuid_datum, itself, sorted_tree}
@@ -114,12 +115,22 @@ abbrev pub views_at : (Tree → Option Value) → Option Value → Option Tree �
 views_at views missing None = missing
 views_at views missing (Some t) = views t
 
+-- each key is the name of a field
+abbrev pub are_named : Fields → Pairs → Bool
+are_named fs no_pairs = true
+are_named fs (pair key t ps) = has_field key fs && are_named fs ps
+
+-- a struct takes each of these keys: all, or where it denies unknown fields the names of its own
+abbrev pub all_known : UnknownFields → Fields → Pairs → Bool
+all_known dropped fs ps = true
+all_known denied fs ps = are_named fs ps
+
 abbrev mutual
   -- The value that a tree is at a shape, where it is one. The texts of a tree are texts, so none of them is mended. What is read for a reader who is human
   -- has no view. A sequence takes the values of an array, each at its shape, a map the pairs of a
-  -- document in their order. A struct takes each of its fields from the document by its key, in the shape's order; other keys are dropped. A tuple
-  -- takes an array of as many values as it has parts. An enum takes a text that names a unit variant, and a document of one pair whose key names a
-  -- variant with contents.
+  -- document in their order. A struct takes each of its fields from the document by its key, in the shape's order; other keys are dropped, and where the struct
+  -- denies them a document that has one has no view. A tuple takes an array of as many values as it has parts. An enum takes a text that names a unit variant,
+  -- and a document of one pair whose key names a variant with contents.
   pub views : Form → Tree → Option Value
   views (leaf l) t = views_leaf (leaf_kind l) t
   views (optional s) null = Some value.none
@@ -131,7 +142,7 @@ abbrev mutual
   views (map key s) (document ps) = option_map value.map (views_entries (views_key key) (views s) ps)
   views (tuple ps) (array ts) = option_map value.tuple (views_parts ps ts)
   views (tuple_structure name ps) (array ts) = option_map (value.tuple_structure name) (views_parts ps ts)
-  views (structure name fs) (document ps) = option_map (value.structure name) (views_fields fs ps)
+  views (structure u name fs) (document ps) = if all_known u fs ps then option_map (value.structure name) (views_fields fs ps) else None
   views (enumeration vs) (string name) = views_unit vs name
   views (enumeration vs) (document (pair name t no_pairs)) = views_variant vs name t
   views s t = None

@@ -11,7 +11,7 @@ use Rattle.bson_base.specs.Text.{Bytes, Utf8}
 use Rattle.bson_base.specs.Tree as tree
 use Rattle.bson_base.specs.Tree.{Tree}
 use Rattle.bson_rawdoc.specs.Node.{Node, string, bytes, kind_of}
-use Rattle.bson_shape.specs.Form.{Form, leaf, structure, no_fields, field}
+use Rattle.bson_shape.specs.Form.{dropped, Form, leaf, structure, no_fields, field}
 use Rattle.bson_shape.specs.declared.leaf.Leaf.TheVariants.{U8, U32}
 use Rattle.bson_shape.specs.declared.leaf.Leaf.TheVariants as leaves
 use Rattle.bson_datum.specs.Cause.{invalid_type}
@@ -104,10 +104,10 @@ text = leaf leaves.String
 
 -- a struct of one field, and of two
 abbrev pub with_field : Utf8 → Form → Form
-with_field name s = structure [] (field name s no_fields)
+with_field name s = structure dropped [] (field name s no_fields)
 
 abbrev pub with_fields : Utf8 → Form → Utf8 → Form → Form
-with_fields name s other r = structure [] (field name s (field other r no_fields))
+with_fields name s other r = structure dropped [] (field name s (field other r no_fields))
 
 -- ---- the wrapper keys
 

@@ -40,7 +40,7 @@ abbrev mutual
   HasWritableKeys (tuple ps) = PartsHaveWritableKeys ps
   HasWritableKeys (tuple_structure name ps) = PartsHaveWritableKeys ps
   HasWritableKeys (enumeration vs) = VariantsHaveWritableKeys vs
-  HasWritableKeys (structure name fs) = FieldsHaveWritableKeys fs
+  HasWritableKeys (structure u name fs) = FieldsHaveWritableKeys fs
 
   pub FieldsHaveWritableKeys : Fields → Type 0
   FieldsHaveWritableKeys no_fields = Unit {0}
