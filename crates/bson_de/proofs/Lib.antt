@@ -1,3 +1,4 @@
+pub mod ClosedStructs
 pub mod FieldPlaces
 pub mod Nulls
 pub mod Parts

@@ -4,7 +4,7 @@ use Rattle.bson_base.specs.Text.{Utf8}
 use Rattle.bson_base.specs.Outcome.{◌>>=◌, result_map}
 use Rattle.bson_rawdoc.specs.Node.{Node, Nodes, ended, faulty, then_node}
 use Rattle.bson_rawdoc.specs.Piece.{Piece, made}
-use Rattle.bson_shape.specs.Form.{Content, unit_content, newtype_content, tuple_content, struct_content}
+use Rattle.bson_shape.specs.Form.{dropped, Content, unit_content, newtype_content, tuple_content, struct_content}
 use Rattle.bson_datum.specs.Cause.{raw, unit_in_document}
 use Rattle.bson_datum.specs.Marked.{Marked}
 use Rattle.bson_datum.specs.Refusal.{here, end_of_stream}
@@ -35,4 +35,4 @@ abbrev pub reads_contents : Utf8 → Content → Node → Reading Marked
 reads_contents name unit_content n = refused unit_in_document
 reads_contents name (newtype_content s) n = result_map (value.newtype_variant (made name)) (reads s n)
 reads_contents name (tuple_content ps) n = array_at n >>= λ ns. result_map (value.tuple_variant (made name)) (reads_parts ps 0 ns)
-reads_contents name (struct_content fs) n = judged n >>= λ m. result_map (value.structure_variant (made name)) (read_structure (slots_of fs) m)
+reads_contents name (struct_content fs) n = judged n >>= λ m. result_map (value.structure_variant (made name)) (read_structure dropped (slots_of fs) m)

@@ -2,7 +2,9 @@ ghost use Rattle.std.specs.Prelude.{◌≡◌};
 ghost use Rattle.bson_shape.specs.Form as form;
 ghost use Rattle.bson_shape.specs.Makers.{AreDistinct};
 ghost use Rattle.bson_shape.specs.ShapeView.{fields_of};
+ghost use Rattle.bson_datum.specs.Cause.{unknown_field};
 ghost use Rattle.bson_datum.specs.MarkedView.{marked};
+ghost use Rattle.bson_laws.specs.Judged.{refused};
 ghost use Rattle.bson_laws.specs.Reads.{reads, slots_of};
 ghost use Rattle.bson_laws.specs.Settled.{settled, settled_fields};
 ghost use Rattle.bson_laws.specs.Slots as laws;
@@ -10,7 +12,7 @@ ghost use Rattle.bson_met.specs.Gives.{Reaches};
 ghost use Rattle.bson_met.specs.PieceView.{str_piece};
 ghost use Rattle.bson_slots.specs.FieldSlots.{fields_marked};
 ghost use Rattle.bson_slots.specs.SlotsView.{slots_view};
-ghost use Rattle.bson_slots.specs.FieldsRead.{fields_read, fields_by_key};
+ghost use Rattle.bson_slots.specs.FieldsRead.{unknown_of, fields_read, fields_by_key};
 
 use crate::tuple::read_next;
 use crate::value::read_settled;
@@ -33,9 +35,28 @@ pub(crate) fn read_struct<'de>(
 ) -> Reading<Datum<'de>>
     requires { AreDistinct (fields_of fields.now) }
     ensures exact { Reaches marked result
-        (reads (settled readable (form.structure name.now (fields_of fields.now))) value.now) }
+        (reads (settled readable (form.structure form.dropped name.now (fields_of fields.now))) value.now) }
 {
     let fields = read_fields(alloc, readable, fields, value)?;
+    Ok(named_struct(alloc, name, fields)?)
+}
+
+/// The value at a closed struct of this name with these fields, which takes no array.
+#[cycle(read)]
+#[inline(never)]
+pub(crate) fn read_closed_struct<'de>(
+    alloc: Global,
+    readable: bool,
+    name: &str,
+    fields: &[FieldShape],
+    value: &Met<'de>,
+) -> Reading<Datum<'de>>
+    requires { AreDistinct (fields_of fields.now) }
+    ensures exact { Reaches marked result
+        (reads (settled readable (form.structure form.denied name.now (fields_of fields.now))) value.now) }
+{
+    let elements = value.document(alloc)?;
+    let fields = read_by_key(alloc, readable, true, fields, elements)?;
     Ok(named_struct(alloc, name, fields)?)
 }
 
@@ -54,36 +75,38 @@ pub(crate) fn read_fields<'de>(
         Value::Array(array) => read_by_place(alloc, readable, fields, Items::of_array(array)),
         other => {
             let elements = other.document(alloc)?;
-            read_by_key(alloc, readable, fields, elements)
+            read_by_key(alloc, readable, false, fields, elements)
         }
     }
 }
 
-/// The fields with their values from the elements of a document.
+/// The fields with their values from the elements of a document, for a struct that is closed or not.
 #[cycle(read)]
 fn read_by_key<'de>(
     alloc: Global,
     readable: bool,
+    closed: bool,
     fields: &[FieldShape],
     mut elements: Elements<'de>,
 ) -> Reading<Vec<Field<'de>>>
     requires { AreDistinct (fields_of fields.now) }
     ensures exact { Reaches (λ v. fields_marked v.items) result
-        (fields_by_key (slots_of (settled_fields readable (fields_of fields.now))) elements.entry) }
+        (fields_by_key (unknown_of closed) (slots_of (settled_fields readable (fields_of fields.now))) elements.entry) }
 {
     let mut index = NameIndex::new(fields);
     let mut slots = Slots::new(alloc, fields, readable)?;
     let mut step = elements.start();
     'step: while elements.advance(alloc, &mut step)? {
-        fill_one(alloc, &step, &mut index, &mut slots)?;
+        fill_one(alloc, closed, &step, &mut index, &mut slots)?;
     }
     slots.finish(alloc)
 }
 
-/// One element: its value is read for the field that has its key, or dropped where none has.
+/// One element: its value is read for the field that has its key, or it is unknown where none has.
 #[cycle(read)]
 fn fill_one<'de>(
     alloc: Global,
+    closed: bool,
     step: &Step<'de>,
     index: &mut NameIndex<'_, FieldShape>,
     slots: &mut Slots<'_, 'de>,
@@ -92,15 +115,12 @@ fn fill_one<'de>(
     ensures items { index.new.items ≡ index.old.items }
     ensures kept { slots.new.fields ≡ slots.old.fields }
     ensures exact { Reaches (λ _. slots_view slots.new) result
-        (laws.put_at (str_piece step.now.key).bytes step.now.value (slots_view slots.old)) }
+        (laws.put_at (unknown_of closed) (str_piece step.now.key).bytes step.now.value (slots_view slots.old)) }
 {
     let key = step.key.text;
     let fields = index.items;
     let Some(place) = index.place_of(alloc, key) else {
-        if let Err(stop) = ignore(alloc, &step.value) {
-            return Err(stop.under_key(key));
-        }
-        return Ok(());
+        return pass_unknown(alloc, closed, step);
     };
     if slots.is_filled(place) {
         let cause = Cause::DuplicateField(String::from_str(alloc, key)?);
@@ -114,6 +134,32 @@ fn fill_one<'de>(
         }
         Err(stop) => Err(stop.under_key(key)),
     }
+}
+
+/// An element whose key no field has: its value is dropped, or a closed struct is refused before the value is looked at.
+#[inline(always)]
+fn pass_unknown(alloc: Global, closed: bool, step: &Step<'_>) -> Reading<()>
+    ensures exact { Reaches (λ u. u) result
+        (laws.unknown (unknown_of closed) (str_piece step.now.key).bytes step.now.value) }
+{
+    let key = step.key.text;
+    if closed {
+        return deny(alloc, key);
+    }
+    match ignore(alloc, &step.value) {
+        Ok(()) => Ok(()),
+        Err(stop) => Err(stop.under_key(key)),
+    }
+}
+
+/// A struct is refused for a key that none of its fields has.
+#[cold]
+#[inline(never)]
+fn deny(alloc: Global, key: &str) -> Reading<()>
+    ensures exact { Reaches (λ u. u) result (refused (unknown_field key.now)) }
+{
+    let cause = Cause::UnknownField(String::from_str(alloc, key)?);
+    Err(refused(alloc, cause))
 }
 
 /// The fields with their values from the elements of an array by their places. Further elements stay unread.

@@ -11,7 +11,7 @@ ghost use Rattle.bson_texts.specs.ListsMarked.{items_marked};
 use crate::enumeration::read_enum;
 use crate::leaf::read_leaf_at;
 use crate::map::read_map;
-use crate::structure::read_struct;
+use crate::structure::{read_closed_struct, read_struct};
 use crate::tuple::{read_tuple, read_tuple_struct};
 use bson_datum::{Datum, Text};
 use bson_leaves::null;
@@ -60,6 +60,9 @@ pub(crate) fn read_settled<'de>(
         Form::Newtype(name, inner) => read_newtype(alloc, readable, name, inner, value),
         Form::UnitStruct(name) => read_unit_struct(alloc, name, value),
         Form::Struct(name, fields) => read_struct(alloc, readable, name, fields, value),
+        Form::ClosedStruct(name, fields) => {
+            read_closed_struct(alloc, readable, name, fields, value)
+        }
         Form::Enum(variants) => read_enum(alloc, readable, variants, value),
     }
 }

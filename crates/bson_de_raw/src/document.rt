@@ -79,8 +79,8 @@ use std::alloc::Global;
 ///   refusal in the order of the bytes is returned, and its cause is one of these.
 ///   - `Raw`: a fault of the bytes, before any shape looks at the value.
 ///   - `TooDeep`: a document, an array or a scope at level 201.
-///   - `InvalidType`: a value of another kind than the shape takes; at `document` one that is no document as a tree, and
-///     for code with scope a scope that is none.
+///   - `InvalidType`: a value of another kind than the shape takes, as an array at a closed struct; at `document` one that is no document
+///     as a tree, and for code with scope a scope that is none.
 ///   - `OutOfRange`: a number that does not lie in the range of the shape's integer type, or one in an array
 ///     at `bytebuf` that is no byte.
 ///   - `NotOneChar`: at `char` a String or a key of no character or of more than one.
@@ -88,7 +88,7 @@ use std::alloc::Global;
 ///   - `NotBorrowed`: at `str` and `bytes` a text, a key or a byte string that is not in the input, as the digits
 ///     of an ObjectId that is opened; at `rawdoc` and `rawbson` a document that is not in the input, as the one inside the
 ///     document that a DateTime is opened to.
-///   - `InvalidLength`: at a struct, a tuple, a tuple struct and the contents of a tuple or a struct variant an
+///   - `InvalidLength`: at a struct that is not closed, a tuple, a tuple struct and the contents of a tuple or a struct variant an
 ///     array of so many elements, which are fewer than its fields or parts; at `oid` a Binary of subtype 0 that has not
 ///     twelve bytes, and at `uuid` a Binary of subtype 4 that has not sixteen.
 ///   - `UnknownVariant`: at an enum a String, a key of a map or a first key that is the name of no variant.
@@ -98,8 +98,8 @@ use std::alloc::Global;
 ///   - `MissingField`: at the end of a document, the first field in the shape's order that is no option
 ///     and has no element; `$code`, at the end of a document whose first wrapper key is `$scope`.
 ///   - `BadBody`: the value of a wrapper key, or a String at `oid` or `uuid`, stands for nothing.
-///   - `UnknownField`: behind `$code` or `$scope`, as the first wrapper key of a document, a key that is not the other
-///     of the two.
+///   - `UnknownField`: at a closed struct a key that is the name of none of its fields; its value is not looked at. Behind `$code` or
+///     `$scope`, as the first wrapper key of a document, a key that is not the other of the two.
 ///   - `WrongKind`: at the shape of an extended kind, what was read as a tree is of another kind than the shape takes, or,
 ///     at `uuid`, a binary that is no UUID.
 ///   - `Subtype`: at `uuid` a Binary of this subtype, which is not 4.

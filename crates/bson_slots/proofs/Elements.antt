@@ -1,10 +1,11 @@
 -- What an element of a document does to the slots of a struct, by the place of its key among the names of the fields.
-use Rattle.std.proofs.Common.{◌≡◌, ℕ, zero, suc, ◌<◌, List, [], ◌∷◌, length, get_or, map, set, Bool, true, false, cond, Option, Some, None, Ok, Err, refl, ap, sym, subst, ◌∙◌, string_bytes, arith}
+use Rattle.std.proofs.Common.{◌≡◌, ℕ, zero, suc, ◌<◌, List, [], ◌∷◌, length, get_or, map, set, Bool, true, false, cond, Option, Some, None, Result, Ok, Err, refl, ap, sym, subst, ◌∙◌, string_bytes, arith}
 use Rattle.std.specs.Prelude.{is_some, option_map}
 use Rattle.std.specs.Str.{bytes_eq}
 use Rattle.bson_base.specs.Text.{Utf8}
 use Rattle.bson_base.specs.Outcome.{◌>>=◌, result_map}
 use Rattle.bson_rawdoc.specs.Node.{Node}
+use Rattle.bson_shape.specs.Form.{UnknownFields}
 use Rattle.bson_shape.specs.declared.shape.FieldShape.{FieldShape}
 use Rattle.bson_datum.specs.Cause.{duplicate_field}
 use Rattle.bson_datum.specs.Marked.{Marked}
@@ -13,15 +14,16 @@ use Rattle.bson_datum.specs.declared.datum.Datum.{Datum}
 use Rattle.bson_datum.specs.declared.datum.Field.{Field}
 use Rattle.bson_datum.specs.declared.de.Fault.{Fault}
 use Rattle.bson_datum.specs.declared.stop.Stop.{Stop}
-use Rattle.bson_laws.specs.Judged.{Reading, refused, ignores}
+use Rattle.bson_laws.specs.Judged.{Reading, refused}
 use Rattle.bson_laws.specs.Reads.{reads}
 use Rattle.bson_laws.specs.Settled.{settled}
-use Rattle.bson_laws.specs.Slots.{Slot, Slots, fill_slot, put_at}
+use Rattle.bson_laws.specs.Slots.{Slot, Slots, fill_slot, unknown, put_at}
 use Rattle.bson_laws.proofs.Placed.{names_of, IsFirst, IsNone, put_first, put_none}
 use Rattle.bson_slots.specs.FieldSlots.{field_slots, slot_of, value_at, with_value}
 use Rattle.bson_slots.specs.Place.{place_of}
 use Rattle.bson_slots.specs.SlotsView.{slots_view}
 use Rattle.bson_slots.specs.declared.slots.Slots as code
+use Rattle.bson_met.specs.Gives.{Reaches}
 use Rattle.bson_met.proofs.Refusals.{StopsAs, stops_bind}
 
 -- ---- places
@@ -81,11 +83,11 @@ none_from : (o : Option Marked) → is_some o ≡ false → o ≡ None
 none_from None e = refl
 none_from (Some v) e = absurd cc
 
-slot_new : (key : Utf8) (n : Node) (slots : Slots) (i : ℕ) (default : Slot) → IsFirst key (names_of slots) i → is_some (value_at slots i) ≡ false
-    → put_at key n slots ≡ (under key ((get_or slots i default).read n) >>= λ v. Ok (with_value slots i v))
-slot_new key n slots i default first new =
+slot_new : (u : UnknownFields) (key : Utf8) (n : Node) (slots : Slots) (i : ℕ) (default : Slot) → IsFirst key (names_of slots) i → is_some (value_at slots i) ≡ false
+    → put_at u key n slots ≡ (under key ((get_or slots i default).read n) >>= λ v. Ok (with_value slots i v))
+slot_new u key n slots i default first new =
     let slot = get_or slots i default in
-    put_first key n slots i default first
+    put_first u key n slots i default first
     ∙ ap (λ o. result_map (λ filled. set slots i filled) (fill_slot key n slot o)) (sym (slot_value slots i default (first_within key slots i first)) ∙ none_from (value_at slots i) new)
     ∙ set_filled slots i slot (under key (slot.read n))
     ∙ with_sets slots i default (under key (slot.read n))
@@ -95,9 +97,9 @@ twice : (key : Utf8) (n : Node) (slots : Slots) (i : ℕ) (slot : Slot) (o : Opt
 twice key n slots i slot None e = absurd cc
 twice key n slots i slot (Some v) e = refl
 
-slot_again : (key : Utf8) (n : Node) (slots : Slots) (i : ℕ) (default : Slot) → IsFirst key (names_of slots) i → is_some (value_at slots i) ≡ true → put_at key n slots ≡ refused (duplicate_field key)
-slot_again key n slots i default first old =
-    put_first key n slots i default first
+slot_again : (u : UnknownFields) (key : Utf8) (n : Node) (slots : Slots) (i : ℕ) (default : Slot) → IsFirst key (names_of slots) i → is_some (value_at slots i) ≡ true → put_at u key n slots ≡ refused (duplicate_field key)
+slot_again u key n slots i default first old =
+    put_first u key n slots i default first
     ∙ twice key n slots i (get_or slots i default) (get_or slots i default).value (ap is_some (sym (slot_value slots i default (first_within key slots i first))) ∙ old)
 
 -- ---- the slots of fields
@@ -126,30 +128,29 @@ first_key : (s : code.Slots) (key : Utf8) (i : ℕ) → key_place s key ≡ Some
 first_key s key i e = first_at key (names_of (slots_view s)) i (ap (λ names. place_of names key) (names_are s.readable s.fields.now s.first.items s.later.items) ∙ e)
 
 -- the key is the name of a field that has no value: the value is read at the field's shape
-module _ (s : code.Slots) (key : Utf8) (n : Node) (i : ℕ) (d : FieldShape) (place : key_place s key ≡ Some i) (unfilled : is_some (value_at (slots_view s) i) ≡ false) where
-  pub put_unfilled : put_at key n (slots_view s) ≡ (under key (reads (settled s.readable (get_or s.fields.now i d).shape) n) >>= λ v. Ok (with_value (slots_view s) i v))
+module _ (s : code.Slots) (u : UnknownFields) (key : Utf8) (n : Node) (i : ℕ) (d : FieldShape) (place : key_place s key ≡ Some i) (unfilled : is_some (value_at (slots_view s) i) ≡ false) where
+  pub put_unfilled : put_at u key n (slots_view s) ≡ (under key (reads (settled s.readable (get_or s.fields.now i d).shape) n) >>= λ v. Ok (with_value (slots_view s) i v))
   put_unfilled =
-      slot_new key n (slots_view s) i (slot_of s.readable d None) (first_key s key i place) unfilled
+      slot_new u key n (slots_view s) i (slot_of s.readable d None) (first_key s key i place) unfilled
       ∙ ap (λ (read : Node → Reading Marked). under key (read n) >>= λ v. Ok (with_value (slots_view s) i v)) (slot_reads s.readable s.fields.now s.first.items s.later.items i d)
 
-  pub value_put : (v : Marked) → under key (reads (settled s.readable (get_or s.fields.now i d).shape) n) ≡ Ok v → put_at key n (slots_view s) ≡ Ok (with_value (slots_view s) i v)
+  pub value_put : (v : Marked) → under key (reads (settled s.readable (get_or s.fields.now i d).shape) n) ≡ Ok v → put_at u key n (slots_view s) ≡ Ok (with_value (slots_view s) i v)
   value_put v e = put_unfilled ∙ ap (λ r. r >>= λ x. Ok (with_value (slots_view s) i x)) e
 
-  pub value_refused : (t : Stop Fault) → StopsAs t (under key (reads (settled s.readable (get_or s.fields.now i d).shape) n)) → StopsAs t (put_at key n (slots_view s))
+  pub value_refused : (t : Stop Fault) → StopsAs t (under key (reads (settled s.readable (get_or s.fields.now i d).shape) n)) → StopsAs t (put_at u key n (slots_view s))
   value_refused t h = subst (λ (r : Reading Slots). StopsAs t r) (sym put_unfilled) (stops_bind t (under key (reads (settled s.readable (get_or s.fields.now i d).shape) n)) (λ v. Ok (with_value (slots_view s) i v)) h)
 
 -- the key is the name of a field that has a value: the element is refused
-module _ (s : code.Slots) (key : Utf8) (n : Node) (i : ℕ) (place : key_place s key ≡ Some i) (filled : is_some (value_at (slots_view s) i) ≡ true) (default : Slot) where
-  pub put_filled : put_at key n (slots_view s) ≡ refused (duplicate_field key)
-  put_filled = slot_again key n (slots_view s) i default (first_key s key i place) filled
+module _ (s : code.Slots) (u : UnknownFields) (key : Utf8) (n : Node) (i : ℕ) (place : key_place s key ≡ Some i) (filled : is_some (value_at (slots_view s) i) ≡ true) (default : Slot) where
+  pub put_filled : put_at u key n (slots_view s) ≡ refused (duplicate_field key)
+  put_filled = slot_again u key n (slots_view s) i default (first_key s key i place) filled
 
--- the key is the name of no field: the element is dropped
-module _ (s : code.Slots) (key : Utf8) (n : Node) (unknown : key_place s key ≡ None) where
-  pub put_unknown : put_at key n (slots_view s) ≡ (under key (ignores n) >>= λ _. Ok (slots_view s))
-  put_unknown = put_none key n (slots_view s) (none_is key (names_of (slots_view s)) (ap (λ names. place_of names key) (names_are s.readable s.fields.now s.first.items s.later.items) ∙ unknown))
+-- the key is the name of no field
+module _ (s : code.Slots) (u : UnknownFields) (key : Utf8) (n : Node) (none : key_place s key ≡ None) where
+  put_unknown : put_at u key n (slots_view s) ≡ (unknown u key n >>= λ _. Ok (slots_view s))
+  put_unknown = put_none u key n (slots_view s) (none_is key (names_of (slots_view s)) (ap (λ names. place_of names key) (names_are s.readable s.fields.now s.first.items s.later.items) ∙ none))
 
-  pub unknown_dropped : (u : Unit {0}) → under key (ignores n) ≡ Ok u → put_at key n (slots_view s) ≡ Ok (slots_view s)
-  unknown_dropped u e = put_unknown ∙ ap (λ r. r >>= λ _. Ok (slots_view s)) e
-
-  pub unknown_refused : (t : Stop Fault) → StopsAs t (under key (ignores n)) → StopsAs t (put_at key n (slots_view s))
-  unknown_refused t h = subst (λ (r : Reading Slots). StopsAs t r) (sym put_unknown) (stops_bind t (under key (ignores n)) (λ _. Ok (slots_view s)) h)
+  -- the slots are as before, or the struct is refused
+  pub unknown_passed : (r : Result (Unit {0}) (Stop Fault)) → Reaches (λ x. x) r (unknown u key n) → Reaches (λ _. slots_view s) r (put_at u key n (slots_view s))
+  unknown_passed (Ok x) h = put_unknown ∙ ap (λ r. r >>= λ _. Ok (slots_view s)) h
+  unknown_passed (Err t) h = subst (λ (r : Reading Slots). StopsAs t r) (sym put_unknown) (stops_bind t (unknown u key n) (λ _. Ok (slots_view s)) h)

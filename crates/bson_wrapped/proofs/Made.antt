@@ -9,7 +9,7 @@ use Rattle.bson_base.specs.Tree.{Tree}
 use Rattle.bson_base.proofs.Outcomes.{some_map, map_ok}
 use Rattle.bson_rawdoc.specs.Node.{Node}
 use Rattle.bson_rawdoc.specs.Piece.{made}
-use Rattle.bson_shape.specs.Form.{Form, leaf, structure, Fields}
+use Rattle.bson_shape.specs.Form.{dropped, Form, leaf, structure, Fields}
 use Rattle.bson_shape.specs.declared.leaf.Leaf.TheVariants.{ByteBuf}
 use Rattle.bson_datum.specs.Cause.{bad_body}
 use Rattle.bson_datum.specs.ErrorView.{read_fault}
@@ -94,21 +94,21 @@ module _ (fs : Fields) (make : Value → Option Tree) (n : Node) where
   given = fields_read (slots_of no_extended fs) n
 
   -- the tree that is read
-  pub fields_read_done : (vs : MarkedFields) → given ≡ Ok vs → at (structure [] fs) make n ≡ Ok (make (contents (all vs)))
+  pub fields_read_done : (vs : MarkedFields) → given ≡ Ok vs → at (structure dropped [] fs) make n ≡ Ok (make (contents (all vs)))
   fields_read_done vs e =
-      ap (result_map (λ v. make (contents v))) (mapped all (judged n) (read_structure (slots_of no_extended fs)) ∙ ap (result_map all) e)
+      ap (result_map (λ v. make (contents v))) (mapped all (judged n) (read_structure dropped (slots_of no_extended fs)) ∙ ap (result_map all) e)
 
-  pub fields_read_stop : (stop : Stop Fault) → StopsAs stop given → StopsAs stop (at (structure [] fs) make n)
+  pub fields_read_stop : (stop : Stop Fault) → StopsAs stop given → StopsAs stop (at (structure dropped [] fs) make n)
   fields_read_stop stop h =
-      stops_map stop (λ v. make (contents v)) (reads no_extended (structure [] fs) n)
-      (subst (λ (r : Reading Marked). StopsAs stop r) (sym (mapped all (judged n) (read_structure (slots_of no_extended fs)))) (stops_map stop all given h))
+      stops_map stop (λ v. make (contents v)) (reads no_extended (structure dropped [] fs) n)
+      (subst (λ (r : Reading Marked). StopsAs stop r) (sym (mapped all (judged n) (read_structure dropped (slots_of no_extended fs)))) (stops_map stop all given h))
 
   -- the same as data
-  pub fields_done : (vs : MarkedFields) → given ≡ Ok vs → made_by (at (structure [] fs) make) n ≡ Ok (as_datum (make (contents (all vs))))
+  pub fields_done : (vs : MarkedFields) → given ≡ Ok vs → made_by (at (structure dropped [] fs) make) n ≡ Ok (as_datum (make (contents (all vs))))
   fields_done vs e = ap (result_map as_datum) (fields_read_done vs e)
 
-  pub fields_stop : (stop : Stop Fault) → StopsAs stop given → StopsAs stop (made_by (at (structure [] fs) make) n)
-  fields_stop stop h = stops_map stop as_datum (at (structure [] fs) make n) (fields_read_stop stop h)
+  pub fields_stop : (stop : Stop Fault) → StopsAs stop given → StopsAs stop (made_by (at (structure dropped [] fs) make) n)
+  fields_stop stop h = stops_map stop as_datum (at (structure dropped [] fs) make n) (fields_read_stop stop h)
 
 -- a wrapper key whose value is a text
 pub text_meant : (w : Wrapper) → takes_text w ≡ true → text_body (tree_of_text w) ≡ body_of (meaning w)

@@ -166,7 +166,7 @@ fn next_item<T: FieldValue>(alloc: Global, index: u64, items: &mut Items<'_>) ->
 /// The value of the one field from the elements of a document.
 fn one_by_key<T: FieldValue>(alloc: Global, name: &str, mut elements: Elements<'_>) -> Reading<T>
     ensures exact { Reaches (λ x. one made name.now (T.seen x)) result
-        (fields_by_key (one_slot T.form name.now) elements.entry) }
+        (fields_by_key forms.dropped (one_slot T.form name.now) elements.entry) }
 {
     let mut found = None;
     let mut step = elements.start();
@@ -188,7 +188,7 @@ fn two_by_key<A: FieldValue, B: FieldValue>(
     mut elements: Elements<'_>,
 ) -> Reading<(A, B)>
     ensures exact { Reaches (λ p. two made first.now (A.seen p.0) second.now (B.seen p.1)) result
-        (fields_by_key (two_slots A.form first.now B.form second.now) elements.entry) }
+        (fields_by_key forms.dropped (two_slots A.form first.now B.form second.now) elements.entry) }
 {
     let mut one = None;
     let mut other = None;

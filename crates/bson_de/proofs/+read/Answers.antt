@@ -2,7 +2,7 @@ use Rattle.std.proofs.Common.{rules, ◌≡◌, Ok, None, List, refl, string_byt
 use Rattle.std.specs.Borrow.{Bor}
 use Rattle.bson_base.specs.Outcome.{◌>>=◌, result_map}
 use Rattle.bson_rawdoc.specs.Piece.{made}
-use Rattle.bson_shape.specs.Form.{tuple_content, struct_content}
+use Rattle.bson_shape.specs.Form.{dropped, denied, tuple_content, struct_content}
 use Rattle.bson_shape.specs.Makers.{has_repeat}
 use Rattle.bson_shape.specs.ShapeView.{form_view, fields_of, parts_of, variants_of, content_of, nodes, fields_nodes, parts_nodes, variants_nodes, content_nodes}
 use Rattle.bson_shape.specs.declared.shape.FieldShape.{FieldShape}
@@ -16,7 +16,7 @@ use Rattle.bson_datum.specs.Value as value
 use Rattle.bson_datum.specs.declared.text.Text.TheVariants.{Owned}
 use Rattle.bson_datum.specs.Value.{no_entries}
 use Rattle.bson_laws.specs.Containers.{reads_items, reads_entries, reads_key}
-use Rattle.bson_laws.specs.Judged.{Reading, judged, refused, ignores}
+use Rattle.bson_laws.specs.Judged.{Reading, judged, refused}
 use Rattle.bson_laws.specs.Reads.{reads, reads_parts, reads_variant, reads_content, slots_of}
 use Rattle.bson_laws.specs.Settled.{settled, settled_fields, settled_parts, settled_variants, settled_content}
 use Rattle.bson_laws.specs.Slots.{Slot, Slots, read_structure, reads_places}
@@ -25,15 +25,17 @@ use Rattle.bson_met.specs.PieceView.{str_piece}
 use Rattle.bson_met.specs.Sizes.{count}
 use Rattle.bson_met.proofs.Refusals.{StopsAs, stops_inside}
 use Rattle.bson_slots.specs.Place.{place_of}
+use Rattle.bson_slots.specs.FieldsRead.{unknown_of, fields_by_key}
 use Rattle.bson_slots.specs.SlotsView.{slots_view}
-use Rattle.bson_slots.proofs.Elements.{value_put, value_refused, put_filled, unknown_dropped, unknown_refused}
+use Rattle.bson_slots.proofs.Elements.{value_put, value_refused, put_filled, unknown_passed}
 use Rattle.bson_leaves.specs.EntriesView.{key_form, entries_of}
 use Rattle.bson_leaves.specs.Named.{variant_named}
 use Rattle.bson_texts.specs.ListsMarked.{items_marked, entries_marked}
 use Rattle.bson_texts.proofs.Each.{each, step_is, item_is, each_step, each_next, each_stop}
+use Rattle.bson_de.proofs.ClosedStructs.{closed_by_key, closed_stops, closed_fields_stop}
 use Rattle.bson_de.proofs.FieldPlaces.{values_before, places_step, places_stop, places_end, all_left as no_values}
 use Rattle.bson_leaves.proofs.KeyTexts.{key_valued}
-use Rattle.bson_texts.proofs.Loops.{items_by, items_each, items_push, item_done, item_stops, entries_by, entries_each, entry_done, key_stops, entry_stops, ignored_at}
+use Rattle.bson_texts.proofs.Loops.{items_by, items_each, items_push, item_done, item_stops, entries_by, entries_each, entry_done, key_stops, entry_stops}
 use Rattle.bson_texts.proofs.Mapped.{taken, not_taken}
 use Rattle.bson_texts.proofs.SlotsFilled.{slots_by, fill_each}
 use Rattle.bson_de.proofs.Nulls.{option_null}
@@ -263,7 +265,7 @@ structure::read_by_key-step-init t c =
     let slots = slots_of (settled_fields c.args.readable (fields_of c.args.fields.now)) in (
       ap (λ (fs : Bor (List FieldShape)). fs.now) c.new-index.ensures,
       ap (λ (fs : Bor (List FieldShape)). fs.now) c.in_ok-slots.ensures.fields,
-      ap (each slots_by 0 c.args.elements) c.in_ok-slots.ensures.empty ∙ fill_each 0 c.args.elements slots,
+      ap (each (slots_by (unknown_of c.args.closed)) 0 c.args.elements) c.in_ok-slots.ensures.empty ∙ fill_each (unknown_of c.args.closed) 0 c.args.elements slots,
     )
 
 pub structure::read_by_key-step-preserved : goal.structure::read_by_key-step-preserved
@@ -272,7 +274,7 @@ structure::read_by_key-step-preserved t c =
     let first = step_is _ _ c.in_ok-advance.field-0 s c.in_ok-advance.ensures.advanced c.if-branch.true in (
       ap (λ (fs : Bor (List FieldShape)). fs.now) c.in_ok-fill_one.ensures.items ∙ c.step.invariant.0,
       ap (λ (fs : Bor (List FieldShape)). fs.now) c.in_ok-fill_one.ensures.kept ∙ c.step.invariant.1,
-      each_next slots_by 0 c.step.elements (slots_view c.step.slots) _ c.step.invariant.2 (λ j l n x. refl) (str_piece s.key) s.value c.advance.new.self (slots_view c.fill_one.new.slots) first c.in_ok-fill_one.ensures.exact,
+      each_next (slots_by (unknown_of c.args.closed)) 0 c.step.elements (slots_view c.step.slots) _ c.step.invariant.2 (λ j l n x. refl) (str_piece s.key) s.value c.advance.new.self (slots_view c.fill_one.new.slots) first c.in_ok-fill_one.ensures.exact,
     )
 
 pub structure::fill_one-returns-in_ok-put-in-Ok-clause-exact : goal.structure::fill_one-returns-in_ok-put-in-Ok-clause-exact
@@ -284,19 +286,19 @@ structure::fill_one-returns-in_ok-put-in-Ok-clause-exact t c =
     let place = ap (λ xs. place_of (map (λ (f : FieldShape). string_bytes f.name) xs) key) c.requires ∙ sym c.in-Some.ensures.place in
     let f = c.index-fields-place.result in
     let at = ap (λ xs. under key (reads (settled slots.readable (get_or xs i f).shape) s.value)) c.requires in
-    value_put slots key s.value i f place (sym c.if-is_filled.ensures) (marked c.in-Ok.value) (at ∙ ap (under key) c.in-Ok.ensures.exact) ∙ ap Ok (sym c.in_ok-put-in-Ok.ensures.put)
+    value_put slots (unknown_of c.args.closed) key s.value i f place (sym c.if-is_filled.ensures) (marked c.in-Ok.value) (at ∙ ap (under key) c.in-Ok.ensures.exact) ∙ ap Ok (sym c.in_ok-put-in-Ok.ensures.put)
 
-pub structure::fill_one-returns-in-Err-read_settled-clause-exact : goal.structure::fill_one-returns-in-Err-read_settled-clause-exact
-structure::fill_one-returns-in-Err-read_settled-clause-exact t c =
+pub structure::fill_one-returns-in-Err-clause-exact : goal.structure::fill_one-returns-in-Err-clause-exact
+structure::fill_one-returns-in-Err-clause-exact t c =
     let s = c.args.step.now in
     let key = (str_piece s.key).bytes in
     let i = c.in-Some.place in
     let slots = c.args.slots.now in
     let place = ap (λ xs. place_of (map (λ (f : FieldShape). string_bytes f.name) xs) key) c.requires ∙ sym c.in-Some.ensures.place in
     let f = c.index-fields-place.result in
-    let stop = c.under_key-in-Err-read_settled.result in
-    let here = stops_inside (at_key key) c.in-Err-read_settled.stop stop (reads (settled slots.readable (get_or c.args.index.now.items.now i f).shape) s.value) c.under_key-in-Err-read_settled.ensures.under c.in-Err-read_settled.ensures.exact in
-    value_refused slots key s.value i f place (sym c.if-is_filled.ensures) stop (subst (λ xs. StopsAs stop (under key (reads (settled slots.readable (get_or xs i f).shape) s.value))) (sym c.requires) here)
+    let stop = c.under_key.result in
+    let here = stops_inside (at_key key) c.in-Err.stop stop (reads (settled slots.readable (get_or c.args.index.now.items.now i f).shape) s.value) c.under_key.ensures.under c.in-Err.ensures.exact in
+    value_refused slots (unknown_of c.args.closed) key s.value i f place (sym c.if-is_filled.ensures) stop (subst (λ xs. StopsAs stop (under key (reads (settled slots.readable (get_or xs i f).shape) s.value))) (sym c.requires) here)
 
 pub structure::fill_one-returns-then-is_filled-clause-exact : goal.structure::fill_one-returns-then-is_filled-clause-exact
 structure::fill_one-returns-then-is_filled-clause-exact t c =
@@ -307,43 +309,52 @@ structure::fill_one-returns-then-is_filled-clause-exact t c =
     let place = ap (λ xs. place_of (map (λ (f : FieldShape). string_bytes f.name) xs) key) c.requires ∙ sym c.in-Some.ensures.place in
     let some : Slot = record { name = key; missing = None; read = λ n. Ok value.unit; value = None } in
     let here : StopsAs c.refused.result (refused {A = Slots} (duplicate_field key)) = search rules in
-    subst (λ (r : Reading Slots). StopsAs c.refused.result r) (sym (put_filled slots key s.value i place (sym c.if-is_filled.ensures) some)) here
-
-pub structure::fill_one-returns-in-Err-clause-exact : goal.structure::fill_one-returns-in-Err-clause-exact
-structure::fill_one-returns-in-Err-clause-exact t c =
-    let s = c.args.step.now in
-    let key = (str_piece s.key).bytes in
-    let slots = c.args.slots.now in
-    let unknown = ap (λ xs. place_of (map (λ (f : FieldShape). string_bytes f.name) xs) key) c.requires ∙ sym c.in_default.ensures.place in
-    let here = subst (λ (r : Reading (Unit {0})). StopsAs c.in-Err.stop r) (ignored_at s.value) c.in-Err.ensures.exact in
-    unknown_refused slots key s.value unknown c.under_key.result (stops_inside (at_key key) c.in-Err.stop c.under_key.result (ignores s.value) c.under_key.ensures.under here)
+    subst (λ (r : Reading Slots). StopsAs c.refused.result r) (sym (put_filled slots (unknown_of c.args.closed) key s.value i place (sym c.if-is_filled.ensures) some)) here
 
 pub structure::fill_one-returns-in_default-clause-exact : goal.structure::fill_one-returns-in_default-clause-exact
 structure::fill_one-returns-in_default-clause-exact t c =
     let s = c.args.step.now in
     let key = (str_piece s.key).bytes in
     let slots = c.args.slots.now in
-    let unknown = ap (λ xs. place_of (map (λ (f : FieldShape). string_bytes f.name) xs) key) c.requires ∙ sym c.in_default.ensures.place in
-    unknown_dropped slots key s.value unknown tt (ap (under key) (sym (ignored_at s.value) ∙ c.in_default-ignore.ensures.exact))
+    let none = ap (λ xs. place_of (map (λ (f : FieldShape). string_bytes f.name) xs) key) c.requires ∙ sym c.in_default.ensures.place in
+    unknown_passed slots (unknown_of c.args.closed) key s.value none c.pass_unknown.result c.pass_unknown.ensures.exact
 
 pub structure::read_struct-returns : goal.structure::read_struct-returns
 structure::read_struct-returns t c = record {
-  exact = taken (value.structure (made c.args.name.now)) (judged c.args.value.now) (read_structure (slots_of (settled_fields c.args.readable (fields_of c.args.fields.now)))) _ c.in_ok-fields.ensures.exact ∙ ap Ok (sym c.in_ok-named_struct.ensures.marked);
+  exact = taken (value.structure (made c.args.name.now)) (judged c.args.value.now) (read_structure dropped (slots_of (settled_fields c.args.readable (fields_of c.args.fields.now)))) _ c.in_ok-fields.ensures.exact ∙ ap Ok (sym c.in_ok-named_struct.ensures.marked);
 }
 
 pub structure::read_struct-returns-in_err-fields : goal.structure::read_struct-returns-in_err-fields
 structure::read_struct-returns-in_err-fields t c =
-    let here = not_taken (value.structure (made c.args.name.now)) (judged c.args.value.now) (read_structure (slots_of (settled_fields c.args.readable (fields_of c.args.fields.now)))) c.in_err-fields.field-0.0 c.in_err-fields.ensures.exact in
+    let here = not_taken (value.structure (made c.args.name.now)) (judged c.args.value.now) (read_structure dropped (slots_of (settled_fields c.args.readable (fields_of c.args.fields.now)))) c.in_err-fields.field-0.0 c.in_err-fields.ensures.exact in
+    record { exact = search (rules, here) }
+
+pub structure::read_closed_struct-returns : goal.structure::read_closed_struct-returns
+structure::read_closed_struct-returns t c =
+    let named = value.structure (made c.args.name.now) in
+    let slots = slots_of (settled_fields c.args.readable (fields_of c.args.fields.now)) in
+    record {
+      exact = closed_by_key named slots c.args.value.now ∙ ap (λ r. r >>= λ ns. result_map named (fields_by_key denied slots ns)) c.in_ok-elements.ensures.document ∙ ap (result_map named) c.in_ok-fields.ensures.exact ∙ ap Ok (sym c.in_ok-named_struct.ensures.marked);
+    }
+
+pub structure::read_closed_struct-returns-in_err-elements : goal.structure::read_closed_struct-returns-in_err-elements
+structure::read_closed_struct-returns-in_err-elements t c =
+    let here = closed_stops (value.structure (made c.args.name.now)) (slots_of (settled_fields c.args.readable (fields_of c.args.fields.now))) c.args.value.now c.in_err-elements.field-0.0 c.in_err-elements.ensures.document in
+    record { exact = search (rules, here) }
+
+pub structure::read_closed_struct-returns-in_err-fields : goal.structure::read_closed_struct-returns-in_err-fields
+structure::read_closed_struct-returns-in_err-fields t c =
+    let here = closed_fields_stop (value.structure (made c.args.name.now)) (slots_of (settled_fields c.args.readable (fields_of c.args.fields.now))) c.args.value.now c.in_ok-elements.elements c.in_err-fields.field-0.0 c.in_ok-elements.ensures.document c.in_err-fields.ensures.exact in
     record { exact = search (rules, here) }
 
 pub enumeration::read_struct_variant-returns : goal.enumeration::read_struct_variant-returns
 enumeration::read_struct_variant-returns t c = record {
-  exact = taken (value.structure_variant (made c.args.name.now)) (judged c.args.value.now) (read_structure (slots_of (settled_fields c.args.readable (fields_of c.args.fields.now)))) _ c.in_ok-fields.ensures.exact ∙ ap Ok (sym c.in_ok-named_struct_variant.ensures.marked);
+  exact = taken (value.structure_variant (made c.args.name.now)) (judged c.args.value.now) (read_structure dropped (slots_of (settled_fields c.args.readable (fields_of c.args.fields.now)))) _ c.in_ok-fields.ensures.exact ∙ ap Ok (sym c.in_ok-named_struct_variant.ensures.marked);
 }
 
 pub enumeration::read_struct_variant-returns-in_err-fields : goal.enumeration::read_struct_variant-returns-in_err-fields
 enumeration::read_struct_variant-returns-in_err-fields t c =
-    let here = not_taken (value.structure_variant (made c.args.name.now)) (judged c.args.value.now) (read_structure (slots_of (settled_fields c.args.readable (fields_of c.args.fields.now)))) c.in_err-fields.field-0.0 c.in_err-fields.ensures.exact in
+    let here = not_taken (value.structure_variant (made c.args.name.now)) (judged c.args.value.now) (read_structure dropped (slots_of (settled_fields c.args.readable (fields_of c.args.fields.now)))) c.in_err-fields.field-0.0 c.in_err-fields.ensures.exact in
     record { exact = search (rules, here) }
 
 pub map::read_entries-read_key-requires : goal.map::read_entries-read_key-requires

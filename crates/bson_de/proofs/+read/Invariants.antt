@@ -7,6 +7,7 @@ use Rattle.bson_laws.specs.Reads.{reads, reads_parts, slots_of}
 use Rattle.bson_laws.specs.Settled.{settled, settled_fields, settled_parts}
 use Rattle.bson_laws.specs.Slots.{fill, reads_places}
 use Rattle.bson_met.specs.Sizes.{count}
+use Rattle.bson_slots.specs.FieldsRead.{unknown_of}
 use Rattle.bson_slots.specs.SlotsView.{slots_view}
 use Rattle.bson_leaves.specs.EntriesView.{IsIndexed, key_form, entries_of}
 use Rattle.bson_texts.specs.ListsMarked.{items_marked, entries_marked}
@@ -118,10 +119,13 @@ decreases-structure::read_fields l = 8 * fields_nodes (fields_of l.fields.now) +
 abbrev pub decreases-structure::read_struct : goal.decreases-structure::read_struct
 decreases-structure::read_struct l = 8 * fields_nodes (fields_of l.fields.now) + 5
 
+abbrev pub decreases-structure::read_closed_struct : goal.decreases-structure::read_closed_struct
+decreases-structure::read_closed_struct l = 8 * fields_nodes (fields_of l.fields.now) + 5
+
 -- what is left of the document fills the slots so far as the whole document fills empty ones
 abbrev pub invariant-structure::read_by_key-step : goal.invariant-structure::read_by_key-step
 invariant-structure::read_by_key-step l =
-    (l.index.items.now ≡ l.fields) × (l.slots.fields.now ≡ l.fields) × (each slots_by 0 l.elements (slots_view l.slots) ≡ fill l.fn.elements (slots_of (settled_fields l.readable (fields_of l.fields))))
+    (l.index.items.now ≡ l.fields) × (l.slots.fields.now ≡ l.fields) × (each (slots_by (unknown_of l.closed)) 0 l.elements (slots_view l.slots) ≡ fill (unknown_of l.closed) l.fn.elements (slots_of (settled_fields l.readable (fields_of l.fields))))
 
 abbrev pub decreases-structure::read_by_key-step : goal.decreases-structure::read_by_key-step
 decreases-structure::read_by_key-step l = count l.elements

@@ -2,7 +2,7 @@ use Rattle.std.proofs.Common.{[], ap, sym, subst, ◌∙◌, rules}
 use Rattle.std.specs.Prelude.{codes}
 use Rattle.bson_base.specs.Outcome.{result_map}
 use Rattle.bson_rawdoc.specs.Piece.{made}
-use Rattle.bson_shape.specs.Form.{field, no_fields}
+use Rattle.bson_shape.specs.Form.{dropped, field, no_fields}
 use Rattle.bson_datum.specs.Marked.{Marked, MarkedFields}
 use Rattle.bson_datum.specs.Value.{structure}
 use Rattle.bson_laws.specs.Judged.{Reading, judged}
@@ -25,8 +25,8 @@ pub returns-in_err-one_field : goal.returns-in_err-one_field
 returns-in_err-one_field c =
     let n = c.args.value.now in
     let stop = c.in_err-one_field.field-0.0 in
-    let here = subst (λ (r : Reading Marked). StopsAs stop r) (sym (mapped all (judged n) (read_structure slots))) (stops_map stop all (fields_read slots n) c.in_err-one_field.ensures.exact) in
+    let here = subst (λ (r : Reading Marked). StopsAs stop r) (sym (mapped all (judged n) (read_structure dropped slots))) (stops_map stop all (fields_read slots n) c.in_err-one_field.ensures.exact) in
     record { exact = search (rules, here) }
 
 pub returns : goal.returns
-returns c = let n = c.args.value.now in record { exact = mapped all (judged n) (read_structure slots) ∙ ap (result_map all) c.in_ok-one_field.ensures.exact }
+returns c = let n = c.args.value.now in record { exact = mapped all (judged n) (read_structure dropped slots) ∙ ap (result_map all) c.in_ok-one_field.ensures.exact }
