@@ -26,9 +26,10 @@ fn read_front(alloc: Global, error: &de::Error) -> Result<String, AllocError>
 {
     match error {
         de::Error::WithPath { path, .. } => format!(in alloc; "error at {path}: "),
-        de::Error::EndOfStream | de::Error::DeserializationError { .. } | de::Error::NoMemory => {
-            Ok(String::new(alloc))
-        }
+        de::Error::Io
+        | de::Error::EndOfStream
+        | de::Error::DeserializationError { .. }
+        | de::Error::NoMemory => Ok(String::new(alloc)),
     }
 }
 

@@ -11,6 +11,7 @@ use Rattle.bson_base.specs.declared.element_type.ElementType.TheVariants.{Null}
 use Rattle.bson_rawdoc.specs.Node.{Node, Nodes, node_in, nodes_with}
 use Rattle.bson_rawdoc.specs.Piece.{Piece}
 use Rattle.bson_rawdoc.specs.Walk.{Element, Walk, then_walk}
+use Rattle.bson_shape.specs.Form.{UnknownFields, dropped}
 use Rattle.bson_shape.specs.Makers.{AreDistinct, has_name, has_repeat}
 use Rattle.bson_shape.specs.ShapeView.{fields_of, fields_nodes}
 use Rattle.bson_shape.specs.declared.shape.FieldShape.{FieldShape}
@@ -83,55 +84,56 @@ names-with levels (f ∷ fs) (e ∷ es) [] h = absurd h
 names-with levels (f ∷ fs) (e ∷ es) (v ∷ values) h = ap (λ ns. name_of f ∷ ns) (names-with levels fs es values h.1)
 
 -- an element that slots behind others take
-put_behind : (key : Utf8) (n : Node) (front old new : Slots) → LacksName key (names front) → put_at key n old ≡ Ok new → put_at key n (front ++ old) ≡ Ok (front ++ new)
-put_behind key n [] old new free h = h
-put_behind key n (s ∷ front) old new free h = rw (free.0, put_behind key n front old new free.1 h) refl
+put_behind : (u : UnknownFields) (key : Utf8) (n : Node) (front old new : Slots) → LacksName key (names front) → put_at u key n old ≡ Ok new → put_at u key n (front ++ old) ≡ Ok (front ++ new)
+put_behind u key n [] old new free h = h
+put_behind u key n (s ∷ front) old new free h = rw (free.0, put_behind u key n front old new free.1 h) refl
 
 -- a field that had no element has this one
-noted : (levels : ℕ) (e : Element) (fs : List FieldShape) (i : ℕ) (es : List (Option Element)) (after : List (Option Marked)) → LacksName e.key (map name_of (take i fs)) → IsField fs i e.key → i < length es → get_or es i None ≡ None
+noted : (u : UnknownFields) (levels : ℕ) (e : Element) (fs : List FieldShape) (i : ℕ) (es : List (Option Element)) (after : List (Option Marked)) → LacksName e.key (map name_of (take i fs)) → IsField fs i e.key → i < length es → get_or es i None ≡ None
     → AreReadAs levels fs (set es i (Some e)) after
-    → (before : List (Option Marked)) × AreReadAs levels fs es before × (put_at e.key (node_in levels e.kind e.value) (slots_with fs before) ≡ Ok (slots_with fs after))
-noted levels e [] i es after lacks at lt empty h = absurd at
-noted levels e (f ∷ fs) i [] after lacks at lt empty h = absurd (omega (arith, lt))
-noted levels e (f ∷ fs) zero (o ∷ es) [] lacks at lt empty h = absurd h
-noted levels e (f ∷ fs) zero (None ∷ es) (None ∷ values) lacks at lt empty h = absurd h.0
-noted levels e (f ∷ fs) zero (None ∷ es) (Some v ∷ values) lacks at lt empty h = (None ∷ values, (tt, h.1), rw (at, h.0) refl)
-noted levels e (f ∷ fs) zero (Some x ∷ es) (v ∷ values) lacks at lt empty h = absurd cc
-noted levels e (f ∷ fs) (suc i) (o ∷ es) [] lacks at lt empty h = absurd h
-noted levels e (f ∷ fs) (suc i) (o ∷ es) (v ∷ values) lacks at lt empty h =
-    let rest = noted levels e fs i es values lacks.1 at (omega (arith, lt)) empty h.1 in
+    → (before : List (Option Marked)) × AreReadAs levels fs es before × (put_at u e.key (node_in levels e.kind e.value) (slots_with fs before) ≡ Ok (slots_with fs after))
+noted u levels e [] i es after lacks at lt empty h = absurd at
+noted u levels e (f ∷ fs) i [] after lacks at lt empty h = absurd (omega (arith, lt))
+noted u levels e (f ∷ fs) zero (o ∷ es) [] lacks at lt empty h = absurd h
+noted u levels e (f ∷ fs) zero (None ∷ es) (None ∷ values) lacks at lt empty h = absurd h.0
+noted u levels e (f ∷ fs) zero (None ∷ es) (Some v ∷ values) lacks at lt empty h = (None ∷ values, (tt, h.1), rw (at, h.0) refl)
+noted u levels e (f ∷ fs) zero (Some x ∷ es) (v ∷ values) lacks at lt empty h = absurd cc
+noted u levels e (f ∷ fs) (suc i) (o ∷ es) [] lacks at lt empty h = absurd h
+noted u levels e (f ∷ fs) (suc i) (o ∷ es) (v ∷ values) lacks at lt empty h =
+    let rest = noted u levels e fs i es values lacks.1 at (omega (arith, lt)) empty h.1 in
     (v ∷ rest.0, (h.0, rest.1), rw (lacks.0, rest.2) refl)
 
-pub element_noted : (levels : ℕ) (front fs : List FieldShape) (e : Element) (i : ℕ) (es : List (Option Element)) → AreDistinct (fields_of (front ++ fs)) → IsField fs i e.key → i < length es → get_or es i None ≡ None
-    → IsNoted levels front fs e es (set es i (Some e))
-element_noted levels front fs e i es distinct at lt empty after h =
+pub element_noted : (u : UnknownFields) (levels : ℕ) (front fs : List FieldShape) (e : Element) (i : ℕ) (es : List (Option Element)) → AreDistinct (fields_of (front ++ fs)) → IsField fs i e.key → i < length es → get_or es i None ≡ None
+    → IsNoted u levels front fs e es (set es i (Some e))
+element_noted u levels front fs e i es distinct at lt empty after h =
     let d : has_repeat (map name_of (front ++ fs)) ≡ false = ap has_repeat (field_names_are (front ++ fs)) ∙ distinct in
-    let r = noted levels e fs i es after (lacks_before fs i e.key (distinct_behind front fs d) at) at lt empty h in
-    (r.0, r.1, λ slots named. put_behind e.key (node_in levels e.kind e.value) slots (slots_with fs r.0) (slots_with fs after) (subst (LacksName e.key) named (lacks_front front fs i e.key d at)) r.2)
+    let r = noted u levels e fs i es after (lacks_before fs i e.key (distinct_behind front fs d) at) at lt empty h in
+    (r.0, r.1, λ slots named. put_behind u e.key (node_in levels e.kind e.value) slots (slots_with fs r.0) (slots_with fs after) (subst (LacksName e.key) named (lacks_front front fs i e.key d at)) r.2)
 
--- an element that no field has
-pub element_dropped : (levels : ℕ) (front fs : List FieldShape) (e : Element) (es : List (Option Element)) → is_free e.key fs ≡ true → is_free e.key front ≡ true → ignores (node_in levels e.kind e.value) ≡ Ok tt → IsNoted levels front fs e es es
-element_dropped levels front fs e es free free_front passed after h = (
+-- an element that no field has, where it is dropped
+pub element_dropped : (u : UnknownFields) (levels : ℕ) (front fs : List FieldShape) (e : Element) (es : List (Option Element)) → is_free e.key fs ≡ true → is_free e.key front ≡ true → u ≡ dropped → ignores (node_in levels e.kind e.value) ≡ Ok tt → IsNoted u levels front fs e es es
+element_dropped u levels front fs e es free free_front drops passed after h = (
   after,
   h,
   λ slots named.
       let lacks : LacksName e.key (names slots ++ names (slots_with fs after)) =
       lacks_both e.key (names slots) (names (slots_with fs after)) (subst (LacksName e.key) named (free_lacks e.key front free_front)) (subst (LacksName e.key) (sym (names-with levels fs es after h)) (free_lacks e.key fs free)) in
-      put_dropped e.key (node_in levels e.kind e.value) (slots ++ slots_with fs after) (subst (LacksName e.key) (sym (names-append slots (slots_with fs after))) lacks) passed,
+      subst (λ v. put_at v e.key (node_in levels e.kind e.value) (slots ++ slots_with fs after) ≡ Ok (slots ++ slots_with fs after)) (sym drops)
+      (put_dropped e.key (node_in levels e.kind e.value) (slots ++ slots_with fs after) (subst (LacksName e.key) (sym (names-append slots (slots_with fs after))) lacks) passed),
 )
 
 -- no element is looked at yet
-pub found_none : (levels : ℕ) (front fs : List FieldShape) (whole : Nodes) (es : List (Option Element)) → es ≡ replicate (length fs) None → AreFound levels front fs whole whole es
-found_none levels front fs whole es is values h slots named = ap (λ ss. fill whole (slots ++ ss)) (sym (none_read levels fs values (subst (λ l. AreReadAs levels fs l values) is h)))
+pub found_none : (u : UnknownFields) (levels : ℕ) (front fs : List FieldShape) (whole : Nodes) (es : List (Option Element)) → es ≡ replicate (length fs) None → AreFound u levels front fs whole whole es
+found_none u levels front fs whole es is values h slots named = ap (λ ss. fill u whole (slots ++ ss)) (sym (none_read levels fs values (subst (λ l. AreReadAs levels fs l values) is h)))
 
 -- one element more
-pub found_step : (levels : ℕ) (front fs : List FieldShape) (whole : Nodes) (old_walk new_walk : Walk) (e : Element) (old new : List (Option Element)) → AreFound levels front fs whole (nodes_with (node_in levels) old_walk) old → old_walk ≡ then_walk e new_walk
-    → IsNoted levels front fs e old new → AreFound levels front fs whole (nodes_with (node_in levels) new_walk) new
-found_step levels front fs whole old_walk new_walk e old new found step is values h slots named =
+pub found_step : (u : UnknownFields) (levels : ℕ) (front fs : List FieldShape) (whole : Nodes) (old_walk new_walk : Walk) (e : Element) (old new : List (Option Element)) → AreFound u levels front fs whole (nodes_with (node_in levels) old_walk) old → old_walk ≡ then_walk e new_walk
+    → IsNoted u levels front fs e old new → AreFound u levels front fs whole (nodes_with (node_in levels) new_walk) new
+found_step u levels front fs whole old_walk new_walk e old new found step is values h slots named =
     let before = is values h in
     found before.0 before.1 slots named
-    ∙ ap (λ w. fill (nodes_with (node_in levels) w) (slots ++ slots_with fs before.0)) step
-    ∙ ap (λ r. r >>= fill (nodes_with (node_in levels) new_walk)) (before.2 slots named)
+    ∙ ap (λ w. fill u (nodes_with (node_in levels) w) (slots ++ slots_with fs before.0)) step
+    ∙ ap (λ r. r >>= fill u (nodes_with (node_in levels) new_walk)) (before.2 slots named)
 
 -- ---- what is written
 
@@ -187,19 +189,19 @@ left_none levels fs es i old made left all =
     (left [] [] (subst (λ xs. AreReadAs levels xs (drop i es) []) (sym (drop_all i fs all)) refl) (subst (λ xs. AreWritten levels (slots_with xs []) []) (sym (drop_all i fs all)) refl))
 
 -- the fields up to a place were written, and those behind it from the elements that were found for them
-others_put : (fs : List FieldShape) (levels : ℕ) (whole : Option Pairs) (place : ℕ) (old made new : Bytes) (w : Walk) → AreUnderWay fs levels whole (nodes_with (node_in levels) w) place old made → AreOthersPut levels (take place fs) (drop place fs) w made new
+others_put : (u : UnknownFields) (fs : List FieldShape) (levels : ℕ) (whole : Option Pairs) (place : ℕ) (old made new : Bytes) (w : Walk) → AreUnderWay u fs levels whole (nodes_with (node_in levels) w) place old made → AreOthersPut u levels (take place fs) (drop place fs) w made new
     → ArePairsPut whole old new
-others_put fs levels whole place old made new w p others =
+others_put u fs levels whole place old made new w p others =
     let rest = drop place fs in
     let found = others.1 in
     let h = others.2 in
-    fields_end levels whole (p.front ++ slots_with rest h.0) old (p.bytes ++ h.1) new (p.left ∙ ap (λ r. recast_by (λ vs. spell_fields (field_contents vs) levels) (r >>= finish)) (found h.0 h.2 p.front p.names_are))
+    fields_end u levels whole (p.front ++ slots_with rest h.0) old (p.bytes ++ h.1) new (p.left ∙ ap (λ r. recast_by (λ vs. spell_fields (field_contents vs) levels) (r >>= finish)) (found h.0 h.2 p.front p.names_are))
     (written_both levels p.front (slots_with rest h.0) p.bytes h.1 p.written h.3) (h.4 ∙ ap (λ b. b ++ h.1) p.put ∙ append_assoc old p.bytes h.1)
 
-pub if_others_put : {A : Type 0} (fs : List FieldShape) (levels : ℕ) (whole : Option Pairs) (place : ℕ) (old made new : Bytes) (w : Walk) (r : Option A) → AreUnderWay fs levels whole (nodes_with (node_in levels) w) place old made
-    → IfSome r (λ _. AreOthersPut levels (take place fs) (drop place fs) w made new) → IfSome r (λ _. ArePairsPut whole old new)
-if_others_put fs levels whole place old made new w None p h = tt
-if_others_put fs levels whole place old made new w (Some x) p h = others_put fs levels whole place old made new w p h
+pub if_others_put : {A : Type 0} (u : UnknownFields) (fs : List FieldShape) (levels : ℕ) (whole : Option Pairs) (place : ℕ) (old made new : Bytes) (w : Walk) (r : Option A) → AreUnderWay u fs levels whole (nodes_with (node_in levels) w) place old made
+    → IfSome r (λ _. AreOthersPut u levels (take place fs) (drop place fs) w made new) → IfSome r (λ _. ArePairsPut whole old new)
+if_others_put u fs levels whole place old made new w None p h = tt
+if_others_put u fs levels whole place old made new w (Some x) p h = others_put u fs levels whole place old made new w p h
 
 -- the fields from a place on are no larger together
 pub fewer : (fs : List FieldShape) (i : ℕ) → fields_nodes (fields_of (drop i fs)) ≤ fields_nodes (fields_of fs)

@@ -12,7 +12,7 @@ use Rattle.bson_rawdoc.specs.Envelope.{inside, is_closed}
 use Rattle.bson_rawdoc.specs.Piece.{made}
 use Rattle.bson_rawdoc.specs.Node.{inner_node, node_in, nodes_with}
 use Rattle.bson_rawdoc.specs.Walk.{walk}
-use Rattle.bson_shape.specs.Form.{Form, sequence, structure, Fields}
+use Rattle.bson_shape.specs.Form.{UnknownFields, Form, sequence, structure, Fields}
 use Rattle.bson_datum.specs.Marked.{contents, item_contents, field_contents}
 use Rattle.bson_datum.specs.Value as value
 use Rattle.bson_laws.specs.Containers.{reads_items}
@@ -66,12 +66,12 @@ pub pairs_put : (s : Form) (o : Option Pairs) (levels m : ℕ) (b old begun fill
     → ((b : Bytes) → filled ≡ begun ++ b → ended ≡ old ++ enclosed b) → ArePairsPut o begun filled → IsPut (recast_node s levels (inner_node levels kinds.EmbeddedDocument b)) old ended kinds.EmbeddedDocument
 pairs_put s o levels m b old begun filled ended is e wraps h = container_put elements tree.document kinds.EmbeddedDocument s o levels m b old begun filled ended (λ ps. (refl, refl)) is e wraps h
 
-pub struct_put : (name : Utf8) (fs : Fields) (levels m : ℕ) (b old begun filled ended : Bytes) → reserved_kind name ≡ None → levels ≡ suc m → ((b : Bytes) → filled ≡ begun ++ b → ended ≡ old ++ enclosed b)
-    → ArePairsPut (recast_fields (slots_of fs) m (nodes_with (node_in m) (walk b))) begun filled → IsPut (recast_node (structure name fs) levels (inner_node levels kinds.EmbeddedDocument b)) old ended kinds.EmbeddedDocument
-struct_put name fs levels m b old begun filled ended free e wraps h =
+pub struct_put : (u : UnknownFields) (name : Utf8) (fs : Fields) (levels m : ℕ) (b old begun filled ended : Bytes) → reserved_kind name ≡ None → levels ≡ suc m → ((b : Bytes) → filled ≡ begun ++ b → ended ≡ old ++ enclosed b)
+    → ArePairsPut (recast_fields u (slots_of fs) m (nodes_with (node_in m) (walk b))) begun filled → IsPut (recast_node (structure u name fs) levels (inner_node levels kinds.EmbeddedDocument b)) old ended kinds.EmbeddedDocument
+struct_put u name fs levels m b old begun filled ended free e wraps h =
     let ns = nodes_with (node_in m) (walk b) in
-    pairs_put (structure name fs) (recast_fields (slots_of fs) m ns) levels m b old begun filled ended
-    (recast_mapped (λ v. spell (contents v) (suc m)) (value.structure (made name)) (λ vs. spell_fields (field_contents vs) m) tree.document (fill ns (slots_of fs) >>= finish) (λ vs. rw free refl)) e wraps h
+    pairs_put (structure u name fs) (recast_fields u (slots_of fs) m ns) levels m b old begun filled ended
+    (recast_mapped (λ v. spell (contents v) (suc m)) (value.structure (made name)) (λ vs. spell_fields (field_contents vs) m) tree.document (fill u ns (slots_of fs) >>= finish) (λ vs. rw free refl)) e wraps h
 
 -- ---- documents and arrays that are closed
 
@@ -90,7 +90,7 @@ pub array_kept : (s : Form) (levels m : ℕ) (b : Bytes) → levels ≡ suc m �
 array_kept s levels m b e closed frame h =
     subst (λ n. IsPut (recast_node (sequence s) levels n) [] b kinds.Array) (sym (array_node levels m b e closed)) (array_put s levels m b [] [] (inside b) b e (frame_wraps b frame) h)
 
-pub struct_kept : (name : Utf8) (fs : Fields) (levels m : ℕ) (b : Bytes) → reserved_kind name ≡ None → levels ≡ suc m → is_closed b ≡ true → enclosed (inside b) ≡ b
-    → ArePairsPut (recast_fields (slots_of fs) m (nodes_with (node_in m) (walk b))) [] (inside b) → IsPut (recast_node (structure name fs) levels (node_in levels kinds.EmbeddedDocument b)) [] b kinds.EmbeddedDocument
-struct_kept name fs levels m b free e closed frame h =
-    subst (λ n. IsPut (recast_node (structure name fs) levels n) [] b kinds.EmbeddedDocument) (sym (document_node levels m b e closed)) (struct_put name fs levels m b [] [] (inside b) b free e (frame_wraps b frame) h)
+pub struct_kept : (u : UnknownFields) (name : Utf8) (fs : Fields) (levels m : ℕ) (b : Bytes) → reserved_kind name ≡ None → levels ≡ suc m → is_closed b ≡ true → enclosed (inside b) ≡ b
+    → ArePairsPut (recast_fields u (slots_of fs) m (nodes_with (node_in m) (walk b))) [] (inside b) → IsPut (recast_node (structure u name fs) levels (node_in levels kinds.EmbeddedDocument b)) [] b kinds.EmbeddedDocument
+struct_kept u name fs levels m b free e closed frame h =
+    subst (λ n. IsPut (recast_node (structure u name fs) levels n) [] b kinds.EmbeddedDocument) (sym (document_node levels m b e closed)) (struct_put u name fs levels m b [] [] (inside b) b free e (frame_wraps b frame) h)

@@ -6,6 +6,7 @@ use Rattle.bson_base.specs.Text.{Bytes, Utf8}
 use Rattle.bson_base.specs.Tree.{Pairs, no_pairs, pair, enc, kind, element, elements}
 use Rattle.bson_rawdoc.specs.Node.{Node, Nodes, ended, then_node}
 use Rattle.bson_rawdoc.specs.Piece.{Piece}
+use Rattle.bson_shape.specs.Form.{UnknownFields, dropped}
 use Rattle.bson_datum.specs.Marked.{Marked, MarkedFields, field_contents}
 use Rattle.bson_datum.specs.Value.{no_field_values, field_value}
 use Rattle.bson_laws.specs.Judged.{ignores}
@@ -32,14 +33,14 @@ abbrev pub filled : Slot → Marked → Slot
 filled s v = record s { value = Some v }
 
 -- an element that no slot takes
-pub put_dropped : (key : Utf8) (n : Node) (ss : Slots) → Lacks key ss → ignores n ≡ Ok tt → put_at key n ss ≡ Ok ss
+pub put_dropped : (key : Utf8) (n : Node) (ss : Slots) → Lacks key ss → ignores n ≡ Ok tt → put_at dropped key n ss ≡ Ok ss
 put_dropped key n [] free h = rw h refl
 put_dropped key n (s ∷ ss) free h = rw (free.0, put_dropped key n ss free.1 h) refl
 
 -- an element that a slot without a value takes, behind others
-pub put_due : (key : Utf8) (n : Node) (front back : Slots) (s : Slot) (v : Marked) → Lacks key front → bytes_eq s.name key ≡ true → s.value ≡ None → s.read n ≡ Ok v → put_at key n (front ++ s ∷ back) ≡ Ok (front ++ filled s v ∷ back)
-put_due key n [] back s v free same empty read = rw (same, empty, read) refl
-put_due key n (f ∷ front) back s v free same empty read = rw (free.0, put_due key n front back s v free.1 same empty read) refl
+pub put_due : (u : UnknownFields) (key : Utf8) (n : Node) (front back : Slots) (s : Slot) (v : Marked) → Lacks key front → bytes_eq s.name key ≡ true → s.value ≡ None → s.read n ≡ Ok v → put_at u key n (front ++ s ∷ back) ≡ Ok (front ++ filled s v ∷ back)
+put_due u key n [] back s v free same empty read = rw (same, empty, read) refl
+put_due u key n (f ∷ front) back s v free same empty read = rw (free.0, put_due u key n front back s v free.1 same empty read) refl
 
 -- ---- what is written
 
@@ -71,12 +72,12 @@ finished levels (s ∷ ss) bytes h =
     }
 
 -- all fields are written, and no element is left
-pub fields_end : (levels : ℕ) (whole : Option Pairs) (ss : Slots) (old bytes new : Bytes) → whole ≡ recast_fields ss levels ended → AreWritten levels ss bytes → new ≡ old ++ bytes → ArePairsPut whole old new
-fields_end levels whole ss old bytes new is h put =
+pub fields_end : (u : UnknownFields) (levels : ℕ) (whole : Option Pairs) (ss : Slots) (old bytes new : Bytes) → whole ≡ recast_fields u ss levels ended → AreWritten levels ss bytes → new ≡ old ++ bytes → ArePairsPut whole old new
+fields_end u levels whole ss old bytes new is h put =
     let all = finished levels ss bytes h in
-    let left : recast_fields ss levels ended ≡ Some all.pairs = rw (all.finished, all.spelled) refl in
+    let left : recast_fields u ss levels ended ≡ Some all.pairs = rw (all.finished, all.spelled) refl in
     subst (λ (o : Option Pairs). ArePairsPut o old new) (sym (is ∙ left)) (put ∙ ap (λ b. old ++ b) all.bytes_are)
 
 -- an element was put
-pub fields_step : (levels : ℕ) (key : Piece) (n : Node) (ns : Nodes) (old new : Slots) → put_at key.bytes n old ≡ Ok new → recast_fields old levels (then_node key n ns) ≡ recast_fields new levels ns
-fields_step levels key n ns old new h = rw h refl
+pub fields_step : (u : UnknownFields) (levels : ℕ) (key : Piece) (n : Node) (ns : Nodes) (old new : Slots) → put_at u key.bytes n old ≡ Ok new → recast_fields u old levels (then_node key n ns) ≡ recast_fields u new levels ns
+fields_step u levels key n ns old new h = rw h refl

@@ -6,7 +6,7 @@ use Rattle.bson_base.specs.Text.{Bytes, Utf8, has_zero}
 use Rattle.bson_base.specs.Tree.{Trees, Pairs}
 use Rattle.bson_rawdoc.specs.Node.{node_in, nodes_with}
 use Rattle.bson_rawdoc.specs.Walk.{Element, walk_elements}
-use Rattle.bson_shape.specs.Form.{Form}
+use Rattle.bson_shape.specs.Form.{UnknownFields, Form}
 use Rattle.bson_shape.specs.Makers.{AreDistinct}
 use Rattle.bson_shape.specs.ShapeView.{fields_of, parts_of}
 use Rattle.bson_shape.specs.declared.leaf.Leaf.{Leaf}
@@ -23,21 +23,21 @@ use Rattle.bson_one_pass.proofs.Runs.{walk_next, next_kept}
 use Rattle.bson_one_pass.proofs.Tuples.{part_at_put}
 
 -- the element of the field that is due
-pub next_due : (fs : List FieldShape) (levels : ℕ) (whole : Option Pairs) (place at n : ℕ) (bytes : Bytes) (e : Element) (f : FieldShape) (old made new : Bytes)
-    → AreUnderWay fs levels whole (nodes_with (node_in levels) (walk_elements (drop at bytes))) place old made → IsHead (drop at bytes) e → n ≡ size e → place < length fs → f ≡ get_or fs place f → bytes_eq (name_of f) e.key ≡ true
-    → AreDistinct (fields_of fs) → IsElementPut (recast_node f.shape levels (node_in levels e.kind e.value)) e.key made new → AreUnderWay fs levels whole (nodes_with (node_in levels) (walk_elements (drop (at + n) bytes))) (place + 1) old new
-next_due fs levels whole place at n bytes e f old made new before head is lt got same distinct put =
+pub next_due : (u : UnknownFields) (fs : List FieldShape) (levels : ℕ) (whole : Option Pairs) (place at n : ℕ) (bytes : Bytes) (e : Element) (f : FieldShape) (old made new : Bytes)
+    → AreUnderWay u fs levels whole (nodes_with (node_in levels) (walk_elements (drop at bytes))) place old made → IsHead (drop at bytes) e → n ≡ size e → place < length fs → f ≡ get_or fs place f → bytes_eq (name_of f) e.key ≡ true
+    → AreDistinct (fields_of fs) → IsElementPut (recast_node f.shape levels (node_in levels e.kind e.value)) e.key made new → AreUnderWay u fs levels whole (nodes_with (node_in levels) (walk_elements (drop (at + n) bytes))) (place + 1) old new
+next_due u fs levels whole place at n bytes e f old made new before head is lt got same distinct put =
     let named : name_of f ≡ e.key = same_name (name_of f) e.key same in
-    due_step fs levels whole place old made (walk_elements (drop at bytes)) (walk_elements (drop (at + n) bytes)) e f new before (walk_next bytes at n e head is) lt got same distinct (ap has_zero named ∙ head.closed)
+    due_step u fs levels whole place old made (walk_elements (drop at bytes)) (walk_elements (drop (at + n) bytes)) e f new before (walk_next bytes at n e head is) lt got same distinct (ap has_zero named ∙ head.closed)
     (subst (λ k. IsElementPut (recast_node f.shape levels (node_in levels e.kind e.value)) k made new) (sym named) put)
 
 -- the same, where it is left in the run from the first byte on
-pub next_field_kept : (fs : List FieldShape) (levels : ℕ) (whole : Option Pairs) (place at n : ℕ) (bytes : Bytes) (e : Element) (f : FieldShape)
-    → AreUnderWay fs levels whole (nodes_with (node_in levels) (walk_elements (drop at bytes))) place [] (run bytes 0 at) → IsHead (drop at bytes) e → n ≡ size e → place < length fs → f ≡ get_or fs place f → bytes_eq (name_of f) e.key ≡ true
-    → AreDistinct (fields_of fs) → IsKept f.shape levels e.kind e.value → AreUnderWay fs levels whole (nodes_with (node_in levels) (walk_elements (drop (at + n) bytes))) (place + 1) [] (run bytes 0 (at + n))
-next_field_kept fs levels whole place at n bytes e f before head is lt got same distinct kept =
+pub next_field_kept : (u : UnknownFields) (fs : List FieldShape) (levels : ℕ) (whole : Option Pairs) (place at n : ℕ) (bytes : Bytes) (e : Element) (f : FieldShape)
+    → AreUnderWay u fs levels whole (nodes_with (node_in levels) (walk_elements (drop at bytes))) place [] (run bytes 0 at) → IsHead (drop at bytes) e → n ≡ size e → place < length fs → f ≡ get_or fs place f → bytes_eq (name_of f) e.key ≡ true
+    → AreDistinct (fields_of fs) → IsKept f.shape levels e.kind e.value → AreUnderWay u fs levels whole (nodes_with (node_in levels) (walk_elements (drop (at + n) bytes))) (place + 1) [] (run bytes 0 (at + n))
+next_field_kept u fs levels whole place at n bytes e f before head is lt got same distinct kept =
     let put = subst (λ m. IsElementPut (recast_node f.shape levels (node_in levels e.kind e.value)) e.key (run bytes 0 at) (run bytes 0 (at + m))) (sym is) (next_kept f.shape levels bytes 0 at e [] (omega arith) head kept) in
-    next_due fs levels whole place at n bytes e f [] (run bytes 0 at) (run bytes 0 (at + n)) before head is lt got same distinct put
+    next_due u fs levels whole place at n bytes e f [] (run bytes 0 at) (run bytes 0 (at + n)) before head is lt got same distinct put
 
 -- the element of an array that is due
 pub next_item : (s : Form) (levels i j : ℕ) (whole : Option Trees) (at n : ℕ) (bytes : Bytes) (e : Element) (key : Utf8) (old made new : Bytes) → AreLeft whole (recast_items s levels i (nodes_with (node_in levels) (walk_elements (drop at bytes)))) i old made

@@ -15,7 +15,7 @@ use Rattle.bson_rawdoc.specs.Node as node
 use Rattle.bson_rawdoc.specs.Node.{Node, Nodes, then_node, inner_node, node_in, nodes_with}
 use Rattle.bson_rawdoc.specs.Piece.{borrowed, made}
 use Rattle.bson_rawdoc.specs.Walk.{walk, walk_elements}
-use Rattle.bson_shape.specs.Form.{enumeration, Variants, Content, unit_content, newtype_content, tuple_content, struct_content}
+use Rattle.bson_shape.specs.Form.{dropped, enumeration, Variants, Content, unit_content, newtype_content, tuple_content, struct_content}
 use Rattle.bson_shape.specs.Makers.{has_name, has_repeat, variant_names, AreVariants, IsContent}
 use Rattle.bson_shape.specs.ShapeView.{variants_of, content_of, variants_nodes, content_nodes}
 use Rattle.bson_shape.specs.declared.shape.VariantShape.{VariantShape}
@@ -116,7 +116,7 @@ content_written : (name : Utf8) (c : Content) (m : ℕ) (n : Node) → has_zero 
 content_written name unit_content m n closed = refl
 content_written name (newtype_content s) m n closed = variant_by name m (value.newtype_variant (made name)) (λ v. spell (contents v) m) (reads s n) (λ x. refl) closed
 content_written name (tuple_content ps) m n closed = inside_by name m (value.tuple_variant (made name)) value.tuple (judged n >>= array_of) (reads_parts ps 0) (λ x. refl) closed
-content_written name (struct_content fs) m n closed = inside_by name m (value.structure_variant (made name)) (value.structure (made [])) (judged n) (read_structure (slots_of fs)) (λ x. refl) closed
+content_written name (struct_content fs) m n closed = inside_by name m (value.structure_variant (made name)) (value.structure (made [])) (judged n) (read_structure dropped (slots_of fs)) (λ x. refl) closed
 
 -- ---- the whole document
 

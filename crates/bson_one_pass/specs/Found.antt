@@ -5,6 +5,7 @@ use Rattle.bson_base.specs.Text.{Bytes, Utf8, has_zero}
 use Rattle.bson_base.specs.Tree.{Tree, enc, kind, element}
 use Rattle.bson_rawdoc.specs.Node.{Nodes, ended, node_in, nodes_with}
 use Rattle.bson_rawdoc.specs.Walk.{Element, Walk}
+use Rattle.bson_shape.specs.Form.{UnknownFields}
 use Rattle.bson_shape.specs.ShapeView.{fields_of}
 use Rattle.bson_shape.specs.declared.shape.FieldShape.{FieldShape}
 use Rattle.bson_datum.specs.Marked.{Marked, contents}
@@ -55,16 +56,16 @@ AreReadAs levels (f ∷ fs) [] vs = ⊥
 AreReadAs levels (f ∷ fs) (e ∷ es) [] = ⊥
 AreReadAs levels (f ∷ fs) (e ∷ es) (v ∷ vs) = IsReadAs levels f e v × AreReadAs levels fs es vs
 
--- An element was found for one of these fields, or is dropped. Where the elements that are found now are read as values, those that were found before are too, and
+-- An element was found for one of these fields, or is dropped at a struct that drops what it does not name. Where the elements that are found now are read as values, those that were found before are too, and
 -- this element fills the slots of the fields up to its value, behind slots in front of them.
-abbrev pub IsNoted : (levels : ℕ) → (front fields : List FieldShape) → Element → (old new : List (Option Element)) → Type 0
-IsNoted levels front fs e old new = (after : List (Option Marked)) → AreReadAs levels fs new after → (before : List (Option Marked)) × AreReadAs levels fs old before
-    × ((slots : Slots) → map name_of front ≡ names slots → put_at e.key (node_in levels e.kind e.value) (slots ++ slots_with fs before) ≡ Ok (slots ++ slots_with fs after))
+abbrev pub IsNoted : UnknownFields → (levels : ℕ) → (front fields : List FieldShape) → Element → (old new : List (Option Element)) → Type 0
+IsNoted u levels front fs e old new = (after : List (Option Marked)) → AreReadAs levels fs new after → (before : List (Option Marked)) × AreReadAs levels fs old before
+    × ((slots : Slots) → map name_of front ≡ names slots → put_at u e.key (node_in levels e.kind e.value) (slots ++ slots_with fs before) ≡ Ok (slots ++ slots_with fs after))
 
 -- Elements were found for fields, behind slots of fields in front. Where these are read as values, the elements fill the slots as those that are left fill the slots with these values.
-abbrev pub AreFound : (levels : ℕ) → (front fields : List FieldShape) → (whole left : Nodes) → (found : List (Option Element)) → Type 0
-AreFound levels front fs whole left found = (values : List (Option Marked)) → AreReadAs levels fs found values → (slots : Slots) → map name_of front ≡ names slots
-    → fill whole (slots ++ slots_of (fields_of fs)) ≡ fill left (slots ++ slots_with fs values)
+abbrev pub AreFound : UnknownFields → (levels : ℕ) → (front fields : List FieldShape) → (whole left : Nodes) → (found : List (Option Element)) → Type 0
+AreFound u levels front fs whole left found = (values : List (Option Marked)) → AreReadAs levels fs found values → (slots : Slots) → map name_of front ≡ names slots
+    → fill u whole (slots ++ slots_of (fields_of fs)) ≡ fill u left (slots ++ slots_with fs values)
 
 -- ---- what is written
 
@@ -91,5 +92,5 @@ abbrev pub AreFoundPut : (levels : ℕ) → List FieldShape → (found : List (O
 AreFoundPut levels fs found old new = (values : List (Option Marked)) × (bytes : Bytes) × AreReadAs levels fs found values × AreWritten levels (slots_with fs values) bytes × (new ≡ old ++ bytes)
 
 -- The fields behind those in front were written from the elements that are left, behind slots of fields in front: they are found, read and written.
-abbrev pub AreOthersPut : (levels : ℕ) → (front fields : List FieldShape) → Walk → (old new : Bytes) → Type 0
-AreOthersPut levels front fs left old new = (found : List (Option Element)) × AreFound levels front fs (nodes_with (node_in levels) left) ended found × AreFoundPut levels fs found old new
+abbrev pub AreOthersPut : UnknownFields → (levels : ℕ) → (front fields : List FieldShape) → Walk → (old new : Bytes) → Type 0
+AreOthersPut u levels front fs left old new = (found : List (Option Element)) × AreFound u levels front fs (nodes_with (node_in levels) left) ended found × AreFoundPut levels fs found old new

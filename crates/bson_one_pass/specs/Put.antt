@@ -8,7 +8,7 @@ use Rattle.bson_base.specs.Tree.{Tree, Trees, Pairs, enc, elements, array_elemen
 use Rattle.bson_base.specs.declared.element_type.ElementType.{ElementType}
 use Rattle.bson_rawdoc.specs.Node as node
 use Rattle.bson_rawdoc.specs.Node.{Node, Nodes}
-use Rattle.bson_shape.specs.Form.{Form, leaf, tuple, structure, Parts, Content, unit_content, newtype_content, tuple_content, struct_content}
+use Rattle.bson_shape.specs.Form.{UnknownFields, dropped, Form, leaf, tuple, structure, Parts, Content, unit_content, newtype_content, tuple_content, struct_content}
 use Rattle.bson_shape.specs.declared.leaf.Leaf.{Leaf}
 use Rattle.bson_datum.specs.Marked.{MarkedEntries, contents, item_contents, entry_contents, field_contents}
 use Rattle.bson_laws.specs.Containers.{reads_items, reads_key, reads_entries}
@@ -40,8 +40,8 @@ abbrev pub recast_parts : Parts → (levels index : ℕ) → Nodes → Option Tr
 recast_parts ps levels i ns = recast_by (λ vs. spell_items i (item_contents vs) levels) (reads_parts ps i ns)
 
 -- the pairs of the fields of a struct from the elements of a document, put to what the slots have
-abbrev pub recast_fields : Slots → (levels : ℕ) → Nodes → Option Pairs
-recast_fields slots levels ns = recast_by (λ vs. spell_fields (field_contents vs) levels) (fill ns slots >>= finish)
+abbrev pub recast_fields : UnknownFields → Slots → (levels : ℕ) → Nodes → Option Pairs
+recast_fields u slots levels ns = recast_by (λ vs. spell_fields (field_contents vs) levels) (fill u ns slots >>= finish)
 
 -- the pairs of the entries of a map from the elements of a document, put to those before them
 abbrev pub recast_entries : Leaf → Form → MarkedEntries → (levels : ℕ) → Nodes → Option Pairs
@@ -52,7 +52,7 @@ abbrev pub recast_content : Content → (levels : ℕ) → Node → Option Tree
 recast_content unit_content levels n = None
 recast_content (newtype_content s) levels n = recast_node s levels n
 recast_content (tuple_content ps) levels n = recast_node (tuple ps) levels n
-recast_content (struct_content fs) levels n = recast_node (structure [] fs) levels n
+recast_content (struct_content fs) levels n = recast_node (structure dropped [] fs) levels n
 
 -- the bytes of what there is were appended
 abbrev pub ArePut : {A : Type 0} (bytes : A → Bytes) → Option A → (old new : Bytes) → Type 0

@@ -225,7 +225,10 @@ fn recast_bytes(
         }
         (Form::Seq(item), ElementType::Array) => recast_array(made, item, levels, value),
         (Form::Struct(name, fields), ElementType::EmbeddedDocument) => {
-            recast_struct(made, name, fields, levels, value)
+            recast_struct(made, name, fields, false, levels, value)
+        }
+        (Form::ClosedStruct(name, fields), ElementType::EmbeddedDocument) => {
+            recast_struct(made, name, fields, true, levels, value)
         }
         (Form::Enum(variants), ElementType::EmbeddedDocument) if names_taken(variants, value) => {
             recast_enum(made, variants, levels, value)
@@ -272,7 +275,10 @@ fn recast_element(
             recast_array(made, item, levels, element.slice())
         }
         (Form::Struct(name, fields), ElementType::EmbeddedDocument) => {
-            recast_struct(made, name, fields, levels, element.slice())
+            recast_struct(made, name, fields, false, levels, element.slice())
+        }
+        (Form::ClosedStruct(name, fields), ElementType::EmbeddedDocument) => {
+            recast_struct(made, name, fields, true, levels, element.slice())
         }
         _ => recast_other(made, shape, levels, element),
     }

@@ -15,7 +15,7 @@ use std::alloc::Global;
 /// Reads the bytes of a document at a shape, and gives the bytes of what was read, in one pass.
 ///
 /// `None` says nothing of the document: it is for the shapes and documents that the pass does not take, for those that are refused, and where memory runs
-/// out. It takes structs, those of more than 64 fields where the document has them in the shape's order and nothing else, options, sequences, tuples, tuple
+/// out. It takes structs, closed or not, those of more than 64 fields where the document has them in the shape's order and nothing else, options, sequences, tuples, tuple
 /// structs, newtypes, unit structs, enums, maps of different keys at `str` or `string`, and the leaves `bool`, `double`, `unit`,
 /// `str`, `string`, `bytes`, `bytebuf`, `oid`, `datetime`, `timestamp`, `decimal`, `binary`, `uuid` and those of integers, where the value is of the kind of the
 /// leaf, and `regex`, `codews` and `dbpointer` where it is written as it was read. At `any`, `bson` and `document` it takes what is written as it was read: values whose arrays have their indexes as keys and whose documents

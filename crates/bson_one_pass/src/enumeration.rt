@@ -124,7 +124,7 @@ fn recast_inside(
             _ => None,
         },
         VariantContent::Struct(fields) => match kind {
-            ElementType::EmbeddedDocument => recast_struct(made, "", fields, levels, bytes),
+            ElementType::EmbeddedDocument => recast_struct(made, "", fields, false, levels, bytes),
             _ => None,
         },
         _ => None,

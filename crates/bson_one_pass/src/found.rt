@@ -4,6 +4,7 @@ ghost use Rattle.bson_rawdoc.specs.Node.{ended, node_in, nodes_with};
 ghost use Rattle.bson_rawdoc.specs.Walk.{walk_elements};
 ghost use Rattle.bson_shape.specs.Makers.{AreDistinct};
 ghost use Rattle.bson_shape.specs.ShapeView.{fields_of};
+ghost use Rattle.bson_slots.specs.FieldsRead.{unknown_of};
 ghost use Rattle.bson_one_pass.specs.Found.{IsField, IsNoted, AreFound};
 ghost use Rattle.bson_one_pass.specs.Free.{is_free};
 
@@ -12,18 +13,20 @@ use bson_rawdoc::{RawElement, next_element};
 use bson_shape::FieldShape;
 use std::alloc::Global;
 
-/// For each of these fields, which are behind those in front, the element that has its name. An element that no field has is dropped.
+/// For each of these fields, which are behind those in front, the element that has its name. An element that no field has is dropped where the struct is not closed.
 ///
-/// `None` where an element has the name of a field in front or of one that has an element, where something in the elements is at fault, and where memory runs out.
+/// `None` where an element has the name of a field in front or of one that has an element, where the struct is closed and an element has the name of no field, where
+/// something in the elements is at fault, and where memory runs out.
 pub(crate) fn find_elements<'a>(
     alloc: Global,
     front: &[FieldShape],
     fields: &[FieldShape],
+    closed: bool,
     levels: u32,
     elements: &'a [u8],
 ) -> Option<Vec<Option<RawElement<'a>>>>
     requires distinct { AreDistinct (fields_of (front.now ++ fields.now)) }
-    ensures { IfSome result (λ found. AreFound levels front.now fields.now (nodes_with (node_in levels) (walk_elements elements.now)) ended found.items) }
+    ensures { IfSome result (λ found. AreFound (unknown_of closed) levels front.now fields.now (nodes_with (node_in levels) (walk_elements elements.now)) ended found.items) }
 {
     let mut found = none_found(alloc, fields.len())?;
     let mut next = 0;
@@ -32,25 +35,29 @@ pub(crate) fn find_elements<'a>(
         let Ok((element, behind)) = step else {
             return None;
         };
-        next = note_element(&mut found, front, fields, next, levels, element)?;
+        next = note_element(&mut found, front, fields, next, closed, levels, element)?;
         rest = behind;
     }
     Some(found)
 }
 
-// Notes an element as that of its field, or drops it. The place behind that of the field is tried first for the next element.
+// Notes an element as that of its field, or drops it where the struct is not closed. The place behind that of the field is tried first for the next element.
 fn note_element<'a>(
     found: &mut Vec<Option<RawElement<'a>>>,
     front: &[FieldShape],
     fields: &[FieldShape],
     next: usize,
+    closed: bool,
     levels: u32,
     element: RawElement<'a>,
 ) -> Option<usize>
     requires distinct { AreDistinct (fields_of (front.now ++ fields.now)) }
-    ensures noted { IfSome result (λ _. IsNoted levels front.now fields.now element.entry found.old.items found.new.items) }
+    ensures noted { IfSome result (λ _. IsNoted (unknown_of closed) levels front.now fields.now element.entry found.old.items found.new.items) }
 {
     let Some(place) = place_of(fields, next, element.key()) else {
+        if closed {
+            return None;
+        }
         if !is_free(front, element.key()) {
             return None;
         }

@@ -8,6 +8,7 @@ ghost use Rattle.bson_rawdoc.specs.Envelope.{is_closed};
 ghost use Rattle.bson_rawdoc.specs.Node.{node_in, nodes_with};
 ghost use Rattle.bson_rawdoc.specs.Walk.{walk_elements};
 ghost use Rattle.bson_shape.specs.Form as form;
+ghost use Rattle.bson_shape.specs.Form.{UnknownFields};
 ghost use Rattle.bson_shape.specs.Makers.{AreDistinct, AreVariants, IsContent, has_repeat, is_reserved_newtype, variant_names};
 ghost use Rattle.bson_shape.specs.ShapeView.{content_of, fields_of, parts_of, variants_of};
 ghost use Rattle.bson_laws.specs.Leaves.{extended_values, leaf_kind, of_kind};
@@ -94,6 +95,12 @@ fn is_form_kept(
         Form::Enum(variants) => match kind {
             ElementType::EmbeddedDocument if nested > 0 => {
                 is_enum_kept(alloc, variants, levels, nested - 1, bytes)
+            }
+            _ => false,
+        },
+        Form::ClosedStruct(name, fields) => match kind {
+            ElementType::EmbeddedDocument if nested > 0 => {
+                is_struct_kept(alloc, name, fields, levels, nested - 1, bytes)
             }
             _ => false,
         },
@@ -304,7 +311,8 @@ fn are_items_kept(alloc: Global, item: &Shape, levels: u32, nested: u32, element
     true
 }
 
-// Whether the document in these bytes is written as these bytes, with these fields.
+// Whether the document in these bytes is written as these bytes, with these fields: each of its keys is the name of one, so that it does not count whether the struct
+// is closed.
 #[inline(never)]
 #[cycle(kept)]
 fn is_struct_kept(
@@ -317,7 +325,8 @@ fn is_struct_kept(
 ) -> bool
     requires free { reserved_kind name.now ≡ None }
     requires distinct { AreDistinct (fields_of fields.now) }
-    ensures { IsTrue result → IsKept (form.structure name.now (fields_of fields.now)) levels kinds.EmbeddedDocument bytes.now }
+    ensures drops { IsTrue result → IsKept (form.structure form.dropped name.now (fields_of fields.now)) levels kinds.EmbeddedDocument bytes.now }
+    ensures denies { IsTrue result → IsKept (form.structure form.denied name.now (fields_of fields.now)) levels kinds.EmbeddedDocument bytes.now }
 {
     if levels == 0 || !is_frame(bytes) {
         return false;
@@ -336,8 +345,8 @@ fn are_fields_kept(
     elements: &[u8],
 ) -> bool
     requires distinct { AreDistinct (fields_of fields.now) }
-    ensures { IsTrue result → ArePairsPut (recast_fields (slots_of (fields_of fields.now)) levels (nodes_with (node_in levels) (walk_elements elements.now)))
-        [] elements.now }
+    ensures { IsTrue result → (unknown : UnknownFields) → ArePairsPut (recast_fields unknown (slots_of (fields_of fields.now)) levels
+        (nodes_with (node_in levels) (walk_elements elements.now))) [] elements.now }
 {
     let mut place = 0;
     let mut at = 0;

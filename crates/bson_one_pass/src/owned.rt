@@ -24,6 +24,7 @@ pub(crate) fn borrows_nothing(shape: &Shape) -> bool
         Form::Newtype(_, inner) => borrows_nothing(inner),
         Form::UnitStruct(_) => true,
         Form::Struct(_, fields) => fields_borrow_nothing(fields),
+        Form::ClosedStruct(_, fields) => fields_borrow_nothing(fields),
         Form::Enum(variants) => variants_borrow_nothing(variants),
     }
 }

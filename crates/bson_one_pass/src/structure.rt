@@ -12,6 +12,7 @@ ghost use Rattle.bson_shape.specs.Makers.{AreDistinct};
 ghost use Rattle.bson_shape.specs.ShapeView.{fields_of};
 ghost use Rattle.bson_datum.specs.Value.{none};
 ghost use Rattle.bson_laws.specs.CompactReads.{slots_of, missing_value};
+ghost use Rattle.bson_slots.specs.FieldsRead.{unknown_of};
 ghost use Rattle.bson_one_pass.specs.Found.{IsFoundPut, AreFoundPut, AreOthersPut};
 ghost use Rattle.bson_one_pass.specs.Put.{recast_node, recast_fields, IsPut, IsElementPut, ArePairsPut};
 
@@ -30,21 +31,22 @@ use bson_shape::{FieldShape, Form};
 /// The most names that a key is compared with. At a struct of more fields a key that is not the next one's name is left to the reader, which has an index.
 const MOST_COMPARED: usize = 64;
 
-/// The document in these bytes at a struct of this name with these fields.
+/// The document in these bytes at a struct of this name with these fields. A closed one takes no key that it does not name.
 #[inline(never)]
 #[cycle(recast)]
 pub(crate) fn recast_struct(
     made: &mut Vec<u8>,
     name: &str,
     fields: &[FieldShape],
+    closed: bool,
     levels: u32,
     bytes: &[u8],
 ) -> Option<ElementType>
     requires free { reserved_kind name.now ≡ None }
     requires distinct { AreDistinct (fields_of fields.now) }
-    ensures seen { IfSome result (IsPut (recast_node (structure name.now (fields_of fields.now)) levels (inner_node levels kinds.EmbeddedDocument bytes.now))
+    ensures seen { IfSome result (IsPut (recast_node (structure (unknown_of closed) name.now (fields_of fields.now)) levels (inner_node levels kinds.EmbeddedDocument bytes.now))
         made.old.items made.new.items) }
-    ensures met { IfSome result (IsPut (recast_node (structure name.now (fields_of fields.now)) levels (node_in levels kinds.EmbeddedDocument bytes.now))
+    ensures met { IfSome result (IsPut (recast_node (structure (unknown_of closed) name.now (fields_of fields.now)) levels (node_in levels kinds.EmbeddedDocument bytes.now))
         made.old.items made.new.items) }
 {
     if levels == 0 || bytes.len() < 5 || !is_closed(bytes) {
@@ -52,22 +54,23 @@ pub(crate) fn recast_struct(
     }
     let start = made.len();
     put(made, &[0; 4])?;
-    recast_fields(made, fields, levels - 1, inside(bytes))?;
+    recast_fields(made, fields, closed, levels - 1, inside(bytes))?;
     close(made, start)?;
     Some(ElementType::EmbeddedDocument)
 }
 
 /// The fields from the elements of a document: as they come while they come in the shape's order, and the others once their elements are found. An element that
-/// no field has is dropped, and an option that no element has is null.
+/// no field has is dropped where the struct is not closed, and an option that no element has is null.
 #[cycle(recast)]
 fn recast_fields(
     made: &mut Vec<u8>,
     fields: &[FieldShape],
+    closed: bool,
     levels: u32,
     elements: &[u8],
 ) -> Option<()>
     requires distinct { AreDistinct (fields_of fields.now) }
-    ensures { IfSome result (λ _. ArePairsPut (recast_fields (slots_of (fields_of fields.now)) levels (nodes_with (node_in levels) (walk_elements elements.now)))
+    ensures { IfSome result (λ _. ArePairsPut (recast_fields (unknown_of closed) (slots_of (fields_of fields.now)) levels (nodes_with (node_in levels) (walk_elements elements.now)))
         made.old.items made.new.items) }
 {
     let mut place = 0;
@@ -107,7 +110,10 @@ fn recast_fields(
         put_run(made, elements, from, at)?;
         if !is_free(fields, element.key()) {
             let (front, others) = fields.split_at(place);
-            return recast_others(made, front, others, levels, &elements[at..]);
+            return recast_others(made, front, others, closed, levels, &elements[at..]);
+        }
+        if closed {
+            return None;
         }
         drop_value(levels, &element)?;
         at += element_len(&elements[at..], &element);
@@ -128,13 +134,14 @@ fn recast_others(
     made: &mut Vec<u8>,
     front: &[FieldShape],
     fields: &[FieldShape],
+    closed: bool,
     levels: u32,
     elements: &[u8],
 ) -> Option<()>
     requires distinct { AreDistinct (fields_of (front.now ++ fields.now)) }
-    ensures { IfSome result (λ _. AreOthersPut levels front.now fields.now (walk_elements elements.now) made.old.items made.new.items) }
+    ensures { IfSome result (λ _. AreOthersPut (unknown_of closed) levels front.now fields.now (walk_elements elements.now) made.old.items made.new.items) }
 {
-    let found = find_elements(*made.allocator(), front, fields, levels, elements)?;
+    let found = find_elements(*made.allocator(), front, fields, closed, levels, elements)?;
     put_found(made, fields, levels, &found)
 }
 

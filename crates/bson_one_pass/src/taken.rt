@@ -24,7 +24,7 @@ pub(crate) fn is_taken(shape: &Shape, value: &RawBsonRef<'_>) -> bool {
             Form::Leaf(key) => takes_keys(key) && matches!(value, RawBsonRef::Document(_)),
             _ => false,
         },
-        Form::Struct(_, _) => matches!(value, RawBsonRef::Document(_)),
+        Form::Struct(_, _) | Form::ClosedStruct(_, _) => matches!(value, RawBsonRef::Document(_)),
         Form::UnitStruct(_) => matches!(value, RawBsonRef::Null),
         Form::Enum(variants) => match value {
             RawBsonRef::String(_) => true,

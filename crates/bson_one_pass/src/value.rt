@@ -1,9 +1,12 @@
 // A value at a shape.
-ghost use Rattle.std.specs.Prelude.{◌≡◌, false, IfSome};
+ghost use Rattle.std.specs.Prelude.{◌≡◌, false, None, IfSome};
+ghost use Rattle.bson_base.specs.Reserved.{reserved_kind};
 ghost use Rattle.bson_rawdoc.specs.Node.{value_node, inner_node};
 ghost use Rattle.bson_rawdoc.specs.ValueView.{raw_value};
-ghost use Rattle.bson_shape.specs.Form.{optional, lossy, newtype};
-ghost use Rattle.bson_shape.specs.Makers.{is_reserved_newtype};
+ghost use Rattle.bson_shape.specs.Form.{optional, lossy, newtype, structure};
+ghost use Rattle.bson_shape.specs.Makers.{AreDistinct, is_reserved_newtype};
+ghost use Rattle.bson_shape.specs.ShapeView.{fields_of};
+ghost use Rattle.bson_slots.specs.FieldsRead.{unknown_of};
 ghost use Rattle.bson_one_pass.specs.Put.{recast_node, IsPut};
 
 use crate::array::recast_array;
@@ -16,7 +19,7 @@ use crate::tuple::recast_tuple;
 use crate::variant::recast_variant;
 use bson_base::ElementType;
 use bson_rawdoc::RawBsonRef;
-use bson_shape::{Form, Shape};
+use bson_shape::{FieldShape, Form, Shape};
 
 /// The value at a shape, with so many levels of documents and arrays left.
 #[cycle(recast)]
@@ -45,12 +48,10 @@ pub(crate) fn recast_value(
             RawBsonRef::Array(array) => recast_tuple(made, parts, levels, array.as_bytes()),
             _ => None,
         },
-        Form::Struct(name, fields) => match value {
-            RawBsonRef::Document(document) => {
-                recast_struct(made, name, fields, levels, document.as_bytes())
-            }
-            _ => None,
-        },
+        Form::Struct(name, fields) => recast_structure(made, name, fields, false, levels, value),
+        Form::ClosedStruct(name, fields) => {
+            recast_structure(made, name, fields, true, levels, value)
+        }
         Form::Map(key, inner) => match key.form() {
             Form::Leaf(key) => match value {
                 RawBsonRef::Document(document) => {
@@ -74,6 +75,29 @@ pub(crate) fn recast_value(
         },
         Form::Lossy(inner) => recast_marked(made, inner, levels, value),
         Form::Readable(_) | Form::Mode(_, _) => None,
+    }
+}
+
+/// The value at a struct of this name with these fields, which is closed or not.
+#[cycle(recast)]
+fn recast_structure(
+    made: &mut Vec<u8>,
+    name: &str,
+    fields: &[FieldShape],
+    closed: bool,
+    levels: u32,
+    value: &RawBsonRef<'_>,
+) -> Option<ElementType>
+    requires free { reserved_kind name.now ≡ None }
+    requires distinct { AreDistinct (fields_of fields.now) }
+    ensures { IfSome result (IsPut (recast_node (structure (unknown_of closed) name.now (fields_of fields.now)) levels
+        (value_node (inner_node levels) (raw_value value.now))) made.old.items made.new.items) }
+{
+    match value {
+        RawBsonRef::Document(document) => {
+            recast_struct(made, name, fields, closed, levels, document.as_bytes())
+        }
+        _ => None,
     }
 }
 

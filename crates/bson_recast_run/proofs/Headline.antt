@@ -6,7 +6,7 @@ use Rattle.std.proofs.lemmas.Bool.{eqb-true}
 use Rattle.bson_base.specs.Sound.{IsSound, max_bytes}
 use Rattle.bson_base.specs.Text.{Bytes, Utf8}
 use Rattle.bson_base.specs.Tree.{Tree, enc}
-use Rattle.bson_shape.specs.Form.{Form, leaf, optional, lossy, human_readable, by_mode, newtype, unit_structure, sequence, map, tuple, tuple_structure, structure, enumeration}
+use Rattle.bson_shape.specs.Form.{dropped, denied, Form, leaf, optional, lossy, human_readable, by_mode, newtype, unit_structure, sequence, map, tuple, tuple_structure, structure, enumeration}
 use Rattle.bson_shape.specs.Makers.{IsShape}
 use Rattle.bson_shape.specs.Notation.{text, bare, quoted}
 use Rattle.bson_shape.specs.Leaf.{word}
@@ -66,8 +66,9 @@ no_option (map key s) = refl
 no_option (tuple ps) = refl
 no_option (tuple_structure name ps) = begins_no_option (bare name) name _ refl
 no_option (enumeration vs) = refl
-no_option (structure [] fs) = refl
-no_option (structure (c ∷ name) fs) = begins_no_option (bare (c ∷ name)) (c ∷ name) _ refl
+no_option (structure dropped [] fs) = refl
+no_option (structure denied [] fs) = refl
+no_option (structure u (c ∷ name) fs) = begins_no_option (bare (c ∷ name)) (c ∷ name) _ refl
 
 -- ---- what is written
 

@@ -70,7 +70,8 @@ impl From<de::Error> for RecastError {
     fn from(error: de::Error) -> RecastError {
         match error {
             de::Error::NoMemory => RecastError::NoMemory,
-            e @ (de::Error::EndOfStream
+            e @ (de::Error::Io
+            | de::Error::EndOfStream
             | de::Error::DeserializationError { .. }
             | de::Error::WithPath { .. }) => RecastError::Read(e),
         }

@@ -18,6 +18,7 @@ use Rattle.bson_shape.specs.declared.shape.FieldShape.{FieldShape}
 use Rattle.bson_shape.proofs.Shapes.{field_smaller, part_smaller}
 use Rattle.bson_datum.specs.Value.{no_entries}
 use Rattle.bson_laws.specs.CompactReads.{slots_of}
+use Rattle.bson_slots.specs.FieldsRead.{unknown_of}
 use Rattle.bson_one_pass.specs.Put.{recast_node, recast_items, recast_parts, recast_entries, recast_fields, recast_content, IsElementPut, AreItemsPut, ArePairsPut, IsPut}
 use Rattle.bson_one_pass.specs.Found.{name_of}
 use Rattle.bson_one_pass.specs.Run.{IsHead, element_of, run, size}
@@ -267,10 +268,10 @@ structure::recast_struct-returns t c =
     let above : levels ≡ suc m = omega (arith, c.if-levels-eq0.false) in
     let ends : new ≡ take (length old) made ++ enclosed (drop (length old + 4) made) = c.in_ok-close.ensures ∙ ap (λ n. take n made ++ enclosed (drop (n + 4) made)) at in
     let fs = fields_of c.args.fields.now in
-    let put = struct_put c.args.name.now fs levels m b old begun made new c.requires.1.1.0 above (λ x fills. enclosed_put old begun made new x c.in_ok-put.ensures fills ends) (rw c.inside.ensures at c.in_ok-recast_fields.ensures) in
+    let put = struct_put (unknown_of c.args.closed) c.args.name.now fs levels m b old begun made new c.requires.1.1.0 above (λ x fills. enclosed_put old begun made new x c.in_ok-put.ensures fills ends) (rw c.inside.ensures at c.in_ok-recast_fields.ensures) in
     record {
       seen = put;
-      met = subst (λ n. IsPut (recast_node (structure c.args.name.now fs) levels n) old new kinds.EmbeddedDocument) (sym (document_node levels m b above (search rules))) put;
+      met = subst (λ n. IsPut (recast_node (structure (unknown_of c.args.closed) c.args.name.now fs) levels n) old new kinds.EmbeddedDocument) (sym (document_node levels m b above (search rules))) put;
     }
 
 pub map::recast_entries-loop-step-preserved : goal.map::recast_entries-loop-step-preserved
@@ -338,7 +339,7 @@ structure::recast_fields-loop-field-preserved t c =
     let found = c.in-Some-get.ensures.lookup in
     let put = c.in_ok-put_missing.ensures in (
       omega (arith, found.3.0),
-      missing_step fs levels (recast_fields (slots_of (fields_of fs)) levels (nodes_with (node_in levels) (walk_elements c.args.elements.now))) c.loop-field.place c.args.made.now.items c.loop-field.made.items c.in-Some-get.field.now
+      missing_step (unknown_of c.args.closed) fs levels (recast_fields (unknown_of c.args.closed) (slots_of (fields_of fs)) levels (nodes_with (node_in levels) (walk_elements c.args.elements.now))) c.loop-field.place c.args.made.now.items c.loop-field.made.items c.in-Some-get.field.now
           c.put_missing.new.made.items c.loop-field.invariant.1 found.3.0 found.1 put.name put.absent put.put,
     )
 
@@ -346,7 +347,7 @@ pub structure::recast_fields-returns : goal.structure::recast_fields-returns
 structure::recast_fields-returns t c =
     let fs = c.args.fields.now in
     let levels = c.args.levels in
-    places_end fs levels (recast_fields (slots_of (fields_of fs)) levels (nodes_with (node_in levels) (walk_elements c.args.elements.now))) c.loop-field.place c.args.made.now.items c.loop-field.made.items c.loop-field.invariant.1 (search rules)
+    places_end (unknown_of c.args.closed) fs levels (recast_fields (unknown_of c.args.closed) (slots_of (fields_of fs)) levels (nodes_with (node_in levels) (walk_elements c.args.elements.now))) c.loop-field.place c.args.made.now.items c.loop-field.made.items c.loop-field.invariant.1 (search rules)
 
 pub array::recast_bytes-returns-in_default : goal.array::recast_bytes-returns-in_default
 array::recast_bytes-returns-in_default t c = c.recast_first.ensures (element_of c.args.kind c.args.key.now c.args.value.now) c.requires.1.1
@@ -459,7 +460,7 @@ structure::recast_fields-loop-at-preserved-in-Some-value_under t c =
       next_within bytes at n e c.loop-at.invariant.0 head is,
       omega (arith, c.in_ok-from.ensures.behind, is),
       omega (arith, found.3.0),
-      next_due fs levels (recast_fields (slots_of (fields_of fs)) levels (nodes_with (node_in levels) (walk_elements bytes))) c.loop-at.place at n bytes e f c.args.made.now.items made (new ++ run bytes next (at + n)) c.loop-at.invariant.3 head is found.3.0
+      next_due (unknown_of c.args.closed) fs levels (recast_fields (unknown_of c.args.closed) (slots_of (fields_of fs)) levels (nodes_with (node_in levels) (walk_elements bytes))) c.loop-at.place at n bytes e f c.args.made.now.items made (new ++ run bytes next (at + n)) c.loop-at.invariant.3 head is found.3.0
           found.1 same c.requires.distinct put,
     )
 
@@ -483,10 +484,10 @@ structure::recast_fields-returns-then-not-is_free t c =
     let place = c.loop-at.place in
     let old = c.args.made.now.items in
     let flushed = c.put_run.new.made.items in
-    let whole = recast_fields (slots_of (fields_of fs)) levels (nodes_with (node_in levels) (walk_elements bytes)) in
+    let whole = recast_fields (unknown_of c.args.closed) (slots_of (fields_of fs)) levels (nodes_with (node_in levels) (walk_elements bytes)) in
     let others = rw (c.split_at.ensures.front, c.split_at.ensures.back, take_rest bytes at) at c.recast_others.ensures in
-    if_others_put fs levels whole place old flushed c.recast_others.new.made.items (walk_elements (drop at bytes)) c.recast_others.result
-    (subst (λ (x : Bytes). AreUnderWay fs levels whole (nodes_with (node_in levels) (walk_elements (drop at bytes))) place old x) (sym c.in_ok-put_run.ensures) c.loop-at.invariant.3) others
+    if_others_put (unknown_of c.args.closed) fs levels whole place old flushed c.recast_others.new.made.items (walk_elements (drop at bytes)) c.recast_others.result
+    (subst (λ (x : Bytes). AreUnderWay (unknown_of c.args.closed) fs levels whole (nodes_with (node_in levels) (walk_elements (drop at bytes))) place old x) (sym c.in_ok-put_run.ensures) c.loop-at.invariant.3) others
 
 pub structure::recast_fields-loop-at-preserved : goal.structure::recast_fields-loop-at-preserved
 structure::recast_fields-loop-at-preserved t c =
@@ -500,13 +501,13 @@ structure::recast_fields-loop-at-preserved t c =
     let old = c.args.made.now.items in
     let head = head_at bytes at e c.element_len-at.ensures.head in
     let made = c.loop-at.made.items ++ run bytes c.loop-at.from at in
-    let whole = recast_fields (slots_of (fields_of fs)) levels (nodes_with (node_in levels) (walk_elements bytes)) in
+    let whole = recast_fields (unknown_of c.args.closed) (slots_of (fields_of fs)) levels (nodes_with (node_in levels) (walk_elements bytes)) in
     let left = run_written bytes c.loop-at.made.items c.put_run.new.made.items c.loop-at.from at c.in_ok-put_run.ensures (at + n) in (
       next_within bytes at n e c.loop-at.invariant.0 head is,
       omega arith,
       c.loop-at.invariant.2,
-      subst (λ (x : Bytes). AreUnderWay fs levels whole (nodes_with (node_in levels) (walk_elements (drop (at + n) bytes))) c.loop-at.place old x) (sym left)
-          (dropped_step fs levels whole c.loop-at.place old made (walk_elements (drop at bytes)) (walk_elements (drop (at + n) bytes)) e c.loop-at.invariant.3 (walk_next bytes at n e head is) (search rules) c.in_ok-drop_value.ensures),
+      subst (λ (x : Bytes). AreUnderWay (unknown_of c.args.closed) fs levels whole (nodes_with (node_in levels) (walk_elements (drop (at + n) bytes))) c.loop-at.place old x) (sym left)
+          (dropped_step (unknown_of c.args.closed) fs levels whole c.loop-at.place old made (walk_elements (drop at bytes)) (walk_elements (drop (at + n) bytes)) e c.loop-at.invariant.3 (walk_next bytes at n e head is) (search rules) (ap unknown_of c.if-closed.false) c.in_ok-drop_value.ensures),
     )
 
 pub structure::recast_fields-loop-field-init : goal.structure::recast_fields-loop-field-init
@@ -518,6 +519,6 @@ structure::recast_fields-loop-field-init t c =
     let place = c.loop-at.place in
     let old = c.args.made.now.items in
     let made = c.loop-at.made.items ++ run bytes c.loop-at.from at in
-    let whole = recast_fields (slots_of (fields_of fs)) levels (nodes_with (node_in levels) (walk_elements bytes)) in
-    let left = subst (λ w. AreUnderWay fs levels whole (nodes_with (node_in levels) w) place old made) (walk_over bytes at c.loop-at-test.false) c.loop-at.invariant.3 in
-    (c.loop-at.invariant.2, subst (λ (x : Bytes). AreUnderWay fs levels whole (nodes_with (node_in levels) ended) place old x) (sym c.in_ok-put_run-2.ensures) left)
+    let whole = recast_fields (unknown_of c.args.closed) (slots_of (fields_of fs)) levels (nodes_with (node_in levels) (walk_elements bytes)) in
+    let left = subst (λ w. AreUnderWay (unknown_of c.args.closed) fs levels whole (nodes_with (node_in levels) w) place old made) (walk_over bytes at c.loop-at-test.false) c.loop-at.invariant.3 in
+    (c.loop-at.invariant.2, subst (λ (x : Bytes). AreUnderWay (unknown_of c.args.closed) fs levels whole (nodes_with (node_in levels) ended) place old x) (sym c.in_ok-put_run-2.ensures) left)

@@ -8,6 +8,7 @@ use Rattle.bson_rawdoc.specs.Walk.{walk_elements}
 use Rattle.bson_shape.specs.ShapeView.{fields_of, parts_of, variants_of, content_of, nodes, fields_nodes, parts_nodes, variants_nodes, content_nodes}
 use Rattle.bson_datum.specs.Value.{no_entries}
 use Rattle.bson_laws.specs.CompactReads.{slots_of}
+use Rattle.bson_slots.specs.FieldsRead.{unknown_of}
 use Rattle.bson_one_pass.specs.Put.{recast_items, recast_parts, recast_entries, recast_fields}
 use Rattle.bson_one_pass.specs.Run.{run}
 use Rattle.bson_one_pass.proofs.Places.{AreUnderWay}
@@ -24,6 +25,9 @@ decreases-value::recast_option l = 16 * nodes l.inner.now + 1
 
 abbrev pub decreases-value::recast_marked : goal.decreases-value::recast_marked
 decreases-value::recast_marked l = 16 * nodes l.inner.now + 1
+
+abbrev pub decreases-value::recast_structure : goal.decreases-value::recast_structure
+decreases-value::recast_structure l = 16 * fields_nodes (fields_of l.fields.now) + 10
 
 abbrev pub decreases-value::recast_newtype : goal.decreases-value::recast_newtype
 decreases-value::recast_newtype l = 16 * nodes l.inner.now + 1
@@ -115,7 +119,7 @@ decreases-array::recast_items-loop-at l = length l.elements - l.at
 abbrev pub invariant-structure::recast_fields-loop-at : goal.invariant-structure::recast_fields-loop-at
 invariant-structure::recast_fields-loop-at l =
     (l.at ≤ length l.elements) × (l.from ≤ l.at) × (l.place ≤ length l.fields)
-    × AreUnderWay l.fields l.levels (recast_fields (slots_of (fields_of l.fields)) l.levels (nodes_with (node_in l.levels) (walk_elements l.elements))) (nodes_with (node_in l.levels) (walk_elements (drop l.at l.elements))) l.place l.initial.made.items
+    × AreUnderWay (unknown_of l.closed) l.fields l.levels (recast_fields (unknown_of l.closed) (slots_of (fields_of l.fields)) l.levels (nodes_with (node_in l.levels) (walk_elements l.elements))) (nodes_with (node_in l.levels) (walk_elements (drop l.at l.elements))) l.place l.initial.made.items
     (l.made.items ++ run l.elements l.from l.at)
 
 abbrev pub decreases-structure::recast_fields-loop-at : goal.decreases-structure::recast_fields-loop-at
@@ -129,7 +133,7 @@ decreases-structure::put_found-loop-field l = length l.fields - l.place
 
 abbrev pub invariant-structure::recast_fields-loop-field : goal.invariant-structure::recast_fields-loop-field
 invariant-structure::recast_fields-loop-field l =
-    (l.place ≤ length l.fields) × AreUnderWay l.fields l.levels (recast_fields (slots_of (fields_of l.fields)) l.levels (nodes_with (node_in l.levels) (walk_elements l.elements))) ended l.place l.fn.made.items l.made.items
+    (l.place ≤ length l.fields) × AreUnderWay (unknown_of l.closed) l.fields l.levels (recast_fields (unknown_of l.closed) (slots_of (fields_of l.fields)) l.levels (nodes_with (node_in l.levels) (walk_elements l.elements))) ended l.place l.fn.made.items l.made.items
 
 abbrev pub decreases-structure::recast_fields-loop-field : goal.decreases-structure::recast_fields-loop-field
 decreases-structure::recast_fields-loop-field l = length l.fields - l.place

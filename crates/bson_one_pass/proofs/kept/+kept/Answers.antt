@@ -1,16 +1,19 @@
 use Rattle.std.proofs.Common.{◌≡◌, ◌<◌, ◌≤◌, ◌+◌, ◌-◌, ◌*◌, suc, [], length, get_or, drop, refl, ap, sym, subst, ◌∙◌, arith, rules}
 use Rattle.std.specs.Fmt.{decimal}
+use Rattle.std.specs.Prelude.{IsTrue}
 use Rattle.std.proofs.lemmas.Bool.{eqb-true}
 use Rattle.bson_base.specs.Text.{Bytes}
+use Rattle.bson_base.specs.declared.element_type.ElementType.TheVariants as kinds
 use Rattle.bson_rawdoc.specs.Node.{node_in, nodes_with}
 use Rattle.bson_rawdoc.specs.Walk.{walk_elements}
+use Rattle.bson_shape.specs.Form.{UnknownFields, dropped, denied, structure}
 use Rattle.bson_shape.specs.ShapeView.{fields_of, parts_of, variants_of, nodes, fields_nodes}
 use Rattle.bson_shape.specs.declared.shape.FieldShape.{FieldShape}
 use Rattle.bson_shape.proofs.Shapes.{field_smaller, part_smaller}
 use Rattle.bson_laws.specs.CompactReads.{slots_of}
 use Rattle.bson_one_pass.specs.Put.{recast_items, recast_parts, recast_fields, AreItemsPut, ArePairsPut}
 use Rattle.bson_one_pass.specs.Found.{name_of}
-use Rattle.bson_one_pass.specs.Run.{element_of, run, size}
+use Rattle.bson_one_pass.specs.Run.{IsKept, element_of, run, size}
 use Rattle.bson_one_pass.proofs.Containers.{array_kept, struct_kept}
 use Rattle.bson_one_pass.proofs.Items.{AreLeft, left_none}
 use Rattle.bson_one_pass.proofs.Marked.{marked_kept}
@@ -47,20 +50,20 @@ are_fields_kept-loop-at-preserved t c =
     let same = bytes_same (name_of f) e.key (sym c.as_str-name.ensures.value) in (
       next_within bytes at n e c.loop-at.invariant.0 head c.named_len-at.ensures,
       omega (arith, found.3.0),
-      next_field_kept fs levels (recast_fields (slots_of (fields_of fs)) levels (nodes_with (node_in levels) (walk_elements bytes))) c.loop-at.place at n bytes e f c.loop-at.invariant.2 head c.named_len-at.ensures found.3.0 found.1 same
+      λ u. next_field_kept u fs levels (recast_fields u (slots_of (fields_of fs)) levels (nodes_with (node_in levels) (walk_elements bytes))) c.loop-at.place at n bytes e f (c.loop-at.invariant.2 u) head c.named_len-at.ensures found.3.0 found.1 same
           c.requires.distinct (c.if-not-is_kept.ensures refl),
     )
 
 pub are_fields_kept-returns : goal.are_fields_kept-returns
-are_fields_kept-returns t c = λ h.
+are_fields_kept-returns t c = λ h u.
     let fs = c.args.fields.now in
     let levels = c.args.levels in
     let bytes = c.args.elements.now in
     let at = c.loop-at.at in
     let place = c.loop-at.place in
-    let whole = recast_fields (slots_of (fields_of fs)) levels (nodes_with (node_in levels) (walk_elements bytes)) in
+    let whole = recast_fields u (slots_of (fields_of fs)) levels (nodes_with (node_in levels) (walk_elements bytes)) in
     let all = c.loop-at-test.false in
-    let put = places_end fs levels whole place [] (run bytes 0 at) (subst (λ w. AreUnderWay fs levels whole (nodes_with (node_in levels) w) place [] (run bytes 0 at)) (walk_over bytes at all) c.loop-at.invariant.2)
+    let put = places_end u fs levels whole place [] (run bytes 0 at) (subst (λ w. AreUnderWay u fs levels whole (nodes_with (node_in levels) w) place [] (run bytes 0 at)) (walk_over bytes at all) (c.loop-at.invariant.2 u))
     (omega (arith, eqb-true place (length fs) h)) in
     subst (λ (x : Bytes). ArePairsPut whole [] x) (run_all bytes at all) put
 
@@ -112,12 +115,16 @@ pub is_marked_kept-returns-then-borrows_nothing : goal.is_marked_kept-returns-th
 is_marked_kept-returns-then-borrows_nothing t c = λ h. marked_kept c.args.inner.now c.args.levels c.args.kind c.args.bytes.now (c.if-borrows_nothing.ensures refl) (c.is_kept.ensures h)
 
 pub is_struct_kept-returns : goal.is_struct_kept-returns
-is_struct_kept-returns t c = λ h.
+is_struct_kept-returns t c =
+    let fs = fields_of c.args.fields.now in
     let b = c.args.bytes.now in
     let levels = c.args.levels in
     let m = levels - 1 in
-    let fields = rw c.inside.ensures at (c.are_fields_kept.ensures h) in
-    struct_kept c.args.name.now (fields_of c.args.fields.now) levels m b c.requires.1.1.0 (omega (arith, c.if-levels-eq0.false)) (c.if-not-is_frame.ensures.closed refl) (c.if-not-is_frame.ensures.frame refl) fields
+    let kept : (u : UnknownFields) → IsTrue c.are_fields_kept.result → IsKept (structure u c.args.name.now fs) levels kinds.EmbeddedDocument b =
+    λ u h.
+    let fields = rw c.inside.ensures at (c.are_fields_kept.ensures h u) in
+    struct_kept u c.args.name.now fs levels m b c.requires.1.1.0 (omega (arith, c.if-levels-eq0.false)) (c.if-not-is_frame.ensures.closed refl) (c.if-not-is_frame.ensures.frame refl) fields in
+    record { drops = kept dropped; denies = kept denied }
 
 pub are_parts_kept-is_kept-requires : goal.are_parts_kept-is_kept-requires
 are_parts_kept-is_kept-requires t c =

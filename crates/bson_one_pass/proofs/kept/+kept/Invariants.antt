@@ -1,6 +1,7 @@
 use Rattle.std.proofs.Common.{◌≡◌, ◌+◌, ◌*◌, ◌-◌, ◌≤◌, [], length, drop}
 use Rattle.bson_rawdoc.specs.Node.{node_in, nodes_with}
 use Rattle.bson_rawdoc.specs.Walk.{walk_elements}
+use Rattle.bson_shape.specs.Form.{UnknownFields}
 use Rattle.bson_shape.specs.ShapeView.{fields_of, parts_of, variants_of, content_of, nodes, fields_nodes, parts_nodes, variants_nodes, content_nodes}
 use Rattle.bson_laws.specs.CompactReads.{slots_of}
 use Rattle.bson_one_pass.specs.Put.{recast_items, recast_parts, recast_fields}
@@ -59,7 +60,8 @@ decreases-are_items_kept-loop-at l = length l.elements - l.at
 abbrev pub invariant-are_fields_kept-loop-at : goal.invariant-are_fields_kept-loop-at
 invariant-are_fields_kept-loop-at l =
     (l.at ≤ length l.elements) × (l.place ≤ length l.fields)
-    × AreUnderWay l.fields l.levels (recast_fields (slots_of (fields_of l.fields)) l.levels (nodes_with (node_in l.levels) (walk_elements l.elements))) (nodes_with (node_in l.levels) (walk_elements (drop l.at l.elements))) l.place [] (run l.elements 0 l.at)
+    × ((unknown : UnknownFields)
+    → AreUnderWay unknown l.fields l.levels (recast_fields unknown (slots_of (fields_of l.fields)) l.levels (nodes_with (node_in l.levels) (walk_elements l.elements))) (nodes_with (node_in l.levels) (walk_elements (drop l.at l.elements))) l.place [] (run l.elements 0 l.at))
 
 abbrev pub decreases-are_fields_kept-loop-at : goal.decreases-are_fields_kept-loop-at
 decreases-are_fields_kept-loop-at l = length l.elements - l.at
