@@ -74,7 +74,7 @@ closed old b n is =
     let back : drop (length old + length (le32 n)) ((old ++ length_place) ++ b ++ 0 ∷ []) ≡ b ++ 0 ∷ [] = ap (drop (length old + length (le32 n))) (append_assoc (old ++ length_place) b (0 ∷ [])) ∙ drop_at (old ++ length_place) (b ++ 0 ∷ []) (length old + length (le32 n)) (omega (arith, length-append old length_place, length-le32 n)) in
     (λ i. (front i ++ le32 (is i)) ++ back i) ∙ append_assoc old (le32 (length b + 5)) (b ++ 0 ∷ [])
 
-containers : {A : Type 0} (container : A → Tree) (bytes : A → Bytes) (old mid : Bytes) (r : Writing A) (start n : ℕ) → ((x : A) → enc (container x) ≡ enclosed (bytes x)) → start ≡ length old → n ≡ length mid + 1 - start
+pub containers : {A : Type 0} (container : A → Tree) (bytes : A → Bytes) (old mid : Bytes) (r : Writing A) (start n : ℕ) → ((x : A) → enc (container x) ≡ enclosed (bytes x)) → start ≡ length old → n ≡ length mid + 1 - start
     → with_bytes bytes (old ++ length_place) r ≡ Ok mid → with_tree old (result_map container r) ≡ Ok (patched (mid ++ 0 ∷ []) start (le32 n))
 containers container bytes old mid (Err f) start n encloses at is e = absurd cc
 containers container bytes old mid (Ok x) start n encloses at is e =

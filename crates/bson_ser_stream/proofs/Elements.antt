@@ -13,7 +13,7 @@ use Rattle.bson_laws.proofs.Sizes.{spell_kind}
 use Rattle.bson_ser_stream.specs.Writing.{front, with_tree, with_element}
 
 -- the byte of a kind written over the place that the front of an element keeps for it
-kind_over : (old key value : Bytes) (k : ElementType) → patched ((old ++ front key) ++ value) (length old) (byte k ∷ []) ≡ old ++ element k key value
+pub kind_over : (old key value : Bytes) (k : ElementType) → patched ((old ++ front key) ++ value) (length old) (byte k ∷ []) ≡ old ++ element k key value
 kind_over old key value k =
     let whole : (old ++ front key) ++ value ≡ old ++ (0 ∷ (key ++ 0 ∷ value)) = append_assoc old (front key) value ∙ ap (λ x. old ++ (0 ∷ x)) (append_assoc key (0 ∷ []) value) in
     let before : take (length old) ((old ++ front key) ++ value) ≡ old = ap (take (length old)) whole ∙ take_at old (0 ∷ (key ++ 0 ∷ value)) (length old) refl in

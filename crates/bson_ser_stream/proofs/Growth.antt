@@ -10,7 +10,7 @@ taken_longer [] b e = omega arith
 taken_longer (x ∷ a) [] e = absurd cc
 taken_longer (x ∷ a) (y ∷ b) e = let rest : take (length a) b ≡ a = cc in let le = taken_longer a b rest in omega arith
 
-taken_twice : (a b c : Bytes) → take (length a) b ≡ a → take (length b) c ≡ b → take (length a) c ≡ a
+pub taken_twice : (a b c : Bytes) → take (length a) b ≡ a → take (length b) c ≡ b → take (length a) c ≡ a
 taken_twice [] b c e f = refl
 taken_twice (x ∷ a) [] c e f = absurd cc
 taken_twice (x ∷ a) (y ∷ b) [] e f = absurd cc

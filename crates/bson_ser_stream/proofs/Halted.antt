@@ -33,27 +33,27 @@ no_ok : {A : Type 0} (r : Writing A) (f : Refusal WriteFault) → r ≡ Err f �
 no_ok (Ok x) f e h = absurd cc
 no_ok (Err g) f e h = absurd cc
 
-ok_value : {A : Type 0} (r : Writing A) → IsOk r → (x : A) × (r ≡ Ok x)
+pub ok_value : {A : Type 0} (r : Writing A) → IsOk r → (x : A) × (r ≡ Ok x)
 ok_value (Ok x) h = (x, refl)
 ok_value (Err f) h = absurd cc
 
 -- an element and those behind it
-abbrev first_and : {A : Type 0} → (Tree → A → A) → Writing Tree → Writing A → Writing A
+abbrev pub first_and : {A : Type 0} → (Tree → A → A) → Writing Tree → Writing A → Writing A
 first_and join r s = r >>= λ t. s >>= λ xs. Ok (join t xs)
 
-ok_first : {A : Type 0} (bytes : A → Bytes) (join : Tree → A → A) (r : Writing Tree) (s : Writing A) (old key new : Bytes) → with_bytes bytes old (first_and join r s) ≡ Ok new → IsOk (with_element old key r)
+pub ok_first : {A : Type 0} (bytes : A → Bytes) (join : Tree → A → A) (r : Writing Tree) (s : Writing A) (old key new : Bytes) → with_bytes bytes old (first_and join r s) ≡ Ok new → IsOk (with_element old key r)
 ok_first bytes join (Ok t) s old key new e = refl
 ok_first bytes join (Err f) s old key new e = absurd cc
 
-err_first : {A : Type 0} (bytes : A → Bytes) (join : Tree → A → A) (r : Writing Tree) (s : Writing A) (old key : Bytes) (f : Refusal WriteFault) → with_element old key r ≡ Err f → with_bytes bytes old (first_and join r s) ≡ Err f
+pub err_first : {A : Type 0} (bytes : A → Bytes) (join : Tree → A → A) (r : Writing Tree) (s : Writing A) (old key : Bytes) (f : Refusal WriteFault) → with_element old key r ≡ Err f → with_bytes bytes old (first_and join r s) ≡ Err f
 err_first bytes join (Ok t) s old key f e = absurd cc
 err_first bytes join (Err g) s old key f e = let same : g ≡ f = cc in ap Err same
 
-ok_entry : (k : Writing Utf8) (r : Writing Tree) (s : Writing Pairs) (old new : Bytes) → with_elements old (k >>= λ key. first_and (pair key) (under key r) s) ≡ Ok new → IsOk (with_entry old k r)
+pub ok_entry : (k : Writing Utf8) (r : Writing Tree) (s : Writing Pairs) (old new : Bytes) → with_elements old (k >>= λ key. first_and (pair key) (under key r) s) ≡ Ok new → IsOk (with_entry old k r)
 ok_entry (Ok key) r s old new e = ok_first elements (pair key) (under key r) s old key new e
 ok_entry (Err f) r s old new e = absurd cc
 
-err_entry : (k : Writing Utf8) (r : Writing Tree) (s : Writing Pairs) (old : Bytes) (f : Refusal WriteFault) → with_entry old k r ≡ Err f → with_elements old (k >>= λ key. first_and (pair key) (under key r) s) ≡ Err f
+pub err_entry : (k : Writing Utf8) (r : Writing Tree) (s : Writing Pairs) (old : Bytes) (f : Refusal WriteFault) → with_entry old k r ≡ Err f → with_elements old (k >>= λ key. first_and (pair key) (under key r) s) ≡ Err f
 err_entry (Ok key) r s old f e = err_first elements (pair key) (under key r) s old key f e
 err_entry (Err g) r s old f e = let same : g ≡ f = cc in ap Err same
 

@@ -206,7 +206,7 @@ due_is : (r : Writing Tree) (old : Bytes) (g : Refusal WriteFault) (f : Failure 
 due_is (Ok t) old g f e is = absurd cc
 due_is (Err r) old g f e is = let same : g ≡ r = cc in is ∙ ap with_path same
 
-placed_is : (g : Refusal WriteFault) (f : Failure WriteFault) → IsPlaced (Some g) f → (f ≡ no_memory) ⊎ (f ≡ with_path g)
+pub placed_is : (g : Refusal WriteFault) (f : Failure WriteFault) → IsPlaced (Some g) f → (f ≡ no_memory) ⊎ (f ≡ with_path g)
 placed_is g no_memory h = inl refl
 placed_is g (bare x) h = inr h
 placed_is g (placed path x) h = inr h

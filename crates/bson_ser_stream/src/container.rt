@@ -10,16 +10,21 @@ use bson_io::{Ledger, MOST, Out, Steps};
 use bson_writing::Halt;
 
 /// A document or an array that was begun.
-#[derive(Drop)]
-pub(crate) struct Container {
-    start: usize,
+#[derive(Clone, Copy)]
+pub struct Container {
+    /// Where it begins in the output.
+    pub start: usize,
     /// How many levels are left for what is in it.
-    pub(crate) levels: u32,
+    pub levels: u32,
 }
 
 impl Container {
     /// Begins a document or an array with so many levels left: appends a place for its length.
-    pub(crate) fn begin<L: Ledger>(
+    ///
+    /// # Errors
+    ///
+    /// No level is left, or memory ran out. What was appended before stays in `out`.
+    pub fn begin<L: Ledger>(
         out: &mut Out,
         steps: &mut Steps<L>,
         levels: u32,
@@ -41,8 +46,12 @@ impl Container {
     }
 
     /// Ends it: appends a zero, and writes the length of it all into its first four bytes.
+    ///
+    /// # Errors
+    ///
+    /// It has more bytes than a document may, or memory ran out. What was appended before stays in `out`.
     #[inline(always)]
-    pub(crate) fn end<L: Ledger>(self, out: &mut Out, steps: &mut Steps<L>) -> Result<(), Halt>
+    pub fn end<L: Ledger>(self, out: &mut Out, steps: &mut Steps<L>) -> Result<(), Halt>
         requires { self.start + 4 ≤ length out.old.bytes }
         ensures ok { OnOk result (Ends out.old out.new self.start steps.old steps.new) }
         ensures err { IfErr result (EndHalts out.old self.start) }

@@ -11,7 +11,11 @@ use std::alloc::AllocError;
 const KIND_PLACE: u8 = 0;
 
 /// Appends the front of an element: a zero in the place of the byte of its kind, and its key closed by a zero.
-pub(crate) fn begin_element<L: Ledger>(
+///
+/// # Errors
+///
+/// Memory ran out. What was appended before stays in `out`.
+pub fn begin_element<L: Ledger>(
     out: &mut Out,
     steps: &mut Steps<L>,
     key: &str,

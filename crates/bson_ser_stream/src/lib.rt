@@ -7,11 +7,15 @@ mod container;
 mod document;
 mod element;
 mod extended;
+mod part;
 mod raw;
 mod reserved;
 mod scalar;
 mod sorting;
 mod value;
 
+pub use container::Container;
 pub use document::{to_buf, to_vec_at, to_vec_counted};
-pub use value::put_value;
+pub use element::begin_element;
+pub use part::{put_map_entry, put_struct_field};
+pub use value::{put_item, put_reserved, put_value};

@@ -31,7 +31,7 @@ use bson_writing::{Halt, written_key, zero_in};
 
 // What is under a key: a value, or what a variant holds that is no datum of its own.
 #[derive(Clone, Copy)]
-enum Contents<'a, 'b> {
+pub(crate) enum Contents<'a, 'b> {
     Value(&'a Datum<'b>),
     // The values of a tuple variant.
     Items(&'a [Datum<'b>]),
@@ -184,10 +184,15 @@ fn put_newtype<L: Ledger>(
     put_value(out, steps, content, readable_inside(readable, name), levels)
 }
 
-// A struct of a name that is reserved for a kind. It takes no level.
+/// Appends the value of a struct whose name is reserved for this kind, with so many levels of documents and arrays left for a scope, and returns the kind. It
+/// takes no level.
+///
+/// # Errors
+///
+/// The refusal of the struct, with its path from here on, or that memory ran out. What was appended before stays in `out`.
 #[cycle(put)]
 #[inline(never)]
-fn put_reserved<L: Ledger>(
+pub fn put_reserved<L: Ledger>(
     out: &mut Out,
     steps: &mut Steps<L>,
     kind: ElementType,
@@ -388,7 +393,7 @@ fn put_items<L: Ledger>(
 
 // The element of a field, or of what a variant holds. Its name is judged before it.
 #[cycle(put)]
-fn put_named<L: Ledger>(
+pub(crate) fn put_named<L: Ledger>(
     out: &mut Out,
     steps: &mut Steps<L>,
     name: &Text<'_>,
@@ -434,7 +439,7 @@ fn put_entry<L: Ledger>(
 // The element of what is under a key. A refusal is seen from the document.
 #[cycle(put)]
 #[inline(always)]
-fn put_under_key<L: Ledger>(
+pub(crate) fn put_under_key<L: Ledger>(
     out: &mut Out,
     steps: &mut Steps<L>,
     key: &str,
@@ -452,9 +457,13 @@ fn put_under_key<L: Ledger>(
     }
 }
 
-// The element of a value in an array, whose key is its index in decimal digits.
+/// Appends the element of a value in an array, whose key is its index in decimal digits, with so many levels of documents and arrays left for the value.
+///
+/// # Errors
+///
+/// The refusal of the value, with its path from the array on, or that memory ran out. What was appended before stays in `out`.
 #[cycle(put)]
-fn put_item<L: Ledger>(
+pub fn put_item<L: Ledger>(
     out: &mut Out,
     steps: &mut Steps<L>,
     index: u64,

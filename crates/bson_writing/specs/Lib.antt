@@ -1,1 +1,3 @@
 pub mod Halting
+pub mod Joined
+pub mod Levels

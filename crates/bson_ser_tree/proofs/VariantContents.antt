@@ -1,0 +1,20 @@
+-- A variant whose contents are refused.
+use Rattle.std.proofs.Common.{◌≡◌, ℕ, zero, suc, ◌-◌, Ok, refl, subst, arith}
+use Rattle.bson_base.specs.Outcome.{◌>>=◌, result_map}
+use Rattle.bson_base.specs.Text.{Utf8}
+use Rattle.bson_base.specs.Tree.{Tree, document, no_pairs, pair}
+use Rattle.bson_datum.specs.Refusal.{at_key, under}
+use Rattle.bson_datum.specs.Stop.{IsUnder}
+use Rattle.bson_datum.specs.declared.ser.Fault.{Fault}
+use Rattle.bson_datum.specs.declared.stop.Stop.{Stop}
+use Rattle.bson_laws.specs.Spell.{Writing}
+use Rattle.bson_tree_laws.specs.TreeSpell.{tree_variant}
+use Rattle.bson_ser_tree.proofs.Refusals.{StopsAs, stops_bind, stops_map, stops_inside}
+
+pub variant_stops : (name : Utf8) (levels : ℕ) (content : ℕ → Writing Tree) (s t : Stop Fault) → (levels ≡ 0 → ⊥) → IsUnder (at_key name) s t → StopsAs s (content (levels - 1)) → StopsAs t (tree_variant name levels content)
+variant_stops name zero content s t left u h = absurd (left refl)
+variant_stops name (suc n) content s t left u h =
+    let less : suc n - 1 ≡ n = omega arith in
+    let here = subst (λ m. StopsAs s (content m)) less h in
+    stops_map t document (under name (content n) >>= λ x. Ok (pair name x no_pairs))
+    (stops_bind t (under name (content n)) (λ x. Ok (pair name x no_pairs)) (stops_inside (at_key name) s t (content n) u here))

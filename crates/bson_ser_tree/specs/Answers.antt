@@ -1,0 +1,40 @@
+-- What a call that writes a whole value answers.
+use Rattle.std.specs.Prelude.{◌≡◌, Bool, Result, Ok, Err}
+use Rattle.bson_base.specs.Outcome.{◌>>=◌}
+use Rattle.bson_base.specs.Tree.{Tree, document, kind, Pairs}
+use Rattle.bson_datum.specs.Cause.{not_document}
+use Rattle.bson_datum.specs.Refusal.{WriteFault, unwritable, Refusal, here, Failure, no_memory, bare, placed, with_path}
+use Rattle.bson_datum.specs.ErrorView.{write_failure}
+use Rattle.bson_datum.specs.declared.ser.Error.{Error}
+use Rattle.bson_datum.specs.Value.{Value}
+use Rattle.bson_laws.specs.Spell.{Writing}
+use Rattle.bson_tree_laws.specs.TreeSpell.{tree_whole}
+
+-- a refusal is answered with its path, or without it
+abbrev pub with_paths : {Y : Type 0} → Writing Y → Result Y (Failure WriteFault)
+with_paths (Ok x) = Ok x
+with_paths (Err r) = Err (with_path r)
+
+abbrev pub without_paths : {Y : Type 0} → Writing Y → Result Y (Failure WriteFault)
+without_paths (Ok x) = Ok x
+without_paths (Err r) = Err (bare r.fault)
+
+-- the answer is this failure; nothing is said where memory ran out
+abbrev pub FailsAs : {Y : Type 0} → Failure WriteFault → Result Y (Failure WriteFault) → Type 0
+FailsAs no_memory answer = Unit {0}
+FailsAs (bare f) answer = answer ≡ Err (bare f)
+FailsAs (placed path f) answer = answer ≡ Err (placed path f)
+
+-- A call gives what is answered, seen so, or its failure; or memory ran out.
+abbrev pub Gives : {X Y : Type 0} → (X → Y) → Result X Error → Result Y (Failure WriteFault) → Type 0
+Gives see (Ok x) answer = answer ≡ Ok (see x)
+Gives see (Err e) answer = FailsAs (write_failure e) answer
+
+-- the pairs of a document; every other value is refused
+abbrev pub only_document : Tree → Writing Pairs
+only_document (document ps) = Ok ps
+only_document t = Err (here (unwritable (not_document (kind t))))
+
+-- a whole value that is to be a document
+abbrev pub document_whole : (readable : Bool) → Value → Writing Pairs
+document_whole readable v = tree_whole readable v >>= only_document

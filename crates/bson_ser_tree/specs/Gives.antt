@@ -1,0 +1,37 @@
+-- What a writer of values gives: what the definition of writing gives, or out of memory.
+use Rattle.std.specs.Prelude.{◌≡◌, Option, Some, None, Result, Ok, Err}
+use Rattle.bson_rawdoc.specs.declared.raw.Error.{Error}
+use Rattle.bson_rawdoc.specs.declared.raw.Error.TheVariants.{NoMemory}
+use Rattle.bson_datum.specs.Cause.{raw}
+use Rattle.bson_datum.specs.Refusal.{WriteFault, unwritable, Refusal, here, Failure, no_memory, bare}
+use Rattle.bson_datum.specs.Stop.{stop_view}
+use Rattle.bson_datum.specs.ErrorView.{write_fault}
+use Rattle.bson_datum.specs.declared.ser.Fault.{Fault}
+use Rattle.bson_datum.specs.declared.stop.Stop.{Stop}
+use Rattle.bson_laws.specs.Spell.{Writing}
+
+-- what is due is this refusal; nothing is said where memory ran out
+abbrev pub RefusesAs : {Y : Type 0} → Option (Refusal WriteFault) → Writing Y → Type 0
+RefusesAs None due = Unit {0}
+RefusesAs (Some r) due = due ≡ Err r
+
+-- a fault of the value itself, or out of memory
+abbrev pub IsHereOrMemory : WriteFault → Option (Refusal WriteFault) → Type 0
+IsHereOrMemory f None = Unit {0}
+IsHereOrMemory f (Some r) = r ≡ here f
+
+-- the refusal for a fault in the bytes of the value, or out of memory
+abbrev pub IsFaultOrMemory : Error → Option (Refusal WriteFault) → Type 0
+IsFaultOrMemory e None = Unit {0}
+IsFaultOrMemory NoMemory (Some r) = ⊥
+IsFaultOrMemory e (Some r) = r ≡ here (unwritable (raw e))
+
+-- A writer inside a value gives what is due, seen so, or its refusal with the path so far; or memory ran out.
+abbrev pub Reaches : {X Y : Type 0} → (X → Y) → Result X (Stop Fault) → Writing Y → Type 0
+Reaches see (Ok x) due = due ≡ Ok (see x)
+Reaches see (Err s) due = RefusesAs (stop_view write_fault s) due
+
+-- the failure is the refusal without its path, or out of memory
+abbrev pub IsBare : Option (Refusal WriteFault) → Failure WriteFault → Type 0
+IsBare None f = f ≡ no_memory
+IsBare (Some r) f = f ≡ bare r.fault

@@ -1,0 +1,2 @@
+pub mod TreeSpell
+pub mod Alike
