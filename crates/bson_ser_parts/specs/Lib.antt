@@ -1,0 +1,4 @@
+pub mod Taking
+pub mod Documents
+pub mod Pairs
+pub mod Variants
