@@ -115,6 +115,17 @@ pub use Rattle.bson_raw_builder.specs.RawValueView
 pub use Rattle.bson_de_raw.specs.Gives
 pub use Rattle.bson_de_raw.specs.ReadsLossy
 pub use Rattle.bson_ser_stream.specs.Writing
+pub use Rattle.bson_ser_parts.specs.Documents as PartsOfDocuments
+pub use Rattle.bson_ser_parts.specs.Pairs as PartsOfPairs
+pub use Rattle.bson_ser_parts.specs.Taking as PartsTaken
+pub use Rattle.bson_ser_parts.specs.Variants as PartsOfVariants
+pub use Rattle.bson_tree_laws.specs.Alike
+pub use Rattle.bson_tree_laws.specs.TreeSpell
+pub use Rattle.bson_ser_tree.specs.Answers as TreeAnswers
+pub use Rattle.bson_writing.specs.Joined as TreeJoined
+pub use Rattle.bson_writing.specs.Levels as TreeLevels
+pub use Rattle.bson_ser_tree.specs.Made as TreeMade
+pub use Rattle.bson_ser_tree.specs.Taking as TreeTaking
 pub use Rattle.bson_program.specs.Command
 pub use Rattle.bson_program.specs.Ends as RunEnds
 pub use Rattle.bson_program.specs.Input

@@ -14,3 +14,4 @@ pub use bson_laws::{
 };
 pub use bson_recast_run::law_run_again;
 pub use bson_shape::law_text;
+pub use bson_tree_laws::law_writers;

@@ -7,6 +7,7 @@
 //! |---|---|
 //! | shapes | `Shape`; `FieldShape`, `VariantShape` and `VariantContent` to make one without its notation; `Form`, `Leaf` and `Named` to look at one |
 //! | reading and writing | `from_slice_at`, `from_slice_utf8_lossy_at`; `to_vec_at`, `to_buf`, `to_vec_counted`; `Datum` and its parts `Field`, `Entry`, `Text`, `ByteStr`, `RawDoc`, `RawArr`, `Double` |
+//! | writing to trees | `to_bson_at`, `to_document_at`, and with options; `Serializer`, with a writer for each form of value that is handed in part by part; `SerializerOptions` |
 //! | both at once | `recast`, `recast_utf8_lossy`, `recast_to_buf` |
 //! | the shape of documents | `infer` |
 //! | trees | `Bson`, `Document` with `Iter` and `IntoIter`, and the types of values, such as `ObjectId`, `DateTime` and `Binary`; `read_value` and `Met` to read from one |
@@ -24,8 +25,8 @@
 //!
 //! # Shapes and their notation
 //!
-//! A shape says which values are read, and what they become. The README's table has every form of its notation. Makers such as `Shape::seq` and
-//! `Shape::structure` make the same shapes without a text.
+//! A shape says which values are read, and what they become. The README's table has every form of its notation. Makers such as `Shape::seq`,
+//! `Shape::structure` and `Shape::closed_structure` make the same shapes without a text.
 //!
 //! `bson_examples/src/shapes.rt`:
 //!
@@ -97,12 +98,13 @@
 //!
 //! # Writing
 //!
-//! A struct or a map is written as a document. The type of a number says its kind: `U8` is written as an Int32, `I64` as an Int64.
+//! A struct or a map is written as a document. The type of a number says its kind: `U8` is written as an Int32, `I64` as an Int64. `to_vec_at` gives its bytes; `to_document_at`
+//! makes the document in memory, and `to_bson_at` the `Bson` of a value of any kind.
 //!
 //! `bson_examples/src/writing.rt`:
 //!
 //! ```rust
-//! use bson::{Datum, Field, Text, ser, to_vec_at};
+//! use bson::{Datum, Document, Field, Text, ser, to_document_at, to_vec_at};
 //! use std::alloc::{AllocError, Global};
 //!
 //! /// A person, as a value of a struct. The name is borrowed.
@@ -126,6 +128,12 @@
 //! pub fn person_bytes(alloc: Global, name: &str, age: u8) -> ser::Result<Vec<u8>> {
 //!     let person = person(alloc, name, age)?;
 //!     to_vec_at(alloc, &person)
+//! }
+//!
+//! /// The same document in memory.
+//! pub fn person_document(alloc: Global, name: &str, age: u8) -> ser::Result<Document> {
+//!     let person = person(alloc, name, age)?;
+//!     to_document_at(alloc, &person)
 //! }
 //! ```
 //!
@@ -462,9 +470,25 @@ pub use bson_recast_run::recast_to_buf;
 pub use bson_recast_run::recast_utf8_lossy;
 pub use bson_recast_run::run;
 pub use bson_reserved as reserved;
+pub use bson_ser_parts::DocumentWriter;
+pub use bson_ser_parts::VariantWriter;
 pub use bson_ser_stream::to_buf;
 pub use bson_ser_stream::to_vec_at;
 pub use bson_ser_stream::to_vec_counted;
+pub use bson_ser_tree::ArraySerializer;
+pub use bson_ser_tree::MapSerializer;
+pub use bson_ser_tree::Serializer;
+pub use bson_ser_tree::SerializerOptions;
+pub use bson_ser_tree::SerializerOptionsBuilder;
+pub use bson_ser_tree::StructSerializer;
+pub use bson_ser_tree::StructVariantSerializer;
+pub use bson_ser_tree::TupleSerializer;
+pub use bson_ser_tree::TupleStructSerializer;
+pub use bson_ser_tree::TupleVariantSerializer;
+pub use bson_ser_tree::to_bson_at;
+pub use bson_ser_tree::to_bson_with_options_at;
+pub use bson_ser_tree::to_document_at;
+pub use bson_ser_tree::to_document_with_options_at;
 pub use bson_shape::FieldShape;
 pub use bson_shape::Form;
 pub use bson_shape::Leaf;

@@ -21,4 +21,4 @@ pub use reading::age;
 pub use recasting::upgraded;
 pub use shapes::person_shape;
 pub use trees::{ada, document_bytes, document_of, first_null};
-pub use writing::{person, person_bytes};
+pub use writing::{person, person_bytes, person_document};

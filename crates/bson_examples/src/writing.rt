@@ -1,4 +1,4 @@
-use bson::{Datum, Field, Text, ser, to_vec_at};
+use bson::{Datum, Document, Field, Text, ser, to_document_at, to_vec_at};
 use std::alloc::{AllocError, Global};
 
 /// A person, as a value of a struct. The name is borrowed.
@@ -22,4 +22,10 @@ pub fn person<'a>(alloc: Global, name: &'a str, age: u8) -> Result<Datum<'a>, Al
 pub fn person_bytes(alloc: Global, name: &str, age: u8) -> ser::Result<Vec<u8>> {
     let person = person(alloc, name, age)?;
     to_vec_at(alloc, &person)
+}
+
+/// The same document in memory.
+pub fn person_document(alloc: Global, name: &str, age: u8) -> ser::Result<Document> {
+    let person = person(alloc, name, age)?;
+    to_document_at(alloc, &person)
 }

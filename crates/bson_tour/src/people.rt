@@ -14,7 +14,13 @@ pub fn print_person(rt: &impl Print, alloc: Global) -> Result<(), Fail> {
     let shape = person_shape(alloc)?;
     print_value(rt, "age", &age(alloc, &shape, ADA)?)?;
     print_age(rt, alloc, &shape)?;
-    print_bytes(rt, alloc, "person_bytes", &person_bytes(alloc, "Ada", 36)?)
+    print_bytes(rt, alloc, "person_bytes", &person_bytes(alloc, "Ada", 36)?)?;
+    print_written(
+        rt,
+        alloc,
+        "person_document",
+        &person_document(alloc, "Ada", 36)?,
+    )
 }
 
 /// The age of a person who was read.
@@ -87,5 +93,6 @@ pub fn print_refusals(rt: &impl Print, alloc: Global) -> Result<(), Fail> {
     print_refusal(rt, alloc, "{age:i33}")?;
     print_refusal(rt, alloc, "{name:u8}")?;
     print_refusal(rt, alloc, "{age:u8}")?;
+    print_refusal(rt, alloc, "{!age:u8}")?;
     print_key(rt, alloc, &Shape::parse(alloc, "{name:u8}")?)
 }

@@ -31,6 +31,13 @@ fn structure(alloc: Global, shape: Shape) -> Result<Shape, ShapeError> {
     Shape::structure(self::name(alloc, "S")?, fields)
 }
 
+/// A closed struct of a shape.
+fn closed_structure(alloc: Global, shape: Shape) -> Result<Shape, ShapeError> {
+    let name = name(alloc, "b")?;
+    let fields = vec![in alloc; FieldShape { name, shape }]?;
+    Shape::closed_structure(self::name(alloc, "C")?, fields)
+}
+
 /// A tuple variant of a shape and a unit struct.
 fn choice(alloc: Global, shape: Shape) -> Result<Shape, ShapeError> {
     let unit = Shape::unit_struct(name(alloc, "U")?);
@@ -47,11 +54,12 @@ fn print_notation(rt: &impl Print, alloc: Global, shape: &Shape) -> Result<(), F
 /// The notation of a shape that each maker had a part in.
 pub fn print_made(rt: &impl Print, alloc: Global) -> Result<(), Fail> {
     let shape = structure(alloc, tuples(alloc, newtype(alloc)?)?)?;
+    let shape = closed_structure(alloc, shape)?;
     print_notation(rt, alloc, &choice(alloc, shape)?)
 }
 
 /// Notations, each of which is printed as it was read.
-const NOTATIONS: [&str; 15] = [
+const NOTATIONS: [&str; 16] = [
     "i32",
     "{}",
     "[{a:[[string]],b:u8}]",
@@ -66,6 +74,7 @@ const NOTATIONS: [&str; 15] = [
     "{a:oid,b:datetime,c:binary,d:timestamp,e:regex,f:codews,g:decimal,h:dbpointer,i:uuid,j:bson}",
     "(document,<N=oid>)",
     "(rawdoc,rawarray,rawbson)",
+    "{!a:{!},b:C{!\"!\":i32,c:U!}}",
     "Point{x:i32,y:{z:i32},\"\":i32,\"é\\\"\\\\\":i32}",
 ];
 
