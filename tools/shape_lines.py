@@ -10,9 +10,9 @@ import argparse
 import re
 import sys
 
-# A name or a text in quotes, in which a backslash stands before a quote or a backslash; else one character.
-TOKEN = re.compile(r'"(?:[^"\\]|\\.)*"|.', re.DOTALL)
-OPEN, CLOSE = "{(<[", "})>]"
+# A name or a text in quotes, in which a backslash stands before a quote or a backslash; the brace of a closed struct with its mark; else one character.
+TOKEN = re.compile(r'"(?:[^"\\]|\\.)*"|\{!|.', re.DOTALL)
+OPEN, CLOSE = ("{", "{!", "(", "<", "["), ("}", ")", ">", "]")
 
 
 def tokens(text):
@@ -30,7 +30,7 @@ def lines(shape):
     for place, token in enumerate(found):
         after = found[place + 1] if place + 1 < len(found) else ""
         if token in OPEN and token != "[":
-            is_empty = after in CLOSE and after != ""
+            is_empty = after in CLOSE
             depth += not is_empty
             made += token + ("" if is_empty else "\n" + "  " * depth)
         elif token in CLOSE and token != "]":
