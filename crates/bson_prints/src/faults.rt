@@ -8,14 +8,6 @@ use std::test::Fail;
 /// The document with the field `i`, an Int32 1.
 const DOCUMENT: &[u8; 12] = b"\x0c\0\0\0\x10i\0\x01\0\0\0\0";
 
-/// The ends of a run.
-#[derive(Drop)]
-struct Ends {
-    input: MemorySource,
-    out: MemorySink,
-    err: MemorySink,
-}
-
 /// A source of the document, of which these calls fail, and each gives at most so many bytes.
 fn source(alloc: Global, failing: &[u64], limits: &[usize]) -> Result<MemorySource, AllocError> {
     let bytes = DOCUMENT.to_vec(alloc)?;
@@ -31,19 +23,28 @@ fn sink(alloc: Global, failing: &[u64], limits: &[usize]) -> Result<MemorySink, 
     MemorySink::new(alloc, 99, failing, limits)
 }
 
-/// Ends whose source, output and error output fail at the calls of these numbers, counted from 1; 0 is no call. Each call of the first two moves one
-/// byte at most.
-fn failing_ends(alloc: Global, read: u64, written: u64, told: u64) -> Result<Ends, AllocError> {
-    let input = source(alloc, &[read], &[1; 13])?;
-    let out = sink(alloc, &[written], &[1; 12])?;
-    let err = sink(alloc, &[told], &[])?;
-    Ok(Ends { input, out, err })
+/// Runs the program at this shape.
+fn run_at(
+    alloc: Global,
+    shape: &str,
+    input: &mut MemorySource,
+    out: &mut MemorySink,
+    err: &mut MemorySink,
+) -> Result<Status, AllocError> {
+    let words = vec![in alloc; String::from_str(alloc, shape)?]?;
+    Ok(run(alloc, &words, input, out, err))
 }
 
-/// Runs the program at this shape.
-fn run_at(alloc: Global, shape: &str, ends: &mut Ends) -> Result<Status, AllocError> {
-    let words = vec![in alloc; String::from_str(alloc, shape)?]?;
-    Ok(run(alloc, &words, &mut ends.input, &mut ends.out, &mut ends.err))
+/// Prints how a run ended, and in hexadecimal digits what it wrote and what it told.
+fn print_texts(
+    rt: &impl Print,
+    what: &str,
+    status: Status,
+    written: &str,
+    told: &str,
+) -> Result<(), Fail> {
+    println!(rt; "{what}: {status:?} [{written}] [{told}]")?;
+    Ok(())
 }
 
 /// Prints how a run ended, what it wrote and what it told.
@@ -52,31 +53,83 @@ fn print_ends(
     alloc: Global,
     what: &str,
     status: Status,
-    ends: &Ends,
+    out: &MemorySink,
+    err: &MemorySink,
 ) -> Result<(), Fail> {
-    let written = hex::encode(alloc, ends.out.written())?;
-    let told = hex::encode(alloc, ends.err.written())?;
-    println!(rt; "{what}: {status:?} [{written}] [{told}]")?;
-    Ok(())
+    let written = hex::encode(alloc, out.written())?;
+    let told = hex::encode(alloc, err.written())?;
+    print_texts(rt, what, status, written.as_str(), told.as_str())
 }
 
-/// Runs the program at a shape, and prints what came of it.
-fn print_run(
+/// What a run is called, its shape, and the numbers of the calls at which its input, its output and its error output fail, counted from 1; 0 is no call.
+#[derive(Clone, Copy)]
+struct Case<'a> {
+    what: &'a str,
+    shape: &'a str,
+    read: u64,
+    written: u64,
+    told: u64,
+}
+
+/// Runs the program over these ends, and prints what came of it.
+fn print_over(
     rt: &impl Print,
     alloc: Global,
-    what: &str,
-    shape: &str,
-    mut ends: Ends,
+    case: Case<'_>,
+    input: &mut MemorySource,
+    out: &mut MemorySink,
+    err: &mut MemorySink,
 ) -> Result<(), Fail> {
-    let status = run_at(alloc, shape, &mut ends)?;
-    print_ends(rt, alloc, what, status, &ends)
+    let status = run_at(alloc, case.shape, input, out, err)?;
+    print_ends(rt, alloc, case.what, status, out, err)
 }
+
+/// Runs the program over this input and this output.
+fn print_with(
+    rt: &impl Print,
+    alloc: Global,
+    case: Case<'_>,
+    input: &mut MemorySource,
+    out: &mut MemorySink,
+) -> Result<(), Fail> {
+    let mut err = sink(alloc, &[case.told], &[])?;
+    print_over(rt, alloc, case, input, out, &mut err)
+}
+
+/// Runs the program over this input.
+fn print_from(
+    rt: &impl Print,
+    alloc: Global,
+    case: Case<'_>,
+    input: &mut MemorySource,
+) -> Result<(), Fail> {
+    let mut out = sink(alloc, &[case.written], &[1; 12])?;
+    print_with(rt, alloc, case, input, &mut out)
+}
+
+/// Runs the program, and prints what came of it. Each call of its input and of its output moves one byte at most.
+fn print_run(rt: &impl Print, alloc: Global, case: Case<'_>) -> Result<(), Fail> {
+    let mut input = source(alloc, &[case.read], &[1; 13])?;
+    print_from(rt, alloc, case, &mut input)
+}
+
+/// The shape at which the document is recast.
+const SHAPE: &str = "{i:i32}";
 
 /// An input that fails at a call.
 fn print_input_fault(rt: &impl Print, alloc: Global, call: u64) -> Result<(), Fail> {
     let what = format!(in alloc; "read {call}")?;
-    let ends = failing_ends(alloc, call, 0, 0)?;
-    print_run(rt, alloc, what.as_str(), "{i:i32}", ends)
+    print_run(
+        rt,
+        alloc,
+        Case {
+            what: what.as_str(),
+            shape: SHAPE,
+            read: call,
+            written: 0,
+            told: 0,
+        },
+    )
 }
 
 /// Inputs that fail at each of their calls.
@@ -90,8 +143,17 @@ pub fn print_input_faults(rt: &impl Print, alloc: Global) -> Result<(), Fail> {
 /// An output that fails at a call.
 fn print_output_fault(rt: &impl Print, alloc: Global, call: u64) -> Result<(), Fail> {
     let what = format!(in alloc; "write {call}")?;
-    let ends = failing_ends(alloc, 0, call, 0)?;
-    print_run(rt, alloc, what.as_str(), "{i:i32}", ends)
+    print_run(
+        rt,
+        alloc,
+        Case {
+            what: what.as_str(),
+            shape: SHAPE,
+            read: 0,
+            written: call,
+            told: 0,
+        },
+    )
 }
 
 /// Outputs that fail at each of their calls.
@@ -104,6 +166,15 @@ pub fn print_output_faults(rt: &impl Print, alloc: Global) -> Result<(), Fail> {
 
 /// An error output that fails.
 pub fn print_error_fault(rt: &impl Print, alloc: Global) -> Result<(), Fail> {
-    let ends = failing_ends(alloc, 0, 0, 1)?;
-    print_run(rt, alloc, "error output", "{i:i33}", ends)
+    print_run(
+        rt,
+        alloc,
+        Case {
+            what: "error output",
+            shape: "{i:i33}",
+            read: 0,
+            written: 0,
+            told: 1,
+        },
+    )
 }

@@ -1,57 +1,24 @@
 // What is written of a tree that the reader of trees read.
 use crate::printing::print_bytes;
-use bson_base::{Bson, Document, JavaScriptCodeWithScope, ObjectId, Regex};
+use bson_base::Bson;
 use bson_datum::{Datum, MAX_NESTING_LEVEL};
 use bson_de::read_value;
 use bson_met::Met;
+use bson_rawdoc::RawDocument;
 use bson_ser_stream::to_vec_at;
 use bson_shape::Shape;
-use std::alloc::{AllocError, Global};
+use std::alloc::Global;
 use std::io::Print;
 use std::test::Fail;
 
-/// Puts a value under a key.
-fn put(alloc: Global, document: &mut Document, key: &str, value: Bson) -> Result<(), AllocError> {
-    document.insert(String::from_str(alloc, key)?, value)?;
-    Ok(())
-}
+/// The document `{n: 1, id: ObjectId, r: /a/ix, c: f with the scope {x: null}, a: [null]}`, whose options are not in order.
+const TREE: &[u8] =
+    b"D\0\0\0\x10n\0\x01\0\0\0\x07id\0abcdefghijkl\x0br\0a\0xi\0\x0fc\0\x12\0\0\0\x02\0\0\0f\0\x08\0\0\0\x0ax\0\0\x04a\0\x08\0\0\0\x0a0\0\0\0";
 
-/// The regular expression `/a/ix`.
-fn regex(alloc: Global) -> Result<Bson, AllocError> {
-    let pattern = String::from_str(alloc, "a")?;
-    let options = String::from_str(alloc, "xi")?;
-    Ok(Bson::RegularExpression(Regex::new(alloc, pattern, options)?))
-}
-
-/// The code `f` with the scope `{x: null}`.
-fn scoped(alloc: Global) -> Result<Bson, AllocError> {
-    let mut scope = Document::new(alloc);
-    put(alloc, &mut scope, "x", Bson::Null)?;
-    let code = String::from_str(alloc, "f")?;
-    Ok(Bson::JavaScriptCodeWithScope(JavaScriptCodeWithScope { code, scope }))
-}
-
-/// Puts a number and an ObjectId: `{n: 1, id: ObjectId}`.
-fn put_scalars(alloc: Global, document: &mut Document) -> Result<(), AllocError> {
-    put(alloc, document, "n", Bson::Int32(1))?;
-    let id = ObjectId(*b"abcdefghijkl");
-    put(alloc, document, "id", Bson::ObjectId(id))
-}
-
-/// Puts values that have memory of their own: `{r: /a/ix, c: f with the scope {x: null}, a: [null]}`.
-fn put_owned(alloc: Global, document: &mut Document) -> Result<(), AllocError> {
-    put(alloc, document, "r", regex(alloc)?)?;
-    put(alloc, document, "c", scoped(alloc)?)?;
-    let items = vec![in alloc; Bson::Null]?;
-    put(alloc, document, "a", Bson::Array(items))
-}
-
-/// The document `{n: 1, id: ObjectId, r: /a/ix, c: f with the scope {x: null}, a: [null]}`.
-fn tree(alloc: Global) -> Result<Bson, AllocError> {
-    let mut document = Document::new(alloc);
-    put_scalars(alloc, &mut document)?;
-    put_owned(alloc, &mut document)?;
-    Ok(Bson::Document(document))
+/// The document as a tree.
+fn tree(alloc: Global) -> Result<Bson, Fail> {
+    let document = RawDocument::from_bytes(TREE)?;
+    Ok(Bson::Document(document.to_document(alloc)?))
 }
 
 /// A tree read at a shape.
@@ -62,17 +29,40 @@ fn read_at<'a>(alloc: Global, shape: &Shape, tree: &'a Bson) -> Result<Datum<'a>
     }
 }
 
+/// Prints the bytes that a datum is written as.
+fn print_written(
+    rt: &impl Print,
+    alloc: Global,
+    what: &str,
+    datum: &Datum<'_>,
+) -> Result<(), Fail> {
+    print_bytes(rt, alloc, what, &to_vec_at(alloc, datum)?)
+}
+
+/// Prints the bytes of a tree read at a shape.
+fn print_read(
+    rt: &impl Print,
+    alloc: Global,
+    what: &str,
+    shape: &Shape,
+    tree: &Bson,
+) -> Result<(), Fail> {
+    print_written(rt, alloc, what, &read_at(alloc, shape, tree)?)
+}
+
 /// The bytes of a tree read at a shape.
 fn print_at(rt: &impl Print, alloc: Global, shape: &str, tree: &Bson) -> Result<(), Fail> {
-    let parsed = Shape::parse(alloc, shape)?;
-    let datum = read_at(alloc, &parsed, tree)?;
-    print_bytes(rt, alloc, shape, &to_vec_at(alloc, &datum)?)
+    print_read(rt, alloc, shape, &Shape::parse(alloc, shape)?, tree)
+}
+
+/// The bytes of a tree read at shapes.
+fn print_at_each(rt: &impl Print, alloc: Global, tree: &Bson) -> Result<(), Fail> {
+    print_at(rt, alloc, "{n:i64,id:any,r:any,c:any,a:[?bool]}", tree)?;
+    print_at(rt, alloc, "{n:i32,id:oid,r:regex,c:codews,a:bson}", tree)?;
+    print_at(rt, alloc, "bson", tree)
 }
 
 /// The bytes of the tree read at shapes.
 pub fn print_tree(rt: &impl Print, alloc: Global) -> Result<(), Fail> {
-    let tree = tree(alloc)?;
-    print_at(rt, alloc, "{n:i64,id:any,r:any,c:any,a:[?bool]}", &tree)?;
-    print_at(rt, alloc, "{n:i32,id:oid,r:regex,c:codews,a:bson}", &tree)?;
-    print_at(rt, alloc, "bson", &tree)
+    print_at_each(rt, alloc, &tree(alloc)?)
 }

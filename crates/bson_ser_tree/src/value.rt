@@ -1,4 +1,4 @@
-// The tree of a datum. Its texts and byte strings are copied, since the datum is lent.
+// The tree of a datum. Its texts and byte strings are copied, since the datum is borrowed.
 ghost use Rattle.std.specs.Prelude.{◌≡◌, false, string_bytes, IfOk};
 ghost use Rattle.std.specs.Str.{bytes_eq};
 ghost use Rattle.bson_base.specs.BsonView.{tree_of, trees_of, pairs_of};

@@ -4,7 +4,7 @@ use crate::printing::print_debug;
 use bson_base::{Binary, BinarySubtype, Bson, Double};
 use bson_datum::{Datum, Text};
 use bson_rawdoc::RawDocument;
-use bson_shape::Shape;
+use bson_shape::{ParseError, Shape};
 use std::alloc::{AllocError, Global};
 use std::io::Print;
 use std::test::Fail;
@@ -15,6 +15,11 @@ fn binary(alloc: Global) -> Result<Bson, AllocError> {
     Ok(Bson::Binary(Binary::from_parts(BinarySubtype(4), bytes)))
 }
 
+/// Prints a binary.
+pub fn print_binary(rt: &impl Print, alloc: Global) -> Result<(), Fail> {
+    print_debug(rt, &binary(alloc)?)
+}
+
 /// A struct variant of an option.
 fn variant<'a>(alloc: Global) -> Result<Datum<'a>, AllocError> {
     let value = option(alloc, Datum::Double(Double([0; 8])))?;
@@ -23,14 +28,22 @@ fn variant<'a>(alloc: Global) -> Result<Datum<'a>, AllocError> {
     Ok(Datum::StructVariant { variant, fields })
 }
 
-/// A binary, and a struct variant of an option.
-pub fn print_values(rt: &impl Print, alloc: Global) -> Result<(), Fail> {
-    print_debug(rt, &binary(alloc)?)?;
+/// Prints a struct variant of an option.
+pub fn print_variant(rt: &impl Print, alloc: Global) -> Result<(), Fail> {
     print_debug(rt, &variant(alloc)?)
 }
 
-/// The refusal of a notation, and a raw document.
-pub fn print_shapes(rt: &impl Print, alloc: Global) -> Result<(), Fail> {
-    print_debug(rt, &Shape::parse(alloc, "<A,A>").err())?;
+/// Why a notation is refused, if it is.
+fn refusal(alloc: Global) -> Option<ParseError> {
+    Shape::parse(alloc, "<A,A>").err()
+}
+
+/// Prints the refusal of a notation.
+pub fn print_refusal(rt: &impl Print, alloc: Global) -> Result<(), Fail> {
+    print_debug(rt, &refusal(alloc))
+}
+
+/// Prints a raw document.
+pub fn print_document(rt: &impl Print) -> Result<(), Fail> {
     print_debug(rt, &RawDocument::from_bytes(&[5, 0, 0, 0, 0])?)
 }

@@ -1,5 +1,6 @@
 // What the raw layer reads where there is memory: an element of every kind, and a text that is mended.
-use bson_base::Bson;
+use crate::printing::print_hex;
+use bson_base::{Bson, ElementType};
 use bson_rawdoc::{RawDocument, RawElement};
 use std::alloc::Global;
 use std::io::Print;
@@ -40,38 +41,67 @@ fn document_of(alloc: Global, byte: u8, value: &[u8]) -> Result<Vec<u8>, Fail> {
     Ok(bytes)
 }
 
-/// An element: its key, its kind, its bytes, and the kind of its value.
-fn print_element(rt: &impl Print, alloc: Global, element: &RawElement<'_>) -> Result<(), Fail> {
+/// Prints an element: its key, its kind, its bytes, and the kind of its value.
+fn print_parts(
+    rt: &impl Print,
+    element: &RawElement<'_>,
+    bytes: &str,
+    value: ElementType,
+) -> Result<(), Fail> {
     let kind = element.element_type();
-    let slice = hex::encode(alloc, element.slice())?;
-    let inner = element.value()?.element_type();
-    println!(rt; "{} is {kind:?} [{slice}], {inner:?}", element.key())?;
+    println!(rt; "{} is {kind:?} [{bytes}], {value:?}", element.key())?;
     Ok(())
 }
 
+/// The kind of the value of an element.
+fn value_kind(element: &RawElement<'_>) -> Result<ElementType, Fail> {
+    Ok(element.value()?.element_type())
+}
+
+/// An element: its key, its kind, its bytes, and the kind of its value.
+fn print_element(rt: &impl Print, alloc: Global, element: &RawElement<'_>) -> Result<(), Fail> {
+    let bytes = hex::encode(alloc, element.slice())?;
+    print_parts(rt, element, bytes.as_str(), value_kind(element)?)
+}
+
 /// The elements of a document.
-fn print_elements(rt: &impl Print, alloc: Global, bytes: &[u8]) -> Result<(), Fail> {
-    for element in RawDocument::from_bytes(bytes)?.iter_elements() {
+fn print_elements(rt: &impl Print, alloc: Global, document: RawDocument<'_>) -> Result<(), Fail> {
+    for element in document.iter_elements() {
         print_element(rt, alloc, &element?)?;
     }
     Ok(())
 }
 
+/// The elements of a document of one element of this kind, with the value under `k`.
+fn print_kind(rt: &impl Print, alloc: Global, byte: u8, value: &[u8]) -> Result<(), Fail> {
+    let bytes = document_of(alloc, byte, value)?;
+    print_elements(rt, alloc, RawDocument::from_bytes(&bytes)?)
+}
+
 /// The elements of a document of one element of each kind.
 pub fn print_kinds(rt: &impl Print, alloc: Global) -> Result<(), Fail> {
     for (byte, value) in KINDS {
-        print_elements(rt, alloc, &document_of(alloc, byte, value)?)?;
+        print_kind(rt, alloc, byte, value)?;
     }
     Ok(())
 }
 
+/// Prints a text in hexadecimal digits.
+fn print_mended(rt: &impl Print, alloc: Global, value: &Option<Bson>) -> Result<(), Fail> {
+    match value {
+        Some(Bson::String(text)) => print_hex(rt, alloc, "lossy", text.as_bytes()),
+        _ => Err(Fail::from("no text")),
+    }
+}
+
+/// The document with the field `s`, a text of one byte that is not UTF-8.
+const ILL_FORMED: &[u8] = b"\x0e\0\0\0\x02s\0\x02\0\0\0\xff\0\0";
+
 /// A text that is not UTF-8, in which U+FFFD stands for its ill-formed byte.
 pub fn print_lossy(rt: &impl Print, alloc: Global) -> Result<(), Fail> {
-    let bytes = b"\x0e\0\0\0\x02s\0\x02\0\0\0\xff\0\0";
-    for element in RawDocument::from_bytes(bytes)?.iter_elements() {
-        if let Some(Bson::String(text)) = element?.value_utf8_lossy(alloc)? {
-            println!(rt; "lossy: {}", hex::encode(alloc, text.as_bytes())?)?;
-        }
+    let document = RawDocument::from_bytes(ILL_FORMED)?;
+    for element in document.iter_elements() {
+        print_mended(rt, alloc, &element?.value_utf8_lossy(alloc)?)?;
     }
     Ok(())
 }

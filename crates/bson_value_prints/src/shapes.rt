@@ -10,40 +10,71 @@ fn name(alloc: Global, name: &str) -> Result<String, ShapeError> {
     Ok(String::from_str(alloc, name)?)
 }
 
-/// A newtype of a map of sequences of options.
-fn newtype(alloc: Global) -> Result<Shape, ShapeError> {
+/// A map of sequences of options.
+fn map(alloc: Global) -> Result<Shape, ShapeError> {
     let option = Shape::option(alloc, Shape::i32())?;
     let sequence = Shape::seq(alloc, option)?;
-    let map = Shape::map(alloc, Shape::string(), sequence)?;
-    Shape::newtype(alloc, name(alloc, "N")?, map)
+    Shape::map(alloc, Shape::string(), sequence)
 }
 
-/// A tuple struct of a tuple of a shape and a text.
-fn tuples(alloc: Global, shape: Shape) -> Result<Shape, ShapeError> {
-    let tuple = Shape::tuple(vec![in alloc; shape, Shape::str()]?)?;
-    Shape::tuple_struct(name(alloc, "P")?, vec![in alloc; tuple]?)
+/// A newtype of a shape.
+fn newtype(alloc: Global, shape: Shape) -> Result<Shape, ShapeError> {
+    Shape::newtype(alloc, name(alloc, "N")?, shape)
+}
+
+/// A tuple of a shape and a text.
+fn tuple(alloc: Global, shape: Shape) -> Result<Shape, ShapeError> {
+    Shape::tuple(vec![in alloc; shape, Shape::str()]?)
+}
+
+/// A tuple struct of a shape.
+fn tuple_struct(alloc: Global, shape: Shape) -> Result<Shape, ShapeError> {
+    let items = vec![in alloc; shape]?;
+    Shape::tuple_struct(name(alloc, "P")?, items)
+}
+
+/// A field with a shape, alone.
+fn fields(alloc: Global, name: &str, shape: Shape) -> Result<Vec<FieldShape>, ShapeError> {
+    let name = self::name(alloc, name)?;
+    Ok(vec![in alloc; FieldShape { name, shape }]?)
 }
 
 /// A struct of a shape.
 fn structure(alloc: Global, shape: Shape) -> Result<Shape, ShapeError> {
-    let name = name(alloc, "a")?;
-    let fields = vec![in alloc; FieldShape { name, shape }]?;
-    Shape::structure(self::name(alloc, "S")?, fields)
+    let fields = fields(alloc, "a", shape)?;
+    Shape::structure(name(alloc, "S")?, fields)
 }
 
 /// A closed struct of a shape.
 fn closed_structure(alloc: Global, shape: Shape) -> Result<Shape, ShapeError> {
-    let name = name(alloc, "b")?;
-    let fields = vec![in alloc; FieldShape { name, shape }]?;
-    Shape::closed_structure(self::name(alloc, "C")?, fields)
+    let fields = fields(alloc, "b", shape)?;
+    Shape::closed_structure(name(alloc, "C")?, fields)
 }
 
-/// A tuple variant of a shape and a unit struct.
-fn choice(alloc: Global, shape: Shape) -> Result<Shape, ShapeError> {
+/// The content of a tuple variant of a shape and a unit struct.
+fn content(alloc: Global, shape: Shape) -> Result<VariantContent, ShapeError> {
     let unit = Shape::unit_struct(name(alloc, "U")?);
-    let content = VariantContent::Tuple(vec![in alloc; shape, unit]?);
+    Ok(VariantContent::Tuple(vec![in alloc; shape, unit]?))
+}
+
+/// An enum of one variant.
+fn choice(alloc: Global, content: VariantContent) -> Result<Shape, ShapeError> {
     let name = name(alloc, "V")?;
     Shape::enumeration(vec![in alloc; VariantShape { name, content }]?)
+}
+
+/// A tuple struct that each of the first makers had a part in.
+fn inner(alloc: Global) -> Result<Shape, ShapeError> {
+    let shape = newtype(alloc, map(alloc)?)?;
+    let shape = tuple(alloc, shape)?;
+    tuple_struct(alloc, shape)
+}
+
+/// A shape that each maker had a part in.
+fn made(alloc: Global) -> Result<Shape, ShapeError> {
+    let shape = structure(alloc, inner(alloc)?)?;
+    let shape = closed_structure(alloc, shape)?;
+    choice(alloc, content(alloc, shape)?)
 }
 
 /// Prints the notation of a shape.
@@ -53,9 +84,7 @@ fn print_notation(rt: &impl Print, alloc: Global, shape: &Shape) -> Result<(), F
 
 /// The notation of a shape that each maker had a part in.
 pub fn print_made(rt: &impl Print, alloc: Global) -> Result<(), Fail> {
-    let shape = structure(alloc, tuples(alloc, newtype(alloc)?)?)?;
-    let shape = closed_structure(alloc, shape)?;
-    print_notation(rt, alloc, &choice(alloc, shape)?)
+    print_notation(rt, alloc, &made(alloc)?)
 }
 
 /// Notations, each of which is printed as it was read.
@@ -78,18 +107,27 @@ const NOTATIONS: [&str; 16] = [
     "Point{x:i32,y:{z:i32},\"\":i32,\"é\\\"\\\\\":i32}",
 ];
 
+/// A notation, read and printed.
+fn print_parsed(rt: &impl Print, alloc: Global, text: &str) -> Result<(), Fail> {
+    print_notation(rt, alloc, &Shape::parse(alloc, text)?)
+}
+
 /// The notations, read and printed.
 pub fn print_notations(rt: &impl Print, alloc: Global) -> Result<(), Fail> {
     for text in NOTATIONS {
-        print_notation(rt, alloc, &Shape::parse(alloc, text)?)?;
+        print_parsed(rt, alloc, text)?;
     }
     Ok(())
 }
 
+/// The text of so many sequences in one another.
+fn sequences(alloc: Global, levels: usize) -> Result<String, Fail> {
+    let opened = "[".repeat(alloc, levels)?;
+    let closed = "]".repeat(alloc, levels)?;
+    Ok(format!(in alloc; "{opened}i32{closed}")?)
+}
+
 /// A notation of the most levels, read and printed.
 pub fn print_levels(rt: &impl Print, alloc: Global) -> Result<(), Fail> {
-    let opened = "[".repeat(alloc, 511)?;
-    let closed = "]".repeat(alloc, 511)?;
-    let text = format!(in alloc; "{opened}i32{closed}")?;
-    print_notation(rt, alloc, &Shape::parse(alloc, text.as_str())?)
+    print_parsed(rt, alloc, sequences(alloc, 511)?.as_str())
 }

@@ -1,7 +1,7 @@
 // The texts of ObjectIds, UUIDs and dates, as their public formats have them.
+use crate::printing::print_named;
 use bson_base::{DateError, DateTime, ObjectId, Uuid};
 use std::alloc::Global;
-use std::fmt::Debug;
 use std::io::Print;
 use std::test::Fail;
 
@@ -18,17 +18,11 @@ fn print_id(
     Ok(())
 }
 
-/// A text that is refused.
-fn print_refused(rt: &impl Print, text: &str, error: &impl Debug) -> Result<(), Fail> {
-    println!(rt; "{text}: {error:?}")?;
-    Ok(())
-}
-
 /// The ObjectId that is read from a text.
 fn print_object_id(rt: &impl Print, alloc: Global, text: &str) -> Result<(), Fail> {
     match ObjectId::parse_str(text) {
         Ok(id) => print_id(rt, alloc, text, &id.0, id.to_hex(alloc)?.as_str()),
-        Err(error) => print_refused(rt, text, &error),
+        Err(error) => print_named(rt, text, &error),
     }
 }
 
@@ -36,7 +30,7 @@ fn print_object_id(rt: &impl Print, alloc: Global, text: &str) -> Result<(), Fai
 fn print_uuid(rt: &impl Print, alloc: Global, text: &str) -> Result<(), Fail> {
     match Uuid::parse_str(text) {
         Ok(id) => print_id(rt, alloc, text, &id.0, id.to_hyphenated(alloc)?.as_str()),
-        Err(error) => print_refused(rt, text, &error),
+        Err(error) => print_named(rt, text, &error),
     }
 }
 
@@ -64,13 +58,18 @@ const TEXTS: [&str; 12] = [
     "1990-12-31T23:59:59",
 ];
 
+/// The milliseconds since the start of 1970 that a text stands for.
+fn print_date(rt: &impl Print, text: &str) -> Result<(), Fail> {
+    match DateTime::parse_rfc3339_str(text) {
+        Ok(date) => print_named(rt, text, &date.timestamp_millis()),
+        Err(error) => print_named(rt, text, &error),
+    }
+}
+
 /// The milliseconds since the start of 1970 that texts stand for.
 pub fn print_milliseconds(rt: &impl Print) -> Result<(), Fail> {
     for text in TEXTS {
-        match DateTime::parse_rfc3339_str(text) {
-            Ok(date) => println!(rt; "{text}: {}", date.timestamp_millis())?,
-            Err(error) => print_refused(rt, text, &error)?,
-        }
+        print_date(rt, text)?;
     }
     Ok(())
 }
@@ -92,13 +91,30 @@ fn date_text(alloc: Global, milliseconds: i64) -> Result<String, DateError> {
     DateTime::from_millis(milliseconds).try_to_rfc3339_string(alloc)
 }
 
+/// Prints the text of a date.
+fn print_date_text(rt: &impl Print, milliseconds: i64, text: &str) -> Result<(), Fail> {
+    println!(rt; "{milliseconds}: {text}")?;
+    Ok(())
+}
+
+/// Prints why a date has no text.
+fn print_date_error(rt: &impl Print, milliseconds: i64, error: &DateError) -> Result<(), Fail> {
+    println!(rt; "{milliseconds}: {error:?}, {error}")?;
+    Ok(())
+}
+
+/// The text that a date is printed as.
+fn print_milliseconds_text(rt: &impl Print, alloc: Global, milliseconds: i64) -> Result<(), Fail> {
+    match date_text(alloc, milliseconds) {
+        Ok(text) => print_date_text(rt, milliseconds, text.as_str()),
+        Err(error) => print_date_error(rt, milliseconds, &error),
+    }
+}
+
 /// The texts that dates are printed as.
 pub fn print_dates(rt: &impl Print, alloc: Global) -> Result<(), Fail> {
     for milliseconds in MILLISECONDS {
-        match date_text(alloc, milliseconds) {
-            Ok(text) => println!(rt; "{milliseconds}: {text}")?,
-            Err(error) => println!(rt; "{milliseconds}: {error:?}, {error}")?,
-        }
+        print_milliseconds_text(rt, alloc, milliseconds)?;
     }
     Ok(())
 }
