@@ -1,18 +1,24 @@
 -- What a call answers where a part is refused, or the end.
-use Rattle.std.proofs.Common.{◌≡◌, ℕ, ◌+◌, ◌-◌, ◌≤◌, inl, inr, length, Result, Err, sym, subst, arith}
+use Rattle.std.proofs.Common.{Bool, ◌≡◌, ℕ, ◌+◌, ◌-◌, ◌≤◌, inl, inr, length, Result, Err, sym, subst, arith}
 use Rattle.std.specs.Prelude.{Some, IfErr, OnErr}
 use Rattle.bson_base.specs.Sound.{max_bytes, max_levels}
 use Rattle.bson_datum.specs.Refusal.{Refusal, WriteFault, here, Failure, no_memory}
 use Rattle.bson_datum.specs.Stop.{IsPlaced}
+use Rattle.bson_datum.specs.Value.{Value}
 use Rattle.bson_datum.specs.declared.stop.Stop.TheVariants.{Refused, NoMemory}
 use Rattle.bson_io.specs.Output.{Output}
-use Rattle.bson_laws.specs.Spell.{Writing}
+use Rattle.bson_laws.specs.Spell.{Writing, spell_as}
 use Rattle.bson_writing.specs.Halting.{Halts, halt_view, IsHereOrMemory}
 use Rattle.bson_writing.specs.declared.halt.Halt.{Halt}
 use Rattle.bson_writing.specs.declared.halt.Halt.TheVariants.{Stopped, TooLong}
 use Rattle.bson_ser_stream.specs.Writing.{IsDue, Fails, level_inside}
 use Rattle.bson_ser_stream.specs.Halting.{EndHalts}
-use Rattle.bson_ser_stream.proofs.Limits.{placed_is}
+use Rattle.bson_ser_stream.proofs.Limits.{placed_is, part_too_long}
+use Rattle.bson_ser_parts.specs.Taking.{Refuses}
+
+-- what refuses a value on its way is never its length
+pub told : (readable : Bool) (v : Value) (levels size : ℕ) (f : Failure WriteFault) → Fails size (spell_as readable v levels) f → Refuses size (spell_as readable v levels) f
+told readable v levels size f h = (h, part_too_long readable v levels size f h)
 
 -- a cause of the value itself is answered as it is
 pub placed_here : (f : WriteFault) (h : Halt) (g : Failure WriteFault) → IsHereOrMemory f h → IsPlaced (halt_view h) g → IsPlaced (Some (here f)) g

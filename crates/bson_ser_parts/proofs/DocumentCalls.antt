@@ -1,19 +1,20 @@
 -- What each call of the writer of a document or an array answers, by what it left in the output.
 use Rattle.std.proofs.Common.{Bool, true, false, ◌≡◌, ℕ, ◌+◌, ◌≤◌, ◌^◌, ◌++◌, length, take, Result, Ok, Err, refl, ap, sym, subst, ◌∙◌, arith}
 use Rattle.std.specs.Fmt.{decimal}
+use Rattle.bson_base.specs.Sound.{max_levels}
 use Rattle.bson_base.specs.Text.{Bytes}
 use Rattle.bson_base.specs.Tree.{elements, array_elements}
 use Rattle.bson_datum.specs.Cause.{bad_step}
 use Rattle.bson_datum.specs.Refusal.{unwritable, under_index}
 use Rattle.bson_datum.specs.Stop.{IsPlaced}
 use Rattle.bson_datum.specs.ErrorView.{write_failure}
-use Rattle.bson_datum.specs.Value.{Value, sequence, Items, Entries}
+use Rattle.bson_datum.specs.Value.{Value, sequence, map, Items, item, Entries, entry}
 use Rattle.bson_datum.specs.declared.ser.Error.{Error}
 use Rattle.bson_io.specs.Output.{Output}
 use Rattle.bson_laws.specs.Means.{key_text}
 use Rattle.bson_laws.specs.Spell.{spell_as, spell_items_as, spell_key, spell_entries_as, key_size, size_as}
 use Rattle.bson_writing.specs.Halting.{Halts, halt_view, IsHereOrMemory}
-use Rattle.bson_writing.specs.Joined.{with_item, index_after}
+use Rattle.bson_writing.specs.Joined.{items_joined, entries_joined, with_item, with_entry, index_after}
 use Rattle.bson_writing.specs.Levels.{in_whole}
 use Rattle.bson_writing.specs.declared.halt.Halt.{Halt}
 use Rattle.bson_writing.specs.declared.halt.Halt.TheVariants.{TooLong}
@@ -24,7 +25,7 @@ use Rattle.bson_ser_parts.specs.Documents.{IsOpen, HasItems, HasEntries, Documen
 use Rattle.bson_ser_parts.specs.declared.document.DocumentWriter.{DocumentWriter}
 use Rattle.bson_ser_parts.proofs.Joined.{item_taken, index_after_one, index_within, size_with_item, entry_taken}
 use Rattle.bson_ser_parts.proofs.Kept.{begun_kept, taken_back}
-use Rattle.bson_ser_parts.proofs.Answered.{placed_here, long_fails}
+use Rattle.bson_ser_parts.proofs.Answered.{told, placed_here, long_fails}
 use Rattle.bson_ser_parts.proofs.Documented.{item_fails, entry_fails, array_length, array_ends, array_unended, document_length, document_ends, document_unended}
 
 -- the writer goes on as it was, but for its output and the index
@@ -82,14 +83,17 @@ module _ (old new : DocumentWriter) (v : Value) where
       let by_form : Halts (length (decimal i) + 2 + size_as readable v) o.spare (with_element o.bytes (decimal i) (under_index i (spell_as readable v old.document.levels))) h =
       subst (λ r. Halts (length (decimal i) + 2 + size_as r v) o.spare (with_element o.bytes (decimal i) (under_index i (spell_as r v old.document.levels))) h) has.still.form by_index in
       let by_level : Halts (length (decimal i) + 2 + size_as readable v) o.spare (with_element o.bytes (decimal i) (under_index i (spell_as readable v in_whole))) h =
-      subst (λ n. Halts (length (decimal i) + 2 + size_as readable v) o.spare (with_element o.bytes (decimal i) (under_index i (spell_as readable v n))) h) has.still.levels by_form in
-      (failed_open begun readable old new mid before now has.still (items_kept begun readable old taken has) back, item_fails readable begun o.bytes h (write_failure e) taken after v o.spare has.bytes by_level is)
+      subst (λ n. Halts (length (decimal i) + 2 + size_as readable v) o.spare (with_element o.bytes (decimal i) (under_index i (spell_as readable v n))) h) has.still.levels by_form in (
+        failed_open begun readable old new mid before now has.still (items_kept begun readable old taken has) back,
+        told readable (sequence (items_joined taken (item v after))) max_levels (size_as readable (sequence (with_item taken v))) (write_failure e) (item_fails readable begun o.bytes h (write_failure e) taken after v o.spare has.bytes by_level is),
+      )
 
   -- no index is left
   pub item_long : (e : Error) (now : ℕ) → TookBack old new old.out.now now now → 2 ^ 64 ≤ old.index + 1 → IsPlaced (halt_view TooLong) (write_failure e) → TakesItem old new v (Err e)
   item_long e now back long is begun readable taken after has = (
     failed_open begun readable old new old.out.now now now has.still (items_kept begun readable old taken has) back,
-    long_fails (write_failure e) (size_as readable (sequence (with_item taken v))) _ (omega (arith, long, has.index, index_within readable 0 taken, size_with_item readable 0 taken v)) is,
+    told readable (sequence (items_joined taken (item v after))) max_levels (size_as readable (sequence (with_item taken v))) (write_failure e)
+        (long_fails (write_failure e) (size_as readable (sequence (with_item taken v))) _ (omega (arith, long, has.index, index_within readable 0 taken, size_with_item readable 0 taken v)) is),
   )
 
 -- ---- an entry
@@ -111,8 +115,10 @@ module _ (old new : DocumentWriter) (k v : Value) where
       let by_form : Halts (key_size (key_text k) + 2 + size_as readable v) o.spare (with_entry_element o.bytes (spell_key k) (spell_as readable v old.document.levels)) h =
       subst (λ r. Halts (key_size (key_text k) + 2 + size_as r v) o.spare (with_entry_element o.bytes (spell_key k) (spell_as r v old.document.levels)) h) has.still.form halts in
       let by_level : Halts (key_size (key_text k) + 2 + size_as readable v) o.spare (with_entry_element o.bytes (spell_key k) (spell_as readable v in_whole)) h =
-      subst (λ n. Halts (key_size (key_text k) + 2 + size_as readable v) o.spare (with_entry_element o.bytes (spell_key k) (spell_as readable v n)) h) has.still.levels by_form in
-      (failed_open begun readable old new mid before now has.still (entries_kept begun readable old taken has) back, entry_fails readable begun o.bytes h (write_failure e) taken after k v o.spare has.bytes by_level is)
+      subst (λ n. Halts (key_size (key_text k) + 2 + size_as readable v) o.spare (with_entry_element o.bytes (spell_key k) (spell_as readable v n)) h) has.still.levels by_form in (
+        failed_open begun readable old new mid before now has.still (entries_kept begun readable old taken has) back,
+        told readable (map (entries_joined taken (entry k v after))) max_levels (size_as readable (map (with_entry taken k v))) (write_failure e) (entry_fails readable begun o.bytes h (write_failure e) taken after k v o.spare has.bytes by_level is),
+      )
 
 -- ---- a call of the wrong form
 
@@ -138,14 +144,16 @@ module _ (w : DocumentWriter) (left : Bytes) (e : Error) (h : Halt) (mid : Outpu
   items_unended begun readable vs has =
       let o = w.out.now in (
         taken_back begun w.document.start o mid left before now has.still.place (items_kept begun readable w vs has) grows cut,
-        array_unended readable begun o.bytes w.document.start has.still.place vs has.bytes o h (write_failure e) refl (halts (omega (arith, array_length readable begun o.bytes w.document.start has.still.place vs has.bytes))) is,
+        told readable (sequence vs) max_levels (size_as readable (sequence vs)) (write_failure e)
+            (array_unended readable begun o.bytes w.document.start has.still.place vs has.bytes o h (write_failure e) refl (halts (omega (arith, array_length readable begun o.bytes w.document.start has.still.place vs has.bytes))) is),
       )
 
   pub entries_unended : EndsEntries w left (Err e)
   entries_unended begun readable es has =
       let o = w.out.now in (
         taken_back begun w.document.start o mid left before now has.still.place (entries_kept begun readable w es has) grows cut,
-        document_unended readable begun o.bytes w.document.start has.still.place es has.bytes o h (write_failure e) refl (halts (omega (arith, document_length readable begun o.bytes w.document.start has.still.place es has.bytes))) is,
+        told readable (map es) max_levels (size_as readable (map es)) (write_failure e)
+            (document_unended readable begun o.bytes w.document.start has.still.place es has.bytes o h (write_failure e) refl (halts (omega (arith, document_length readable begun o.bytes w.document.start has.still.place es has.bytes))) is),
       )
 
 -- what holds of an output and a result holds of the same

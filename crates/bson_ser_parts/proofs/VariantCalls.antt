@@ -3,6 +3,7 @@ use Rattle.std.proofs.Common.{Bool, true, false, ◌≡◌, inl, ℕ, ◌+◌, �
 use Rattle.std.specs.Prelude.{string_bytes}
 use Rattle.std.specs.Fmt.{decimal}
 use Rattle.std.proofs.lemmas.List.{length-append}
+use Rattle.bson_base.specs.Sound.{max_levels}
 use Rattle.bson_base.specs.Text.{Bytes, Utf8}
 use Rattle.bson_base.specs.Tree.{elements, array_elements}
 use Rattle.bson_base.proofs.Outcomes.{map_ok}
@@ -10,13 +11,13 @@ use Rattle.bson_datum.specs.Cause.{bad_step}
 use Rattle.bson_datum.specs.Refusal.{unwritable, at_key, under_index}
 use Rattle.bson_datum.specs.Stop.{IsPlaced}
 use Rattle.bson_datum.specs.ErrorView.{write_failure}
-use Rattle.bson_datum.specs.Value.{Value, tuple_variant, structure_variant, Items, FieldValues}
+use Rattle.bson_datum.specs.Value.{Value, tuple_variant, structure_variant, Items, item, FieldValues, field_value}
 use Rattle.bson_datum.specs.declared.ser.Error.{Error}
 use Rattle.bson_datum.specs.declared.stop.Stop.TheVariants.{Refused, NoMemory}
 use Rattle.bson_io.specs.Output.{Output}
 use Rattle.bson_laws.specs.Spell.{Writing, named, spell_as, spell_items_as, spell_fields_as, size_as}
 use Rattle.bson_writing.specs.Halting.{Halts, halt_view, IsHereOrMemory, IsUnder}
-use Rattle.bson_writing.specs.Joined.{with_item, index_after}
+use Rattle.bson_writing.specs.Joined.{items_joined, fields_joined, with_item, with_field, index_after}
 use Rattle.bson_writing.specs.Levels.{in_variant}
 use Rattle.bson_writing.specs.declared.halt.Halt.{Halt}
 use Rattle.bson_writing.specs.declared.halt.Halt.TheVariants.{Stopped, TooLong}
@@ -27,7 +28,7 @@ use Rattle.bson_ser_parts.specs.Pairs.{behind_name, contents_kind, IsIn, PairEnd
 use Rattle.bson_ser_parts.specs.Variants.{VariantWriter, IsOpen, HasItems, HasFields, VariantFailed, TakesItem, TakesField, EndsItems, EndsFields}
 use Rattle.bson_ser_parts.proofs.Joined.{item_taken, index_after_one, index_within, size_with_item, field_taken}
 use Rattle.bson_ser_parts.proofs.Kept.{begun_kept, taken_back}
-use Rattle.bson_ser_parts.proofs.Answered.{placed_here, long_fails}
+use Rattle.bson_ser_parts.proofs.Answered.{told, placed_here, long_fails}
 use Rattle.bson_ser_parts.proofs.Varied.{item_fails, field_fails, items_end, items_length, fields_end, fields_length, written_fits}
 
 -- the writer goes on as it was, but for its output and the index
@@ -96,13 +97,15 @@ module _ (old new : VariantWriter) (v : Value) where
       let by_level : Halts (length (decimal i) + 2 + size_as readable v) o.spare (with_element o.bytes (decimal i) (under_index i (spell_as readable v in_variant))) h =
       subst (λ n. Halts (length (decimal i) + 2 + size_as readable v) o.spare (with_element o.bytes (decimal i) (under_index i (spell_as readable v n))) h) has.still.levels by_form in (
         failed_open begun readable name true old new mid before now has.still (items_kept begun readable name old taken has) back,
-        item_fails readable begun o.bytes name has.still.free h g (write_failure e) taken after v o.spare has.bytes by_level (subst (λ n. IsUnder (at_key n) h g) has.still.named inner) is,
+        told readable (tuple_variant name (items_joined taken (item v after))) max_levels (size_as readable (tuple_variant name (with_item taken v))) (write_failure e)
+            (item_fails readable begun o.bytes name has.still.free h g (write_failure e) taken after v o.spare has.bytes by_level (subst (λ n. IsUnder (at_key n) h g) has.still.named inner) is),
       )
 
   pub item_long : (e : Error) (now : ℕ) → TookBack old new old.out.now now now → 2 ^ 64 ≤ old.index + 1 → IsPlaced (halt_view TooLong) (write_failure e) → TakesItem old new v (Err e)
   item_long e now back long is begun readable name taken after has = (
     failed_open begun readable name true old new old.out.now now now has.still (items_kept begun readable name old taken has) back,
-    long_fails (write_failure e) (size_as readable (tuple_variant name (with_item taken v))) _ (omega (arith, long, has.index, index_within readable 0 taken, size_with_item readable 0 taken v)) is,
+    told readable (tuple_variant name (items_joined taken (item v after))) max_levels (size_as readable (tuple_variant name (with_item taken v))) (write_failure e)
+        (long_fails (write_failure e) (size_as readable (tuple_variant name (with_item taken v))) _ (omega (arith, long, has.index, index_within readable 0 taken, size_with_item readable 0 taken v)) is),
   )
 
 -- ---- a field
@@ -125,7 +128,8 @@ module _ (old new : VariantWriter) (key : Utf8) (v : Value) where
       let by_level : Halts (length key + 2 + size_as readable v) o.spare (with_element o.bytes key (named key (spell_as readable v in_variant))) h =
       subst (λ n. Halts (length key + 2 + size_as readable v) o.spare (with_element o.bytes key (named key (spell_as readable v n))) h) has.still.levels by_form in (
         failed_open begun readable name false old new mid before now has.still (fields_kept begun readable name old taken has) back,
-        field_fails readable begun o.bytes name has.still.free h g (write_failure e) taken after key v o.spare has.bytes by_level (subst (λ n. IsUnder (at_key n) h g) has.still.named inner) is,
+        told readable (structure_variant name (fields_joined taken (field_value key v after))) max_levels (size_as readable (structure_variant name (with_field taken key v))) (write_failure e)
+            (field_fails readable begun o.bytes name has.still.free h g (write_failure e) taken after key v o.spare has.bytes by_level (subst (λ n. IsUnder (at_key n) h g) has.still.named inner) is),
       )
 
 -- ---- a call of the wrong form
@@ -178,16 +182,20 @@ module _ (w : VariantWriter) (left : Bytes) (e : Error) (h : Halt) (mid : Output
       let o = has.still in
       let long = items_length readable begun w.out.now.bytes name o.free w.pair.document.start w.pair.kind_place w.pair.contents.start o.document o.kind o.contents vs has.bytes in
       let m = map_ok (λ x. (behind_name begun name ++ length_place) ++ array_elements 0 x) (spell_items_as readable 0 vs in_variant) w.out.now.bytes has.bytes in
-      let within = in_place begun readable name true w o (omega (arith, ap length m.2, length-append (behind_name begun name ++ length_place) (array_elements 0 m.0), length-append (behind_name begun name) length_place)) in
-      (left_is begun o.document (items_kept begun readable name w vs has) within, pair_fails h w _ _ e long (halts within) is)
+      let within = in_place begun readable name true w o (omega (arith, ap length m.2, length-append (behind_name begun name ++ length_place) (array_elements 0 m.0), length-append (behind_name begun name) length_place)) in (
+        left_is begun o.document (items_kept begun readable name w vs has) within,
+        told readable (tuple_variant name vs) max_levels (size_as readable (tuple_variant name vs)) (write_failure e) (pair_fails h w _ _ e long (halts within) is),
+      )
 
   pub fields_unended : EndsFields w left (Err e)
   fields_unended begun readable name fs has =
       let o = has.still in
       let long = fields_length readable begun w.out.now.bytes name o.free w.pair.document.start w.pair.kind_place w.pair.contents.start o.document o.kind o.contents fs has.bytes in
       let m = map_ok (λ x. (behind_name begun name ++ length_place) ++ elements x) (spell_fields_as readable fs in_variant) w.out.now.bytes has.bytes in
-      let within = in_place begun readable name false w o (omega (arith, ap length m.2, length-append (behind_name begun name ++ length_place) (elements m.0), length-append (behind_name begun name) length_place)) in
-      (left_is begun o.document (fields_kept begun readable name w fs has) within, pair_fails h w _ _ e long (halts within) is)
+      let within = in_place begun readable name false w o (omega (arith, ap length m.2, length-append (behind_name begun name ++ length_place) (elements m.0), length-append (behind_name begun name) length_place)) in (
+        left_is begun o.document (fields_kept begun readable name w fs has) within,
+        told readable (structure_variant name fs) max_levels (size_as readable (structure_variant name fs)) (write_failure e) (pair_fails h w _ _ e long (halts within) is),
+      )
 
 -- a writer that has failed has taken nothing that it could end or go on from
 pub not_open : (begun : Bytes) (readable : Bool) (name : Utf8) (tuple : Bool) (w : VariantWriter) → w.failed ≡ true → IsOpen begun readable name tuple w → ⊥

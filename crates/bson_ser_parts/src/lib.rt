@@ -8,4 +8,5 @@ mod refusal;
 mod variant;
 
 pub use document::DocumentWriter;
+pub use refusal::{failed_before, refused_for, take_back};
 pub use variant::VariantWriter;

@@ -198,7 +198,10 @@ any_of f r total h (inl want) is = absurd cc
 any_of f r total h (inr (inl due)) is = absurd (due_else r f h due is)
 any_of f r total h (inr (inr long)) is = long.1
 
--- what fails with `TooLong` has more bytes than a document may
+-- what fails with `TooLong` has more bytes than a document may: a value as a part, and a whole document
+pub part_too_long : (readable : Bool) (v : Value) (levels total : ℕ) (f : Failure WriteFault) → Fails total (spell_as readable v levels) f → f ≡ too_long_failure → max_bytes < total
+part_too_long readable v levels total f h is = any_of f (spell_as readable v levels) total (spell_else readable v levels) h is
+
 pub only_too_long : (v : Value) (f : Failure WriteFault) → Fails (size v) (spell_document v) f → f ≡ too_long_failure → max_bytes < size v
 only_too_long v f h is = any_of f (spell_document v) (size v) (top_else (kind_of v) (spell v max_levels) (spell_else false v max_levels)) h is
 
