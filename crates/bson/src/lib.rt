@@ -8,6 +8,7 @@
 //! | shapes | `Shape`; `FieldShape`, `VariantShape` and `VariantContent` to make one without its notation; `Form`, `Leaf` and `Named` to look at one |
 //! | reading and writing | `from_slice_at`, `from_slice_utf8_lossy_at`; `to_vec_at`, `to_buf`, `to_vec_counted`; `Datum` and its parts `Field`, `Entry`, `Text`, `ByteStr`, `RawDoc`, `RawArr`, `Double` |
 //! | writing to trees | `to_bson_at`, `to_document_at`, and with options; `Serializer`, with a writer for each form of value that is handed in part by part; `SerializerOptions` |
+//! | writing part by part | `DocumentWriter`, `VariantWriter`, `ValueWriter`, over an `Out` |
 //! | both at once | `recast`, `recast_utf8_lossy`, `recast_to_buf` |
 //! | the shape of documents | `infer` |
 //! | trees | `Bson`, `Document` with `Iter` and `IntoIter`, and the types of values, such as `ObjectId`, `DateTime` and `Binary`; `read_value` and `Met` to read from one |
@@ -134,6 +135,43 @@
 //! pub fn person_document(alloc: Global, name: &str, age: u8) -> ser::Result<Document> {
 //!     let person = person(alloc, name, age)?;
 //!     to_document_at(alloc, &person)
+//! }
+//! ```
+//!
+//! # Writing part by part
+//!
+//! A document or an array is written without a `Datum` of the whole: `DocumentWriter` appends its parts to an `Out` as they are handed in, `VariantWriter` those of a
+//! variant, and `ValueWriter` a value that serde's data model lacks, by the fields of its struct. `Serializer` makes trees so. Each part is refused as it would be in the
+//! whole value; behind a refusal the `Out` holds what it held before.
+//!
+//! `bson_examples/src/parts.rt`:
+//!
+//! ```rust
+//! use bson::{Bson, Datum, DocumentWriter, Out, Serializer, Steps, Tally, Text, ser};
+//! use std::alloc::Global;
+//!
+//! /// The bytes of the document that a person is written as, field by field.
+//! pub fn person_by_fields(alloc: Global, name: &str, age: u8) -> ser::Result<Vec<u8>> {
+//!     let mut steps = Steps::<Tally>::new();
+//!     let mut out = Out::new(alloc);
+//!     let mut person = DocumentWriter::start(&mut out, false, false, &mut steps)?;
+//!     person.entry(&text("name"), &text(name), &mut steps)?;
+//!     person.entry(&text("age"), &Datum::U8(age), &mut steps)?;
+//!     person.end(&mut steps)?;
+//!     Ok(out.into_vec())
+//! }
+//!
+//! /// The same document in memory.
+//! pub fn person_tree_by_fields(alloc: Global, name: &str, age: u8) -> ser::Result<Bson> {
+//!     let mut person = Serializer::new().serialize_struct(alloc);
+//!     person.serialize_field("name", &text(name))?;
+//!     person.serialize_field("age", &Datum::U8(age))?;
+//!     person.end()
+//! }
+//!
+//! /// A text as a value, borrowed.
+//! fn text(text: &str) -> Datum<'_> {
+//!     Datum::Str(Text::Borrowed(text))
 //! }
 //! ```
 //!
@@ -489,6 +527,7 @@ pub use bson_ser_tree::to_bson_at;
 pub use bson_ser_tree::to_bson_with_options_at;
 pub use bson_ser_tree::to_document_at;
 pub use bson_ser_tree::to_document_with_options_at;
+pub use bson_ser_value::ValueWriter;
 pub use bson_shape::FieldShape;
 pub use bson_shape::Form;
 pub use bson_shape::Leaf;

@@ -4,6 +4,7 @@
 mod accessors;
 mod extended;
 mod files;
+mod parts;
 mod places;
 mod raw_documents;
 mod reading;
@@ -15,6 +16,7 @@ mod writing;
 pub use accessors::{age_of, first_city};
 pub use extended::{event, id_of};
 pub use files::{at_shape, longest};
+pub use parts::{person_by_fields, person_tree_by_fields};
 pub use places::{refusal, refused_key};
 pub use raw_documents::total;
 pub use reading::age;

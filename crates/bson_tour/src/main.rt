@@ -10,6 +10,7 @@ use std::test::Fail;
 fn main(rt: HostRuntime) -> Result<(), Fail> {
     let alloc = rt.alloc();
     people::print_person(&rt, alloc)?;
+    people::print_parts(&rt, alloc)?;
     people::print_city(&rt, alloc)?;
     people::print_upgrades(&rt, alloc)?;
     people::print_tree(&rt, alloc)?;

@@ -23,6 +23,16 @@ pub fn print_person(rt: &impl Print, alloc: Global) -> Result<(), Fail> {
     )
 }
 
+/// A person is written field by field.
+pub fn print_parts(rt: &impl Print, alloc: Global) -> Result<(), Fail> {
+    let bytes = person_by_fields(alloc, "Ada", 36)?;
+    print_bytes(rt, alloc, "person_by_fields", &bytes)?;
+    match person_tree_by_fields(alloc, "Ada", 36)? {
+        Bson::Document(tree) => print_written(rt, alloc, "person_tree_by_fields", &tree),
+        _ => Err(Fail::from("no document")),
+    }
+}
+
 /// The age of a person who was read.
 fn print_age(rt: &impl Print, alloc: Global, shape: &Shape) -> Result<(), Fail> {
     let person = from_slice_at(alloc, shape, ADA)?;
