@@ -6,12 +6,12 @@ use Rattle.std.proofs.lemmas.Str.{encode_ascii, length-encode, len_utf8_bounds}
 use Rattle.bson_base.specs.Text.{Utf8}
 use Rattle.bson_shape.specs.Notation.{begins_bare, in_bare, names_form, is_escaped}
 use Rattle.bson_base.specs.Outcome.{◌>>=◌}
-use Rattle.bson_shape.specs.Machine.{Refusal, Not_notation, Group, Braces, Closed_braces, Parens, Angles, Level, In_prefix, In_brackets, In_pair, In_compact, In_map, In_item, Owner, Form_at, Item_of, Mode, Form_due, Pair_due, Item_due, Bare, Quoted, Escape, Named, Item_done, Done, State, grown, closing, item_ended, wrapped, enclosed, form_ended, begins_name, begins_form, form_due, name_due, field_due, item_begun, item_due, named, word_ended, leaf_ended, bare_name, quoted_name, escape, step, no_more, no_more_behind, other_character, run}
+use Rattle.bson_shape.specs.Machine.{Refusal, Not_notation, Group, Braces, Closed_braces, Parens, Angles, Table, Level, In_prefix, In_brackets, In_pair, In_compact, In_map, In_item, Owner, Form_at, Item_of, Reference_at, Mode, Form_due, Percent, Ampersand, At, Behind_sign, Item_due, Bare, Quoted, Escape, Named, Item_done, Done, State, grown, closing, item_ended, wrapped, enclosed, form_ended, begins_name, begins_form, form_due, name_due, field_due, item_begun, item_due, named, word_ended, leaf_ended, bare_name, quoted_name, escape, step, no_more, no_more_behind, other_character, run}
 use Rattle.bson_shape.proofs.NameRuns.{run_step, run_refused}
 use Rattle.std.proofs.lemmas.Bool.Decides.{nat_tests}
 use Rattle.bson_shape.specs.Answers.{Gives}
 use Rattle.bson_shape.specs.declared.error.ParseError.{ParseError}
-use Rattle.bson_shape.specs.Form.{Form, leaf}
+use Rattle.bson_shape.specs.Form.{Form, leaf, reference}
 use Rattle.bson_shape.specs.Leaf.{of_word}
 use Rattle.bson_shape.specs.declared.leaf.Leaf.{Leaf}
 use Rattle.std.proofs.Common.{Option, Some, None}
@@ -58,6 +58,7 @@ not_closing (Braces h fs) b l = not_byte b 125 l (omega arith)
 not_closing (Closed_braces place n fs) b l = not_byte b 125 l (omega arith)
 not_closing (Parens h ps) b l = not_byte b 41 l (omega arith)
 not_closing (Angles e) b l = not_byte b 62 l (omega arith)
+not_closing (Table place h) b l = not_byte b 41 l (omega arith)
 
 -- behind an item, a form or a name there is no such byte
 item_refused : (at : ℕ) (g : Group) (st : List Level) (b : ℕ) → 128 ≤ b → item_ended at g st b ≡ Err (Not_notation at)
@@ -76,12 +77,20 @@ ended_refused : (at : ℕ) (f : Form) (st : List Level) (b : ℕ) → 128 ≤ b 
 unfolding form_ended
 ended_refused at f st b h = ap (λ k. wrapped at f st >>= k) (λ i e. enclosed_refused at e.0 e.1 b h i)
 
-named_refused : (at : ℕ) (owner : Owner) (n : Utf8) (st : List Level) (b : ℕ) → 128 ≤ b → named at owner n st b ≡ Err (Not_notation at)
+-- behind a name no such byte is taken; that of a reference ends there
+abbrev taken_behind : ℕ → Owner → Utf8 → List Level → Result State Refusal
+taken_behind at (Form_at p) n st = Err (Not_notation at)
+taken_behind at (Item_of g) n st = Err (Not_notation at)
+taken_behind at (Reference_at p) n st = no_more at (reference n) st
+
+named_refused : (at : ℕ) (owner : Owner) (n : Utf8) (st : List Level) (b : ℕ) → 128 ≤ b → named at owner n st b ≡ taken_behind at owner n st
 unfolding named
 named_refused at (Form_at p) n st b h = rw (not_byte b 61 h (omega arith), not_byte b 33 h (omega arith), not_byte b 40 h (omega arith), not_byte b 123 h (omega arith)) refl
 named_refused at (Item_of (Braces k fs)) n st b h = rw (not_byte b 58 h (omega arith)) refl
 named_refused at (Item_of (Closed_braces p m fs)) n st b h = rw (not_byte b 58 h (omega arith)) refl
 named_refused at (Item_of (Parens k ps)) n st b h = refl
+named_refused at (Item_of (Table p k)) n st b h = rw (not_byte b 61 h (omega arith)) refl
+named_refused at (Reference_at p) n st b h = ended_refused at (reference n) st b h
 named_refused at (Item_of (Angles e)) n st b h = rw (not_byte b 61 h (omega arith), not_byte b 40 h (omega arith), not_byte b 123 h (omega arith), not_byte b 44 h (omega arith), not_byte b 62 h (omega arith)) refl
 
 leaf_refused : (o : Option Leaf) (at : ℕ) (st : List Level) (b : ℕ) → 128 ≤ b → leaf_ended at o st b ≡ no_more_behind at o st
@@ -96,6 +105,10 @@ item_word_refused : (at : ℕ) (g : Group) (n : Utf8) (st : List Level) (b : ℕ
 unfolding word_ended
 item_word_refused at g n st b h = named_refused at (Item_of g) n st b h
 
+reference_refused : (at place : ℕ) (n : Utf8) (st : List Level) (b : ℕ) → 128 ≤ b → word_ended at (Reference_at place) n st b ≡ no_more at (reference n) st
+unfolding word_ended
+reference_refused at place n st b h = named_refused at (Reference_at place) n st b h
+
 due_refused : (at : ℕ) (g : Group) (st : List Level) (b : ℕ) → 128 ≤ b → item_due at g st b ≡ Err (Not_notation at)
 unfolding item_due item_begun field_due name_due form_due
 due_refused at g st b h = rw (not_closing g b h) (begun g)
@@ -105,19 +118,25 @@ due_refused at g st b h = rw (not_closing g b h) (begun g)
     begun (Closed_braces p m fs) = rw (not_quote b h) refl
     begun (Parens k ps) = rw (not_form b h) refl
     begun (Angles e) = rw (not_quote b h) refl
+    begun (Table p k) = rw (not_quote b h) refl
 
 -- such a byte is read between quotes alone
 pub high_step : (at : ℕ) (m : Mode) (st : List Level) (b : ℕ) → 128 ≤ b → step at m st b ≡ other_character at m st (b ∷ [])
 unfolding step form_due bare_name quoted_name escape other_character
 high_step at Form_due st b h = rw (not_form b h) refl
-high_step at (Pair_due place) st b h = rw (not_byte b 40 h (omega arith)) refl
+high_step at (Behind_sign Percent place) st b h = rw (not_byte b 40 h (omega arith)) refl
+high_step at (Behind_sign Ampersand place) st b h = rw (not_byte b 40 h (omega arith)) refl
+high_step at (Behind_sign At place) st b h = rw (not_quote b h) refl
 high_step at (Item_due g) st b h = due_refused at g st b h
 high_step at (Item_done g) st b h = item_refused at g st b h
 high_step at (Bare (Form_at p) n) st b h = rw (not_in_bare b h) (word_refused at p n st b h)
 high_step at (Bare (Item_of g) n) st b h = rw (not_in_bare b h) (item_word_refused at g n st b h)
+high_step at (Bare (Reference_at p) n) st b h = rw (not_in_bare b h) (reference_refused at p n st b h)
 high_step at (Quoted owner n) st b h = rw (not_byte b 34 h (omega arith), not_byte b 92 h (omega arith)) refl
 high_step at (Escape owner n) st b h = rw (not_escaped b h) refl
-high_step at (Named owner n) st b h = named_refused at owner n st b h
+high_step at (Named (Form_at p) n) st b h = named_refused at (Form_at p) n st b h
+high_step at (Named (Item_of g) n) st b h = named_refused at (Item_of g) n st b h
+high_step at (Named (Reference_at p) n) st b h = named_refused at (Reference_at p) n st b h
 high_step at (Done f) st b h = ended_refused at f st b h
 
 quoted_other : (at : ℕ) (owner : Owner) (n : Utf8) (st : List Level) (bs : Utf8) → other_character at (Quoted owner n) st bs ≡ Ok (Quoted owner (n ++ bs), st)
@@ -152,6 +171,8 @@ high_run : (bs : Utf8) (b at : ℕ) (m : Mode) (st : List Level) → AreHigh (b 
 unfolding other_character
 high_run bs b at (Quoted owner n) st h = quoted_high (b ∷ bs) at owner n st h
 high_run bs b at (Bare (Form_at p) n) st h = word_high (of_word n) bs b at (Bare (Form_at p) n) st h.0 refl
+high_run bs b at (Bare (Reference_at p) n) st h = ended_high (reference n) bs b at (Bare (Reference_at p) n) st h.0 refl
+high_run bs b at (Named (Reference_at p) n) st h = ended_high (reference n) bs b at (Named (Reference_at p) n) st h.0 refl
 high_run bs b at (Done f) st h = ended_high f bs b at (Done f) st h.0 refl
 high_run bs b at m st h = refused_high bs b at m st h.0 refl
 

@@ -3,12 +3,12 @@ use Rattle.std.proofs.Common.{◌≡◌, ℕ, Bool, true, false, ◌&&◌, List,
 use Rattle.std.specs.List.{list_all}
 use Rattle.std.specs.Str.{is_utf8}
 use Rattle.bson_base.specs.Text.{Utf8}
-use Rattle.bson_shape.specs.Form.{dropped, Form, by_mode, sequence, map, unit_structure, structure, enumeration, no_fields, unit_content}
+use Rattle.bson_shape.specs.Form.{dropped, Form, by_mode, sequence, map, unit_structure, structure, enumeration, reference, definitions, no_fields, unit_content}
 use Rattle.bson_shape.specs.Notation.{begins_bare, in_bare, bare, escaped, quoted, name_text, text}
-use Rattle.bson_shape.specs.Machine.{Group, Braces, Closed_braces, Parens, Angles, Level, In_prefix, In_brackets, In_pair, In_compact, In_map, In_item, Owner, Form_at, Item_of, Mode, Form_due, Pair_due, Item_due, Bare, Quoted, Escape, Named, Item_done, Done, State, grown, grown_enum, closing, Closed, Closed_form, Closed_variant, closed, prefixed}
+use Rattle.bson_shape.specs.Machine.{Group, Braces, Closed_braces, Parens, Angles, Table, Prefix, Option_prefix, Lossy_prefix, Readable_prefix, Newtype_prefix, Definitions_prefix, Level, In_prefix, In_brackets, In_pair, In_compact, In_map, In_item, Owner, Form_at, Item_of, Reference_at, Mode, Form_due, Percent, Ampersand, At, Behind_sign, Item_due, Bare, Quoted, Escape, Named, Item_done, Done, State, grown, grown_enum, closing, Closed, Closed_form, Closed_variant, Closed_prefix, closed, prefixed}
 use Rattle.bson_shape.specs.Fronts.{HasTextNames, goes_on, BeginsNotation}
-use Rattle.bson_shape.proofs.TextStates.{TextGroup, TextOwner, TextLevels, TextMode, TextState, text-nil, text-one, text-push, variants_texts-snoc, names-grown, names-closed, names-prefixed}
-use Rattle.bson_shape.proofs.States.{group_text, due_text, owner_text, levels_text, mode_text, written, ValidMode, grown_text, grown_enum_text, levels_grown, after, closed_text, closing-alone, levels_prefixed, levels_item, levels_value, levels_compact, levels_sample, name-bare, name-quoted}
+use Rattle.bson_shape.proofs.TextStates.{TextGroup, TextOwner, TextLevels, TextMode, TextClosed, TextState, text-nil, text-one, text-push, variants_texts-snoc, names-grown, names-closed, names-prefixed}
+use Rattle.bson_shape.proofs.States.{group_text, due_text, owner_text, levels_text, mode_text, written, ValidMode, grown_text, grown_enum_text, levels_grown, prefix_text, closed_bytes, closed_text, closing-alone, levels_prefixed, levels_item, levels_value, levels_compact, levels_sample, name-bare, name-quoted}
 use Rattle.bson_shape.proofs.Steps.{escaped-plain, escaped-marked}
 
 -- a form whose text begins with these bytes
@@ -35,14 +35,25 @@ before_byte xs b ended h = record { whole = record { form = h.form; names = h.na
 abbrev Closes : Utf8 → Type 0
 Closes xs = (f : Form) → HasTextNames f → Closing (xs ++ text f)
 
--- a group closes, and so does the enum around a variant
+prefixed_text : (p : Prefix) (f : Form) → text (prefixed p f) ≡ prefix_text p ++ text f
+prefixed_text Option_prefix f = refl
+prefixed_text Lossy_prefix f = refl
+prefixed_text Readable_prefix f = refl
+prefixed_text (Newtype_prefix n) f = sym (append_assoc (name_text n) (61 ∷ []) (text f))
+prefixed_text (Definitions_prefix h) f = refl
+
+-- a group closes, and so does the enum around a variant, or the form behind a prefix
 group_closes : (g : Group) (xs : Utf8) → TextGroup g → Closes xs → Closing (xs ++ group_text g)
 group_closes g xs t close =
     before_byte (xs ++ group_text g) (closing g) (closing-alone g)
     (subst Completion (ap (λ ys. xs ++ ys) (closed_text g) ∙ sym (append_assoc xs (group_text g) (closing g ∷ []))) (ended (closed g) (names-closed g t)))
   where
-    ended : (c : Closed) → TextMode (after c) → Completion (xs ++ mode_text (after c))
+    ended : (c : Closed) → TextClosed c → Completion (xs ++ closed_bytes c)
     ended (Closed_form place f) t = (close f t).whole
+    ended (Closed_prefix place p) t =
+        let f = structure dropped [] no_fields in
+        front (xs ++ prefix_text p) (text f)
+        (subst Completion (ap (λ ys. xs ++ ys) (prefixed_text p f) ∙ sym (append_assoc xs (prefix_text p) (text f))) (close (prefixed p f) (names-prefixed p f t (text-nil, tt))).whole)
     ended (Closed_variant e) t =
         let g = Angles e in
         (before_byte (xs ++ group_text g) 62 refl (subst Completion (sym (append_assoc xs (group_text g) (62 ∷ []))) (close (enumeration e.variants) t).whole)).whole
@@ -123,21 +134,24 @@ sampled : Group → Utf8 → Group
 sampled (Braces h fs) n = grown (Braces h fs) n (structure dropped [] no_fields)
 sampled (Closed_braces place m fs) n = grown (Closed_braces place m fs) n (structure dropped [] no_fields)
 sampled (Parens h ps) n = grown (Parens h ps) [] (unit_structure n)
+sampled (Table place h) n = grown (Table place h) n (structure dropped [] no_fields)
 sampled (Angles e) n = Angles (grown_enum e n unit_content)
 
 behind_sample : Group → Utf8
 behind_sample (Braces h fs) = 58 ∷ 123 ∷ 125 ∷ []
-behind_sample (Closed_braces place m fs) = 58 ∷ 123 ∷ 125 ∷ []
+behind_sample (Closed_braces place n fs) = 58 ∷ 123 ∷ 125 ∷ []
 behind_sample (Parens h ps) = 33 ∷ []
+behind_sample (Table place h) = 61 ∷ 123 ∷ 125 ∷ []
 behind_sample (Angles e) = []
 
-field_sampled : (a b : Utf8) → (a ++ (b ++ 58 ∷ [])) ++ (123 ∷ 125 ∷ []) ≡ a ++ (b ++ (58 ∷ 123 ∷ 125 ∷ []))
-field_sampled a b = simp append_assoc
+field_sampled : (c : ℕ) (a b : Utf8) → (a ++ (b ++ c ∷ [])) ++ (123 ∷ 125 ∷ []) ≡ a ++ (b ++ (c ∷ 123 ∷ 125 ∷ []))
+field_sampled c a b = simp append_assoc
 
 sampled_text : (g : Group) (n : Utf8) → group_text (sampled g n) ≡ due_text g ++ (name_text n ++ behind_sample g)
 unfolding sampled behind_sample
-sampled_text (Braces h fs) n = grown_text (Braces h fs) n (structure dropped [] no_fields) ∙ field_sampled (due_text (Braces h fs)) (name_text n)
-sampled_text (Closed_braces place m fs) n = grown_text (Closed_braces place m fs) n (structure dropped [] no_fields) ∙ field_sampled (due_text (Closed_braces place m fs)) (name_text n)
+sampled_text (Braces h fs) n = grown_text (Braces h fs) n (structure dropped [] no_fields) ∙ field_sampled 58 (due_text (Braces h fs)) (name_text n)
+sampled_text (Closed_braces place m fs) n = grown_text (Closed_braces place m fs) n (structure dropped [] no_fields) ∙ field_sampled 58 (due_text (Closed_braces place m fs)) (name_text n)
+sampled_text (Table place h) n = grown_text (Table place h) n (structure dropped [] no_fields) ∙ field_sampled 61 (due_text (Table place h)) (name_text n)
 sampled_text (Parens h ps) n = grown_text (Parens h ps) [] (unit_structure n) ∙ ap (λ xs. xs ++ (name_text n ++ 33 ∷ [])) (append-nil (due_text (Parens h ps)))
 sampled_text (Angles e) n = grown_enum_text e n unit_content ∙ append_assoc (due_text (Angles e)) (name_text n) []
 
@@ -146,6 +160,7 @@ unfolding sampled
 sampled_names (Braces h fs) n k t = names-grown (Braces h fs) n (structure dropped [] no_fields) k t (text-nil, tt)
 sampled_names (Closed_braces place m fs) n k t = names-grown (Closed_braces place m fs) n (structure dropped [] no_fields) k t (text-nil, tt)
 sampled_names (Parens h ps) n k t = names-grown (Parens h ps) [] (unit_structure n) k text-nil t
+sampled_names (Table place h) n k t = names-grown (Table place h) n (structure dropped [] no_fields) k t (text-nil, tt)
 sampled_names (Angles e) n k t = variants_texts-snoc e.variants n unit_content k t tt
 
 with_owner : (owner : Owner) (bytes : Utf8) → TextOwner owner → NameCompletion bytes → Completion (owner_text owner ++ bytes)
@@ -155,6 +170,7 @@ with_owner (Form_at place) bytes v c = record {
   rest = c.rest ++ 33 ∷ [];
   begins = ap (λ xs. xs ++ 33 ∷ []) c.begins ∙ append_assoc bytes c.rest (33 ∷ []);
 }
+with_owner (Reference_at place) bytes v c = record { form = reference c.name; names = c.is_text; rest = c.rest; begins = ap (λ xs. 64 ∷ xs) c.begins }
 with_owner (Item_of g) bytes v c =
     front (due_text g ++ bytes) (c.rest ++ behind_sample g)
     (subst Completion (sampled_text g c.name ∙ ap (λ xs. due_text g ++ (xs ++ behind_sample g)) c.begins ∙ regrouped (due_text g) bytes c.rest (behind_sample g))
@@ -165,9 +181,11 @@ with_owner (Item_of g) bytes v c =
 
 completion : (m : Mode) → ValidMode m → TextMode m → Completion (mode_text m)
 completion Form_due v t = record { form = structure dropped [] no_fields; names = (text-nil, tt); rest = 123 ∷ 125 ∷ []; begins = refl }
-completion (Pair_due place) v t =
+completion (Behind_sign Percent place) v t =
     let none = structure dropped [] no_fields in
     record { form = by_mode none none; names = ((text-nil, tt), (text-nil, tt)); rest = 40 ∷ 123 ∷ 125 ∷ 44 ∷ 123 ∷ 125 ∷ 41 ∷ []; begins = refl }
+completion (Behind_sign Ampersand place) v t = record { form = definitions no_fields (structure dropped [] no_fields); names = (tt, (text-nil, tt)); rest = 40 ∷ 41 ∷ 123 ∷ 125 ∷ []; begins = refl }
+completion (Behind_sign At place) v t = record { form = reference (97 ∷ []); names = text-one 97 (omega arith); rest = 97 ∷ []; begins = refl }
 completion (Item_due g) v t = front (due_text g) (97 ∷ []) (with_owner (Item_of g) (97 ∷ []) t (complete_bare (97 ∷ []) refl (text-one 97 (omega arith))))
 completion (Bare owner n) v t = with_owner owner n t.0 (complete_bare n v t.1)
 completion (Quoted owner n) v t = with_owner owner (34 ∷ escaped n) t.0 (complete_quoted n t.1)

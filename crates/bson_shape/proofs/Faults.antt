@@ -5,14 +5,16 @@ use Rattle.std.proofs.lemmas.Bool.Decides.{nat_tests}
 use Rattle.std.proofs.lemmas.List.Elements.{Contains-append_left, Contains-append_right}
 use Rattle.bson_base.specs.Text.{Utf8}
 use Rattle.bson_base.specs.Reserved.{reserved_kind}
-use Rattle.bson_shape.specs.Form.{UnknownFields, Form, leaf, optional, lossy, human_readable, by_mode, sequence, map, tuple, tuple_structure, newtype, unit_structure, structure, enumeration, Fields, no_fields, field, Parts, no_parts, part, Variants, no_variants, variant, Content, unit_content, newtype_content, tuple_content, struct_content}
+use Rattle.bson_shape.specs.Form.{UnknownFields, Form, leaf, optional, lossy, human_readable, by_mode, sequence, map, tuple, tuple_structure, newtype, unit_structure, structure, enumeration, reference, definitions, Fields, no_fields, field, Parts, no_parts, part, Variants, no_variants, variant, Content, unit_content, newtype_content, tuple_content, struct_content}
+use Rattle.bson_shape.specs.Guarded.{is_guarded}
+use Rattle.bson_shape.proofs.Chains.{unguarded_back}
 use Rattle.bson_shape.specs.Levels.{levels, deepest, deepest_part, deepest_variant, deepest_inside}
 use Rattle.bson_shape.specs.Makers.{is_text_key, is_reserved_newtype, repeats, variants_repeat, within_levels, made_form}
-use Rattle.bson_shape.specs.Notation.{text, name_text, struct_name_text, opening_struct, content_text}
+use Rattle.bson_shape.specs.Notation.{text, name_text, struct_name_text, opening_struct, in_parens, definition_texts, content_text}
 use Rattle.bson_shape.specs.FirstRefusal.{MakerRefusal, or_else, too_deep, refusal_of, form_refusal, first_refusal, fields_refusal, parts_refusal, variants_refusal, content_refusal}
 use Rattle.bson_shape.specs.InnerForms.{Inner, inner_forms, field_forms, part_forms, variant_forms, content_forms, HasCause, HasFault}
 use Rattle.bson_shape.specs.declared.error.ShapeError.{ShapeError}
-use Rattle.bson_shape.specs.declared.error.ShapeError.TheVariants.{ReservedName, RepeatedName, KeyNotText, TooDeep}
+use Rattle.bson_shape.specs.declared.error.ShapeError.TheVariants.{ReservedName, RepeatedName, KeyNotText, Unguarded, TooDeep}
 use Rattle.bson_shape.proofs.Made.{within_levels-few}
 
 -- the first, or the later one
@@ -69,6 +71,14 @@ mutual
   fits (newtype name f) at around e =
       let inner = at + length (name_text name) + 1 in
       omega (arith, fits f inner (around + 1) (none_here (newtype name f) at around (first_refusal inner (around + 1) f) e).1)
+  fits (reference name) at around e = omega (arith, none_here (reference name) at around None e)
+  fits (definitions h f) at around e =
+      let body = at + 1 + length (in_parens (definition_texts h)) in
+      let a = fields_refusal (at + 2) (around + 1) h in
+      let b = first_refusal body (around + 1) f in
+      let n = none_here (definitions h f) at around (or_else a b) e in
+      let both = neither a b n.1 in
+      omega (arith, fields_fit h (at + 2) (around + 1) n.0 both.0, fits f body (around + 1) both.1)
   fits (unit_structure name) at around e = omega (arith, none_here (unit_structure name) at around None e)
   fits (structure u name fs) at around e =
       let inner = at + length (struct_name_text name) + length (opening_struct u) in
@@ -78,7 +88,7 @@ mutual
   fields_fit no_fields at around few e = omega arith
   fields_fit (field n f fs) at around few e =
       let inner = at + length (name_text n) + 1 in
-      let next = at + length (name_text n ++ 58 ∷ text f) + 1 in
+      let next = at + length (name_text n) + 1 + length (text f) + 1 in
       let both = neither (first_refusal inner around f) (fields_refusal next around fs) e in
       omega (arith, fits f inner around both.0, fields_fit fs next around few both.1)
 
@@ -159,6 +169,12 @@ enum_fault : (a : Bool) (vs : Variants) (met at around : ℕ) (rest : List Inner
 enum_fault true vs met at around rest r p few e = here_fault (record { place = at; around = around; form = enumeration vs }) rest met RepeatedName r p e
 enum_fault false vs met at around rest r p few e = absurd (none_made (enumeration vs) met at r few e)
 
+definitions_fault : (a b : Bool) (h : Fields) (f : Form) (met at around : ℕ) (rest : List Inner) (r : MakerRefusal) → repeats h ≡ a → is_guarded h ≡ b → levels (definitions h f) ≤ 512
+    → refusal_of met at (cond a (Err RepeatedName) (cond b (within_levels (definitions h f)) (Err Unguarded))) ≡ Some r → FaultIn (record { place = at; around = around; form = definitions h f } ∷ rest) r
+definitions_fault true b h f met at around rest r p q few e = here_fault (record { place = at; around = around; form = definitions h f }) rest met RepeatedName r p e
+definitions_fault false true h f met at around rest r p q few e = absurd (none_made (definitions h f) met at r few e)
+definitions_fault false false h f met at around rest r p q few e = here_fault (record { place = at; around = around; form = definitions h f }) rest met Unguarded r (unguarded_back h q) e
+
 -- of a form of few levels a cause holds that its maker tells
 made_fault : (f : Form) (met at around : ℕ) (rest : List Inner) (r : MakerRefusal) → levels f ≤ 512 → refusal_of met at (made_form f) ≡ Some r → FaultIn (record { place = at; around = around; form = f } ∷ rest) r
 made_fault (leaf l) met at around rest r few e = absurd cc
@@ -173,6 +189,8 @@ made_fault (tuple_structure n ps) met at around rest r few e = absurd (none_made
 made_fault (enumeration vs) met at around rest r few e = enum_fault (variants_repeat vs) vs met at around rest r refl few e
 made_fault (newtype n f) met at around rest r few e = newtype_fault (is_reserved_newtype n) n f met at around rest r refl few e
 made_fault (unit_structure n) met at around rest r few e = absurd cc
+made_fault (reference n) met at around rest r few e = absurd cc
+made_fault (definitions h f) met at around rest r few e = definitions_fault (repeats h) (is_guarded h) h f met at around rest r refl refl few e
 made_fault (structure u n fs) met at around rest r few e = struct_fault (is_some (reserved_kind n)) (repeats fs) u n fs met at around rest r refl refl few e
 
 under : (i : Inner) (is : List Inner) (r : MakerRefusal) → FaultIn is r → FaultIn (i ∷ is) r
@@ -197,6 +215,20 @@ mutual
   form_fault : (f : Form) (at around : ℕ) (r : MakerRefusal) → around ≤ 512 → first_refusal at around f ≡ Some r → FaultIn (inner_forms at around f) r
   form_fault (leaf l) at around r few e = around_fault (leaf l) [] None at around r few (λ less g. absurd cc) (λ less none. omega (arith, less)) e
   form_fault (unit_structure n) at around r few e = around_fault (unit_structure n) [] None at around r few (λ less g. absurd cc) (λ less none. omega (arith, less)) e
+  form_fault (reference n) at around r few e = around_fault (reference n) [] None at around r few (λ less g. absurd cc) (λ less none. omega (arith, less)) e
+  form_fault (definitions h f) at around r few e =
+      let body = at + 1 + length (in_parens (definition_texts h)) in
+      let a = fields_refusal (at + 2) (around + 1) h in
+      let b = first_refusal body (around + 1) f in
+      let in_table = field_forms (at + 2) (around + 1) h in
+      let in_body = inner_forms body (around + 1) f in
+      around_fault (definitions h f) (in_table ++ in_body) (or_else a b) at around r few
+      (λ less g. elim (one_of a b r g) [
+        | inl k ↦ in_first in_table in_body r (fields_fault h (at + 2) (around + 1) r less k)
+        | inr k ↦ in_later in_table in_body r (form_fault f body (around + 1) r less k.1)
+      ])
+      (λ less none. let both = neither a b none in omega (arith, fields_fit h (at + 2) (around + 1) less both.0, fits f body (around + 1) both.1))
+      e
   form_fault (optional f) at around r few e =
       around_fault (optional f) (inner_forms (at + 1) (around + 1) f) (first_refusal (at + 1) (around + 1) f) at around r few
       (λ less g. form_fault f (at + 1) (around + 1) r less g) (λ less none. omega (arith, fits f (at + 1) (around + 1) none)) e
@@ -260,7 +292,7 @@ mutual
   fields_fault no_fields at around r few e = absurd cc
   fields_fault (field n f fs) at around r few e =
       let inner = at + length (name_text n) + 1 in
-      let next = at + length (name_text n ++ 58 ∷ text f) + 1 in
+      let next = at + length (name_text n) + 1 + length (text f) + 1 in
       elim (one_of (first_refusal inner around f) (fields_refusal next around fs) r e) [
         | inl h ↦ in_first (inner_forms inner around f) (field_forms next around fs) r (form_fault f inner around r few h)
         | inr h ↦ in_later (inner_forms inner around f) (field_forms next around fs) r (fields_fault fs next around r few h.1)

@@ -2,18 +2,18 @@
 use Rattle.std.proofs.Common.{◌≡◌, ℕ, ◌+◌, Bool, true, false, cond, ◌||◌, List, [], ◌∷◌, ◌++◌, length, Option, Some, None, Result, Ok, Err, refl, sym, ap, ◌∙◌, subst, arith, append_assoc, append-nil, length-append}
 use Rattle.std.specs.Prelude.{nat_le, IfOk}
 use Rattle.bson_base.specs.Text.{Utf8}
-use Rattle.bson_shape.specs.Form.{dropped, denied, Form, leaf, optional, lossy, human_readable, by_mode, sequence, map, tuple, tuple_structure, newtype, unit_structure, structure, enumeration, Fields, no_fields, field, joined, push_field, Parts, no_parts, part, joined_parts, push_part, Variants, no_variants, variant, joined_variants, Content, unit_content, newtype_content, tuple_content, struct_content}
+use Rattle.bson_shape.specs.Form.{dropped, denied, Form, leaf, optional, lossy, human_readable, by_mode, sequence, map, tuple, tuple_structure, newtype, unit_structure, structure, enumeration, reference, definitions, Fields, no_fields, field, joined, push_field, Parts, no_parts, part, joined_parts, push_part, Variants, no_variants, variant, joined_variants, Content, unit_content, newtype_content, tuple_content, struct_content}
 use Rattle.bson_shape.specs.Leaf.{word}
 use Rattle.bson_shape.specs.declared.leaf.Leaf.{Leaf}
 use Rattle.bson_shape.specs.Makers.{made_form}
 use Rattle.bson_shape.specs.declared.error.ShapeError.{ShapeError}
 use Rattle.bson_shape.specs.declared.error.ShapeError.TheVariants.{TooDeep}
 use Rattle.std.specs.List.{list_all}
-use Rattle.bson_shape.specs.Notation.{begins_bare, in_bare, bare, names_form, escaped, quoted, name_text, struct_name_text, opening_struct, after_commas, listed, text, field_texts, part_texts, variant_texts, content_text}
+use Rattle.bson_shape.specs.Notation.{begins_bare, in_bare, bare, names_form, escaped, quoted, name_text, struct_name_text, after_commas, listed, in_parens, opening_struct, text, named_texts, field_texts, definition_texts, part_texts, variant_texts, content_text}
 use Rattle.bson_shape.specs.FirstRefusal.{MakerRefusal, or_else, too_deep, refusal_of, form_refusal, first_refusal, fields_refusal, parts_refusal, variants_refusal, content_refusal}
 use Rattle.bson_shape.specs.Fronts.{goes_on}
 use Rattle.bson_base.specs.Outcome.{◌>>=◌}
-use Rattle.bson_shape.specs.Machine.{Refusal, Refused, OpenEnum, Holder, Nameless_at, Named_at, Variant_of, Group, Braces, Closed_braces, Parens, Angles, Prefix, Option_prefix, Lossy_prefix, Readable_prefix, Newtype_prefix, Level, In_prefix, In_brackets, In_pair, In_compact, In_map, In_item, Owner, Form_at, Item_of, Mode, Form_due, Pair_due, Item_due, Bare, Named, Item_done, Done, State, opened_enum, grown, grown_enum, is_empty, closing, Closed, Closed_form, Closed_variant, closed, prefixed, made, form_closed, bracket_closed, group_closed, item_ended, Ended, wrapped, enclosed, form_ended, begins_name, name_begun, opens_form, begins_form, form_begun, form_due, name_due, field_due, item_begun, item_due, word_ended, bare_name, alone, step, run, finish}
+use Rattle.bson_shape.specs.Machine.{Refusal, Refused, OpenEnum, Holder, Nameless_at, Named_at, Variant_of, Group, Braces, Closed_braces, Parens, Angles, Table, Prefix, Option_prefix, Lossy_prefix, Readable_prefix, Newtype_prefix, Definitions_prefix, Level, In_prefix, In_brackets, In_pair, In_compact, In_map, In_item, Owner, Form_at, Item_of, Reference_at, Mode, Form_due, Percent, Ampersand, At, Behind_sign, Item_due, Bare, Named, Item_done, Done, State, opened_enum, grown, grown_enum, is_empty, closing, Closed, Closed_form, Closed_variant, Closed_prefix, closed, prefixed, made, form_closed, bracket_closed, group_closed, item_ended, Ended, wrapped, enclosed, form_ended, begins_name, name_begun, opens_form, begins_form, form_begun, form_due, name_due, field_due, item_begun, item_due, word_ended, bare_name, alone, step, run, finish}
 use Rattle.bson_shape.proofs.Made.{made_form-made}
 use Rattle.bson_shape.proofs.Shapes.{joined-assoc, joined-none, joined_parts-assoc, joined_parts-none, joined_variants-assoc, joined_variants-none}
 use Rattle.bson_shape.proofs.Words.{and_true, or_false, differs, of_word-word, bare-word}
@@ -48,6 +48,10 @@ settle_both (Some x) b r = refl
 settle_all : (a b c : Option MakerRefusal) (r : Result Form Refusal) → settle a (settle (or_else b c) r) ≡ settle (or_else (or_else a b) c) r
 settle_all None b c r = refl
 settle_all (Some x) b c r = refl
+
+no_more_refused : (x : Option MakerRefusal) (r : Result Form Refusal) → settle (or_else x None) r ≡ settle x r
+no_more_refused None r = refl
+no_more_refused (Some y) r = refl
 
 -- ---- behind a form
 
@@ -105,14 +109,16 @@ closed_read f s st at place b rest h = result_read (made_form f) f s.0 s.1 st at
 abbrev closed_refusal : ℕ → Closed → Option MakerRefusal
 closed_refusal read (Closed_form place f) = refusal_of read place (made_form f)
 closed_refusal read (Closed_variant e) = None
+closed_refusal read (Closed_prefix place p) = None
 
-bracket_read : (c : Closed) (s : State) (st : List Level) (at b : ℕ) (rest : Utf8) → step at s.0 s.1 b ≡ bracket_closed at st c → read at s (b ∷ rest) ≡ settle (closed_refusal (at + 1) c) (read (at + 1) (after c, st) rest)
+bracket_read : (c : Closed) (s : State) (st : List Level) (at b : ℕ) (rest : Utf8) → step at s.0 s.1 b ≡ bracket_closed at st c → read at s (b ∷ rest) ≡ settle (closed_refusal (at + 1) c) (read (at + 1) (after c st) rest)
 bracket_read (Closed_form place f) s st at b rest h = closed_read f s st at place b rest h
 bracket_read (Closed_variant e) s st at b rest h = read_step at s.0 s.1 b rest _ h
+bracket_read (Closed_prefix place p) s st at b rest h = read_step at s.0 s.1 b rest _ h
 
 -- the place of the next byte is named in another way
-moved : (i j : ℕ) (a : Option MakerRefusal) (c : Closed) (st : List Level) (rest : Utf8) → i ≡ j → settle (or_else a (closed_refusal i c)) (read i (after c, st) rest) ≡ settle (or_else a (closed_refusal j c)) (read j (after c, st) rest)
-moved i j a c st rest e = λ k. settle (or_else a (closed_refusal (e k) c)) (read (e k) (after c, st) rest)
+moved : (i j : ℕ) (a : Option MakerRefusal) (c : Closed) (st : List Level) (rest : Utf8) → i ≡ j → settle (or_else a (closed_refusal i c)) (read i (after c st) rest) ≡ settle (or_else a (closed_refusal j c)) (read j (after c st) rest)
+moved i j a c st rest e = λ k. settle (or_else a (closed_refusal (e k) c)) (read (e k) (after c st) rest)
 
 -- ---- the items of a group
 
@@ -126,6 +132,7 @@ item_closes (Braces h fs) at st = refl
 item_closes (Closed_braces place n fs) at st = refl
 item_closes (Parens h ps) at st = refl
 item_closes (Angles e) at st = refl
+item_closes (Table place h) at st = refl
 
 behind_form : (g : Group) (n : Utf8) (f : Form) (st : List Level) → BehindItem (Done f, In_item g n ∷ st) (grown g n f) st
 unfolding step form_ended wrapped
@@ -150,13 +157,13 @@ record ReadsItem (st : List Level) (g : Group) (x : Utf8) (refused : ℕ → Opt
 -- All items to come are read, where the first of them is due; with them the group is the second.
 abbrev ReadsAll : List Level → Group → List Utf8 → (ℕ → Option MakerRefusal) → Group → Type 0
 ReadsAll st g xs refused h =
-    (rest : Utf8) (at : ℕ) → read at (Item_due g, st) (listed xs ++ closing h ∷ rest) ≡ settle (or_else (refused at) (closed_refusal (at + length (listed xs) + 1) (closed h))) (read (at + length (listed xs) + 1) (after (closed h), st) rest)
+    (rest : Utf8) (at : ℕ) → read at (Item_due g, st) (listed xs ++ closing h ∷ rest) ≡ settle (or_else (refused at) (closed_refusal (at + length (listed xs) + 1) (closed h))) (read (at + length (listed xs) + 1) (after (closed h) st) rest)
 
 -- The same behind an item.
 abbrev ReadsMore : List Level → Group → List Utf8 → (ℕ → Option MakerRefusal) → Group → Type 0
 ReadsMore st g xs refused h =
     (s : State) → BehindItem s g st → (rest : Utf8) (at : ℕ) → read at s (after_commas xs ++ closing h ∷ rest)
-    ≡ settle (or_else (refused (at + 1)) (closed_refusal (at + length (after_commas xs) + 1) (closed h))) (read (at + length (after_commas xs) + 1) (after (closed h), st) rest)
+    ≡ settle (or_else (refused (at + 1)) (closed_refusal (at + length (after_commas xs) + 1) (closed h))) (read (at + length (after_commas xs) + 1) (after (closed h) st) rest)
 
 -- behind an item no word goes on
 items_end : (xs : List Utf8) (g : Group) (rest : Utf8) → goes_on (after_commas xs ++ closing g ∷ rest) ≡ false
@@ -172,6 +179,7 @@ none_due (Braces h fs) at st e = rw e refl
 none_due (Closed_braces place n fs) at st e = rw e refl
 none_due (Parens h ps) at st e = rw e refl
 none_due (Angles v) at st e = rw e refl
+none_due (Table place h) at st e = rw e refl
 
 none_at_all : (st : List Level) (g : Group) → is_empty g ≡ true → ReadsAll st g [] (λ _. None) g
 none_at_all st g e = λ rest at. bracket_read (closed g) (Item_due g, st) st at (closing g) rest (none_due g at st e) ∙ moved (at + 1) (at + 0 + 1) None (closed g) st rest (omega arith)
@@ -186,7 +194,7 @@ item_and st g between h x xs first later item more = λ rest at.
     ap (read at (Item_due g, st)) (append_assoc x tail (closing h ∷ rest))
     ∙ item.reads (tail ++ closing h ∷ rest) at (items_end xs h rest)
     ∙ ap (settle (first at)) (more item.state item.behind rest (at + length x))
-    ∙ settle_all (first at) (later (at + length x + 1)) (closed_refusal end (closed h)) (read end (after (closed h), st) rest)
+    ∙ settle_all (first at) (later (at + length x + 1)) (closed_refusal end (closed h)) (read end (after (closed h) st) rest)
     ∙ moved end (at + length (x ++ tail) + 1) all (closed h) st rest (omega (arith, length-append x tail))
 
 -- a comma, and the items behind it
@@ -198,15 +206,15 @@ comma_and st g h x xs refused all = λ s behind rest at.
 
 -- ---- where an item is due
 
-field_begins : (at : ℕ) (h : Holder) (fs : Fields) (st : List Level) → BeginsName at (Item_due (Braces h fs)) (Item_of (Braces h fs)) st
+field_begins : (h : Holder) (at : ℕ) (fs : Fields) (st : List Level) → BeginsName at (Item_due (Braces h fs)) (Item_of (Braces h fs)) st
 unfolding step item_due item_begun field_due name_due
-field_begins at h fs st b k = rw (differs begins_name b 125 k refl, differs begins_name b 33 k refl, k) refl
+field_begins h at fs st b k = rw (differs begins_name b 125 k refl, differs begins_name b 33 k refl, k) refl
 
-closed_field_begins : (at place : ℕ) (m : Utf8) (fs : Fields) (st : List Level) → BeginsName at (Item_due (Closed_braces place m fs)) (Item_of (Closed_braces place m fs)) st
+closed_field_begins : (place : ℕ) (n : Utf8) (at : ℕ) (fs : Fields) (st : List Level) → BeginsName at (Item_due (Closed_braces place n fs)) (Item_of (Closed_braces place n fs)) st
 unfolding step item_due item_begun name_due
-closed_field_begins at place m fs st b k = rw (differs begins_name b 125 k refl, k) refl
+closed_field_begins place n at fs st b k = rw (differs begins_name b 125 k refl, k) refl
 
--- the mark of a struct that denies unknown fields
+-- a struct denies unknown fields
 mark_step : (at place : ℕ) (st : List Level) → step at (Item_due (Braces (Nameless_at place) no_fields)) st 33 ≡ Ok (Item_due (Closed_braces place [] no_fields), st)
 unfolding step item_due item_begun field_due
 mark_step at place st = refl
@@ -215,19 +223,26 @@ named_mark_step : (at place : ℕ) (n : Utf8) (st : List Level) → step at (Ite
 unfolding step item_due item_begun field_due
 named_mark_step at place n st = refl
 
--- A kind of group that holds fields.
-record HoldsFields (of : Fields → Group) : Type 0 where
+-- A kind of group that holds fields, and this byte between a name and its form.
+record HoldsFields (c : ℕ) (of : Fields → Group) : Type 0 where
   begins : (at : ℕ) (gs : Fields) (st : List Level) → BeginsName at (Item_due (of gs)) (Item_of (of gs)) st
-  labels : (at : ℕ) (gs : Fields) (n : Utf8) (st : List Level) → step at (name_mode (Item_of (of gs)) n) st 58 ≡ Ok (Form_due, In_item (of gs) n ∷ st)
+  labels : (at : ℕ) (gs : Fields) (n : Utf8) (st : List Level) → step at (name_mode (Item_of (of gs)) n) st c ≡ Ok (Form_due, In_item (of gs) n ∷ st)
   grows : (gs : Fields) (n : Utf8) (f : Form) → grown (of gs) n f ≡ of (push_field gs n f)
   empty : is_empty (of no_fields) ≡ true
 
-braces_hold : (h : Holder) → HoldsFields (Braces h)
-braces_hold h = record { begins = λ at gs st. field_begins at h gs st; labels = λ at gs n st. name_step at (Item_of (Braces h gs)) n st 58 refl tt; grows = λ gs n f. refl; empty = refl }
+table_begins : (place at : ℕ) (h : Fields) (st : List Level) → BeginsName at (Item_due (Table place h)) (Item_of (Table place h)) st
+unfolding step item_due item_begun name_due
+table_begins place at h st b k = rw (differs begins_name b 41 k refl, k) refl
 
-closed_braces_hold : (place : ℕ) (m : Utf8) → HoldsFields (Closed_braces place m)
+table_holds : (place : ℕ) → HoldsFields 61 (Table place)
+table_holds place = record { begins = table_begins place; labels = λ at gs n st. name_step at (Item_of (Table place gs)) n st 61 refl tt; grows = λ gs n f. refl; empty = refl }
+
+braces_hold : (h : Holder) → HoldsFields 58 (Braces h)
+braces_hold h = record { begins = field_begins h; labels = λ at gs n st. name_step at (Item_of (Braces h gs)) n st 58 refl tt; grows = λ gs n f. refl; empty = refl }
+
+closed_braces_hold : (place : ℕ) (m : Utf8) → HoldsFields 58 (Closed_braces place m)
 closed_braces_hold place m =
-    record { begins = λ at gs st. closed_field_begins at place m gs st; labels = λ at gs n st. name_step at (Item_of (Closed_braces place m gs)) n st 58 refl tt; grows = λ gs n f. refl; empty = refl }
+    record { begins = closed_field_begins place m; labels = λ at gs n st. name_step at (Item_of (Closed_braces place m gs)) n st 58 refl tt; grows = λ gs n f. refl; empty = refl }
 
 variant_begins : (at : ℕ) (e : OpenEnum) (st : List Level) → BeginsName at (Item_due (Angles e)) (Item_of (Angles e)) st
 unfolding step item_due item_begun name_due
@@ -250,9 +265,9 @@ deep_step b at st h d = rw (h, d) refl
 form_begins : (at : ℕ) (st : List Level) → nat_le 512 (length st) ≡ false → BeginsName at Form_due (Form_at at) st
 form_begins at st d b h =
     form_step b at st (ap (λ t. t || opens_form b) h) d
-    ∙ ap (λ (t : Bool × Bool × Bool × Bool × Bool × Bool × Bool × Bool).
-    Ok (cond t.0 (Item_due (Braces (Nameless_at at) no_fields), st) (cond t.1 (Form_due, In_brackets at ∷ st) (cond t.2 (Form_due, In_prefix at Option_prefix ∷ st) (cond t.3 (Form_due, In_prefix at Lossy_prefix ∷ st) (cond t.4 (Form_due, In_prefix at Readable_prefix ∷ st) (cond t.5 (Pair_due at, st) (cond t.6 (Item_due (Parens (Nameless_at at) no_parts), st) (cond t.7 (Item_due (Angles (opened_enum at)), st) (name_begun (Form_at at) b, st))))))))))
-    (λ i. (differs begins_name b 123 h refl i, differs begins_name b 91 h refl i, differs begins_name b 63 h refl i, differs begins_name b 126 h refl i, differs begins_name b 94 h refl i, differs begins_name b 37 h refl i, differs begins_name b 40 h refl i, differs begins_name b 60 h refl i))
+    ∙ ap (λ (t : Bool × Bool × Bool × Bool × Bool × Bool × Bool × Bool × Bool × Bool).
+    Ok (cond t.0 (Item_due (Braces (Nameless_at at) no_fields), st) (cond t.1 (Form_due, In_brackets at ∷ st) (cond t.2 (Form_due, In_prefix at Option_prefix ∷ st) (cond t.3 (Form_due, In_prefix at Lossy_prefix ∷ st) (cond t.4 (Form_due, In_prefix at Readable_prefix ∷ st) (cond t.5 (Behind_sign Percent at, st) (cond t.6 (Behind_sign Ampersand at, st) (cond t.7 (Behind_sign At at, st) (cond t.8 (Item_due (Parens (Nameless_at at) no_parts), st) (cond t.9 (Item_due (Angles (opened_enum at)), st) (name_begun (Form_at at) b, st))))))))))))
+    (λ i. (differs begins_name b 123 h refl i, differs begins_name b 91 h refl i, differs begins_name b 63 h refl i, differs begins_name b 126 h refl i, differs begins_name b 94 h refl i, differs begins_name b 37 h refl i, differs begins_name b 38 h refl i, differs begins_name b 64 h refl i, differs begins_name b 40 h refl i, differs begins_name b 60 h refl i))
 
 -- the name of a form, and the byte behind it
 name_and : (n : Utf8) (b : ℕ) (rest : Utf8) (at : ℕ) (st : List Level) (s : State) → nat_le 512 (length st) ≡ false → step (at + length (name_text n)) (name_mode (Form_at at) n) st b ≡ Ok s
@@ -297,6 +312,8 @@ text_begins (map k v) = record { byte = 91; rest = text k ++ 58 ∷ (text v ++ 9
 text_begins (tuple ps) = record { byte = 40; rest = listed (part_texts ps) ++ 41 ∷ []; whole = refl; begins = refl }
 text_begins (tuple_structure n ps) = name_begun_with n (40 ∷ (listed (part_texts ps) ++ 41 ∷ []))
 text_begins (enumeration vs) = record { byte = 60; rest = listed (variant_texts vs) ++ 62 ∷ []; whole = refl; begins = refl }
+text_begins (reference n) = record { byte = 64; rest = name_text n; whole = refl; begins = refl }
+text_begins (definitions h f) = record { byte = 38; rest = in_parens (definition_texts h) ++ text f; whole = refl; begins = refl }
 text_begins (newtype n f) = name_begun_with n (61 ∷ text f)
 text_begins (unit_structure n) = name_begun_with n (33 ∷ [])
 text_begins (structure dropped [] fs) = record { byte = 123; rest = listed (field_texts fs) ++ 125 ∷ []; whole = refl; begins = refl }
@@ -372,7 +389,7 @@ map_group : (key value rest : Utf8) → (key ++ 58 ∷ (value ++ 93 ∷ [])) ++ 
 map_group key value rest = append_assoc key (58 ∷ (value ++ 93 ∷ [])) rest ∙ ap (λ xs. key ++ 58 ∷ xs) (append_assoc value (93 ∷ []) rest)
 
 -- the parenthesis of two forms that begin at the place, their comma, and their closing parenthesis
-pair_step : (place : ℕ) (st : List Level) (at : ℕ) → step at (Pair_due place) st 40 ≡ Ok (Form_due, In_pair place ∷ st)
+pair_step : (place : ℕ) (st : List Level) (at : ℕ) → step at (Behind_sign Percent place) st 40 ≡ Ok (Form_due, In_pair place ∷ st)
 unfolding step
 pair_step place st at = refl
 
@@ -390,27 +407,63 @@ pair_length r c = omega (arith, length-append (text r) (44 ∷ (text c ++ 41 ∷
 pair_group : (readable compact rest : Utf8) → (readable ++ 44 ∷ (compact ++ 41 ∷ [])) ++ rest ≡ readable ++ 44 ∷ (compact ++ 41 ∷ rest)
 pair_group readable compact rest = append_assoc readable (44 ∷ (compact ++ 41 ∷ [])) rest ∙ ap (λ xs. readable ++ 44 ∷ xs) (append_assoc compact (41 ∷ []) rest)
 
+-- ---- references and definitions
+
+reference_begins : (place at : ℕ) (st : List Level) → BeginsName at (Behind_sign At place) (Reference_at place) st
+unfolding step
+reference_begins place at st b k = rw k refl
+
+reference_done : (at place : ℕ) (n : Utf8) (st : List Level) → finish at (name_mode (Reference_at place) n) st ≡ finish at (Done (reference n)) st
+unfolding finish
+reference_done at place n st = by_name (bare n) where
+  by_name : (t : Bool) → finish at (cond t (Bare (Reference_at place) n) (Named (Reference_at place) n)) st ≡ finish at (Done (reference n)) st
+  by_name true = refl
+  by_name false = refl
+
+done_step : (at : ℕ) (f : Form) (st : List Level) (b : ℕ) → step at (Done f) st b ≡ form_ended at f st b
+unfolding step
+done_step at f st b = refl
+
+-- behind the name of a reference, where it does not go on
+reference_read : (rest : Utf8) (n : Utf8) (at place : ℕ) (st : List Level) → goes_on rest ≡ false → read at (name_mode (Reference_at place) n, st) rest ≡ read at (Done (reference n), st) rest
+unfolding run
+reference_read [] n at place st ends = reference_done (at + 0) place n st
+reference_read (b ∷ bs) n at place st ends =
+    let both = or_false (in_bare b) (names_form b) ends in
+    read_same at (name_mode (Reference_at place) n) (Done (reference n)) st st b bs (name_step at (Reference_at place) n st b both.0 tt ∙ sym (done_step at (reference n) st b))
+
+table_step : (place : ℕ) (st : List Level) (at : ℕ) → step at (Behind_sign Ampersand place) st 40 ≡ Ok (Item_due (Table place no_fields), st)
+unfolding step
+table_step place st at = refl
+
+table_group : (items body rest : Utf8) → ((40 ∷ (items ++ 41 ∷ [])) ++ body) ++ rest ≡ 40 ∷ (items ++ 41 ∷ (body ++ rest))
+table_group items body rest = let inner : ((items ++ 41 ∷ []) ++ body) ++ rest ≡ items ++ 41 ∷ (body ++ rest) = simp append_assoc in ap (λ xs. 40 ∷ xs) inner
+
 -- ---- groups
 
--- a group of these items is read, of which these bytes and one more are what opens it
-group_read : (pre : Utf8) (b inner : ℕ) (g h : Group) (f : Form) (xs : List Utf8) (refused : ℕ → Option MakerRefusal) (rest : Utf8) (at : ℕ) (st : List Level)
-    → text f ≡ pre ++ b ∷ (listed xs ++ closing h ∷ []) → inner ≡ at + length pre + 1 → closed h ≡ Closed_form at f
-    → ((more : Utf8) → read at (Form_due, st) (pre ++ b ∷ more) ≡ read inner (Item_due g, st) more) → ReadsAll st g xs refused h
+group_regrouped : (pre opens items rest : Utf8) (c : ℕ) → (pre ++ (opens ++ (items ++ c ∷ []))) ++ rest ≡ pre ++ (opens ++ (items ++ c ∷ rest))
+group_regrouped pre opens items rest c = simp append_assoc
+
+-- a group of these items is read, which opens so behind these bytes
+group_read : (pre opens : Utf8) (inner : ℕ) (g h : Group) (f : Form) (xs : List Utf8) (refused : ℕ → Option MakerRefusal) (rest : Utf8) (at : ℕ) (st : List Level)
+    → text f ≡ pre ++ (opens ++ (listed xs ++ closing h ∷ [])) → inner ≡ at + length pre + length opens → closed h ≡ Closed_form at f
+    → ((more : Utf8) → read at (Form_due, st) (pre ++ (opens ++ more)) ≡ read inner (Item_due g, st) more) → ReadsAll st g xs refused h
     → read at (Form_due, st) (text f ++ rest) ≡ settle (or_else (refused inner) (refusal_of (at + length (text f)) at (made_form f))) (read (at + length (text f)) (Done f, st) rest)
-group_read pre b inner g h f xs refused rest at st whole place is opens all =
+group_read pre opens inner g h f xs refused rest at st whole place is opened all =
     let items = listed xs in
     let end = at + length (text f) in
     ap (λ ys. read at (Form_due, st) (ys ++ rest)) whole
-    ∙ ap (read at (Form_due, st)) (append_assoc pre (b ∷ (items ++ closing h ∷ [])) rest ∙ ap (λ ys. pre ++ b ∷ ys) (append_assoc items (closing h ∷ []) rest))
-    ∙ opens (items ++ closing h ∷ rest) ∙ all rest inner
-    ∙ moved (inner + length items + 1) end (refused inner) (closed h) st rest (omega (arith, place, ap length whole, length-append pre (b ∷ (items ++ closing h ∷ [])), length-append items (closing h ∷ [])))
-    ∙ ap (λ c. settle (or_else (refused inner) (closed_refusal end c)) (read end (after c, st) rest)) is
+    ∙ ap (read at (Form_due, st)) (group_regrouped pre opens items rest (closing h))
+    ∙ opened (items ++ closing h ∷ rest) ∙ all rest inner
+    ∙ moved (inner + length items + 1) end (refused inner) (closed h) st rest
+    (omega (arith, place, ap length whole, length-append pre (opens ++ (items ++ closing h ∷ [])), length-append opens (items ++ closing h ∷ []), length-append items (closing h ∷ [])))
+    ∙ ap (λ c. settle (or_else (refused inner) (closed_refusal end c)) (read end (after c st) rest)) is
 
 -- without a name before the bracket
 nameless_read : (b : ℕ) (g h : Group) (f : Form) (xs : List Utf8) (refused : ℕ → Option MakerRefusal) (rest : Utf8) (at : ℕ) (st : List Level)
     → text f ≡ b ∷ (listed xs ++ closing h ∷ []) → closed h ≡ Closed_form at f → step at Form_due st b ≡ Ok (Item_due g, st) → ReadsAll st g xs refused h
     → read at (Form_due, st) (text f ++ rest) ≡ settle (or_else (refused (at + 1)) (refusal_of (at + length (text f)) at (made_form f))) (read (at + length (text f)) (Done f, st) rest)
-nameless_read b g h f xs refused rest at st whole is opens all = group_read [] b (at + 1) g h f xs refused rest at st whole (omega arith) is (λ more. read_step at Form_due st b more (Item_due g, st) opens) all
+nameless_read b g h f xs refused rest at st whole is opens all = group_read [] (b ∷ []) (at + 1) g h f xs refused rest at st whole (omega arith) is (λ more. read_step at Form_due st b more (Item_due g, st) opens) all
 
 -- behind a name
 named_read : (n : Utf8) (b : ℕ) (g h : Group) (f : Form) (xs : List Utf8) (refused : ℕ → Option MakerRefusal) (rest : Utf8) (at : ℕ) (st : List Level)
@@ -418,7 +471,7 @@ named_read : (n : Utf8) (b : ℕ) (g h : Group) (f : Form) (xs : List Utf8) (ref
     → step (at + length (name_text n)) (name_mode (Form_at at) n) st b ≡ Ok (Item_due g, st) → ReadsAll st g xs refused h
     → read at (Form_due, st) (text f ++ rest) ≡ settle (or_else (refused (at + length (name_text n) + 1)) (refusal_of (at + length (text f)) at (made_form f))) (read (at + length (text f)) (Done f, st) rest)
 named_read n b g h f xs refused rest at st d whole is opens all =
-    group_read (name_text n) b (at + length (name_text n) + 1) g h f xs refused rest at st whole refl is (λ more. name_and n b more at st (Item_due g, st) d opens) all
+    group_read (name_text n) (b ∷ []) (at + length (name_text n) + 1) g h f xs refused rest at st whole refl is (λ more. name_and n b more at st (Item_due g, st) d opens) all
 
 -- the items of a variant are read
 variant_read : (b : ℕ) (e : OpenEnum) (n : Utf8) (c : Content) (g h : Group) (xs : List Utf8) (refused : ℕ → Option MakerRefusal) (rest : Utf8) (at : ℕ) (st : List Level)
@@ -432,31 +485,28 @@ variant_read b e n c g h xs refused rest at st whole is opens all =
     ∙ ap (λ ys. read at (m, st) (b ∷ ys)) (append_assoc items (closing h ∷ []) rest)
     ∙ read_step at m st b (items ++ closing h ∷ rest) (Item_due g, st) opens ∙ all rest (at + 1)
     ∙ moved (at + 1 + length items + 1) end (refused (at + 1)) (closed h) st rest (omega (arith, ap length whole, length-append items (closing h ∷ [])))
-    ∙ ap (λ k. settle (or_else (refused (at + 1)) (closed_refusal end k)) (read end (after k, st) rest)) is
+    ∙ ap (λ k. settle (or_else (refused (at + 1)) (closed_refusal end k)) (read end (after k st) rest)) is
     ∙ no_more_refused (refused (at + 1)) (read end (Item_done (Angles (grown_enum e n c)), st) rest)
-  where
-    no_more_refused : (x : Option MakerRefusal) (r : Result Form Refusal) → settle (or_else x None) r ≡ settle x r
-    no_more_refused None r = refl
-    no_more_refused (Some y) r = refl
 
 -- ---- items, a row for each kind
 
-field_item : {of : Fields → Group} (holds : HoldsFields of) (n : Utf8) (f : Form) (gs : Fields) (st : List Level) → ReadsForm f
-    → ReadsItem st (of gs) (name_text n ++ 58 ∷ text f) (λ at. first_refusal (at + length (name_text n) + 1) (length st + 1) f) (of (push_field gs n f))
-field_item {of = of} holds n f gs st form =
-    let g = of gs in
-    record {
-      state = (Done f, In_item g n ∷ st);
-      behind = subst (λ h. BehindItem (Done f, In_item g n ∷ st) h st) (holds.grows gs n f) (behind_form g n f st);
-      reads = λ rest at ends.
-          let inner = at + length (name_text n) + 1 in
-          let end : inner + length (text f) ≡ at + length (name_text n ++ 58 ∷ text f) = omega (arith, length-append (name_text n) (58 ∷ text f)) in
-          ap (read at (Item_due g, st)) (append_assoc (name_text n) (58 ∷ text f) rest)
-          ∙ read_name n (58 ∷ (text f ++ rest)) at (Item_due g) (Item_of g) st (holds.begins at gs st)
-          ∙ read_step (at + length (name_text n)) (name_mode (Item_of g) n) st 58 (text f ++ rest) _ (holds.labels (at + length (name_text n)) gs n st)
-          ∙ inner_read f (In_item g n) st rest inner form ends
-          ∙ ap (λ i. settle (first_refusal inner (length st + 1) f) (read i (Done f, In_item g n ∷ st) rest)) end;
-    }
+module _ {c : ℕ} {of : Fields → Group} (holds : HoldsFields c of) where
+  field_item : (n : Utf8) (f : Form) (gs : Fields) (st : List Level) → ReadsForm f
+      → ReadsItem st (of gs) (name_text n ++ c ∷ text f) (λ at. first_refusal (at + length (name_text n) + 1) (length st + 1) f) (of (push_field gs n f))
+  field_item n f gs st form =
+      let g : Group = of gs in
+      record {
+        state = (Done f, In_item g n ∷ st);
+        behind = subst (λ h. BehindItem (Done f, In_item g n ∷ st) h st) (holds.grows gs n f) (behind_form g n f st);
+        reads = λ rest at ends.
+            let inner = at + length (name_text n) + 1 in
+            let end : inner + length (text f) ≡ at + length (name_text n ++ c ∷ text f) = omega (arith, length-append (name_text n) (c ∷ text f)) in
+            ap (read at (Item_due g, st)) (append_assoc (name_text n) (c ∷ text f) rest)
+            ∙ read_name n (c ∷ (text f ++ rest)) at (Item_due g) (Item_of g) st (holds.begins at gs st)
+            ∙ read_step (at + length (name_text n)) (name_mode (Item_of g) n) st c (text f ++ rest) _ (holds.labels (at + length (name_text n)) gs n st)
+            ∙ inner_read f (In_item g n) st rest inner form ends
+            ∙ ap (λ i. settle (first_refusal inner (length st + 1) f) (read i (Done f, In_item g n ∷ st) rest)) end;
+      }
 
 part_item : (f : Form) (h : Holder) (gs : Parts) (st : List Level) → ReadsForm f → ReadsItem st (Parens h gs) (text f) (λ at. first_refusal at (length st + 1) f) (Parens h (push_part gs f))
 part_item f h gs st form =
@@ -508,12 +558,16 @@ variant_item n c e st content =
     }
 
 -- one, and those after it
-field_and : {of : Fields → Group} (holds : HoldsFields of) (n : Utf8) (f : Form) (fs gs : Fields) (st : List Level) → ReadsForm f
-    → ReadsMore st (of (push_field gs n f)) (field_texts fs) (λ at. fields_refusal at (length st + 1) fs) (of (joined (push_field gs n f) fs))
-    → ReadsAll st (of gs) (field_texts (field n f fs)) (λ at. fields_refusal at (length st + 1) (field n f fs)) (of (joined gs (field n f fs)))
-field_and {of = of} holds n f fs gs st form more =
-    subst (λ ks. ReadsAll st (of gs) (field_texts (field n f fs)) (λ at. fields_refusal at (length st + 1) (field n f fs)) (of ks)) (joined-assoc gs (field n f no_fields) fs)
-    (item_and st (of gs) (of (push_field gs n f)) (of (joined (push_field gs n f) fs)) (name_text n ++ 58 ∷ text f) (field_texts fs) _ (λ at. fields_refusal at (length st + 1) fs) (field_item holds n f gs st form) more)
+module _ {c : ℕ} {of : Fields → Group} (holds : HoldsFields c of) where
+  field_and : (n : Utf8) (f : Form) (fs : Fields) (gs : Fields) (st : List Level) → ReadsForm f
+      → ReadsMore st (of (push_field gs n f)) (named_texts c fs) (λ at. fields_refusal at (length st + 1) fs) (of (joined (push_field gs n f) fs))
+      → ReadsAll st (of gs) (named_texts c (field n f fs)) (λ at. fields_refusal at (length st + 1) (field n f fs)) (of (joined gs (field n f fs)))
+  field_and n f fs gs st form more =
+      let first : ℕ → Option MakerRefusal = λ at. first_refusal (at + length (name_text n) + 1) (length st + 1) f in
+      let next : (at : ℕ) → at + length (name_text n ++ c ∷ text f) + 1 ≡ at + length (name_text n) + 1 + length (text f) + 1 = λ at. omega (arith, length-append (name_text n) (c ∷ text f)) in
+      subst (λ (x : (ℕ → Option MakerRefusal) × Fields). ReadsAll st (of gs) (named_texts c (field n f fs)) x.0 (of x.1))
+      (λ i. (λ at. or_else (first at) (fields_refusal (next at i) (length st + 1) fs), joined-assoc gs (field n f no_fields) fs i))
+      (item_and st (of gs) (of (push_field gs n f)) (of (joined (push_field gs n f) fs)) (name_text n ++ c ∷ text f) (named_texts c fs) first (λ at. fields_refusal at (length st + 1) fs) (field_item holds n f gs st form) more)
 
 part_and : (f : Form) (ps : Parts) (h : Holder) (gs : Parts) (st : List Level) → ReadsForm f
     → ReadsMore st (Parens h (push_part gs f)) (part_texts ps) (λ at. parts_refusal at (length st + 1) ps) (Parens h (joined_parts (push_part gs f) ps))
@@ -551,6 +605,30 @@ mutual
       (λ d. ap (read at (Form_due, st)) (append_assoc (name_text n) (61 ∷ text f) rest)
       ∙ name_and n 61 (text f ++ rest) at st (Form_due, In_prefix at (Newtype_prefix n) ∷ st) d (name_step (at + length (name_text n)) (Form_at at) n st 61 refl refl)
       ∙ prefixed_read (Newtype_prefix n) f st rest inner at (reads_form f) ends (omega (arith, length-append (name_text n) (61 ∷ text f))))
+  reads_form (reference n) rest at st ends =
+      by_depth (nat_le 512 (length st)) (reference n) rest at st None refl refl
+      (λ d. read_step at Form_due st 64 (name_text n ++ rest) (Behind_sign At at, st) (form_step 64 at st refl d)
+      ∙ read_name n rest (at + 1) (Behind_sign At at) (Reference_at at) st (reference_begins at (at + 1) st)
+      ∙ reference_read rest n (at + 1 + length (name_text n)) at st ends
+      ∙ ap (λ i. read i (Done (reference n), st) rest) (let e : at + 1 + length (name_text n) ≡ at + length (text (reference n)) = omega arith in e))
+  reads_form (definitions h f) rest at st ends =
+      let items = listed (definition_texts h) in
+      let body = at + 1 + length (in_parens (definition_texts h)) in
+      let p = Definitions_prefix h in
+      let a = fields_refusal (at + 2) (length st + 1) h in
+      let b = first_refusal body (length st + 1) f in
+      let made = refusal_of (at + length (text (definitions h f))) at (made_form (definitions h f)) in
+      let last = read (at + length (text (definitions h f))) (Done (definitions h f), st) rest in
+      by_depth (nat_le 512 (length st)) (definitions h f) rest at st (or_else a b) refl refl
+      (λ d. read_step at Form_due st 38 ((in_parens (definition_texts h) ++ text f) ++ rest) (Behind_sign Ampersand at, st) (form_step 38 at st refl d)
+      ∙ ap (read (at + 1) (Behind_sign Ampersand at, st)) (table_group items (text f) rest)
+      ∙ read_step (at + 1) (Behind_sign Ampersand at) st 40 (items ++ 41 ∷ (text f ++ rest)) (Item_due (Table at no_fields), st) (table_step at st (at + 1))
+      ∙ ap (λ i. read i (Item_due (Table at no_fields), st) (items ++ 41 ∷ (text f ++ rest))) (let two : at + 1 + 1 ≡ at + 2 = omega arith in two)
+      ∙ reads_fields (table_holds at) h st (text f ++ rest) (at + 2)
+      ∙ no_more_refused a (read (at + 2 + length items + 1) (Form_due, In_prefix at p ∷ st) (text f ++ rest))
+      ∙ ap (λ i. settle a (read i (Form_due, In_prefix at p ∷ st) (text f ++ rest))) (let e : at + 2 + length items + 1 ≡ body = omega (arith, length-append items (41 ∷ [])) in e)
+      ∙ ap (settle a) (prefixed_read p f st rest body at (reads_form f) ends (let e : body + length (text f) ≡ at + length (text (definitions h f)) = omega (arith, length-append (in_parens (definition_texts h)) (text f), length-append (items ++ 41 ∷ []) (text f), length-append items (41 ∷ [])) in e))
+      ∙ settle_all a b made last)
   reads_form (unit_structure n) rest at st ends =
       by_depth (nat_le 512 (length st)) (unit_structure n) rest at st None refl refl
       (λ d. ap (read at (Form_due, st)) (append_assoc (name_text n) (33 ∷ []) rest)
@@ -576,7 +654,7 @@ mutual
       let last = read (end + 1) (Done (by_mode r c), st) rest in
       by_depth (nat_le 512 (length st)) (by_mode r c) rest at st (or_else a b) refl refl
       (λ d. read_step at Form_due st 37 ((40 ∷ (text r ++ 44 ∷ (text c ++ 41 ∷ []))) ++ rest) _ (form_step 37 at st refl d)
-      ∙ read_step (at + 1) (Pair_due at) st 40 ((text r ++ 44 ∷ (text c ++ 41 ∷ [])) ++ rest) _ (pair_step at st (at + 1))
+      ∙ read_step (at + 1) (Behind_sign Percent at) st 40 ((text r ++ 44 ∷ (text c ++ 41 ∷ [])) ++ rest) _ (pair_step at st (at + 1))
       ∙ ap (λ i. read i (Form_due, In_pair at ∷ st) ((text r ++ 44 ∷ (text c ++ 41 ∷ [])) ++ rest)) (let two : at + 1 + 1 ≡ at + 2 = omega arith in two)
       ∙ ap (read readable (Form_due, In_pair at ∷ st)) (pair_group (text r) (text c) rest)
       ∙ around_read r (In_pair at) st (44 ∷ (text c ++ 41 ∷ rest)) readable (or_else b made) last (reads_form r) refl
@@ -612,18 +690,19 @@ mutual
       (name_step (at + length (name_text n)) (Form_at at) n st 40 refl refl) (reads_parts ps (Named_at at n) st))
   reads_form (structure dropped [] fs) rest at st ends =
       let inner = at + length (struct_name_text []) + length (opening_struct dropped) in
-      let braces : Mode = Item_due (Braces (Nameless_at at) no_fields) in
+      let open_braces : Mode = Item_due (Braces (Nameless_at at) no_fields) in
       by_depth (nat_le 512 (length st)) (structure dropped [] fs) rest at st (fields_refusal inner (length st + 1) fs) refl refl
-      (λ d. group_read [] 123 inner (Braces (Nameless_at at) no_fields) (Braces (Nameless_at at) fs) (structure dropped [] fs) (field_texts fs) (λ i. fields_refusal i (length st + 1) fs) rest at st refl refl refl
-      (λ more. read_step at Form_due st 123 more (braces, st) (form_step 123 at st refl d) ∙ ap (λ i. read i (braces, st) more) (omega arith)) (reads_fields (braces_hold (Nameless_at at)) fs st))
+      (λ d. group_read [] (123 ∷ []) inner (Braces (Nameless_at at) no_fields) (Braces (Nameless_at at) fs) (structure dropped [] fs) (field_texts fs) (λ i. fields_refusal i (length st + 1) fs) rest at st refl refl refl
+      (λ more. read_step at Form_due st 123 more (open_braces, st) (form_step 123 at st refl d) ∙ ap (λ i. read i (open_braces, st) more) (omega arith)) (reads_fields (braces_hold (Nameless_at at)) fs st))
   reads_form (structure denied [] fs) rest at st ends =
       let inner = at + length (struct_name_text []) + length (opening_struct denied) in
-      let braces : Mode = Item_due (Braces (Nameless_at at) no_fields) in
+      let open_braces : Mode = Item_due (Braces (Nameless_at at) no_fields) in
       let marked : Mode = Item_due (Closed_braces at [] no_fields) in
       by_depth (nat_le 512 (length st)) (structure denied [] fs) rest at st (fields_refusal inner (length st + 1) fs) refl refl
-      (λ d. group_read (123 ∷ []) 33 inner (Closed_braces at [] no_fields) (Closed_braces at [] fs) (structure denied [] fs) (field_texts fs) (λ i. fields_refusal i (length st + 1) fs) rest at st refl (omega arith) refl
-      (λ more. read_step at Form_due st 123 (33 ∷ more) (braces, st) (form_step 123 at st refl d) ∙ read_step (at + 1) braces st 33 more (marked, st) (mark_step (at + 1) at st)
-      ∙ ap (λ i. read i (marked, st) more) (omega arith)) (reads_fields (closed_braces_hold at []) fs st))
+      (λ d. group_read [] (123 ∷ 33 ∷ []) inner (Closed_braces at [] no_fields) (Closed_braces at [] fs) (structure denied [] fs) (field_texts fs) (λ i. fields_refusal i (length st + 1) fs) rest at st refl refl refl
+      (λ more. read_step at Form_due st 123 (33 ∷ more) (open_braces, st) (form_step 123 at st refl d) ∙ read_step (at + 1) open_braces st 33 more (marked, st) (mark_step (at + 1) at st)
+      ∙ ap (λ i. read i (marked, st) more) (omega arith))
+      (reads_fields (closed_braces_hold at []) fs st))
   reads_form (structure dropped (b ∷ bs) fs) rest at st ends =
       let n = b ∷ bs in
       by_depth (nat_le 512 (length st)) (structure dropped n fs) rest at st (fields_refusal (at + length (name_text n) + 1) (length st + 1) fs) refl refl
@@ -631,27 +710,27 @@ mutual
       (name_step (at + length (name_text n)) (Form_at at) n st 123 refl refl) (reads_fields (braces_hold (Named_at at n)) fs st))
   reads_form (structure denied (b ∷ bs) fs) rest at st ends =
       let n = b ∷ bs in
-      let end = at + length (name_text n) in
-      let inner = end + length (opening_struct denied) in
-      let braces : Mode = Item_due (Braces (Named_at at n) no_fields) in
+      let named = at + length (name_text n) in
+      let inner = named + length (opening_struct denied) in
+      let open_braces : Mode = Item_due (Braces (Named_at at n) no_fields) in
       let marked : Mode = Item_due (Closed_braces at n no_fields) in
       by_depth (nat_le 512 (length st)) (structure denied n fs) rest at st (fields_refusal inner (length st + 1) fs) refl refl
-      (λ d. group_read (name_text n ++ 123 ∷ []) 33 inner (Closed_braces at n no_fields) (Closed_braces at n fs) (structure denied n fs) (field_texts fs) (λ i. fields_refusal i (length st + 1) fs) rest at st
-      (sym (append_assoc (name_text n) (123 ∷ []) (33 ∷ (listed (field_texts fs) ++ 125 ∷ [])))) (omega (arith, length-append (name_text n) (123 ∷ []))) refl
-      (λ more. ap (read at (Form_due, st)) (append_assoc (name_text n) (123 ∷ []) (33 ∷ more)) ∙ name_and n 123 (33 ∷ more) at st (braces, st) d (name_step end (Form_at at) n st 123 refl refl)
-      ∙ read_step (end + 1) braces st 33 more (marked, st) (named_mark_step (end + 1) at n st) ∙ ap (λ i. read i (marked, st) more) (omega arith)) (reads_fields (closed_braces_hold at n) fs st))
+      (λ d. group_read (name_text n) (123 ∷ 33 ∷ []) inner (Closed_braces at n no_fields) (Closed_braces at n fs) (structure denied n fs) (field_texts fs) (λ i. fields_refusal i (length st + 1) fs) rest at st refl refl refl
+      (λ more. name_and n 123 (33 ∷ more) at st (open_braces, st) d (name_step named (Form_at at) n st 123 refl refl) ∙ read_step (named + 1) open_braces st 33 more (marked, st) (named_mark_step (named + 1) at n st)
+      ∙ ap (λ i. read i (marked, st) more) (omega arith))
+      (reads_fields (closed_braces_hold at n) fs st))
   reads_form (enumeration vs) rest at st ends =
       by_depth (nat_le 512 (length st)) (enumeration vs) rest at st (variants_refusal (at + 1) (length st + 1) vs) refl refl
       (λ d. nameless_read 60 (Angles (opened_enum at)) (with_variants (opened_enum at) vs) (enumeration vs) (variant_texts vs) (λ i. variants_refusal i (length st + 1) vs) rest at st refl refl (form_step 60 at st refl d) (reads_variants vs (opened_enum at) st refl))
 
-  reads_fields : {of : Fields → Group} (holds : HoldsFields of) (fs : Fields) (st : List Level) → ReadsAll st (of no_fields) (field_texts fs) (λ at. fields_refusal at (length st + 1) fs) (of fs)
+  reads_fields : {c : ℕ} {of : Fields → Group} (holds : HoldsFields c of) (fs : Fields) (st : List Level) → ReadsAll st (of no_fields) (named_texts c fs) (λ at. fields_refusal at (length st + 1) fs) (of fs)
   reads_fields {of = of} holds no_fields st = none_at_all st (of no_fields) holds.empty
   reads_fields holds (field n f fs) st = field_and holds n f fs no_fields st (reads_form f) (more_fields holds fs (push_field no_fields n f) st)
 
-  more_fields : {of : Fields → Group} (holds : HoldsFields of) (fs gs : Fields) (st : List Level) → ReadsMore st (of gs) (field_texts fs) (λ at. fields_refusal at (length st + 1) fs) (of (joined gs fs))
+  more_fields : {c : ℕ} {of : Fields → Group} (holds : HoldsFields c of) (fs gs : Fields) (st : List Level) → ReadsMore st (of gs) (named_texts c fs) (λ at. fields_refusal at (length st + 1) fs) (of (joined gs fs))
   more_fields {of = of} holds no_fields gs st = subst (λ ks. ReadsMore st (of gs) [] (λ _. None) (of ks)) (sym (joined-none gs)) (none_more st (of gs))
-  more_fields {of = of} holds (field n f fs) gs st =
-      comma_and st (of gs) (of (joined gs (field n f fs))) (name_text n ++ 58 ∷ text f) (field_texts fs) (λ at. fields_refusal at (length st + 1) (field n f fs)) (field_and holds n f fs gs st (reads_form f) (more_fields holds fs (push_field gs n f) st))
+  more_fields {c = c} {of = of} holds (field n f fs) gs st =
+      comma_and st (of gs) (of (joined gs (field n f fs))) (name_text n ++ c ∷ text f) (named_texts c fs) (λ at. fields_refusal at (length st + 1) (field n f fs)) (field_and holds n f fs gs st (reads_form f) (more_fields holds fs (push_field gs n f) st))
 
   reads_parts : (ps : Parts) (h : Holder) (st : List Level) → ReadsAll st (Parens h no_parts) (part_texts ps) (λ at. parts_refusal at (length st + 1) ps) (Parens h ps)
   reads_parts no_parts h st = none_at_all st (Parens h no_parts) refl

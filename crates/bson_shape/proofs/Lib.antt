@@ -8,6 +8,10 @@ pub mod Wraps
 pub mod Steps
 pub mod Made
 pub mod Names
+pub mod Chains
+pub mod Searched
+pub mod Searching
+pub mod Endings
 pub mod Sames
 pub mod Shapes
 pub mod CharRuns

@@ -6,11 +6,12 @@ use Rattle.std.proofs.lemmas.Bool.{or_parts, or_from, true≢false, cond-true, c
 use Rattle.std.proofs.lemmas.Bool.Decides.{nat_tests}
 use Rattle.bson_base.specs.Text.{Utf8}
 use Rattle.bson_base.specs.Reserved.{reserved_kind}
-use Rattle.bson_shape.specs.Form.{UnknownFields, Form, leaf, optional, lossy, human_readable, by_mode, sequence, map, tuple, tuple_structure, newtype, unit_structure, structure, enumeration, Fields, Variants, no_variants, variant, Content, unit_content, newtype_content, tuple_content, struct_content}
+use Rattle.bson_shape.specs.Form.{UnknownFields, Form, leaf, optional, lossy, human_readable, by_mode, sequence, map, tuple, tuple_structure, newtype, unit_structure, structure, enumeration, reference, definitions, Fields, Variants, no_variants, variant, Content, unit_content, newtype_content, tuple_content, struct_content}
+use Rattle.bson_shape.specs.Guarded.{is_guarded}
 use Rattle.bson_shape.specs.Levels.{levels, deepest, deepest_variant, max_shape_levels}
-use Rattle.bson_shape.specs.Makers.{is_text_key, is_reserved_newtype, AreDistinct, repeats, has_repeat, variant_names, content_repeats, contents_repeat, variants_repeat, IsNewtype, IsStruct, IsEnum, IsShape, AreVariants, IsContent, Makes, within_levels, made_map, made_newtype, made_structure, made_enumeration, made_form}
+use Rattle.bson_shape.specs.Makers.{is_text_key, is_reserved_newtype, AreDistinct, repeats, has_repeat, variant_names, content_repeats, contents_repeat, variants_repeat, IsNewtype, IsStruct, IsEnum, AreDefinitions, IsShape, AreVariants, IsContent, Makes, within_levels, made_map, made_newtype, made_structure, made_enumeration, made_definitions, made_form}
 use Rattle.bson_shape.specs.declared.error.ShapeError.{ShapeError}
-use Rattle.bson_shape.specs.declared.error.ShapeError.TheVariants.{ReservedName, RepeatedName, KeyNotText, TooDeep}
+use Rattle.bson_shape.specs.declared.error.ShapeError.TheVariants.{ReservedName, RepeatedName, KeyNotText, Unguarded, TooDeep}
 
 none_from : {A : Type 0} (o : Option A) → is_some o ≡ false → o ≡ None
 none_from None e = refl
@@ -70,6 +71,10 @@ contents_distinct (variant n c vs) h = or_from _ _ (content_distinct c h.1) (con
 made_enumeration-IsEnum : (vs : Variants) → IsEnum vs → AreVariants vs → made_enumeration vs ≡ Ok (enumeration vs)
 made_enumeration-IsEnum vs is shapes = cond-false (variants_repeat vs) _ _ (or_from _ _ is.distinct (contents_distinct vs shapes)) ∙ within_levels-few (enumeration vs) is.few
 
+-- the maker makes definitions that are as it asks
+made_definitions-AreDefinitions : (h : Fields) (f : Form) → AreDefinitions h f → made_definitions h f ≡ Ok (definitions h f)
+made_definitions-AreDefinitions h f is = cond-false (repeats h) _ _ is.distinct ∙ cond-true (is_guarded h) _ _ is.guarded ∙ within_levels-few (definitions h f) is.few
+
 -- ---- the answers of the makers
 
 within_answers : (P : Result Form ShapeError → Type 0) (f : Form) → P (Err TooDeep) → P (Ok f) → P (within_levels f)
@@ -109,6 +114,14 @@ enumeration_answers P vs repeated deep made = by_test (variants_repeat vs)
     by_test true = repeated
     by_test false = within_answers P (enumeration vs) deep made
 
+definitions_answers : (P : Result Form ShapeError → Type 0) (h : Fields) (f : Form) → P (Err RepeatedName) → P (Err Unguarded) → P (Err TooDeep) → P (Ok (definitions h f)) → P (made_definitions h f)
+definitions_answers P h f repeated unguarded deep made = by_tests (repeats h) (is_guarded h)
+  where
+    by_tests : (r g : Bool) → P (cond r (Err RepeatedName) (cond g (within_levels (definitions h f)) (Err Unguarded)))
+    by_tests true g = repeated
+    by_tests false true = within_answers P (definitions h f) deep made
+    by_tests false false = unguarded
+
 -- a maker makes the form that it is asked for, or refuses
 pub within_levels-made : (f : Form) → IfOk (within_levels f) (λ g. g ≡ f)
 within_levels-made f = within_answers (λ r. IfOk r (λ g. g ≡ f)) f tt refl
@@ -125,6 +138,9 @@ made_structure-made u name fs = structure_answers (λ r. IfOk r (λ g. g ≡ str
 made_enumeration-made : (vs : Variants) → IfOk (made_enumeration vs) (λ g. g ≡ enumeration vs)
 made_enumeration-made vs = enumeration_answers (λ r. IfOk r (λ g. g ≡ enumeration vs)) vs tt tt refl
 
+made_definitions-made : (h : Fields) (f : Form) → IfOk (made_definitions h f) (λ g. g ≡ definitions h f)
+made_definitions-made h f = definitions_answers (λ r. IfOk r (λ g. g ≡ definitions h f)) h f tt tt tt refl
+
 -- so does the maker of any form
 pub made_form-made : (f : Form) → IfOk (made_form f) (λ g. g ≡ f)
 made_form-made (leaf l) = refl
@@ -140,6 +156,8 @@ made_form-made (newtype n f) = made_newtype-made n f
 made_form-made (unit_structure n) = refl
 made_form-made (structure u n fs) = made_structure-made u n fs
 made_form-made (enumeration vs) = made_enumeration-made vs
+made_form-made (reference n) = refl
+made_form-made (definitions h f) = made_definitions-made h f
 
 -- and it makes each shape
 pub made_form-IsShape : (f : Form) → IsShape f → made_form f ≡ Ok f
@@ -156,6 +174,8 @@ made_form-IsShape (newtype n f) h = made_newtype-IsNewtype n f h.0
 made_form-IsShape (unit_structure n) h = refl
 made_form-IsShape (structure u n fs) h = made_structure-IsStruct u n fs h.0
 made_form-IsShape (enumeration vs) h = made_enumeration-IsEnum vs h.0 h.1
+made_form-IsShape (reference n) h = refl
+made_form-IsShape (definitions t f) h = made_definitions-AreDefinitions t f h.0
 
 -- the makers of tuples, structs and enums take no memory
 pub within_levels-makes : (f : Form) → Makes (within_levels f) (within_levels f)

@@ -2,9 +2,10 @@
 use Rattle.std.proofs.Common.{◌≡◌, ℕ, ◌+◌, Bool, true, false, cond, eqb, ◌||◌, List, [], ◌∷◌, ◌++◌, length, Result, Ok, Err, refl, sym, ap, ◌∙◌, arith, append_assoc, append-nil, length-append}
 use Rattle.std.specs.List.{list_all}
 use Rattle.bson_base.specs.Text.{Utf8}
+use Rattle.bson_shape.specs.Form.{reference}
 use Rattle.bson_shape.specs.Notation.{begins_bare, in_bare, bare, names_form, is_escaped, escaped, quoted, name_text}
 use Rattle.bson_base.specs.Outcome.{◌>>=◌}
-use Rattle.bson_shape.specs.Machine.{Refusal, Level, Owner, Form_at, Item_of, Mode, Bare, Quoted, Escape, Named, State, begins_name, name_begun, form_named, item_named, named, word_ended, bare_name, name_closed, quoted_name, escape, step, run}
+use Rattle.bson_shape.specs.Machine.{Refusal, Level, Owner, Form_at, Item_of, Reference_at, Mode, Bare, Quoted, Escape, Named, State, begins_name, name_begun, form_ended, form_named, item_named, named, word_ended, bare_name, name_closed, quoted_name, escape, step, run}
 use Rattle.bson_shape.proofs.Words.{and_true, or_false, differs}
 
 -- a byte that is taken
@@ -98,25 +99,29 @@ read_as false n rest at m owner st begins h = quoted_read n rest at m owner st b
 pub name_read : (n rest : Utf8) (at : ℕ) (m : Mode) (owner : Owner) (st : List Level) → BeginsName at m owner st → run at (m, st) (name_text n ++ rest) ≡ run (at + length (name_text n)) (name_mode owner n, st) rest
 name_read n rest at m owner st begins = read_as (bare n) n rest at m owner st begins refl
 
--- the bytes that name a form behind a bare name; behind the name of an item each byte is read as behind a name
+-- the bytes that name a form behind a bare name; behind the name of an item or a reference each byte is read as behind a name
 abbrev pub EndsName : Owner → ℕ → Type 0
 EndsName (Form_at place) b = names_form b ≡ true
 EndsName (Item_of g) b = Unit {0}
+EndsName (Reference_at place) b = Unit {0}
 
 -- behind a name
 abbrev pub behind_name : ℕ → Owner → Utf8 → List Level → ℕ → Result State Refusal
 behind_name at (Form_at place) n st b = form_named at place n st b
 behind_name at (Item_of g) n st b = item_named at g n st b
+behind_name at (Reference_at place) n st b = form_ended at (reference n) st b
 
 named_is : (at : ℕ) (owner : Owner) (n : Utf8) (st : List Level) (b : ℕ) → named at owner n st b ≡ behind_name at owner n st b
 unfolding named
 named_is at (Form_at place) n st b = refl
 named_is at (Item_of g) n st b = refl
+named_is at (Reference_at place) n st b = refl
 
 word_named : (at : ℕ) (owner : Owner) (n : Utf8) (st : List Level) (b : ℕ) → EndsName owner b → word_ended at owner n st b ≡ named at owner n st b
 unfolding word_ended
 word_named at (Form_at place) n st b e = rw e refl
 word_named at (Item_of g) n st b e = refl
+word_named at (Reference_at place) n st b e = refl
 
 pub name_step : (at : ℕ) (owner : Owner) (n : Utf8) (st : List Level) (b : ℕ) → in_bare b ≡ false → EndsName owner b → step at (name_mode owner n) st b ≡ behind_name at owner n st b
 unfolding step bare_name

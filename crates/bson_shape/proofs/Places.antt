@@ -1,23 +1,23 @@
 -- What the answer of the machine says of the text.
 use Rattle.std.proofs.Common.{◌≡◌, ℕ, ◌+◌, ◌<◌, Bool, true, false, List, [], ◌∷◌, ◌++◌, length, take, drop, Option, Some, None, Result, Ok, Err, refl, sym, ap, subst, ◌∙◌, append_assoc, append-nil, length-append, length-take, take_all, arith, inl, inr}
-use Rattle.std.specs.List.{list_all}
 use Rattle.std.specs.Str.{IsUtf8}
 use Rattle.std.proofs.lemmas.List.{take-append-drop}
 use Rattle.bson_base.specs.Text.{Utf8}
-use Rattle.bson_shape.specs.Form.{Form, leaf}
+use Rattle.bson_shape.specs.Form.{Form, leaf, reference}
 use Rattle.bson_shape.specs.Leaf.{of_word}
 use Rattle.bson_shape.specs.declared.leaf.Leaf.{Leaf}
-use Rattle.bson_shape.specs.Notation.{begins_bare, in_bare, bare, names_form, text}
+use Rattle.bson_shape.specs.Notation.{in_bare, names_form, text}
 use Rattle.bson_shape.specs.FirstRefusal.{MakerRefusal, first_refusal}
 use Rattle.bson_base.specs.Outcome.{◌>>=◌}
-use Rattle.bson_shape.specs.Machine.{Refusal, Not_notation, Refused, Level, Form_at, Mode, Form_due, Bare, Done, State, wrapped, enclosed, form_ended, word_ended, bare_name, alone, last, last_leaf, step, run, finish, parsed}
-use Rattle.bson_shape.specs.Fronts.{ends_in_word, goes_on, BeginsNotation, IsLongestFront, IsMet, IsNotNotationAt}
-use Rattle.bson_shape.proofs.Words.{and_true, or_false}
+use Rattle.bson_shape.specs.Machine.{Refusal, Not_notation, Refused, Level, Form_at, Reference_at, Mode, Form_due, Bare, Named, Done, State, wrapped, enclosed, form_ended, named, word_ended, bare_name, alone, last, last_leaf, step, run, finish, parsed}
+use Rattle.bson_shape.specs.Fronts.{ends_in_word, goes_on, word_goes_on, BeginsNotation, IsLongestFront, IsMet, IsNotNotationAt}
+use Rattle.bson_shape.proofs.Words.{or_false}
 use Rattle.bson_shape.proofs.Texts.{judged, parsed-text}
 use Rattle.bson_shape.proofs.TextStates.{TextState}
 use Rattle.bson_shape.proofs.States.{levels_text, written, ValidMode}
-use Rattle.bson_shape.proofs.Wraps.{Keeps, wrapped_keeps, IsWord, Behind, behind_text, behind_names, EndsForm, ends_met}
+use Rattle.bson_shape.proofs.Wraps.{Keeps, wrapped_keeps, word_on, IsWord, Behind, behind_text, behind_names, EndsForm, ends_met}
 use Rattle.bson_shape.proofs.Steps.{Leaves, Refuses, StopsAt, step_leaves}
+use Rattle.bson_shape.proofs.Endings.{ends-snoc, no_word, bare_goes_on, behind_goes_on}
 use Rattle.bson_shape.proofs.Completions.{close_levels, begins_written, begins_word}
 use Rattle.bson_shape.proofs.Stops.{bound, bound_err, run_takes, run_refuses, Stops, stopped, run_stops, TextStops, text_stops, text_taken}
 
@@ -56,11 +56,13 @@ leaf_stops : (o : Option Leaf) (at place : ℕ) (n : Utf8) (st : List Level) (e 
 leaf_stops None at place n st e is h = this_place at (Bare (Form_at place) n, st) e h
 leaf_stops (Some l) at place n st e is h = last_stops at (leaf l) (Bare (Form_at place) n) st e (l, is, refl) h
 
-finish_stops : (at : ℕ) (m : Mode) (st : List Level) (e : Refusal) → finish at m st ≡ Err e → EndStops at (m, st) e
+finish_stops : (at : ℕ) (m : Mode) (st : List Level) (e : Refusal) → ValidMode m → finish at m st ≡ Err e → EndStops at (m, st) e
 unfolding finish
-finish_stops at (Done f) st e h = last_stops at f (Done f) st e refl h
-finish_stops at (Bare (Form_at place) n) st e h = leaf_stops (of_word n) at place n st e refl h
-finish_stops at m st e h = this_place at (m, st) e h
+finish_stops at (Done f) st e v h = last_stops at f (Done f) st e refl h
+finish_stops at (Bare (Form_at place) n) st e v h = leaf_stops (of_word n) at place n st e refl h
+finish_stops at (Bare (Reference_at place) n) st e v h = last_stops at (reference n) (Bare (Reference_at place) n) st e (v, refl) h
+finish_stops at (Named (Reference_at place) n) st e v h = last_stops at (reference n) (Named (Reference_at place) n) st e (v, refl) h
+finish_stops at m st e v h = this_place at (m, st) e h
 
 not_read : (at : ℕ) (f : Form) {A : Type 0} → (let r : Result Form Refusal = Err (Not_notation at) in r) ≡ Ok f → A
 not_read at f h = absurd cc
@@ -79,18 +81,21 @@ leaf_takes : (o : Option Leaf) (at place : ℕ) (n : Utf8) (st : List Level) (f 
 leaf_takes None at place n st f is h = not_read at f h
 leaf_takes (Some l) at place n st f is h = last_takes at (leaf l) f (Bare (Form_at place) n) st (l, is, refl) h
 
-finish_takes : (at : ℕ) (m : Mode) (st : List Level) (f : Form) → finish at m st ≡ Ok f → text f ≡ written (m, st)
+finish_takes : (at : ℕ) (m : Mode) (st : List Level) (f : Form) → ValidMode m → finish at m st ≡ Ok f → text f ≡ written (m, st)
 unfolding finish
-finish_takes at (Done g) st f h = last_takes at g f (Done g) st refl h
-finish_takes at (Bare (Form_at place) n) st f h = leaf_takes (of_word n) at place n st f refl h
-finish_takes at m st f h = not_read at f h
+finish_takes at (Done g) st f v h = last_takes at g f (Done g) st refl h
+finish_takes at (Bare (Form_at place) n) st f v h = leaf_takes (of_word n) at place n st f refl h
+finish_takes at (Bare (Reference_at place) n) st f v h = last_takes at (reference n) f (Bare (Reference_at place) n) st (v, refl) h
+finish_takes at (Named (Reference_at place) n) st f v h = last_takes at (reference n) f (Named (Reference_at place) n) st (v, refl) h
+finish_takes at m st f v h = not_read at f h
 
 -- what is read is the text of the form
 pub parsed_text : (bytes : Utf8) (f : Form) → parsed bytes ≡ Ok f → text f ≡ bytes
 unfolding parsed
 parsed_text bytes f e =
     let r = bound (run 0 start bytes) (λ s. finish (length bytes) s.0 s.1) f e in
-    finish_takes (length bytes) r.0.0 r.0.1 f r.2 ∙ (run_takes bytes 0 start r.0 tt r.1).1
+    let all = run_takes bytes 0 start r.0 tt r.1 in
+    finish_takes (length bytes) r.0.0 r.0.1 f all.0 r.2 ∙ all.1
 
 -- ---- fronts
 
@@ -147,34 +152,21 @@ judged_otherwise (Some x) f q h = let g : (let y : Result Form Refusal = Err (Re
 
 -- ---- words
 
-ends-snoc : (xs : Utf8) (b : ℕ) → ends_in_word (xs ++ b ∷ []) ≡ in_bare b
-ends-snoc [] b = refl
-ends-snoc (x ∷ []) b = refl
-ends-snoc (x ∷ y ∷ xs) b = ends-snoc (y ∷ xs) b
+-- the first byte tells
+first_on : (m : Mode) (c : ℕ) (xs ys : Utf8) → word_on m (c ∷ xs) ≡ word_on m (c ∷ ys)
+first_on (Bare (Form_at place) n) c xs ys = refl
+first_on (Bare (Reference_at place) n) c xs ys = refl
+first_on m c xs ys = refl
 
-ends-bytes : (bs xs : Utf8) (b : ℕ) → in_bare b ≡ true → list_all in_bare bs ≡ true → ends_in_word (xs ++ b ∷ bs) ≡ true
-ends-bytes [] xs b h all = ends-snoc xs b ∙ h
-ends-bytes (c ∷ bs) xs b h all =
-    let both = and_true (in_bare c) (list_all in_bare bs) all in
-    sym (ap ends_in_word (append_assoc xs (b ∷ []) (c ∷ bs))) ∙ ends-bytes bs (xs ++ b ∷ []) c both.0 both.1
-
-ends-bare : (n xs : Utf8) → bare n ≡ true → ends_in_word (xs ++ n) ≡ true
-ends-bare [] xs h = absurd cc
-ends-bare (b ∷ bs) xs h = let both = and_true (begins_bare b) (list_all in_bare bs) h in ends-bytes bs xs b (rw both.0 refl) both.1
-
-word_written : (m : Mode) (st : List Level) → IsWord m → ValidMode m → ends_in_word (written (m, st)) ≡ true
-word_written (Bare (Form_at place) n) st w v = ends-bare n (levels_text st) v
-word_written m st w v = absurd w
+-- where no word goes on, none of any kind does
+never_on : (m : Mode) (bytes : Utf8) → goes_on bytes ≡ false → word_on m bytes ≡ false
+never_on (Bare (Form_at place) n) bytes h = h
+never_on (Bare (Reference_at place) n) [] h = refl
+never_on (Bare (Reference_at place) n) (b ∷ bs) h = (or_false (in_bare b) (names_form b) h).0
+never_on m bytes h = refl
 
 clash : {A : Type 0} (t : Bool) → t ≡ true → t ≡ false → A
 clash t h k = absurd (let e : true ≡ false = sym h ∙ k in cc)
-
--- a form that has ended has its last byte, or it is a word
-form_written : (f : Form) (m : Mode) (st : List Level) → Behind f m → ValidMode m → ends_in_word (written (m, st)) ≡ true → IsWord m
-form_written f (Done g) st b v h =
-    clash (ends_in_word (levels_text st ++ text g)) h (ap (λ xs. ends_in_word (levels_text st ++ xs)) v.whole ∙ sym (ap ends_in_word (append_assoc (levels_text st) v.before (v.byte ∷ []))) ∙ ends-snoc (levels_text st ++ v.before) v.byte ∙ v.closes)
-form_written f (Bare (Form_at place) n) st b v h = tt
-form_written f m st b v h = absurd b
 
 -- ---- a form that has ended, which a maker refuses
 
@@ -185,6 +177,8 @@ finish_refused : (at : ℕ) (f : Form) (m : Mode) (st : List Level) (r : MakerRe
 unfolding finish
 finish_refused at f (Done g) st r b h = ap (λ x. last at x st) b ∙ last_refused at f st r h
 finish_refused at f (Bare (Form_at place) n) st r b h = ap (λ o. last_leaf at o st) b.1 ∙ ap (λ x. last at x st) b.2 ∙ last_refused at f st r h
+finish_refused at f (Bare (Reference_at place) n) st r b h = ap (λ x. last at x st) b.1 ∙ last_refused at f st r h
+finish_refused at f (Named (Reference_at place) n) st r b h = ap (λ x. last at x st) b.1 ∙ last_refused at f st r h
 finish_refused at f m st r b h = absurd b
 
 ended_refused : (at : ℕ) (f : Form) (st : List Level) (c : ℕ) (r : MakerRefusal) → wrapped at f st ≡ Err (Refused r) → form_ended at f st c ≡ Err (Refused r)
@@ -195,14 +189,24 @@ leaf_step : (at place : ℕ) (n : Utf8) (l : Leaf) (st : List Level) (c : ℕ) �
 unfolding step bare_name word_ended
 leaf_step at place n l st c is ends = let both = or_false (in_bare c) (names_form c) ends in rw (both.0, both.1, is) refl
 
-step_refused : (at : ℕ) (f : Form) (m : Mode) (st : List Level) (c : ℕ) (r : MakerRefusal) → Behind f m → (IsWord m → goes_on (c ∷ []) ≡ false) → wrapped at f st ≡ Err (Refused r) → step at m st c ≡ Err (Refused r)
+reference_step : (at place : ℕ) (n : Utf8) (st : List Level) (c : ℕ) → in_bare c ≡ false → step at (Bare (Reference_at place) n) st c ≡ form_ended at (reference n) st c
+unfolding step bare_name word_ended named
+reference_step at place n st c ends = rw ends refl
+
+quoted_step : (at place : ℕ) (n : Utf8) (st : List Level) (c : ℕ) → step at (Named (Reference_at place) n) st c ≡ form_ended at (reference n) st c
+unfolding step named
+quoted_step at place n st c = refl
+
+step_refused : (at : ℕ) (f : Form) (m : Mode) (st : List Level) (c : ℕ) (r : MakerRefusal) → Behind f m → word_on m (c ∷ []) ≡ false → wrapped at f st ≡ Err (Refused r) → step at m st c ≡ Err (Refused r)
 unfolding step
 step_refused at f (Done g) st c r b ends h = ap (λ x. form_ended at x st c) b ∙ ended_refused at f st c r h
-step_refused at f (Bare (Form_at place) n) st c r b ends h = leaf_step at place n b.0 st c b.1 (ends tt) ∙ ap (λ x. form_ended at x st c) b.2 ∙ ended_refused at f st c r h
+step_refused at f (Bare (Reference_at place) n) st c r b ends h = reference_step at place n st c ends ∙ ap (λ x. form_ended at x st c) b.1 ∙ ended_refused at f st c r h
+step_refused at f (Named (Reference_at place) n) st c r b ends h = quoted_step at place n st c ∙ ap (λ x. form_ended at x st c) b.1 ∙ ended_refused at f st c r h
+step_refused at f (Bare (Form_at place) n) st c r b ends h = leaf_step at place n b.0 st c b.1 ends ∙ ap (λ x. form_ended at x st c) b.2 ∙ ended_refused at f st c r h
 step_refused at f m st c r b ends h = absurd b
 
 -- the refusal is answered, whatever comes next, where no word goes on
-ended_parsed : (more front : Utf8) (s : State) (r : MakerRefusal) → run 0 start front ≡ Ok s → EndsForm (0 + length front) s r → (IsWord s.0 → goes_on more ≡ false) → parsed (front ++ more) ≡ Err (Refused r)
+ended_parsed : (more front : Utf8) (s : State) (r : MakerRefusal) → run 0 start front ≡ Ok s → EndsForm (0 + length front) s r → word_on s.0 more ≡ false → parsed (front ++ more) ≡ Err (Refused r)
 unfolding parsed
 ended_parsed [] front s r before e ends =
     ap parsed (append-nil front) ∙ ap (λ x. x >>= λ t. finish (length front) t.0 t.1) before
@@ -210,10 +214,10 @@ ended_parsed [] front s r before e ends =
 ended_parsed (c ∷ more) front s r before e ends =
     parsed_err (front ++ c ∷ more) (Refused r)
     (ap (run 0 start) (sym (append_assoc front (c ∷ []) more))
-    ∙ run_refuses (front ++ c ∷ []) more 0 start (Refused r) (stopped front c 0 start s (Refused r) before (step_refused (0 + length front) e.form s.0 s.1 c r e.behind ends e.refused)))
+    ∙ run_refuses (front ++ c ∷ []) more 0 start (Refused r) (stopped front c 0 start s (Refused r) before (step_refused (0 + length front) e.form s.0 s.1 c r e.behind (first_on s.0 c [] more ∙ ends) e.refused)))
 
 -- and it is met there
-ended_met : (front more : Utf8) (s : State) (r : MakerRefusal) → run 0 start front ≡ Ok s → TextState s → EndsForm (0 + length front) s r → (IsWord s.0 → goes_on more ≡ false) → IsMet (front ++ more) r
+ended_met : (front more : Utf8) (s : State) (r : MakerRefusal) → run 0 start front ≡ Ok s → TextState s → EndsForm (0 + length front) s r → word_on s.0 more ≡ false → IsMet (front ++ more) r
 ended_met front more s r before texts e ends =
     let all = run_takes front 0 start s tt before in
     let met : r.met ≡ length front = omega (arith, ends_met (0 + length front) s r e) in
@@ -229,14 +233,14 @@ ended_met front more s r before texts e ends =
       names = c.whole.names;
       rest = c.whole.rest;
       begins = begins ∙ ap (λ xs. xs ++ c.whole.rest) (sym front_is);
-      first = judged_refused (first_refusal 0 0 c.whole.form) c.whole.form r (sym (parsed-text c.whole.form) ∙ ap parsed begins ∙ ended_parsed c.whole.rest front s r before e (λ _. c.ended));
-      ended = λ w _. ap goes_on more_is ∙ ends (form_written form s.0 s.1 e.behind all.0 (ap ends_in_word (all.1 ∙ sym front_is) ∙ w));
+      first = judged_refused (first_refusal 0 0 c.whole.form) c.whole.form r (sym (parsed-text c.whole.form) ∙ ap parsed begins ∙ ended_parsed c.whole.rest front s r before e (never_on s.0 c.whole.rest c.ended));
+      ended = λ _. (λ i. word_goes_on (front_is i) (more_is i)) ∙ ap (λ xs. word_goes_on xs more) (sym all.1) ∙ behind_goes_on form s.0 s.1 more e.behind all.0 ∙ ends;
     }
 
 -- ---- refusals of makers
 
 -- where the text of the form ends or stops, the other text does so with the same refusal
-met_ended : (bytes : Utf8) (r : MakerRefusal) (m : IsMet bytes r) (front more : Utf8) (s : State) → text m.form ≡ front ++ more → run 0 start front ≡ Ok s → EndsForm (0 + length front) s r → (IsWord s.0 → goes_on more ≡ false) → parsed bytes ≡ Err (Refused r)
+met_ended : (bytes : Utf8) (r : MakerRefusal) (m : IsMet bytes r) (front more : Utf8) (s : State) → text m.form ≡ front ++ more → run 0 start front ≡ Ok s → EndsForm (0 + length front) s r → word_on s.0 more ≡ false → parsed bytes ≡ Err (Refused r)
 met_ended bytes r m front more s whole before e ends =
     let met : r.met ≡ length front = omega (arith, ends_met (0 + length front) s r e) in
     let counted : length front ≡ length (take r.met bytes) = omega (arith, length-take r.met bytes, m.within, met) in
@@ -244,7 +248,9 @@ met_ended bytes r m front more s whole before e ends =
     let front_is : front ≡ take r.met bytes = same_front front more (take r.met bytes) m.rest both counted in
     let more_is : more ≡ m.rest = same_back front more (take r.met bytes) m.rest both counted in
     let all = run_takes front 0 start s tt before in
-    let word : IsWord s.0 → goes_on (drop r.met bytes) ≡ false = λ w. m.ended (ap ends_in_word (sym front_is ∙ sym all.1) ∙ word_written s.0 s.1 w all.0) (sym (ap goes_on more_is) ∙ ends w) in
+    let before_is : written s ≡ take r.met bytes = all.1 ∙ front_is in
+    let in_form : word_goes_on (take r.met bytes) m.rest ≡ false = (λ i. word_goes_on (sym before_is i) (sym more_is i)) ∙ behind_goes_on e.form s.0 s.1 more e.behind all.0 ∙ ends in
+    let word : word_on s.0 (drop r.met bytes) ≡ false = sym (behind_goes_on e.form s.0 s.1 (drop r.met bytes) e.behind all.0) ∙ ap (λ xs. word_goes_on xs (drop r.met bytes)) before_is ∙ m.ended in_form in
     sym (ap parsed (ap (λ xs. xs ++ drop r.met bytes) front_is ∙ take-append-drop r.met bytes)) ∙ ended_parsed (drop r.met bytes) front s r before e word
 
 -- where a byte of the form's text is refused, so is that of the other one
@@ -270,9 +276,9 @@ met_parsed bytes r m =
           let k = run_stops (text m.form) 0 start (Refused r) h in
           elim (stop_at (text m.form) (Refused r) k) [
             | inl at ↦ met_stopped bytes r m k at
-            | inr at ↦ met_ended bytes r m k.front (k.byte ∷ k.tail) k.state k.whole k.before at.0 at.1
+            | inr at ↦ met_ended bytes r m k.front (k.byte ∷ k.tail) k.state k.whole k.before at.0 (first_on k.state.0 k.byte k.tail [] ∙ at.1)
           ]
-      | inr h ↦ met_ended bytes r m (text m.form) [] h.0 (sym (append-nil (text m.form))) h.1 (at_end (text m.form) h.0 r (finish_stops (length (text m.form)) h.0.0 h.0.1 (Refused r) h.2)) (λ _. refl)
+      | inr h ↦ met_ended bytes r m (text m.form) [] h.0 (sym (append-nil (text m.form))) h.1 (at_end (text m.form) h.0 r (finish_stops (length (text m.form)) h.0.0 h.0.1 (Refused r) (run_takes (text m.form) 0 start h.0 tt h.1).0 h.2)) (never_on h.0.0 [] refl)
     ]
 
 at_bytes : (xs ys : Utf8) → xs ≡ ys → BeginsNotation xs → BeginsNotation ys
@@ -281,10 +287,10 @@ at_bytes xs ys e h = subst BeginsNotation e h
 -- a notation that begins with the bytes, in which a word at their end goes on
 record Onward (bytes : Utf8) : Type 0 where
   begins : BeginsNotation bytes
-  word : ends_in_word bytes ≡ true → goes_on begins.rest ≡ true
+  word : ends_in_word bytes ≡ true → word_goes_on bytes begins.rest ≡ true
 
 onward_word : (m : Mode) (st : List Level) → IsWord m → ValidMode m → TextState (m, st) → Onward (written (m, st))
-onward_word (Bare (Form_at place) n) st w v t = let b = begins_word place n st v t in record { begins = b.0; word = λ _. b.1 }
+onward_word (Bare (Form_at place) n) st w v t = let b = begins_word place n st v t in record { begins = b.0; word = λ _. bare_goes_on place n st b.0.rest v ∙ b.1 }
 onward_word m st w v t = absurd w
 
 -- the state behind a byte
@@ -317,14 +323,18 @@ met_byte bytes r k at =
       rest = b.rest;
       begins = b.begins ∙ ap (λ xs. xs ++ b.rest) front;
       first = refused_first bytes r s b.form b.rest b.begins;
-      ended = λ w g. clash (goes_on b.rest) (o.word (ap ends_in_word front ∙ w)) g;
+      ended = λ g. by_word (ends_in_word (take r.met bytes)) refl (λ w. ap (λ xs. word_goes_on xs b.rest) (sym front) ∙ o.word (ap ends_in_word front ∙ w)) g;
     }
+  where
+    by_word : (t : Bool) → ends_in_word (take r.met bytes) ≡ t → (ends_in_word (take r.met bytes) ≡ true → word_goes_on (take r.met bytes) (refused_front bytes r k at).begins.rest ≡ true) → word_goes_on (take r.met bytes) (refused_front bytes r k at).begins.rest ≡ false → word_goes_on (take r.met bytes) (drop r.met bytes) ≡ false
+    by_word true is on g = clash (word_goes_on (take r.met bytes) (refused_front bytes r k at).begins.rest) (on is) g
+    by_word false is on g = no_word (take r.met bytes) (drop r.met bytes) is
 
 met_here : (bytes : Utf8) (r : MakerRefusal) (k : TextStops 0 start bytes (Refused r)) → IsMet bytes r
 met_here bytes r k =
     elim (stop_at bytes (Refused r) k.stops) [
       | inl at ↦ met_byte bytes r k at
-      | inr at ↦ subst (λ xs. IsMet xs r) (sym k.stops.whole) (ended_met k.stops.front (k.stops.byte ∷ k.stops.tail) k.stops.state r k.stops.before k.texts at.0 at.1)
+      | inr at ↦ subst (λ xs. IsMet xs r) (sym k.stops.whole) (ended_met k.stops.front (k.stops.byte ∷ k.stops.tail) k.stops.state r k.stops.before k.texts at.0 (first_on k.stops.state.0 k.stops.byte k.stops.tail [] ∙ at.1))
     ]
 
 on_text : (bytes : Utf8) → IsUtf8 bytes → (e : Refusal) → run 0 start bytes ≡ Err e → TextStops 0 start bytes e
@@ -339,8 +349,8 @@ parsed_met bytes u r e =
     elim (bound_err (run 0 start bytes) (λ s. finish (length bytes) s.0 s.1) (Refused r) e) [
       | inl h ↦ met_here bytes r (on_text bytes u (Refused r) h)
       | inr h ↦
-          let ends = at_end bytes h.0 r (finish_stops (length bytes) h.0.0 h.0.1 (Refused r) h.2) in
-          subst (λ xs. IsMet xs r) (append-nil bytes) (ended_met bytes [] h.0 r h.1 (text_at_end bytes h.0 u h.1) ends (λ _. refl))
+          let ends = at_end bytes h.0 r (finish_stops (length bytes) h.0.0 h.0.1 (Refused r) (run_takes bytes 0 start h.0 tt h.1).0 h.2) in
+          subst (λ xs. IsMet xs r) (append-nil bytes) (ended_met bytes [] h.0 r h.1 (text_at_end bytes h.0 u h.1) ends (never_on h.0.0 [] refl))
     ]
 
 -- ---- no notation
@@ -378,7 +388,7 @@ parsed_place bytes u q e =
     record {
       longest = elim (bound_err (run 0 start bytes) (λ s. finish (length bytes) s.0 s.1) (Not_notation q) e) [
         | inl h ↦ longest_stop bytes q (on_text bytes u (Not_notation q) h)
-        | inr h ↦ longest_end bytes q h.0 (finish_stops (length bytes) h.0.0 h.0.1 (Not_notation q) h.2) u h.1
+        | inr h ↦ longest_end bytes q h.0 (finish_stops (length bytes) h.0.0 h.0.1 (Not_notation q) (run_takes bytes 0 start h.0 tt h.1).0 h.2) u h.1
       ];
       unmet = λ r m. let g : (let y : Result Form Refusal = Err (Not_notation q) in y) ≡ Err (Refused r) = sym e ∙ met_parsed bytes r m in cc;
     }

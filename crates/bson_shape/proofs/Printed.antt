@@ -10,7 +10,7 @@ use Rattle.bson_shape.specs.Form.{Form}
 use Rattle.bson_shape.specs.ShapeView.{fields_of, parts_of, variants_of, content_of}
 use Rattle.bson_shape.specs.declared.shape.FieldShape.{FieldShape}
 use Rattle.bson_shape.specs.declared.shape.VariantShape.{VariantShape}
-use Rattle.bson_shape.specs.Notation.{is_escaped, escaped, name_text, listed, text, field_texts, part_texts, variant_texts, content_text}
+use Rattle.bson_shape.specs.Notation.{is_escaped, escaped, name_text, listed, text, named_texts, part_texts, variant_texts, content_text}
 use Rattle.bson_shape.specs.PrinterView.{comma_at}
 use Rattle.bson_shape.proofs.States.{sep, listed-snoc}
 use Rattle.bson_shape.proofs.Steps.{escaped-append}
@@ -56,24 +56,25 @@ module _ {X : Type 0} (shown : X → Utf8) where
       let all : listed (map shown (take (i + 1) items)) ≡ listed so_far ++ (comma_at i ++ shown x) = ap listed texts ∙ listed-snoc so_far (shown x) ∙ ap (λ c. listed so_far ++ (c ++ shown x)) (sep-comma front i count) in
       ended ∙ ap (λ y. y ++ (comma_at i ++ shown x)) before ∙ append_assoc init (listed so_far) (comma_at i ++ shown x) ∙ ap (λ y. init ++ y) (sym all)
 
-  -- all are, between what opens them and the closing byte
-  pub all_printed : (items : List X) (i : ℕ) (old opening init out last : Utf8) (c : ℕ) → length items ≤ i → init ≡ old ++ opening → out ≡ init ++ listed (map shown (take i items)) → last ≡ out ++ c ∷ []
-      → last ≡ old ++ (opening ++ (listed (map shown items) ++ c ∷ []))
-  all_printed items i old opening init out last c le begun before ended =
+  -- all are, and the closing byte
+  pub all_printed : (items : List X) (i : ℕ) (old bs init out last : Utf8) (c : ℕ) → length items ≤ i → init ≡ old ++ bs → out ≡ init ++ listed (map shown (take i items)) → last ≡ out ++ c ∷ []
+      → last ≡ old ++ (bs ++ (listed (map shown items) ++ c ∷ []))
+  all_printed items i old bs init out last c le begun before ended =
       let texts = listed (map shown items) in
-      let all : out ≡ (old ++ opening) ++ texts = before ∙ ap (λ y. y ++ listed (map shown (take i items))) begun ∙ ap (λ l. (old ++ opening) ++ listed (map shown l)) (take_all i items le) in
-      let regrouped : ((old ++ opening) ++ texts) ++ c ∷ [] ≡ old ++ (opening ++ (texts ++ c ∷ [])) = simp append_assoc in
+      let all : out ≡ (old ++ bs) ++ texts = before ∙ ap (λ y. y ++ listed (map shown (take i items))) begun ∙ ap (λ l. (old ++ bs) ++ listed (map shown l)) (take_all i items le) in
+      let regrouped : ((old ++ bs) ++ texts) ++ c ∷ [] ≡ old ++ (bs ++ (texts ++ c ∷ [])) = simp append_assoc in
       ended ∙ ap (λ y. y ++ c ∷ []) all ∙ regrouped
 
-abbrev pub field_shown : FieldShape → Utf8
-field_shown f = name_text (string_bytes f.name) ++ 58 ∷ text f.shape
+-- a field or a definition, with this byte between its name and its form
+abbrev pub field_shown : ℕ → FieldShape → Utf8
+field_shown c f = name_text (string_bytes f.name) ++ c ∷ text f.shape
 
 abbrev pub variant_shown : VariantShape → Utf8
 variant_shown v = name_text (string_bytes v.name) ++ content_text (content_of v.content)
 
-pub fields_shown : (fs : List FieldShape) → map field_shown fs ≡ field_texts (fields_of fs)
-fields_shown [] = refl
-fields_shown (f ∷ fs) = ap (λ xs. field_shown f ∷ xs) (fields_shown fs)
+pub fields_shown : (c : ℕ) (fs : List FieldShape) → map (field_shown c) fs ≡ named_texts c (fields_of fs)
+fields_shown c [] = refl
+fields_shown c (f ∷ fs) = ap (λ xs. field_shown c f ∷ xs) (fields_shown c fs)
 
 pub parts_shown : (fs : List Form) → map text fs ≡ part_texts (parts_of fs)
 parts_shown [] = refl
@@ -84,10 +85,10 @@ variants_shown [] = refl
 variants_shown (v ∷ vs) = ap (λ xs. variant_shown v ∷ xs) (variants_shown vs)
 
 -- a comma where one is due, what is before the form, and the form
-pub field_printed : (out next last comma name t : Utf8) → next ≡ out ++ (comma ++ (name ++ 58 ∷ [])) → last ≡ next ++ t → last ≡ out ++ (comma ++ (name ++ 58 ∷ t))
-field_printed out next last comma name t named ended = ended ∙ ap (λ y. y ++ t) named ∙ regrouped
+pub field_printed : (c : ℕ) (out next last comma name t : Utf8) → next ≡ out ++ (comma ++ (name ++ c ∷ [])) → last ≡ next ++ t → last ≡ out ++ (comma ++ (name ++ c ∷ t))
+field_printed c out next last comma name t named ended = ended ∙ ap (λ y. y ++ t) named ∙ regrouped
   where
-    regrouped : (out ++ (comma ++ (name ++ 58 ∷ []))) ++ t ≡ out ++ (comma ++ (name ++ 58 ∷ t))
+    regrouped : (out ++ (comma ++ (name ++ c ∷ []))) ++ t ≡ out ++ (comma ++ (name ++ c ∷ t))
     regrouped = simp append_assoc
 
 pub part_printed : (out next last comma t : Utf8) → next ≡ out ++ comma → last ≡ next ++ t → last ≡ out ++ (comma ++ t)

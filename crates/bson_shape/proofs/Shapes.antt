@@ -6,7 +6,7 @@ use Rattle.std.proofs.lemmas.Bool.{or_left, or_right, or_parts, or_from, and_fro
 use Rattle.std.proofs.lemmas.List.{take_more}
 use Rattle.std.proofs.lemmas.Str.{is_utf8-from_IsUtf8, IsUtf8-had}
 use Rattle.bson_base.specs.Text.{Utf8}
-use Rattle.bson_shape.specs.Form.{Form, leaf, optional, lossy, human_readable, by_mode, sequence, map, tuple, tuple_structure, newtype, unit_structure, structure, enumeration, Fields, no_fields, field, joined, push_field, Parts, no_parts, part, joined_parts, push_part, Variants, no_variants, variant, joined_variants, push_variant, Content}
+use Rattle.bson_shape.specs.Form.{Form, leaf, optional, lossy, human_readable, by_mode, sequence, map, tuple, tuple_structure, newtype, unit_structure, structure, enumeration, reference, definitions, Fields, no_fields, field, joined, push_field, Parts, no_parts, part, joined_parts, push_part, Variants, no_variants, variant, joined_variants, push_variant, Content}
 use Rattle.bson_shape.specs.Levels.{levels, deepest, deepest_part, deepest_variant, deepest_inside, max_shape_levels}
 use Rattle.bson_shape.specs.Makers.{contents_repeat, content_repeats, is_unit, are_units, IsShape, AreShapes, AreParts, AreVariants, IsContent}
 use Rattle.bson_shape.specs.ShapeView.{fields_of, parts_of, variants_of, content_of, nodes, fields_nodes, parts_nodes, variants_nodes, content_nodes}
@@ -69,6 +69,8 @@ levels_few (newtype name f) shape = shape.0.few
 levels_few (unit_structure name) shape = omega arith
 levels_few (structure u name fs) shape = shape.0.few
 levels_few (enumeration vs) shape = shape.0.few
+levels_few (reference name) shape = omega arith
+levels_few (definitions h f) shape = shape.0.few
 
 -- each field's shape has fewer nodes than the fields
 pub field_smaller : (fs : List FieldShape) (i : ℕ) (d : FieldShape) → i < length fs → nodes (get_or fs i d).shape < fields_nodes (fields_of fs)

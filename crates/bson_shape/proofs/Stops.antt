@@ -6,11 +6,11 @@ use lib.Utf8.{scalar, scalars, encode, encodes}
 use Rattle.std.proofs.lemmas.Bool.Decides.{nat_tests}
 use Rattle.std.proofs.lemmas.Str.{encode_ascii, length-encode, len_utf8_bounds}
 use Rattle.bson_base.specs.Text.{Utf8}
-use Rattle.bson_shape.specs.Form.{leaf}
+use Rattle.bson_shape.specs.Form.{leaf, reference}
 use Rattle.bson_shape.specs.Leaf.{of_word}
 use Rattle.bson_shape.specs.declared.leaf.Leaf.{Leaf}
 use Rattle.bson_base.specs.Outcome.{◌>>=◌}
-use Rattle.bson_shape.specs.Machine.{Refusal, Not_notation, Level, Form_at, Mode, Bare, Quoted, Done, State, wrapped, step, no_more_behind, other_character, run}
+use Rattle.bson_shape.specs.Machine.{Refusal, Not_notation, Level, Form_at, Reference_at, Mode, Bare, Quoted, Named, Done, State, wrapped, step, no_more_behind, other_character, run}
 use Rattle.bson_shape.proofs.Words.{and_true}
 use Rattle.bson_shape.proofs.TextStates.{TextState, text-append, text-encode}
 use Rattle.bson_shape.proofs.States.{written, ValidMode}
@@ -93,6 +93,8 @@ other_refused : (at : ℕ) (m : Mode) (st : List Level) (xs ys : Utf8) (e : Refu
 unfolding other_character
 other_refused at (Quoted owner n) st xs ys e h = absurd (let g : (let r : Result State Refusal = Ok (Quoted owner (n ++ xs), st) in r) ≡ Err e = h in cc)
 other_refused at (Bare (Form_at place) n) st xs ys e h = h
+other_refused at (Bare (Reference_at place) n) st xs ys e h = h
+other_refused at (Named (Reference_at place) n) st xs ys e h = h
 other_refused at m st xs ys e h = h
 
 not_taken : {A : Type 0} (r : Result A Refusal) (e : Refusal) (t : State) → (r >>= λ x. Err e) ≡ Ok t → ⊥
@@ -109,6 +111,8 @@ other_taken at (Quoted owner n) st c t k h e =
     let same : (let u : State = (Quoted owner (n ++ encode c), st) in u) ≡ t = cc in
     subst TextState same (record { mode = (h.mode.0, text-append n (encode c) h.mode.1 (text-encode c k)); levels = h.levels })
 other_taken at (Bare (Form_at place) n) st c t k h e = absurd (word_not_taken (of_word n) at st t e)
+other_taken at (Bare (Reference_at place) n) st c t k h e = absurd (not_taken (wrapped at (reference n) st) (Not_notation at) t e)
+other_taken at (Named (Reference_at place) n) st c t k h e = absurd (not_taken (wrapped at (reference n) st) (Not_notation at) t e)
 other_taken at (Done f) st c t k h e = absurd (not_taken (wrapped at f st) (Not_notation at) t e)
 other_taken at m st c t k h e = absurd (let g : (let r : Result State Refusal = Err (Not_notation at) in r) ≡ Ok t = e in cc)
 

@@ -6,7 +6,7 @@ use lib.Utf8.{encode, low_scalar}
 use Rattle.std.proofs.lemmas.Str.{IsUtf8-append, IsUtf8-encode, IsUtf8-nil, IsUtf8-from_is_utf8, is_utf8-from_IsUtf8, encode_ascii}
 use Rattle.bson_base.specs.Text.{Utf8}
 use Rattle.bson_shape.specs.Form.{Form, Fields, no_fields, field, push_field, Parts, no_parts, part, push_part, Variants, no_variants, variant, push_variant, Content, newtype_content, tuple_content, struct_content}
-use Rattle.bson_shape.specs.Machine.{OpenEnum, Holder, Nameless_at, Named_at, Variant_of, Group, Braces, Closed_braces, Parens, Angles, Prefix, Option_prefix, Lossy_prefix, Readable_prefix, Newtype_prefix, Level, In_prefix, In_brackets, In_pair, In_compact, In_map, In_item, Owner, Form_at, Item_of, Mode, Form_due, Pair_due, Item_due, Bare, Quoted, Escape, Named, Item_done, Done, State, grown, closed, prefixed}
+use Rattle.bson_shape.specs.Machine.{OpenEnum, Holder, Nameless_at, Named_at, Variant_of, Group, Braces, Closed_braces, Parens, Angles, Table, Prefix, Option_prefix, Lossy_prefix, Readable_prefix, Newtype_prefix, Definitions_prefix, Level, In_prefix, In_brackets, In_pair, In_compact, In_map, In_item, Owner, Form_at, Item_of, Reference_at, Mode, Form_due, Behind_sign, Item_due, Bare, Quoted, Escape, Named, Item_done, Done, State, grown, Closed, Closed_form, Closed_variant, Closed_prefix, closed, prefixed}
 use Rattle.bson_shape.proofs.States.{after}
 use Rattle.bson_shape.specs.Fronts.{HasTextNames, HaveTextNames, PartsHaveTextNames, VariantsHaveTextNames, ContentHasTextNames}
 use Rattle.std.proofs.Common.{arith}
@@ -39,16 +39,19 @@ TextGroup (Braces h fs) = TextHolder h × HaveTextNames fs
 TextGroup (Closed_braces place n fs) = (is_utf8 n ≡ true) × HaveTextNames fs
 TextGroup (Parens h ps) = TextHolder h × PartsHaveTextNames ps
 TextGroup (Angles e) = TextEnum e
+TextGroup (Table place h) = HaveTextNames h
 
 abbrev pub TextPrefix : Prefix → Type 0
 TextPrefix Option_prefix = Unit {0}
 TextPrefix Lossy_prefix = Unit {0}
 TextPrefix Readable_prefix = Unit {0}
 TextPrefix (Newtype_prefix n) = is_utf8 n ≡ true
+TextPrefix (Definitions_prefix h) = HaveTextNames h
 
 abbrev pub TextOwner : Owner → Type 0
 TextOwner (Form_at place) = Unit {0}
 TextOwner (Item_of g) = TextGroup g
+TextOwner (Reference_at place) = Unit {0}
 
 abbrev pub TextLevels : List Level → Type 0
 TextLevels [] = Unit {0}
@@ -61,7 +64,7 @@ TextLevels (In_item g n ∷ st) = TextGroup g × (is_utf8 n ≡ true) × TextLev
 
 abbrev pub TextMode : Mode → Type 0
 TextMode Form_due = Unit {0}
-TextMode (Pair_due place) = Unit {0}
+TextMode (Behind_sign sign place) = Unit {0}
 TextMode (Item_due g) = TextGroup g
 TextMode (Bare owner n) = TextOwner owner × (is_utf8 n ≡ true)
 TextMode (Quoted owner n) = TextOwner owner × (is_utf8 n ≡ true)
@@ -92,9 +95,20 @@ names-grown (Braces h fs) n f k t i = (k.0, texts-snoc fs n f k.1 t i)
 names-grown (Closed_braces place m fs) n f k t i = (k.0, texts-snoc fs n f k.1 t i)
 names-grown (Parens h ps) n f k t i = (k.0, parts_texts-snoc ps f k.1 i)
 names-grown (Angles e) n f k t i = variants_texts-snoc e.variants n (newtype_content f) k t i
+names-grown (Table place h) n f k t i = texts-snoc h n f k t i
 
--- behind the closing bracket
-pub names-closed : (g : Group) → TextGroup g → TextMode (after (closed g))
+-- what a closing bracket ends
+abbrev pub TextClosed : Closed → Type 0
+TextClosed (Closed_form place f) = HasTextNames f
+TextClosed (Closed_variant e) = TextEnum e
+TextClosed (Closed_prefix place p) = TextPrefix p
+
+pub after_texts : (c : Closed) (st : List Level) → TextClosed c → TextLevels st → TextState (after c st)
+after_texts (Closed_form place f) st k l = record { mode = k; levels = l }
+after_texts (Closed_variant e) st k l = record { mode = k; levels = l }
+after_texts (Closed_prefix place p) st k l = record { mode = tt; levels = (k, l) }
+
+pub names-closed : (g : Group) → TextGroup g → TextClosed (closed g)
 names-closed (Braces (Nameless_at place) fs) k = (text-nil, k.1)
 names-closed (Braces (Named_at place n) fs) k = k
 names-closed (Braces (Variant_of e n) fs) k = variants_texts-snoc e.variants n (struct_content fs) k.0.0 k.0.1 k.1
@@ -103,9 +117,11 @@ names-closed (Parens (Nameless_at place) ps) k = k.1
 names-closed (Parens (Named_at place n) ps) k = k
 names-closed (Parens (Variant_of e n) ps) k = variants_texts-snoc e.variants n (tuple_content ps) k.0.0 k.0.1 k.1
 names-closed (Angles e) k = k
+names-closed (Table place h) k = k
 
 pub names-prefixed : (p : Prefix) (f : Form) → TextPrefix p → HasTextNames f → HasTextNames (prefixed p f)
 names-prefixed Option_prefix f k h = h
 names-prefixed Lossy_prefix f k h = h
 names-prefixed Readable_prefix f k h = h
 names-prefixed (Newtype_prefix n) f k h = (k, h)
+names-prefixed (Definitions_prefix t) f k h = (k, h)

@@ -1,14 +1,14 @@
 -- The text of a form is read as that form, or refused as its first refusal says.
-use Rattle.std.proofs.Common.{◌≡◌, ℕ, ◌+◌, ◌≤◌, ◌<◌, false, cond, [], ◌∷◌, ◌++◌, length, Option, Some, None, Result, Ok, Err, refl, sym, ap, ◌∙◌, arith}
+use Rattle.std.proofs.Common.{◌≡◌, ℕ, ◌+◌, ◌≤◌, ◌<◌, false, cond, [], ◌++◌, length, Option, Some, None, Result, Ok, Err, refl, sym, ap, ◌∙◌, arith}
 use Rattle.std.specs.Prelude.{nat_le}
 use Rattle.std.proofs.lemmas.List.{append-nil}
 use Rattle.std.proofs.lemmas.Bool.Decides.{nat_tests}
 use Rattle.bson_base.specs.Text.{Utf8}
 use Rattle.bson_shape.specs.declared.error.ShapeError.TheVariants.{TooDeep}
-use Rattle.bson_shape.specs.Form.{Form, leaf, optional, lossy, human_readable, by_mode, sequence, map, tuple, tuple_structure, newtype, unit_structure, structure, enumeration, Fields, no_fields, field, Parts, no_parts, part, Variants, no_variants, variant, Content, unit_content, newtype_content, tuple_content, struct_content}
+use Rattle.bson_shape.specs.Form.{Form, leaf, optional, lossy, human_readable, by_mode, sequence, map, tuple, tuple_structure, newtype, unit_structure, structure, enumeration, reference, definitions, Fields, no_fields, field, Parts, no_parts, part, Variants, no_variants, variant, Content, unit_content, newtype_content, tuple_content, struct_content}
 use Rattle.bson_shape.specs.Levels.{levels, deepest, deepest_part, deepest_variant, deepest_inside}
 use Rattle.bson_shape.specs.Makers.{IsShape, AreShapes, AreParts, AreVariants, IsContent, made_form}
-use Rattle.bson_shape.specs.Notation.{text, name_text, struct_name_text, opening_struct, content_text}
+use Rattle.bson_shape.specs.Notation.{text, name_text, struct_name_text, opening_struct, in_parens, definition_texts, content_text}
 use Rattle.bson_shape.specs.FirstRefusal.{MakerRefusal, or_else, refusal_of, form_refusal, first_refusal, fields_refusal, parts_refusal, variants_refusal, content_refusal}
 use Rattle.bson_base.specs.Outcome.{◌>>=◌}
 use Rattle.bson_shape.specs.Machine.{Refusal, Refused, Form_due, Done, wrapped, run, finish, parsed}
@@ -74,6 +74,12 @@ mutual
   first_refusal-IsShape (newtype n f) at around h few =
       let inner = at + length (name_text n) + 1 in
       none_refused (newtype n f) at around (first_refusal inner (around + 1) f) h (few_around around (omega arith)) (first_refusal-IsShape f inner (around + 1) h.1 (omega arith))
+  first_refusal-IsShape (reference n) at around h few = none_refused (reference n) at around None h (few_around around (omega arith)) refl
+  first_refusal-IsShape (definitions t f) at around h few =
+      let body = at + 1 + length (in_parens (definition_texts t)) in
+      let b = first_refusal body (around + 1) f in
+      none_refused (definitions t f) at around (or_else (fields_refusal (at + 2) (around + 1) t) b) h (few_around around (omega arith))
+      (ap (λ o. or_else o b) (fields_refusal-AreShapes t (at + 2) (around + 1) h.1 (omega arith)) ∙ first_refusal-IsShape f body (around + 1) h.2 (omega arith))
   first_refusal-IsShape (unit_structure n) at around h few = none_refused (unit_structure n) at around None h (few_around around (omega arith)) refl
   first_refusal-IsShape (structure u n fs) at around h few =
       let inner = at + length (struct_name_text n) + length (opening_struct u) in
@@ -82,7 +88,7 @@ mutual
   fields_refusal-AreShapes : (fs : Fields) (at around : ℕ) → AreShapes fs → around + deepest fs ≤ 512 → fields_refusal at around fs ≡ None
   fields_refusal-AreShapes no_fields at around h few = refl
   fields_refusal-AreShapes (field n f fs) at around h few =
-      let next = at + length (name_text n ++ 58 ∷ text f) + 1 in
+      let next = at + length (name_text n) + 1 + length (text f) + 1 in
       ap (λ o. or_else o (fields_refusal next around fs)) (first_refusal-IsShape f (at + length (name_text n) + 1) around h.1 (omega arith)) ∙ fields_refusal-AreShapes fs next around h.2 (omega arith)
 
   parts_refusal-AreParts : (ps : Parts) (at around : ℕ) → AreParts ps → around + deepest_part ps ≤ 512 → parts_refusal at around ps ≡ None

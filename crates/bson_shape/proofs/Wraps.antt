@@ -1,20 +1,21 @@
 -- A form that ends, with the options and newtypes around it that end with it.
-use Rattle.std.proofs.Common.{◌≡◌, ℕ, List, [], ◌∷◌, ◌++◌, Some, Result, Ok, Err, refl, sym, ap, subst, ◌∙◌}
+use Rattle.std.proofs.Common.{◌≡◌, ℕ, Bool, true, false, List, [], ◌∷◌, ◌++◌, Some, Result, Ok, Err, refl, sym, ap, subst, ◌∙◌}
 use Rattle.std.specs.Prelude.{IfOk}
-use Rattle.bson_shape.specs.Form.{Form, leaf}
+use Rattle.bson_base.specs.Text.{Utf8}
+use Rattle.bson_shape.specs.Form.{Form, leaf, reference}
 use Rattle.bson_shape.specs.Leaf.{of_word}
 use Rattle.bson_shape.specs.declared.leaf.Leaf.{Leaf}
 use Rattle.bson_shape.specs.Makers.{made_form}
-use Rattle.bson_shape.specs.Notation.{text}
-use Rattle.bson_shape.specs.Fronts.{HasTextNames}
+use Rattle.bson_shape.specs.Notation.{bare, text}
+use Rattle.bson_shape.specs.Fronts.{HasTextNames, is_longer, goes_on}
 use Rattle.bson_shape.specs.FirstRefusal.{MakerRefusal}
 use Rattle.bson_shape.specs.declared.error.ShapeError.{ShapeError}
 use Rattle.bson_base.specs.Outcome.{◌>>=◌}
-use Rattle.bson_shape.specs.Machine.{Refusal, Not_notation, Refused, Level, In_prefix, In_brackets, In_pair, In_compact, In_map, In_item, Form_at, Mode, Bare, Done, State, made, Ended, prefixed, wrapped}
+use Rattle.bson_shape.specs.Machine.{Refusal, Not_notation, Refused, Level, In_prefix, In_brackets, In_pair, In_compact, In_map, In_item, Form_at, Reference_at, Mode, Bare, Named, Done, State, made, Ended, prefixed, wrapped}
 use Rattle.bson_shape.proofs.Made.{made_form-made}
 use Rattle.bson_shape.proofs.Words.{of_word-is}
 use Rattle.bson_shape.proofs.TextStates.{TextLevels, TextMode, names-prefixed}
-use Rattle.bson_shape.proofs.States.{levels_text, mode_text, levels_prefixed}
+use Rattle.bson_shape.proofs.States.{levels_text, mode_text, levels_prefixed, name-bare, name-quoted}
 
 -- The same is written, and the names are still texts; a maker that refuses does so behind these bytes.
 abbrev pub Keeps : ℕ → Form → List Level → Result Ended Refusal → Type 0
@@ -46,6 +47,12 @@ wrapped_keeps (In_item g n ∷ st) read f = (refl, λ h l. (h, l))
 
 -- ---- behind a form
 
+-- a word goes on with these bytes
+abbrev pub word_on : Mode → Utf8 → Bool
+word_on (Bare (Form_at place) n) bytes = goes_on bytes
+word_on (Bare (Reference_at place) n) bytes = is_longer bytes
+word_on m bytes = false
+
 -- inside a word that may be a leaf
 abbrev pub IsWord : Mode → Type 0
 IsWord (Bare (Form_at place) n) = Unit {0}
@@ -55,16 +62,22 @@ IsWord m = ⊥
 abbrev pub Behind : Form → Mode → Type 0
 Behind f (Done g) = g ≡ f
 Behind f (Bare (Form_at place) n) = (l : Leaf) × (of_word n ≡ Some l) × (leaf l ≡ f)
+Behind f (Bare (Reference_at place) n) = (bare n ≡ true) × (reference n ≡ f)
+Behind f (Named (Reference_at place) n) = (bare n ≡ false) × (reference n ≡ f)
 Behind f m = ⊥
 
 pub behind_text : (f : Form) (m : Mode) → Behind f m → mode_text m ≡ text f
 behind_text f (Done g) b = ap text b
 behind_text f (Bare (Form_at place) n) b = of_word-is n b.0 b.1 ∙ ap text b.2
+behind_text f (Bare (Reference_at place) n) b = ap (λ xs. 64 ∷ xs) (sym (name-bare n b.0)) ∙ ap text b.1
+behind_text f (Named (Reference_at place) n) b = ap (λ xs. 64 ∷ xs) (sym (name-quoted n b.0)) ∙ ap text b.1
 behind_text f m b = absurd b
 
 pub behind_names : (f : Form) (m : Mode) → Behind f m → TextMode m → HasTextNames f
 behind_names f (Done g) b t = subst HasTextNames b t
 behind_names f (Bare (Form_at place) n) b t = subst HasTextNames b.2 tt
+behind_names f (Bare (Reference_at place) n) b t = subst HasTextNames b.1 t.1
+behind_names f (Named (Reference_at place) n) b t = subst HasTextNames b.1 t.1
 behind_names f m b t = absurd b
 
 -- a form has ended, and the maker of one around it refuses

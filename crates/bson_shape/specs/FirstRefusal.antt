@@ -1,9 +1,9 @@
 -- The first refusal of a maker that is met in reading a notation from left to right. Source: this library's own notation.
-use Rattle.std.specs.Prelude.{ℕ, ◌+◌, nat_le, if◌then◌else◌, ◌∷◌, ◌++◌, length, Option, Some, None, Result, Ok, Err}
-use Rattle.bson_shape.specs.Form.{Form, leaf, optional, lossy, human_readable, by_mode, sequence, map, tuple, tuple_structure, newtype, unit_structure, structure, enumeration, Fields, no_fields, field, Parts, no_parts, part, Variants, no_variants, variant, Content, unit_content, newtype_content, tuple_content, struct_content}
+use Rattle.std.specs.Prelude.{ℕ, ◌+◌, nat_le, if◌then◌else◌, ◌++◌, length, Option, Some, None, Result, Ok, Err}
+use Rattle.bson_shape.specs.Form.{Form, leaf, optional, lossy, human_readable, by_mode, sequence, map, tuple, tuple_structure, newtype, unit_structure, structure, enumeration, reference, definitions, Fields, no_fields, field, Parts, no_parts, part, Variants, no_variants, variant, Content, unit_content, newtype_content, tuple_content, struct_content}
 use Rattle.bson_shape.specs.Levels.{max_shape_levels}
 use Rattle.bson_shape.specs.Makers.{made_form}
-use Rattle.bson_shape.specs.Notation.{colon, text, name_text, struct_name_text, opening_struct, content_text}
+use Rattle.bson_shape.specs.Notation.{text, name_text, struct_name_text, opening_struct, in_parens, definition_texts, content_text}
 use Rattle.bson_shape.specs.declared.error.ShapeError.{ShapeError}
 use Rattle.bson_shape.specs.declared.error.ShapeError.TheVariants.{TooDeep}
 
@@ -53,12 +53,15 @@ abbrev mutual
   first_refusal at around (structure u name fs) =
       form_refusal at around (structure u name fs) (fields_refusal (at + length (struct_name_text name) + length (opening_struct u)) (around + 1) fs)
   first_refusal at around (enumeration vs) = form_refusal at around (enumeration vs) (variants_refusal (at + 1) (around + 1) vs)
+  first_refusal at around (reference name) = form_refusal at around (reference name) None
+  first_refusal at around (definitions h f) =
+      form_refusal at around (definitions h f) (or_else (fields_refusal (at + 2) (around + 1) h) (first_refusal (at + 1 + length (in_parens (definition_texts h))) (around + 1) f))
 
-  -- of fields, where the text of the first one begins at this place
+  -- of fields or definitions, where the text of the first one begins at this place; one byte is between a name and its form
   pub fields_refusal : ℕ → ℕ → Fields → Option MakerRefusal
   fields_refusal at around no_fields = None
   fields_refusal at around (field name f fs) =
-      or_else (first_refusal (at + length (name_text name) + 1) around f) (fields_refusal (at + length (name_text name ++ colon ∷ text f) + 1) around fs)
+      or_else (first_refusal (at + length (name_text name) + 1) around f) (fields_refusal (at + length (name_text name) + 1 + length (text f) + 1) around fs)
 
   -- of parts, where the text of the first one begins at this place
   pub parts_refusal : ℕ → ℕ → Parts → Option MakerRefusal

@@ -37,8 +37,12 @@ mutual
     structure : (unknown : UnknownFields) → (name : Utf8) → (fields : Fields) → Form
     -- one of these variants
     enumeration : (variants : Variants) → Form
+    -- what the definition of this name says, in the innermost definitions around it
+    reference : (name : Utf8) → Form
+    -- named definitions, and the form that they are for
+    definitions : (table : Fields) → (body : Form) → Form
 
-  -- the fields of a struct, in order
+  -- names with their forms, in order: the fields of a struct, or definitions
   pub data Fields : Type 0 where
     no_fields : Fields
     field : (name : Utf8) → (form : Form) → (rest : Fields) → Fields

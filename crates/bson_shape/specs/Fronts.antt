@@ -1,9 +1,9 @@
 -- Which texts begin a notation, and where a text is refused, in the notation's own words. Source: this library's own notation.
-use Rattle.std.specs.Prelude.{◌≡◌, ℕ, ◌+◌, ◌<◌, ◌≤◌, [], ◌∷◌, ◌++◌, Bool, true, false, ◌||◌, length, take, drop, Some}
+use Rattle.std.specs.Prelude.{◌≡◌, ℕ, ◌+◌, ◌<◌, ◌≤◌, [], ◌∷◌, ◌++◌, Bool, true, false, ◌&&◌, ◌||◌, ◌==◌, if◌then◌else◌, length, take, drop, Some}
 use Rattle.std.specs.Str.{is_utf8}
 use Rattle.bson_base.specs.Text.{Utf8}
-use Rattle.bson_shape.specs.Form.{Form, leaf, optional, lossy, human_readable, by_mode, sequence, map, tuple, tuple_structure, newtype, unit_structure, structure, enumeration, Fields, no_fields, field, Parts, no_parts, part, Variants, no_variants, variant, Content, unit_content, newtype_content, tuple_content, struct_content}
-use Rattle.bson_shape.specs.Notation.{in_bare, names_form, text}
+use Rattle.bson_shape.specs.Form.{Form, leaf, optional, lossy, human_readable, by_mode, sequence, map, tuple, tuple_structure, newtype, unit_structure, structure, enumeration, reference, definitions, Fields, no_fields, field, Parts, no_parts, part, Variants, no_variants, variant, Content, unit_content, newtype_content, tuple_content, struct_content}
+use Rattle.bson_shape.specs.Notation.{at_sign, in_bare, names_form, text}
 use Rattle.bson_shape.specs.FirstRefusal.{MakerRefusal, first_refusal}
 use Rattle.bson_shape.specs.InnerForms.{HasFault}
 use Rattle.bson_shape.specs.declared.error.ShapeError.{ShapeError}
@@ -24,6 +24,8 @@ abbrev mutual
   HasTextNames (unit_structure name) = is_utf8 name ≡ true
   HasTextNames (structure u name fs) = (is_utf8 name ≡ true) × HaveTextNames fs
   HasTextNames (enumeration vs) = VariantsHaveTextNames vs
+  HasTextNames (reference name) = is_utf8 name ≡ true
+  HasTextNames (definitions h f) = HaveTextNames h × HasTextNames f
 
   pub HaveTextNames : Fields → Type 0
   HaveTextNames no_fields = Unit {0}
@@ -62,13 +64,27 @@ ends_in_word [] = false
 ends_in_word (b ∷ []) = in_bare b
 ends_in_word (b ∷ c ∷ bs) = ends_in_word (c ∷ bs)
 
+-- a word before these bytes is longer
+abbrev pub is_longer : Utf8 → Bool
+is_longer [] = false
+is_longer (b ∷ bs) = in_bare b
+
 -- a word before these bytes goes on: it is longer, or it is the name of a form and no leaf
 abbrev pub goes_on : Utf8 → Bool
 goes_on [] = false
 goes_on (b ∷ bs) = in_bare b || names_form b
 
+-- The bytes end in `@` and bytes of a bare name. The test tells whether what is before them does.
+abbrev pub refers : Bool → Utf8 → Bool
+refers before [] = before
+refers before (b ∷ bs) = refers ((b == at_sign) || (before && in_bare b)) bs
+
+-- The word at the end of the first bytes goes on with the others; the name of a reference goes on where it is longer.
+abbrev pub word_goes_on : Utf8 → Utf8 → Bool
+word_goes_on front rest = ends_in_word front && (if refers false front then is_longer rest else goes_on rest)
+
 -- The refusal is met in the text: some notation begins with the bytes that are read when it is met, and in that notation it is the first.
--- A leaf has no closing byte, so a word that ends there in the notation has to end there in the text, too.
+-- A leaf and a reference with a bare name have no closing byte, so a word that ends there in the notation has to end there in the text, too.
 pub record IsMet (bytes : Utf8) (r : MakerRefusal) : Type 0 where
   pub within : r.met ≤ length bytes
   pub form : Form
@@ -76,7 +92,7 @@ pub record IsMet (bytes : Utf8) (r : MakerRefusal) : Type 0 where
   pub rest : Utf8
   pub begins : text form ≡ take r.met bytes ++ rest
   pub first : first_refusal 0 0 form ≡ Some r
-  pub ended : ends_in_word (take r.met bytes) ≡ true → goes_on rest ≡ false → goes_on (drop r.met bytes) ≡ false
+  pub ended : word_goes_on (take r.met bytes) rest ≡ false → word_goes_on (take r.met bytes) (drop r.met bytes) ≡ false
 
 -- So many bytes are the longest front of the text with which some notation begins, and no maker refuses in it.
 pub record IsNotNotationAt (bytes : Utf8) (place : ℕ) : Type 0 where

@@ -1,12 +1,14 @@
 -- The forms in a form, each with its place. Source: this library's own notation.
 use Rattle.std.specs.Prelude.{◌≡◌, ℕ, ◌+◌, true, false, List, [], ◌∷◌, ◌++◌, length, is_some, Contains}
 use Rattle.bson_base.specs.Reserved.{reserved_kind}
-use Rattle.bson_shape.specs.Form.{Form, leaf, optional, lossy, human_readable, by_mode, sequence, map, tuple, tuple_structure, newtype, unit_structure, structure, enumeration, Fields, no_fields, field, Parts, no_parts, part, Variants, no_variants, variant, Content, unit_content, newtype_content, tuple_content, struct_content}
+use Rattle.bson_base.specs.Text.{Utf8}
+use Rattle.bson_shape.specs.Form.{Form, leaf, optional, lossy, human_readable, by_mode, sequence, map, tuple, tuple_structure, newtype, unit_structure, structure, enumeration, reference, definitions, Fields, no_fields, field, Parts, no_parts, part, Variants, no_variants, variant, Content, unit_content, newtype_content, tuple_content, struct_content}
+use Rattle.bson_shape.specs.Guarded.{LeadsBack}
 use Rattle.bson_shape.specs.Levels.{max_shape_levels}
 use Rattle.bson_shape.specs.Makers.{is_text_key, is_reserved_newtype, repeats, variants_repeat}
-use Rattle.bson_shape.specs.Notation.{colon, text, name_text, struct_name_text, opening_struct, content_text}
+use Rattle.bson_shape.specs.Notation.{text, name_text, struct_name_text, opening_struct, in_parens, definition_texts, content_text}
 use Rattle.bson_shape.specs.declared.error.ShapeError.{ShapeError}
-use Rattle.bson_shape.specs.declared.error.ShapeError.TheVariants.{ReservedName, RepeatedName, KeyNotText, TooDeep, NoMemory}
+use Rattle.bson_shape.specs.declared.error.ShapeError.TheVariants.{ReservedName, RepeatedName, KeyNotText, Unguarded, TooDeep, NoMemory}
 
 -- A form in a notation: the place of its first byte, and how many forms are around it.
 pub record Inner : Type 0 where
@@ -35,12 +37,15 @@ abbrev mutual
   inner_forms at around (structure u name fs) =
       record { place = at; around = around; form = structure u name fs } ∷ field_forms (at + length (struct_name_text name) + length (opening_struct u)) (around + 1) fs
   inner_forms at around (enumeration vs) = record { place = at; around = around; form = enumeration vs } ∷ variant_forms (at + 1) (around + 1) vs
+  inner_forms at around (reference name) = record { place = at; around = around; form = reference name } ∷ []
+  inner_forms at around (definitions h f) =
+      record { place = at; around = around; form = definitions h f } ∷ (field_forms (at + 2) (around + 1) h ++ inner_forms (at + 1 + length (in_parens (definition_texts h))) (around + 1) f)
 
-  -- the forms in fields, where the text of the first one begins at this place
+  -- the forms in fields or definitions, where the text of the first one begins at this place; one byte is between a name and its form
   pub field_forms : ℕ → ℕ → Fields → List Inner
   field_forms at around no_fields = []
   field_forms at around (field name f fs) =
-      inner_forms (at + length (name_text name) + 1) around f ++ field_forms (at + length (name_text name ++ colon ∷ text f) + 1) around fs
+      inner_forms (at + length (name_text name) + 1) around f ++ field_forms (at + length (name_text name) + 1 + length (text f) + 1) around fs
 
   pub part_forms : ℕ → ℕ → Parts → List Inner
   part_forms at around no_parts = []
@@ -65,17 +70,24 @@ HasReservedName f = ⊥
 abbrev pub HasRepeatedName : Form → Type 0
 HasRepeatedName (structure u name fs) = repeats fs ≡ true
 HasRepeatedName (enumeration vs) = variants_repeat vs ≡ true
+HasRepeatedName (definitions h f) = repeats h ≡ true
 HasRepeatedName f = ⊥
 
 abbrev pub HasOtherKey : Form → Type 0
 HasOtherKey (map k v) = is_text_key k ≡ false
 HasOtherKey f = ⊥
 
+-- some name leads back to itself
+abbrev pub HasUnguarded : Form → Type 0
+HasUnguarded (definitions h f) = (name : Utf8) × LeadsBack h name
+HasUnguarded f = ⊥
+
 -- the cause holds of the form; out of memory holds of none
 abbrev pub HasCause : ShapeError → Inner → Type 0
 HasCause ReservedName i = HasReservedName i.form
 HasCause RepeatedName i = HasRepeatedName i.form
 HasCause KeyNotText i = HasOtherKey i.form
+HasCause Unguarded i = HasUnguarded i.form
 HasCause TooDeep i = i.around ≡ max_shape_levels
 HasCause NoMemory i = ⊥
 

@@ -1,6 +1,6 @@
 -- How many forms are inside one another in a shape. Source: serde's data model.
 use Rattle.std.specs.Prelude.{ℕ, suc, max}
-use Rattle.bson_shape.specs.Form.{Form, leaf, optional, lossy, human_readable, by_mode, sequence, map, tuple, tuple_structure, newtype, unit_structure, structure, enumeration, Fields, no_fields, field, Parts, no_parts, part, Variants, no_variants, variant, Content, unit_content, newtype_content, tuple_content, struct_content}
+use Rattle.bson_shape.specs.Form.{Form, leaf, optional, lossy, human_readable, by_mode, sequence, map, tuple, tuple_structure, newtype, unit_structure, structure, enumeration, reference, definitions, Fields, no_fields, field, Parts, no_parts, part, Variants, no_variants, variant, Content, unit_content, newtype_content, tuple_content, struct_content}
 
 -- the most levels of a shape
 abbrev pub max_shape_levels : ℕ
@@ -22,8 +22,10 @@ abbrev mutual
   levels (unit_structure name) = 1
   levels (structure u name fs) = suc (deepest fs)
   levels (enumeration vs) = suc (deepest_variant vs)
+  levels (reference name) = 1
+  levels (definitions h f) = suc (max (deepest h) (levels f))
 
-  -- the levels of the deepest field, 0 where there is none
+  -- the levels of the deepest field or definition, 0 where there is none
   pub deepest : Fields → ℕ
   deepest no_fields = 0
   deepest (field name f fs) = max (levels f) (deepest fs)

@@ -1,5 +1,6 @@
 pub mod Leaf
 pub mod Form
+pub mod Guarded
 pub mod Notation
 pub mod FirstRefusal
 pub mod Machine

@@ -2,12 +2,12 @@
 use Rattle.std.specs.Prelude.{ℕ, ◌+◌, Bool, true, false, ◌&&◌, ◌||◌, ◌==◌, nat_le, if◌then◌else◌, List, [], ◌∷◌, ◌++◌, length, Option, Some, None, Result, Ok, Err}
 use Rattle.bson_base.specs.Outcome.{◌>>=◌}
 use Rattle.bson_base.specs.Text.{Utf8}
-use Rattle.bson_shape.specs.Form.{dropped, denied, Form, leaf, optional, lossy, human_readable, by_mode, sequence, map, tuple, tuple_structure, newtype, unit_structure, structure, enumeration, Fields, no_fields, field, push_field, Parts, no_parts, part, push_part, Variants, no_variants, variant, push_variant, Content, unit_content, newtype_content, tuple_content, struct_content}
+use Rattle.bson_shape.specs.Form.{dropped, denied, Form, leaf, optional, lossy, human_readable, by_mode, sequence, map, tuple, tuple_structure, newtype, unit_structure, structure, enumeration, reference, definitions, Fields, no_fields, field, push_field, Parts, no_parts, part, push_part, Variants, no_variants, variant, push_variant, Content, unit_content, newtype_content, tuple_content, struct_content}
 use Rattle.bson_shape.specs.Leaf.{of_word}
 use Rattle.bson_shape.specs.declared.leaf.Leaf.{Leaf}
 use Rattle.bson_shape.specs.Levels.{max_shape_levels}
 use Rattle.bson_shape.specs.Makers.{made_form}
-use Rattle.bson_shape.specs.Notation.{exclamation, quote, open_paren, close_paren, comma, colon, open_angle, equals, close_angle, question, caret, tilde, percent, open_bracket, backslash, close_bracket, open_brace, close_brace, begins_bare, in_bare, bare, names_form, is_escaped}
+use Rattle.bson_shape.specs.Notation.{exclamation, quote, open_paren, close_paren, comma, colon, open_angle, equals, close_angle, question, caret, tilde, percent, ampersand, at_sign, open_bracket, backslash, close_bracket, open_brace, close_brace, begins_bare, in_bare, bare, names_form, is_escaped}
 use Rattle.bson_shape.specs.FirstRefusal.{MakerRefusal}
 use Rattle.bson_shape.specs.declared.error.ShapeError.{ShapeError}
 use Rattle.bson_shape.specs.declared.error.ShapeError.TheVariants.{TooDeep}
@@ -43,6 +43,8 @@ pub data Group : Type 0 where
   Parens : Holder → Parts → Group
   -- variants between angle brackets
   Angles : OpenEnum → Group
+  -- definitions between parentheses, of a form that begins at this place
+  Table : ℕ → Fields → Group
 
 -- What is before a form and ends where that form ends.
 pub data Prefix : Type 0 where
@@ -54,6 +56,17 @@ pub data Prefix : Type 0 where
   Readable_prefix : Prefix
   -- a newtype's name and `=`
   Newtype_prefix : Utf8 → Prefix
+  -- `&` and definitions
+  Definitions_prefix : Fields → Prefix
+
+-- A sign that begins a form and needs a certain byte behind it.
+pub data Sign : Type 0 where
+  -- `%`, before two forms
+  Percent : Sign
+  -- `&`, before definitions
+  Ampersand : Sign
+  -- `@`, before the name of a reference
+  At : Sign
 
 -- A form around the one that is read.
 pub data Level : Type 0 where
@@ -76,13 +89,15 @@ pub data Owner : Type 0 where
   Form_at : ℕ → Owner
   -- the next item of a group
   Item_of : Group → Owner
+  -- a reference that begins at this place
+  Reference_at : ℕ → Owner
 
 -- What is read at the moment.
 pub data Mode : Type 0 where
   -- a form is due
   Form_due : Mode
-  -- the parenthesis of two forms is due, which begin at this place
-  Pair_due : ℕ → Mode
+  -- behind a sign with which the form at this place begins
+  Behind_sign : Sign → ℕ → Mode
   -- an item is due, or the closing bracket where the group has no item
   Item_due : Group → Mode
   -- inside a bare name
@@ -117,6 +132,7 @@ grown (Braces h fs) name f = Braces h (push_field fs name f)
 grown (Closed_braces place n fs) name f = Closed_braces place n (push_field fs name f)
 grown (Parens h ps) name f = Parens h (push_part ps f)
 grown (Angles e) name f = Angles (grown_enum e name (newtype_content f))
+grown (Table place h) name f = Table place (push_field h name f)
 
 abbrev pub has_no_fields : Fields → Bool
 has_no_fields no_fields = true
@@ -136,6 +152,7 @@ is_empty (Braces h fs) = has_no_fields fs
 is_empty (Closed_braces place n fs) = has_no_fields fs
 is_empty (Parens h ps) = has_no_parts ps
 is_empty (Angles e) = has_no_variants e.variants
+is_empty (Table place h) = has_no_fields h
 
 -- the closing bracket
 abbrev pub closing : Group → ℕ
@@ -143,6 +160,7 @@ closing (Braces h fs) = close_brace
 closing (Closed_braces place n fs) = close_brace
 closing (Parens h ps) = close_paren
 closing (Angles e) = close_angle
+closing (Table place h) = close_paren
 
 -- What ends with a closing bracket.
 pub data Closed : Type 0 where
@@ -150,6 +168,8 @@ pub data Closed : Type 0 where
   Closed_form : ℕ → Form → Closed
   -- a variant, with which the enum is this
   Closed_variant : OpenEnum → Closed
+  -- what is before a form that begins at this place
+  Closed_prefix : ℕ → Prefix → Closed
 
 -- what the closing bracket of the group ends
 abbrev pub closed : Group → Closed
@@ -161,6 +181,7 @@ closed (Parens (Nameless_at place) ps) = Closed_form place (tuple ps)
 closed (Parens (Named_at place name) ps) = Closed_form place (tuple_structure name ps)
 closed (Parens (Variant_of e name) ps) = Closed_variant (grown_enum e name (tuple_content ps))
 closed (Angles e) = Closed_form e.place (enumeration e.variants)
+closed (Table place h) = Closed_prefix place (Definitions_prefix h)
 
 -- the form with the prefix before it
 abbrev pub prefixed : Prefix → Form → Form
@@ -168,6 +189,7 @@ prefixed Option_prefix f = optional f
 prefixed Lossy_prefix f = lossy f
 prefixed Readable_prefix f = human_readable f
 prefixed (Newtype_prefix name) f = newtype name f
+prefixed (Definitions_prefix h) f = definitions h f
 
 -- ---- the end of a form or an item
 
@@ -184,6 +206,7 @@ form_closed at place st r = made (at + 1) place r >>= λ f. Ok (Done f, st)
 abbrev pub bracket_closed : ℕ → List Level → Closed → Result State Refusal
 bracket_closed at st (Closed_form place f) = form_closed at place st (made_form f)
 bracket_closed at st (Closed_variant e) = Ok (Item_done (Angles e), st)
+bracket_closed at st (Closed_prefix place p) = Ok (Form_due, In_prefix place p ∷ st)
 
 abbrev pub group_closed : ℕ → Group → List Level → Result State Refusal
 group_closed at g st = bracket_closed at st (closed g)
@@ -253,7 +276,7 @@ name_begun owner b = if b == quote then Quoted owner [] else Bare owner (b ∷ [
 
 -- the first byte of a form that no name begins
 abbrev pub opens_form : ℕ → Bool
-opens_form b = (b == question) || (b == tilde) || (b == caret) || (b == percent) || (b == open_bracket) || (b == open_paren) || (b == open_angle) || (b == open_brace)
+opens_form b = (b == question) || (b == tilde) || (b == caret) || (b == percent) || (b == ampersand) || (b == at_sign) || (b == open_bracket) || (b == open_paren) || (b == open_angle) || (b == open_brace)
 
 abbrev pub begins_form : ℕ → Bool
 begins_form b = begins_name b || opens_form b
@@ -266,10 +289,12 @@ form_begun at st b =
     else (if b == question then (Form_due, In_prefix at Option_prefix ∷ st)
     else (if b == tilde then (Form_due, In_prefix at Lossy_prefix ∷ st)
     else (if b == caret then (Form_due, In_prefix at Readable_prefix ∷ st)
-    else (if b == percent then (Pair_due at, st)
+    else (if b == percent then (Behind_sign Percent at, st)
+    else (if b == ampersand then (Behind_sign Ampersand at, st)
+    else (if b == at_sign then (Behind_sign At at, st)
     else (if b == open_paren then (Item_due (Parens (Nameless_at at) no_parts), st)
     else (if b == open_angle then (Item_due (Angles (opened_enum at)), st)
-    else (name_begun (Form_at at) b, st))))))))
+    else (name_begun (Form_at at) b, st))))))))))
 
 -- where a form is due
 unfoldable pub form_due : ℕ → List Level → ℕ → Result State Refusal
@@ -277,9 +302,11 @@ form_due at st b =
     if begins_form b then (if nat_le max_shape_levels (length st) then Err (Refused (record { met = at + 1; place = at; cause = TooDeep })) else Ok (form_begun at st b))
     else Err (Not_notation at)
 
--- where the parenthesis of two forms is due, which begin at the second place
-abbrev pub pair_due : ℕ → ℕ → List Level → ℕ → Result State Refusal
-pair_due at place st b = if b == open_paren then Ok (Form_due, In_pair place ∷ st) else Err (Not_notation at)
+-- behind a sign with which the form at the second place begins
+abbrev pub behind_sign : ℕ → Sign → ℕ → List Level → ℕ → Result State Refusal
+behind_sign at Percent place st b = if b == open_paren then Ok (Form_due, In_pair place ∷ st) else Err (Not_notation at)
+behind_sign at Ampersand place st b = if b == open_paren then Ok (Item_due (Table place no_fields), st) else Err (Not_notation at)
+behind_sign at At place st b = if begins_name b then Ok (name_begun (Reference_at place) b, st) else Err (Not_notation at)
 
 -- where the name of an item is due
 unfoldable pub name_due : ℕ → Group → List Level → ℕ → Result State Refusal
@@ -301,6 +328,7 @@ item_begun at (Braces h fs) st b = field_due at h fs st b
 item_begun at (Closed_braces place n fs) st b = name_due at (Closed_braces place n fs) st b
 item_begun at (Parens h ps) st b = form_due at (In_item (Parens h ps) [] ∷ st) b
 item_begun at (Angles e) st b = name_due at (Angles e) st b
+item_begun at (Table place h) st b = name_due at (Table place h) st b
 
 -- the same, where a group that has none yet may close
 unfoldable pub item_due : ℕ → Group → List Level → ℕ → Result State Refusal
@@ -330,21 +358,23 @@ variant_named at e name st b =
     else (if b == open_brace then Ok (Item_due (Braces (Variant_of e name) no_fields), st)
     else item_ended at (Angles (grown_enum e name unit_content)) st b))
 
--- behind the name of a field
-abbrev pub field_named : ℕ → Group → Utf8 → List Level → ℕ → Result State Refusal
-field_named at g name st b = if b == colon then Ok (Form_due, In_item g name ∷ st) else Err (Not_notation at)
+-- behind the name of a field or a definition, which this byte divides from its form
+abbrev pub field_named : ℕ → ℕ → Group → Utf8 → List Level → ℕ → Result State Refusal
+field_named at divider g name st b = if b == divider then Ok (Form_due, In_item g name ∷ st) else Err (Not_notation at)
 
 -- behind the name of an item; a part has none
 abbrev pub item_named : ℕ → Group → Utf8 → List Level → ℕ → Result State Refusal
-item_named at (Braces h fs) name st b = field_named at (Braces h fs) name st b
-item_named at (Closed_braces place n fs) name st b = field_named at (Closed_braces place n fs) name st b
+item_named at (Braces h fs) name st b = field_named at colon (Braces h fs) name st b
+item_named at (Closed_braces place n fs) name st b = field_named at colon (Closed_braces place n fs) name st b
 item_named at (Parens h ps) name st b = Err (Not_notation at)
 item_named at (Angles e) name st b = variant_named at e name st b
+item_named at (Table place h) name st b = field_named at equals (Table place h) name st b
 
 -- behind a name
 unfoldable pub named : ℕ → Owner → Utf8 → List Level → ℕ → Result State Refusal
 named at (Form_at place) name st b = form_named at place name st b
 named at (Item_of g) name st b = item_named at g name st b
+named at (Reference_at place) name st b = form_ended at (reference name) st b
 
 -- behind a word that is no name, with the leaf that it stands for
 abbrev pub leaf_ended : ℕ → Option Leaf → List Level → ℕ → Result State Refusal
@@ -355,6 +385,7 @@ leaf_ended at (Some l) st b = form_ended at (leaf l) st b
 unfoldable pub word_ended : ℕ → Owner → Utf8 → List Level → ℕ → Result State Refusal
 word_ended at (Form_at place) name st b = if names_form b then named at (Form_at place) name st b else leaf_ended at (of_word name) st b
 word_ended at (Item_of g) name st b = named at (Item_of g) name st b
+word_ended at (Reference_at place) name st b = named at (Reference_at place) name st b
 
 -- inside a bare name
 unfoldable pub bare_name : ℕ → Owner → Utf8 → List Level → ℕ → Result State Refusal
@@ -380,7 +411,7 @@ escape at owner name st b = if is_escaped b then Ok (Quoted owner (name ++ b ∷
 -- one byte, at a place
 unfoldable pub step : ℕ → Mode → List Level → ℕ → Result State Refusal
 step at Form_due st b = form_due at st b
-step at (Pair_due place) st b = pair_due at place st b
+step at (Behind_sign sign place) st b = behind_sign at sign place st b
 step at (Item_due g) st b = item_due at g st b
 step at (Bare owner name) st b = bare_name at owner name st b
 step at (Quoted owner name) st b = quoted_name at owner name st b
@@ -402,6 +433,8 @@ no_more_behind at (Some l) st = no_more at (leaf l) st
 unfoldable pub other_character : ℕ → Mode → List Level → Utf8 → Result State Refusal
 other_character at (Quoted owner name) st bytes = Ok (Quoted owner (name ++ bytes), st)
 other_character at (Bare (Form_at place) name) st bytes = no_more_behind at (of_word name) st
+other_character at (Bare (Reference_at place) name) st bytes = no_more at (reference name) st
+other_character at (Named (Reference_at place) name) st bytes = no_more at (reference name) st
 other_character at (Done f) st bytes = no_more at f st
 other_character at m st bytes = Err (Not_notation at)
 
@@ -428,6 +461,8 @@ last_leaf at (Some l) st = last at (leaf l) st
 unfoldable pub finish : ℕ → Mode → List Level → Result Form Refusal
 finish at (Done f) st = last at f st
 finish at (Bare (Form_at place) name) st = last_leaf at (of_word name) st
+finish at (Bare (Reference_at place) name) st = last at (reference name) st
+finish at (Named (Reference_at place) name) st = last at (reference name) st
 finish at m st = Err (Not_notation at)
 
 -- the form that a text is the notation of, or the first refusal that is met

@@ -4,11 +4,12 @@ use Rattle.std.specs.List.{list_any}
 use Rattle.std.specs.Str.{bytes_eq, is_utf8}
 use Rattle.bson_base.specs.Text.{Utf8}
 use Rattle.bson_base.specs.Reserved.{reserved_kind}
-use Rattle.bson_shape.specs.Form.{UnknownFields, Form, leaf, optional, lossy, human_readable, by_mode, sequence, map, tuple, tuple_structure, newtype, unit_structure, structure, enumeration, Fields, no_fields, field, Parts, no_parts, part, Variants, no_variants, variant, Content, unit_content, newtype_content, tuple_content, struct_content}
+use Rattle.bson_shape.specs.Form.{UnknownFields, Form, leaf, optional, lossy, human_readable, by_mode, sequence, map, tuple, tuple_structure, newtype, unit_structure, structure, enumeration, reference, definitions, Fields, no_fields, field, Parts, no_parts, part, Variants, no_variants, variant, Content, unit_content, newtype_content, tuple_content, struct_content}
+use Rattle.bson_shape.specs.Guarded.{is_guarded}
 use Rattle.bson_shape.specs.Leaf.{is_text}
 use Rattle.bson_shape.specs.Levels.{levels, deepest, max_shape_levels}
 use Rattle.bson_shape.specs.declared.error.ShapeError.{ShapeError}
-use Rattle.bson_shape.specs.declared.error.ShapeError.TheVariants.{ReservedName, RepeatedName, KeyNotText, TooDeep, NoMemory}
+use Rattle.bson_shape.specs.declared.error.ShapeError.TheVariants.{ReservedName, RepeatedName, KeyNotText, Unguarded, TooDeep, NoMemory}
 
 -- one of the names is this one
 abbrev pub has_name : Utf8 → List Utf8 → Bool
@@ -19,7 +20,7 @@ abbrev pub has_repeat : List Utf8 → Bool
 has_repeat [] = false
 has_repeat (n ∷ ns) = has_name n ns || has_repeat ns
 
--- the names of fields, in order
+-- the names of fields or definitions, in order
 abbrev pub field_names : Fields → List Utf8
 field_names no_fields = []
 field_names (field name f fs) = name ∷ field_names fs
@@ -33,11 +34,11 @@ variant_names (variant name c vs) = name ∷ variant_names vs
 abbrev pub has_field : Utf8 → Fields → Bool
 has_field name fs = has_name name (field_names fs)
 
--- two fields have one name
+-- two fields or definitions have one name
 abbrev pub repeats : Fields → Bool
 repeats fs = has_repeat (field_names fs)
 
--- no two fields have one name
+-- no two fields or definitions have one name
 abbrev pub AreDistinct : Fields → Type 0
 AreDistinct fs = repeats fs ≡ false
 
@@ -95,6 +96,12 @@ pub record IsEnum (variants : Variants) : Type 0 where
   pub distinct : has_repeat (variant_names variants) ≡ false
   pub few : levels (enumeration variants) ≤ max_shape_levels
 
+-- What the maker of definitions asks: different names, of which none leads back to itself, and few levels.
+pub record AreDefinitions (table : Fields) (body : Form) : Type 0 where
+  pub distinct : AreDistinct table
+  pub guarded : is_guarded table ≡ true
+  pub few : levels (definitions table body) ≤ max_shape_levels
+
 abbrev mutual
   -- each form in the form is as its maker asks, and each name is a text
   pub IsShape : Form → Type 0
@@ -111,6 +118,8 @@ abbrev mutual
   IsShape (unit_structure name) = is_utf8 name ≡ true
   IsShape (structure u name fs) = IsStruct name fs × AreShapes fs
   IsShape (enumeration vs) = IsEnum vs × AreVariants vs
+  IsShape (reference name) = is_utf8 name ≡ true
+  IsShape (definitions h f) = AreDefinitions h f × AreShapes h × IsShape f
 
   pub AreShapes : Fields → Type 0
   AreShapes no_fields = Unit {0}
@@ -185,7 +194,14 @@ StructLevels (Err e) name fs = (u : UnknownFields) → made_structure u name fs 
 abbrev pub made_enumeration : Variants → Result Form ShapeError
 made_enumeration vs = if variants_repeat vs then Err RepeatedName else within_levels (enumeration vs)
 
--- what the maker of the form answers, where its inner forms are made; a leaf and a unit struct are made in any case
+-- what the maker of definitions answers
+abbrev pub made_definitions : Fields → Form → Result Form ShapeError
+made_definitions h f =
+    if repeats h then Err RepeatedName
+    else (if is_guarded h then within_levels (definitions h f)
+    else Err Unguarded)
+
+-- what the maker of the form answers, where its inner forms are made; a leaf, a unit struct and a reference are made in any case
 abbrev pub made_form : Form → Result Form ShapeError
 made_form (leaf l) = Ok (leaf l)
 made_form (optional f) = made_optional f
@@ -200,6 +216,8 @@ made_form (newtype name f) = made_newtype name f
 made_form (unit_structure name) = Ok (unit_structure name)
 made_form (structure u name fs) = made_structure u name fs
 made_form (enumeration vs) = made_enumeration vs
+made_form (reference name) = Ok (reference name)
+made_form (definitions h f) = made_definitions h f
 
 -- What a maker that takes memory answers, where this is due: what is due, or that memory ran out where no refusal is due.
 abbrev pub Makes : Result Form ShapeError → Result Form ShapeError → Type 0

@@ -2,7 +2,7 @@
 use Rattle.std.specs.Prelude.{ℕ, Bool, false, ◌&&◌, ◌||◌, nat_le, ◌==◌, if◌then◌else◌, List, [], ◌∷◌, ◌++◌}
 use Rattle.std.specs.List.{list_all}
 use Rattle.bson_base.specs.Text.{Utf8}
-use Rattle.bson_shape.specs.Form.{UnknownFields, dropped, denied, Form, leaf, optional, lossy, human_readable, by_mode, sequence, map, tuple, tuple_structure, newtype, unit_structure, structure, enumeration, Fields, no_fields, field, Parts, no_parts, part, Variants, no_variants, variant, Content, unit_content, newtype_content, tuple_content, struct_content}
+use Rattle.bson_shape.specs.Form.{UnknownFields, dropped, denied, Form, leaf, optional, lossy, human_readable, by_mode, sequence, map, tuple, tuple_structure, newtype, unit_structure, structure, enumeration, reference, definitions, Fields, no_fields, field, Parts, no_parts, part, Variants, no_variants, variant, Content, unit_content, newtype_content, tuple_content, struct_content}
 use Rattle.bson_shape.specs.Leaf.{word}
 
 -- `!`
@@ -16,6 +16,10 @@ quote = 34
 -- `%`
 abbrev pub percent : ℕ
 percent = 37
+
+-- `&`
+abbrev pub ampersand : ℕ
+ampersand = 38
 
 -- `(`
 abbrev pub open_paren : ℕ
@@ -48,6 +52,10 @@ close_angle = 62
 -- `?`
 abbrev pub question : ℕ
 question = 63
+
+-- `@`
+abbrev pub at_sign : ℕ
+at_sign = 64
 
 -- `^`
 abbrev pub caret : ℕ
@@ -148,7 +156,7 @@ in_angles texts = open_angle ∷ (listed texts ++ close_angle ∷ [])
 abbrev mutual
   -- a leaf is its word, an option is `?s`, a lossy form is `~s`, a readable one is `^s`, one of two forms is `%(readable,compact)`, a sequence is `[s]`, a map is `[key:value]`, a tuple is `(s,s)`, a tuple struct is `NAME(s,s)`,
   -- a newtype is `NAME=s`, a unit struct is `NAME!`, a struct is `NAME{f:s,g:s}`, and `NAME{!f:s,g:s}` where unknown fields are denied, an enum is
-  -- `<A,N=s,T(s,s),S{f:s}>`
+  -- `<A,N=s,T(s,s),S{f:s}>`, a reference is `@NAME`, definitions are `&(NAME=s,NAME=s)s`
   pub text : Form → Utf8
   text (leaf l) = word l
   text (optional f) = question ∷ text f
@@ -161,12 +169,15 @@ abbrev mutual
   text (tuple_structure name ps) = name_text name ++ in_parens (part_texts ps)
   text (newtype name f) = name_text name ++ equals ∷ text f
   text (unit_structure name) = name_text name ++ exclamation ∷ []
-  text (structure u name fs) = struct_name_text name ++ (opening_struct u ++ (listed (field_texts fs) ++ close_brace ∷ []))
+  text (structure u name fs) = struct_name_text name ++ (opening_struct u ++ (listed (named_texts colon fs) ++ close_brace ∷ []))
   text (enumeration vs) = in_angles (variant_texts vs)
+  text (reference name) = at_sign ∷ name_text name
+  text (definitions h f) = ampersand ∷ (in_parens (named_texts equals h) ++ text f)
 
-  pub field_texts : Fields → List Utf8
-  field_texts no_fields = []
-  field_texts (field name f fs) = (name_text name ++ colon ∷ text f) ∷ field_texts fs
+  -- names with their forms, and this byte between
+  pub named_texts : ℕ → Fields → List Utf8
+  named_texts b no_fields = []
+  named_texts b (field name f fs) = (name_text name ++ b ∷ text f) ∷ named_texts b fs
 
   pub part_texts : Parts → List Utf8
   part_texts no_parts = []
@@ -181,4 +192,12 @@ abbrev mutual
   content_text unit_content = []
   content_text (newtype_content f) = equals ∷ text f
   content_text (tuple_content ps) = in_parens (part_texts ps)
-  content_text (struct_content fs) = in_braces (field_texts fs)
+  content_text (struct_content fs) = in_braces (named_texts colon fs)
+
+-- the fields of a struct
+abbrev pub field_texts : Fields → List Utf8
+field_texts fs = named_texts colon fs
+
+-- definitions
+abbrev pub definition_texts : Fields → List Utf8
+definition_texts h = named_texts equals h

@@ -16,6 +16,8 @@ use Rattle.bson_shape.specs.declared.levels.Level.TheVariants as levels
 use Rattle.bson_shape.specs.declared.levels.Ended.{Ended}
 use Rattle.bson_shape.specs.declared.mode.Owner.{Owner}
 use Rattle.bson_shape.specs.declared.mode.Owner.TheVariants as owners
+use Rattle.bson_shape.specs.declared.mode.Sign.{Sign}
+use Rattle.bson_shape.specs.declared.mode.Sign.TheVariants as signs
 use Rattle.bson_shape.specs.declared.mode.Mode.{Mode}
 use Rattle.bson_shape.specs.declared.mode.Mode.TheVariants as modes
 
@@ -32,12 +34,14 @@ group_view (groups.Braces holder fields) = machine.Braces (holder_view holder) (
 group_view (groups.ClosedBraces place name fields) = machine.Closed_braces place (string_bytes name) (fields_of fields.items)
 group_view (groups.Parens holder parts) = machine.Parens (holder_view holder) (parts_of parts.items)
 group_view (groups.Angles e) = machine.Angles (enum_view e)
+group_view (groups.Table place table) = machine.Table place (fields_of table.items)
 
 abbrev pub prefix_view : Prefix → machine.Prefix
 prefix_view prefixes.Option = machine.Option_prefix
 prefix_view prefixes.Lossy = machine.Lossy_prefix
 prefix_view prefixes.Readable = machine.Readable_prefix
 prefix_view (prefixes.Newtype name) = machine.Newtype_prefix (string_bytes name)
+prefix_view (prefixes.Definitions table) = machine.Definitions_prefix (fields_of table.items)
 
 abbrev pub level_view : Level → machine.Level
 level_view (levels.InPrefix place p) = machine.In_prefix place (prefix_view p)
@@ -50,10 +54,16 @@ level_view (levels.InItem group name) = machine.In_item (group_view group) (stri
 abbrev pub owner_view : Owner → machine.Owner
 owner_view (owners.FormAt place) = machine.Form_at place
 owner_view (owners.ItemOf group) = machine.Item_of (group_view group)
+owner_view (owners.ReferenceAt place) = machine.Reference_at place
+
+abbrev pub sign_view : Sign → machine.Sign
+sign_view signs.Percent = machine.Percent
+sign_view signs.Ampersand = machine.Ampersand
+sign_view signs.At = machine.At
 
 abbrev pub mode_view : Mode → machine.Mode
 mode_view modes.FormDue = machine.Form_due
-mode_view (modes.PairDue place) = machine.Pair_due place
+mode_view (modes.BehindSign sign place) = machine.Behind_sign (sign_view sign) place
 mode_view (modes.ItemDue group) = machine.Item_due (group_view group)
 mode_view (modes.Bare owner name) = machine.Bare (owner_view owner) (string_bytes name)
 mode_view (modes.Quoted owner name) = machine.Quoted (owner_view owner) (string_bytes name)

@@ -11,6 +11,7 @@ abbrev pub shape_error_text : ShapeError → Utf8
 shape_error_text causes.ReservedName = codes "reserved name"
 shape_error_text causes.RepeatedName = codes "repeated name"
 shape_error_text causes.KeyNotText = codes "map key is not a text"
+shape_error_text causes.Unguarded = codes "unguarded reference"
 shape_error_text causes.TooDeep = codes "shape deeper than 512 levels"
 shape_error_text causes.NoMemory = codes "out of memory"
 

@@ -2,7 +2,7 @@
 use Rattle.std.specs.Prelude.{Bool, true, false, ◌&&◌}
 use Rattle.std.specs.Str.{bytes_eq}
 use denote.Enum.Bare.{sameb}
-use Rattle.bson_shape.specs.Form.{UnknownFields, dropped, denied, Form, leaf, optional, lossy, human_readable, by_mode, sequence, map, tuple, tuple_structure, newtype, unit_structure, structure, enumeration, Fields, no_fields, field, Parts, no_parts, part, Variants, no_variants, variant, Content, unit_content, newtype_content, tuple_content, struct_content}
+use Rattle.bson_shape.specs.Form.{UnknownFields, dropped, denied, Form, leaf, optional, lossy, human_readable, by_mode, sequence, map, tuple, tuple_structure, newtype, unit_structure, structure, enumeration, reference, definitions, Fields, no_fields, field, Parts, no_parts, part, Variants, no_variants, variant, Content, unit_content, newtype_content, tuple_content, struct_content}
 use Rattle.bson_shape.specs.contracts.leaf.Leaf as leaf_type
 
 abbrev pub same_unknown : UnknownFields → UnknownFields → Bool
@@ -25,6 +25,8 @@ abbrev mutual
   same (unit_structure name) (unit_structure n) = bytes_eq name n
   same (structure u name fs) (structure w n gs) = same_unknown u w && (bytes_eq name n && same_fields fs gs)
   same (enumeration vs) (enumeration ws) = same_variants vs ws
+  same (reference name) (reference n) = bytes_eq name n
+  same (definitions h f) (definitions k g) = same_fields h k && same f g
   same f g = false
 
   pub same_fields : Fields → Fields → Bool

@@ -1,6 +1,6 @@
 -- The form of a shape, one level at a time, and its size. Source: serde's data model.
 use Rattle.std.specs.Prelude.{ℕ, ◌+◌, List, [], ◌∷◌, string_bytes}
-use Rattle.bson_shape.specs.Form.{dropped, denied, Form, leaf, optional, lossy, human_readable, by_mode, sequence, map, tuple, tuple_structure, newtype, unit_structure, structure, enumeration, Fields, no_fields, field, Parts, no_parts, part, Variants, no_variants, variant, Content, unit_content, newtype_content, tuple_content, struct_content}
+use Rattle.bson_shape.specs.Form.{dropped, denied, Form, leaf, optional, lossy, human_readable, by_mode, sequence, map, tuple, tuple_structure, newtype, unit_structure, structure, enumeration, reference, definitions, Fields, no_fields, field, Parts, no_parts, part, Variants, no_variants, variant, Content, unit_content, newtype_content, tuple_content, struct_content}
 use Rattle.bson_shape.specs.declared.shape.Node.{Node}
 use Rattle.bson_shape.specs.declared.shape.Node.TheVariants as node
 use Rattle.bson_shape.specs.declared.form.Form.{Form as BorrowedForm}
@@ -43,6 +43,8 @@ node_view (node.UnitStruct name) = unit_structure (string_bytes name)
 node_view (node.Struct name fs) = structure dropped (string_bytes name) (fields_of fs.items)
 node_view (node.ClosedStruct name fs) = structure denied (string_bytes name) (fields_of fs.items)
 node_view (node.Enum vs) = enumeration (variants_of vs.items)
+node_view (node.Reference name) = reference (string_bytes name)
+node_view (node.Definitions table body) = definitions (fields_of table.items) body.value
 
 abbrev pub form_view : BorrowedForm → Form
 form_view (forms.Leaf l) = leaf l
@@ -59,6 +61,8 @@ form_view (forms.UnitStruct name) = unit_structure name.now
 form_view (forms.Struct name fs) = structure dropped name.now (fields_of fs.now)
 form_view (forms.ClosedStruct name fs) = structure denied name.now (fields_of fs.now)
 form_view (forms.Enum vs) = enumeration (variants_of vs.now)
+form_view (forms.Reference name) = reference name.now
+form_view (forms.Definitions table body) = definitions (fields_of table.now) body.now
 
 abbrev mutual
   -- how many forms, fields, parts and variants a form is made of
@@ -76,6 +80,8 @@ abbrev mutual
   nodes (unit_structure name) = 1
   nodes (structure u name fs) = fields_nodes fs + 1
   nodes (enumeration vs) = variants_nodes vs + 1
+  nodes (reference name) = 1
+  nodes (definitions h f) = fields_nodes h + nodes f + 1
 
   pub fields_nodes : Fields → ℕ
   fields_nodes no_fields = 0

@@ -53,6 +53,10 @@ fn is_same(a: &Shape, b: &Shape) -> bool
             matches!(other, Form::ClosedStruct(n, f) if name == n && are_same(fields, f))
         }
         Form::Enum(variants) => matches!(other, Form::Enum(v) if are_same_variants(variants, v)),
+        Form::Reference(name) => matches!(other, Form::Reference(n) if name == n),
+        Form::Definitions(table, body) => {
+            matches!(other, Form::Definitions(t, b) if are_same(table, t) && is_same(body, b))
+        }
     }
 }
 

@@ -10,10 +10,12 @@ use std::fmt;
 pub enum ShapeError {
     /// The name of a struct is one of the thirteen reserved names, or that of a newtype is one of the three for newtypes.
     ReservedName,
-    /// Two fields of a struct or of a struct variant have one name, or two variants of an enum.
+    /// Two fields of a struct or of a struct variant have one name, two variants of an enum, or two definitions.
     RepeatedName,
     /// The key of a map is no text: neither `str`, `string`, `char` nor an enum whose variants are all units.
     KeyNotText,
+    /// A name of definitions leads back to itself without a step into a value.
+    Unguarded,
     /// The shape would have more than 512 levels.
     TooDeep,
     /// The memory that the call asked for was refused.
@@ -31,6 +33,7 @@ impl fmt::Display for ShapeError {
             ShapeError::ReservedName => "reserved name",
             ShapeError::RepeatedName => "repeated name",
             ShapeError::KeyNotText => "map key is not a text",
+            ShapeError::Unguarded => "unguarded reference",
             ShapeError::TooDeep => "shape deeper than 512 levels",
             ShapeError::NoMemory => "out of memory",
         })

@@ -31,4 +31,8 @@ pub enum Form<'a> {
     ClosedStruct(&'a str, &'a [FieldShape]),
     /// An enum: its variants, in order.
     Enum(&'a [VariantShape]),
+    /// A reference: the name of its definition.
+    Reference(&'a str),
+    /// Definitions, in order, and the shape that they are for.
+    Definitions(&'a [FieldShape], &'a Shape),
 }

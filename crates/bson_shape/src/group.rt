@@ -8,7 +8,7 @@ ghost use Rattle.bson_shape.specs.Answers.{Gives};
 ghost use Rattle.bson_shape.specs.ShapeView.{fields_of, parts_of, content_of};
 ghost use Rattle.bson_shape.specs.declared.error.ShapeError.{ShapeError};
 
-use crate::levels::{Level, made};
+use crate::levels::{Level, Prefix, made};
 use crate::mode::Mode;
 use crate::{FieldShape, ParseError, Shape, ShapeError, VariantContent, VariantShape};
 use std::alloc::{AllocError, Global};
@@ -42,6 +42,8 @@ pub(crate) enum Group {
     Parens(Holder, Vec<Shape>),
     /// Variants between angle brackets.
     Angles(OpenEnum),
+    /// Definitions between parentheses, of a form that begins at this place.
+    Table(usize, Vec<FieldShape>),
 }
 
 /// Braces without a field yet.
@@ -87,6 +89,13 @@ pub(crate) fn opened_angles(alloc: Global, place: usize) -> Mode
 {
     let variants = Vec::new(alloc);
     Mode::ItemDue(Group::Angles(OpenEnum { place, variants }))
+}
+
+/// The parentheses of definitions without one yet, of a form that begins at the place.
+pub(crate) fn opened_table(alloc: Global, place: usize) -> Mode
+    ensures { mode_view result ≡ machine.Item_due (machine.Table place no_fields) }
+{
+    Mode::ItemDue(Group::Table(place, Vec::new(alloc)))
 }
 
 /// The enum with one more variant.
@@ -138,6 +147,7 @@ pub(crate) fn grown(group: Group, name: String, shape: Shape) -> Result<Group, A
             let content = VariantContent::Newtype(shape);
             Group::Angles(grown_enum(opened, name, content)?)
         }
+        Group::Table(place, table) => Group::Table(place, with_field(table, name, shape)?),
     })
 }
 
@@ -150,6 +160,7 @@ pub(crate) fn is_empty(group: &Group) -> bool
         Group::Braces(_, fields) | Group::ClosedBraces(_, _, fields) => fields.is_empty(),
         Group::Parens(_, parts) => parts.is_empty(),
         Group::Angles(opened) => opened.variants.is_empty(),
+        Group::Table(_, table) => table.is_empty(),
     }
 }
 
@@ -159,7 +170,7 @@ pub(crate) fn closing(group: &Group) -> u8
 {
     match group {
         Group::Braces(_, _) | Group::ClosedBraces(_, _, _) => b'}',
-        Group::Parens(_, _) => b')',
+        Group::Parens(_, _) | Group::Table(_, _) => b')',
         Group::Angles(_) => b'>',
     }
 }
@@ -248,10 +259,10 @@ fn parens_closed(
 pub(crate) fn group_closed(
     alloc: Global,
     group: Group,
-    levels: &Vec<Level>,
+    levels: &mut Vec<Level>,
     at: usize,
 ) -> Result<Mode, ParseError>
-    ensures { Reaches result levels.now.items (machine.group_closed at (group_view group) (levels_view levels.now.items)) }
+    ensures { Reaches result levels.new.items (machine.group_closed at (group_view group) (levels_view levels.old.items)) }
 {
     match group {
         Group::Braces(holder, fields) => braces_closed(alloc, holder, fields, levels, at),
@@ -260,6 +271,10 @@ pub(crate) fn group_closed(
         Group::Angles(OpenEnum { place, variants }) => {
             form_closed(place, Shape::enumeration(variants))
         }
+        Group::Table(place, table) => {
+            levels.push(Level::InPrefix(place, Prefix::Definitions(table)))?;
+            Ok(Mode::FormDue)
+        }
     }
 }
 
@@ -267,11 +282,11 @@ pub(crate) fn group_closed(
 pub(crate) fn item_ended(
     alloc: Global,
     group: Group,
-    levels: &Vec<Level>,
+    levels: &mut Vec<Level>,
     at: usize,
     b: u8,
 ) -> Result<Mode, ParseError>
-    ensures { Reaches result levels.now.items (machine.item_ended at (group_view group) (levels_view levels.now.items) b) }
+    ensures { Reaches result levels.new.items (machine.item_ended at (group_view group) (levels_view levels.old.items) b) }
 {
     if b == b',' {
         return Ok(Mode::ItemDue(group));

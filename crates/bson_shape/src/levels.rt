@@ -8,7 +8,7 @@ ghost use Rattle.bson_shape.specs.ParserView.{prefix_view, levels_view, ended_vi
 ghost use Rattle.bson_shape.specs.Answers.{Gives};
 
 use crate::group::Group;
-use crate::{ParseError, Shape, ShapeError};
+use crate::{FieldShape, ParseError, Shape, ShapeError};
 use std::alloc::Global;
 
 /// What is before a form and ends where that form ends.
@@ -22,6 +22,8 @@ pub(crate) enum Prefix {
     Readable,
     /// A newtype's name and `=`.
     Newtype(String),
+    /// `&` and definitions.
+    Definitions(Vec<FieldShape>),
 }
 
 /// A form around the one that is read.
@@ -68,6 +70,7 @@ fn prefixed(alloc: Global, prefix: Prefix, shape: Shape) -> Result<Shape, ShapeE
         Prefix::Lossy => Shape::lossy(alloc, shape),
         Prefix::Readable => Shape::readable(alloc, shape),
         Prefix::Newtype(name) => Shape::newtype(alloc, name, shape),
+        Prefix::Definitions(table) => Shape::definitions(alloc, table, shape),
     }
 }
 

@@ -9,6 +9,19 @@ pub(crate) enum Owner {
     FormAt(usize),
     /// The next item of this group.
     ItemOf(Group),
+    /// A reference that begins at this place.
+    ReferenceAt(usize),
+}
+
+/// A sign that begins a form and needs a certain byte behind it.
+#[derive(Clone, Copy)]
+pub(crate) enum Sign {
+    /// `%`, before two forms.
+    Percent,
+    /// `&`, before definitions.
+    Ampersand,
+    /// `@`, before the name of a reference.
+    At,
 }
 
 /// What is read at the moment.
@@ -16,8 +29,8 @@ pub(crate) enum Owner {
 pub(crate) enum Mode {
     /// A form is due.
     FormDue,
-    /// The parenthesis of two forms is due, which begin at this place.
-    PairDue(usize),
+    /// Behind a sign with which the form at this place begins.
+    BehindSign(Sign, usize),
     /// An item is due, or the closing bracket where the group has no item.
     ItemDue(Group),
     /// Inside a bare name.

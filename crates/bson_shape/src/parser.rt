@@ -3,16 +3,16 @@ ghost use Rattle.std.specs.Prelude.{◌≡◌, ◌<◌, ◌∷◌, ◌++◌, [],
 ghost use Rattle.bson_shape.specs.Notation.{names_form};
 ghost use Rattle.bson_shape.specs.Machine as machine;
 ghost use Rattle.bson_shape.specs.ShapeView.{fields_of};
-ghost use Rattle.bson_shape.specs.ParserView.{enum_view, holder_view, group_view, owner_view, mode_view, levels_view, Reaches};
+ghost use Rattle.bson_shape.specs.ParserView.{enum_view, holder_view, group_view, owner_view, sign_view, mode_view, levels_view, Reaches};
 ghost use Rattle.bson_shape.specs.Answers.{Gives};
 
 use crate::ends::{form_ended, last, no_more};
 use crate::group::{
     Group, Holder, OpenEnum, closing, group_closed, grown_enum, is_empty, item_ended,
-    opened_angles, opened_braces, opened_parens, struct_marked,
+    opened_angles, opened_braces, opened_parens, opened_table, struct_marked,
 };
 use crate::levels::{Level, Prefix};
-use crate::mode::{Mode, Owner};
+use crate::mode::{Mode, Owner, Sign};
 use crate::name::{begins_bare, in_bare, is_bare};
 use crate::{FieldShape, Leaf, ParseError, Shape, ShapeError, VariantContent};
 use std::alloc::{AllocError, Global};
@@ -49,7 +49,7 @@ fn begins_form(b: u8) -> bool
     begins_bare(b)
         || matches!(
             b,
-            b'"' | b'?' | b'~' | b'^' | b'%' | b'[' | b'(' | b'<' | b'{'
+            b'"' | b'?' | b'~' | b'^' | b'%' | b'&' | b'@' | b'[' | b'(' | b'<' | b'{'
         )
 }
 
@@ -78,7 +78,13 @@ fn form_begun(alloc: Global, levels: &mut Vec<Level>, at: usize, b: u8) -> Resul
         return Ok(Mode::FormDue);
     }
     if b == b'%' {
-        return Ok(Mode::PairDue(at));
+        return Ok(Mode::BehindSign(Sign::Percent, at));
+    }
+    if b == b'&' {
+        return Ok(Mode::BehindSign(Sign::Ampersand, at));
+    }
+    if b == b'@' {
+        return Ok(Mode::BehindSign(Sign::At, at));
     }
     if b == b'(' {
         return Ok(opened_parens(alloc, Holder::NamelessAt(at)));
@@ -104,15 +110,29 @@ fn form_due(alloc: Global, levels: &mut Vec<Level>, at: usize, b: u8) -> Result<
     Ok(form_begun(alloc, levels, at, b)?)
 }
 
-/// Where the parenthesis of two forms is due, which begin at the place.
-fn pair_due(place: usize, levels: &mut Vec<Level>, at: usize, b: u8) -> Result<Mode, ParseError>
-    ensures { Reaches result levels.new.items (machine.pair_due at place (levels_view levels.old.items) b) }
+/// Behind a sign with which the form at the place begins.
+fn behind_sign(
+    alloc: Global,
+    sign: Sign,
+    place: usize,
+    levels: &mut Vec<Level>,
+    at: usize,
+    b: u8,
+) -> Result<Mode, ParseError>
+    requires { b < 128 }
+    ensures { Reaches result levels.new.items (machine.behind_sign at (sign_view sign) place (levels_view levels.old.items) b) }
 {
-    if b != b'(' {
-        return Err(ParseError::NotNotation(at));
+    match sign {
+        Sign::Percent if b == b'(' => {
+            levels.push(Level::InPair(place))?;
+            Ok(Mode::FormDue)
+        }
+        Sign::Ampersand if b == b'(' => Ok(opened_table(alloc, place)),
+        Sign::At if begins_bare(b) || b == b'"' => {
+            Ok(name_begun(alloc, Owner::ReferenceAt(place), b)?)
+        }
+        Sign::Percent | Sign::Ampersand | Sign::At => Err(ParseError::NotNotation(at)),
     }
-    levels.push(Level::InPair(place))?;
-    Ok(Mode::FormDue)
 }
 
 /// Where the name of an item is due.
@@ -175,6 +195,7 @@ fn item_begun(
             name_due(alloc, group, levels, at, b)
         }
         Group::Angles(opened) => name_due(alloc, Group::Angles(opened), levels, at, b),
+        Group::Table(place, table) => name_due(alloc, Group::Table(place, table), levels, at, b),
     }
 }
 
@@ -244,17 +265,18 @@ fn variant_named(
     }
 }
 
-/// Behind the name of a field.
+/// Behind the name of a field or a definition, which the divider divides from its form.
 fn field_named(
+    divider: u8,
     group: Group,
     name: String,
     levels: &mut Vec<Level>,
     at: usize,
     b: u8,
 ) -> Result<Mode, ParseError>
-    ensures { Reaches result levels.new.items (machine.field_named at (group_view group) (string_bytes name) (levels_view levels.old.items) b) }
+    ensures { Reaches result levels.new.items (machine.field_named at divider (group_view group) (string_bytes name) (levels_view levels.old.items) b) }
 {
-    if b != b':' {
+    if b != divider {
         return Err(ParseError::NotNotation(at));
     }
     levels.push(Level::InItem(group, name))?;
@@ -274,14 +296,17 @@ fn item_named(
 {
     match group {
         Group::Braces(holder, fields) => {
-            field_named(Group::Braces(holder, fields), name, levels, at, b)
+            field_named(b':', Group::Braces(holder, fields), name, levels, at, b)
         }
         Group::ClosedBraces(place, struct_name, fields) => {
             let group = Group::ClosedBraces(place, struct_name, fields);
-            field_named(group, name, levels, at, b)
+            field_named(b':', group, name, levels, at, b)
         }
         Group::Parens(_, _) => Err(ParseError::NotNotation(at)),
         Group::Angles(opened) => variant_named(alloc, opened, name, levels, at, b),
+        Group::Table(place, table) => {
+            field_named(b'=', Group::Table(place, table), name, levels, at, b)
+        }
     }
 }
 
@@ -300,6 +325,7 @@ fn named(
     match owner {
         Owner::FormAt(place) => form_named(alloc, place, name, levels, at, b),
         Owner::ItemOf(group) => item_named(alloc, group, name, levels, at, b),
+        Owner::ReferenceAt(_) => form_ended(alloc, Shape::reference(name), levels, at, b),
     }
 }
 
@@ -333,6 +359,9 @@ fn word_ended(
             }
         }
         Owner::ItemOf(group) => named(alloc, Owner::ItemOf(group), name, levels, at, b),
+        Owner::ReferenceAt(place) => {
+            named(alloc, Owner::ReferenceAt(place), name, levels, at, b)
+        }
     }
 }
 
@@ -430,7 +459,7 @@ fn step(
 {
     match mode {
         Mode::FormDue => form_due(alloc, levels, at, b),
-        Mode::PairDue(place) => pair_due(place, levels, at, b),
+        Mode::BehindSign(sign, place) => behind_sign(alloc, sign, place, levels, at, b),
         Mode::ItemDue(group) => item_due(alloc, group, levels, at, b),
         Mode::Bare(owner, name) => bare_name(alloc, owner, name, levels, at, b),
         Mode::Quoted(owner, name) => quoted_name(owner, name, levels, at, b),
@@ -462,6 +491,12 @@ fn other_character(
             None => Err(ParseError::NotNotation(at)),
             Some(leaf) => no_more(alloc, Shape::leaf(leaf), levels, at),
         },
+        Mode::Bare(Owner::ReferenceAt(_), name) => {
+            no_more(alloc, Shape::reference(name), levels, at)
+        }
+        Mode::Named(Owner::ReferenceAt(_), name) => {
+            no_more(alloc, Shape::reference(name), levels, at)
+        }
         Mode::Done(shape) => no_more(alloc, shape, levels, at),
         _ => Err(ParseError::NotNotation(at)),
     }
@@ -513,6 +548,8 @@ fn finish(
             None => Err(ParseError::NotNotation(at)),
             Some(leaf) => last(alloc, Shape::leaf(leaf), levels, at),
         },
+        Mode::Bare(Owner::ReferenceAt(_), name) => last(alloc, Shape::reference(name), levels, at),
+        Mode::Named(Owner::ReferenceAt(_), name) => last(alloc, Shape::reference(name), levels, at),
         _ => Err(ParseError::NotNotation(at)),
     }
 }

@@ -1,5 +1,5 @@
 // Writing the notation of a shape.
-ghost use Rattle.std.specs.Prelude.{◌≡◌, ◌++◌, ◌∷◌, [], IfOk, OnOk, string_bytes, encode_utf8};
+ghost use Rattle.std.specs.Prelude.{◌≡◌, ◌<◌, ◌++◌, ◌∷◌, [], IfOk, OnOk, string_bytes, encode_utf8};
 ghost use Rattle.bson_shape.specs.Form as form;
 ghost use Rattle.bson_shape.specs.Notation as notation;
 ghost use Rattle.bson_shape.specs.ShapeView.{fields_of, parts_of, variants_of, content_of};
@@ -65,13 +65,14 @@ fn put_comma(out: &mut String, i: usize) -> Result<(), AllocError>
     Ok(())
 }
 
-/// Appends the comma before a field, where one is due, its name and a colon.
-fn put_field_name(out: &mut String, i: usize, name: &str) -> Result<(), AllocError>
-    ensures { OnOk result (string_bytes out.new ≡ string_bytes out.old ++ (comma_at i ++ (notation.name_text name.now ++ notation.colon ∷ []))) }
+/// Appends the comma before a field or a definition, where one is due, its name, and what divides that from its form.
+fn put_field_name(out: &mut String, i: usize, name: &str, divider: char) -> Result<(), AllocError>
+    requires { divider < 128 }
+    ensures { OnOk result (string_bytes out.new ≡ string_bytes out.old ++ (comma_at i ++ (notation.name_text name.now ++ divider ∷ []))) }
 {
     put_comma(out, i)?;
     put_name(out, name)?;
-    out.push(':')?;
+    out.push(divider)?;
     Ok(())
 }
 
@@ -127,13 +128,21 @@ fn put(out: &mut String, shape: &Shape) -> Result<(), AllocError>
         }
         Form::Struct(name, fields) => {
             put_struct_name(out, name)?;
-            put_fields(out, "{", fields)
+            put_fields(out, "{", fields, ':', '}')
         }
         Form::ClosedStruct(name, fields) => {
             put_struct_name(out, name)?;
-            put_fields(out, "{!", fields)
+            put_fields(out, "{!", fields, ':', '}')
         }
         Form::Enum(variants) => put_variants(out, variants),
+        Form::Reference(name) => {
+            out.push('@')?;
+            put_name(out, name)
+        }
+        Form::Definitions(table, body) => {
+            put_fields(out, "&(", table, '=', ')')?;
+            put(out, body)
+        }
     }
 }
 
@@ -164,17 +173,25 @@ fn put_forms(out: &mut String, readable: &Shape, compact: &Shape) -> Result<(), 
     Ok(())
 }
 
-/// Appends fields between what opens the braces and what closes them.
+/// Appends fields or definitions between what opens and what closes them; the divider is between a name and its form.
 #[cycle(put)]
-fn put_fields(out: &mut String, opening: &str, fields: &[FieldShape]) -> Result<(), AllocError>
-    ensures { OnOk result (string_bytes out.new ≡ string_bytes out.old ++ (opening.now ++ (notation.listed (notation.field_texts (fields_of fields.now)) ++ notation.close_brace ∷ []))) }
+fn put_fields(
+    out: &mut String,
+    opening: &str,
+    fields: &[FieldShape],
+    divider: char,
+    closing: char,
+) -> Result<(), AllocError>
+    requires divider { divider < 128 }
+    requires closing { closing < 128 }
+    ensures { OnOk result (string_bytes out.new ≡ string_bytes out.old ++ (opening.now ++ (notation.listed (notation.named_texts divider (fields_of fields.now)) ++ closing ∷ []))) }
 {
     out.push_str(opening)?;
     for (i, field) in fields.iter().enumerate() {
-        put_field_name(out, i, field.name.as_str())?;
+        put_field_name(out, i, field.name.as_str(), divider)?;
         put(out, &field.shape)?;
     }
-    out.push('}')?;
+    out.push(closing)?;
     Ok(())
 }
 
@@ -218,7 +235,7 @@ fn put_content(out: &mut String, content: &VariantContent) -> Result<(), AllocEr
             put(out, shape)
         }
         VariantContent::Tuple(parts) => put_parts(out, parts),
-        VariantContent::Struct(fields) => put_fields(out, "{", fields),
+        VariantContent::Struct(fields) => put_fields(out, "{", fields, ':', '}'),
     }
 }
 

@@ -1,10 +1,11 @@
 ghost use Rattle.std.specs.Prelude.{◌≡◌, ◌≤◌, false, string_bytes};
 ghost use Rattle.bson_shape.specs.Form as form;
 ghost use Rattle.bson_shape.specs.Levels.{levels, deepest, deepest_part, deepest_variant, deepest_inside, max_shape_levels};
-ghost use Rattle.bson_shape.specs.Makers.{IsShape, AreShapes, AreParts, AreVariants, IsContent, StructLevels, Makes, is_text_key, is_unit, are_units, contents_repeat, content_repeats, made_optional, made_lossy, made_human_readable, made_by_mode, made_sequence, made_map, made_tuple, made_tuple_structure, made_newtype, made_structure, made_enumeration};
+ghost use Rattle.bson_shape.specs.Makers.{IsShape, AreShapes, AreParts, AreVariants, IsContent, StructLevels, Makes, is_text_key, is_unit, are_units, contents_repeat, content_repeats, made_optional, made_lossy, made_human_readable, made_by_mode, made_sequence, made_map, made_tuple, made_tuple_structure, made_newtype, made_structure, made_enumeration, made_definitions};
 ghost use Rattle.bson_shape.specs.ShapeView.{fields_of, parts_of, variants_of, content_of, form_view};
 
 use crate::distinct::{has_repeated_field, has_repeated_variant};
+use crate::guarded::is_guarded;
 use crate::name::is_reserved_newtype;
 use crate::{Form, Leaf, ShapeError};
 use bson_base::reserved_kind;
@@ -17,7 +18,8 @@ const MAX_LEVELS: u16 = 512;
 /// What a value has to look like to be read.
 ///
 /// A shape is made by the makers below alone, so that no struct and no newtype in it has a reserved name, no struct, no
-/// struct variant and no enum has two fields or variants of one name, each key of a map is a text, and it has at most 512 levels. Contracts see a shape as its form.
+/// struct variant, no enum and no definitions have two fields, variants or definitions of one name, each key of a map is a text, no name of definitions
+/// leads back to itself without a step into a value, and it has at most 512 levels. Contracts see a shape as its form.
 #[cycle(shape)]
 #[derive(Debug, Drop)]
 pub struct Shape {
@@ -42,13 +44,15 @@ enum Node {
     Struct(String, Vec<FieldShape>),
     ClosedStruct(String, Vec<FieldShape>),
     Enum(Vec<VariantShape>),
+    Reference(String),
+    Definitions(Vec<FieldShape>, Box<Shape>),
 }
 
-/// A field of a struct.
+/// A field of a struct, or a definition.
 #[cycle(shape)]
 #[derive(Debug, Drop, PartialEq)]
 pub struct FieldShape {
-    /// The key that the field has in a document.
+    /// The key that the field has in a document, or the name by which references find the definition.
     pub name: String,
     /// What its value has to look like.
     pub shape: Shape,
@@ -570,6 +574,46 @@ impl Shape {
         })
     }
 
+    /// A reference: a value of the shape that this name has in the innermost definitions around it.
+    pub fn reference(name: String) -> Shape
+        ensures form { result ≡ form.reference (string_bytes name) }
+    {
+        Shape {
+            level_count: 1,
+            node: Node::Reference(name),
+        }
+    }
+
+    /// A value of the shape `body`, for whose references, and for those in the table itself, the table has definitions.
+    ///
+    /// # Errors
+    ///
+    /// The first of these that applies: `RepeatedName` where two definitions have one name, `Unguarded` where a name leads back to itself without a step
+    /// into a value, `TooDeep` where the shape would have more than 512 levels, `NoMemory` where memory runs out. From a name such steps lead to each
+    /// reference of its definition that stands behind options, marks, both of two forms and newtypes alone.
+    pub fn definitions(
+        alloc: Global,
+        table: Vec<FieldShape>,
+        body: Shape,
+    ) -> Result<Shape, ShapeError>
+        ensures made { Makes result (made_definitions (fields_of table.items) body) }
+    {
+        if has_repeated_field(&table) {
+            return Err(ShapeError::RepeatedName);
+        }
+        if !is_guarded(alloc, &table) {
+            return Err(ShapeError::Unguarded);
+        }
+        let deeper = deepest(&table).max(body.levels());
+        if deeper >= MAX_LEVELS {
+            return Err(ShapeError::TooDeep);
+        }
+        Ok(Shape {
+            level_count: deeper + 1,
+            node: Node::Definitions(table, Box::new(alloc, body)?),
+        })
+    }
+
     /// The form, to match on.
     pub fn form(&self) -> Form<'_>
         ensures form { form_view result ≡ self.now }
@@ -591,6 +635,8 @@ impl Shape {
                 Form::ClosedStruct(name.as_str(), fields.as_slice())
             }
             Node::Enum(variants) => Form::Enum(variants.as_slice()),
+            Node::Reference(name) => Form::Reference(name.as_str()),
+            Node::Definitions(table, body) => Form::Definitions(table.as_slice(), body),
         }
     }
 

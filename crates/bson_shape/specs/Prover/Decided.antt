@@ -8,7 +8,7 @@ use Rattle.std.proofs.lemmas.Bool.{and_parts, and_from, false≢true}
 use Rattle.std.proofs.lemmas.Slice.Eq.{bytes_eq-Decides}
 use denote.Enum.Bare.{same_true, true_same}
 use Rattle.bson_base.specs.Text.{Utf8}
-use Rattle.bson_shape.specs.Form.{UnknownFields, dropped, denied, Form, leaf, optional, lossy, human_readable, by_mode, sequence, map, tuple, tuple_structure, newtype, unit_structure, structure, enumeration, Fields, no_fields, field, Parts, no_parts, part, Variants, no_variants, variant, Content, unit_content, newtype_content, tuple_content, struct_content}
+use Rattle.bson_shape.specs.Form.{UnknownFields, dropped, denied, Form, leaf, optional, lossy, human_readable, by_mode, sequence, map, tuple, tuple_structure, newtype, unit_structure, structure, enumeration, reference, definitions, Fields, no_fields, field, Parts, no_parts, part, Variants, no_variants, variant, Content, unit_content, newtype_content, tuple_content, struct_content}
 use Rattle.bson_shape.specs.Same.{same_unknown, same, same_fields, same_parts, same_variants, same_content}
 use Rattle.bson_shape.specs.contracts.leaf.Leaf as leaf_type
 
@@ -48,6 +48,10 @@ mutual
       let b = and_parts (bytes_eq name n) (same_fields fs gs) a.1 in
       λ i. structure (unknown_is u w a.0 i) ((bytes_eq-Decides name n).0 b.0 i) (fields_are fs gs b.1 i)
   same_is (enumeration vs) (enumeration ws) e = ap enumeration (variants_are vs ws e)
+  same_is (reference name) (reference n) e = ap reference ((bytes_eq-Decides name n).0 e)
+  same_is (definitions h f) (definitions k g) e =
+      let b = and_parts (same_fields h k) (same f g) e in
+      λ i. definitions (fields_are h k b.0 i) (same_is f g b.1 i)
   same_is f g e = absurd (false≢true e)
 
   fields_are : (fs gs : Fields) → same_fields fs gs ≡ true → fs ≡ gs
@@ -95,6 +99,8 @@ mutual
   same_itself (unit_structure name) = bytes_alike name
   same_itself (structure u name fs) = and_from _ _ (unknown_alike u) (and_from _ _ (bytes_alike name) (fields_alike fs))
   same_itself (enumeration vs) = variants_alike vs
+  same_itself (reference name) = bytes_alike name
+  same_itself (definitions h f) = and_from _ _ (fields_alike h) (same_itself f)
 
   fields_alike : (fs : Fields) → same_fields fs fs ≡ true
   fields_alike no_fields = refl

@@ -45,3 +45,5 @@ falls (node.UnitStruct name) = omega arith
 falls (node.Struct name fs) = omega (arith, most_falls fs.items)
 falls (node.ClosedStruct name fs) = omega (arith, most_falls fs.items)
 falls (node.Enum vs) = omega (arith, variants_fall vs.items)
+falls (node.Reference name) = omega arith
+falls (node.Definitions table body) = omega (arith, most_falls table.items)

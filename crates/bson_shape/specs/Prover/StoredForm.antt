@@ -5,7 +5,7 @@ use Rattle.std.proofs.Common.{ap, arith}
 use base.Stored.{Gv, gnil, gnum, gcons}
 use Rattle.bson_base.specs.Prover.Stored.{head, tail, num}
 use Rattle.bson_base.specs.Text.{Utf8}
-use Rattle.bson_shape.specs.Form.{UnknownFields, dropped, denied, Form, leaf, optional, lossy, human_readable, by_mode, sequence, map, tuple, tuple_structure, newtype, unit_structure, structure, enumeration, Fields, no_fields, field, Parts, no_parts, part, Variants, no_variants, variant, Content, unit_content, newtype_content, tuple_content, struct_content}
+use Rattle.bson_shape.specs.Form.{UnknownFields, dropped, denied, Form, leaf, optional, lossy, human_readable, by_mode, sequence, map, tuple, tuple_structure, newtype, unit_structure, structure, enumeration, reference, definitions, Fields, no_fields, field, Parts, no_parts, part, Variants, no_variants, variant, Content, unit_content, newtype_content, tuple_content, struct_content}
 use Rattle.bson_shape.specs.contracts.leaf.Leaf as leaf_type
 
 abbrev text_coded : Coded Utf8
@@ -29,6 +29,8 @@ abbrev mutual
   form_code (tuple ps) = gcons (gnum 7) (parts_code ps)
   form_code (tuple_structure n ps) = gcons (gnum 8) (gcons (text_coded.code n) (parts_code ps))
   form_code (enumeration vs) = gcons (gnum 9) (variants_code vs)
+  form_code (reference n) = gcons (gnum 13) (text_coded.code n)
+  form_code (definitions h f) = gcons (gnum 14) (gcons (fields_code h) (form_code f))
   form_code (structure u n fs) = gcons (gnum 1) (gcons (unknown_code u) (gcons (text_coded.code n) (fields_code fs)))
 
   pub fields_code : Fields → Gv
@@ -68,6 +70,8 @@ mutual
   form_inj (tuple ps) (tuple qs) p = ap tuple (parts_inj ps qs (ap (λ g. tail g) p))
   form_inj (tuple_structure n ps) (tuple_structure m qs) p = λ i. tuple_structure (text_coded.inj n m (ap (λ g. head (tail g)) p) i) (parts_inj ps qs (ap (λ g. tail (tail g)) p) i)
   form_inj (enumeration vs) (enumeration ws) p = ap enumeration (variants_inj vs ws (ap (λ g. tail g) p))
+  form_inj (reference n) (reference m) p = ap reference (text_coded.inj n m (ap (λ g. tail g) p))
+  form_inj (definitions h f) (definitions k g) p = λ i. definitions (fields_inj h k (ap (λ g. head (tail g)) p) i) (form_inj f g (ap (λ g. tail (tail g)) p) i)
   form_inj (structure u n fs) (structure w m gs) p = λ i. structure (unknown_inj u w (ap (λ g. head (tail g)) p) i) (text_coded.inj n m (ap (λ g. head (tail (tail g))) p) i) (fields_inj fs gs (ap (λ g. tail (tail (tail g))) p) i)
   form_inj x y p = absurd (omega (arith, ap (λ g. num (head g)) p))
 

@@ -14,22 +14,23 @@ put_fields-put-requires t c =
     let xs = c.args.fields.now in
     let x = c.index-fields-i.result in
     let smaller : nodes x.shape < fields_nodes (fields_of xs) = subst (λ (g : FieldShape). nodes g.shape < fields_nodes (fields_of xs)) (sym c.index-fields-i.is) (field_smaller xs c.loop-i.i x c.loop-i-test.true) in
-    (omega (arith, smaller, c.requires.1), tt)
+    (omega (arith, smaller, c.requires.1.0), tt)
 
 pub put_fields-loop-i-preserved : goal.put_fields-loop-i-preserved
 put_fields-loop-i-preserved t c =
     let x = c.index-fields-i.result in
-    more_printed field_shown c.args.fields.now c.loop-i.i x _ (string_bytes c.loop-i.out) _ c.loop-i-test.true c.index-fields-i.is c.loop-i.invariant
-    (field_printed (string_bytes c.loop-i.out) _ _ (comma_at c.loop-i.i) (name_text (string_bytes x.name)) (text x.shape) (c.in_ok-put_field_name.ensures ∙ ap (λ n. string_bytes c.loop-i.out ++ (comma_at c.loop-i.i ++ (name_text n ++ 58 ∷ []))) c.as_str.ensures.value) c.in_ok-put.ensures)
+    more_printed (field_shown c.args.divider) c.args.fields.now c.loop-i.i x _ (string_bytes c.loop-i.out) _ c.loop-i-test.true c.index-fields-i.is c.loop-i.invariant
+    (field_printed c.args.divider (string_bytes c.loop-i.out) _ _ (comma_at c.loop-i.i) (name_text (string_bytes x.name)) (text x.shape) (c.in_ok-put_field_name.ensures ∙ ap (λ n. string_bytes c.loop-i.out ++ (comma_at c.loop-i.i ++ (name_text n ++ c.args.divider ∷ []))) c.as_str.ensures.value) c.in_ok-put.ensures)
 
 pub put_fields-returns : goal.put_fields-returns
 put_fields-returns t c =
     let xs = c.args.fields.now in
     let old = string_bytes c.args.out.now in
     let opening = c.args.opening.now in
-    all_printed field_shown xs c.loop-i.i old opening _ (string_bytes c.loop-i.out) _ 125 c.loop-i-test.false
-    c.in_ok-push_str.ensures.bytes c.loop-i.invariant (c.in_ok-push.ensures.bytes ∙ ap (λ ys. string_bytes c.loop-i.out ++ ys) (c.in_ok-push.ensures.ascii (omega arith)))
-    ∙ ap (λ ys. old ++ (opening ++ (listed ys ++ 125 ∷ []))) (fields_shown xs)
+    let closing = c.args.closing in
+    all_printed (field_shown c.args.divider) xs c.loop-i.i old opening _ (string_bytes c.loop-i.out) _ closing c.loop-i-test.false
+    c.in_ok-push_str.ensures.bytes c.loop-i.invariant (c.in_ok-push.ensures.bytes ∙ ap (λ ys. string_bytes c.loop-i.out ++ ys) (c.in_ok-push.ensures.ascii c.requires.1.1.1))
+    ∙ ap (λ ys. old ++ (opening ++ (listed ys ++ closing ∷ []))) (fields_shown c.args.divider xs)
 
 pub put_parts-put-requires : goal.put_parts-put-requires
 put_parts-put-requires t c =

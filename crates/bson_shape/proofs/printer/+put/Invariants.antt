@@ -28,7 +28,7 @@ decreases-put_content l = 2 * content_nodes (content_of l.content.now) + 1
 
 -- those so far are written
 abbrev pub invariant-put_fields-loop-i : goal.invariant-put_fields-loop-i
-invariant-put_fields-loop-i l = string_bytes l.out ≡ string_bytes l.initial.out ++ listed (map field_shown (take l.i l.fields))
+invariant-put_fields-loop-i l = string_bytes l.out ≡ string_bytes l.initial.out ++ listed (map (field_shown l.divider) (take l.i l.fields))
 
 abbrev pub invariant-put_parts-loop-i : goal.invariant-put_parts-loop-i
 invariant-put_parts-loop-i l = string_bytes l.out ≡ string_bytes l.initial.out ++ listed (map text (take l.i l.parts))
