@@ -10,7 +10,7 @@ use Rattle.bson_base.specs.Tree.{Tree, double, string, document, array, binary, 
 use Rattle.bson_datum.specs.Cause.{too_long}
 use Rattle.bson_laws.specs.Encodable.{IsEncodable, ArePairsEncodable, AreTreesEncodable}
 use Rattle.bson_laws.proofs.TreesRead.{no_wrapper}
-use Rattle.bson_assembled.specs.Assembled.{Building, unless, stays, looked_tree, with_pair, with_scope, by_key, built, looked_at, built_pairs, built_trees, after_code, raw_bytes, within_limit, assembled}
+use Rattle.bson_laws.specs.Assembled.{Building, unless, stays, looked_tree, with_pair, with_scope, by_key, built, looked_at, built_pairs, built_trees, after_code, raw_bytes, within_limit, assembled}
 use Rattle.bson_assembled.specs.FreeKeys.{HasFreeKeys, AreKeysFree, HaveFreeKeys}
 
 free_part : (t : Utf8) → has_zero t ≡ false → zero_fault t ≡ None

@@ -1,3 +1,1 @@
-pub mod FirstKeys
-pub mod Assembled
 pub mod FreeKeys

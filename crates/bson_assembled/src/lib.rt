@@ -5,7 +5,7 @@ ghost use Rattle.std.specs.Prelude.{◌≡◌, ◌≤◌, length, Ok};
 ghost use Rattle.bson_base.specs.Sound.{max_levels, max_bytes};
 ghost use Rattle.bson_base.specs.Tree.{Tree, enc, depth};
 ghost use Rattle.bson_laws.specs.Encodable.{IsEncodable};
-ghost use Rattle.bson_assembled.specs.Assembled.{raw_bytes, assembled};
+ghost use Rattle.bson_laws.specs.Assembled.{raw_bytes, assembled};
 ghost use Rattle.bson_assembled.specs.FreeKeys.{HasFreeKeys};
 
 /// A value is assembled as its own kind and bytes where no key in it begins with `$` and there are bytes for it.

@@ -30,6 +30,8 @@ pub data Cause : Type 0 where
   unknown_variant : Utf8 → Cause
   -- a key that is no field of a struct which denies unknown ones; or a key other than `$scope` after `$code`, or other than `$code` after `$scope`
   unknown_field : Utf8 → Cause
+  -- the shape has no definition of this name
+  unknown_reference : Utf8 → Cause
   -- the value of this wrapper key is not valid, or, at `oid` and `uuid`, a text that is no ObjectId or UUID
   bad_body : Wrapper → Cause
   -- a value was read as one of this kind, and the shape takes another
@@ -40,6 +42,10 @@ pub data Cause : Type 0 where
   contents_wanted : Cause
   -- a document names a variant that has no contents
   unit_in_document : Cause
+  -- an empty document of a tree, where the name of a variant is due
+  empty_enum : Cause
+  -- a second key in the document of a tree that names a variant
+  extra_key : Utf8 → Cause
   -- a key, or a part of a regular expression, holds a zero character
   zero_byte : Cause
   -- the whole value is written as this kind, which is no document

@@ -5,7 +5,7 @@ use Rattle.bson_datum.specs.Cause as cause
 use Rattle.bson_datum.specs.Refusal.{ReadFault, io, end_of_stream, unreadable, WriteFault, unwritable, invalid_document_key, invalid_cstring, unsigned_exceeds, Failure, no_memory, bare, placed}
 use Rattle.bson_datum.specs.PathView.{path_view}
 use Rattle.bson_datum.specs.declared.cause.Cause.{Cause}
-use Rattle.bson_datum.specs.declared.cause.Cause.TheVariants.{Raw, TooDeep, InvalidType, OutOfRange, NotOneChar, NotUtf8, NotBorrowed, InvalidLength, MissingField, DuplicateField, UnknownVariant, UnknownField, BadBody, WrongKind, Subtype, ContentsWanted, UnitInDocument, ZeroByte, TopLevel, BinaryTooLong, BadUuid, BadStep, TooLong, NotDocument, Failed, TooSmall, NotFitting, NotI32, NotI64, Increment, NotDate, NotObjectId, NoRfc3339}
+use Rattle.bson_datum.specs.declared.cause.Cause.TheVariants.{Raw, TooDeep, InvalidType, OutOfRange, NotOneChar, NotUtf8, NotBorrowed, InvalidLength, MissingField, DuplicateField, UnknownVariant, UnknownField, UnknownReference, BadBody, WrongKind, Subtype, ContentsWanted, UnitInDocument, EmptyEnum, ExtraKey, ZeroByte, TopLevel, BinaryTooLong, BadUuid, BadStep, TooLong, NotDocument, Failed, TooSmall, NotFitting, NotI32, NotI64, Increment, NotDate, NotObjectId, NoRfc3339}
 use Rattle.bson_datum.specs.declared.de.Fault as de_fault
 use Rattle.bson_datum.specs.declared.de.Fault.TheVariants as de_faults
 use Rattle.bson_datum.specs.declared.ser.Fault as ser_fault
@@ -26,11 +26,14 @@ cause_view (MissingField t) = cause.missing_field (string_bytes t)
 cause_view (DuplicateField t) = cause.duplicate_field (string_bytes t)
 cause_view (UnknownVariant t) = cause.unknown_variant (string_bytes t)
 cause_view (UnknownField t) = cause.unknown_field (string_bytes t)
+cause_view (UnknownReference t) = cause.unknown_reference (string_bytes t)
 cause_view (BadBody w) = cause.bad_body w
 cause_view (WrongKind k) = cause.wrong_kind k
 cause_view (Subtype n) = cause.subtype n
 cause_view ContentsWanted = cause.contents_wanted
 cause_view UnitInDocument = cause.unit_in_document
+cause_view EmptyEnum = cause.empty_enum
+cause_view (ExtraKey t) = cause.extra_key (string_bytes t)
 cause_view ZeroByte = cause.zero_byte
 cause_view (TopLevel k) = cause.top_level k
 cause_view (BinaryTooLong n) = cause.binary_too_long n

@@ -5,7 +5,7 @@ use Rattle.bson_base.specs.Text.{Utf8}
 use Rattle.bson_base.specs.Kind.{name}
 use Rattle.bson_base.specs.Tree.{kind}
 use Rattle.bson_rawdoc.specs.Printed.{printed_fault}
-use Rattle.bson_datum.specs.Cause.{Cause, raw, too_deep, invalid_type, out_of_range, not_one_char, not_utf8, not_borrowed, invalid_length, missing_field, duplicate_field, unknown_variant, unknown_field, bad_body, wrong_kind, subtype, contents_wanted, unit_in_document, zero_byte, top_level, binary_too_long, bad_uuid, bad_step, too_long, not_document, failed, too_small, not_fitting, not_i32, not_i64, increment, not_date, not_object_id, no_rfc3339}
+use Rattle.bson_datum.specs.Cause.{Cause, raw, too_deep, invalid_type, out_of_range, not_one_char, not_utf8, not_borrowed, invalid_length, missing_field, duplicate_field, unknown_variant, unknown_field, unknown_reference, bad_body, wrong_kind, subtype, contents_wanted, unit_in_document, empty_enum, extra_key, zero_byte, top_level, binary_too_long, bad_uuid, bad_step, too_long, not_document, failed, too_small, not_fitting, not_i32, not_i64, increment, not_date, not_object_id, no_rfc3339}
 use Rattle.bson_datum.specs.Wrapper.{key}
 use Rattle.bson_datum.specs.declared.wrapper.Wrapper.{Wrapper}
 use Rattle.bson_datum.specs.declared.wrapper.Wrapper.TheVariants.{NumberDouble}
@@ -47,11 +47,14 @@ printed_cause (missing_field t) = codes "missing field " ++ t
 printed_cause (duplicate_field t) = codes "duplicate field " ++ t
 printed_cause (unknown_variant t) = codes "unknown variant " ++ t
 printed_cause (unknown_field t) = codes "unknown field " ++ t
+printed_cause (unknown_reference t) = codes "unknown reference " ++ t
 printed_cause (bad_body w) = codes "bad value for " ++ key w ++ what_is_expected w
 printed_cause (wrong_kind k) = codes "unexpected value: " ++ name k
 printed_cause (subtype n) = codes "unexpected binary subtype " ++ decimal n
 printed_cause contents_wanted = codes "expected contents, got a text"
 printed_cause unit_in_document = codes "expected a string enum, got a document instead"
+printed_cause empty_enum = codes "empty document, expected variant name"
+printed_cause (extra_key t) = codes "extra key " ++ t
 printed_cause zero_byte = codes "zero byte in a key or regex"
 printed_cause (top_level k) = codes "non-document type at the top level: " ++ name k
 printed_cause (binary_too_long n) = codes "binary length " ++ decimal n ++ codes " exceeded maximum size"

@@ -33,6 +33,8 @@ pub enum Cause {
     UnknownVariant(String),
     /// A key that is no field of a closed struct; or a key other than `$scope` after `$code`, or other than `$code` after `$scope`.
     UnknownField(String),
+    /// The shape has no definition of this name.
+    UnknownReference(String),
     /// The value of this wrapper key is not valid, or, at `oid` and `uuid`, a text that is no ObjectId or UUID.
     BadBody(Wrapper),
     /// What was read as a tree, of this kind, is not what the shape takes.
@@ -43,6 +45,10 @@ pub enum Cause {
     ContentsWanted,
     /// A document names a variant that has no contents.
     UnitInDocument,
+    /// An empty document of a tree in memory, where the name of a variant is due.
+    EmptyEnum,
+    /// A second key in a document of a tree in memory that names a variant.
+    ExtraKey(String),
     /// A key, or a part of a regular expression, holds a zero character.
     ZeroByte,
     /// The value has this kind, where a document is due.
@@ -98,6 +104,7 @@ impl fmt::Display for Cause {
             Cause::DuplicateField(name) => write!(f, "duplicate field {name}"),
             Cause::UnknownVariant(name) => write!(f, "unknown variant {name}"),
             Cause::UnknownField(name) => write!(f, "unknown field {name}"),
+            Cause::UnknownReference(name) => write!(f, "unknown reference {name}"),
             Cause::BadBody(wrapper) => {
                 let key = wrapper.key();
                 let expected = expected(*wrapper);
@@ -109,6 +116,8 @@ impl fmt::Display for Cause {
             Cause::UnitInDocument => {
                 f.write_str("expected a string enum, got a document instead")
             }
+            Cause::EmptyEnum => f.write_str("empty document, expected variant name"),
+            Cause::ExtraKey(key) => write!(f, "extra key {key}"),
             Cause::ZeroByte => f.write_str("zero byte in a key or regex"),
             Cause::TopLevel(kind) => write!(f, "non-document type at the top level: {kind}"),
             Cause::BinaryTooLong(length) => {

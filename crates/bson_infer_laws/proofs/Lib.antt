@@ -11,5 +11,6 @@ pub mod SortedOptions
 pub mod RawValues
 pub mod DocumentsBack
 pub mod Usual
+pub mod Seen
 pub mod Recasts
 pub mod Examples

@@ -8,7 +8,7 @@ use Rattle.bson_base.specs.Pairs.{lookup}
 use Rattle.bson_base.specs.Sound.{IsClean, ArePairsClean, AreTreesClean, IsDocument, IsSound, max_levels}
 use Rattle.bson_base.specs.Text.{Utf8}
 use Rattle.bson_base.specs.Tree as tree
-use Rattle.bson_base.specs.Tree.{Tree, document, array, null, string, boolean, binary, int32, int64, double, object_id, Pairs, no_pairs, pair, Trees, no_trees, enc, depth, pairs_depth, trees_depth}
+use Rattle.bson_base.specs.Tree.{Tree, document, array, null, string, boolean, binary, int32, int64, double, object_id, Pairs, no_pairs, pair, Trees, no_trees, depth, pairs_depth, trees_depth}
 use Rattle.bson_base.specs.declared.element_type.ElementType.{ElementType}
 use Rattle.bson_base.specs.declared.element_type.ElementType.TheVariants as kinds
 use Rattle.bson_base.proofs.Outcomes.{some_is, some_map, some_then}
@@ -25,12 +25,13 @@ use Rattle.bson_laws.specs.Plain.{IsPlain}
 use Rattle.bson_laws.specs.Spell.{spell, spell_items, spell_fields, spell_document}
 use Rattle.bson_laws.specs.Views.{views_items, absent, views_at, views_leaf, views_extended, views, views_fields}
 use Rattle.bson_laws.proofs.DatumSpelled.{datum_spelled}
-use Rattle.bson_laws.proofs.ReadBack.{views_reads}
+use Rattle.bson_laws.proofs.AtShapes.{views_reads}
 use Rattle.bson_laws.proofs.Spelled.{binary_spelled}
 use Rattle.bson_infer_laws.specs.Inferred.{inferred, AllTrees}
 use Rattle.bson_infer_laws.specs.Recasts.{IsRecast}
 use Rattle.bson_infer_laws.proofs.Levels.{inferred_shape}
 use Rattle.bson_infer_laws.proofs.PlainJoin.{inferred_plain}
+use Rattle.bson_infer_laws.proofs.Seen.{view_usual}
 use Rattle.bson_infer_laws.proofs.Shapes.{each_views}
 use Rattle.bson_infer_laws.proofs.SortedOptions.{sorted_clean, sorted_depth}
 use Rattle.bson_infer_laws.proofs.Usual.{IsUsualLeaf, IsUsual, AreUsual, IsOfDocuments, inferred_usual, inferred_of}
@@ -227,7 +228,7 @@ one_recast : (s : Form) (t : Tree) → IsShape s → IsPlain s → IsUsual s →
 one_recast s t p plain q o h some =
     let v = some_of (views s t) some in
     let w = top_written s t v.0 q o h v.1 in
-    record { value = v.0; written = w.0; reads = views_reads s t v.0 p plain h v.1; spells = w.1 }
+    record { value = v.0; written = w.0; reads = views_reads s t v.0 p plain h (view_usual s t q ∙ v.1); spells = w.1 }
 
 all_recast : (s : Form) (ts : Trees) → IsShape s → IsPlain s → IsUsual s → IsOfDocuments s → AllTrees IsSound ts → AllTrees (λ t. IsSome (views s t)) ts → AllTrees (IsRecast s) ts
 all_recast s no_trees p plain q o h some = tt

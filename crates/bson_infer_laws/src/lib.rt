@@ -5,12 +5,12 @@ ghost use Rattle.std.specs.Prelude.{◌≡◌, ◌≤◌, IsSome, Ok};
 ghost use Rattle.bson_base.specs.Sound.{AreTreesClean, IsDocument, IsSound};
 ghost use Rattle.bson_base.specs.Tree.{document, Pairs, Trees, enc, trees_depth};
 ghost use Rattle.bson_rawdoc.specs.Cut.{cut};
-ghost use Rattle.bson_shape.specs.Form.{Form};
+ghost use Rattle.bson_shape.specs.Form.{Form, no_fields};
 ghost use Rattle.bson_shape.specs.Levels.{levels};
 ghost use Rattle.bson_shape.specs.Makers.{IsShape};
 ghost use Rattle.bson_laws.specs.Datum.{sorted_pairs};
 ghost use Rattle.bson_laws.specs.Plain.{IsPlain};
-ghost use Rattle.bson_laws.specs.Views.{views};
+ghost use Rattle.bson_laws.specs.Recursive.{view};
 ghost use Rattle.bson_infer_laws.specs.Above.{Above, IsJoined};
 ghost use Rattle.bson_infer_laws.specs.Encodings.{piece_pairs, encodings, cut_into};
 ghost use Rattle.bson_infer_laws.specs.Inferred.{shape_of, inferred, with_last, AllTrees};
@@ -42,7 +42,7 @@ pub fn law_inferred_shape()
 ///
 /// It does nothing.
 pub fn law_inferred_views()
-    ensures views { (ts : Trees) → AreTreesClean ts → AllTrees (λ t. IsSome (views (inferred ts) t)) ts }
+    ensures views { (ts : Trees) → AreTreesClean ts → AllTrees (λ t. IsSome (view no_fields (inferred ts) t)) ts }
 {}
 
 /// Each of sound documents is read from its bytes at the shape that is inferred from them all, as a value that is written again. So nothing but the size of what

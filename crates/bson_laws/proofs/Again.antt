@@ -20,8 +20,8 @@ use Rattle.bson_rawdoc.specs.Node.{Sight, piece, Node, Nodes, tree_node, pair_no
 use Rattle.bson_rawdoc.specs.Piece.{Piece, made}
 use Rattle.bson_shape.proofs.TextStates.{text-encode}
 use Rattle.bson_base.specs.Reserved.{reserved_kind}
-use Rattle.bson_shape.specs.Form.{UnknownFields, dropped, Form, leaf, optional, lossy, human_readable, by_mode, sequence, newtype, unit_structure, map, tuple, tuple_structure, structure, enumeration, Fields, no_fields, field, Parts, no_parts, part, Content, unit_content, newtype_content, tuple_content, struct_content, Variants, no_variants, variant}
-use Rattle.bson_shape.specs.Makers.{is_reserved_newtype, IsShape, AreShapes, AreParts, AreVariants, IsContent}
+use Rattle.bson_shape.specs.Form.{UnknownFields, dropped, Form, leaf, optional, lossy, human_readable, by_mode, sequence, newtype, unit_structure, map, tuple, tuple_structure, structure, enumeration, definitions, Fields, no_fields, field, Parts, no_parts, part, Content, unit_content, newtype_content, tuple_content, struct_content, Variants, no_variants, variant}
+use Rattle.bson_shape.specs.Makers.{is_reserved_newtype}
 use Rattle.bson_datum.specs.Value as value
 use Rattle.bson_datum.specs.Value.{IntegerType, i8, i16, i32, i64, u8, u16, u32, u64, greatest, in_range, written_as, Value, Items, no_items, item, Entries, no_entries, entry, FieldValues, no_field_values, field_value}
 use Rattle.bson_datum.specs.Marked.{Marked, MarkedItems, MarkedEntries, MarkedFields, contents, item_contents, entry_contents, field_contents}
@@ -41,11 +41,13 @@ use Rattle.bson_laws.specs.Reads.{read_leaf, slots_of, reads, reads_parts, reads
 use Rattle.bson_laws.specs.Settled.{IsSettled, AreFieldsSettled, ArePartsSettled}
 use Rattle.bson_laws.specs.Spell.{Writing, enclosed_at, variant_at, named, spell_number, spell_key, spell, spell_items, spell_entries, spell_fields}
 use Rattle.bson_laws.proofs.TreesAgain.{extended_comes}
+use Rattle.bson_laws.proofs.ShapeForms.{IsShape, AreShapes, AreParts, AreVariants, IsContent}
 use Rattle.bson_laws.proofs.Coded.{IsName, IsCoded, ArePairsCoded, AreTreesCoded}
 use Rattle.bson_laws.proofs.Entries.{joined, joined_contents, joined_none, joined_one, IsNew, put_last, new_joined}
+use Rattle.bson_laws.specs.declared.origin.Origin.TheVariants as origins
 use Rattle.bson_laws.proofs.Filled.{Distinct, ArePassed, seen_of, seen_at, seen_fields, fields_seen}
 use Rattle.bson_laws.proofs.Fitted.{Unnamed, unlike_swap, bytes_eq-refl, bytes_same, chosen_t, chosen_f, one_again}
-use Rattle.bson_laws.proofs.Given.{Differs, AreApart, IsGivenAny, AreGivenItems, AreGivenEntries, IsGivenLeaf, IsGivenLeafKey, IsGivenKey, IsGiven, ItemsGiven, PartsGiven, EntriesGiven, FieldsGiven, given_leaf, given_lossy}
+use Rattle.bson_laws.proofs.Given.{Differs, AreApart, IsGivenAny, AreGivenItems, AreGivenEntries, IsGivenLeaf, IsGivenLeafKey, IsGivenKey, IsGiven, ItemsGiven, PartsGiven, EntriesGiven, FieldsGiven, given_leaf, given_lossy, given_body}
 use Rattle.bson_laws.proofs.Judged.{text_whole, by_null}
 use Rattle.bson_laws.proofs.RawAgain.{document_comes, array_comes, raw_comes}
 use Rattle.bson_laws.proofs.ReadBack.{distinct_from}
@@ -388,20 +390,20 @@ keyed_passed at n u (field name s fs) (pair j t ps) d k = (
 )
 
 -- a pair that no field takes is not seen
-seen_more : (at : Sight) (n : ℕ) (fs : Fields) (key : Utf8) (t : Tree) (ps : Pairs) → Unnamed key fs → seen_fields at n fs (pair key t ps) ≡ seen_fields at n fs ps
+seen_more : (at : Sight) (n : ℕ) (fs : Fields) (key : Utf8) (t : Tree) (ps : Pairs) → Unnamed key fs → seen_fields origins.Bytes at n fs (pair key t ps) ≡ seen_fields origins.Bytes at n fs ps
 seen_more at n no_fields key t ps u = refl
 seen_more at n (field name s fs) key t ps u =
-    λ i. option_and_then (λ v. option_map (field_value (made name) v) (seen_more at n fs key t ps u.1 i)) (seen_at at n s (chosen_f (bytes_eq name key) t (lookup name ps) u.0 i))
+    λ i. option_and_then (λ v. option_map (field_value (made name) v) (seen_more at n fs key t ps u.1 i)) (seen_at origins.Bytes at n s (chosen_f (bytes_eq name key) t (lookup name ps) u.0 i))
 
 -- the fields are seen in the pairs that they are spelled as
 abbrev FieldsSeen : (at : Sight) → Fields → ℕ → Pairs → Type 0
-FieldsSeen at fs n ps = (out : MarkedFields) × (seen_fields at n fs ps ≡ Some out) × (spell_fields (field_contents out) n ≡ Ok ps) × AreKeyed fs ps × ArePairsCoded ps
+FieldsSeen at fs n ps = (out : MarkedFields) × (seen_fields origins.Bytes at n fs ps ≡ Some out) × (spell_fields (field_contents out) n ≡ Ok ps) × AreKeyed fs ps × ArePairsCoded ps
 
 fields_body : (at : Sight) (u : UnknownFields) (fs : Fields) (vs : FieldValues) (n : ℕ) (t : Tree) → IsShort t → Distinct fs → enclosed_at document n (spell_fields vs) ≡ Ok t
     → ((k : ℕ) (ps : Pairs) → ArePairsShort ps → spell_fields vs k ≡ Ok ps → FieldsSeen at fs k ps) → FieldsCome at u fs n t
 fields_body at u fs vs n t small d e each =
     within (λ k x. IsShort x → FieldsCome at u fs k x) document n (spell_fields vs) t e
-    (λ k ps q short. let h = each k ps (omega (arith, short, elements_size ps)) q in (h.0, fields_seen at k u fs d ps h.0 (keyed_passed at k u fs ps d h.3) h.1, ap (result_map document) h.2, h.4)) small
+    (λ k ps q short. let h = each k ps (omega (arith, short, elements_size ps)) q in (h.0, fields_seen at k origins.Bytes u fs d ps h.0 (keyed_passed at k u fs ps d h.3) h.1, ap (result_map document) h.2, h.4)) small
 
 -- ---- options
 
@@ -421,28 +423,29 @@ lossy_comes at s levels t h = (h.0, ap (reads s) (tree_mended at t levels h.3) �
 mutual
   pub again : (at : Sight) (v : Value) (s : Form) (levels : ℕ) (t : Tree) → IsShape s → IsSettled s → IsGiven at v s → IsShort t → spell v levels ≡ Ok t → Comes at s levels t
   again at v (leaf l) levels t p due g small e = leaf_comes at (borrows l) (leaf_kind l) v levels t small (given_leaf at v l g).1 (given_leaf at v l g).0 e
-  again at v (lossy s) levels t p due g small e = lossy_comes at s levels t (again (marked at) v s levels t p.1 due (given_lossy at v s g) small e)
+  again at v (lossy s) levels t p due g small e = lossy_comes at s levels t (again (marked at) v s levels t p due (given_lossy at v s g) small e)
   again at v (human_readable s) levels t p due g small e = absurd due
   again at v (by_mode readable compact) levels t p due g small e = absurd due
+  again at v (definitions h s) levels t p due g small e = again at v s levels t p due.1 (given_body at v h s g) small e
   again at value.none (optional s) levels t p due g small e = subst (Comes at (optional s) levels) (ok_is null t e) (value.none, refl, refl, tt)
-  again at (value.some v) (optional s) levels t p due g small e = option_comes at s t levels (again at v s levels t p.1 due g small e)
+  again at (value.some v) (optional s) levels t p due g small e = option_comes at s t levels (again at v s levels t p due g small e)
   again at (value.newtype m v) (newtype n s) levels t p due g small e =
       let h = again at v s levels t p.1 due g.1 small (sym (free_spelled m v levels (ap is_reserved_newtype g.0 ∙ p.0.free)) ∙ e) in
       (value.newtype (made n) h.0, ap (result_map (value.newtype (made n))) h.1, free_spelled n (contents h.0) levels p.0.free ∙ h.2, h.3)
   again at (value.unit_structure m) (unit_structure n) levels t p due g small e = subst (Comes at (unit_structure n) levels) (ok_is null t e) (value.unit_structure (made n), refl, refl, tt)
   again at (value.sequence vs) (sequence s) levels t p due g small e =
-      let h = items_body at (reads_items (reads s) 0) vs levels t small e (λ k ts short q. again_items at vs s 0 k ts p.1 due g short q) in
+      let h = items_body at (reads_items (reads s) 0) vs levels t small e (λ k ts short q. again_items at vs s 0 k ts p due g short q) in
       (value.sequence h.0, built_of (judged (tree_node at t levels) >>= array_of) (reads_items (reads s) 0) value.sequence h.0 h.1, h.2, h.3)
   again at (value.map es) (map key s) levels t p due g small e =
       within (λ n u. IsShort u → Comes at (map key s) n u) document levels (spell_entries es) t e
       (λ n ps q short.
-      let h = again_entries at es key s n ps no_entries p.2 p.3 due g.0 g.1 (new_to_none es) (omega (arith, short, elements_size ps)) q in
+      let h = again_entries at es key s n ps no_entries p.1 p.2 due g.0 g.1 (new_to_none es) (omega (arith, short, elements_size ps)) q in
       (value.map h.0, ap (result_map value.map) h.1, ap (result_map document) h.2, h.3)) small
   again at (value.tuple vs) (tuple ps) levels t p due g small e =
-      let h = items_body at (reads_parts ps 0) vs levels t small e (λ k ts short q. again_parts at vs ps 0 k ts p.1 due g short q) in
+      let h = items_body at (reads_parts ps 0) vs levels t small e (λ k ts short q. again_parts at vs ps 0 k ts p due g short q) in
       (value.tuple h.0, built_of (judged (tree_node at t levels) >>= array_of) (reads_parts ps 0) value.tuple h.0 h.1, h.2, h.3)
   again at (value.tuple_structure m vs) (tuple_structure n ps) levels t p due g small e =
-      let h = items_body at (reads_parts ps 0) vs levels t small e (λ k ts short q. again_parts at vs ps 0 k ts p.2 due g.1 short q) in
+      let h = items_body at (reads_parts ps 0) vs levels t small e (λ k ts short q. again_parts at vs ps 0 k ts p.1 due g.1 short q) in
       (value.tuple_structure (made n) h.0, built_of (judged (tree_node at t levels) >>= array_of) (reads_parts ps 0) (value.tuple_structure (made n)) h.0 h.1, h.2, h.3)
   again at (value.structure m vs) (structure u n fs) levels t p due g small e =
       let free = ap reserved_kind g.0 ∙ p.0.free in
@@ -561,8 +564,8 @@ mutual
       let same = bytes_eq-refl name in
       subst (FieldsSeen at (field name s fs) n) (ok_is (pair m a.0 b.0) ps b.2) (
         field_value (made name) first.0 rest.0,
-        ap (λ o. option_and_then (λ w. option_map (field_value (made name) w) (seen_fields at n fs (pair m a.0 b.0))) (seen_at at n s o)) (chosen_t (bytes_eq name m) a.0 (lookup name b.0) (subst (λ x. bytes_eq name x ≡ true) (sym g.0) same))
-            ∙ ap (option_and_then (λ w. option_map (field_value (made name) w) (seen_fields at n fs (pair m a.0 b.0)))) (seen_of at n s a.0 first.0 first.1)
+        ap (λ o. option_and_then (λ w. option_map (field_value (made name) w) (seen_fields origins.Bytes at n fs (pair m a.0 b.0))) (seen_at origins.Bytes at n s o)) (chosen_t (bytes_eq name m) a.0 (lookup name b.0) (subst (λ x. bytes_eq name x ≡ true) (sym g.0) same))
+            ∙ ap (option_and_then (λ w. option_map (field_value (made name) w) (seen_fields origins.Bytes at n fs (pair m a.0 b.0)))) (seen_of origins.Bytes at n s a.0 first.0 first.1)
             ∙ ap (option_map (field_value (made name) first.0)) (seen_more at n fs m a.0 b.0 (subst (λ x. Unnamed x fs) (sym g.0) d.0) ∙ rest.1),
         (λ i. named (sym g.0 i) (spell (contents first.0) n) >>= λ t. spell_fields (field_contents rest.0) n >>= λ qs. Ok (pair (sym g.0 i) t qs))
             ∙ ap (λ r. named m r >>= λ t. spell_fields (field_contents rest.0) n >>= λ qs. Ok (pair m t qs)) (first.2 ∙ sym there)

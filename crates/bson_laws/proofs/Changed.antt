@@ -1,5 +1,5 @@
 -- What is read of a value after one change of its pieces is read of it after another, where each text that is one after the first has the same bytes after the
--- second, and nothing is borrowed that is not lent.
+-- second, and nothing is borrowed that may not be.
 use Rattle.std.proofs.Common.{◌≡◌, ℕ, ℤ, pos, suc, [], ◌∷◌, Bool, true, false, cond, Option, Some, None, Ok, refl, ap, sym, subst, ◌∙◌}
 use Rattle.std.specs.Prelude.{codes, option_map}
 use Rattle.std.specs.Str.{bytes_eq, chars, is_utf8}
@@ -7,16 +7,16 @@ use Rattle.bson_base.specs.Made.{digits}
 use Rattle.bson_base.specs.Text.{Bytes, Utf8}
 use Rattle.bson_base.specs.Outcome.{◌>>=◌, result_map}
 use Rattle.bson_base.proofs.Outcomes.{ok_is, map_ok, bind_ok}
-use Rattle.bson_rawdoc.specs.Node.{Node, double, string, document, array, bytes, boolean, null, int32, int64, extended, too_deep, Extended, binary, object_id, regular_expression, db_pointer, javascript_code, symbol, javascript_code_with_scope, Nodes, ended, faulty, then_node, or_else, text_fault, fault, extended_fault, piece, mended}
+use Rattle.bson_rawdoc.specs.Node.{Whole, Node, double, string, document, array, bytes, boolean, null, int32, int64, extended, too_deep, Extended, binary, object_id, regular_expression, db_pointer, javascript_code, symbol, javascript_code_with_scope, Nodes, ended, faulty, then_node, or_else, text_fault, fault, extended_fault, piece, mended}
 use Rattle.bson_rawdoc.specs.Piece.{Piece, made}
 use Rattle.bson_rawdoc.specs.declared.raw.Error.{Error}
 use Rattle.bson_rawdoc.specs.declared.raw.Error.TheVariants.{NotUtf8}
-use Rattle.bson_shape.specs.Form.{UnknownFields, dropped, denied, Form, leaf, optional, lossy, human_readable, by_mode, sequence, newtype, unit_structure, map, tuple, tuple_structure, structure, enumeration, Fields, no_fields, field, Parts, no_parts, part, Content, unit_content, newtype_content, tuple_content, struct_content, Variants, no_variants, variant}
+use Rattle.bson_shape.specs.Form.{UnknownFields, dropped, denied, Form, leaf, optional, lossy, human_readable, by_mode, sequence, newtype, unit_structure, map, tuple, tuple_structure, structure, enumeration, reference, definitions, Fields, no_fields, field, Parts, no_parts, part, Content, unit_content, newtype_content, tuple_content, struct_content, Variants, no_variants, variant}
 use Rattle.bson_datum.specs.Value as value
 use Rattle.bson_datum.specs.Value.{u8, readable_newtype, Value, Entries, item, no_entries, entry, field_value}
 use Rattle.bson_datum.specs.Marked.{Marked, MarkedItems, MarkedEntries, MarkedFields, contents, item_contents, entry_contents, field_contents}
 use Rattle.bson_datum.specs.Same.{same}
-use Rattle.bson_datum.specs.Cause.{not_utf8, not_borrowed}
+use Rattle.bson_datum.specs.Cause.{unknown_reference, not_utf8, not_borrowed}
 use Rattle.bson_datum.specs.Refusal.{Segment, at_index, inside, under, under_index}
 use Rattle.bson_laws.specs.Datum.{one, two, nameless, wrapped}
 use Rattle.bson_laws.specs.Leaves.{LeafKind, anything, ignored, booleans, numbers, doubles, characters, texts, byte_strings, byte_buffers, units, ExtendedLeaf, extended_values, raw_documents, raw_arrays, raw_values, leaf_kind}
@@ -42,7 +42,7 @@ pub record Follows (a b : Change) (is_bare : Bool) : Type 0 where
   pub no_text : is_bare ≡ true → (t : Piece) → (a.text t).in_input ≡ false
   pub no_key : is_bare ≡ true → (k : Piece) → a.lends_key k ≡ false
   pub no_bytes : is_bare ≡ true → (x : Piece) → a.lends_bytes x ≡ false
-  pub slices : (s : Option Bytes) (p : Piece) → slice_of (a.slice s) ≡ Ok p → slice_of (b.slice s) ≡ Ok p
+  pub slices : (s : Whole) (p : Piece) → slice_of (a.slice s) ≡ Ok p → slice_of (b.slice s) ≡ Ok p
   pub mends : (n : Node) → mended (changed a n) ≡ changed a (mended n)
   pub mends_then : (n : Node) → changed b (mended n) ≡ mended (changed b n)
 
@@ -681,6 +681,8 @@ module _ (a b : Change) (is_bare : Bool) (f : Follows a b is_bare) where
           let h = reads_after s owned n r.0 r.1 in
           (value.newtype (made readable_newtype) h.0, ap (result_map (value.newtype (made readable_newtype))) h.1, ap (value.newtype readable_newtype) h.2 ∙ ap contents r.2)
       reads_after (by_mode readable compact) owned n m e = reads_after compact (λ o. (owned o).1) n m e
+      reads_after (reference name) owned n m e = let q = (read_after n (λ _. refused (unknown_reference name)) m e).2 in absurd cc
+      reads_after (definitions h s) owned n m e = reads_after s (λ o. (owned o).1) n m e
       reads_after (newtype name s) owned n m e =
           let r = map_ok (value.newtype (made name)) (reads s (before n)) m e in
           let h = reads_after s owned n r.0 r.1 in

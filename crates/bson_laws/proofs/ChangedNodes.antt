@@ -1,12 +1,11 @@
 -- The same value with other texts and marks: a value of which nothing is in the input, and one whose texts are mended where they are in the input.
-use Rattle.std.proofs.Common.{◌≡◌, ℕ, zero, suc, Bool, true, false, cond, Option, None, refl, ap, sym, ◌∙◌}
+use Rattle.std.proofs.Common.{◌≡◌, ℕ, zero, suc, Bool, true, false, cond, refl, ap, sym, ◌∙◌}
 use Rattle.std.specs.Fmt.{decimal}
 use Rattle.std.specs.Prelude.{if◌then◌else◌}
 use Rattle.std.specs.Str.Lossy.{utf8_lossy}
-use Rattle.bson_base.specs.Text.{Bytes}
 use Rattle.bson_base.specs.Tree as tree
 use Rattle.bson_base.specs.Tree.{Tree, Pairs, no_pairs, pair, Trees, no_trees}
-use Rattle.bson_rawdoc.specs.Node.{Sight, Node, string, document, array, bytes, extended, Extended, binary, undefined, object_id, regular_expression, db_pointer, javascript_code, symbol, javascript_code_with_scope, opened, opens, Nodes, ended, faulty, then_node, piece, mended, mended_text, mended_value, mended_nodes, tree_node, pair_nodes, tree_nodes}
+use Rattle.bson_rawdoc.specs.Node.{Whole, of_opening, Sight, Node, string, document, array, bytes, extended, Extended, binary, undefined, object_id, regular_expression, db_pointer, javascript_code, symbol, javascript_code_with_scope, opened, opens, Nodes, ended, faulty, then_node, piece, mended, mended_text, mended_value, mended_nodes, tree_node, pair_nodes, tree_nodes}
 use Rattle.bson_rawdoc.specs.Piece.{Piece, made}
 use Rattle.bson_laws.specs.RawFree.{IsRawFree, ArePairsRawFree, AreTreesRawFree}
 use Rattle.bson_laws.proofs.MendedTexts.{mended_whole, whole_mended}
@@ -14,8 +13,8 @@ use Rattle.bson_laws.proofs.MendedTexts.{mended_whole, whole_mended}
 -- what becomes of the pieces of a value; the bytes of its keys and of its byte strings stay
 pub record Change : Type 0 where
   pub text : Piece → Piece
-  -- the bytes of a document or an array that it is in the input
-  pub slice : Option Bytes → Option Bytes
+  -- what a document or an array is as a whole
+  pub slice : Whole → Whole
   -- whether a key is in the input then, and a byte string
   pub lends_key : Piece → Bool
   pub lends_bytes : Piece → Bool
@@ -70,7 +69,7 @@ mutual
 -- ---- nothing is in the input
 
 abbrev pub bare : Change
-bare = record { text = λ t. made t.bytes; slice = λ s. None; lends_key = λ k. false; lends_bytes = λ b. false; marks = λ u b. u }
+bare = record { text = λ t. made t.bytes; slice = λ s. of_opening; lends_key = λ k. false; lends_bytes = λ b. false; marks = λ u b. u }
 
 -- the document that a value is opened to
 opened_bare : (x : Extended) → changed_nodes bare (opened x) ≡ opened (changed_value bare x)
@@ -79,8 +78,8 @@ opened_bare x = refl
 
 mutual
   pub mended_bare : (n : Node) → mended (changed bare n) ≡ changed bare (mended n)
-  mended_bare (document slice ns) = ap (document None) (nodes_mended_bare ns)
-  mended_bare (array slice ns) = ap (array None) (nodes_mended_bare ns)
+  mended_bare (document slice ns) = ap (document of_opening) (nodes_mended_bare ns)
+  mended_bare (array slice ns) = ap (array of_opening) (nodes_mended_bare ns)
   mended_bare (extended x ns) = ap opens (value_mended_bare x) ∙ sym (ap (extended (changed_value bare (mended_value x))) (opened_bare (mended_value x)))
   mended_bare n = refl
 
@@ -95,18 +94,18 @@ mutual
 
 -- as a tree is seen of which nothing is in the input
 abbrev pub bare_sight : Sight → Sight
-bare_sight at = record { texts = false; bytes = false; under_mark = at.under_mark }
+bare_sight at = record { texts = false; bytes = false; under_mark = at.under_mark; in_memory = false }
 
 mutual
   pub tree_bare : (at : Sight) (t : Tree) (levels : ℕ) → IsRawFree t → changed bare (tree_node at t levels) ≡ tree_node (bare_sight at) t levels
   tree_bare at (tree.document ps) zero f = refl
-  tree_bare at (tree.document ps) (suc n) f = ap (document None) (pairs_bare at ps n f)
+  tree_bare at (tree.document ps) (suc n) f = ap (document of_opening) (pairs_bare at ps n f)
   tree_bare at (tree.array ts) zero f = refl
-  tree_bare at (tree.array ts) (suc n) f = ap (array None) (trees_bare at ts 0 n f)
+  tree_bare at (tree.array ts) (suc n) f = ap (array of_opening) (trees_bare at ts 0 n f)
   tree_bare at (tree.binary zero b) levels f = refl
   tree_bare at (tree.binary (suc k) b) levels f = refl
   tree_bare at (tree.javascript_code_with_scope c s) zero f = refl
-  tree_bare at (tree.javascript_code_with_scope c s) (suc n) f = ap (λ x. opens (javascript_code_with_scope (made c) (document None x))) (pairs_bare at s n f)
+  tree_bare at (tree.javascript_code_with_scope c s) (suc n) f = ap (λ x. opens (javascript_code_with_scope (made c) (document of_opening x))) (pairs_bare at s n f)
   tree_bare at (tree.raw k b) levels f = absurd f
   tree_bare at t levels f = refl
 

@@ -1,5 +1,5 @@
 -- What is read from a document is written as a document, unless it is too large.
-use Rattle.std.proofs.Common.{◌≡◌, Bool, true, false, cond, Option, Some, Result, Ok, Err, refl, ap, sym, subst, ◌∙◌}
+use Rattle.std.proofs.Common.{◌≡◌, Bool, true, false, cond, Result, Ok, Err, refl, ap, sym, subst, ◌∙◌}
 use Rattle.std.specs.Str.{bytes_eq}
 use Rattle.bson_base.specs.Text.{Bytes, AreBytes, Utf8}
 use Rattle.bson_base.specs.Outcome.{◌>>=◌, result_map}
@@ -7,15 +7,14 @@ use Rattle.bson_base.specs.Sound.{max_levels}
 use Rattle.bson_base.specs.declared.element_type.ElementType.TheVariants.{EmbeddedDocument}
 use Rattle.bson_base.proofs.Outcomes.{map_ok, bind_ok}
 use Rattle.bson_rawdoc.specs.Envelope.{is_closed, envelope}
-use Rattle.bson_rawdoc.specs.Node.{Sight, from_input, Node, document, broken, Nodes, ended, faulty, then_node, node_in, mended}
+use Rattle.bson_rawdoc.specs.Node.{Whole, of_bytes, Sight, from_input, Node, document, broken, Nodes, ended, faulty, then_node, node_in, mended}
 use Rattle.bson_rawdoc.specs.Piece.{made}
 use Rattle.bson_rawdoc.specs.declared.raw.Error as raw_error
-use Rattle.bson_shape.specs.Form.{dropped, Form, leaf, optional, lossy, human_readable, by_mode, sequence, newtype, unit_structure, map, tuple, tuple_structure, structure, enumeration, Content, unit_content, newtype_content, tuple_content, struct_content, Variants, no_variants, variant}
-use Rattle.bson_shape.specs.Makers.{IsShape}
+use Rattle.bson_shape.specs.Form.{dropped, Form, leaf, optional, lossy, human_readable, by_mode, sequence, newtype, unit_structure, map, tuple, tuple_structure, structure, enumeration, reference, definitions, Content, unit_content, newtype_content, tuple_content, struct_content, Variants, no_variants, variant}
 use Rattle.bson_datum.specs.Value as value
 use Rattle.bson_datum.specs.Value.{Value, no_entries, kind_of, reserved_or_document}
 use Rattle.bson_datum.specs.Marked.{Marked, contents}
-use Rattle.bson_datum.specs.Cause.{raw}
+use Rattle.bson_datum.specs.Cause.{raw, unknown_reference}
 use Rattle.bson_datum.specs.Refusal.{Failure, ReadFault, bare, unreadable}
 use Rattle.bson_laws.specs.Leaves.{LeafKind, anything, ignored, extended_values, documents, raw_documents, raw_values, leaf_kind}
 use Rattle.bson_laws.specs.Judged.{Reading, judged}
@@ -24,13 +23,14 @@ use Rattle.bson_laws.specs.Taken.{null_of, document_of, array_of}
 use Rattle.bson_laws.specs.ReadsLeaf.{borrows, any_entries}
 use Rattle.bson_laws.specs.Containers.{reads_entries, reads_key, read_enum, reads_unit, reads_items}
 use Rattle.bson_laws.specs.Slots.{read_structure}
-use Rattle.bson_laws.specs.Reads.{read_leaf, slots_of, reads_parts, reads_variant, reads_content, reads, answered, reads_document}
+use Rattle.bson_laws.specs.Reads.{read_leaf, slots_of, reads_parts, reads_variant, reads_content, reads, answered, document_at}
 use Rattle.bson_laws.specs.Settled.{settled}
 use Rattle.bson_laws.specs.Spell.{at_top, spell, spell_document, IsWrittenUnlessLarge, HoldsNumbers}
-use Rattle.bson_laws.specs.Writable.{KeepsDocumentLeaf, KeepsDocument, IsWritable}
+use Rattle.bson_laws.specs.Writable.{HasWritableKeys, KeepsDocumentLeaf, KeepsDocument}
 use Rattle.bson_laws.specs.Datum.{datum}
 use Rattle.bson_laws.specs.Trees.{as_tree, pairs_in}
 use Rattle.bson_base.specs.Tree as tree
+use Rattle.bson_laws.proofs.ShapeForms.{IsShape}
 use Rattle.bson_laws.proofs.Framed.{IsAnnounced, frame}
 use Rattle.bson_laws.proofs.Given.{IsGiven}
 use Rattle.bson_laws.proofs.GivenAt.{reads_given}
@@ -39,7 +39,7 @@ use Rattle.bson_laws.proofs.Signed.{document_spelled, given_signed}
 use Rattle.bson_laws.proofs.Rewritten.{written}
 use Rattle.bson_laws.proofs.Sizes.{under_ok}
 use Rattle.bson_laws.proofs.Free.{free_kind}
-use Rattle.bson_laws.proofs.Tame.{IsTame, after_judged}
+use Rattle.bson_laws.proofs.Tame.{IsTame, after_judged, judged_refused}
 use Rattle.bson_laws.proofs.TameBytes.{seen_tame}
 
 -- the value of a document's bytes: a document, or bytes that are none
@@ -125,10 +125,12 @@ mended_top n t = absurd t
 -- what is read from a document is written as a document
 top_kind : (s : Form) (n : Node) (v : Marked) → IsTop n → IsShape s → KeepsDocument s → reads s n ≡ Ok v → IsMapping v
 top_kind (leaf l) n v t p kept e = leaf_top (borrows l) (leaf_kind l) n v t kept (after_judged n (read_leaf (borrows l) (leaf_kind l)) v e)
-top_kind (optional s) n v t p kept e = some_top s n v t (λ w h. top_kind s n w t p.1 kept h) e
-top_kind (lossy s) n v t p kept e = top_kind s (mended n) v (mended_top n t) p.1 kept e
+top_kind (optional s) n v t p kept e = some_top s n v t (λ w h. top_kind s n w t p kept h) e
+top_kind (lossy s) n v t p kept e = top_kind s (mended n) v (mended_top n t) p kept e
 top_kind (human_readable s) n v t p kept e = absurd kept
 top_kind (by_mode readable compact) n v t p kept e = absurd kept
+top_kind (reference name) n v t p kept e = absurd (judged_refused n (unknown_reference name) v e)
+top_kind (definitions h s) n v t p kept e = top_kind s n v t p kept e
 top_kind (newtype name s) n v t p kept e =
     let m = map_ok (value.newtype (made name)) (reads s n) v e in
     subst IsMapping m.2 (free_kind name (contents m.0) p.0.free ∙ top_kind s n m.0 t p.1 kept m.1)
@@ -150,7 +152,7 @@ top_kind (structure u name fs) n v t p kept e =
 
 -- ---- documents in bytes
 
-pub closed_top : (p : Bool) (slice : Option Bytes) (ns : Nodes) (e : raw_error.Error) → IsTop (cond p (document slice ns) (broken EmbeddedDocument e))
+pub closed_top : (p : Bool) (slice : Whole) (ns : Nodes) (e : raw_error.Error) → IsTop (cond p (document slice ns) (broken EmbeddedDocument e))
 closed_top true slice ns e = tt
 closed_top false slice ns e = tt
 
@@ -162,7 +164,7 @@ abbrev pub read_in : Form → Result Bytes raw_error.Error → Result Marked (Fa
 read_in s r = elim r [ Ok b ↦ answered (reads (settled false s) (node_in max_levels EmbeddedDocument b)) | Err f ↦ Err (bare (unreadable (raw f))) ]
 
 -- what is read from a document's bytes is read from the node that they are
-pub node_read : (s : Form) (bytes : Bytes) (d : Value) → AreBytes bytes → reads_document s bytes ≡ Ok d
+pub node_read : (s : Form) (bytes : Bytes) (d : Value) → AreBytes bytes → document_at s bytes ≡ Ok d
     → (b : Bytes) × (m : Marked) × IsTame from_input (node_in max_levels EmbeddedDocument b) × (reads (settled false s) (node_in max_levels EmbeddedDocument b) ≡ Ok m) × (contents m ≡ d)
 node_read s bytes d h e = by_case (envelope bytes) (λ b q. let f = frame bytes b q in (f.0, f.1)) e where
   by_case : (r : Result Bytes raw_error.Error) → ((b : Bytes) → r ≡ Ok b → (bytes ≡ b) × IsAnnounced bytes) → result_map contents (read_in s r) ≡ Ok d
@@ -175,20 +177,20 @@ node_read s bytes d h e = by_case (envelope bytes) (λ b q. let f = frame bytes 
   by_case (Err f) same q = absurd cc
 
 -- what is read from a document, or from bytes that are none, is written, unless it is too large
-pub top_written : (at : Sight) (s : Form) (n : Node) (m : Marked) → IsTop n → IsShape s → IsWritable s → IsGiven at (contents m) s → reads s n ≡ Ok m → IsWrittenUnlessLarge (spell_document (contents m))
-top_written at s n m t p c given e =
-    subst (λ k. IsWrittenUnlessLarge (at_top k (spell (contents m) max_levels))) (sym (top_kind s n m t p c.document e)) (written at (contents m) s p c.keys given max_levels)
+pub top_written : (at : Sight) (s : Form) (n : Node) (m : Marked) → IsTop n → IsShape s → HasWritableKeys s → KeepsDocument s → IsGiven at (contents m) s → reads s n ≡ Ok m → IsWrittenUnlessLarge (spell_document (contents m))
+top_written at s n m t p keys kept given e =
+    subst (λ k. IsWrittenUnlessLarge (at_top k (spell (contents m) max_levels))) (sym (top_kind s n m t p kept e)) (written at (contents m) s p keys given max_levels)
 
 -- what is read is written, unless it is too large
-pub document_written : (s : Form) (bytes : Bytes) (d : Value) → IsShape s → IsWritable s → AreBytes bytes → reads_document s bytes ≡ Ok d → IsWrittenUnlessLarge (spell_document d)
-document_written s bytes d p c h e =
+pub document_written : (s : Form) (bytes : Bytes) (d : Value) → IsShape s → HasWritableKeys s → KeepsDocument s → AreBytes bytes → document_at s bytes ≡ Ok d → IsWrittenUnlessLarge (spell_document d)
+document_written s bytes d p keys kept h e =
     let r = node_read s bytes d h e in
     let n = node_in max_levels EmbeddedDocument r.0 in
-    let there = subst (λ x. reads x n ≡ Ok r.1) (settled_same false s (writable_settled s c.keys)) r.3 in
-    subst (λ v. IsWrittenUnlessLarge (spell_document v)) r.4 (top_written from_input s n r.1 (closed_top (is_closed r.0) (Some r.0) _ _) p c (reads_given from_input s n r.1 r.2 there) there)
+    let there = subst (λ x. reads x n ≡ Ok r.1) (settled_same false s (writable_settled s keys)) r.3 in
+    subst (λ v. IsWrittenUnlessLarge (spell_document v)) r.4 (top_written from_input s n r.1 (closed_top (is_closed r.0) (of_bytes r.0) _ _) p keys kept (reads_given from_input s n r.1 r.2 there) there)
 
 -- what is read is never refused for a number
-pub document_numbers : (s : Form) (bytes : Bytes) (d : Value) → AreBytes bytes → reads_document s bytes ≡ Ok d → HoldsNumbers (spell_document d)
+pub document_numbers : (s : Form) (bytes : Bytes) (d : Value) → AreBytes bytes → document_at s bytes ≡ Ok d → HoldsNumbers (spell_document d)
 document_numbers s bytes d h e =
     let r = node_read s bytes d h e in
     let n = node_in max_levels EmbeddedDocument r.0 in

@@ -1,5 +1,5 @@
 -- Reading by example: opened values, what is borrowed, structs and enums.
-use Rattle.std.proofs.Common.{◌≡◌, ℕ, pos, [], ◌∷◌, ◌++◌, Bool, true, false, Some, None, Ok, Err, refl}
+use Rattle.std.proofs.Common.{◌≡◌, ℕ, pos, [], ◌∷◌, ◌++◌, Bool, true, false, Ok, Err, refl}
 use Rattle.std.specs.Prelude.{codes}
 use Rattle.std.specs.Str.{bytes_eq, is_utf8}
 use Rattle.std.specs.Str.Lossy.{utf8_lossy}
@@ -7,7 +7,7 @@ use Rattle.bson_base.specs.Text.{Bytes, Utf8}
 use Rattle.bson_base.specs.Tree as tree
 use Rattle.bson_base.specs.declared.element_type.ElementType.TheVariants.{Boolean, ObjectId, EmbeddedDocument, Array, JavaScriptCodeWithScope}
 use Rattle.bson_base.specs.Made.{digits}
-use Rattle.bson_rawdoc.specs.Node.{from_input, Node, string, document, made_document, array, bytes, boolean, null, int32, int64, broken, too_deep, Nodes, ended, faulty, then_node, mended, object_id, symbol, javascript_code_with_scope, decimal128, opens, tree_node}
+use Rattle.bson_rawdoc.specs.Node.{of_opening, of_bytes, from_input, Node, string, document, made_document, array, bytes, boolean, null, int32, int64, broken, too_deep, Nodes, ended, faulty, then_node, mended, object_id, symbol, javascript_code_with_scope, decimal128, opens, tree_node}
 use Rattle.bson_rawdoc.specs.declared.raw.Error.{Error}
 use Rattle.bson_rawdoc.specs.Piece.{borrowed, made}
 use Rattle.bson_shape.specs.Form.{dropped, denied, Form, leaf, lossy, map, structure, enumeration, no_fields, field, unit_content, newtype_content, no_variants, variant}
@@ -99,10 +99,10 @@ other_broken : (e : Error) → reads one_field (made_document (then_node (borrow
 other_broken e = refl
 
 -- an array gives the fields by their places; what is behind the last is not looked at
-by_place : (ns : Nodes) (k : Utf8) → reads one_field (array None (then_node (borrowed k) (int32 (pos 5)) ns)) ≡ Ok (value.structure (made (codes "T")) (field_value (made (codes "a")) (value.integer i32 (pos 5)) no_field_values))
+by_place : (ns : Nodes) (k : Utf8) → reads one_field (array of_opening (then_node (borrowed k) (int32 (pos 5)) ns)) ≡ Ok (value.structure (made (codes "T")) (field_value (made (codes "a")) (value.integer i32 (pos 5)) no_field_values))
 by_place ns k = refl
 
-too_few : reads one_field (array None ended) ≡ Err (here (unreadable (invalid_length 0)))
+too_few : reads one_field (array of_opening ended) ≡ Err (here (unreadable (invalid_length 0)))
 too_few = refl
 
 -- a struct that denies unknown fields refuses the key of one at the document, before its value is looked at; and it takes no array
@@ -115,7 +115,7 @@ other_denied n ns = refl
 closed_by_key : reads closed_field (made_document (then_node (borrowed (codes "a")) (int64 (pos 5)) ended)) ≡ Ok (value.structure (made (codes "T")) (field_value (made (codes "a")) (value.integer i32 (pos 5)) no_field_values))
 closed_by_key = refl
 
-closed_by_place : (ns : Nodes) → reads closed_field (array None ns) ≡ Err (here (unreadable (invalid_type Array)))
+closed_by_place : (ns : Nodes) → reads closed_field (array of_opening ns) ≡ Err (here (unreadable (invalid_type Array)))
 closed_by_place ns = refl
 
 -- ---- enums
@@ -137,7 +137,7 @@ enum_too_deep = refl
 -- ---- what stays in its bytes
 
 -- a document of the input is borrowed, whatever is in it
-raw_document : (b : Bytes) (e : Error) → reads (leaf RawDocument) (document (Some b) (faulty e)) ≡ Ok (value.raw_document (borrowed b))
+raw_document : (b : Bytes) (e : Error) → reads (leaf RawDocument) (document (of_bytes b) (faulty e)) ≡ Ok (value.raw_document (borrowed b))
 raw_document b e = refl
 
 -- one that is made cannot be, at an array it is of another kind
@@ -155,7 +155,7 @@ id_at_document : (id : Bytes) → reads (leaf RawDocument) (opens (object_id (bo
 id_at_document id = refl
 
 -- where texts are mended, a document and a byte string are borrowed all the same, and a text is owned
-marked_document : (b : Bytes) (ns : Nodes) → reads (lossy (leaf RawDocument)) (document (Some b) ns) ≡ Ok (value.raw_document (borrowed b))
+marked_document : (b : Bytes) (ns : Nodes) → reads (lossy (leaf RawDocument)) (document (of_bytes b) ns) ≡ Ok (value.raw_document (borrowed b))
 marked_document b ns = refl
 
 marked_bytes : (b : Bytes) → reads (lossy (leaf RawBson)) (bytes false (borrowed b)) ≡ Ok (value.bytes (borrowed b))
@@ -165,7 +165,7 @@ marked_text : (t : Utf8) → is_utf8 (utf8_lossy t) ≡ true → reads (lossy (l
 marked_text t h = rw h refl
 
 -- the scope of a code stays in its bytes; where no level is left, it is refused
-scope_kept : (t : Utf8) (b : Bytes) → is_utf8 t ≡ true → reads (leaf RawBson) (opens (javascript_code_with_scope (borrowed t) (document (Some b) ended))) ≡ Ok (scoped_code (borrowed t) (borrowed b))
+scope_kept : (t : Utf8) (b : Bytes) → is_utf8 t ≡ true → reads (leaf RawBson) (opens (javascript_code_with_scope (borrowed t) (document (of_bytes b) ended))) ≡ Ok (scoped_code (borrowed t) (borrowed b))
 scope_kept t b h = rw h refl
 
 raw_scope_too_deep : (t : Utf8) → is_utf8 t ≡ true

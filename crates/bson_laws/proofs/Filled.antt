@@ -16,7 +16,8 @@ use Rattle.bson_datum.specs.Marked.{Marked, MarkedFields}
 use Rattle.bson_datum.specs.Refusal.{under}
 use Rattle.bson_laws.specs.Judged.{Reading}
 use Rattle.bson_laws.specs.Slots.{Slot, Slots, missing_value, fill_slot, unknown, put_at, fill, value_or, finish}
-use Rattle.bson_laws.specs.Reads.{reads, slots_of}
+use Rattle.bson_laws.specs.declared.origin.Origin.{Origin}
+use Rattle.bson_laws.specs.ReadsFrom.{reads_from, slots_of}
 use Rattle.bson_laws.proofs.Placed.{names_of, IsNone}
 use Rattle.bson_laws.proofs.Fitted.{chosen_t, chosen_f, bytes_same, Unnamed}
 
@@ -31,21 +32,21 @@ ok_is_of (Ok y) x e = ap Ok (some_is y x e)
 ok_is_of (Err f) x e = absurd cc
 
 -- what a tree is read as at a shape, with so many levels left
-abbrev pub seen : (at : Sight) → ℕ → Form → Tree → Option Marked
-seen at levels s t = ok_of (reads s (tree_node at t levels))
+abbrev pub seen : Origin → (at : Sight) → ℕ → Form → Tree → Option Marked
+seen o at levels s t = ok_of (reads_from o s (tree_node at t levels))
 
-pub seen_of : (at : Sight) (levels : ℕ) (s : Form) (t : Tree) (v : Marked) → reads s (tree_node at t levels) ≡ Ok v → seen at levels s t ≡ Some v
-seen_of at levels s t v e = ap ok_of e
+pub seen_of : (o : Origin) (at : Sight) (levels : ℕ) (s : Form) (t : Tree) (v : Marked) → reads_from o s (tree_node at t levels) ≡ Ok v → seen o at levels s t ≡ Some v
+seen_of o at levels s t v e = ap ok_of e
 
 -- a field's value: what is at its key is read, and what is missing has a value where the shape is an option
-abbrev pub seen_at : (at : Sight) → ℕ → Form → Option Tree → Option Marked
-seen_at at levels s None = missing_value s
-seen_at at levels s (Some t) = seen at levels s t
+abbrev pub seen_at : Origin → (at : Sight) → ℕ → Form → Option Tree → Option Marked
+seen_at o at levels s None = missing_value s
+seen_at o at levels s (Some t) = seen o at levels s t
 
 -- what the fields are read as
-abbrev pub seen_fields : (at : Sight) → ℕ → Fields → Pairs → Option MarkedFields
-seen_fields at levels no_fields ps = Some no_field_values
-seen_fields at levels (field n s fs) ps = option_and_then (λ v. option_map (field_value (made n) v) (seen_fields at levels fs ps)) (seen_at at levels s (lookup n ps))
+abbrev pub seen_fields : Origin → (at : Sight) → ℕ → Fields → Pairs → Option MarkedFields
+seen_fields o at levels no_fields ps = Some no_field_values
+seen_fields o at levels (field n s fs) ps = option_and_then (λ v. option_map (field_value (made n) v) (seen_fields o at levels fs ps)) (seen_at o at levels s (lookup n ps))
 
 -- no two fields have one name
 abbrev pub Distinct : Fields → Type 0
@@ -59,17 +60,17 @@ abbrev AreApart : List Utf8 → Type 0
 AreApart [] = Unit {0}
 AreApart (name ∷ names) = IsNone name names × AreApart names
 
-none_from : (fs : Fields) (key : Utf8) → Unnamed key fs → IsNone key (names_of (slots_of fs))
-none_from no_fields key u = tt
-none_from (field n s fs) key u = (u.0, none_from fs key u.1)
+none_from : (o : Origin) (fs : Fields) (key : Utf8) → Unnamed key fs → IsNone key (names_of (slots_of o fs))
+none_from o no_fields key u = tt
+none_from o (field n s fs) key u = (u.0, none_from o fs key u.1)
 
-unnamed_from : (fs : Fields) (key : Utf8) → IsNone key (names_of (slots_of fs)) → Unnamed key fs
-unnamed_from no_fields key u = tt
-unnamed_from (field n s fs) key u = (u.0, unnamed_from fs key u.1)
+unnamed_from : (o : Origin) (fs : Fields) (key : Utf8) → IsNone key (names_of (slots_of o fs)) → Unnamed key fs
+unnamed_from o no_fields key u = tt
+unnamed_from o (field n s fs) key u = (u.0, unnamed_from o fs key u.1)
 
-apart_from : (fs : Fields) → Distinct fs → AreApart (names_of (slots_of fs))
-apart_from no_fields d = tt
-apart_from (field n s fs) d = (none_from fs n d.0, apart_from fs d.1)
+apart_from : (o : Origin) (fs : Fields) → Distinct fs → AreApart (names_of (slots_of o fs))
+apart_from o no_fields d = tt
+apart_from o (field n s fs) d = (none_from o fs n d.0, apart_from o fs d.1)
 
 lookup_lacks : (k : Utf8) (ps : Pairs) → Lacks k ps → lookup k ps ≡ None
 lookup_lacks k no_pairs h = refl
@@ -166,29 +167,29 @@ module _ (at : Sight) (levels : ℕ) where
   ArePassed u fs no_pairs = Unit {0}
   ArePassed u fs (pair k t ps) = Lacks k ps × (Unnamed k fs → unknown u k (tree_node at t levels) ≡ Ok tt) × ArePassed u fs ps
 
-  fill_again : (u : UnknownFields) (fs : Fields) (ps : Pairs) (slots : Slots) → names_of slots ≡ names_of (slots_of fs) → AreApart (names_of slots) → ArePassed u fs ps → AreReady ps slots → fill u (pair_nodes at ps levels) slots ≡ Ok (all_after ps slots)
-  fill_again u fs no_pairs slots is d c r = ap Ok (after_none slots)
-  fill_again u fs (pair k t ps) slots is d c r =
-      let p = put_ready u k t ps slots c.0 d r (λ none. c.1 (unnamed_from fs k (subst (IsNone k) is none))) in
-      ap (λ q. q >>= fill u (pair_nodes at ps levels)) p.put ∙ fill_again u fs ps p.out (p.names ∙ is) (subst AreApart (sym p.names) d) c.2 p.ready ∙ ap Ok p.after
+  fill_again : (o : Origin) (u : UnknownFields) (fs : Fields) (ps : Pairs) (slots : Slots) → names_of slots ≡ names_of (slots_of o fs) → AreApart (names_of slots) → ArePassed u fs ps → AreReady ps slots → fill u (pair_nodes at ps levels) slots ≡ Ok (all_after ps slots)
+  fill_again o u fs no_pairs slots is d c r = ap Ok (after_none slots)
+  fill_again o u fs (pair k t ps) slots is d c r =
+      let p = put_ready u k t ps slots c.0 d r (λ none. c.1 (unnamed_from o fs k (subst (IsNone k) is none))) in
+      ap (λ q. q >>= fill u (pair_nodes at ps levels)) p.put ∙ fill_again o u fs ps p.out (p.names ∙ is) (subst AreApart (sym p.names) d) c.2 p.ready ∙ ap Ok p.after
 
   -- what a field is at what is at its key, or at nothing, is its value in the end
-  one_seen : (n : Utf8) (s : Form) (o : Option Tree) (v : Marked) → seen_at at levels s o ≡ Some v → value_or n (missing_value s) (value_after (record { name = n; missing = missing_value s; read = reads s; value = None }) o) ≡ Ok v
-  one_seen n s None v e = ap (λ m. value_or n m None) e
-  one_seen n s (Some t) v e = ap (value_or n (missing_value s)) e
+  one_seen : (o : Origin) (n : Utf8) (s : Form) (t : Option Tree) (v : Marked) → seen_at o at levels s t ≡ Some v → value_or n (missing_value s) (value_after (record { name = n; missing = missing_value s; read = reads_from o s; value = None }) t) ≡ Ok v
+  one_seen o n s None v e = ap (λ m. value_or n m None) e
+  one_seen o n s (Some t) v e = ap (value_or n (missing_value s)) e
 
-  all_seen : (fs : Fields) (ps : Pairs) (vs : MarkedFields) → seen_fields at levels fs ps ≡ Some vs → AreReady ps (slots_of fs) × (finish (all_after ps (slots_of fs)) ≡ Ok vs)
-  all_seen no_fields ps vs e = (tt, ap Ok (some_is no_field_values vs e))
-  all_seen (field n s fs) ps vs e =
-      let a = some_then (λ v. option_map (field_value (made n) v) (seen_fields at levels fs ps)) (seen_at at levels s (lookup n ps)) vs e in
-      let b = some_map (field_value (made n) a.0) (seen_fields at levels fs ps) vs a.2 in
-      let rest = all_seen fs ps b.0 b.1 in (
-        (λ t there. (refl, (a.0, ok_is_of (reads s (tree_node at t levels)) a.0 (ap (seen_at at levels s) (sym there) ∙ a.1))), rest.0),
-        ap (λ r. r >>= λ v. result_map (field_value (made n) v) (finish (all_after ps (slots_of fs)))) (one_seen n s (lookup n ps) a.0 a.1) ∙ ap (result_map (field_value (made n) a.0)) rest.1 ∙ ap Ok b.2,
+  all_seen : (o : Origin) (fs : Fields) (ps : Pairs) (vs : MarkedFields) → seen_fields o at levels fs ps ≡ Some vs → AreReady ps (slots_of o fs) × (finish (all_after ps (slots_of o fs)) ≡ Ok vs)
+  all_seen o no_fields ps vs e = (tt, ap Ok (some_is no_field_values vs e))
+  all_seen o (field n s fs) ps vs e =
+      let a = some_then (λ v. option_map (field_value (made n) v) (seen_fields o at levels fs ps)) (seen_at o at levels s (lookup n ps)) vs e in
+      let b = some_map (field_value (made n) a.0) (seen_fields o at levels fs ps) vs a.2 in
+      let rest = all_seen o fs ps b.0 b.1 in (
+        (λ t there. (refl, (a.0, ok_is_of (reads_from o s (tree_node at t levels)) a.0 (ap (seen_at o at levels s) (sym there) ∙ a.1))), rest.0),
+        ap (λ r. r >>= λ v. result_map (field_value (made n) v) (finish (all_after ps (slots_of o fs)))) (one_seen o n s (lookup n ps) a.0 a.1) ∙ ap (result_map (field_value (made n) a.0)) rest.1 ∙ ap Ok b.2,
       )
 
   -- the fields are read as what is seen at their keys
-  pub fields_seen : (u : UnknownFields) (fs : Fields) → Distinct fs → (ps : Pairs) (vs : MarkedFields) → ArePassed u fs ps → seen_fields at levels fs ps ≡ Some vs → (fill u (pair_nodes at ps levels) (slots_of fs) >>= finish) ≡ Ok vs
-  fields_seen u fs distinct ps vs c e =
-      let all = all_seen fs ps vs e in
-      ap (λ r. r >>= finish) (fill_again u fs ps (slots_of fs) refl (apart_from fs distinct) c all.0) ∙ all.1
+  pub fields_seen : (o : Origin) (u : UnknownFields) (fs : Fields) → Distinct fs → (ps : Pairs) (vs : MarkedFields) → ArePassed u fs ps → seen_fields o at levels fs ps ≡ Some vs → (fill u (pair_nodes at ps levels) (slots_of o fs) >>= finish) ≡ Ok vs
+  fields_seen o u fs distinct ps vs c e =
+      let all = all_seen o fs ps vs e in
+      ap (λ r. r >>= finish) (fill_again o u fs ps (slots_of o fs) refl (apart_from o fs distinct) c all.0) ∙ all.1

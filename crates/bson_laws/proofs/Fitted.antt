@@ -16,21 +16,22 @@ use Rattle.bson_base.specs.declared.element_type.ElementType.TheVariants.{Int32}
 use Rattle.bson_base.specs.Tree as tree
 use Rattle.bson_base.specs.Tree.{Tree, kind, string, binary, null, int32, int64, document, array, Pairs, no_pairs, pair, Trees, no_trees}
 use Rattle.bson_base.proofs.Outcomes.{some_is, some_map, some_then}
-use Rattle.bson_shape.specs.Form.{Form, leaf, optional, lossy, sequence, newtype, unit_structure, map, tuple, tuple_structure, structure, enumeration, Fields, no_fields, field, Parts, no_parts, part, Content, newtype_content, tuple_content, struct_content, Variants, no_variants, variant}
+use Rattle.bson_shape.specs.Form.{Form, leaf, optional, lossy, sequence, newtype, unit_structure, map, tuple, tuple_structure, structure, enumeration, definitions, Fields, no_fields, field, Parts, no_parts, part, Content, newtype_content, tuple_content, struct_content, Variants, no_variants, variant}
 use Rattle.bson_shape.specs.Makers.{is_reserved_newtype}
 use Rattle.bson_datum.specs.Value as value
 use Rattle.bson_datum.specs.Value.{IntegerType, i32, i64, in_range, written_as, Value, integer, str, Items, no_items, item, Entries, no_entries, entry, FieldValues, no_field_values, field_value}
 use Rattle.bson_laws.specs.Leaves.{LeafKind, anything, booleans, numbers, doubles, characters, texts, byte_strings, byte_buffers, units, ExtendedLeaf, object_ids, uuids, of_kind, trees, documents, extended_values, leaf_kind}
 use Rattle.bson_laws.specs.Datum.{datum, itself, uuid_datum, sorted_tree}
 use Rattle.bson_laws.specs.Variants.{content_of}
-use Rattle.bson_laws.specs.Plain.{IsPlainKey, IsPlain, AreFieldsPlain, ArePartsPlain, AreVariantsPlain, IsContentPlain}
+use Rattle.bson_laws.specs.Plain.{IsPlainKey}
+use Rattle.bson_laws.proofs.PlainForms.{IsPlain, AreFieldsPlain, ArePartsPlain, AreVariantsPlain, IsContentPlain}
 use Rattle.bson_laws.specs.Views.{views_extended, as_integer, one_character, as_character, views_any, views_any_items, views_any_entries, views_leaf, views_leaf_key, views_key, views_entries, named_unit, absent, views_at, views, views_items, views_parts, views_variant, views_content, views_fields}
 use Rattle.bson_laws.specs.Means.{key_text, number_of, some_or_none, under_name, means, means_items, means_entries, means_fields, norm, norm_items, norm_entries, norm_fields}
 use Rattle.bson_laws.specs.InRange.{IsInRange}
 use Rattle.bson_laws.specs.Fits.{IsTreeValue, IsValueOfKind, FitsExtended, IsAny, AreAnyItems, AreAnyEntries, FitsLeaf, FitsLeafKey, FitsKey, Fits, ItemsFit, PartsFit, EntriesFit, FieldsFit}
 use Rattle.bson_laws.proofs.DatumContents.{sorted_kind}
 use Rattle.bson_laws.proofs.DatumNormal.{own_kind, sorted_in_range, tree_sorted_twice, datum_norm, datum_means}
-use Rattle.bson_laws.proofs.Fitting.{fits_leaf, fits_lossy}
+use Rattle.bson_laws.proofs.Fitting.{fits_leaf, fits_lossy, fits_body}
 use Rattle.bson_laws.proofs.Free.{free_means, free_norm, free_struct_means, free_newtype_name, free_struct_name}
 use Rattle.bson_laws.proofs.Known.{fitting_known}
 use Rattle.bson_laws.proofs.Spelled.{found, tree_is, trees_are, pairs_are}
@@ -209,7 +210,7 @@ chosen_plain : (b : Bool) (d c : Content) (o : Option Content) → IsContentPlai
 chosen_plain true d c o p e h = subst IsContentPlain (some_is d c e) p
 chosen_plain false d c o p e h = h e
 
-content_plain : (vs : Variants) (name : Utf8) (c : Content) → AreVariantsPlain vs → content_of vs name ≡ Some c → IsContentPlain c
+pub content_plain : (vs : Variants) (name : Utf8) (c : Content) → AreVariantsPlain vs → content_of vs name ≡ Some c → IsContentPlain c
 content_plain no_variants name c p e = absurd cc
 content_plain (variant n d vs) name c p e = chosen_plain (bytes_eq n name) d c (content_of vs name) p.1 e (content_plain vs name c p.2)
 
@@ -235,6 +236,7 @@ mutual
   pub views_means : (v : Value) (s : Form) (t : Tree) → IsPlain s → Fits v s → means v ≡ Some t → IsClean t → views s t ≡ Some (norm v)
   views_means v (leaf l) t p f e c = leaf_means (leaf_kind l) v t (fits_leaf v l f) e
   views_means v (lossy s) t p f e c = views_means v s t p.1 (fits_lossy v s f) e c
+  views_means v (definitions h s) t p f e c = views_means v s t p.1 (fits_body v h s f) e c
   views_means value.none (optional s) t p f e c = ap (views (optional s)) (sym (tree_is null t e))
   views_means (value.some v) (optional s) t p f e c = present s t (norm v) (views_means v s t p f e c) ∙ ap (λ o. Some (some_or_none o (norm v))) (sym e)
   views_means (value.newtype m v) (newtype n s) t p f e c =

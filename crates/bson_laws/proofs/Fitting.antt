@@ -1,5 +1,5 @@
 -- What fits a leaf, and a form whose texts are mended, of whatever form the value is.
-use Rattle.bson_shape.specs.Form.{Form, leaf, lossy}
+use Rattle.bson_shape.specs.Form.{Form, leaf, lossy, definitions, Fields}
 use Rattle.bson_shape.specs.declared.leaf.Leaf.{Leaf}
 use Rattle.bson_datum.specs.Value.{Value, boolean, integer, double, character, str, bytes, none, some, unit, unit_structure, newtype, sequence, map, structure, unit_variant, newtype_variant, tuple, tuple_structure, tuple_variant, structure_variant, raw_document, raw_array, mode}
 use Rattle.bson_laws.specs.Leaves.{leaf_kind}
@@ -65,3 +65,12 @@ fits_lossy v s f = f
 pub lossy_fits : (v : Value) (s : Form) → Fits v s → Fits v (lossy s)
 lossy_fits none s f = f
 lossy_fits v s f = f
+
+-- and what fits definitions is what fits their body
+pub fits_body : (v : Value) (h : Fields) (s : Form) → Fits v (definitions h s) → Fits v s
+fits_body none h s f = f
+fits_body v h s f = f
+
+pub body_fits : (v : Value) (h : Fields) (s : Form) → Fits v s → Fits v (definitions h s)
+body_fits none h s f = f
+body_fits v h s f = f

@@ -12,13 +12,13 @@ use Rattle.bson_base.proofs.Outcomes.{some_is, ok_is, map_ok, bind_ok}
 use Rattle.bson_rawdoc.specs.Node as node
 use Rattle.bson_rawdoc.specs.Node.{Sight, Node, Nodes, ended, faulty, then_node, mended}
 use Rattle.bson_rawdoc.specs.Piece.{Piece, made}
-use Rattle.bson_shape.specs.Form.{UnknownFields, dropped, denied, Form, leaf, optional, lossy, human_readable, by_mode, sequence, newtype, unit_structure, map, tuple, tuple_structure, structure, enumeration, Fields, no_fields, field, Parts, no_parts, part, Content, unit_content, newtype_content, tuple_content, struct_content, Variants, no_variants, variant}
+use Rattle.bson_shape.specs.Form.{UnknownFields, dropped, denied, Form, leaf, optional, lossy, human_readable, by_mode, sequence, newtype, unit_structure, map, tuple, tuple_structure, structure, enumeration, reference, definitions, Fields, no_fields, field, Parts, no_parts, part, Content, unit_content, newtype_content, tuple_content, struct_content, Variants, no_variants, variant}
 use Rattle.bson_shape.specs.declared.leaf.Leaf.{Leaf}
 use Rattle.bson_datum.specs.Value as value
 use Rattle.bson_datum.specs.Value.{readable_newtype, IntegerType, i32, i64, in_range, Value, Items, no_items, item, Entries, no_entries, entry, FieldValues, no_field_values, field_value}
 use Rattle.bson_datum.specs.Marked.{Marked, MarkedItems, MarkedEntries, MarkedFields, contents, item_contents, entry_contents, field_contents}
 use Rattle.bson_datum.specs.Same.{same}
-use Rattle.bson_datum.specs.Cause.{out_of_range, not_utf8, not_borrowed}
+use Rattle.bson_datum.specs.Cause.{out_of_range, unknown_reference, not_utf8, not_borrowed}
 use Rattle.bson_datum.specs.Refusal.{at_index, under, under_index}
 use Rattle.bson_laws.specs.Leaves.{LeafKind, anything, ignored, booleans, numbers, doubles, characters, texts, byte_strings, byte_buffers, units, ExtendedLeaf, extended_values, raw_documents, raw_arrays, raw_values, leaf_kind}
 use Rattle.bson_laws.specs.Variants.{content_of}
@@ -39,7 +39,7 @@ use Rattle.bson_laws.proofs.Coded.{IsName}
 use Rattle.bson_laws.proofs.Lent.{TextLent, LeafLent, marked}
 use Rattle.bson_laws.proofs.Mended.{mended_tame}
 use Rattle.bson_laws.proofs.Tame as tame
-use Rattle.bson_laws.proofs.Tame.{IsTextSeen, after_judged, document_tame, array_tame}
+use Rattle.bson_laws.proofs.Tame.{IsTextSeen, after_judged, judged_refused, document_tame, array_tame}
 use Rattle.bson_laws.proofs.Viewed.{one_scalar}
 
 -- ---- what is given
@@ -162,6 +162,7 @@ abbrev mutual
   IsGiven at v (leaf l) = IsGivenLeaf (leaf_kind l) v × LeafLent at (borrows l) (leaf_kind l)
   IsGiven at v (lossy s) = IsGiven (marked at) v s
   IsGiven at v (by_mode readable compact) = IsGiven at v compact
+  IsGiven at v (definitions h s) = IsGiven at v s
   IsGiven at (value.newtype name v) (human_readable s) = (name ≡ readable_newtype) × IsGiven at v s
   IsGiven at value.none (optional s) = Unit {0}
   IsGiven at (value.some v) (optional s) = IsGiven at v s
@@ -255,7 +256,7 @@ module _ (sight : Sight) where
   given_leaf (value.raw_array b) l g = g
   given_leaf (value.mode v w) l g = g
 
-  -- what is given where texts are mended, and at the form that is due of two, of whatever form the value is
+  -- what is given where texts are mended, at the form that is due of two, and at definitions, of whatever form the value is
   lossy_given : (v : Value) (s : Form) → IsGiven (marked sight) v s → IsGiven sight v (lossy s)
   lossy_given value.none s g = g
   lossy_given v s g = g
@@ -264,6 +265,10 @@ module _ (sight : Sight) where
   due_given value.none readable compact g = g
   due_given v readable compact g = g
 
+  body_given : (v : Value) (h : Fields) (s : Form) → IsGiven sight v s → IsGiven sight v (definitions h s)
+  body_given value.none h s g = g
+  body_given v h s g = g
+
   pub given_lossy : (v : Value) (s : Form) → IsGiven sight v (lossy s) → IsGiven (marked sight) v s
   given_lossy value.none s g = g
   given_lossy v s g = g
@@ -271,6 +276,10 @@ module _ (sight : Sight) where
   pub given_due : (v : Value) (readable compact : Form) → IsGiven sight v (by_mode readable compact) → IsGiven sight v compact
   given_due value.none readable compact g = g
   given_due v readable compact g = g
+
+  pub given_body : (v : Value) (h : Fields) (s : Form) → IsGiven sight v (definitions h s) → IsGiven sight v s
+  given_body value.none h s g = g
+  given_body v h s g = g
 
   -- ---- values without a shape
 
@@ -631,6 +640,8 @@ module _ (at_extended : ExtendedLeaf → Node → Reading Marked)
     reads_given at (human_readable s) n v t e =
         let m = map_ok (value.newtype (made readable_newtype)) (reads s n) v e in subst (λ x. IsGiven at (contents x) (human_readable s)) m.2 (refl, reads_given at s n m.0 t m.1)
     reads_given at (by_mode readable compact) n v t e = due_given at (contents v) readable compact (reads_given at compact n v t e)
+    reads_given at (reference name) n v t e = absurd (judged_refused n (unknown_reference name) v e)
+    reads_given at (definitions h s) n v t e = body_given at (contents v) h s (reads_given at s n v t e)
     reads_given at (newtype name s) n v t e = let m = map_ok (value.newtype (made name)) (reads s n) v e in subst (λ x. IsGiven at (contents x) (newtype name s)) m.2 (refl, reads_given at s n m.0 t m.1)
     reads_given at (unit_structure name) n v t e =
         let d = bind_ok (judged n >>= null_of) (λ _. Ok (value.unit_structure (made name))) v e in

@@ -1,5 +1,5 @@
 -- What reading a value in its bytes gives, of whatever it is read.
-use Rattle.std.proofs.Common.{◌≡◌, ℕ, zero, pos, ◌^◌, ◌<◌, length, true, false, Option, Some, None, Ok, refl, subst}
+use Rattle.std.proofs.Common.{◌≡◌, ℕ, zero, pos, ◌^◌, ◌<◌, length, true, false, None, Ok, refl, subst}
 use Rattle.std.specs.Int.{w32, w64}
 use Rattle.std.specs.Prelude.{FitsSigned, codes}
 use Rattle.std.specs.Str.{is_utf8}
@@ -9,7 +9,7 @@ use Rattle.bson_base.specs.Tree as tree
 use Rattle.bson_base.specs.Tree.{Tree, kind}
 use Rattle.bson_base.proofs.Outcomes.{ok_is, map_ok}
 use Rattle.bson_rawdoc.specs.Node as node
-use Rattle.bson_rawdoc.specs.Node.{Sight, Node, Extended, fault, extended_fault}
+use Rattle.bson_rawdoc.specs.Node.{of_bytes, Whole, Sight, Node, Extended, fault, extended_fault}
 use Rattle.bson_rawdoc.specs.Piece.{Piece, borrowed}
 use Rattle.bson_datum.specs.Marked.{Marked, contents}
 use Rattle.bson_datum.specs.Refusal.{under}
@@ -108,9 +108,9 @@ IsGivenRaw v = (k : Kept) × IsKept k × (v ≡ kept_value k)
 
 -- ---- documents and arrays
 
-slice_framed : (slice : Option Bytes) (p : Piece) → IsSliceFramed slice → slice_of slice ≡ Ok p → IsFramed p.bytes
-slice_framed (Some b) p f e = subst (λ (x : Piece). IsFramed x.bytes) (ok_is (borrowed b) p e) f
-slice_framed None p f e = absurd cc
+slice_framed : (slice : Whole) (p : Piece) → IsSliceFramed slice → slice_of slice ≡ Ok p → IsFramed p.bytes
+slice_framed (of_bytes b) p f e = subst (λ (x : Piece). IsFramed x.bytes) (ok_is (borrowed b) p e) f
+slice_framed w p f e = absurd cc
 
 pub document_framed : (at : Sight) (n : Node) (p : Piece) → IsTame at n → raw_document_of n ≡ Ok p → IsFramed p.bytes
 document_framed at (node.document slice ns) p t e = slice_framed slice p t.0 e

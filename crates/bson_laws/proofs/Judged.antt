@@ -5,7 +5,7 @@ use Rattle.std.proofs.lemmas.Bool.{cond-true}
 use Rattle.bson_base.specs.Text.{Bytes, Utf8}
 use Rattle.bson_base.specs.Outcome.{◌>>=◌, result_map}
 use Rattle.bson_base.specs.Sound.{IsClean}
-use Rattle.bson_base.specs.Tree.{Tree, null, string, document, array, binary, regular_expression, db_pointer, javascript_code, symbol, javascript_code_with_scope, raw, Pairs, Trees, enc, depth}
+use Rattle.bson_base.specs.Tree.{Tree, null, string, document, array, binary, regular_expression, db_pointer, javascript_code, symbol, javascript_code_with_scope, raw, Pairs, Trees, depth}
 use Rattle.bson_base.specs.declared.element_type.ElementType.TheVariants.{EmbeddedDocument, Array, JavaScriptCodeWithScope}
 use Rattle.bson_base.specs.declared.element_type.ElementType.{ElementType}
 use Rattle.bson_rawdoc.specs.declared.raw.Error.{Error}
@@ -15,7 +15,7 @@ use Rattle.bson_rawdoc.specs.Numbers.{int32_in}
 use Rattle.bson_rawdoc.specs.Piece.{Piece}
 use Rattle.bson_rawdoc.specs.Walk.{walk}
 use Rattle.bson_rawdoc.specs.Node as node
-use Rattle.bson_rawdoc.specs.Node.{Node, Nodes, broken, too_deep, opens, or_broken, scoped_bytes, nodes_with, closed_node, node_in, Sight, or_else, text_fault, fault, piece, slice_if, one_level, mended_if, tree_node, pair_nodes, tree_nodes}
+use Rattle.bson_rawdoc.specs.Node.{of_bytes, Whole, Node, Nodes, broken, too_deep, opens, or_broken, scoped_bytes, nodes_with, closed_node, node_in, Sight, or_else, text_fault, fault, piece, whole_at, one_level, mended_if, tree_node, pair_nodes, tree_nodes}
 use Rattle.bson_datum.specs.Value as value
 use Rattle.bson_datum.specs.Marked.{Marked}
 use Rattle.bson_laws.specs.Judged.{Reading, with_level, faultless, judged}
@@ -38,7 +38,7 @@ pub both_whole : (o p : Option Error) → o ≡ None → p ≡ None → or_else 
 both_whole None p e d = d
 both_whole (Some x) p e d = absurd cc
 
-pub scope_whole : (at : Sight) (ps : Pairs) (levels : ℕ) → fault (one_level EmbeddedDocument (slice_if at.bytes (enc (document ps))) (pair_nodes at ps) levels) ≡ None
+pub scope_whole : (at : Sight) (ps : Pairs) (levels : ℕ) → fault (one_level EmbeddedDocument (whole_at at (document ps)) (pair_nodes at ps) levels) ≡ None
 scope_whole at ps zero = refl
 scope_whole at ps (suc levels) = refl
 
@@ -109,13 +109,13 @@ opened_some false k (Ok p) container r = refl
 opened_some true k (Err e) container r = refl
 opened_some false k (Err e) container r = refl
 
-document_some : (u c : Bool) (k : ElementType) (slice : Option Bytes) (ns : Nodes) (r : Reading Marked) → IsSome (mended_if u (cond c (node.document slice ns) (broken k ValueUnclosed))) r
+document_some : (u c : Bool) (k : ElementType) (slice : Whole) (ns : Nodes) (r : Reading Marked) → IsSome (mended_if u (cond c (node.document slice ns) (broken k ValueUnclosed))) r
 document_some true true k slice ns r = refl
 document_some true false k slice ns r = refl
 document_some false true k slice ns r = refl
 document_some false false k slice ns r = refl
 
-array_some : (u c : Bool) (k : ElementType) (slice : Option Bytes) (ns : Nodes) (r : Reading Marked) → IsSome (mended_if u (cond c (node.array slice ns) (broken k ValueUnclosed))) r
+array_some : (u c : Bool) (k : ElementType) (slice : Whole) (ns : Nodes) (r : Reading Marked) → IsSome (mended_if u (cond c (node.array slice ns) (broken k ValueUnclosed))) r
 array_some true true k slice ns r = refl
 array_some true false k slice ns r = refl
 array_some false true k slice ns r = refl
@@ -130,12 +130,12 @@ deep_some false false k r = refl
 -- what is given by its bytes is not null
 raw_some : (u : Bool) (k : ElementType) (b : Bytes) (levels : ℕ) (r : Reading Marked) → IsRawCoded k b → IsSome (mended_if u (node_in levels k b)) r
 raw_some u EmbeddedDocument b zero r c = deep_some u (is_closed b) EmbeddedDocument r
-raw_some u EmbeddedDocument b (suc n) r c = document_some u (is_closed b) EmbeddedDocument (Some b) (nodes_with (node_in n) (walk b)) r
+raw_some u EmbeddedDocument b (suc n) r c = document_some u (is_closed b) EmbeddedDocument (of_bytes b) (nodes_with (node_in n) (walk b)) r
 raw_some u Array b zero r c = deep_some u (is_closed b) Array r
-raw_some u Array b (suc n) r c = array_some u (is_closed b) Array (Some b) (nodes_with (node_in n) (walk b)) r
+raw_some u Array b (suc n) r c = array_some u (is_closed b) Array (of_bytes b) (nodes_with (node_in n) (walk b)) r
 raw_some u JavaScriptCodeWithScope b zero r c = opened_some u JavaScriptCodeWithScope (scoped_bytes (int32_in (drop 4 b)) (drop 4 b)) (λ s. closed_node EmbeddedDocument s (too_deep EmbeddedDocument)) r
 raw_some u JavaScriptCodeWithScope b (suc n) r c =
-    opened_some u JavaScriptCodeWithScope (scoped_bytes (int32_in (drop 4 b)) (drop 4 b)) (λ s. closed_node EmbeddedDocument s (node.document (Some s) (nodes_with (node_in n) (walk s)))) r
+    opened_some u JavaScriptCodeWithScope (scoped_bytes (int32_in (drop 4 b)) (drop 4 b)) (λ s. closed_node EmbeddedDocument s (node.document (of_bytes s) (nodes_with (node_in n) (walk s)))) r
 raw_some u k b levels r c = absurd c
 
 -- what holds of none, where the tree is null, and of some value elsewhere, holds of what is read at an option

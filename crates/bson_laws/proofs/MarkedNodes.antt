@@ -10,7 +10,7 @@ use Rattle.bson_base.specs.declared.element_type.ElementType.TheVariants as kind
 use Rattle.bson_rawdoc.specs.Envelope.{is_closed, inside}
 use Rattle.bson_rawdoc.specs.Extent.{two_texts_in}
 use Rattle.bson_rawdoc.specs.Node as node
-use Rattle.bson_rawdoc.specs.Node.{Node, Nodes, Extended, extended, regular_expression, db_pointer, javascript_code, symbol, javascript_code_with_scope, opens, opened, mended, mended_text, mended_value, mended_nodes, binary_node, or_broken, text_bytes, two_bytes, db_pointer_bytes, scoped_bytes, node_with, nodes_with, holding, closed_node, node_in, inner_node, value_node}
+use Rattle.bson_rawdoc.specs.Node.{of_bytes, Node, Nodes, Extended, extended, regular_expression, db_pointer, javascript_code, symbol, javascript_code_with_scope, opens, opened, mended, mended_text, mended_value, mended_nodes, binary_node, or_broken, text_bytes, two_bytes, db_pointer_bytes, scoped_bytes, node_with, nodes_with, holding, closed_node, node_in, inner_node, value_node}
 use Rattle.bson_rawdoc.specs.Numbers.{int32_in}
 use Rattle.bson_rawdoc.specs.Piece.{Piece, borrowed, made}
 use Rattle.bson_rawdoc.specs.RawValue as raw
@@ -119,9 +119,9 @@ nodes_marked see each ended = refl
 nodes_marked see each (faulty e) = refl
 nodes_marked see each (then_walk e w) = λ i. node.then_node (made e.key) (each e.kind e.value i) (nodes_marked see each w i)
 
-holding_marked : (k : ElementType) (b : Bytes) (ns : Nodes) → changed_nodes marking ns ≡ mended_nodes ns → IsMarked (holding k (Some b) ns)
-holding_marked kinds.EmbeddedDocument b ns h = ap (node.document (Some b)) h
-holding_marked k b ns h = ap (node.array (Some b)) h
+holding_marked : (k : ElementType) (b : Bytes) (ns : Nodes) → changed_nodes marking ns ≡ mended_nodes ns → IsMarked (holding k (of_bytes b) ns)
+holding_marked kinds.EmbeddedDocument b ns h = ap (node.document (of_bytes b)) h
+holding_marked k b ns h = ap (node.array (of_bytes b)) h
 
 closed_marked : (c : Bool) (k : ElementType) (n : Node) → IsMarked n → IsMarked (cond c n (node.broken k ValueUnclosed))
 closed_marked true k n h = h
@@ -131,8 +131,8 @@ closed_marked false k n h = refl
 pub node_marked : (levels : ℕ) → AreMarked (node_in levels)
 node_marked zero = kind_marked (λ c b. closed_node c b (node.too_deep c)) (λ c b. closed_marked (is_closed b) c (node.too_deep c) refl)
 node_marked (suc n) =
-    kind_marked (λ c b. closed_node c b (holding c (Some b) (nodes_with (node_in n) (walk b))))
-    (λ c b. closed_marked (is_closed b) c (holding c (Some b) (nodes_with (node_in n) (walk b))) (holding_marked c b (nodes_with (node_in n) (walk b)) (nodes_marked (node_in n) (node_marked n) (walk b))))
+    kind_marked (λ c b. closed_node c b (holding c (of_bytes b) (nodes_with (node_in n) (walk b))))
+    (λ c b. closed_marked (is_closed b) c (holding c (of_bytes b) (nodes_with (node_in n) (walk b))) (holding_marked c b (nodes_with (node_in n) (walk b)) (nodes_marked (node_in n) (node_marked n) (walk b))))
 
 -- ---- values of elements
 

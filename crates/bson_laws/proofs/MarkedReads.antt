@@ -10,13 +10,13 @@ use Rattle.bson_rawdoc.specs.Envelope.{envelope}
 use Rattle.bson_rawdoc.specs.Node.{Node, mended, mended_text, node_in}
 use Rattle.bson_rawdoc.specs.Piece.{Piece}
 use Rattle.bson_rawdoc.specs.declared.raw.Error.{Error}
-use Rattle.bson_shape.specs.Form.{Form, leaf, optional, lossy, human_readable, by_mode, sequence, newtype, unit_structure, map, tuple, tuple_structure, structure, enumeration, Fields, no_fields, field, Parts, no_parts, part, Content, unit_content, newtype_content, tuple_content, struct_content, Variants, no_variants, variant}
+use Rattle.bson_shape.specs.Form.{Form, leaf, optional, lossy, human_readable, by_mode, sequence, newtype, unit_structure, map, tuple, tuple_structure, structure, enumeration, reference, definitions, Fields, no_fields, field, Parts, no_parts, part, Content, unit_content, newtype_content, tuple_content, struct_content, Variants, no_variants, variant}
 use Rattle.bson_datum.specs.Marked.{Marked, contents}
 use Rattle.bson_datum.specs.Value.{Value}
-use Rattle.bson_laws.specs.CompactReads.{reads}
+use Rattle.bson_laws.specs.CompactReads.{reads_at}
 use Rattle.bson_laws.specs.Owned.{IsOwned, AreFieldsOwned, ArePartsOwned, AreVariantsOwned, IsContentOwned}
 use Rattle.bson_laws.specs.Reads as at_settled
-use Rattle.bson_laws.specs.Reads.{answered, reads_document}
+use Rattle.bson_laws.specs.Reads.{answered, document_at}
 use Rattle.bson_laws.specs.Settled.{settled, settled_fields, settled_parts, settled_variants, settled_content}
 use Rattle.bson_laws.proofs.Changed.{Follows}
 use Rattle.bson_laws.proofs.ChangedNodes.{as_it_is, changed_same, marking, marked_mended, mended_marked}
@@ -69,6 +69,8 @@ mutual
   settled_owned r (unit_structure name) h = tt
   settled_owned r (structure u name fs) h = fields_owned r fs h
   settled_owned r (enumeration vs) h = variants_owned r vs h
+  settled_owned r (reference name) h = h
+  settled_owned r (definitions t s) h = (fields_owned r t h.0, settled_owned r s h.1)
 
   fields_owned : (r : Bool) (fs : Fields) → AreFieldsOwned fs → AreFieldsOwned (settled_fields r fs)
   fields_owned r no_fields h = tt
@@ -91,16 +93,16 @@ mutual
 -- ---- at a shape
 
 -- what is read of a value of the input at a shape that borrows nothing is read of it where its texts are mended
-pub marked_reads : (s : Form) (n : Node) (m : Marked) → IsOwned s → IsMarked n → reads s n ≡ Ok m → ReadAs contents (reads (lossy s) n) (contents m)
+pub marked_reads : (s : Form) (n : Node) (m : Marked) → IsOwned s → IsMarked n → reads_at s n ≡ Ok m → ReadAs contents (reads_at (lossy s) n) (contents m)
 marked_reads s n m owned marked e = owned_reads (settled false s) n m (settled_owned false s owned) marked e
 
 -- and what is read of the bytes of a document
-pub document_marked : (s : Form) (bytes : Bytes) (d : Value) → IsOwned s → reads_document s bytes ≡ Ok d → reads_document (lossy s) bytes ≡ Ok d
+pub document_marked : (s : Form) (bytes : Bytes) (d : Value) → IsOwned s → document_at s bytes ≡ Ok d → document_at (lossy s) bytes ≡ Ok d
 document_marked s bytes d owned e = by_case (envelope bytes) e where
   by_case : (r : Result Bytes Error) → result_map contents (read_in s r) ≡ Ok d → result_map contents (read_in (lossy s) r) ≡ Ok d
   by_case (Ok b) q =
       let n = node_in max_levels EmbeddedDocument b in
-      let m = map_ok contents (answered (reads s n)) d q in
-      let h = marked_reads s n m.0 owned (node_marked max_levels EmbeddedDocument b) (answered_is (reads s n) m.0 m.1) in
+      let m = map_ok contents (answered (reads_at s n)) d q in
+      let h = marked_reads s n m.0 owned (node_marked max_levels EmbeddedDocument b) (answered_is (reads_at s n) m.0 m.1) in
       ap (λ x. result_map contents (answered x)) h.1 ∙ ap Ok (h.2 ∙ m.2)
   by_case (Err f) q = absurd cc

@@ -1,5 +1,5 @@
 -- The document that `Bson::into_extended_document` gives for a clean value is read as the value.
-use Rattle.std.proofs.Common.{◌≡◌, ℕ, zero, suc, [], ◌∷◌, ◌≤◌, Bool, true, false, cond, None, Ok, refl, ap, sym, subst, ◌∙◌, arith}
+use Rattle.std.proofs.Common.{◌≡◌, ℕ, zero, suc, [], ◌∷◌, ◌≤◌, Bool, true, false, cond, Ok, refl, ap, sym, subst, ◌∙◌, arith}
 use Rattle.std.specs.Prelude.{codes, nat_eq}
 use Rattle.std.proofs.Math.Dec.{eqb-suc-zero}
 use Rattle.bson_base.specs.Made.{digits, base64_text}
@@ -10,7 +10,7 @@ use Rattle.bson_base.specs.Tree as tree
 use Rattle.bson_base.specs.Tree.{Tree, Pairs, no_pairs, depth}
 use Rattle.bson_base.specs.declared.element_type.ElementType.TheVariants.{EmbeddedDocument}
 use Rattle.bson_rawdoc.specs.Node as node
-use Rattle.bson_rawdoc.specs.Node.{Sight, Extended, object_id, date_time, regular_expression, db_pointer, javascript_code, symbol, javascript_code_with_scope, timestamp, decimal128, opens, one_level, tree_node, pair_nodes}
+use Rattle.bson_rawdoc.specs.Node.{of_opening, Sight, Extended, object_id, date_time, regular_expression, db_pointer, javascript_code, symbol, javascript_code_with_scope, timestamp, decimal128, opens, one_level, tree_node, pair_nodes}
 use Rattle.bson_rawdoc.specs.Piece.{made}
 use Rattle.bson_datum.specs.Wrapper.{of_key}
 use Rattle.bson_laws.specs.Datum.{sorted_tree}
@@ -67,7 +67,7 @@ is_opened at (tree.db_pointer namespace id) (suc zero) e d = absurd (omega arith
 is_opened at (tree.db_pointer namespace id) (suc (suc zero)) e d = absurd (omega arith)
 is_opened at (tree.db_pointer namespace id) (suc (suc (suc m))) e d = record { value = db_pointer (made namespace) id; left = 0; met = refl; deep = omega arith; document = refl }
 is_opened at (tree.javascript_code_with_scope code scope) (suc m) e d =
-    record { value = javascript_code_with_scope (made code) (one_level EmbeddedDocument None (pair_nodes (bare_sight at) scope) m); left = m; met = refl; deep = omega arith; document = refl }
+    record { value = javascript_code_with_scope (made code) (one_level EmbeddedDocument of_opening (pair_nodes (bare_sight at) scope) m); left = m; met = refl; deep = omega arith; document = refl }
 is_opened at t levels e d = absurd e
 
 -- where nothing is in the input

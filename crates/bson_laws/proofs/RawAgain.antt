@@ -13,7 +13,7 @@ use Rattle.bson_base.specs.declared.element_type.ElementType.{ElementType}
 use Rattle.bson_base.specs.declared.element_type.ElementType.TheVariants.{EmbeddedDocument, Array, JavaScriptCodeWithScope}
 use Rattle.bson_base.proofs.Outcomes.{ok_is}
 use Rattle.bson_rawdoc.specs.Node as node
-use Rattle.bson_rawdoc.specs.Node.{Sight, Node, Nodes, opens, or_else, text_fault, mended, mended_text, mended_nodes, or_broken, nodes_with, closed_node, node_in, piece, mended_if, tree_node}
+use Rattle.bson_rawdoc.specs.Node.{of_bytes, Sight, Node, Nodes, opens, or_else, text_fault, mended, mended_text, mended_nodes, or_broken, nodes_with, closed_node, node_in, piece, mended_if, tree_node}
 use Rattle.bson_rawdoc.specs.Piece.{Piece, borrowed, made}
 use Rattle.bson_rawdoc.specs.Walk.{walk}
 use Rattle.bson_rawdoc.specs.declared.raw.Error.TheVariants.{NotUtf8, ValueUnclosed}
@@ -50,29 +50,29 @@ in_bytes_case P k b zero t e f = absurd cc
 in_bytes_case P k b (suc n) t e f = subst (P (suc n)) (ok_is (tree.raw k b) t e) (f n)
 
 -- framed bytes are the document of their elements
-framed_document : (n : ℕ) (b : Bytes) → IsFramed b → node_in (suc n) EmbeddedDocument b ≡ node.document (Some b) (nodes_with (node_in n) (walk b))
-framed_document n b f = ap (λ c. cond c (node.document (Some b) (nodes_with (node_in n) (walk b))) (node.broken EmbeddedDocument ValueUnclosed)) (frame b b f).2
+framed_document : (n : ℕ) (b : Bytes) → IsFramed b → node_in (suc n) EmbeddedDocument b ≡ node.document (of_bytes b) (nodes_with (node_in n) (walk b))
+framed_document n b f = ap (λ c. cond c (node.document (of_bytes b) (nodes_with (node_in n) (walk b))) (node.broken EmbeddedDocument ValueUnclosed)) (frame b b f).2
 
-framed_array : (n : ℕ) (b : Bytes) → IsFramed b → node_in (suc n) Array b ≡ node.array (Some b) (nodes_with (node_in n) (walk b))
-framed_array n b f = ap (λ c. cond c (node.array (Some b) (nodes_with (node_in n) (walk b))) (node.broken Array ValueUnclosed)) (frame b b f).2
+framed_array : (n : ℕ) (b : Bytes) → IsFramed b → node_in (suc n) Array b ≡ node.array (of_bytes b) (nodes_with (node_in n) (walk b))
+framed_array n b f = ap (λ c. cond c (node.array (of_bytes b) (nodes_with (node_in n) (walk b))) (node.broken Array ValueUnclosed)) (frame b b f).2
 
 -- mended or not, it keeps its bytes
-document_node : (u : Bool) (n : ℕ) (b : Bytes) → IsFramed b → (ns : Nodes) × (mended_if u (node_in (suc n) EmbeddedDocument b) ≡ node.document (Some b) ns)
+document_node : (u : Bool) (n : ℕ) (b : Bytes) → IsFramed b → (ns : Nodes) × (mended_if u (node_in (suc n) EmbeddedDocument b) ≡ node.document (of_bytes b) ns)
 document_node true n b f = (mended_nodes (nodes_with (node_in n) (walk b)), ap mended (framed_document n b f))
 document_node false n b f = (nodes_with (node_in n) (walk b), framed_document n b f)
 
-array_node : (u : Bool) (n : ℕ) (b : Bytes) → IsFramed b → (ns : Nodes) × (mended_if u (node_in (suc n) Array b) ≡ node.array (Some b) ns)
+array_node : (u : Bool) (n : ℕ) (b : Bytes) → IsFramed b → (ns : Nodes) × (mended_if u (node_in (suc n) Array b) ≡ node.array (of_bytes b) ns)
 array_node true n b f = (mended_nodes (nodes_with (node_in n) (walk b)), ap mended (framed_array n b f))
 array_node false n b f = (nodes_with (node_in n) (walk b), framed_array n b f)
 
 -- it is read wherever a document is read in its bytes
-raw_document_comes : (at : Sight) (read : Node → Reading Marked) (b : Bytes) (levels : ℕ) (t : Tree) → ((ns : Nodes) → read (node.document (Some b) ns) ≡ Ok (value.raw_document (borrowed b))) → IsFramed b
+raw_document_comes : (at : Sight) (read : Node → Reading Marked) (b : Bytes) (levels : ℕ) (t : Tree) → ((ns : Nodes) → read (node.document (of_bytes b) ns) ≡ Ok (value.raw_document (borrowed b))) → IsFramed b
     → spell (value.raw_document b) levels ≡ Ok t → ComesBy at read levels t
 raw_document_comes at read b levels t each f e =
     in_bytes_case (ComesBy at read) EmbeddedDocument b levels t e
     (λ n. let d = document_node at.under_mark n b f in (value.raw_document (borrowed b), ap (λ x. judged x >>= read) d.1 ∙ each d.0, refl, f))
 
-raw_array_comes : (at : Sight) (read : Node → Reading Marked) (b : Bytes) (levels : ℕ) (t : Tree) → ((ns : Nodes) → read (node.array (Some b) ns) ≡ Ok (value.raw_array (borrowed b))) → IsFramed b
+raw_array_comes : (at : Sight) (read : Node → Reading Marked) (b : Bytes) (levels : ℕ) (t : Tree) → ((ns : Nodes) → read (node.array (of_bytes b) ns) ≡ Ok (value.raw_array (borrowed b))) → IsFramed b
     → spell (value.raw_array b) levels ≡ Ok t → ComesBy at read levels t
 raw_array_comes at read b levels t each f e =
     in_bytes_case (ComesBy at read) Array b levels t e
@@ -156,12 +156,12 @@ binary_comes at (suc n) b levels t e =
 
 -- the value of such bytes
 abbrev code_node : Piece → Bytes → Nodes → Node
-code_node p scope ns = opens (node.javascript_code_with_scope p (node.document (Some scope) ns))
+code_node p scope ns = opens (node.javascript_code_with_scope p (node.document (of_bytes scope) ns))
 
 coded_node : (n : ℕ) (code : Utf8) (scope : Bytes) → IsFramed scope → length (after_total (closed_text code ++ scope)) < 2 ^ 31
     → node_in (suc n) JavaScriptCodeWithScope (after_total (closed_text code ++ scope)) ≡ code_node (borrowed code) scope (nodes_with (node_in n) (walk scope))
 coded_node n code scope f l =
-    ap (or_broken JavaScriptCodeWithScope (λ p. opens (node.javascript_code_with_scope p.0 (closed_node EmbeddedDocument p.1 (node.document (Some p.1) (nodes_with (node_in n) (walk p.1))))))) (scoped_again code scope (frame scope scope f).1 l)
+    ap (or_broken JavaScriptCodeWithScope (λ p. opens (node.javascript_code_with_scope p.0 (closed_node EmbeddedDocument p.1 (node.document (of_bytes p.1) (nodes_with (node_in n) (walk p.1))))))) (scoped_again code scope (frame scope scope f).1 l)
     ∙ ap (λ x. opens (node.javascript_code_with_scope (borrowed code) x)) (framed_document n scope f)
 
 code_read : (u : Bool) (code : Utf8) (scope : Bytes) (ns : Nodes) → is_utf8 code ≡ true

@@ -6,20 +6,17 @@ use Rattle.bson_base.specs.Text.{Bytes, AreBytes}
 use Rattle.bson_base.specs.Tree.{Tree, document, raw, kind, enc}
 use Rattle.bson_base.specs.declared.element_type.ElementType.{ElementType}
 use Rattle.bson_base.specs.declared.element_type.ElementType.TheVariants.{EmbeddedDocument}
-use Rattle.bson_rawdoc.specs.Node.{from_input, from_memory, node_in, tree_node}
+use Rattle.bson_rawdoc.specs.Node.{from_input, node_in, tree_node}
 use Rattle.bson_shape.specs.Form.{Form}
-use Rattle.bson_shape.specs.Makers.{IsShape}
 use Rattle.bson_datum.specs.Cause as cause
 use Rattle.bson_datum.specs.Marked.{Marked, contents}
 use Rattle.bson_datum.specs.Refusal.{bare, unreadable}
 use Rattle.bson_datum.specs.Value.{Value, kind_of}
-use Rattle.bson_laws.specs.RawFree.{IsRawFree}
-use Rattle.bson_laws.specs.Reads.{reads, answered, reads_document}
+use Rattle.bson_laws.specs.Reads.{reads, answered, document_at}
 use Rattle.bson_laws.specs.Settled.{settled, IsSettled}
 use Rattle.bson_laws.specs.Spell.{Writing, at_top, spell, spell_document, size}
+use Rattle.bson_laws.proofs.ShapeForms.{IsShape}
 use Rattle.bson_laws.proofs.Again.{again}
-use Rattle.bson_laws.proofs.ChangedNodes.{tree_bare}
-use Rattle.bson_laws.proofs.ChangedTrees.{reads_bare}
 use Rattle.bson_laws.proofs.Codec.{seen_again}
 use Rattle.bson_laws.proofs.Coded.{IsCoded}
 use Rattle.bson_laws.proofs.Documents.{node_read}
@@ -37,7 +34,7 @@ pub document_size : (d : Value) (t : Tree) → spell_document d ≡ Ok t → siz
 document_size d t e = sym (length-spell false d max_levels t (top_ok (kind_of d) (spell d max_levels) t e).1)
 
 -- a document is read from its bytes as from itself
-coded_read : (s : Form) (t : Tree) (m : Marked) → IsCoded t → kind t ≡ EmbeddedDocument → length (enc t) < 2 ^ 31 → reads (settled false s) (tree_node from_input t max_levels) ≡ Ok m → reads_document s (enc t) ≡ Ok (contents m)
+coded_read : (s : Form) (t : Tree) (m : Marked) → IsCoded t → kind t ≡ EmbeddedDocument → length (enc t) < 2 ^ 31 → reads (settled false s) (tree_node from_input t max_levels) ≡ Ok m → document_at s (enc t) ≡ Ok (contents m)
 coded_read s (document ps) m c k small e =
     ap (λ r. result_map contents (elim r [ Ok b ↦ answered (reads (settled false s) (node_in max_levels EmbeddedDocument b)) | Err f ↦ Err (bare (unreadable (cause.raw f))) ])) (envelope_again ps small)
     ∙ ap (λ n. result_map contents (answered (reads (settled false s) n))) (seen_again max_levels (document ps) c small)
@@ -48,8 +45,8 @@ coded_read s (raw EmbeddedDocument b) m c k small e =
 coded_read s t m c k small e = absurd cc
 
 -- what was read from bytes and is spelled as a tree is read from the bytes of the tree again, as what is spelled as the same tree
-pub document_again : (s : Form) (bytes : Bytes) (d : Value) (t : Tree) → IsShape s → IsSettled s → AreBytes bytes → reads_document s bytes ≡ Ok d → spell_document d ≡ Ok t → length (enc t) ≤ max_bytes
-    → (v : Value) × (reads_document s (enc t) ≡ Ok v) × (spell_document v ≡ Ok t)
+pub document_again : (s : Form) (bytes : Bytes) (d : Value) (t : Tree) → IsShape s → IsSettled s → AreBytes bytes → document_at s bytes ≡ Ok d → spell_document d ≡ Ok t → length (enc t) ≤ max_bytes
+    → (v : Value) × (document_at s (enc t) ≡ Ok v) × (spell_document v ≡ Ok t)
 document_again s bytes d t p due h e q l =
     let same = settled_same false s due in
     let r = node_read s bytes d h e in
@@ -62,9 +59,3 @@ document_again s bytes d t p due h e q l =
       coded_read s t k.0 k.3 is (omega (arith, l)) (ap (λ x. reads x (tree_node from_input t max_levels)) same ∙ k.1),
       ap (λ x. at_top x (spell (contents k.0) max_levels)) (sym (spell_kind false (contents k.0) max_levels t k.2) ∙ is) ∙ k.2,
     )
-
--- what is read of a finished tree, of which nothing is in the input, is read from its bytes
-pub tree_read : (s : Form) (t : Tree) (m : Marked) → IsRawFree t → IsCoded t → kind t ≡ EmbeddedDocument → length (enc t) < 2 ^ 31 → reads (settled false s) (tree_node from_memory t max_levels) ≡ Ok m → reads_document s (enc t) ≡ Ok (contents m)
-tree_read s t m free c k small e =
-    let h = reads_bare (settled false s) (tree_node from_input t max_levels) m (ap (reads (settled false s)) (tree_bare from_input t max_levels free) ∙ e) in
-    coded_read s t h.0 c k small h.1 ∙ ap Ok h.2

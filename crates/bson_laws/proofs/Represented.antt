@@ -10,10 +10,10 @@ use Rattle.bson_base.specs.Sorted.{sorted}
 use Rattle.bson_base.specs.Sound.{HasBytes, IsClean}
 use Rattle.bson_base.specs.Text.{Bytes, Utf8, AreBytes}
 use Rattle.bson_base.specs.Tree as tree
-use Rattle.bson_base.specs.Tree.{Tree, enc, depth}
+use Rattle.bson_base.specs.Tree.{Tree, depth}
 use Rattle.bson_base.specs.declared.element_type.ElementType.TheVariants.{EmbeddedDocument}
 use Rattle.bson_base.proofs.WrittenTexts.{digits_read, integer_read, base64_read}
-use Rattle.bson_rawdoc.specs.Node.{Sight, Node, string, made_document, int64, extended, Extended, binary, undefined, object_id, date_time, regular_expression, db_pointer, javascript_code, symbol, javascript_code_with_scope, timestamp, decimal128, max_key, min_key, Nodes, ended, one, made_text, or_else, text_fault, fault, opened, opens, piece, slice_if, one_level, tree_node, pair_nodes}
+use Rattle.bson_rawdoc.specs.Node.{Sight, Node, string, made_document, int64, extended, Extended, binary, undefined, object_id, date_time, regular_expression, db_pointer, javascript_code, symbol, javascript_code_with_scope, timestamp, decimal128, max_key, min_key, Nodes, ended, one, made_text, or_else, text_fault, fault, opened, opens, piece, whole_at, one_level, tree_node, pair_nodes}
 use Rattle.bson_rawdoc.specs.Piece.{Piece, made}
 use Rattle.bson_rawdoc.specs.declared.raw.Error.{Error}
 use Rattle.bson_shape.specs.Form.{leaf}
@@ -214,7 +214,7 @@ clean_ranges at (tree.db_pointer namespace id) levels x c e = same_ranges (db_po
 clean_ranges at (tree.javascript_code t) levels x c e = same_ranges (javascript_code (piece at.texts t)) x e tt
 clean_ranges at (tree.symbol t) levels x c e = same_ranges (symbol (piece at.texts t)) x e tt
 clean_ranges at (tree.javascript_code_with_scope code scope) levels x c e =
-    same_ranges (javascript_code_with_scope (piece at.texts code) (one_level EmbeddedDocument (slice_if at.bytes (enc (tree.document scope))) (pair_nodes at scope) levels)) x e tt
+    same_ranges (javascript_code_with_scope (piece at.texts code) (one_level EmbeddedDocument (whole_at at (tree.document scope)) (pair_nodes at scope) levels)) x e tt
 clean_ranges at (tree.timestamp time increment) levels x c e = same_ranges (timestamp time increment) x e c
 clean_ranges at (tree.decimal128 b) levels x c e = same_ranges (decimal128 b) x e c.count
 clean_ranges at tree.max_key levels x c e = same_ranges max_key x e tt

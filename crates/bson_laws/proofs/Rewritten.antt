@@ -8,8 +8,8 @@ use Rattle.bson_base.specs.Tree.{Tree, kind, document, array}
 use Rattle.bson_base.specs.declared.element_type.ElementType.TheVariants.{EmbeddedDocument, Array, Int32, Int64}
 use Rattle.bson_base.specs.declared.element_type.ElementType.{ElementType}
 use Rattle.bson_rawdoc.specs.Node.{Sight}
-use Rattle.bson_shape.specs.Form.{Form, leaf, optional, lossy, human_readable, by_mode, sequence, newtype, unit_structure, map, tuple, tuple_structure, structure, enumeration, Fields, no_fields, field, Parts, no_parts, part, Content, newtype_content, tuple_content, struct_content, Variants, no_variants, variant}
-use Rattle.bson_shape.specs.Makers.{is_reserved_newtype, IsShape, AreShapes, AreParts, AreVariants, IsContent}
+use Rattle.bson_shape.specs.Form.{Form, leaf, optional, lossy, human_readable, by_mode, sequence, newtype, unit_structure, map, tuple, tuple_structure, structure, enumeration, definitions, Fields, no_fields, field, Parts, no_parts, part, Content, newtype_content, tuple_content, struct_content, Variants, no_variants, variant}
+use Rattle.bson_shape.specs.Makers.{is_reserved_newtype}
 use Rattle.bson_datum.specs.Value as value
 use Rattle.bson_datum.specs.Value.{IntegerType, i8, i16, i32, i64, u8, u16, u32, u64, in_range, written_as, Value, Items, no_items, item, Entries, no_entries, entry, FieldValues, no_field_values, field_value}
 use Rattle.bson_datum.specs.Refusal.{WriteFault, Refusal, at_key, at_index, here, invalid_cstring, under, under_index}
@@ -20,11 +20,12 @@ use Rattle.bson_laws.specs.Spell.{enclosed_at, in_bytes, named, spell_key, spell
 use Rattle.bson_laws.specs.Written.{zero_free, with_scope}
 use Rattle.bson_laws.specs.Writable.{HoldsNoExpression, IsWritableLeaf, HasWritableKeys, FieldsHaveWritableKeys, PartsHaveWritableKeys, VariantsHaveWritableKeys, ContentHasWritableKeys}
 use Rattle.bson_laws.specs.Datum.{datum, itself}
+use Rattle.bson_laws.proofs.ShapeForms.{IsShape, AreShapes, AreParts, AreVariants, IsContent}
 use Rattle.bson_laws.proofs.DatumNormal.{same_kind}
 use Rattle.bson_laws.proofs.DatumSpelled.{accepted}
 use Rattle.bson_laws.proofs.GivenRaw.{a_document, an_array, a_tree, a_binary, a_code, IsWhole, by_whole, IsGivenRaw}
 use Rattle.bson_laws.proofs.GivenTrees.{IsGivenTree, IsGivenExtended}
-use Rattle.bson_laws.proofs.Given.{IsGivenAny, AreGivenItems, AreGivenEntries, IsGivenLeaf, IsGivenLeafKey, IsGivenKey, IsGiven, ItemsGiven, PartsGiven, EntriesGiven, FieldsGiven, given_leaf, given_lossy}
+use Rattle.bson_laws.proofs.Given.{IsGivenAny, AreGivenItems, AreGivenEntries, IsGivenLeaf, IsGivenLeafKey, IsGivenKey, IsGiven, ItemsGiven, PartsGiven, EntriesGiven, FieldsGiven, given_leaf, given_lossy, given_body}
 use Rattle.bson_laws.proofs.Lent.{marked}
 use Rattle.bson_laws.proofs.Free.{free_spelled, free_struct}
 use Rattle.bson_laws.proofs.Writable.{wide_small, short_small, taken, binary_written, unless_bind, unless_map, unless_inside, unless_named, Written, number_written, bytes_written, enclosed_written, variant_written}
@@ -181,18 +182,19 @@ content_writable (variant n d vs) name c p w e = chosen_writable (bytes_eq n nam
 mutual
   pub written : (at : Sight) (v : Value) (s : Form) → IsShape s → HasWritableKeys s → IsGiven at v s → Written v
   written at v (leaf l) p c g levels = leaf_written (leaf_kind l) v c (given_leaf at v l g).0 levels
-  written at v (lossy s) p c g levels = written (marked at) v s p.1 c (given_lossy at v s g) levels
+  written at v (lossy s) p c g levels = written (marked at) v s p c (given_lossy at v s g) levels
   written at v (human_readable s) p c g levels = absurd c
   written at v (by_mode readable compact) p c g levels = absurd c
+  written at v (definitions h s) p c g levels = written at v s p c.1 (given_body at v h s g) levels
   written at value.none (optional s) p c g levels = tt
-  written at (value.some v) (optional s) p c g levels = written at v s p.1 c g levels
+  written at (value.some v) (optional s) p c g levels = written at v s p c g levels
   written at (value.newtype m v) (newtype n s) p c g levels =
       subst IsWrittenUnlessLarge (sym (free_spelled m v levels (ap is_reserved_newtype g.0 ∙ p.0.free))) (written at v s p.1 c g.1 levels)
   written at (value.unit_structure m) (unit_structure n) p c g levels = tt
-  written at (value.sequence vs) (sequence s) p c g levels = enclosed_written array (spell_items 0 vs) (items_written at vs s 0 p.1 c g) levels
-  written at (value.map es) (map key s) p c g levels = enclosed_written document (spell_entries es) (entries_written at es key s p.3 c.0 c.1 g.1) levels
-  written at (value.tuple vs) (tuple ps) p c g levels = enclosed_written array (spell_items 0 vs) (parts_written at vs ps 0 p.1 c g) levels
-  written at (value.tuple_structure m vs) (tuple_structure n ps) p c g levels = enclosed_written array (spell_items 0 vs) (parts_written at vs ps 0 p.2 c g.1) levels
+  written at (value.sequence vs) (sequence s) p c g levels = enclosed_written array (spell_items 0 vs) (items_written at vs s 0 p c g) levels
+  written at (value.map es) (map key s) p c g levels = enclosed_written document (spell_entries es) (entries_written at es key s p.2 c.0 c.1 g.1) levels
+  written at (value.tuple vs) (tuple ps) p c g levels = enclosed_written array (spell_items 0 vs) (parts_written at vs ps 0 p c g) levels
+  written at (value.tuple_structure m vs) (tuple_structure n ps) p c g levels = enclosed_written array (spell_items 0 vs) (parts_written at vs ps 0 p.1 c g.1) levels
   written at (value.structure m vs) (structure u n fs) p c g levels =
       subst IsWrittenUnlessLarge (sym (free_struct m vs levels (ap reserved_kind g.0 ∙ p.0.free))) (enclosed_written document (spell_fields vs) (fields_written at vs fs p.1 c g.1) levels)
   written at (value.unit_variant name) (enumeration vs) p c g levels = tt

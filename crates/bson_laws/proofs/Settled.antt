@@ -3,13 +3,13 @@ use Rattle.std.proofs.Common.{◌≡◌, Bool, true, false, cond, Option, Some, 
 use Rattle.std.specs.Str.{bytes_eq}
 use Rattle.bson_base.specs.Text.{Utf8}
 use Rattle.bson_base.proofs.Outcomes.{some_is}
-use Rattle.bson_shape.specs.Form.{Form, leaf, optional, lossy, human_readable, by_mode, sequence, newtype, unit_structure, map, tuple, tuple_structure, structure, enumeration, Fields, no_fields, field, Parts, no_parts, part, Content, unit_content, newtype_content, tuple_content, struct_content, Variants, no_variants, variant}
-use Rattle.bson_laws.specs.Plain.{IsPlain, AreFieldsPlain, ArePartsPlain, AreVariantsPlain, IsContentPlain}
+use Rattle.bson_shape.specs.Form.{Form, leaf, optional, lossy, human_readable, by_mode, sequence, newtype, unit_structure, map, tuple, tuple_structure, structure, enumeration, reference, definitions, Fields, no_fields, field, Parts, no_parts, part, Content, unit_content, newtype_content, tuple_content, struct_content, Variants, no_variants, variant}
+use Rattle.bson_laws.proofs.PlainForms.{IsPlain, AreFieldsPlain, ArePartsPlain, AreVariantsPlain, IsContentPlain}
 use Rattle.bson_laws.specs.Settled.{settled, settled_fields, settled_parts, settled_variants, settled_content, IsSettled, AreFieldsSettled, ArePartsSettled, AreVariantsSettled, IsContentSettled}
 use Rattle.bson_laws.specs.Slots.{missing_value}
 use Rattle.bson_laws.specs.Variants.{content_of}
 use Rattle.bson_laws.specs.Views.{absent}
-use Rattle.bson_laws.specs.Writable.{HasWritableKeys, FieldsHaveWritableKeys, PartsHaveWritableKeys, VariantsHaveWritableKeys, ContentHasWritableKeys}
+use Rattle.bson_laws.specs.Writable.{HasWritableKeys, FieldsHaveWritableKeys, DefinitionsHaveWritableKeys, PartsHaveWritableKeys, VariantsHaveWritableKeys, ContentHasWritableKeys}
 
 mutual
   pub settled_same : (r : Bool) (s : Form) → IsSettled s → settled r s ≡ s
@@ -26,6 +26,8 @@ mutual
   settled_same r (unit_structure name) h = refl
   settled_same r (structure u name fs) h = ap (structure u name) (fields_same r fs h)
   settled_same r (enumeration vs) h = ap enumeration (variants_same r vs h)
+  settled_same r (reference name) h = refl
+  settled_same r (definitions t s) h = λ i. definitions (fields_same r t h.0 i) (settled_same r s h.1 i)
 
   fields_same : (r : Bool) (fs : Fields) → AreFieldsSettled fs → settled_fields r fs ≡ fs
   fields_same r no_fields h = refl
@@ -60,6 +62,8 @@ mutual
   plain_settled (unit_structure name) p = tt
   plain_settled (structure u name fs) p = plain_fields fs p.1
   plain_settled (enumeration vs) p = plain_variants vs p
+  plain_settled (reference name) p = tt
+  plain_settled (definitions h s) p = (plain_fields h p.0, plain_settled s p.1)
 
   plain_fields : (fs : Fields) → AreFieldsPlain fs → AreFieldsSettled fs
   plain_fields no_fields p = tt
@@ -94,10 +98,16 @@ mutual
   writable_settled (unit_structure name) w = tt
   writable_settled (structure u name fs) w = writable_fields fs w
   writable_settled (enumeration vs) w = writable_variants vs w
+  writable_settled (reference name) w = tt
+  writable_settled (definitions h s) w = (writable_definitions h w.0, writable_settled s w.1)
 
   writable_fields : (fs : Fields) → FieldsHaveWritableKeys fs → AreFieldsSettled fs
   writable_fields no_fields w = tt
   writable_fields (field name s fs) w = (writable_settled s w.1, writable_fields fs w.2)
+
+  writable_definitions : (h : Fields) → DefinitionsHaveWritableKeys h → AreFieldsSettled h
+  writable_definitions no_fields w = tt
+  writable_definitions (field name s h) w = (writable_settled s w.0, writable_definitions h w.1)
 
   writable_parts : (ps : Parts) → PartsHaveWritableKeys ps → ArePartsSettled ps
   writable_parts no_parts w = tt
@@ -141,6 +151,8 @@ absent_settled r (newtype name s) = refl
 absent_settled r (unit_structure name) = refl
 absent_settled r (structure u name fs) = refl
 absent_settled r (enumeration vs) = refl
+absent_settled r (reference name) = refl
+absent_settled r (definitions h s) = refl
 
 -- of two forms the one that is due says what stands for a missing value
 pub missing_due : {T : Type 0} (r : Bool) (s t : Form) → missing_value {T = T} (settled r (by_mode s t)) ≡ absent {T = T} (cond r s t)

@@ -4,12 +4,13 @@ use Rattle.std.proofs.Common.{◌≡◌, ◌<◌, ◌^◌, length, true, false, 
 use Rattle.std.specs.Int.{w32, w64}
 use Rattle.std.specs.Prelude.{FitsSigned}
 use Rattle.bson_base.specs.Outcome.{◌>>=◌}
-use Rattle.bson_base.specs.Text.{Bytes, AreBytes, has_zero}
+use Rattle.bson_base.specs.Text.{AreBytes, has_zero}
 use Rattle.bson_base.proofs.Outcomes.{ok_is, bind_ok}
 use Rattle.bson_rawdoc.specs.Piece.{Piece}
-use Rattle.bson_rawdoc.specs.Node.{Sight, Node, string, double, bytes, binary, document, array, int32, int64, extended, too_deep, Extended, object_id, date_time, regular_expression, db_pointer, javascript_code, symbol, javascript_code_with_scope, timestamp, decimal128, Nodes, ended, faulty, then_node, fault}
+use Rattle.bson_rawdoc.specs.Node.{of_bytes, Whole, Sight, Node, string, double, bytes, binary, document, array, int32, int64, extended, too_deep, Extended, object_id, date_time, regular_expression, db_pointer, javascript_code, symbol, javascript_code_with_scope, timestamp, decimal128, Nodes, ended, faulty, then_node, fault}
 use Rattle.bson_rawdoc.specs.declared.raw.Error.{Error}
-use Rattle.bson_laws.specs.Judged.{Reading, with_level, faultless, judged}
+use Rattle.bson_datum.specs.Cause.{Cause}
+use Rattle.bson_laws.specs.Judged.{Reading, refused, with_level, faultless, judged}
 use Rattle.bson_laws.specs.Taken.{owned_under_mark, document_of, array_of}
 use Rattle.bson_laws.proofs.Coded.{IsName}
 use Rattle.bson_laws.proofs.Framed.{IsFramed}
@@ -22,9 +23,9 @@ abbrev pub AreBytesSeen : Sight → Piece → Type 0
 AreBytesSeen at p = p.in_input ≡ true → at.bytes ≡ true
 
 -- the bytes of a document or an array are framed as such, where it is in the input
-abbrev pub IsSliceFramed : Option Bytes → Type 0
-IsSliceFramed None = Unit {0}
-IsSliceFramed (Some b) = IsFramed b
+abbrev pub IsSliceFramed : Whole → Type 0
+IsSliceFramed (of_bytes b) = IsFramed b
+IsSliceFramed w = Unit {0}
 
 abbrev mutual
   pub IsTame : Sight → Node → Type 0
@@ -73,6 +74,10 @@ judged_is n m e = faultless_is (fault n) n m e
 -- what is read from a judged value is read from the value
 pub after_judged : {A : Type 0} (n : Node) (read : Node → Reading A) (x : A) → (judged n >>= read) ≡ Ok x → read n ≡ Ok x
 after_judged n read x e = let j = bind_ok (judged n) read x e in subst (λ m. read m ≡ Ok x) (sym (judged_is n j.0 j.1)) j.2
+
+-- nothing is read where every judged value is refused
+pub judged_refused : {A : Type 0} (n : Node) (c : Cause) (x : A) → (judged n >>= λ _. refused c) ≡ Ok x → ⊥
+judged_refused n c x e = let q = after_judged n (λ _. refused c) x e in cc
 
 -- and what is read from the value is read from the judged one
 pub judged_then : {A : Type 0} (n : Node) (read : Node → Reading A) (x : A) → (judged n >>= λ _. read n) ≡ Ok x → (judged n >>= read) ≡ Ok x

@@ -20,7 +20,7 @@ use Rattle.bson_base.specs.Tree.{Tree, kind, double, string, boolean, binary, nu
 use Rattle.bson_base.specs.declared.element_type.ElementType.{ElementType}
 use Rattle.bson_base.specs.declared.element_type.ElementType.TheVariants.{JavaScriptCodeWithScope, Int32, Null}
 use Rattle.bson_base.proofs.Outcomes.{some_is, some_map, some_then}
-use Rattle.bson_shape.specs.Form.{Form, leaf, optional, lossy, human_readable, by_mode, sequence, newtype, unit_structure, map, tuple, tuple_structure, structure, enumeration, Fields, no_fields, field, Parts, no_parts, part, Content, unit_content, newtype_content, tuple_content, struct_content, Variants, no_variants, variant}
+use Rattle.bson_shape.specs.Form.{Form, leaf, optional, lossy, human_readable, by_mode, sequence, newtype, unit_structure, map, tuple, tuple_structure, structure, enumeration, reference, definitions, Fields, no_fields, field, Parts, no_parts, part, Content, unit_content, newtype_content, tuple_content, struct_content, Variants, no_variants, variant}
 use Rattle.bson_datum.specs.Value as value
 use Rattle.bson_datum.specs.Value.{IntegerType, i32, i64, in_range, written_as, Value, Items, no_items, item, Entries, no_entries, entry, FieldValues, no_field_values, field_value}
 use Rattle.bson_datum.specs.Cause.{out_of_range}
@@ -39,10 +39,10 @@ use Rattle.bson_laws.proofs.Spelled.{newtype_meant}
 use Rattle.bson_laws.proofs.DatumContents.{sorted_kind}
 use Rattle.bson_laws.proofs.Ranges.{clean_in_range}
 use Rattle.bson_laws.proofs.DatumNormal.{same_kind, sorted_in_range, tree_sorted_twice, datum_norm, datum_means}
-use Rattle.bson_laws.specs.Plain.{IsPlain, AreFieldsPlain, ArePartsPlain, AreVariantsPlain, IsContentPlain}
+use Rattle.bson_laws.proofs.PlainForms.{IsPlain, AreFieldsPlain, ArePartsPlain, AreVariantsPlain, IsContentPlain}
 use Rattle.bson_laws.proofs.Free.{free_norm, free_struct_name}
 use Rattle.bson_laws.proofs.Known.{where_known}
-use Rattle.bson_laws.proofs.Fitting.{leaf_fits, lossy_fits}
+use Rattle.bson_laws.proofs.Fitting.{leaf_fits, lossy_fits, body_fits}
 use Rattle.bson_laws.proofs.Variants.{unit_is, chosen_holds, FitsContent, FitsVariant, chosen_fits, variant_fits}
 
 -- ---- numbers and characters
@@ -208,6 +208,8 @@ mutual
   views_fit (lossy s) t v c e = lossy_fits v s (views_fit s t v c e)
   views_fit (human_readable s) t v c e = absurd cc
   views_fit (by_mode readable compact) t v c e = absurd cc
+  views_fit (reference name) t v c e = absurd cc
+  views_fit (definitions h s) t v c e = body_fits v h s (views_fit s t v c e)
   views_fit (newtype name s) t v c e =
       let m = some_map (value.newtype name) (views s t) v e in
       subst (λ x. Fits x (newtype name s)) m.2 (refl, views_fit s t m.0 c m.1)
@@ -471,6 +473,8 @@ mutual
   views_normal (lossy s) t v p c e = views_normal s t v p.1 c e
   views_normal (human_readable s) t v p c e = absurd p
   views_normal (by_mode readable compact) t v p c e = absurd p
+  views_normal (reference name) t v p c e = absurd cc
+  views_normal (definitions h s) t v p c e = views_normal s t v p.1 c e
   views_normal (newtype name s) t v p c e =
       let m = some_map (value.newtype name) (views s t) v e in
       let inner = views_normal s t m.0 p.1 c m.1 in

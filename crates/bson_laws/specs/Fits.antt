@@ -8,7 +8,7 @@ use Rattle.bson_base.specs.Tree.{Tree, kind}
 use Rattle.bson_base.specs.declared.element_type.ElementType.{ElementType}
 use Rattle.bson_base.specs.declared.element_type.ElementType.TheVariants as kinds
 use Rattle.bson_base.specs.Text.{Bytes, AreBytes}
-use Rattle.bson_shape.specs.Form.{Form, leaf, optional, lossy, sequence, newtype, unit_structure, map, tuple, tuple_structure, structure, enumeration, Fields, no_fields, field, Parts, no_parts, part, unit_content, newtype_content, tuple_content, struct_content}
+use Rattle.bson_shape.specs.Form.{Form, leaf, optional, lossy, sequence, newtype, unit_structure, map, tuple, tuple_structure, structure, enumeration, definitions, Fields, no_fields, field, Parts, no_parts, part, unit_content, newtype_content, tuple_content, struct_content}
 use Rattle.bson_laws.specs.Variants.{content_of}
 use Rattle.bson_laws.specs.Leaves.{LeafKind, anything, booleans, numbers, doubles, characters, texts, byte_strings, byte_buffers, units, extended_values, ExtendedLeaf, object_ids, uuids, of_kind, trees, documents, leaf_kind}
 use Rattle.bson_laws.specs.Datum.{datum, uuid_datum, itself}
@@ -100,6 +100,7 @@ abbrev mutual
   pub Fits : Value → Form → Type 0
   Fits v (leaf l) = FitsLeaf (leaf_kind l) v
   Fits v (lossy s) = Fits v s
+  Fits v (definitions h s) = Fits v s
   Fits none (optional s) = Unit {0}
   Fits (some v) (optional s) = Fits v s
   Fits (value.newtype name v) (newtype n s) = (name ≡ n) × Fits v s

@@ -1,6 +1,6 @@
 -- The shapes that borrow nothing. Source: serde's data model, `visit_borrowed_str` and `visit_borrowed_bytes`.
 use Rattle.std.specs.Prelude.{Bool, true, false}
-use Rattle.bson_shape.specs.Form.{Form, leaf, optional, lossy, human_readable, by_mode, sequence, newtype, unit_structure, map, tuple, tuple_structure, structure, enumeration, Fields, no_fields, field, Parts, no_parts, part, Content, unit_content, newtype_content, tuple_content, struct_content, Variants, no_variants, variant}
+use Rattle.bson_shape.specs.Form.{Form, leaf, optional, lossy, human_readable, by_mode, sequence, newtype, unit_structure, map, tuple, tuple_structure, structure, enumeration, reference, definitions, Fields, no_fields, field, Parts, no_parts, part, Content, unit_content, newtype_content, tuple_content, struct_content, Variants, no_variants, variant}
 use Rattle.bson_laws.specs.Leaves.{LeafKind, texts, byte_strings, leaf_kind}
 use Rattle.bson_laws.specs.ReadsLeaf.{borrows}
 
@@ -31,6 +31,8 @@ abbrev mutual
   IsOwned (tuple_structure name ps) = ArePartsOwned ps
   IsOwned (enumeration vs) = AreVariantsOwned vs
   IsOwned (structure u name fs) = AreFieldsOwned fs
+  IsOwned (reference name) = Unit {0}
+  IsOwned (definitions h s) = AreFieldsOwned h × IsOwned s
 
   pub AreFieldsOwned : Fields → Type 0
   AreFieldsOwned no_fields = Unit {0}

@@ -1,8 +1,8 @@
 -- The shapes whose documents are read back as they were written. Source: bsonspec.org, version 1.1, `e_name` and `cstring`, with serde's data model.
 use Rattle.std.specs.Prelude.{◌≡◌, true}
 use Rattle.bson_base.specs.Text.{IsFreeName}
-use Rattle.bson_shape.specs.Form.{Form, leaf, optional, lossy, human_readable, by_mode, sequence, newtype, unit_structure, map, tuple, tuple_structure, structure, enumeration, Fields, no_fields, field, Parts, no_parts, part, Content, unit_content, newtype_content, tuple_content, struct_content, Variants, no_variants, variant}
-use Rattle.bson_shape.specs.Makers.{are_units}
+use Rattle.bson_shape.specs.Form.{Form, leaf, optional, lossy, human_readable, by_mode, sequence, newtype, unit_structure, map, tuple, tuple_structure, structure, enumeration, reference, definitions, Fields, no_fields, field, Parts, no_parts, part, Content, unit_content, newtype_content, tuple_content, struct_content, Variants, no_variants, variant}
+use Rattle.bson_shape.specs.Makers.{are_units, has_field}
 use Rattle.bson_shape.specs.declared.leaf.Leaf.{Leaf}
 use Rattle.bson_shape.specs.declared.leaf.Leaf.TheVariants.{Str}
 use Rattle.bson_laws.specs.Leaves.{LeafKind, ignored, texts, raw_documents, raw_arrays, raw_values, leaf_kind}
@@ -21,39 +21,50 @@ OwnsTextLeaf Str = ⊥
 OwnsTextLeaf l = Unit {0}
 
 abbrev mutual
-  -- no text and no key is borrowed: `str` stands nowhere in the form
-  pub OwnsTexts : Form → Type 0
-  OwnsTexts (leaf l) = OwnsTextLeaf l
-  OwnsTexts (optional s) = OwnsTexts s
-  OwnsTexts (lossy s) = OwnsTexts s
-  OwnsTexts (human_readable s) = OwnsTexts s
-  OwnsTexts (by_mode readable compact) = OwnsTexts readable × OwnsTexts compact
-  OwnsTexts (newtype name s) = OwnsTexts s
-  OwnsTexts (unit_structure name) = Unit {0}
-  OwnsTexts (sequence s) = OwnsTexts s
-  OwnsTexts (map key s) = OwnsTexts key × OwnsTexts s
-  OwnsTexts (tuple ps) = PartsOwnTexts ps
-  OwnsTexts (tuple_structure name ps) = PartsOwnTexts ps
-  OwnsTexts (enumeration vs) = VariantsOwnTexts vs
-  OwnsTexts (structure u name fs) = FieldsOwnTexts fs
+  -- No text and no key is borrowed: `str` stands nowhere in the form, its definitions included. Where the form refers to the definitions around it, it
+  -- stands nowhere in these either.
+  pub OwnsTextsIn : (around : Type 0) → Form → Type 0
+  OwnsTextsIn around (leaf l) = OwnsTextLeaf l
+  OwnsTextsIn around (optional s) = OwnsTextsIn around s
+  OwnsTextsIn around (lossy s) = OwnsTextsIn around s
+  OwnsTextsIn around (human_readable s) = OwnsTextsIn around s
+  OwnsTextsIn around (by_mode readable compact) = OwnsTextsIn around readable × OwnsTextsIn around compact
+  OwnsTextsIn around (newtype name s) = OwnsTextsIn around s
+  OwnsTextsIn around (unit_structure name) = Unit {0}
+  OwnsTextsIn around (sequence s) = OwnsTextsIn around s
+  OwnsTextsIn around (map key s) = OwnsTextsIn around key × OwnsTextsIn around s
+  OwnsTextsIn around (tuple ps) = PartsOwnTextsIn around ps
+  OwnsTextsIn around (tuple_structure name ps) = PartsOwnTextsIn around ps
+  OwnsTextsIn around (enumeration vs) = VariantsOwnTextsIn around vs
+  OwnsTextsIn around (structure u name fs) = FieldsOwnTextsIn around fs
+  OwnsTextsIn around (reference name) = around
+  OwnsTextsIn around (definitions h s) = FieldsOwnTextsIn (Unit {0}) h × OwnsTextsIn (Unit {0}) s
 
-  pub FieldsOwnTexts : Fields → Type 0
-  FieldsOwnTexts no_fields = Unit {0}
-  FieldsOwnTexts (field name s fs) = OwnsTexts s × FieldsOwnTexts fs
+  pub FieldsOwnTextsIn : (around : Type 0) → Fields → Type 0
+  FieldsOwnTextsIn around no_fields = Unit {0}
+  FieldsOwnTextsIn around (field name s fs) = OwnsTextsIn around s × FieldsOwnTextsIn around fs
 
-  pub PartsOwnTexts : Parts → Type 0
-  PartsOwnTexts no_parts = Unit {0}
-  PartsOwnTexts (part s ps) = OwnsTexts s × PartsOwnTexts ps
+  pub PartsOwnTextsIn : (around : Type 0) → Parts → Type 0
+  PartsOwnTextsIn around no_parts = Unit {0}
+  PartsOwnTextsIn around (part s ps) = OwnsTextsIn around s × PartsOwnTextsIn around ps
 
-  pub VariantsOwnTexts : Variants → Type 0
-  VariantsOwnTexts no_variants = Unit {0}
-  VariantsOwnTexts (variant name c vs) = ContentOwnsTexts c × VariantsOwnTexts vs
+  pub VariantsOwnTextsIn : (around : Type 0) → Variants → Type 0
+  VariantsOwnTextsIn around no_variants = Unit {0}
+  VariantsOwnTextsIn around (variant name c vs) = ContentOwnsTextsIn around c × VariantsOwnTextsIn around vs
 
-  pub ContentOwnsTexts : Content → Type 0
-  ContentOwnsTexts unit_content = Unit {0}
-  ContentOwnsTexts (newtype_content s) = OwnsTexts s
-  ContentOwnsTexts (tuple_content ps) = PartsOwnTexts ps
-  ContentOwnsTexts (struct_content fs) = FieldsOwnTexts fs
+  pub ContentOwnsTextsIn : (around : Type 0) → Content → Type 0
+  ContentOwnsTextsIn around unit_content = Unit {0}
+  ContentOwnsTextsIn around (newtype_content s) = OwnsTextsIn around s
+  ContentOwnsTextsIn around (tuple_content ps) = PartsOwnTextsIn around ps
+  ContentOwnsTextsIn around (struct_content fs) = FieldsOwnTextsIn around fs
+
+-- no text and no key is borrowed: `str` stands nowhere in the form, its definitions included
+abbrev pub OwnsTexts : Form → Type 0
+OwnsTexts = OwnsTextsIn (Unit {0})
+
+-- the same of definitions
+abbrev pub DefinitionsOwnTexts : Fields → Type 0
+DefinitionsOwnTexts = FieldsOwnTextsIn (Unit {0})
 
 -- the keys of a map are texts, or the names of unit variants
 abbrev pub IsPlainKey : Form → Type 0
@@ -63,37 +74,52 @@ IsPlainKey s = ⊥
 
 abbrev mutual
   -- Each name of a newtype, a struct, a field and a variant is free, each map has texts or unit variants as its keys, and nothing is ignored. Where texts are
-  -- mended none is borrowed, and nothing depends on whether the reader is human. The names of tuple structs and unit structs may be any: none of them is
-  -- reserved.
-  pub IsPlain : Form → Type 0
-  IsPlain (leaf l) = IsKept (leaf_kind l)
-  IsPlain (optional s) = IsPlain s
-  IsPlain (lossy s) = OwnsTexts s × IsPlain s
-  IsPlain (human_readable s) = ⊥
-  IsPlain (by_mode readable compact) = ⊥
-  IsPlain (newtype name s) = IsFreeName name × IsPlain s
-  IsPlain (unit_structure name) = Unit {0}
-  IsPlain (sequence s) = IsPlain s
-  IsPlain (map key s) = IsPlainKey key × IsPlain key × IsPlain s
-  IsPlain (tuple ps) = ArePartsPlain ps
-  IsPlain (tuple_structure name ps) = ArePartsPlain ps
-  IsPlain (enumeration vs) = AreVariantsPlain vs
-  IsPlain (structure u name fs) = IsFreeName name × AreFieldsPlain fs
+  -- mended none is borrowed, also not by a definition around the mark that stands in one table with what is referred to there. Each reference has a definition
+  -- in the innermost table around it, and nothing depends on whether the reader is human. The names of tuple structs and unit structs may be any: none of
+  -- them is reserved; and so may those of definitions, which are never written.
+  pub IsPlainIn : (around : Fields) → Form → Type 0
+  IsPlainIn around (leaf l) = IsKept (leaf_kind l)
+  IsPlainIn around (optional s) = IsPlainIn around s
+  IsPlainIn around (lossy s) = OwnsTextsIn (DefinitionsOwnTexts around) s × IsPlainIn around s
+  IsPlainIn around (human_readable s) = ⊥
+  IsPlainIn around (by_mode readable compact) = ⊥
+  IsPlainIn around (newtype name s) = IsFreeName name × IsPlainIn around s
+  IsPlainIn around (unit_structure name) = Unit {0}
+  IsPlainIn around (sequence s) = IsPlainIn around s
+  IsPlainIn around (map key s) = IsPlainKey key × IsPlainIn around key × IsPlainIn around s
+  IsPlainIn around (tuple ps) = ArePartsPlainIn around ps
+  IsPlainIn around (tuple_structure name ps) = ArePartsPlainIn around ps
+  IsPlainIn around (enumeration vs) = AreVariantsPlainIn around vs
+  IsPlainIn around (structure u name fs) = IsFreeName name × AreFieldsPlainIn around fs
+  IsPlainIn around (reference name) = has_field name around ≡ true
+  IsPlainIn around (definitions h s) = AreDefinitionsPlainIn h h × IsPlainIn h s
 
-  pub AreFieldsPlain : Fields → Type 0
-  AreFieldsPlain no_fields = Unit {0}
-  AreFieldsPlain (field name s fs) = IsFreeName name × IsPlain s × AreFieldsPlain fs
+  pub AreFieldsPlainIn : (around : Fields) → Fields → Type 0
+  AreFieldsPlainIn around no_fields = Unit {0}
+  AreFieldsPlainIn around (field name s fs) = IsFreeName name × IsPlainIn around s × AreFieldsPlainIn around fs
 
-  pub ArePartsPlain : Parts → Type 0
-  ArePartsPlain no_parts = Unit {0}
-  ArePartsPlain (part s ps) = IsPlain s × ArePartsPlain ps
+  pub AreDefinitionsPlainIn : (around : Fields) → Fields → Type 0
+  AreDefinitionsPlainIn around no_fields = Unit {0}
+  AreDefinitionsPlainIn around (field name s h) = IsPlainIn around s × AreDefinitionsPlainIn around h
 
-  pub AreVariantsPlain : Variants → Type 0
-  AreVariantsPlain no_variants = Unit {0}
-  AreVariantsPlain (variant name c vs) = IsFreeName name × IsContentPlain c × AreVariantsPlain vs
+  pub ArePartsPlainIn : (around : Fields) → Parts → Type 0
+  ArePartsPlainIn around no_parts = Unit {0}
+  ArePartsPlainIn around (part s ps) = IsPlainIn around s × ArePartsPlainIn around ps
 
-  pub IsContentPlain : Content → Type 0
-  IsContentPlain unit_content = Unit {0}
-  IsContentPlain (newtype_content s) = IsPlain s
-  IsContentPlain (tuple_content ps) = ArePartsPlain ps
-  IsContentPlain (struct_content fs) = AreFieldsPlain fs
+  pub AreVariantsPlainIn : (around : Fields) → Variants → Type 0
+  AreVariantsPlainIn around no_variants = Unit {0}
+  AreVariantsPlainIn around (variant name c vs) = IsFreeName name × IsContentPlainIn around c × AreVariantsPlainIn around vs
+
+  pub IsContentPlainIn : (around : Fields) → Content → Type 0
+  IsContentPlainIn around unit_content = Unit {0}
+  IsContentPlainIn around (newtype_content s) = IsPlainIn around s
+  IsContentPlainIn around (tuple_content ps) = ArePartsPlainIn around ps
+  IsContentPlainIn around (struct_content fs) = AreFieldsPlainIn around fs
+
+-- the shape is plain, as it stands
+abbrev pub IsPlain : Form → Type 0
+IsPlain = IsPlainIn no_fields
+
+-- and so are the fields of a struct
+abbrev pub AreFieldsPlain : Fields → Type 0
+AreFieldsPlain = AreFieldsPlainIn no_fields

@@ -18,6 +18,7 @@ use Rattle.bson_laws.specs.ReadsExtended.{read_extended}
 use Rattle.bson_laws.specs.Settled.{settled}
 use Rattle.bson_laws.specs.Shaped as shaped
 use Rattle.bson_laws.specs.Slots.{Slots}
+use Rattle.bson_laws.specs.Unrolled.{whole}
 
 -- a judged value at a leaf of this kind, which borrows its text or not
 abbrev pub read_leaf : (is_borrowing : Bool) → LeafKind → Node → Reading Marked
@@ -48,10 +49,17 @@ abbrev pub answered : {A : Type 0} → Reading A → Result A (Failure ReadFault
 answered (Ok x) = Ok x
 answered (Err r) = Err (with_path r)
 
--- The bytes of a whole document at a shape, for a reader who is not human: a fault of the envelope has no path, every other refusal has one.
-abbrev pub reads_marked : Form → Bytes → Result Marked (Failure ReadFault)
-reads_marked s b = elim (envelope b) [ Ok d ↦ answered (reads (settled false s) (node_in max_levels EmbeddedDocument d)) | Err e ↦ Err (bare (unreadable (raw e))) ]
+-- The bytes of a whole document at an unrolled form, for a reader who is not human: a fault of the envelope has no path, every other refusal has one.
+abbrev pub marked_at : Form → Bytes → Result Marked (Failure ReadFault)
+marked_at s b = elim (envelope b) [ Ok d ↦ answered (reads (settled false s) (node_in max_levels EmbeddedDocument d)) | Err e ↦ Err (bare (unreadable (raw e))) ]
 
 -- the same without marks
+abbrev pub document_at : Form → Bytes → Result Value (Failure ReadFault)
+document_at s b = result_map contents (marked_at s b)
+
+-- the bytes of a whole document at a shape, with marks and without
+abbrev pub reads_marked : Form → Bytes → Result Marked (Failure ReadFault)
+reads_marked s b = marked_at (whole s) b
+
 abbrev pub reads_document : Form → Bytes → Result Value (Failure ReadFault)
-reads_document s b = result_map contents (reads_marked s b)
+reads_document s b = document_at (whole s) b

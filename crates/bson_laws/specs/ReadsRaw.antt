@@ -1,10 +1,9 @@
 -- Reading a judged value in its bytes. Source: the raw types and the reserved names of MongoDB's crate bson, version 2, over the node that the value is.
-use Rattle.std.specs.Prelude.{Option, Some, None, pos, Ok, codes}
+use Rattle.std.specs.Prelude.{pos, Ok, codes}
 use Rattle.bson_base.specs.Made.{digits}
 use Rattle.bson_base.specs.Outcome.{◌>>=◌, result_map}
-use Rattle.bson_base.specs.Text.{Bytes}
 use Rattle.bson_base.specs.Tree as tree
-use Rattle.bson_rawdoc.specs.Node.{Node, double, string, document, array, bytes, boolean, null, int32, int64, extended, Extended, binary, undefined, object_id, date_time, regular_expression, db_pointer, javascript_code, symbol, javascript_code_with_scope, timestamp, decimal128, max_key, min_key, kind_of}
+use Rattle.bson_rawdoc.specs.Node.{of_bytes, Whole, Node, double, string, document, array, bytes, boolean, null, int32, int64, extended, Extended, binary, undefined, object_id, date_time, regular_expression, db_pointer, javascript_code, symbol, javascript_code_with_scope, timestamp, decimal128, max_key, min_key, kind_of}
 use Rattle.bson_rawdoc.specs.Piece.{Piece, borrowed, made}
 use Rattle.bson_datum.specs.Cause.{invalid_type, not_borrowed}
 use Rattle.bson_datum.specs.Marked.{Marked}
@@ -14,10 +13,10 @@ use Rattle.bson_datum.specs.Value.{i32, i64, u8}
 use Rattle.bson_laws.specs.Datum.{datum, one, two, nameless, wrapped}
 use Rattle.bson_laws.specs.Judged.{Reading, refused, judged, scope_key}
 
--- the bytes of a document or an array, which are borrowed; one that is made has none
-abbrev pub slice_of : Option Bytes → Reading Piece
-slice_of (Some b) = Ok (borrowed b)
-slice_of None = refused not_borrowed
+-- the bytes of a document or an array of the input, which are borrowed; one that is made has none, nor has one in memory
+abbrev pub slice_of : Whole → Reading Piece
+slice_of (of_bytes b) = Ok (borrowed b)
+slice_of w = refused not_borrowed
 
 -- a document in its bytes
 abbrev pub raw_document_of : Node → Reading Piece

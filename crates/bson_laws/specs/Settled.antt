@@ -1,6 +1,6 @@
 -- The form of a shape once it is known whether the reader is human. Source: serde's `is_human_readable`.
 use Rattle.std.specs.Prelude.{Bool, true, if◌then◌else◌}
-use Rattle.bson_shape.specs.Form.{Form, leaf, optional, lossy, human_readable, by_mode, sequence, newtype, unit_structure, map, tuple, tuple_structure, structure, enumeration, Fields, no_fields, field, Parts, no_parts, part, Content, unit_content, newtype_content, tuple_content, struct_content, Variants, no_variants, variant}
+use Rattle.bson_shape.specs.Form.{Form, leaf, optional, lossy, human_readable, by_mode, sequence, newtype, unit_structure, map, tuple, tuple_structure, structure, enumeration, reference, definitions, Fields, no_fields, field, Parts, no_parts, part, Content, unit_content, newtype_content, tuple_content, struct_content, Variants, no_variants, variant}
 
 -- of two forms the one that is due, for each reader
 abbrev pub alike : Form → Form
@@ -23,6 +23,8 @@ abbrev mutual
   settled readable (unit_structure name) = unit_structure name
   settled readable (structure u name fs) = structure u name (settled_fields readable fs)
   settled readable (enumeration vs) = enumeration (settled_variants readable vs)
+  settled readable (reference name) = reference name
+  settled readable (definitions h s) = definitions (settled_fields readable h) (settled readable s)
 
   pub settled_fields : (readable : Bool) → Fields → Fields
   settled_fields readable no_fields = no_fields
@@ -58,6 +60,8 @@ abbrev mutual
   IsSettled (unit_structure name) = Unit {0}
   IsSettled (structure u name fs) = AreFieldsSettled fs
   IsSettled (enumeration vs) = AreVariantsSettled vs
+  IsSettled (reference name) = Unit {0}
+  IsSettled (definitions h s) = AreFieldsSettled h × IsSettled s
 
   pub AreFieldsSettled : Fields → Type 0
   AreFieldsSettled no_fields = Unit {0}

@@ -5,7 +5,7 @@ use Rattle.bson_base.specs.Text.{Utf8}
 use Rattle.bson_base.specs.Pairs.{lookup}
 use Rattle.bson_base.specs.Kind.{byte}
 use Rattle.bson_base.specs.Tree.{Tree, kind, object_id, double, string, document, array, binary, boolean, null, int32, int64, Pairs, no_pairs, pair, Trees, no_trees, tree}
-use Rattle.bson_shape.specs.Form.{UnknownFields, dropped, denied, Form, leaf, optional, lossy, sequence, newtype, unit_structure, map, tuple, tuple_structure, structure, enumeration, Fields, no_fields, field, Parts, no_parts, part, Content, unit_content, newtype_content, tuple_content, struct_content, Variants, no_variants, variant}
+use Rattle.bson_shape.specs.Form.{UnknownFields, dropped, denied, Form, leaf, optional, lossy, sequence, newtype, unit_structure, map, tuple, tuple_structure, structure, enumeration, definitions, Fields, no_fields, field, Parts, no_parts, part, Content, unit_content, newtype_content, tuple_content, struct_content, Variants, no_variants, variant}
 use Rattle.bson_shape.specs.Makers.{has_field}
 use Rattle.bson_laws.specs.Variants.{content_of}
 use Rattle.bson_laws.specs.Leaves.{LeafKind, anything, booleans, numbers, doubles, characters, texts, byte_strings, byte_buffers, units, extended_values, ExtendedLeaf, object_ids, uuids, of_kind, trees, documents, leaf_kind}
@@ -136,6 +136,7 @@ abbrev mutual
   views (optional s) null = Some value.none
   views (optional s) t = option_map value.some (views s t)
   views (lossy s) t = views s t
+  views (definitions h s) t = views s t
   views (newtype name s) t = option_map (value.newtype name) (views s t)
   views (unit_structure name) null = Some (value.unit_structure name)
   views (sequence s) (array ts) = option_map value.sequence (views_items (views s) ts)

@@ -1,11 +1,12 @@
 -- The shapes at which each value that is read is written again, unless it is too large. Source: bsonspec.org, version 1.1, `document` and `e_name`.
 use Rattle.std.specs.Prelude.{◌≡◌, false}
 use Rattle.bson_base.specs.Text.{has_zero}
-use Rattle.bson_shape.specs.Form.{Form, leaf, optional, lossy, human_readable, by_mode, sequence, newtype, unit_structure, map, tuple, tuple_structure, structure, enumeration, Fields, no_fields, field, Parts, no_parts, part, Content, unit_content, newtype_content, tuple_content, struct_content, Variants, no_variants, variant}
+use Rattle.bson_shape.specs.Form.{Form, leaf, optional, lossy, human_readable, by_mode, sequence, newtype, unit_structure, map, tuple, tuple_structure, structure, enumeration, reference, definitions, Fields, no_fields, field, Parts, no_parts, part, Content, unit_content, newtype_content, tuple_content, struct_content, Variants, no_variants, variant}
 use Rattle.bson_base.specs.declared.element_type.ElementType.TheVariants.{RegularExpression, JavaScriptCodeWithScope, EmbeddedDocument, Array}
 use Rattle.bson_base.specs.declared.element_type.ElementType.{ElementType}
 use Rattle.bson_laws.specs.Leaves.{LeafKind, ignored, extended_values, of_kind, trees, documents, leaf_kind}
 use Rattle.bson_laws.specs.Plain.{IsPlainKey}
+use Rattle.bson_laws.specs.Unrolled.{whole}
 
 -- no value of the kind is or holds a regular expression
 abbrev pub HoldsNoExpression : ElementType → Type 0
@@ -41,10 +42,17 @@ abbrev mutual
   HasWritableKeys (tuple_structure name ps) = PartsHaveWritableKeys ps
   HasWritableKeys (enumeration vs) = VariantsHaveWritableKeys vs
   HasWritableKeys (structure u name fs) = FieldsHaveWritableKeys fs
+  HasWritableKeys (reference name) = Unit {0}
+  HasWritableKeys (definitions h s) = DefinitionsHaveWritableKeys h × HasWritableKeys s
 
   pub FieldsHaveWritableKeys : Fields → Type 0
   FieldsHaveWritableKeys no_fields = Unit {0}
   FieldsHaveWritableKeys (field name s fs) = (has_zero name ≡ false) × HasWritableKeys s × FieldsHaveWritableKeys fs
+
+  -- the name of a definition is never written
+  pub DefinitionsHaveWritableKeys : Fields → Type 0
+  DefinitionsHaveWritableKeys no_fields = Unit {0}
+  DefinitionsHaveWritableKeys (field name s h) = HasWritableKeys s × DefinitionsHaveWritableKeys h
 
   pub PartsHaveWritableKeys : Parts → Type 0
   PartsHaveWritableKeys no_parts = Unit {0}
@@ -67,7 +75,7 @@ KeepsDocumentLeaf (extended_values documents) = Unit {0}
 KeepsDocumentLeaf (extended_values k) = ⊥
 KeepsDocumentLeaf k = Unit {0}
 
--- what is read from a document is a document again
+-- what is read from a document is a document again; a reference that has no definition is read from none
 abbrev pub KeepsDocument : Form → Type 0
 KeepsDocument (leaf l) = KeepsDocumentLeaf (leaf_kind l)
 KeepsDocument (optional s) = KeepsDocument s
@@ -75,9 +83,10 @@ KeepsDocument (lossy s) = KeepsDocument s
 KeepsDocument (human_readable s) = ⊥
 KeepsDocument (by_mode readable compact) = ⊥
 KeepsDocument (newtype name s) = KeepsDocument s
+KeepsDocument (definitions h s) = KeepsDocument s
 KeepsDocument s = Unit {0}
 
--- Each key and each field's name can be written, and what is read from a document is one.
+-- Each key and each field's name can be written, and what is read from a document is one, at what the shape is unrolled to.
 pub record IsWritable (s : Form) : Type 0 where
   pub keys : HasWritableKeys s
-  pub document : KeepsDocument s
+  pub document : KeepsDocument (whole s)

@@ -9,7 +9,7 @@ use Rattle.bson_base.specs.declared.element_type.ElementType.{ElementType}
 use Rattle.bson_base.specs.declared.element_type.ElementType.TheVariants as kinds
 use Rattle.bson_rawdoc.specs.Envelope.{is_closed, inside}
 use Rattle.bson_rawdoc.specs.Extent.{two_texts_in}
-use Rattle.bson_rawdoc.specs.Node.{Node, string, boolean, broken, regular_expression, db_pointer, javascript_code, symbol, javascript_code_with_scope, or_else, text_fault, fault, opens, binary_node, or_broken, text_bytes, two_bytes, db_pointer_bytes, scoped_bytes, node_with, nodes_with, holding, closed_node, node_in, inner_node, value_node}
+use Rattle.bson_rawdoc.specs.Node.{of_bytes, Node, string, boolean, broken, regular_expression, db_pointer, javascript_code, symbol, javascript_code_with_scope, or_else, text_fault, fault, opens, binary_node, or_broken, text_bytes, two_bytes, db_pointer_bytes, scoped_bytes, node_with, nodes_with, holding, closed_node, node_in, inner_node, value_node}
 use Rattle.bson_rawdoc.specs.Numbers.{int32_in}
 use Rattle.bson_rawdoc.specs.Piece.{Piece, borrowed}
 use Rattle.bson_rawdoc.specs.RawValue as raw
@@ -150,7 +150,7 @@ module _ (inner : ElementType → Bytes → Node) (whole : (k : ElementType) (b 
 
 -- ---- elements
 
-holding_whole : (levels : ℕ) (k : ElementType) (b : Bytes) → fault (holding k (Some b) (nodes_with (node_in levels) (walk b))) ≡ None
+holding_whole : (levels : ℕ) (k : ElementType) (b : Bytes) → fault (holding k (of_bytes b) (nodes_with (node_in levels) (walk b))) ≡ None
 holding_whole levels kinds.EmbeddedDocument b = refl
 holding_whole levels k b = refl
 

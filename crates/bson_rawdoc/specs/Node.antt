@@ -25,14 +25,23 @@ use Rattle.bson_rawdoc.specs.declared.raw.Error.TheVariants.{BadExtent, NotUtf8,
 
 -- ---- values
 
+-- what a document or an array is as a whole
+pub data Whole : Type 0 where
+  -- these bytes of the input
+  of_bytes : Bytes → Whole
+  -- this value of a tree in memory
+  of_tree : Tree → Whole
+  -- nothing but its elements: opening a value makes it
+  of_opening : Whole
+
 mutual
   -- A value. Its texts are not judged yet: a reader refuses one that is not UTF-8, where it is not mended.
   pub data Node : Type 0 where
     double : Bytes → Node
     string : Piece → Node
-    -- a document and an array, with the bytes that they are in the input, where they are in it
-    document : (slice : Option Bytes) → (elements : Nodes) → Node
-    array : (slice : Option Bytes) → (elements : Nodes) → Node
+    -- a document and an array, with what they are as a whole
+    document : (whole : Whole) → (elements : Nodes) → Node
+    array : (whole : Whole) → (elements : Nodes) → Node
     -- a binary of subtype 0; where texts are mended it is borrowed as a byte string alone
     bytes : (under_mark : Bool) → Piece → Node
     boolean : Bool → Node
@@ -87,8 +96,8 @@ extended_kind min_key = kinds.MinKey
 abbrev pub kind_of : Node → ElementType
 kind_of (double bits) = kinds.Double
 kind_of (string t) = kinds.String
-kind_of (document slice ns) = kinds.EmbeddedDocument
-kind_of (array slice ns) = kinds.Array
+kind_of (document whole ns) = kinds.EmbeddedDocument
+kind_of (array whole ns) = kinds.Array
 kind_of (bytes u b) = kinds.Binary
 kind_of (boolean b) = kinds.Boolean
 kind_of null = kinds.Null
@@ -136,7 +145,7 @@ one key n = then_node (made key) n ended
 
 -- a document that is made, which is not in the input
 abbrev pub made_document : Nodes → Node
-made_document ns = document None ns
+made_document ns = document of_opening ns
 
 -- the pairs of two keys
 abbrev pub two : Utf8 → Node → Utf8 → Node → Nodes
@@ -178,8 +187,8 @@ abbrev mutual
   -- array stay where they are. Keys are not mended, since one that is no text ends its list. What else is wrong with a value stays wrong.
   pub mended : Node → Node
   mended (string t) = string (mended_text t)
-  mended (document slice ns) = document slice (mended_nodes ns)
-  mended (array slice ns) = array slice (mended_nodes ns)
+  mended (document whole ns) = document whole (mended_nodes ns)
+  mended (array whole ns) = array whole (mended_nodes ns)
   mended (bytes u b) = bytes true b
   mended (extended x ns) = opens (mended_value x)
   mended n = n
@@ -258,9 +267,9 @@ nodes_with node (walks.faulty e) = faulty e
 nodes_with node (walks.then_walk e w) = then_node (borrowed e.key) (node e.kind e.value) (nodes_with node w)
 
 -- a document, or an array
-abbrev pub holding : ElementType → (slice : Option Bytes) → Nodes → Node
-holding kinds.EmbeddedDocument slice ns = document slice ns
-holding k slice ns = array slice ns
+abbrev pub holding : ElementType → Whole → Nodes → Node
+holding kinds.EmbeddedDocument whole ns = document whole ns
+holding k whole ns = array whole ns
 
 -- the node, where the last byte of the document or array is a zero
 abbrev pub closed_node : ElementType → Bytes → Node → Node
@@ -269,14 +278,14 @@ closed_node k b n = if is_closed b then n else broken k ValueUnclosed
 -- the value of this kind in these bytes, with so many levels of documents left
 abbrev pub node_in : (levels : ℕ) → ElementType → Bytes → Node
 node_in zero k b = node_with (λ c b. closed_node c b (too_deep c)) k b
-node_in (suc levels) k b = node_with (λ c b. closed_node c b (holding c (Some b) (nodes_with (node_in levels) (walk b)))) k b
+node_in (suc levels) k b = node_with (λ c b. closed_node c b (holding c (of_bytes b) (nodes_with (node_in levels) (walk b)))) k b
 
 -- ---- values of elements
 
 -- a document, an array or a scope of these bytes, which are closed
 abbrev pub inner_node : (levels : ℕ) → ElementType → Bytes → Node
 inner_node zero k b = too_deep k
-inner_node (suc levels) k b = holding k (Some b) (nodes_with (node_in levels) (walk b))
+inner_node (suc levels) k b = holding k (of_bytes b) (nodes_with (node_in levels) (walk b))
 
 -- the node of the value of an element; a document, an array and a scope are made of their bytes so
 abbrev pub value_node : (ElementType → Bytes → Node) → RawValue → Node
@@ -304,36 +313,37 @@ value_node inner raw.min_key = opens min_key
 
 -- ---- values of a finished tree
 
--- what of a finished tree is in the input: its texts and keys, its byte strings; and whether it is under a mark, where texts are mended
+-- what of a finished tree is in the input: its texts and keys, its byte strings; whether it is under a mark, where texts are mended; and whether it is a tree in memory
 pub record Sight : Type 0 where
   pub texts : Bool
   pub bytes : Bool
   pub under_mark : Bool
+  pub in_memory : Bool
 
 -- a tree of the input
 abbrev pub from_input : Sight
-from_input = record { texts = true; bytes = true; under_mark = false }
+from_input = record { texts = true; bytes = true; under_mark = false; in_memory = false }
 
 -- a tree of the input, where texts are mended
 abbrev pub from_marked : Sight
-from_marked = record { texts = false; bytes = true; under_mark = true }
+from_marked = record { texts = false; bytes = true; under_mark = true; in_memory = false }
 
 -- a tree in memory
 abbrev pub from_memory : Sight
-from_memory = record { texts = false; bytes = false; under_mark = false }
+from_memory = record { texts = false; bytes = false; under_mark = false; in_memory = true }
 
 -- a text or byte string of a finished tree, which is in the input or not
 abbrev pub piece : Bool → Bytes → Piece
 piece in_input b = record { bytes = b; in_input = in_input }
 
--- the bytes of a document or an array of a finished tree, where they are in the input
-abbrev pub slice_if : Bool → Bytes → Option Bytes
-slice_if in_input b = if in_input then Some b else None
+-- what a document or an array of a finished tree is as a whole: its bytes, where byte strings are in the input, or itself, where it is in memory
+abbrev pub whole_at : Sight → Tree → Whole
+whole_at at t = if at.bytes then of_bytes (enc t) else if at.in_memory then of_tree t else of_opening
 
 -- a document or an array of these elements takes one of the levels that are left
-abbrev pub one_level : ElementType → (slice : Option Bytes) → (ℕ → Nodes) → (levels : ℕ) → Node
-one_level k slice ns zero = too_deep k
-one_level k slice ns (suc levels) = holding k slice (ns levels)
+abbrev pub one_level : ElementType → Whole → (ℕ → Nodes) → (levels : ℕ) → Node
+one_level k whole ns zero = too_deep k
+one_level k whole ns (suc levels) = holding k whole (ns levels)
 
 -- a value that is under a mark or not
 abbrev pub mended_if : (under_mark : Bool) → Node → Node
@@ -345,8 +355,8 @@ abbrev mutual
   pub tree_node : (at : Sight) → Tree → (levels : ℕ) → Node
   tree_node at (trees.double bits) levels = double bits
   tree_node at (trees.string t) levels = string (piece at.texts t)
-  tree_node at (trees.document ps) levels = one_level kinds.EmbeddedDocument (slice_if at.bytes (enc (trees.document ps))) (pair_nodes at ps) levels
-  tree_node at (trees.array ts) levels = one_level kinds.Array (slice_if at.bytes (enc (trees.array ts))) (tree_nodes at 0 ts) levels
+  tree_node at (trees.document ps) levels = one_level kinds.EmbeddedDocument (whole_at at (trees.document ps)) (pair_nodes at ps) levels
+  tree_node at (trees.array ts) levels = one_level kinds.Array (whole_at at (trees.array ts)) (tree_nodes at 0 ts) levels
   tree_node at (trees.binary subtype b) levels = binary_node at.under_mark subtype (piece at.bytes b)
   tree_node at trees.undefined levels = opens undefined
   tree_node at (trees.object_id id) levels = opens (object_id (piece at.bytes id))
@@ -357,7 +367,7 @@ abbrev mutual
   tree_node at (trees.db_pointer namespace id) levels = opens (db_pointer (piece at.texts namespace) id)
   tree_node at (trees.javascript_code t) levels = opens (javascript_code (piece at.texts t))
   tree_node at (trees.symbol t) levels = opens (symbol (piece at.texts t))
-  tree_node at (trees.javascript_code_with_scope code scope) levels = opens (javascript_code_with_scope (piece at.texts code) (one_level kinds.EmbeddedDocument (slice_if at.bytes (enc (trees.document scope))) (pair_nodes at scope) levels))
+  tree_node at (trees.javascript_code_with_scope code scope) levels = opens (javascript_code_with_scope (piece at.texts code) (one_level kinds.EmbeddedDocument (whole_at at (trees.document scope)) (pair_nodes at scope) levels))
   tree_node at (trees.int32 n) levels = int32 n
   tree_node at (trees.timestamp time increment) levels = opens (timestamp time increment)
   tree_node at (trees.int64 n) levels = int64 n

@@ -17,25 +17,25 @@ put_all no_pairs done = done
 put_all (pair k t ps) done = put_all ps (put k t done)
 
 -- one list of pairs and then another
-abbrev after : (done new : Pairs) → Pairs
+abbrev pub after : (done new : Pairs) → Pairs
 after no_pairs qs = qs
 after (pair k t ps) qs = pair k t (after ps qs)
 
-after_none : (ps : Pairs) → after ps no_pairs ≡ ps
+pub after_none : (ps : Pairs) → after ps no_pairs ≡ ps
 after_none no_pairs = refl
 after_none (pair k t ps) = ap (pair k t) (after_none ps)
 
-after_one : (k : Utf8) (t : Tree) (done ps : Pairs) → after (after done (pair k t no_pairs)) ps ≡ after done (pair k t ps)
+pub after_one : (k : Utf8) (t : Tree) (done ps : Pairs) → after (after done (pair k t no_pairs)) ps ≡ after done (pair k t ps)
 after_one k t no_pairs ps = refl
 after_one k t (pair j u done) ps = ap (pair j u) (after_one k t done ps)
 
 -- a key that is not there goes last
-put_new : (k : Utf8) (t : Tree) (done : Pairs) → Lacks k done → put k t done ≡ after done (pair k t no_pairs)
+pub put_new : (k : Utf8) (t : Tree) (done : Pairs) → Lacks k done → put k t done ≡ after done (pair k t no_pairs)
 put_new k t no_pairs h = refl
 put_new k t (pair j u done) h = ap (λ b. cond b (pair j t done) (pair j u (put k t done))) h.0 ∙ ap (pair j u) (put_new k t done h.1)
 
 -- each key of the second list is none of the first
-abbrev AreApart : (done new : Pairs) → Type 0
+abbrev pub AreApart : (done new : Pairs) → Type 0
 AreApart done no_pairs = Unit {0}
 AreApart done (pair k t ps) = Lacks k done × AreApart done ps
 
@@ -49,7 +49,7 @@ lacks_after : (j k : Utf8) (t : Tree) (done : Pairs) → Lacks j done → bytes_
 lacks_after j k t no_pairs h e = (e, tt)
 lacks_after j k t (pair i u done) h e = (h.0, lacks_after j k t done h.1 e)
 
-apart_after : (k : Utf8) (t : Tree) (done ps : Pairs) → AreApart done ps → Lacks k ps → AreApart (after done (pair k t no_pairs)) ps
+pub apart_after : (k : Utf8) (t : Tree) (done ps : Pairs) → AreApart done ps → Lacks k ps → AreApart (after done (pair k t no_pairs)) ps
 apart_after k t done no_pairs h l = tt
 apart_after k t done (pair j u ps) h l = (lacks_after j k t done h.0 (unlike_sym k j l.0), apart_after k t done ps h.1 l.1)
 
@@ -58,7 +58,7 @@ put_apart no_pairs done f h = sym (after_none done)
 put_apart (pair k t ps) done f h =
     ap (put_all ps) (put_new k t done h.0) ∙ put_apart ps (after done (pair k t no_pairs)) f.3 (apart_after k t done ps h.1 f.1) ∙ after_one k t done ps
 
-apart_none : (ps : Pairs) → AreApart no_pairs ps
+pub apart_none : (ps : Pairs) → AreApart no_pairs ps
 apart_none no_pairs = tt
 apart_none (pair k t ps) = (tt, apart_none ps)
 

@@ -1,16 +1,15 @@
 -- The structs that extended values are as data: what they are spelled as is what they are written to.
 use Rattle.std.proofs.Common.{◌≡◌, ℕ, ℤ, pos, ◌<◌, ◌^◌, zero, suc, List, [], ◌∷◌, length, Bool, true, false, cond, Option, Some, None, Ok, Err, refl, ap, sym, subst, ◌∙◌, arith}
-use Rattle.std.specs.Int.{w64}
-use Rattle.std.specs.Prelude.{FitsSigned, nat_lt, nat_eq, option_map, option_and_then, codes}
+use Rattle.std.specs.Prelude.{nat_lt, nat_eq, option_map, option_and_then, codes}
 use Rattle.std.proofs.lemmas.Bool.Decides.{nat_tests}
 use Rattle.std.proofs.lemmas.List.Elements.{All-cons, All-nil}
 use Rattle.bson_base.specs.Made.{digits, number_text, base64_text}
 use Rattle.bson_base.specs.Outcome.{◌>>=◌, result_map}
-use Rattle.bson_base.specs.Parsed.{first_byte, bytes_of_digits, integer_of_text, bytes_of_base64, subtype_of_text}
+use Rattle.bson_base.specs.Parsed.{first_byte, bytes_of_digits, integer_of_text, bytes_of_base64}
 use Rattle.bson_base.specs.Pairs.{put}
 use Rattle.bson_base.specs.declared.element_type.ElementType.TheVariants.{Int64}
 use Rattle.bson_base.specs.Sorted.{sorted}
-use Rattle.bson_base.specs.Text.{Bytes, Utf8, AreBytes}
+use Rattle.bson_base.specs.Text.{Bytes, Utf8}
 use Rattle.bson_base.specs.Tree as tree
 use Rattle.bson_base.specs.Tree.{Tree, string, document, Pairs, no_pairs, pair}
 use Rattle.bson_base.proofs.Outcomes.{map_ok, bind_ok}

@@ -1,6 +1,6 @@
 -- What is spelled as a tree without `$` keys and without repeated keys is written to this tree.
-use Rattle.std.proofs.Common.{◌≡◌, ℕ, zero, suc, [], Bool, true, false, cond, Option, Some, None, Ok, Err, refl, ap, sym, subst, ◌∙◌}
-use Rattle.std.specs.Prelude.{encode_utf8, ◌||◌, is_some}
+use Rattle.std.proofs.Common.{◌≡◌, ℕ, zero, suc, [], Bool, true, false, cond, Option, Some, None, Ok, refl, ap, sym, subst, ◌∙◌}
+use Rattle.std.specs.Prelude.{◌||◌, is_some}
 use Rattle.std.specs.Str.{bytes_eq}
 use Rattle.bson_base.specs.Outcome.{◌>>=◌, result_map}
 use Rattle.bson_base.specs.Pairs.{put}
@@ -12,12 +12,11 @@ use Rattle.bson_base.specs.declared.element_type.ElementType.{ElementType}
 use Rattle.bson_base.proofs.Outcomes.{some_is, map_ok, bind_ok}
 use Rattle.bson_datum.specs.Value as value
 use Rattle.bson_datum.specs.Value.{Value, Items, Entries, FieldValues, uuid_newtype, readable_inside}
-use Rattle.bson_datum.specs.Refusal.{Refusal, WriteFault, at_index, under, under_index}
+use Rattle.bson_datum.specs.Refusal.{at_index, under, under_index}
 use Rattle.bson_laws.specs.Unwrap.{unwrap, scoped_code}
 use Rattle.bson_laws.specs.UuidBytes.{uuid_bytes}
-use Rattle.bson_laws.specs.Means.{key_text}
 use Rattle.bson_laws.specs.Spell.{Writing, spell_uuid, spell_key, named, enclosed_at, struct_at, reserved_at, spell_as, spell_items_as, spell_entries_as, spell_fields_as, spell_list}
-use Rattle.bson_laws.proofs.Sizes.{ok_is, enclosed_ok, variant_ok, inside_ok, under_ok, named_ok, spell_key_ok}
+use Rattle.bson_laws.proofs.Sizes.{ok_is, inside_ok, under_ok, named_ok, spell_key_ok}
 use Rattle.bson_tree_laws.proofs.Puts.{put_all, put_free, fold_free}
 use Rattle.bson_tree_laws.proofs.Wraps.{Agrees, EachAgrees, kept, wrap_agrees}
 use Rattle.bson_tree_laws.specs.Alike.{HasFreeKeys, PairsHaveFreeKeys, TreesHaveFreeKeys, IsWrap, IsTextKey, IsAlike, AreAlike, EntriesAlike, FieldsAlike}

@@ -1,4 +1,4 @@
-use Rattle.bson_laws.proofs.ReadAgain.{document_again}
+use Rattle.bson_laws.proofs.AtShapes.{document_again}
 use Rattle.bson_laws.proofs.law_fixed_point.Goals as goal
 
 pub returns : goal.returns

@@ -1,4 +1,4 @@
-use Rattle.bson_laws.proofs.MarkedReads.{document_marked}
+use Rattle.bson_laws.proofs.AtShapes.{document_marked}
 use Rattle.bson_laws.proofs.law_reads_mended.Goals as goal
 
 pub returns : goal.returns

@@ -15,7 +15,7 @@ use Rattle.bson_datum.specs.Wrapper.{of_key}
 use Rattle.bson_datum.specs.declared.wrapper.Wrapper.{Wrapper}
 use Rattle.bson_datum.specs.declared.wrapper.Wrapper.TheVariants.{Code}
 use Rattle.bson_laws.specs.Judged.{scope_key}
-use Rattle.bson_assembled.specs.FirstKeys.{FirstKey, body, code, ordinary, first_key}
+use Rattle.bson_laws.specs.FirstKeys.{FirstKey, body, code, ordinary, first_key}
 
 -- an answer of building: something, or the first cause in document order to refuse it
 abbrev pub Building : Type 0 → Type 0
@@ -136,6 +136,10 @@ raw_bytes t = record { kind = kind t; bytes = enc t }
 -- what was built, where it has no more bytes than a document may
 abbrev pub within_limit : Tree → Building RawBytes
 within_limit t = if nat_lt max_bytes (length (enc t)) then Err too_long else Ok (raw_bytes t)
+
+-- the whole value that was built, or the first refusal in document order; that there are too many bytes comes last
+abbrev pub assembled_tree : Tree → Building Tree
+assembled_tree t = built t max_levels >>= λ u. result_map (λ _. u) (within_limit u)
 
 -- the kind and the bytes of a whole value, or the first refusal in document order; that there are too many bytes comes last
 abbrev pub assembled : Tree → Building RawBytes

@@ -1,0 +1,168 @@
+-- The shapes at which a clean tree is read from either origin.
+use Rattle.std.proofs.Common.{Bool, true, false}
+use Rattle.bson_rawdoc.specs.Node.{Sight}
+use Rattle.bson_shape.specs.Form.{Form, leaf, optional, lossy, human_readable, by_mode, sequence, newtype, unit_structure, map, tuple, tuple_structure, structure, enumeration, reference, definitions, Fields, no_fields, field, Parts, no_parts, part, Content, unit_content, newtype_content, tuple_content, struct_content, Variants, no_variants, variant}
+use Rattle.bson_laws.specs.declared.origin.Origin.{Origin}
+use Rattle.bson_laws.specs.declared.origin.Origin.TheVariants as origins
+use Rattle.bson_laws.specs.Leaves.{LeafKind, anything, ignored, booleans, numbers, doubles, characters, texts, byte_strings, byte_buffers, units, extended_values, raw_documents, raw_arrays, raw_values, leaf_kind}
+use Rattle.bson_laws.specs.Owned.{IsLeafOwned}
+use Rattle.bson_laws.specs.ReadsLeaf.{borrows}
+use Rattle.bson_laws.specs.SuitsTrees.{SuitsTrees, FieldsSuitTrees, PartsSuitTrees, VariantsSuitTrees, ContentSuitsTrees}
+use Rattle.bson_laws.proofs.Lent.{LeafLent, IsLent, AreFieldsLent, ArePartsLent, AreVariantsLent, IsContentLent, marked}
+
+-- in bytes a leaf has what it borrows; from a tree it borrows nothing
+abbrev pub LeafSuits : Origin → Sight → (is_borrowing : Bool) → LeafKind → Type 0
+LeafSuits origins.Bytes at l k = LeafLent at l k
+LeafSuits origins.Tree at l k = IsLeafOwned l k
+
+-- a mark makes nothing of a tree in memory
+abbrev pub marked_at : Origin → Sight → Sight
+marked_at origins.Bytes at = marked at
+marked_at origins.Tree at = at
+
+-- the contents of a tuple variant have a part, where they are taken from a tree
+abbrev pub HasParts : Origin → Parts → Type 0
+HasParts origins.Bytes ps = Unit {0}
+HasParts origins.Tree no_parts = ⊥
+HasParts origins.Tree (part s ps) = Unit {0}
+
+abbrev mutual
+  -- what each leaf of the shape borrows is there, and what each variant has is taken
+  pub Suits : Origin → Sight → Form → Type 0
+  Suits o at (leaf l) = LeafSuits o at (borrows l) (leaf_kind l)
+  Suits o at (optional s) = Suits o at s
+  Suits o at (lossy s) = Suits o (marked_at o at) s
+  Suits o at (human_readable s) = Suits o at s
+  Suits o at (by_mode readable compact) = Suits o at readable × Suits o at compact
+  Suits o at (newtype name s) = Suits o at s
+  Suits o at (unit_structure name) = Unit {0}
+  Suits o at (sequence s) = Suits o at s
+  Suits o at (map key s) = Suits o at key × Suits o at s
+  Suits o at (tuple ps) = PartsSuit o at ps
+  Suits o at (tuple_structure name ps) = PartsSuit o at ps
+  Suits o at (enumeration vs) = VariantsSuit o at vs
+  Suits o at (structure u name fs) = FieldsSuit o at fs
+  Suits o at (reference name) = Unit {0}
+  Suits o at (definitions h s) = Suits o at s
+
+  pub FieldsSuit : Origin → Sight → Fields → Type 0
+  FieldsSuit o at no_fields = Unit {0}
+  FieldsSuit o at (field name s fs) = Suits o at s × FieldsSuit o at fs
+
+  pub PartsSuit : Origin → Sight → Parts → Type 0
+  PartsSuit o at no_parts = Unit {0}
+  PartsSuit o at (part s ps) = Suits o at s × PartsSuit o at ps
+
+  pub VariantsSuit : Origin → Sight → Variants → Type 0
+  VariantsSuit o at no_variants = Unit {0}
+  VariantsSuit o at (variant name c vs) = ContentSuits o at c × VariantsSuit o at vs
+
+  pub ContentSuits : Origin → Sight → Content → Type 0
+  ContentSuits o at unit_content = Unit {0}
+  ContentSuits o at (newtype_content s) = Suits o at s
+  ContentSuits o at (tuple_content ps) = HasParts o ps × PartsSuit o at ps
+  ContentSuits o at (struct_content fs) = FieldsSuit o at fs
+
+-- ---- in bytes
+
+mutual
+  pub lent_suits : (at : Sight) (s : Form) → IsLent at s → Suits origins.Bytes at s
+  lent_suits at (leaf l) h = h
+  lent_suits at (optional s) h = lent_suits at s h
+  lent_suits at (lossy s) h = lent_suits (marked at) s h
+  lent_suits at (human_readable s) h = lent_suits at s h
+  lent_suits at (by_mode readable compact) h = (lent_suits at readable h.0, lent_suits at compact h.1)
+  lent_suits at (newtype name s) h = lent_suits at s h
+  lent_suits at (unit_structure name) h = tt
+  lent_suits at (sequence s) h = lent_suits at s h
+  lent_suits at (map key s) h = (lent_suits at key h.0, lent_suits at s h.1)
+  lent_suits at (tuple ps) h = parts_lent_suit at ps h
+  lent_suits at (tuple_structure name ps) h = parts_lent_suit at ps h
+  lent_suits at (enumeration vs) h = variants_lent_suit at vs h
+  lent_suits at (structure u name fs) h = fields_lent_suit at fs h
+  lent_suits at (reference name) h = tt
+  lent_suits at (definitions t s) h = lent_suits at s h
+
+  fields_lent_suit : (at : Sight) (fs : Fields) → AreFieldsLent at fs → FieldsSuit origins.Bytes at fs
+  fields_lent_suit at no_fields h = tt
+  fields_lent_suit at (field name s fs) h = (lent_suits at s h.0, fields_lent_suit at fs h.1)
+
+  parts_lent_suit : (at : Sight) (ps : Parts) → ArePartsLent at ps → PartsSuit origins.Bytes at ps
+  parts_lent_suit at no_parts h = tt
+  parts_lent_suit at (part s ps) h = (lent_suits at s h.0, parts_lent_suit at ps h.1)
+
+  variants_lent_suit : (at : Sight) (vs : Variants) → AreVariantsLent at vs → VariantsSuit origins.Bytes at vs
+  variants_lent_suit at no_variants h = tt
+  variants_lent_suit at (variant name c vs) h = (content_lent_suits at c h.0, variants_lent_suit at vs h.1)
+
+  content_lent_suits : (at : Sight) (c : Content) → IsContentLent at c → ContentSuits origins.Bytes at c
+  content_lent_suits at unit_content h = tt
+  content_lent_suits at (newtype_content s) h = lent_suits at s h
+  content_lent_suits at (tuple_content ps) h = (tt, parts_lent_suit at ps h)
+  content_lent_suits at (struct_content fs) h = fields_lent_suit at fs h
+
+-- ---- from a tree
+
+mutual
+  pub tree_suits : (at : Sight) (s : Form) → SuitsTrees s → Suits origins.Tree at s
+  tree_suits at (leaf l) h = h
+  tree_suits at (optional s) h = tree_suits at s h
+  tree_suits at (lossy s) h = tree_suits at s h
+  tree_suits at (human_readable s) h = tree_suits at s h
+  tree_suits at (by_mode readable compact) h = (tree_suits at readable h.0, tree_suits at compact h.1)
+  tree_suits at (newtype name s) h = tree_suits at s h
+  tree_suits at (unit_structure name) h = tt
+  tree_suits at (sequence s) h = tree_suits at s h
+  tree_suits at (map key s) h = (tree_suits at key h.0, tree_suits at s h.1)
+  tree_suits at (tuple ps) h = parts_tree_suit at ps h
+  tree_suits at (tuple_structure name ps) h = parts_tree_suit at ps h
+  tree_suits at (enumeration vs) h = variants_tree_suit at vs h
+  tree_suits at (structure u name fs) h = fields_tree_suit at fs h
+  tree_suits at (reference name) h = tt
+  tree_suits at (definitions t s) h = tree_suits at s h.1
+
+  fields_tree_suit : (at : Sight) (fs : Fields) → FieldsSuitTrees fs → FieldsSuit origins.Tree at fs
+  fields_tree_suit at no_fields h = tt
+  fields_tree_suit at (field name s fs) h = (tree_suits at s h.0, fields_tree_suit at fs h.1)
+
+  parts_tree_suit : (at : Sight) (ps : Parts) → PartsSuitTrees ps → PartsSuit origins.Tree at ps
+  parts_tree_suit at no_parts h = tt
+  parts_tree_suit at (part s ps) h = (tree_suits at s h.0, parts_tree_suit at ps h.1)
+
+  variants_tree_suit : (at : Sight) (vs : Variants) → VariantsSuitTrees vs → VariantsSuit origins.Tree at vs
+  variants_tree_suit at no_variants h = tt
+  variants_tree_suit at (variant name c vs) h = (content_tree_suits at c h.0, variants_tree_suit at vs h.1)
+
+  content_tree_suits : (at : Sight) (c : Content) → ContentSuitsTrees c → ContentSuits origins.Tree at c
+  content_tree_suits at unit_content h = tt
+  content_tree_suits at (newtype_content s) h = tree_suits at s h
+  content_tree_suits at (tuple_content no_parts) h = absurd h
+  content_tree_suits at (tuple_content (part s ps)) h = (tt, (tree_suits at s h.0, parts_tree_suit at ps h.1))
+  content_tree_suits at (struct_content fs) h = fields_tree_suit at fs h
+
+-- ---- at a leaf
+
+text_lends : (at : Sight) (l : Bool) → IsLeafOwned l texts → LeafLent at l texts
+text_lends at true h = absurd h
+text_lends at false h = tt
+
+owned_lent : (at : Sight) (l : Bool) (k : LeafKind) → IsLeafOwned l k → LeafLent at l k
+owned_lent at l texts h = text_lends at l h
+owned_lent at l byte_strings h = absurd h
+owned_lent at l anything h = tt
+owned_lent at l ignored h = tt
+owned_lent at l booleans h = tt
+owned_lent at l (numbers type) h = tt
+owned_lent at l doubles h = tt
+owned_lent at l characters h = tt
+owned_lent at l byte_buffers h = tt
+owned_lent at l units h = tt
+owned_lent at l (extended_values k) h = tt
+owned_lent at l raw_documents h = tt
+owned_lent at l raw_arrays h = tt
+owned_lent at l raw_values h = tt
+
+-- what suits an origin borrows nothing that may not be borrowed
+pub suits_lent : (o : Origin) (at : Sight) (l : Bool) (k : LeafKind) → LeafSuits o at l k → LeafLent at l k
+suits_lent origins.Bytes at l k h = h
+suits_lent origins.Tree at l k h = owned_lent at l k h
