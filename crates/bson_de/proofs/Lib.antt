@@ -4,3 +4,6 @@ pub mod Nulls
 pub mod Parts
 pub mod VariantContents
 pub mod Variants
+pub mod MapKeys
+pub mod TreeElements
+pub mod LeafRows

@@ -1,5 +1,5 @@
 -- Parts of a tuple that were read, before those that are left.
-use Rattle.std.proofs.Common.{◌≡◌, Bool, ℕ, suc, ◌+◌, ◌<◌, List, [], ◌∷◌, ◌++◌, length, get_or, drop, Ok, Err, refl, ap, sym, subst, ◌∙◌, add-one, arith}
+use Rattle.std.proofs.Common.{◌≡◌, ℕ, suc, ◌+◌, ◌<◌, List, [], ◌∷◌, ◌++◌, length, get_or, drop, Ok, Err, refl, ap, sym, subst, ◌∙◌, add-one, arith}
 use Rattle.std.proofs.Math.Seq.{drop-cons}
 use Rattle.std.proofs.lemmas.List.{drop_all}
 use Rattle.bson_base.specs.Outcome.{◌>>=◌, result_map}
@@ -12,9 +12,9 @@ use Rattle.bson_datum.specs.Value.{no_items, item}
 use Rattle.bson_datum.specs.declared.datum.Datum.{Datum}
 use Rattle.bson_datum.specs.declared.de.Fault.{Fault}
 use Rattle.bson_datum.specs.declared.stop.Stop.{Stop}
+use Rattle.bson_laws.specs.declared.origin.Reader.{Reader}
 use Rattle.bson_laws.specs.Judged.{Reading}
-use Rattle.bson_laws.specs.Reads.{reads, reads_parts}
-use Rattle.bson_laws.specs.Settled.{settled, settled_parts}
+use Rattle.bson_laws.specs.ReadsFrom.{reads_for, parts_for}
 use Rattle.bson_met.proofs.Refusals.{StopsAs, stops_bind, stops_map}
 use Rattle.bson_texts.specs.ListsMarked.{items_marked}
 use Rattle.bson_slots.specs.NextValue.{next_value, behind_first}
@@ -42,36 +42,36 @@ more : (done : List Datum) (d : Datum) (r : Reading MarkedItems) → result_map 
 more done d (Ok rest) = ap Ok (sym (before-push done d rest))
 more done d (Err e) = refl
 
-module _ (readable : Bool) (ps : List Form) (i : ℕ) (done : List Datum) (old : Nodes) (total : Reading MarkedItems) (so_far : result_map (items_before done) (reads_parts (settled_parts readable (parts_of (drop i ps))) i old) ≡ total) where
+module _ (reader : Reader) (ps : List Form) (i : ℕ) (done : List Datum) (old : Nodes) (total : Reading MarkedItems) (so_far : result_map (items_before done) (parts_for reader (parts_of (drop i ps)) i old) ≡ total) where
   -- a part is left
   module _ (s : Form) (lt : i < length ps) (stands : s ≡ get_or ps i s) where
     left : drop i ps ≡ s ∷ drop (suc i) ps
     left = drop-cons ps i s lt ∙ ap (λ f. f ∷ drop (suc i) ps) (sym stands)
 
     -- its value, and then those of the others
-    due : result_map (items_before done) (next_value i (reads (settled readable s)) old >>= λ v. result_map (item v) (reads_parts (settled_parts readable (parts_of (drop (suc i) ps))) (suc i) (behind_first old))) ≡ total
+    due : result_map (items_before done) (next_value i (reads_for reader s) old >>= λ v. result_map (item v) (parts_for reader (parts_of (drop (suc i) ps)) (suc i) (behind_first old))) ≡ total
     due =
-        ap (result_map (items_before done)) (sym (next_parts i (reads (settled readable s)) (λ v rest. result_map (item v) (reads_parts (settled_parts readable (parts_of (drop (suc i) ps))) (suc i) rest)) old))
-        ∙ sym (ap (λ qs. result_map (items_before done) (reads_parts (settled_parts readable (parts_of qs)) i old)) left)
+        ap (result_map (items_before done)) (sym (next_parts i (reads_for reader s) (λ v rest. result_map (item v) (parts_for reader (parts_of (drop (suc i) ps)) (suc i) rest)) old))
+        ∙ sym (ap (λ qs. result_map (items_before done) (parts_for reader (parts_of qs) i old)) left)
         ∙ so_far
 
     -- its value was read
-    pub parts_step : (new : Nodes) (d : Datum) (all : List Datum) → new ≡ behind_first old → next_value i (reads (settled readable s)) old ≡ Ok (marked d) → all ≡ done ++ d ∷ []
-        → result_map (items_before all) (reads_parts (settled_parts readable (parts_of (drop (i + 1) ps))) (i + 1) new) ≡ total
+    pub parts_step : (new : Nodes) (d : Datum) (all : List Datum) → new ≡ behind_first old → next_value i (reads_for reader s) old ≡ Ok (marked d) → all ≡ done ++ d ∷ []
+        → result_map (items_before all) (parts_for reader (parts_of (drop (i + 1) ps)) (i + 1) new) ≡ total
     parts_step new d all rest is pushed =
-        ap (λ n. result_map (items_before all) (reads_parts (settled_parts readable (parts_of (drop n ps))) n new)) (add-one i)
-        ∙ (λ j. result_map (items_before (pushed j)) (reads_parts (settled_parts readable (parts_of (drop (suc i) ps))) (suc i) (rest j)))
-        ∙ sym (more done d (reads_parts (settled_parts readable (parts_of (drop (suc i) ps))) (suc i) (behind_first old)))
-        ∙ sym (ap (λ r. result_map (items_before done) (r >>= λ v. result_map (item v) (reads_parts (settled_parts readable (parts_of (drop (suc i) ps))) (suc i) (behind_first old)))) is)
+        ap (λ n. result_map (items_before all) (parts_for reader (parts_of (drop n ps)) n new)) (add-one i)
+        ∙ (λ j. result_map (items_before (pushed j)) (parts_for reader (parts_of (drop (suc i) ps)) (suc i) (rest j)))
+        ∙ sym (more done d (parts_for reader (parts_of (drop (suc i) ps)) (suc i) (behind_first old)))
+        ∙ sym (ap (λ r. result_map (items_before done) (r >>= λ v. result_map (item v) (parts_for reader (parts_of (drop (suc i) ps)) (suc i) (behind_first old)))) is)
         ∙ due
 
     -- it is refused, or no element is left for it
-    pub parts_stop : (t : Stop Fault) → StopsAs t (next_value i (reads (settled readable s)) old) → StopsAs t total
+    pub parts_stop : (t : Stop Fault) → StopsAs t (next_value i (reads_for reader s) old) → StopsAs t total
     parts_stop t h =
         subst (λ (r : Reading MarkedItems). StopsAs t r) due
-        (stops_map t (items_before done) (next_value i (reads (settled readable s)) old >>= λ v. result_map (item v) (reads_parts (settled_parts readable (parts_of (drop (suc i) ps))) (suc i) (behind_first old)))
-        (stops_bind t (next_value i (reads (settled readable s)) old) (λ v. result_map (item v) (reads_parts (settled_parts readable (parts_of (drop (suc i) ps))) (suc i) (behind_first old))) h))
+        (stops_map t (items_before done) (next_value i (reads_for reader s) old >>= λ v. result_map (item v) (parts_for reader (parts_of (drop (suc i) ps)) (suc i) (behind_first old)))
+        (stops_bind t (next_value i (reads_for reader s) old) (λ v. result_map (item v) (parts_for reader (parts_of (drop (suc i) ps)) (suc i) (behind_first old))) h))
 
   -- no part is left
   pub parts_end : length ps ≡ i → total ≡ Ok (items_marked done)
-  parts_end e = sym so_far ∙ ap (λ qs. result_map (items_before done) (reads_parts (settled_parts readable (parts_of qs)) i old)) (drop_all i ps (omega (arith, e))) ∙ ap Ok (before-none done)
+  parts_end e = sym so_far ∙ ap (λ qs. result_map (items_before done) (parts_for reader (parts_of qs) i old)) (drop_all i ps (omega (arith, e))) ∙ ap Ok (before-none done)

@@ -1,2 +1,3 @@
 pub mod AtKey
+pub mod TreeContents
 pub mod Enums

@@ -3,20 +3,29 @@ ghost use Rattle.std.specs.Prelude.{string_bytes};
 ghost use Rattle.bson_shape.specs.Form as form;
 ghost use Rattle.bson_shape.specs.Makers.{AreDistinct, AreVariants, IsContent};
 ghost use Rattle.bson_shape.specs.ShapeView.{content_of, fields_of, parts_of, variants_of};
+ghost use Rattle.bson_shape.specs.declared.leaf.Leaf.TheVariants as leaves;
 ghost use Rattle.bson_datum.specs.MarkedView.{marked};
-ghost use Rattle.bson_laws.specs.Containers.{read_first};
-ghost use Rattle.bson_laws.specs.Reads.{reads, reads_content, reads_variant};
-ghost use Rattle.bson_laws.specs.Settled.{settled, settled_variants, settled_content};
+ghost use Rattle.bson_laws.specs.FromTree as laws;
+ghost use Rattle.bson_laws.specs.FromTree.{element_at};
+ghost use Rattle.bson_laws.specs.ReadsFrom.{reads_from, reads_for, slots_for, variant_for, content_for};
+ghost use Rattle.bson_laws.specs.Scopes.{formed_content};
+ghost use Rattle.bson_laws.specs.Variants as contents;
 ghost use Rattle.bson_met.specs.Gives.{Reaches};
+ghost use Rattle.bson_slots.specs.FieldSlots.{fields_marked};
 ghost use Rattle.bson_de.specs.AtKey.{IsAtKey};
-ghost use Rattle.bson_de.specs.Enums.{first_of, pair_of, reads_contents};
+ghost use Rattle.bson_de.specs.Enums.{element_of, first_of, pair_of, reads_contents};
+ghost use Rattle.bson_de.specs.TreeContents.{content_items_of, content_fields};
 
-use crate::structure::read_fields;
+use crate::from_tree::{
+    content_elements, filled_items, only_element, read_unit_content, tree_unit_of,
+};
+use crate::structure::{read_by_key, read_fields};
 use crate::tuple::read_parts;
-use crate::value::read_settled;
-use bson_datum::{Cause, Datum, Stop, Text, de};
+use crate::value::read_for;
+use bson_datum::{Cause, Datum, Field, Stop, Text, de};
+use bson_laws::{Origin, Reader};
 use bson_leaves::{unit_of, variant_of};
-use bson_met::{Elements, Met, Reading, Step, Value, refused};
+use bson_met::{Elements, Items, Met, Reading, Step, Value, refused};
 use bson_shape::{FieldShape, Shape, VariantContent, VariantShape};
 use bson_slots::named_struct_variant;
 use std::alloc::Global;
@@ -26,41 +35,67 @@ use std::alloc::Global;
 #[inline(never)]
 pub(crate) fn read_enum<'de>(
     alloc: Global,
-    readable: bool,
+    reader: &Reader<'_>,
     variants: &[VariantShape],
     value: &Met<'de>,
 ) -> Reading<Datum<'de>>
     requires { AreVariants (variants_of variants.now) }
     ensures exact { Reaches marked result
-        (reads (settled readable (form.enumeration (variants_of variants.now))) value.now) }
+        (reads_for reader.now (form.enumeration (variants_of variants.now)) value.now) }
 {
     match value.judge(alloc)? {
         Value::String(name) => {
             let name = name.to_text(alloc)?;
-            unit_of(alloc, variants, name.as_str())
+            unit_named(alloc, reader.origin, variants, name.as_str())
         }
         other => {
             let elements = other.document(alloc)?;
-            read_variant(alloc, readable, variants, elements)
+            read_variant(alloc, reader, variants, elements)
         }
     }
 }
 
-/// The variant that the first key of a document names, with its contents. Further elements stay unread.
+/// The unit variant that a text names.
+fn unit_named<'de>(
+    alloc: Global,
+    origin: Origin,
+    variants: &[VariantShape],
+    name: &str,
+) -> Reading<Datum<'de>>
+    ensures exact { Reaches marked result
+        (laws.unit_named origin name.now (contents.content_of (variants_of variants.now) name.now)) }
+{
+    match origin {
+        Origin::Bytes => unit_of(alloc, variants, name),
+        Origin::Tree => tree_unit_of(alloc, variants, name),
+    }
+}
+
+/// The variant that the first key of a document names, with its contents. In bytes further elements stay unread; in a tree there is none.
 #[cycle(read)]
 fn read_variant<'de>(
     alloc: Global,
-    readable: bool,
+    reader: &Reader<'_>,
     variants: &[VariantShape],
     elements: Elements<'de>,
 ) -> Reading<Datum<'de>>
     requires { AreVariants (variants_of variants.now) }
     ensures exact { Reaches marked result
-        (read_first (reads_variant (settled_variants readable (variants_of variants.now))) elements.entry) }
+        (element_at reader.now.origin (variant_for reader.now (variants_of variants.now)) elements.entry) }
 {
-    let step = first_element(alloc, elements)?;
+    let step = naming_element(alloc, reader.origin, elements)?;
     let variant = variant_of(alloc, variants, step.key.text)?;
-    read_content(alloc, readable, variant, &step)
+    read_content(alloc, reader, variant, &step)
+}
+
+/// The element that names the variant: the first one of a document, which in a tree is the only one.
+fn naming_element<'de>(alloc: Global, origin: Origin, elements: Elements<'de>) -> Reading<Step<'de>>
+    ensures { Reaches pair_of result (element_of origin elements.entry) }
+{
+    match origin {
+        Origin::Bytes => first_element(alloc, elements),
+        Origin::Tree => only_element(alloc, elements),
+    }
 }
 
 /// The first element of a document.
@@ -74,44 +109,60 @@ fn first_element<'de>(alloc: Global, mut elements: Elements<'de>) -> Reading<Ste
     Err(Stop::here(alloc, de::Fault::EndOfStream))
 }
 
-/// The variant with its contents, which are the value of an element. A unit variant has none, and is refused before the value is
+/// The variant with its contents, which are the value of an element. In bytes a unit variant has none, and is refused before the value is
 /// looked at.
 #[cycle(read)]
 fn read_content<'de>(
     alloc: Global,
-    readable: bool,
+    reader: &Reader<'_>,
     variant: &VariantShape,
     step: &Step<'de>,
 ) -> Reading<Datum<'de>>
     requires { IsContent (content_of variant.now.content) }
     ensures exact { Reaches marked result
-        (reads_content (string_bytes variant.now.name) (settled_content readable (content_of variant.now.content)) step.now.value) }
+        (content_for reader.now (string_bytes variant.now.name) (content_of variant.now.content) step.now.value) }
 {
     let name = variant.name.as_str();
     let value = &step.value;
     match &variant.content {
-        VariantContent::Unit => Err(refused(alloc, Cause::UnitInDocument)),
+        VariantContent::Unit => unit_content(alloc, reader.origin, name, value),
         VariantContent::Newtype(shape) => {
             at_key(
                 name,
-                read_newtype_variant(alloc, readable, name, shape, value),
+                read_newtype_variant(alloc, reader, name, shape, value),
             )
         }
         VariantContent::Tuple(parts) => at_key(
             name,
-            read_tuple_variant(alloc, readable, name, parts, value),
+            read_tuple_variant(alloc, reader, name, parts, value),
         ),
         VariantContent::Struct(fields) => {
             at_key(
                 name,
-                read_struct_variant(alloc, readable, name, fields, value),
+                read_struct_variant(alloc, reader, name, fields, value),
             )
         }
     }
 }
 
+/// What is under the name of a unit variant: refused in bytes, dropped in a tree.
+fn unit_content<'de>(
+    alloc: Global,
+    origin: Origin,
+    name: &str,
+    value: &Met<'de>,
+) -> Reading<Datum<'de>>
+    ensures exact { Reaches marked result
+        (laws.unit_content_at origin name.now (reads_from origin (form.leaf leaves.Bson) value.now)) }
+{
+    match origin {
+        Origin::Bytes => Err(refused(alloc, Cause::UnitInDocument)),
+        Origin::Tree => read_unit_content(alloc, name, value),
+    }
+}
+
 /// What is read of the value at a key, seen from the document that has the key.
-fn at_key<'de>(key: &str, reading: Reading<Datum<'de>>) -> Reading<Datum<'de>>
+pub(crate) fn at_key<'de>(key: &str, reading: Reading<Datum<'de>>) -> Reading<Datum<'de>>
     ensures { IsAtKey key.now reading.entry result }
 {
     match reading {
@@ -124,15 +175,15 @@ fn at_key<'de>(key: &str, reading: Reading<Datum<'de>>) -> Reading<Datum<'de>>
 #[cycle(read)]
 fn read_newtype_variant<'de>(
     alloc: Global,
-    readable: bool,
+    reader: &Reader<'_>,
     name: &str,
     shape: &Shape,
     value: &Met<'de>,
 ) -> Reading<Datum<'de>>
     ensures exact { Reaches marked result
-        (reads_contents name.now (settled_content readable (form.newtype_content shape.now)) value.now) }
+        (reads_contents reader.now.origin name.now (formed_content reader.now (form.newtype_content shape.now)) value.now) }
 {
-    let value = read_settled(alloc, readable, shape, value)?;
+    let value = read_for(alloc, reader, shape, value)?;
     let value = Box::new(alloc, value)?;
     let variant = Text::Owned(String::from_str(alloc, name)?);
     Ok(Datum::NewtypeVariant { variant, value })
@@ -142,33 +193,77 @@ fn read_newtype_variant<'de>(
 #[cycle(read)]
 fn read_tuple_variant<'de>(
     alloc: Global,
-    readable: bool,
+    reader: &Reader<'_>,
     name: &str,
     parts: &[Shape],
     value: &Met<'de>,
 ) -> Reading<Datum<'de>>
     ensures exact { Reaches marked result
-        (reads_contents name.now (settled_content readable (form.tuple_content (parts_of parts.now))) value.now) }
+        (reads_contents reader.now.origin name.now (formed_content reader.now (form.tuple_content (parts_of parts.now))) value.now) }
 {
-    let elements = value.array(alloc)?;
-    let items = read_parts(alloc, readable, parts, elements)?;
+    let elements = content_items(alloc, reader.origin, value)?;
+    let items = read_parts(alloc, reader, parts, elements)?;
     let variant = Text::Owned(String::from_str(alloc, name)?);
     Ok(Datum::TupleVariant { variant, items })
+}
+
+/// The elements of the array that is the contents of a tuple variant.
+fn content_items<'de>(alloc: Global, origin: Origin, value: &Met<'de>) -> Reading<Items<'de>>
+    ensures exact { Reaches (λ e. e) result (content_items_of origin value.now) }
+{
+    match origin {
+        Origin::Bytes => value.array(alloc),
+        Origin::Tree => filled_items(alloc, value),
+    }
 }
 
 /// The struct variant of this name with these fields.
 #[cycle(read)]
 fn read_struct_variant<'de>(
     alloc: Global,
-    readable: bool,
+    reader: &Reader<'_>,
     name: &str,
     fields: &[FieldShape],
     value: &Met<'de>,
 ) -> Reading<Datum<'de>>
     requires { AreDistinct (fields_of fields.now) }
     ensures exact { Reaches marked result
-        (reads_contents name.now (settled_content readable (form.struct_content (fields_of fields.now))) value.now) }
+        (reads_contents reader.now.origin name.now (formed_content reader.now (form.struct_content (fields_of fields.now))) value.now) }
 {
-    let fields = read_fields(alloc, readable, fields, value)?;
+    let fields = read_content_fields(alloc, reader, fields, value)?;
     Ok(named_struct_variant(alloc, name, fields)?)
+}
+
+/// The fields of a struct variant with their values.
+#[cycle(read)]
+fn read_content_fields<'de>(
+    alloc: Global,
+    reader: &Reader<'_>,
+    fields: &[FieldShape],
+    value: &Met<'de>,
+) -> Reading<Vec<Field<'de>>>
+    requires { AreDistinct (fields_of fields.now) }
+    ensures exact { Reaches (λ v. fields_marked v.items) result
+        (content_fields reader.now.origin (slots_for reader.now (fields_of fields.now)) value.now) }
+{
+    match reader.origin {
+        Origin::Bytes => read_fields(alloc, reader, fields, value),
+        Origin::Tree => read_tree_fields(alloc, reader, fields, value),
+    }
+}
+
+/// The same of a value of a tree, which is a document.
+#[cycle(read)]
+fn read_tree_fields<'de>(
+    alloc: Global,
+    reader: &Reader<'_>,
+    fields: &[FieldShape],
+    value: &Met<'de>,
+) -> Reading<Vec<Field<'de>>>
+    requires { AreDistinct (fields_of fields.now) }
+    ensures exact { Reaches (λ v. fields_marked v.items) result
+        (content_fields Origin.Tree (slots_for reader.now (fields_of fields.now)) value.now) }
+{
+    let elements = content_elements(alloc, value)?;
+    read_by_key(alloc, reader, false, fields, elements)
 }

@@ -2,10 +2,11 @@
 #![tactic(auto)]
 
 mod enumeration;
+mod from_tree;
 mod leaf;
 mod map;
 mod structure;
 mod tuple;
 mod value;
 
-pub use value::read_value;
+pub use value::{read_for, read_value};

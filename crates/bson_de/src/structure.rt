@@ -5,8 +5,7 @@ ghost use Rattle.bson_shape.specs.ShapeView.{fields_of};
 ghost use Rattle.bson_datum.specs.Cause.{unknown_field};
 ghost use Rattle.bson_datum.specs.MarkedView.{marked};
 ghost use Rattle.bson_laws.specs.Judged.{refused};
-ghost use Rattle.bson_laws.specs.Reads.{reads, slots_of};
-ghost use Rattle.bson_laws.specs.Settled.{settled, settled_fields};
+ghost use Rattle.bson_laws.specs.ReadsFrom.{reads_for, slots_for};
 ghost use Rattle.bson_laws.specs.Slots as laws;
 ghost use Rattle.bson_met.specs.Gives.{Reaches};
 ghost use Rattle.bson_met.specs.PieceView.{str_piece};
@@ -15,8 +14,9 @@ ghost use Rattle.bson_slots.specs.SlotsView.{slots_view};
 ghost use Rattle.bson_slots.specs.FieldsRead.{unknown_of, fields_read, fields_by_key};
 
 use crate::tuple::read_next;
-use crate::value::read_settled;
+use crate::value::read_for;
 use bson_datum::{Cause, Datum, Field};
+use bson_laws::Reader;
 use bson_met::{Elements, Items, Met, Reading, Step, Value, refused};
 use bson_shape::FieldShape;
 use bson_slots::{NameIndex, Slots, named_field, named_struct};
@@ -28,16 +28,16 @@ use std::alloc::Global;
 #[inline(never)]
 pub(crate) fn read_struct<'de>(
     alloc: Global,
-    readable: bool,
+    reader: &Reader<'_>,
     name: &str,
     fields: &[FieldShape],
     value: &Met<'de>,
 ) -> Reading<Datum<'de>>
     requires { AreDistinct (fields_of fields.now) }
     ensures exact { Reaches marked result
-        (reads (settled readable (form.structure form.dropped name.now (fields_of fields.now))) value.now) }
+        (reads_for reader.now (form.structure form.dropped name.now (fields_of fields.now)) value.now) }
 {
-    let fields = read_fields(alloc, readable, fields, value)?;
+    let fields = read_fields(alloc, reader, fields, value)?;
     Ok(named_struct(alloc, name, fields)?)
 }
 
@@ -46,17 +46,17 @@ pub(crate) fn read_struct<'de>(
 #[inline(never)]
 pub(crate) fn read_closed_struct<'de>(
     alloc: Global,
-    readable: bool,
+    reader: &Reader<'_>,
     name: &str,
     fields: &[FieldShape],
     value: &Met<'de>,
 ) -> Reading<Datum<'de>>
     requires { AreDistinct (fields_of fields.now) }
     ensures exact { Reaches marked result
-        (reads (settled readable (form.structure form.denied name.now (fields_of fields.now))) value.now) }
+        (reads_for reader.now (form.structure form.denied name.now (fields_of fields.now)) value.now) }
 {
     let elements = value.document(alloc)?;
-    let fields = read_by_key(alloc, readable, true, fields, elements)?;
+    let fields = read_by_key(alloc, reader, true, fields, elements)?;
     Ok(named_struct(alloc, name, fields)?)
 }
 
@@ -64,37 +64,38 @@ pub(crate) fn read_closed_struct<'de>(
 #[cycle(read)]
 pub(crate) fn read_fields<'de>(
     alloc: Global,
-    readable: bool,
+    reader: &Reader<'_>,
     fields: &[FieldShape],
     value: &Met<'de>,
 ) -> Reading<Vec<Field<'de>>>
     requires { AreDistinct (fields_of fields.now) }
-    ensures exact { Reaches (λ v. fields_marked v.items) result (fields_read (slots_of (settled_fields readable (fields_of fields.now))) value.now) }
+    ensures exact { Reaches (λ v. fields_marked v.items) result (fields_read (slots_for reader.now (fields_of fields.now)) value.now) }
 {
     match value.judge(alloc)? {
-        Value::Array(array) => read_by_place(alloc, readable, fields, Items::of_array(array)),
+        Value::Array(array) => read_by_place(alloc, reader, fields, Items::of_array(array)),
         other => {
             let elements = other.document(alloc)?;
-            read_by_key(alloc, readable, false, fields, elements)
+            read_by_key(alloc, reader, false, fields, elements)
         }
     }
 }
 
 /// The fields with their values from the elements of a document, for a struct that is closed or not.
 #[cycle(read)]
-fn read_by_key<'de>(
+pub(crate) fn read_by_key<'de>(
     alloc: Global,
-    readable: bool,
+    reader: &Reader<'_>,
     closed: bool,
     fields: &[FieldShape],
     mut elements: Elements<'de>,
 ) -> Reading<Vec<Field<'de>>>
     requires { AreDistinct (fields_of fields.now) }
     ensures exact { Reaches (λ v. fields_marked v.items) result
-        (fields_by_key (unknown_of closed) (slots_of (settled_fields readable (fields_of fields.now))) elements.entry) }
+        (fields_by_key (unknown_of closed) (slots_for reader.now (fields_of fields.now)) elements.entry) }
 {
     let mut index = NameIndex::new(fields);
-    let mut slots = Slots::new(alloc, fields, readable)?;
+    // The slots have both at one lifetime, so each is borrowed again for them.
+    let mut slots = Slots::new(alloc, &*fields, &*reader)?;
     let mut step = elements.start();
     'step: while elements.advance(alloc, &mut step)? {
         fill_one(alloc, closed, &step, &mut index, &mut slots)?;
@@ -114,6 +115,7 @@ fn fill_one<'de>(
     requires { slots.old.fields.now ≡ index.old.items.now }
     ensures items { index.new.items ≡ index.old.items }
     ensures kept { slots.new.fields ≡ slots.old.fields }
+    ensures reader { slots.new.reader ≡ slots.old.reader }
     ensures exact { Reaches (λ _. slots_view slots.new) result
         (laws.put_at (unknown_of closed) (str_piece step.now.key).bytes step.now.value (slots_view slots.old)) }
 {
@@ -126,8 +128,8 @@ fn fill_one<'de>(
         let cause = Cause::DuplicateField(String::from_str(alloc, key)?);
         return Err(refused(alloc, cause));
     }
-    let (shape, readable) = (&fields[place].shape, slots.readable);
-    match read_settled(alloc, readable, shape, &step.value) {
+    let (shape, reader) = (&fields[place].shape, slots.reader);
+    match read_for(alloc, reader, shape, &step.value) {
         Ok(value) => {
             slots.put(alloc, place, value)?;
             Ok(())
@@ -167,16 +169,16 @@ fn deny(alloc: Global, key: &str) -> Reading<()>
 #[inline(never)]
 fn read_by_place<'de>(
     alloc: Global,
-    readable: bool,
+    reader: &Reader<'_>,
     fields: &[FieldShape],
     mut elements: Items<'de>,
 ) -> Reading<Vec<Field<'de>>>
     ensures exact { Reaches (λ v. fields_marked v.items) result
-        (laws.reads_places 0 (slots_of (settled_fields readable (fields_of fields.now))) elements.entry) }
+        (laws.reads_places 0 (slots_for reader.now (fields_of fields.now)) elements.entry) }
 {
     let mut values = Vec::new(alloc);
     for (place, field) in fields.iter().enumerate() {
-        let value = read_next(alloc, readable, &field.shape, place as u64, &mut elements)?;
+        let value = read_next(alloc, reader, &field.shape, place as u64, &mut elements)?;
         values.push(named_field(alloc, field.name.as_str(), value)?)?;
     }
     Ok(values)

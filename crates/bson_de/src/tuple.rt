@@ -3,14 +3,14 @@ ghost use Rattle.std.specs.Prelude.{◌≡◌, IfOk};
 ghost use Rattle.bson_shape.specs.Form as form;
 ghost use Rattle.bson_shape.specs.ShapeView.{parts_of};
 ghost use Rattle.bson_datum.specs.MarkedView.{marked};
-ghost use Rattle.bson_laws.specs.Reads.{reads, reads_parts};
-ghost use Rattle.bson_laws.specs.Settled.{settled, settled_parts};
+ghost use Rattle.bson_laws.specs.ReadsFrom.{reads_for, parts_for};
 ghost use Rattle.bson_met.specs.Gives.{Reaches};
 ghost use Rattle.bson_texts.specs.ListsMarked.{items_marked};
 ghost use Rattle.bson_slots.specs.NextValue.{next_value, behind_first};
 
 use crate::value::read_item;
 use bson_datum::{Datum, Text};
+use bson_laws::Reader;
 use bson_met::{Items, Met, Reading};
 use bson_shape::Shape;
 use bson_slots::due;
@@ -21,14 +21,14 @@ use std::alloc::Global;
 #[inline(never)]
 pub(crate) fn read_tuple<'de>(
     alloc: Global,
-    readable: bool,
+    reader: &Reader<'_>,
     parts: &[Shape],
     value: &Met<'de>,
 ) -> Reading<Datum<'de>>
-    ensures exact { Reaches marked result (reads (settled readable (form.tuple (parts_of parts.now))) value.now) }
+    ensures exact { Reaches marked result (reads_for reader.now (form.tuple (parts_of parts.now)) value.now) }
 {
     let elements = value.array(alloc)?;
-    let items = read_parts(alloc, readable, parts, elements)?;
+    let items = read_parts(alloc, reader, parts, elements)?;
     Ok(Datum::Tuple(items))
 }
 
@@ -37,16 +37,16 @@ pub(crate) fn read_tuple<'de>(
 #[inline(never)]
 pub(crate) fn read_tuple_struct<'de>(
     alloc: Global,
-    readable: bool,
+    reader: &Reader<'_>,
     name: &str,
     parts: &[Shape],
     value: &Met<'de>,
 ) -> Reading<Datum<'de>>
     ensures exact { Reaches marked result
-        (reads (settled readable (form.tuple_structure name.now (parts_of parts.now))) value.now) }
+        (reads_for reader.now (form.tuple_structure name.now (parts_of parts.now)) value.now) }
 {
     let elements = value.array(alloc)?;
-    let items = read_parts(alloc, readable, parts, elements)?;
+    let items = read_parts(alloc, reader, parts, elements)?;
     let name = Text::Owned(String::from_str(alloc, name)?);
     Ok(Datum::TupleStruct { name, items })
 }
@@ -55,16 +55,16 @@ pub(crate) fn read_tuple_struct<'de>(
 #[cycle(read)]
 pub(crate) fn read_parts<'de>(
     alloc: Global,
-    readable: bool,
+    reader: &Reader<'_>,
     parts: &[Shape],
     mut elements: Items<'de>,
 ) -> Reading<Vec<Datum<'de>>>
     ensures exact { Reaches (λ v. items_marked v.items) result
-        (reads_parts (settled_parts readable (parts_of parts.now)) 0 elements.entry) }
+        (parts_for reader.now (parts_of parts.now) 0 elements.entry) }
 {
     let mut values = Vec::new(alloc);
     for (place, part) in parts.iter().enumerate() {
-        let value = read_next(alloc, readable, part, place as u64, &mut elements)?;
+        let value = read_next(alloc, reader, part, place as u64, &mut elements)?;
         values.push(value)?;
     }
     Ok(values)
@@ -74,14 +74,14 @@ pub(crate) fn read_parts<'de>(
 #[cycle(read)]
 pub(crate) fn read_next<'de>(
     alloc: Global,
-    readable: bool,
+    reader: &Reader<'_>,
     shape: &Shape,
     index: u64,
     elements: &mut Items<'de>,
 ) -> Reading<Datum<'de>>
     ensures rest { IfOk result (λ _. elements.new ≡ behind_first elements.old) }
-    ensures value { Reaches marked result (next_value index (reads (settled readable shape.now)) elements.old) }
+    ensures value { Reaches marked result (next_value index (reads_for reader.now shape.now) elements.old) }
 {
     let value = due(alloc, index, elements)?;
-    read_item(alloc, readable, shape, index, &value)
+    read_item(alloc, reader, shape, index, &value)
 }

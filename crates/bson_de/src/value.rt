@@ -1,10 +1,13 @@
-ghost use Rattle.std.specs.Prelude.{false, true};
+ghost use Rattle.std.specs.Prelude.{false};
 ghost use Rattle.bson_shape.specs.Form as form;
+ghost use Rattle.bson_shape.specs.ShapeView.{fields_of};
 ghost use Rattle.bson_datum.specs.MarkedView.{marked};
 ghost use Rattle.bson_datum.specs.Refusal.{under_index};
 ghost use Rattle.bson_laws.specs.Containers.{reads_items};
 ghost use Rattle.bson_laws.specs.Reads.{reads};
+ghost use Rattle.bson_laws.specs.ReadsFrom.{reads_for};
 ghost use Rattle.bson_laws.specs.Settled.{settled};
+ghost use Rattle.bson_laws.specs.Unrolled.{whole};
 ghost use Rattle.bson_met.specs.Gives.{Reaches};
 ghost use Rattle.bson_texts.specs.ListsMarked.{items_marked};
 
@@ -13,81 +16,112 @@ use crate::leaf::read_leaf_at;
 use crate::map::read_map;
 use crate::structure::{read_closed_struct, read_struct};
 use crate::tuple::{read_tuple, read_tuple_struct};
-use bson_datum::{Datum, Text};
+use bson_datum::{Cause, Datum, Text};
+use bson_laws::{Origin, Reader};
 use bson_leaves::null;
-use bson_met::{Items, Met, Reading};
-use bson_shape::{Form, Shape};
+use bson_met::{Items, Met, Reading, refused};
+use bson_shape::{FieldShape, Form, Shape};
 use bson_slots::due_shape;
 use std::alloc::Global;
 
-/// The value at a shape, for a reader who is not human: of a document in its bytes (`Met::of_document`), of a tree (`Met::of_tree`), or of what is inside one.
+/// The value at a shape, for a reader who is not human: of a document in its bytes (`Met::of_document`), or of what is inside one.
 ///
-/// What is borrowed is a part of the input; of a tree nothing is borrowed.
+/// What is borrowed is a part of the input.
 ///
 /// # Errors
 ///
 /// `Stop::Refused` with the cause and the segments of the path so far: those of `from_slice_at` of `bson_de_raw`, but for the faults of a whole document's
 /// length and last byte. `Stop::NoMemory` where memory ran out. `de::Error::from_stop` makes an error of it.
 pub fn read_value<'de>(alloc: Global, shape: &Shape, value: &Met<'de>) -> Reading<Datum<'de>>
-    ensures exact { Reaches marked result (reads (settled false shape.now) value.now) }
+    ensures exact { Reaches marked result (reads (settled false (whole shape.now)) value.now) }
 {
-    read_settled(alloc, false, shape, value)
+    read_for(alloc, &Reader::new(false, Origin::Bytes), shape, value)
 }
 
-/// The value at a shape, for a reader who is human or not.
+/// The value at a shape, for a reader who is human or not, in the definitions around it: of bytes, or of a tree in memory (`Met::of_tree`), from which nothing
+/// is borrowed.
+///
+/// # Errors
+///
+/// As [`read_value`]. From a tree these differ:
+///
+/// - `NotBorrowed`: at `str` and `bytes` every value.
+/// - `EmptyEnum` and `ExtraKey`: at an enum a document that has not exactly one key. The contents of a unit variant are read at `bson` and dropped.
+/// - `EndOfStream`: at an enum a String that is the name of a variant with contents.
+/// - `InvalidType`: at the contents of a tuple variant an empty Array, as `Null`; at those of a struct variant any value but a Document.
+/// - Those of `raw_from_bson` of `bson_raw_builder` at `rawdoc`, `rawarray` and `rawbson`.
 #[cycle(read)]
-pub(crate) fn read_settled<'de>(
+pub fn read_for<'de>(
     alloc: Global,
-    readable: bool,
+    reader: &Reader<'_>,
     shape: &Shape,
     value: &Met<'de>,
 ) -> Reading<Datum<'de>>
-    ensures exact { Reaches marked result (reads (settled readable shape.now) value.now) }
+    ensures exact { Reaches marked result (reads_for reader.now shape.now value.now) }
 {
     shape.known();
     match shape.form() {
-        Form::Leaf(leaf) => read_leaf_at(alloc, leaf, value),
-        Form::Option(inner) => read_option(alloc, readable, inner, value),
-        Form::Lossy(inner) => read_mended(alloc, readable, inner, value),
-        Form::Readable(inner) => read_human_readable(alloc, inner, value),
+        Form::Leaf(leaf) => read_leaf_at(alloc, reader.origin, leaf, value),
+        Form::Option(inner) => read_option(alloc, reader, inner, value),
+        Form::Lossy(inner) => read_mended(alloc, reader, inner, value),
+        Form::Readable(inner) => read_human_readable(alloc, reader, inner, value),
         Form::Mode(human, compact) => {
-            read_settled(alloc, readable, due_shape(readable, human, compact), value)
+            let shape = due_shape(reader.readable, human, compact);
+            read_for(alloc, reader, shape, value)
         }
-        Form::Seq(item) => read_sequence(alloc, readable, item, value),
-        Form::Map(key, item) => read_map(alloc, readable, key, item, value),
-        Form::Tuple(parts) => read_tuple(alloc, readable, parts, value),
-        Form::TupleStruct(name, parts) => read_tuple_struct(alloc, readable, name, parts, value),
-        Form::Newtype(name, inner) => read_newtype(alloc, readable, name, inner, value),
+        Form::Seq(item) => read_sequence(alloc, reader, item, value),
+        Form::Map(key, item) => read_map(alloc, reader, key, item, value),
+        Form::Tuple(parts) => read_tuple(alloc, reader, parts, value),
+        Form::TupleStruct(name, parts) => read_tuple_struct(alloc, reader, name, parts, value),
+        Form::Newtype(name, inner) => read_newtype(alloc, reader, name, inner, value),
         Form::UnitStruct(name) => read_unit_struct(alloc, name, value),
-        Form::Struct(name, fields) => read_struct(alloc, readable, name, fields, value),
+        Form::Struct(name, fields) => read_struct(alloc, reader, name, fields, value),
         Form::ClosedStruct(name, fields) => {
-            read_closed_struct(alloc, readable, name, fields, value)
+            read_closed_struct(alloc, reader, name, fields, value)
         }
-        Form::Enum(variants) => read_enum(alloc, readable, variants, value),
+        Form::Enum(variants) => read_enum(alloc, reader, variants, value),
+        Form::Reference(name) => read_reference(alloc, reader, name, value),
+        Form::Definitions(table, inner) => { read_definitions(alloc, reader, table, inner, value) }
     }
 }
 
-/// The value at this shape, with its texts mended.
+/// The value at this shape, with its texts mended; those of a tree are texts as they are.
 #[cycle(read)]
 #[inline(never)]
 fn read_mended<'de>(
     alloc: Global,
-    readable: bool,
+    reader: &Reader<'_>,
     inner: &Shape,
     value: &Met<'de>,
 ) -> Reading<Datum<'de>>
-    ensures exact { Reaches marked result (reads (settled readable (form.lossy inner.now)) value.now) }
+    ensures exact { Reaches marked result (reads_for reader.now (form.lossy inner.now) value.now) }
 {
-    read_settled(alloc, readable, inner, &value.mended())
+    match reader.origin {
+        Origin::Bytes => read_for(alloc, reader, inner, &value.mended()),
+        Origin::Tree => read_for(alloc, reader, inner, value),
+    }
 }
 
 /// The value at this shape for a reader who is human, in the newtype that marks it as such.
 #[cycle(read)]
 #[inline(never)]
-fn read_human_readable<'de>(alloc: Global, inner: &Shape, value: &Met<'de>) -> Reading<Datum<'de>>
-    ensures exact { Reaches marked result (reads (form.human_readable (settled true inner.now)) value.now) }
+fn read_human_readable<'de>(
+    alloc: Global,
+    reader: &Reader<'_>,
+    inner: &Shape,
+    value: &Met<'de>,
+) -> Reading<Datum<'de>>
+    ensures exact { Reaches marked result (reads_for reader.now (form.human_readable inner.now) value.now) }
 {
-    read_newtype(alloc, true, "$__bson_private_human_readable", inner, value)
+    let human = Reader {
+        readable: true,
+        origin: reader.origin,
+        table: reader.table,
+        rounds: reader.rounds,
+        steps: reader.steps,
+    };
+    let name = "$__bson_private_human_readable";
+    read_newtype(alloc, &human, name, inner, value)
 }
 
 /// The value at an option whose value has this shape. Of a null the kind alone is looked at.
@@ -95,16 +129,16 @@ fn read_human_readable<'de>(alloc: Global, inner: &Shape, value: &Met<'de>) -> R
 #[inline(never)]
 fn read_option<'de>(
     alloc: Global,
-    readable: bool,
+    reader: &Reader<'_>,
     inner: &Shape,
     value: &Met<'de>,
 ) -> Reading<Datum<'de>>
-    ensures exact { Reaches marked result (reads (settled readable (form.optional inner.now)) value.now) }
+    ensures exact { Reaches marked result (reads_for reader.now (form.optional inner.now) value.now) }
 {
     if value.is_null() {
         return Ok(Datum::None);
     }
-    let value = read_settled(alloc, readable, inner, value)?;
+    let value = read_for(alloc, reader, inner, value)?;
     Ok(Datum::Some(Box::new(alloc, value)?))
 }
 
@@ -113,14 +147,14 @@ fn read_option<'de>(
 #[inline(never)]
 fn read_newtype<'de>(
     alloc: Global,
-    readable: bool,
+    reader: &Reader<'_>,
     name: &str,
     inner: &Shape,
     value: &Met<'de>,
 ) -> Reading<Datum<'de>>
-    ensures exact { Reaches marked result (reads (settled readable (form.newtype name.now inner.now)) value.now) }
+    ensures exact { Reaches marked result (reads_for reader.now (form.newtype name.now inner.now) value.now) }
 {
-    let value = read_settled(alloc, readable, inner, value)?;
+    let value = read_for(alloc, reader, inner, value)?;
     let value = Box::new(alloc, value)?;
     let name = Text::Owned(String::from_str(alloc, name)?);
     Ok(Datum::NewtypeStruct { name, value })
@@ -136,19 +170,63 @@ fn read_unit_struct<'de>(alloc: Global, name: &str, value: &Met<'de>) -> Reading
     Ok(Datum::UnitStruct { name })
 }
 
+/// The value at a shape in these definitions.
+#[cycle(read)]
+#[inline(never)]
+fn read_definitions<'de>(
+    alloc: Global,
+    reader: &Reader<'_>,
+    table: &[FieldShape],
+    inner: &Shape,
+    value: &Met<'de>,
+) -> Reading<Datum<'de>>
+    ensures exact { Reaches marked result
+        (reads_for reader.now (form.definitions (fields_of table.now) inner.now) value.now) }
+{
+    read_for(alloc, &reader.inside(table), inner, value)
+}
+
+/// The value at a reference of this name, which is read at its definition.
+#[cycle(read)]
+#[inline(never)]
+fn read_reference<'de>(
+    alloc: Global,
+    reader: &Reader<'_>,
+    name: &str,
+    value: &Met<'de>,
+) -> Reading<Datum<'de>>
+    ensures exact { Reaches marked result (reads_for reader.now (form.reference name.now) value.now) }
+{
+    match reader.definition(name) {
+        Some(definition) => read_for(alloc, &definition.reader, definition.shape, value),
+        None => no_definition(alloc, name, value),
+    }
+}
+
+/// The value at a reference of this name, which has no definition: it is judged, and refused.
+#[cold]
+#[inline(never)]
+fn no_definition<'de>(alloc: Global, name: &str, value: &Met<'de>) -> Reading<Datum<'de>>
+    ensures exact { Reaches marked result (reads (form.reference name.now) value.now) }
+{
+    value.judge(alloc)?;
+    let cause = Cause::UnknownReference(String::from_str(alloc, name)?);
+    Err(refused(alloc, cause))
+}
+
 /// The value at a sequence whose items have this shape.
 #[cycle(read)]
 #[inline(never)]
 fn read_sequence<'de>(
     alloc: Global,
-    readable: bool,
+    reader: &Reader<'_>,
     item: &Shape,
     value: &Met<'de>,
 ) -> Reading<Datum<'de>>
-    ensures exact { Reaches marked result (reads (settled readable (form.sequence item.now)) value.now) }
+    ensures exact { Reaches marked result (reads_for reader.now (form.sequence item.now) value.now) }
 {
     let elements = value.array(alloc)?;
-    let items = read_items(alloc, readable, item, elements)?;
+    let items = read_items(alloc, reader, item, elements)?;
     Ok(Datum::Seq(items))
 }
 
@@ -156,18 +234,18 @@ fn read_sequence<'de>(
 #[cycle(read)]
 fn read_items<'de>(
     alloc: Global,
-    readable: bool,
+    reader: &Reader<'_>,
     item: &Shape,
     mut elements: Items<'de>,
 ) -> Reading<Vec<Datum<'de>>>
     ensures exact { Reaches (λ v. items_marked v.items) result
-        (reads_items (reads (settled readable item.now)) 0 elements.entry) }
+        (reads_items (reads_for reader.now item.now) 0 elements.entry) }
 {
     let mut items = Vec::new(alloc);
     let mut index = 0;
     let mut value = elements.start();
     'step: while elements.advance(alloc, &mut value)? {
-        items.push(read_item(alloc, readable, item, index, &value)?)?;
+        items.push(read_item(alloc, reader, item, index, &value)?)?;
         index += 1;
     }
     Ok(items)
@@ -177,14 +255,14 @@ fn read_items<'de>(
 #[cycle(read)]
 pub(crate) fn read_item<'de>(
     alloc: Global,
-    readable: bool,
+    reader: &Reader<'_>,
     shape: &Shape,
     index: u64,
     value: &Met<'de>,
 ) -> Reading<Datum<'de>>
-    ensures exact { Reaches marked result (under_index index (reads (settled readable shape.now) value.now)) }
+    ensures exact { Reaches marked result (under_index index (reads_for reader.now shape.now value.now)) }
 {
-    match read_settled(alloc, readable, shape, value) {
+    match read_for(alloc, reader, shape, value) {
         Ok(value) => Ok(value),
         Err(stop) => Err(stop.under_index(index)),
     }

@@ -3,7 +3,7 @@ use Rattle.std.proofs.Common.{◌≡◌, Some, Result, Ok, Err, refl, ap, ◌∙
 use Rattle.bson_base.specs.Sound.{IsSound}
 use Rattle.bson_base.specs.Text.{Bytes}
 use Rattle.bson_base.specs.Tree.{Tree, enc}
-use Rattle.bson_shape.specs.Form.{Form}
+use Rattle.bson_shape.specs.Form.{Form, no_fields}
 use Rattle.bson_shape.specs.Makers.{IsShape}
 use Rattle.bson_datum.specs.Refusal.{ReadFault, Failure, no_memory, bare, placed}
 use Rattle.bson_datum.specs.ErrorView.{read_failure}
@@ -11,7 +11,7 @@ use Rattle.bson_datum.specs.Value.{Value}
 use Rattle.bson_datum.specs.View.{view}
 use Rattle.bson_datum.specs.declared.datum.Datum.{Datum}
 use Rattle.bson_datum.specs.declared.de.Error.{Error}
-use Rattle.bson_laws.specs.Fits.{Fits}
+use Rattle.bson_laws.specs.Recursive.{FitsIn}
 use Rattle.bson_laws.specs.Means.{means, norm}
 use Rattle.bson_laws.specs.Plain.{IsPlain}
 use Rattle.bson_base.specs.Outcome.{result_map}
@@ -19,8 +19,7 @@ use Rattle.bson_datum.specs.Marked.{Marked, contents}
 use Rattle.bson_datum.specs.MarkedView.{marked}
 use Rattle.bson_datum.proofs.Marks.{marked-contents}
 use Rattle.bson_laws.specs.Reads.{reads_document, reads_marked}
-use Rattle.bson_laws.proofs.Fitted.{views_means}
-use Rattle.bson_laws.proofs.ReadBack.{views_reads}
+use Rattle.bson_laws.proofs.AtShapes.{means_read}
 use Rattle.bson_de_raw.specs.Gives.{FailsAs, Gives, GivesValue}
 use Rattle.bson_de_raw.specs.ReadsLossy.{reads_lossy_marked, reads_lossy}
 
@@ -30,7 +29,7 @@ fails_for_memory no_memory v answer is h = refl
 fails_for_memory (bare f) v answer is h = absurd cc
 fails_for_memory (placed path f) v answer is h = absurd cc
 
-gives_value : (v : Value) (r : Result Datum Error) (answer : Result Value (Failure ReadFault)) → answer ≡ Ok v → Gives view r answer → GivesValue v r
+pub gives_value : (v : Value) (r : Result Datum Error) (answer : Result Value (Failure ReadFault)) → answer ≡ Ok v → Gives view r answer → GivesValue v r
 gives_value v (Ok d) answer is h = cc
 gives_value v (Err e) answer is h = fails_for_memory (read_failure e) v answer is h
 
@@ -50,6 +49,6 @@ gives_document s bytes r h = gives_without r (reads_marked s bytes) h
 pub gives_lossy : (s : Form) (bytes : Bytes) (r : Result Datum Error) → Gives marked r (reads_lossy_marked s bytes) → Gives view r (reads_lossy s bytes)
 gives_lossy s bytes r h = gives_without r (reads_lossy_marked s bytes) h
 
-pub read_back : (s : Form) (bytes : Bytes) (v : Value) (t : Tree) (r : Result Datum Error) → IsShape s → IsPlain s → Fits v s → means v ≡ Some t → IsSound t → bytes ≡ enc t → Gives marked r (reads_marked s bytes) → GivesValue (norm v) r
+pub read_back : (s : Form) (bytes : Bytes) (v : Value) (t : Tree) (r : Result Datum Error) → IsShape s → IsPlain s → FitsIn no_fields v s → means v ≡ Some t → IsSound t → bytes ≡ enc t → Gives marked r (reads_marked s bytes) → GivesValue (norm v) r
 read_back s bytes v t r shape plain fits mean sound is exact =
-    gives_value (norm v) r (reads_document s bytes) (ap (reads_document s) is ∙ views_reads s t (norm v) shape plain sound (views_means v s t plain fits mean sound.clean)) (gives_document s bytes r exact)
+    gives_value (norm v) r (reads_document s bytes) (ap (reads_document s) is ∙ means_read s v t shape plain fits mean sound) (gives_document s bytes r exact)

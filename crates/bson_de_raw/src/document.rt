@@ -3,7 +3,8 @@ ghost use Rattle.bson_base.specs.Sound.{IsSound};
 ghost use Rattle.bson_base.specs.Tree.{Tree, enc};
 ghost use Rattle.bson_datum.specs.MarkedView.{marked};
 ghost use Rattle.bson_datum.specs.Value.{Value};
-ghost use Rattle.bson_laws.specs.Fits.{Fits};
+ghost use Rattle.bson_shape.specs.Form.{no_fields};
+ghost use Rattle.bson_laws.specs.Recursive.{FitsIn};
 ghost use Rattle.bson_laws.specs.Means.{means, norm};
 ghost use Rattle.bson_laws.specs.Plain.{IsPlain};
 ghost use Rattle.bson_laws.specs.Reads.{reads_marked};
@@ -100,6 +101,7 @@ use std::alloc::Global;
 ///   - `BadBody`: the value of a wrapper key, or a String at `oid` or `uuid`, stands for nothing.
 ///   - `UnknownField`: at a closed struct a key that is the name of none of its fields; its value is not looked at. Behind `$code` or
 ///     `$scope`, as the first wrapper key of a document, a key that is not the other of the two.
+///   - `UnknownReference`: at a reference whose name the innermost definitions around it lack.
 ///   - `WrongKind`: at the shape of an extended kind, what was read as a tree is of another kind than the shape takes, or,
 ///     at `uuid`, a binary that is no UUID.
 ///   - `Subtype`: at `uuid` a Binary of this subtype, which is not 4.
@@ -108,7 +110,7 @@ pub fn from_slice_at<'de>(alloc: Global, shape: &Shape, bytes: &'de [u8]) -> de:
     // The value, and which of its texts and byte strings are borrowed.
     ensures exact { Gives marked result (reads_marked shape.now bytes.now) }
     // The document that a value of a plain shape means is read back as the normal form of the value.
-    ensures read_back { (v : Value) (t : Tree) → IsPlain shape.now → Fits v shape.now → means v ≡ Some t → IsSound t
+    ensures read_back { (v : Value) (t : Tree) → IsPlain shape.now → FitsIn no_fields v shape.now → means v ≡ Some t → IsSound t
         → bytes.now ≡ enc t → GivesValue (norm v) result }
 {
     shape.known();

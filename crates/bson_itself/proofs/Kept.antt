@@ -13,7 +13,7 @@ use Rattle.bson_base.specs.declared.element_type.ElementType.{ElementType}
 use Rattle.bson_base.specs.declared.element_type.ElementType.TheVariants.{EmbeddedDocument, Array, JavaScriptCodeWithScope}
 use Rattle.bson_rawdoc.specs.Node as node
 use Rattle.bson_rawdoc.specs.Envelope.{is_closed}
-use Rattle.bson_rawdoc.specs.Node.{from_input, Node, Nodes, too_deep, nodes_with, node_in, tree_node}
+use Rattle.bson_rawdoc.specs.Node.{of_bytes, from_input, Node, Nodes, too_deep, nodes_with, node_in, tree_node}
 use Rattle.bson_rawdoc.specs.Piece.{borrowed, made}
 use Rattle.bson_rawdoc.specs.Walk.{walk}
 use Rattle.bson_rawdoc.specs.declared.raw.Error.{Error}
@@ -199,13 +199,13 @@ framed_kept s k v zero b read spelled one = absurd (omega (arith, one))
 framed_kept s k v (suc m) b read spelled one = record { given = v; tree = tree.raw k b; read = read m; spelled = spelled m; kind_is = refl; encoded = refl }
 
 -- a document that is closed, and an array
-closed_document : (m : ℕ) (b : Bytes) (read : Node → Reading Marked) (v : Marked) → is_closed b ≡ true → ((ns : Nodes) → read (node.document (Some b) ns) ≡ Ok v) → (judged (node_in (suc m) EmbeddedDocument b) >>= read) ≡ Ok v
+closed_document : (m : ℕ) (b : Bytes) (read : Node → Reading Marked) (v : Marked) → is_closed b ≡ true → ((ns : Nodes) → read (node.document (of_bytes b) ns) ≡ Ok v) → (judged (node_in (suc m) EmbeddedDocument b) >>= read) ≡ Ok v
 closed_document m b read v closed each =
-    let ns = nodes_with (node_in m) (walk b) in ap (λ c. judged (cond c (node.document (Some b) ns) (node.broken EmbeddedDocument ValueUnclosed)) >>= read) closed ∙ each ns
+    let ns = nodes_with (node_in m) (walk b) in ap (λ c. judged (cond c (node.document (of_bytes b) ns) (node.broken EmbeddedDocument ValueUnclosed)) >>= read) closed ∙ each ns
 
-closed_array : (m : ℕ) (b : Bytes) (read : Node → Reading Marked) (v : Marked) → is_closed b ≡ true → ((ns : Nodes) → read (node.array (Some b) ns) ≡ Ok v) → (judged (node_in (suc m) Array b) >>= read) ≡ Ok v
+closed_array : (m : ℕ) (b : Bytes) (read : Node → Reading Marked) (v : Marked) → is_closed b ≡ true → ((ns : Nodes) → read (node.array (of_bytes b) ns) ≡ Ok v) → (judged (node_in (suc m) Array b) >>= read) ≡ Ok v
 closed_array m b read v closed each =
-    let ns = nodes_with (node_in m) (walk b) in ap (λ c. judged (cond c (node.array (Some b) ns) (node.broken Array ValueUnclosed)) >>= read) closed ∙ each ns
+    let ns = nodes_with (node_in m) (walk b) in ap (λ c. judged (cond c (node.array (of_bytes b) ns) (node.broken Array ValueUnclosed)) >>= read) closed ∙ each ns
 
 pub raw_document_kept : (levels : ℕ) (b : Bytes) → 1 ≤ levels → is_closed b ≡ true → IsWrittenAsRead (leaf leaves.RawDocument) levels EmbeddedDocument b
 raw_document_kept levels b one closed =

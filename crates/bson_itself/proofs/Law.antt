@@ -1,13 +1,13 @@
 -- The law at `any`: a tree of its own form is read as a value that is written as this tree, so its bytes are written as they are.
-use Rattle.std.proofs.Common.{◌≡◌, ℕ, zero, suc, List, [], ◌∷◌, ◌++◌, length, false, cond, Option, Some, Ok, Err, refl, ap, sym, subst, ◌∙◌, arith}
+use Rattle.std.proofs.Common.{◌≡◌, ℕ, zero, suc, List, [], ◌∷◌, ◌++◌, length, false, cond, Ok, Err, refl, ap, sym, subst, ◌∙◌, arith}
 use Rattle.std.proofs.lemmas.Bool.{le-ltb}
 use Rattle.bson_base.specs.Outcome.{◌>>=◌, result_map}
 use Rattle.bson_base.specs.Sound.{max_binary}
-use Rattle.bson_base.specs.Text.{Bytes, Utf8}
+use Rattle.bson_base.specs.Text.{Utf8}
 use Rattle.bson_base.specs.Tree as tree
 use Rattle.bson_base.specs.Tree.{Tree, double, string, document, array, binary, boolean, null, int32, int64, Pairs, no_pairs, pair, Trees, no_trees, enc, behind_subtype}
 use Rattle.bson_rawdoc.specs.Node as node
-use Rattle.bson_rawdoc.specs.Node.{from_input, Node, Nodes, tree_node, pair_nodes, tree_nodes}
+use Rattle.bson_rawdoc.specs.Node.{Whole, of_bytes, from_input, Node, Nodes, tree_node, pair_nodes, tree_nodes}
 use Rattle.bson_datum.specs.Value as value
 use Rattle.bson_datum.specs.Value.{str, no_items, item, no_entries, entry}
 use Rattle.bson_datum.specs.Marked.{Marked, MarkedItems, MarkedEntries, contents, item_contents, entry_contents}
@@ -82,10 +82,10 @@ pub record AreSameEntries (ns : Nodes) (ps : Pairs) (before : List Utf8) (levels
 abbrev pub AtLevel : Tree → ℕ → Type 0
 AtLevel t levels = IsSame (tree_node from_input t levels) t levels
 
-items_of : (slice : Option Bytes) (ns : Nodes) (ts : Trees) (m : ℕ) → AreSameItems ns ts 0 m → IsSame (node.array slice ns) (array ts) (suc m)
+items_of : (slice : Whole) (ns : Nodes) (ts : Trees) (m : ℕ) → AreSameItems ns ts 0 m → IsSame (node.array slice ns) (array ts) (suc m)
 items_of slice ns ts m h = record { given = value.sequence h.given; read = ap (result_map value.sequence) h.read; spelled = ap (result_map array) h.spelled }
 
-entries_of : (slice : Option Bytes) (ns : Nodes) (ps : Pairs) (m : ℕ) → AreSameEntries ns ps [] m → IsSame (node.document slice ns) (document ps) (suc m)
+entries_of : (slice : Whole) (ns : Nodes) (ps : Pairs) (m : ℕ) → AreSameEntries ns ps [] m → IsSame (node.document slice ns) (document ps) (suc m)
 entries_of slice ns ps m h = record { given = value.map h.given; read = ap (result_map value.map) (h.read no_entries refl); spelled = ap (result_map document) h.spelled }
 
 mutual
@@ -93,9 +93,9 @@ mutual
   same_tree (double b) levels h = record { given = value.double b; read = refl; spelled = refl }
   same_tree (string t) levels h = record { given = str (borrowed t); read = rw h refl; spelled = refl }
   same_tree (document ps) zero h = absurd h
-  same_tree (document ps) (suc m) h = entries_of (Some (enc (document ps))) (pair_nodes from_input ps m) ps m (same_pairs ps [] m h tt)
+  same_tree (document ps) (suc m) h = entries_of (of_bytes (enc (document ps))) (pair_nodes from_input ps m) ps m (same_pairs ps [] m h tt)
   same_tree (array ts) zero h = absurd h
-  same_tree (array ts) (suc m) h = items_of (Some (enc (array ts))) (tree_nodes from_input 0 ts m) ts m (same_trees ts 0 m h)
+  same_tree (array ts) (suc m) h = items_of (of_bytes (enc (array ts))) (tree_nodes from_input 0 ts m) ts m (same_trees ts 0 m h)
   same_tree (binary zero b) levels h = record { given = value.bytes (borrowed b); read = refl; spelled = ap (λ c. cond c (Err (here (unwritable (binary_too_long (length (behind_subtype 0 b)))))) (Ok (binary 0 b))) (le-ltb (max_binary 0) (length b) h.1.fits) }
   same_tree (binary (suc n) b) levels h = absurd (omega (arith, h.0))
   same_tree (boolean b) levels h = record { given = value.boolean b; read = refl; spelled = refl }

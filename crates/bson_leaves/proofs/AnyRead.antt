@@ -5,7 +5,7 @@ use Rattle.bson_base.specs.Outcome.{◌>>=◌, result_map}
 use Rattle.bson_base.proofs.Outcomes.{bind_ok}
 use Rattle.bson_base.specs.declared.element_type.ElementType.{ElementType}
 use Rattle.bson_base.specs.declared.element_type.ElementType.TheVariants as kinds
-use Rattle.bson_rawdoc.specs.Node.{Node, document, array, extended, Nodes, ended, faulty, then_node, nodes_with, node_in, inner_node, value_node}
+use Rattle.bson_rawdoc.specs.Node.{of_bytes, Node, document, array, extended, Nodes, ended, faulty, then_node, nodes_with, node_in, inner_node, value_node}
 use Rattle.bson_rawdoc.specs.Piece.{Piece, borrowed}
 use Rattle.bson_rawdoc.specs.RawValue as raws
 use Rattle.bson_rawdoc.specs.RawValue.{RawValue, value_in}
@@ -48,10 +48,10 @@ any_entries_are (then_node k n ns) es =
 -- ---- values of the input
 
 -- the values in an array of the input, where a level is left for it
-pub array_within : (levels : ℕ) (b : Bytes) → 0 < levels → inner_node levels kinds.Array b ≡ array (Some b) (nodes_with (node_in (levels - 1)) (walk b))
+pub array_within : (levels : ℕ) (b : Bytes) → 0 < levels → inner_node levels kinds.Array b ≡ array (of_bytes b) (nodes_with (node_in (levels - 1)) (walk b))
 array_within levels b some = let e : levels ≡ suc (levels - 1) = omega (arith, some) in ap (λ l. inner_node l kinds.Array b) e
 
-pub document_within : (levels : ℕ) (b : Bytes) → 0 < levels → inner_node levels kinds.EmbeddedDocument b ≡ document (Some b) (nodes_with (node_in (levels - 1)) (walk b))
+pub document_within : (levels : ℕ) (b : Bytes) → 0 < levels → inner_node levels kinds.EmbeddedDocument b ≡ document (of_bytes b) (nodes_with (node_in (levels - 1)) (walk b))
 document_within levels b some = let e : levels ≡ suc (levels - 1) = omega (arith, some) in ap (λ l. inner_node l kinds.EmbeddedDocument b) e
 
 -- an array and a document of the input as values

@@ -13,7 +13,7 @@ use Rattle.bson_base.specs.declared.element_type.ElementType.{ElementType}
 use Rattle.bson_base.specs.declared.element_type.ElementType.TheVariants as kinds
 use Rattle.bson_rawdoc.specs.Envelope.{is_closed, inside}
 use Rattle.bson_rawdoc.specs.Extent.{two_texts_in}
-use Rattle.bson_rawdoc.specs.Node.{Node, string, boolean, broken, too_deep, extended, Extended, regular_expression, db_pointer, javascript_code, symbol, javascript_code_with_scope, or_else, text_fault, fault, from_memory, one_level, tree_node, pair_nodes, extended_fault, opens, binary_node, or_broken, text_bytes, two_bytes, db_pointer_bytes, scoped_bytes, node_with, nodes_with, holding, closed_node, node_in, inner_node, value_node, mended}
+use Rattle.bson_rawdoc.specs.Node.{of_tree, of_bytes, Node, string, boolean, broken, too_deep, extended, Extended, regular_expression, db_pointer, javascript_code, symbol, javascript_code_with_scope, or_else, text_fault, fault, from_memory, one_level, tree_node, pair_nodes, extended_fault, opens, binary_node, or_broken, text_bytes, two_bytes, db_pointer_bytes, scoped_bytes, node_with, nodes_with, holding, closed_node, node_in, inner_node, value_node, mended}
 use Rattle.bson_rawdoc.specs.Numbers.{int32_in}
 use Rattle.bson_rawdoc.specs.Piece.{Piece, borrowed, made}
 use Rattle.bson_rawdoc.specs.RawValue as raw
@@ -72,7 +72,7 @@ text_none t e = cond-true (is_utf8 t) None (Some NotUtf8) e
 neither_fault : (o p : Option Error) → o ≡ None → p ≡ None → or_else o p ≡ None
 neither_fault o p e f = ap (λ x. or_else x p) e ∙ f
 
-pub pairs_whole : (ps : Pairs) (levels : ℕ) → fault (one_level kinds.EmbeddedDocument None (pair_nodes from_memory ps) levels) ≡ None
+pub pairs_whole : (ps : Pairs) (levels : ℕ) → fault (one_level kinds.EmbeddedDocument (of_tree (tree.document ps)) (pair_nodes from_memory ps) levels) ≡ None
 pairs_whole ps zero = refl
 pairs_whole ps (suc levels) = refl
 
@@ -88,7 +88,7 @@ tree_whole (tree.db_pointer namespace id) levels h = text_none namespace h
 tree_whole (tree.javascript_code t) levels h = text_none t h
 tree_whole (tree.symbol t) levels h = text_none t h
 tree_whole (tree.javascript_code_with_scope code scope) levels h =
-    neither_fault (text_fault (made code)) (fault (one_level kinds.EmbeddedDocument None (pair_nodes from_memory scope) levels)) (text_none code h) (pairs_whole scope levels)
+    neither_fault (text_fault (made code)) (fault (one_level kinds.EmbeddedDocument (of_tree (tree.document scope)) (pair_nodes from_memory scope) levels)) (text_none code h) (pairs_whole scope levels)
 tree_whole (tree.raw k b) levels h = absurd h
 tree_whole t levels h = refl
 
@@ -194,7 +194,7 @@ module _ (inner : ElementType → Bytes → Node) (whole : (k : ElementType) (b 
   unjudged_seen kinds.MaxKey b = refl
   unjudged_seen kinds.MinKey b = refl
 
-holding_whole : (levels : ℕ) (k : ElementType) (b : Bytes) → fault (holding k (Some b) (nodes_with (node_in levels) (walk b))) ≡ None
+holding_whole : (levels : ℕ) (k : ElementType) (b : Bytes) → fault (holding k (of_bytes b) (nodes_with (node_in levels) (walk b))) ≡ None
 holding_whole levels kinds.EmbeddedDocument b = refl
 holding_whole levels k b = refl
 

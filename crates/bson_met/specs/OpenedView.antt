@@ -1,12 +1,13 @@
 -- What contracts see of values of kinds that serde's data model lacks, and of what is left of the documents that they are opened to.
-use Rattle.std.specs.Prelude.{ℕ, pos, true, false, codes, [], ◌∷◌, None}
+use Rattle.std.specs.Prelude.{ℕ, pos, true, false, codes, [], ◌∷◌}
 use Rattle.bson_base.specs.BsonView.{pairs_of}
 use Rattle.bson_base.specs.Instant.{millis}
+use Rattle.bson_base.specs.Tree as trees
 use Rattle.bson_base.specs.declared.element_type.ElementType.TheVariants.{EmbeddedDocument}
 use Rattle.bson_rawdoc.specs.DocumentView.{document_bytes}
 use Rattle.bson_base.specs.Made.{digits, number_text, base64_text}
 use Rattle.bson_rawdoc.specs.Node as node
-use Rattle.bson_rawdoc.specs.Node.{from_memory, Node, Nodes, one, two, made_document, made_text, opened, inner_node, one_level, pair_nodes}
+use Rattle.bson_rawdoc.specs.Node.{of_tree, from_memory, Node, Nodes, one, two, made_document, made_text, opened, inner_node, one_level, pair_nodes}
 use Rattle.bson_rawdoc.specs.Piece.{made}
 use Rattle.bson_met.specs.Seen.{seen}
 use Rattle.bson_met.specs.PieceView.{met_bytes, met_text}
@@ -24,7 +25,7 @@ use Rattle.bson_met.specs.declared.opened.Made.TheVariants as mades
 -- the names of a scope, with so many levels left for them
 abbrev pub names_node : ℕ → Names → Node
 names_node levels (Bytes d) = inner_node levels EmbeddedDocument (document_bytes d)
-names_node levels (Pairs d) = one_level EmbeddedDocument None (pair_nodes from_memory (pairs_of d.now)) levels
+names_node levels (Pairs d) = one_level EmbeddedDocument (of_tree (trees.document (pairs_of d.now))) (pair_nodes from_memory (pairs_of d.now)) levels
 
 abbrev pub scope_node : Scope → Node
 scope_node s = seen s.mends (names_node s.levels s.names)

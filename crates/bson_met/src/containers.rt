@@ -1,14 +1,17 @@
 // Documents and arrays as a reader meets them, before their elements are looked at.
-ghost use Rattle.std.specs.Prelude.{◌≡◌, None};
+ghost use Rattle.std.specs.Prelude.{◌≡◌};
+ghost use Rattle.std.specs.Option.{option_map};
 ghost use Rattle.bson_base.specs.BsonView.{pairs_of, trees_of};
+ghost use Rattle.bson_base.specs.Tree as trees;
 ghost use Rattle.bson_base.specs.declared.element_type.ElementType.TheVariants as kinds;
 ghost use Rattle.bson_rawdoc.specs.DocumentView.{array_bytes, document_bytes};
 ghost use Rattle.bson_rawdoc.specs.Node as node;
-ghost use Rattle.bson_rawdoc.specs.Node.{from_memory, inner_node, made_document, one_level, pair_nodes, tree_nodes};
+ghost use Rattle.bson_rawdoc.specs.Node.{of_tree, from_memory, inner_node, made_document, one_level, pair_nodes, tree_nodes};
 ghost use Rattle.bson_rawdoc.specs.Piece.{borrowed};
 ghost use Rattle.bson_laws.specs.Judged.{with_level};
 ghost use Rattle.bson_laws.specs.ReadsRaw.{slice_of};
-ghost use Rattle.bson_met.specs.ContainerView.{array_node, array_slice, document_node, document_slice};
+ghost use Rattle.bson_laws.specs.TreeRaw.{held_whole};
+ghost use Rattle.bson_met.specs.ContainerView.{array_node, array_whole, document_node, document_whole, is_opening};
 ghost use Rattle.bson_met.specs.Gives.{Reaches};
 ghost use Rattle.bson_met.specs.OpenedView.{opened_nodes};
 
@@ -87,7 +90,7 @@ impl<'de> MetDocument<'de> {
         document: &'de Document,
     ) -> Reading<MetDocument<'de>>
         ensures { Reaches document_node result
-            (with_level (one_level kinds.EmbeddedDocument None (pair_nodes from_memory (pairs_of document.now)) levels)) }
+            (with_level (one_level kinds.EmbeddedDocument (of_tree (trees.document (pairs_of document.now))) (pair_nodes from_memory (pairs_of document.now)) levels)) }
     {
         if levels == 0 {
             return Err(refused(alloc, Cause::TooDeep));
@@ -122,10 +125,30 @@ impl<'de> MetDocument<'de> {
         }
     }
 
+    /// The document of a tree in memory that it is.
+    pub fn tree(&self) -> Option<&'de Document>
+        ensures tree { option_map (λ d. trees.document (pairs_of d.now)) result ≡ held_whole (document_whole self.now) }
+    {
+        match self.place {
+            DocumentPlace::Pairs(document) => Some(document),
+            DocumentPlace::Bytes(_) | DocumentPlace::Opened(_) => None,
+        }
+    }
+
+    /// Whether a value is opened to it, or to a document that it is in.
+    pub fn is_opened(&self) -> bool
+        ensures opened { result ≡ is_opening (document_whole self.now) }
+    {
+        match self.place {
+            DocumentPlace::Opened(_) => true,
+            DocumentPlace::Bytes(_) | DocumentPlace::Pairs(_) => false,
+        }
+    }
+
     /// The document in its bytes, where they are in the input. Nothing in them is mended.
     #[inline(always)]
     pub fn borrow(self, alloc: Global) -> Reading<RawDocument<'de>>
-        ensures borrowed { Reaches (λ d. borrowed (document_bytes d)) result (slice_of (document_slice self.entry)) }
+        ensures borrowed { Reaches (λ d. borrowed (document_bytes d)) result (slice_of (document_whole self.entry)) }
     {
         match self.place {
             DocumentPlace::Bytes(document) => Ok(document),
@@ -164,7 +187,7 @@ impl<'de> MetArray<'de> {
         values: &'de Vec<Bson>,
     ) -> Reading<MetArray<'de>>
         ensures { Reaches array_node result
-            (with_level (one_level kinds.Array None (tree_nodes from_memory 0 (trees_of values.now.items)) levels)) }
+            (with_level (one_level kinds.Array (of_tree (trees.array (trees_of values.now.items))) (tree_nodes from_memory 0 (trees_of values.now.items)) levels)) }
     {
         if levels == 0 {
             return Err(refused(alloc, Cause::TooDeep));
@@ -188,10 +211,20 @@ impl<'de> MetArray<'de> {
         }
     }
 
+    /// The values of the array of a tree in memory that it is.
+    pub fn tree(&self) -> Option<&'de Vec<Bson>>
+        ensures tree { option_map (λ v. trees.array (trees_of v.now.items)) result ≡ held_whole (array_whole self.now) }
+    {
+        match self.place {
+            ArrayPlace::Values(values) => Some(values),
+            ArrayPlace::Bytes(_) => None,
+        }
+    }
+
     /// The array in its bytes, where they are in the input. Nothing in them is mended.
     #[inline(always)]
     pub fn borrow(self, alloc: Global) -> Reading<RawArray<'de>>
-        ensures borrowed { Reaches (λ a. borrowed (array_bytes a)) result (slice_of (array_slice self.entry)) }
+        ensures borrowed { Reaches (λ a. borrowed (array_bytes a)) result (slice_of (array_whole self.entry)) }
     {
         match self.place {
             ArrayPlace::Bytes(array) => Ok(array),

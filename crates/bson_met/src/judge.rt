@@ -1,10 +1,11 @@
 // Values, judged.
-ghost use Rattle.std.specs.Prelude.{◌≡◌, true, false, None, Ok, string_bytes};
+ghost use Rattle.std.specs.Prelude.{◌≡◌, true, false, Ok, string_bytes};
 ghost use Rattle.std.specs.Str.{is_utf8};
 ghost use Rattle.bson_base.specs.BsonView.{tree_of, pairs_of};
+ghost use Rattle.bson_base.specs.Tree as trees;
 ghost use Rattle.bson_base.specs.declared.element_type.ElementType.TheVariants as kinds;
 ghost use Rattle.bson_rawdoc.specs.DocumentView.{document_bytes};
-ghost use Rattle.bson_rawdoc.specs.Node.{from_memory, node_in, inner_node, value_node, one_level, pair_nodes, tree_node};
+ghost use Rattle.bson_rawdoc.specs.Node.{of_tree, from_memory, node_in, inner_node, value_node, one_level, pair_nodes, tree_node};
 ghost use Rattle.bson_rawdoc.specs.JsonKinds.{is_of_json};
 ghost use Rattle.bson_rawdoc.specs.Piece.{borrowed, made};
 ghost use Rattle.bson_rawdoc.specs.RawValue.{kind_of, value_in};
@@ -73,7 +74,7 @@ fn judge_document<'de>(
 /// A document of a tree.
 fn judge_pairs<'de>(alloc: Global, levels: u32, document: &'de Document) -> Reading<Value<'de>>
     ensures { Reaches value_view result
-        (judged (one_level kinds.EmbeddedDocument None (pair_nodes from_memory (pairs_of document.now)) levels)) }
+        (judged (one_level kinds.EmbeddedDocument (of_tree (trees.document (pairs_of document.now))) (pair_nodes from_memory (pairs_of document.now)) levels)) }
 {
     let document = MetDocument::in_pairs(alloc, levels, document)?;
     Ok(Value::Document(document))

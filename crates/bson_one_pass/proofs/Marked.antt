@@ -13,7 +13,7 @@ use Rattle.bson_laws.specs.Judged.{Reading}
 use Rattle.bson_laws.specs.Owned.{IsOwned}
 use Rattle.bson_laws.specs.Spell.{spell}
 use Rattle.bson_laws.proofs.MarkedNodes.{IsMarked, node_marked, seen_marked}
-use Rattle.bson_laws.proofs.MarkedReads.{marked_reads, document_marked}
+use Rattle.bson_laws.proofs.AtShapes.{value_marked, document_marked}
 use Rattle.bson_one_pass.specs.Put.{of_writing, recast_by, recast_node, IsPut}
 use Rattle.bson_one_pass.specs.Recast.{IsRecastAs}
 use Rattle.bson_one_pass.specs.Run.{IsKept}
@@ -22,7 +22,7 @@ marked_put : (s : Form) (levels : ℕ) (n : Node) (old new : Bytes) (k : Element
 marked_put s levels n old new k owned marked put = by_read (reads s n) refl put where
   by_read : (r : Reading Marked) → reads s n ≡ r → IsPut (recast_by (λ v. spell (contents v) levels) r) old new k → IsPut (recast_node (lossy s) levels n) old new k
   by_read (Ok v) is h =
-      let again = marked_reads s n v owned marked is in
+      let again = value_marked s n v owned marked is in
       subst (λ (o : Option Tree). IsPut o old new k) (sym (ap (recast_by (λ v. spell (contents v) levels)) again.1 ∙ ap (λ x. of_writing (spell x levels)) again.2)) h
   by_read (Err e) is h = absurd h
 

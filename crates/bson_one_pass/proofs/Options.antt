@@ -1,5 +1,5 @@
 -- Values at options that are no null.
-use Rattle.std.proofs.Common.{◌≡◌, ℕ, zero, suc, [], Bool, true, false, cond, Option, Some, Result, Ok, Err, refl, sym, subst}
+use Rattle.std.proofs.Common.{◌≡◌, ℕ, zero, suc, [], Bool, true, false, cond, Option, Result, Ok, Err, refl, sym, subst}
 use Rattle.std.specs.Prelude.{get_or, drop}
 use Rattle.bson_base.specs.Outcome.{result_map}
 use Rattle.bson_base.specs.Text.{Bytes}
@@ -8,7 +8,7 @@ use Rattle.bson_base.specs.declared.element_type.ElementType.{ElementType}
 use Rattle.bson_base.specs.declared.element_type.ElementType.TheVariants as kinds
 use Rattle.bson_rawdoc.specs.Envelope.{is_closed}
 use Rattle.bson_rawdoc.specs.Extent.{two_texts_in}
-use Rattle.bson_rawdoc.specs.Node.{Node, null, string, boolean, broken, opens, regular_expression, db_pointer, javascript_code, symbol, javascript_code_with_scope, binary_node, or_broken, text_bytes, two_bytes, db_pointer_bytes, scoped_bytes, node_with, closed_node, holding, nodes_with, too_deep, node_in}
+use Rattle.bson_rawdoc.specs.Node.{of_bytes, Node, null, string, boolean, broken, opens, regular_expression, db_pointer, javascript_code, symbol, javascript_code_with_scope, binary_node, or_broken, text_bytes, two_bytes, db_pointer_bytes, scoped_bytes, node_with, closed_node, holding, nodes_with, too_deep, node_in}
 use Rattle.bson_rawdoc.specs.Node as node
 use Rattle.bson_rawdoc.specs.Numbers.{int32_in}
 use Rattle.bson_rawdoc.specs.Piece.{Piece, borrowed}
@@ -74,8 +74,8 @@ node_there : (levels : ℕ) (k : ElementType) (b : Bytes) → (k ≡ kinds.Null 
 node_there zero k b other =
     with_kind (λ c x. closed_node c x (too_deep c)) (λ x. (closed_there kinds.EmbeddedDocument (is_closed x) (too_deep kinds.EmbeddedDocument) tt, closed_there kinds.Array (is_closed x) (too_deep kinds.Array) tt)) k b other
 node_there (suc levels) k b other =
-    with_kind (λ c x. closed_node c x (holding c (Some x) (nodes_with (node_in levels) (walk x))))
-    (λ x. let ns = nodes_with (node_in levels) (walk x) in (closed_there kinds.EmbeddedDocument (is_closed x) (node.document (Some x) ns) tt, closed_there kinds.Array (is_closed x) (node.array (Some x) ns) tt)) k b other
+    with_kind (λ c x. closed_node c x (holding c (of_bytes x) (nodes_with (node_in levels) (walk x))))
+    (λ x. let ns = nodes_with (node_in levels) (walk x) in (closed_there kinds.EmbeddedDocument (is_closed x) (node.document (of_bytes x) ns) tt, closed_there kinds.Array (is_closed x) (node.array (of_bytes x) ns) tt)) k b other
 
 -- some value is written as the value
 some_by : (levels : ℕ) (r : Reading Marked) → recast_by (λ v. spell (contents v) levels) (result_map value.some r) ≡ recast_by (λ v. spell (contents v) levels) r

@@ -12,7 +12,7 @@ use Rattle.bson_base.specs.declared.element_type.ElementType.{ElementType}
 use Rattle.bson_base.specs.declared.element_type.ElementType.TheVariants as kinds
 use Rattle.bson_rawdoc.specs.Envelope.{inside, is_closed}
 use Rattle.bson_rawdoc.specs.Node as node
-use Rattle.bson_rawdoc.specs.Node.{Node, Nodes, then_node, inner_node, node_in, nodes_with}
+use Rattle.bson_rawdoc.specs.Node.{Whole, of_bytes, Node, Nodes, then_node, inner_node, node_in, nodes_with}
 use Rattle.bson_rawdoc.specs.Piece.{borrowed, made}
 use Rattle.bson_rawdoc.specs.Walk.{walk, walk_elements}
 use Rattle.bson_shape.specs.Form.{dropped, enumeration, Variants, Content, unit_content, newtype_content, tuple_content, struct_content}
@@ -27,6 +27,7 @@ use Rattle.bson_laws.specs.CompactReads.{reads, reads_parts, slots_of}
 use Rattle.bson_laws.specs.Judged.{Reading, judged}
 use Rattle.bson_laws.specs.Reads as at_settled
 use Rattle.bson_laws.specs.Settled.{settled_variants, settled_content}
+use Rattle.bson_laws.specs.Unrolled.{whole_variants, whole_content}
 use Rattle.bson_laws.specs.Slots.{read_structure}
 use Rattle.bson_laws.specs.Spell.{Writing, spell, named, variant_at}
 use Rattle.bson_laws.specs.Taken.{array_of}
@@ -43,10 +44,10 @@ variant_name v = string_bytes v.name
 
 -- a value at the variant that its key names, and at the contents of a variant
 abbrev reads_variant : Variants → Utf8 → Node → Reading Marked
-reads_variant vs = at_settled.reads_variant (settled_variants false vs)
+reads_variant vs = at_settled.reads_variant (settled_variants false (whole_variants vs))
 
 abbrev reads_content : Utf8 → Content → Node → Reading Marked
-reads_content name c = at_settled.reads_content name (settled_content false c)
+reads_content name c = at_settled.reads_content name (settled_content false (whole_content c))
 
 -- ---- the variant of a name
 
@@ -121,7 +122,7 @@ content_written name (struct_content fs) m n closed = inside_by name m (value.st
 -- ---- the whole document
 
 -- a document whose first key names a variant
-first_written : (vs : List VariantShape) (i : ℕ) (v : VariantShape) (m : ℕ) (slice : Option Bytes) (n : Node) (ns : Nodes) → i < length vs → v ≡ get_or vs i v → has_repeat (variant_names (variants_of vs)) ≡ false → has_zero (variant_name v) ≡ false
+first_written : (vs : List VariantShape) (i : ℕ) (v : VariantShape) (m : ℕ) (slice : Whole) (n : Node) (ns : Nodes) → i < length vs → v ≡ get_or vs i v → has_repeat (variant_names (variants_of vs)) ≡ false → has_zero (variant_name v) ≡ false
     → recast_node (enumeration (variants_of vs)) (suc m) (node.document slice (then_node (borrowed (variant_name v)) n ns)) ≡ option_map (pair_of (variant_name v)) (recast_content (content_of v.content) m n)
 first_written vs i v m slice n ns lt got distinct closed =
     ap (recast_by (λ v. spell (contents v) (suc m))) (variant_read vs i v n lt got distinct) ∙ content_written (variant_name v) (content_of v.content) m n closed
@@ -152,7 +153,7 @@ if_pair_put (Some x) vs v levels bytes k name b old new same names distinct put 
 -- a document that was closed behind this pair
 pub enum_put : (vs : Variants) (levels m : ℕ) (b old begun filled ended : Bytes) → levels ≡ suc m → ((b : Bytes) → filled ≡ begun ++ b → ended ≡ old ++ enclosed b) → AreInsidePut (enumeration vs) m (nodes_with (node_in m) (walk b)) begun filled
     → IsPut (recast_node (enumeration vs) levels (inner_node levels kinds.EmbeddedDocument b)) old ended kinds.EmbeddedDocument
-enum_put vs levels m b old begun filled ended e wraps h = pairs_put (enumeration vs) (Some h.0) levels m b old begun filled ended (h.1 (Some b)) e wraps h.2
+enum_put vs levels m b old begun filled ended e wraps h = pairs_put (enumeration vs) (Some h.0) levels m b old begun filled ended (h.1 (of_bytes b)) e wraps h.2
 
 -- ---- what is kept
 

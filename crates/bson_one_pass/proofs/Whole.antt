@@ -13,6 +13,7 @@ use Rattle.bson_laws.specs.Judged.{Reading}
 use Rattle.bson_laws.specs.CompactReads.{reads}
 use Rattle.bson_laws.specs.Reads.{answered, reads_document}
 use Rattle.bson_laws.specs.Spell.{Writing, spell, at_top, spell_document}
+use Rattle.bson_laws.specs.Unrolled.{whole}
 use Rattle.bson_laws.proofs.Enveloped.{document_read}
 use Rattle.bson_laws.proofs.Sizes.{spell_kind}
 use Rattle.bson_one_pass.specs.Put.{of_writing, recast_by, recast_node, IsPut}
@@ -31,4 +32,4 @@ read_by s b made (Ok v) is h few =
 
 -- a whole document that was recast
 pub document_put : (s : Form) (b d made : Bytes) → envelope b ≡ Ok d → IsPut (recast_node s max_levels (inner_node max_levels EmbeddedDocument d)) [] made EmbeddedDocument → length made ≤ max_bytes → IsRecastAs s b made
-document_put s b d made e h few = read_by s b made (reads s (inner_node max_levels EmbeddedDocument d)) (ap (result_map contents) (document_read s b d e)) h few
+document_put s b d made e h few = read_by s b made (reads s (inner_node max_levels EmbeddedDocument d)) (ap (result_map contents) (document_read (whole s) b d e)) h few

@@ -7,7 +7,7 @@ use Rattle.bson_base.specs.Tree as tree
 use Rattle.bson_base.specs.Tree.{Tree, Trees, Pairs, enc, elements, array_elements, element, kind}
 use Rattle.bson_base.specs.declared.element_type.ElementType.{ElementType}
 use Rattle.bson_rawdoc.specs.Node as node
-use Rattle.bson_rawdoc.specs.Node.{Node, Nodes}
+use Rattle.bson_rawdoc.specs.Node.{Whole, Node, Nodes}
 use Rattle.bson_shape.specs.Form.{UnknownFields, dropped, Form, leaf, tuple, structure, Parts, Content, unit_content, newtype_content, tuple_content, struct_content}
 use Rattle.bson_shape.specs.declared.leaf.Leaf.{Leaf}
 use Rattle.bson_datum.specs.Marked.{MarkedEntries, contents, item_contents, entry_contents, field_contents}
@@ -78,4 +78,4 @@ ArePairsPut o old new = ArePut elements o old new
 
 -- the elements were appended of the document that a document of these nodes is written as, in the input or not
 abbrev pub AreInsidePut : Form → (levels : ℕ) → Nodes → (old new : Bytes) → Type 0
-AreInsidePut s levels ns old new = (ps : Pairs) × ((slice : Option Bytes) → recast_node s (suc levels) (node.document slice ns) ≡ Some (tree.document ps)) × (new ≡ old ++ elements ps)
+AreInsidePut s levels ns old new = (ps : Pairs) × ((slice : Whole) → recast_node s (suc levels) (node.document slice ns) ≡ Some (tree.document ps)) × (new ≡ old ++ elements ps)

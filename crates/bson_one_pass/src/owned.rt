@@ -22,10 +22,13 @@ pub(crate) fn borrows_nothing(shape: &Shape) -> bool
         Form::Tuple(parts) => parts_borrow_nothing(parts),
         Form::TupleStruct(_, parts) => parts_borrow_nothing(parts),
         Form::Newtype(_, inner) => borrows_nothing(inner),
-        Form::UnitStruct(_) => true,
+        Form::UnitStruct(_) | Form::Reference(_) => true,
         Form::Struct(_, fields) => fields_borrow_nothing(fields),
         Form::ClosedStruct(_, fields) => fields_borrow_nothing(fields),
         Form::Enum(variants) => variants_borrow_nothing(variants),
+        Form::Definitions(table, inner) => {
+            fields_borrow_nothing(table) && borrows_nothing(inner)
+        }
     }
 }
 

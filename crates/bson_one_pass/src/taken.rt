@@ -32,7 +32,8 @@ pub(crate) fn is_taken(shape: &Shape, value: &RawBsonRef<'_>) -> bool {
             _ => false,
         },
         Form::Lossy(inner) => borrows_nothing(inner) && is_taken(inner, value),
-        Form::Readable(_) | Form::Mode(_, _) => false,
+        Form::Readable(_) | Form::Mode(_, _) | Form::Reference(_) | Form::Definitions(_, _) =>
+            false,
     }
 }
 

@@ -74,7 +74,7 @@ pub(crate) fn recast_value(
             _ => None,
         },
         Form::Lossy(inner) => recast_marked(made, inner, levels, value),
-        Form::Readable(_) | Form::Mode(_, _) => None,
+        Form::Readable(_) | Form::Mode(_, _) | Form::Reference(_) | Form::Definitions(_, _) => None,
     }
 }
 

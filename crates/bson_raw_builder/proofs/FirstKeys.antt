@@ -5,9 +5,9 @@ use Rattle.bson_base.specs.Text.{Utf8}
 use Rattle.bson_base.specs.Tree.{Tree, Pairs, pair}
 use Rattle.bson_datum.specs.Wrapper.{of_key}
 use Rattle.bson_datum.specs.declared.wrapper.Wrapper.{Wrapper}
-use Rattle.bson_assembled.specs.FirstKeys as keys
-use Rattle.bson_assembled.specs.FirstKeys.{first_key}
-use Rattle.bson_assembled.specs.Assembled.{stays, becomes, of_body, by_first_key, by_key, looked_at, built_pairs, after_code}
+use Rattle.bson_laws.specs.FirstKeys as keys
+use Rattle.bson_laws.specs.FirstKeys.{first_key}
+use Rattle.bson_laws.specs.Assembled.{stays, becomes, of_body, by_first_key, by_key, looked_at, built_pairs, after_code}
 use Rattle.bson_raw_builder.specs.FirstKeyView.{said_by, said_of}
 use Rattle.bson_raw_builder.specs.Putting.{is_body, form_of, body_built, code_built}
 use Rattle.bson_raw_builder.specs.declared.first_key.FirstKey.TheVariants.{Body, Code, Ordinary}

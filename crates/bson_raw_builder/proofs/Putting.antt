@@ -1,25 +1,23 @@
 -- What was appended so far, and what is due: elements, documents and arrays, codes with scopes.
 use Rattle.std.proofs.Common.{◌≡◌, ℕ, zero, suc, ◌+◌, ◌-◌, ◌<◌, ◌≤◌, List, get_or, [], ◌∷◌, ◌++◌, length, take, drop, true, false, cond, Option, Some, None, Ok, Err, refl, ap, sym, subst, ◌∙◌, append_assoc, true≢false, arith}
-use Rattle.std.specs.Prelude.{nat_lt, is_some}
+use Rattle.std.specs.Prelude.{is_some}
 use Rattle.std.specs.Fmt.{decimal}
-use Rattle.std.proofs.lemmas.Bool.Decides.{nat_tests}
 use Rattle.std.proofs.lemmas.List.{append-nil, length-append, take_at, drop_at, drop_more}
 use Rattle.bson_base.specs.BsonView.{tree_of, trees_of}
 use Rattle.bson_base.specs.Encoded.{key_zero}
 use Rattle.bson_base.specs.Kind.{byte}
 use Rattle.bson_base.specs.Outcome.{◌>>=◌, result_map}
-use Rattle.bson_base.specs.Sound.{max_bytes}
 use Rattle.bson_base.specs.Text.{Bytes, Utf8, has_zero}
 use Rattle.bson_base.specs.Tree.{Tree, document, array, Pairs, no_pairs, pair, Trees, no_trees, tree, kind, le32, closed_text, enclosed, element, enc, elements, array_elements}
 use Rattle.bson_base.specs.declared.bson.Bson.{Bson}
 use Rattle.bson_base.specs.declared.element_type.ElementType.{ElementType}
 use Rattle.bson_base.specs.declared.element_type.ElementType.TheVariants.{EmbeddedDocument, Array, JavaScriptCodeWithScope}
 use Rattle.bson_base.proofs.Outcomes.{map_ok, ok_is}
-use Rattle.bson_datum.specs.Cause.{Cause, bad_body, zero_byte, too_long}
+use Rattle.bson_datum.specs.Cause.{Cause, bad_body, zero_byte}
 use Rattle.bson_datum.specs.Refusal.{ReadFault, unreadable, Failure, no_memory, bare}
 use Rattle.bson_datum.specs.declared.wrapper.Wrapper.TheVariants.{Code}
-use Rattle.bson_assembled.specs.Assembled.{Building, unless, one_level, Looked, stays, becomes, looked_tree, under_key, with_pair, with_scope, raw_bytes, within_limit}
-use Rattle.bson_raw_builder.specs.Putting.{RefusesFor, with_value, looked_kind, with_looked}
+use Rattle.bson_laws.specs.Assembled.{Building, unless, one_level, Looked, stays, becomes, looked_tree, under_key, with_pair, with_scope, within_limit}
+use Rattle.bson_raw_builder.specs.Putting.{RefusesFor, with_value, looked_kind, with_looked, whole_of}
 
 -- ---- refusals
 
@@ -250,18 +248,7 @@ scope_refused old begun new k text (Err c) some e = absurd cc
 
 -- ---- whole values
 
--- one with too many bytes
-pub whole_long : (new : Bytes) (k : ElementType) (r : Building Tree) → with_value [] r ≡ Ok (k, new) → max_bytes < length new → (r >>= within_limit) ≡ Err too_long
-whole_long new k (Ok t) e long =
-    let p = first_is (kind t) k (enc t) new e in
-    let over : nat_lt max_bytes (length (enc t)) ≡ true = (let h : max_bytes < length (enc t) = omega (arith, long, ap length p.1) in grind (arith, nat_tests)) in
-    ap (λ b. cond b (Err too_long) (Ok (raw_bytes t))) over
-whole_long new k (Err c) e long = absurd cc
-
--- one with no more bytes than a document may have
-pub whole_fits : (new : Bytes) (k : ElementType) (r : Building Tree) → with_value [] r ≡ Ok (k, new) → length new ≤ max_bytes → (r >>= within_limit) ≡ Ok (record { kind = k; bytes = new })
-whole_fits new k (Ok t) e fits =
-    let p = first_is (kind t) k (enc t) new e in
-    let within : nat_lt max_bytes (length (enc t)) ≡ false = (let h : length (enc t) ≤ max_bytes = omega (arith, fits, ap length p.1) in grind (arith, nat_tests)) in
-    ap (λ b. cond b (Err too_long) (Ok (raw_bytes t))) within ∙ (λ i. Ok (record { kind = p.0 i; bytes = p.1 i }))
-whole_fits new k (Err c) e fits = absurd cc
+-- the whole that is due, by what was appended
+pub whole_built : (new : Bytes) (k : ElementType) (r : Building Tree) → with_value [] r ≡ Ok (k, new) → whole_of k new ≡ (r >>= within_limit)
+whole_built new k (Ok t) e = let p = first_is (kind t) k (enc t) new e in λ i. whole_of (sym p.0 i) (sym p.1 i)
+whole_built new k (Err c) e = absurd cc

@@ -34,7 +34,7 @@ use Rattle.bson_laws.proofs.Tame.{judged_is}
 use Rattle.bson_trees.specs.Trees.{is_raw}
 use Rattle.bson_trees.proofs.ReadKinds.{document_not_raw}
 use Rattle.bson_raw_builder.proofs.WrappedIds.{valid_is, only_oid}
-use Rattle.bson_assembled.specs.FirstKeys.{id_given, id_read}
+use Rattle.bson_laws.specs.FirstKeys.{id_given, id_read}
 
 -- ---- values in memory
 

@@ -1,8 +1,8 @@
 -- What contracts see of a first key in code.
 use Rattle.std.specs.Prelude.{Option, Some, None}
 use Rattle.bson_datum.specs.declared.wrapper.Wrapper.{Wrapper}
-use Rattle.bson_assembled.specs.FirstKeys as keys
-use Rattle.bson_assembled.specs.FirstKeys.{first_key}
+use Rattle.bson_laws.specs.FirstKeys as keys
+use Rattle.bson_laws.specs.FirstKeys.{first_key}
 use Rattle.bson_raw_builder.specs.declared.first_key.FirstKey.{FirstKey}
 use Rattle.bson_raw_builder.specs.declared.first_key.FirstKey.TheVariants.{Body, Code, Ordinary}
 

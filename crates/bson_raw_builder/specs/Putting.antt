@@ -1,18 +1,20 @@
 -- What the builder leaves: what is due, or why not.
-use Rattle.std.specs.Prelude.{◌≡◌, ℕ, ◌++◌, Bool, true, false, Option, Some, None, Result, Ok, Err}
+use Rattle.std.specs.Prelude.{◌≡◌, ℕ, ◌++◌, length, nat_lt, if◌then◌else◌, Bool, true, false, Option, Some, None, Result, Ok, Err}
 use Rattle.bson_base.specs.Encoded.{zero_fault}
 use Rattle.bson_base.specs.Folded.{text_of}
 use Rattle.bson_base.specs.Outcome.{◌>>=◌, result_map}
+use Rattle.bson_base.specs.Sound.{max_bytes}
 use Rattle.bson_base.specs.Text.{Bytes, Utf8}
 use Rattle.bson_base.specs.Tree.{Tree, Pairs, kind, enc}
 use Rattle.bson_base.specs.declared.element_type.ElementType.{ElementType}
+use Rattle.bson_datum.specs.Cause.{too_long}
 use Rattle.bson_datum.specs.ErrorView.{read_failure}
 use Rattle.bson_datum.specs.Refusal.{ReadFault, unreadable, Failure, no_memory, bare}
 use Rattle.bson_datum.specs.declared.de.Error.{Error}
 use Rattle.bson_datum.specs.declared.wrapper.Wrapper.{Wrapper}
 use Rattle.bson_datum.specs.declared.wrapper.Wrapper.TheVariants.{Code}
-use Rattle.bson_assembled.specs.Assembled.{Building, unless, Looked, stays, becomes, looked_tree, or_bad, of_body, after_code}
-use Rattle.bson_assembled.specs.FirstKeys.{FirstKey, body, first_key}
+use Rattle.bson_laws.specs.Assembled.{Building, RawBytes, unless, Looked, stays, becomes, looked_tree, or_bad, of_body, after_code}
+use Rattle.bson_laws.specs.FirstKeys.{FirstKey, body, first_key}
 
 -- the failure is the refusal that is due, without a path; nothing is said where memory ran out
 abbrev pub RefusesFor : {A : Type 0} → Failure ReadFault → Building A → Type 0
@@ -48,6 +50,10 @@ PutsLooked result old new due = Gives (λ k. (k, new)) result (with_looked old d
 -- the part that is due was appended as these bytes
 abbrev pub PutsPart : {A : Type 0} → (A → Bytes) → Result (Unit {0}) Error → (old new : Bytes) → Building A → Type 0
 PutsPart bytes result old new due = Gives (λ _. new) result (result_map (λ x. old ++ bytes x) due)
+
+-- what was appended as a whole, where it has no more bytes than a document may
+abbrev pub whole_of : ElementType → Bytes → Building RawBytes
+whole_of k b = if nat_lt max_bytes (length b) then Err too_long else Ok (record { kind = k; bytes = b })
 
 -- a part of a regular expression
 abbrev pub part_due : Utf8 → Building Utf8

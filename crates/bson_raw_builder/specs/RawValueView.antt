@@ -4,7 +4,7 @@ use Rattle.bson_base.specs.Text.{Bytes}
 use Rattle.bson_datum.specs.ByteStrView.{bytes_view}
 use Rattle.bson_datum.specs.declared.byte_str.ByteStr.{ByteStr}
 use Rattle.bson_datum.specs.declared.byte_str.ByteStr.TheVariants.{Borrowed, Owned}
-use Rattle.bson_assembled.specs.Assembled.{RawBytes}
+use Rattle.bson_laws.specs.Assembled.{RawBytes}
 use Rattle.bson_raw_builder.specs.declared.raw_value.RawValue.{RawValue}
 
 abbrev pub raw_view : RawValue → RawBytes

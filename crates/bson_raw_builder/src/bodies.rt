@@ -1,10 +1,11 @@
-// What documents become by their first keys, appended where the values of these have the forms.
+// What documents become by their first keys, where the values of these have the forms.
 ghost use Rattle.std.specs.Prelude.{◌≡◌, true, codes, IfOk};
 ghost use Rattle.std.specs.Option.{option_map};
 ghost use Rattle.bson_base.specs.BsonView.{tree_of, pairs_of};
 ghost use Rattle.bson_base.specs.Folded.{at};
-ghost use Rattle.bson_base.specs.Tree as trees;
-ghost use Rattle.bson_assembled.specs.FirstKeys.{first_key, id_in};
+ghost use Rattle.bson_laws.specs.Assembled.{plain};
+ghost use Rattle.bson_laws.specs.FirstKeys.{first_key, id_in};
+ghost use Rattle.bson_raw_builder.specs.BodyView.{body_tree};
 ghost use Rattle.bson_raw_builder.specs.Putting.{Puts, is_body, stands_for, body_built};
 
 use crate::forms::{
@@ -16,10 +17,37 @@ use crate::scalars::{
     put_binary, put_date_time, put_db_pointer, put_decimal128, put_object_id,
     put_regular_expression, put_symbol, put_timestamp,
 };
-use bson_base::{Bson, DateTime, Document, ElementType, ObjectId, Timestamp};
+use bson_base::{Bson, DateTime, Decimal128, Document, ElementType, ObjectId, Timestamp};
 use bson_datum::Wrapper;
 use bson_datum::de::Result;
 use std::alloc::{AllocError, Global};
+
+/// What the value of a document's first key stands for. Texts and bytes are those of the value.
+#[derive(Clone, Copy)]
+pub(crate) enum Body<'a> {
+    /// An ObjectId.
+    ObjectId(ObjectId),
+    /// A text of the kind Symbol.
+    Symbol(&'a str),
+    /// A decimal number.
+    Decimal128(Decimal128),
+    /// The pattern and the options of a regular expression.
+    RegularExpression(&'a str, &'a str),
+    /// The kind without a value.
+    Undefined,
+    /// The subtype and the bytes of a binary.
+    Binary(u8, &'a [u8]),
+    /// A time.
+    DateTime(DateTime),
+    /// A timestamp.
+    Timestamp(Timestamp),
+    /// The value that is less than every other.
+    MinKey,
+    /// The value that is greater than every other.
+    MaxKey,
+    /// The namespace and the id of a reference to a document.
+    DbPointer(&'a str, ObjectId),
+}
 
 /// Appends what the value of a document's first key stands for, and answers its kind.
 ///
@@ -30,134 +58,124 @@ pub(crate) fn put_body(out: &mut Vec<u8>, wrapper: Wrapper, value: &Bson) -> Res
     requires body { is_body (first_key wrapper) ≡ true }
     ensures { Puts result out.old.items out.new.items (body_built wrapper (tree_of value.now)) }
 {
+    match body_of(*out.allocator(), wrapper, value)? {
+        Some(body) => put(out, body),
+        None => Err(bad_body(wrapper)),
+    }
+}
+
+// Appends it.
+fn put(out: &mut Vec<u8>, body: Body<'_>) -> Result<ElementType>
+    ensures { Puts result out.old.items out.new.items (plain (body_tree body.entry)) }
+{
+    match body {
+        Body::ObjectId(id) => put_object_id(out, id),
+        Body::Symbol(text) => put_symbol(out, text),
+        Body::Decimal128(number) => put_decimal128(out, number),
+        Body::RegularExpression(pattern, options) => {
+            put_regular_expression(out, pattern, options)
+        }
+        Body::Undefined => Ok(ElementType::Undefined),
+        Body::Binary(subtype, bytes) => put_binary(out, subtype, bytes),
+        Body::DateTime(time) => put_date_time(out, time),
+        Body::Timestamp(timestamp) => put_timestamp(out, timestamp),
+        Body::MinKey => Ok(ElementType::MinKey),
+        Body::MaxKey => Ok(ElementType::MaxKey),
+        Body::DbPointer(namespace, id) => put_db_pointer(out, namespace, id),
+    }
+}
+
+/// What the value stands for under this first key; none where it has not the form.
+///
+/// # Errors
+///
+/// Memory ran out.
+pub(crate) fn body_of(
+    alloc: Global,
+    wrapper: Wrapper,
+    value: &Bson,
+) -> std::result::Result<Option<Body<'_>>, AllocError>
+    requires body { is_body (first_key wrapper) ≡ true }
+    ensures { IfOk result (λ o. option_map body_tree o ≡ stands_for wrapper (tree_of value.now)) }
+{
     match wrapper {
-        Wrapper::Oid => object_id(out, value),
-        Wrapper::Symbol => symbol(out, value),
-        Wrapper::NumberDecimalBytes => decimal128(out, value),
-        Wrapper::RegularExpression => regular_expression(out, value),
-        Wrapper::Undefined if is_boolean(value) => Ok(ElementType::Undefined),
-        Wrapper::Binary => binary(out, value),
-        Wrapper::Date => date_time(out, value),
-        Wrapper::Timestamp => timestamp(out, value),
-        Wrapper::MinKey if is_in_int32(value) => Ok(ElementType::MinKey),
-        Wrapper::MaxKey if is_in_int32(value) => Ok(ElementType::MaxKey),
-        Wrapper::DbPointer => db_pointer(out, value),
-        Wrapper::Undefined | Wrapper::MinKey | Wrapper::MaxKey => Err(bad_body(wrapper)),
+        Wrapper::Oid => Ok(object_id(value)),
+        Wrapper::Symbol => Ok(symbol(value)),
+        Wrapper::NumberDecimalBytes => Ok(decimal128(value)),
+        Wrapper::RegularExpression => Ok(regular_expression(value)),
+        Wrapper::Undefined if is_boolean(value) => Ok(Some(Body::Undefined)),
+        Wrapper::Binary => Ok(binary(value)),
+        Wrapper::Date => Ok(date_time(value)),
+        Wrapper::Timestamp => Ok(timestamp(value)),
+        Wrapper::MinKey if is_in_int32(value) => Ok(Some(Body::MinKey)),
+        Wrapper::MaxKey if is_in_int32(value) => Ok(Some(Body::MaxKey)),
+        Wrapper::DbPointer => db_pointer(alloc, value),
+        Wrapper::Undefined | Wrapper::MinKey | Wrapper::MaxKey => Ok(None),
         _ => unreachable!(),
     }
 }
 
 // A text of 24 hexadecimal digits, or twelve bytes.
-fn object_id(out: &mut Vec<u8>, value: &Bson) -> Result<ElementType>
-    ensures { Puts result out.old.items out.new.items (body_built Wrapper.Oid (tree_of value.now)) }
+fn object_id(value: &Bson) -> Option<Body<'_>>
+    ensures { option_map body_tree result ≡ stands_for Wrapper.Oid (tree_of value.now) }
 {
-    match id_given(value) {
-        Some(id) => put_object_id(out, id),
-        None => Err(bad_body(Wrapper::Oid)),
-    }
+    Some(Body::ObjectId(id_given(value)?))
 }
 
 // A text.
-fn symbol(out: &mut Vec<u8>, value: &Bson) -> Result<ElementType>
-    ensures { Puts result out.old.items out.new.items (body_built Wrapper.Symbol (tree_of value.now)) }
+fn symbol(value: &Bson) -> Option<Body<'_>>
+    ensures { option_map body_tree result ≡ stands_for Wrapper.Symbol (tree_of value.now) }
 {
-    match text_of(value) {
-        Some(text) => put_symbol(out, text),
-        None => Err(bad_body(Wrapper::Symbol)),
-    }
+    Some(Body::Symbol(text_of(value)?))
 }
 
 // Sixteen bytes.
-fn decimal128(out: &mut Vec<u8>, value: &Bson) -> Result<ElementType>
-    ensures { Puts result out.old.items out.new.items (body_built Wrapper.NumberDecimalBytes (tree_of value.now)) }
+fn decimal128(value: &Bson) -> Option<Body<'_>>
+    ensures { option_map body_tree result ≡ stands_for Wrapper.NumberDecimalBytes (tree_of value.now) }
 {
-    match decimal_of(value) {
-        Some(number) => put_decimal128(out, number),
-        None => Err(bad_body(Wrapper::NumberDecimalBytes)),
-    }
+    Some(Body::Decimal128(decimal_of(value)?))
 }
 
 // A document with the texts `pattern` and `options`, which are not put in order.
-fn regular_expression(out: &mut Vec<u8>, value: &Bson) -> Result<ElementType>
-    ensures { Puts result out.old.items out.new.items (body_built Wrapper.RegularExpression (tree_of value.now)) }
-{
-    match expression_parts(value) {
-        Some((pattern, options)) => put_regular_expression(out, pattern, options),
-        None => Err(bad_body(Wrapper::RegularExpression)),
-    }
-}
-
-fn expression_parts(value: &Bson) -> Option<(&str, &str)>
-    ensures { option_map (λ p. trees.regular_expression p.0.now p.1.now) result ≡ stands_for Wrapper.RegularExpression (tree_of value.now) }
+fn regular_expression(value: &Bson) -> Option<Body<'_>>
+    ensures { option_map body_tree result ≡ stands_for Wrapper.RegularExpression (tree_of value.now) }
 {
     let document = document_of(value)?;
     let pattern = text_at(document, "pattern")?;
     let options = text_at(document, "options")?;
-    Some((pattern, options))
+    Some(Body::RegularExpression(pattern, options))
 }
 
 // A document with `bytes`, a binary of subtype 0, and `subType`, a number from 0 to 255.
-fn binary(out: &mut Vec<u8>, value: &Bson) -> Result<ElementType>
-    ensures { Puts result out.old.items out.new.items (body_built Wrapper.Binary (tree_of value.now)) }
-{
-    match binary_parts(value) {
-        Some((subtype, bytes)) => put_binary(out, subtype, bytes),
-        None => Err(bad_body(Wrapper::Binary)),
-    }
-}
-
-fn binary_parts(value: &Bson) -> Option<(u8, &[u8])>
-    ensures { option_map (λ p. trees.binary p.0 p.1.now) result ≡ stands_for Wrapper.Binary (tree_of value.now) }
+fn binary(value: &Bson) -> Option<Body<'_>>
+    ensures { option_map body_tree result ≡ stands_for Wrapper.Binary (tree_of value.now) }
 {
     let document = document_of(value)?;
     let bytes = plain_bytes_at(document, "bytes")?;
     let subtype = byte_at(document, "subType")?;
-    Some((subtype, bytes))
+    Some(Body::Binary(subtype, bytes))
 }
 
 // An integer: milliseconds.
-fn date_time(out: &mut Vec<u8>, value: &Bson) -> Result<ElementType>
-    ensures { Puts result out.old.items out.new.items (body_built Wrapper.Date (tree_of value.now)) }
+fn date_time(value: &Bson) -> Option<Body<'_>>
+    ensures { option_map body_tree result ≡ stands_for Wrapper.Date (tree_of value.now) }
 {
-    match number_of(value) {
-        Some(number) => put_date_time(out, DateTime::from_millis(number)),
-        None => Err(bad_body(Wrapper::Date)),
-    }
+    Some(Body::DateTime(DateTime::from_millis(number_of(value)?)))
 }
 
 // A document with `t` and `i`, two numbers from 0 to 4294967295.
-fn timestamp(out: &mut Vec<u8>, value: &Bson) -> Result<ElementType>
-    ensures { Puts result out.old.items out.new.items (body_built Wrapper.Timestamp (tree_of value.now)) }
-{
-    match timestamp_of(value) {
-        Some(timestamp) => put_timestamp(out, timestamp),
-        None => Err(bad_body(Wrapper::Timestamp)),
-    }
-}
-
-fn timestamp_of(value: &Bson) -> Option<Timestamp>
-    ensures { option_map (λ t. trees.timestamp t.time t.increment) result ≡ stands_for Wrapper.Timestamp (tree_of value.now) }
+fn timestamp(value: &Bson) -> Option<Body<'_>>
+    ensures { option_map body_tree result ≡ stands_for Wrapper.Timestamp (tree_of value.now) }
 {
     let document = document_of(value)?;
     let time = uint32_at(document, "t")?;
     let increment = uint32_at(document, "i")?;
-    Some(Timestamp { time, increment })
+    Some(Body::Timestamp(Timestamp { time, increment }))
 }
 
 // A document with the text `$ref` and the ObjectId `$id`.
-fn db_pointer(out: &mut Vec<u8>, value: &Bson) -> Result<ElementType>
-    ensures { Puts result out.old.items out.new.items (body_built Wrapper.DbPointer (tree_of value.now)) }
-{
-    match pointer_parts(*out.allocator(), value)? {
-        Some((namespace, id)) => put_db_pointer(out, namespace, id),
-        None => Err(bad_body(Wrapper::DbPointer)),
-    }
-}
-
-type PointerParts<'a> = Option<(&'a str, ObjectId)>;
-
-fn pointer_parts(alloc: Global, value: &Bson) -> std::result::Result<PointerParts<'_>, AllocError>
-    ensures { IfOk result (λ o. option_map (λ p. trees.db_pointer p.0.now p.1.0) o ≡ stands_for Wrapper.DbPointer (tree_of value.now)) }
+fn db_pointer(alloc: Global, value: &Bson) -> std::result::Result<Option<Body<'_>>, AllocError>
+    ensures { IfOk result (λ o. option_map body_tree o ≡ stands_for Wrapper.DbPointer (tree_of value.now)) }
 {
     let Some(document) = document_of(value) else {
         return Ok(None);
@@ -166,7 +184,7 @@ fn pointer_parts(alloc: Global, value: &Bson) -> std::result::Result<PointerPart
         return Ok(None);
     };
     match id_at(alloc, document)? {
-        Some(id) => Ok(Some((namespace, id))),
+        Some(id) => Ok(Some(Body::DbPointer(namespace, id))),
         None => Ok(None),
     }
 }

@@ -4,8 +4,8 @@ ghost use Rattle.std.specs.Fmt.{decimal};
 ghost use Rattle.bson_base.specs.BsonView.{tree_of, trees_of, pairs_of};
 ghost use Rattle.bson_base.specs.Tree as trees;
 ghost use Rattle.bson_base.specs.Tree.{element, kind, enc};
-ghost use Rattle.bson_assembled.specs.Assembled.{assembled, built, built_pairs, built_trees, looked_at, one_level, under_key, with_scope};
-ghost use Rattle.bson_raw_builder.specs.Putting.{Gives, Puts, PutsLooked, PutsPart, code_built};
+ghost use Rattle.bson_laws.specs.Assembled.{assembled, built, built_pairs, built_trees, looked_at, one_level, under_key, with_scope};
+ghost use Rattle.bson_raw_builder.specs.Putting.{Gives, Puts, PutsLooked, PutsPart, code_built, whole_of};
 ghost use Rattle.bson_raw_builder.specs.RawValueView.{raw_view};
 
 use crate::bodies::put_body;
@@ -70,12 +70,48 @@ pub fn raw_of_bson<'x>(alloc: Global, value: &Bson) -> Result<RawValue<'x>>
 {
     let mut out = Vec::new(alloc);
     let element_type = put_value(&mut out, value, MAX_NESTING_LEVEL)?;
-    if out.len() > MOST {
+    finished(element_type, out)
+}
+
+// The same of a document.
+pub(crate) fn raw_of_document<'x>(alloc: Global, document: &Document) -> Result<RawValue<'x>>
+    ensures assembled { Gives raw_view result (assembled (trees.document (pairs_of document.now))) }
+{
+    let mut out = Vec::new(alloc);
+    let element_type = put_inner(&mut out, document, MAX_NESTING_LEVEL)?;
+    finished(element_type, out)
+}
+
+// The same of an array.
+pub(crate) fn raw_of_values<'x>(alloc: Global, values: &[Bson]) -> Result<RawValue<'x>>
+    ensures assembled { Gives raw_view result (assembled (trees.array (trees_of values.now))) }
+{
+    let mut out = Vec::new(alloc);
+    let element_type = put_array(&mut out, values, MAX_NESTING_LEVEL)?;
+    finished(element_type, out)
+}
+
+// The same of a code with a scope.
+pub(crate) fn raw_of_code<'x>(alloc: Global, code: &str, scope: &Document) -> Result<RawValue<'x>>
+    ensures assembled { Gives raw_view result
+        (assembled (trees.javascript_code_with_scope code.now (pairs_of scope.now))) }
+{
+    let mut out = Vec::new(alloc);
+    let element_type = put_scoped(&mut out, code, scope, MAX_NESTING_LEVEL)?;
+    finished(element_type, out)
+}
+
+// What was appended, where it has no more bytes than a document may.
+#[tactic(auto, using(std::proofs::lemmas::Bool::Decides::nat_tests))]
+fn finished<'x>(element_type: ElementType, bytes: Vec<u8>) -> Result<RawValue<'x>>
+    ensures { Gives raw_view result (whole_of element_type bytes.items) }
+{
+    if bytes.len() > MOST {
         return Err(refused(Cause::TooLong));
     }
     Ok(RawValue {
         element_type,
-        bytes: ByteStr::Owned(out),
+        bytes: ByteStr::Owned(bytes),
     })
 }
 

@@ -5,7 +5,7 @@ ghost use Rattle.bson_base.specs.BsonView.{tree_of, binary_of, pairs_of};
 ghost use Rattle.bson_base.specs.Folded as folded;
 ghost use Rattle.bson_base.specs.Folded.{at};
 ghost use Rattle.bson_base.specs.Tree as trees;
-ghost use Rattle.bson_assembled.specs.FirstKeys.{number_in, byte_in, uint32_in, bytes_in, is_boolean, is_in_int32, id_given, id_in};
+ghost use Rattle.bson_laws.specs.FirstKeys.{number_in, byte_in, uint32_in, bytes_in, is_boolean, is_in_int32, id_given, id_in};
 
 use bson_base::{Binary, Bson, Decimal128, Document, MAX_NESTING_LEVEL, ObjectId};
 use bson_datum::Stop;

@@ -6,8 +6,11 @@ mod building;
 mod first_key;
 mod forms;
 mod raw_value;
+mod reading;
 mod refused;
 mod scalars;
+mod values;
 
 pub use building::{raw_from_bson, raw_of_bson};
 pub use raw_value::{RawValue, raw_from_element};
+pub use reading::read_raw_tree;

@@ -4,7 +4,7 @@ ghost use Rattle.bson_base.specs.Instant.{millis};
 ghost use Rattle.bson_base.specs.Kind.{byte};
 ghost use Rattle.bson_base.specs.Tree as trees;
 ghost use Rattle.bson_base.specs.Tree.{closed_text, le32};
-ghost use Rattle.bson_assembled.specs.Assembled.{plain};
+ghost use Rattle.bson_laws.specs.Assembled.{plain};
 ghost use Rattle.bson_raw_builder.specs.Putting.{Puts, PutsPart, part_due};
 
 use crate::refused::refused;

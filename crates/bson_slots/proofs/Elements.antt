@@ -14,9 +14,9 @@ use Rattle.bson_datum.specs.declared.datum.Datum.{Datum}
 use Rattle.bson_datum.specs.declared.datum.Field.{Field}
 use Rattle.bson_datum.specs.declared.de.Fault.{Fault}
 use Rattle.bson_datum.specs.declared.stop.Stop.{Stop}
+use Rattle.bson_laws.specs.declared.origin.Reader.{Reader}
 use Rattle.bson_laws.specs.Judged.{Reading, refused}
-use Rattle.bson_laws.specs.Reads.{reads}
-use Rattle.bson_laws.specs.Settled.{settled}
+use Rattle.bson_laws.specs.ReadsFrom.{reads_for}
 use Rattle.bson_laws.specs.Slots.{Slot, Slots, fill_slot, unknown, put_at}
 use Rattle.bson_laws.proofs.Placed.{names_of, IsFirst, IsNone, put_first, put_none}
 use Rattle.bson_slots.specs.FieldSlots.{field_slots, slot_of, value_at, with_value}
@@ -104,41 +104,41 @@ slot_again u key n slots i default first old =
 
 -- ---- the slots of fields
 
-pub names_are : (readable : Bool) (fs : List FieldShape) (first : List Field) (later : List (Option Datum)) → names_of (field_slots readable fs first later) ≡ map (λ (f : FieldShape). string_bytes f.name) fs
-names_are readable [] first later = refl
-names_are readable (f ∷ fs) (x ∷ first) later = ap (λ names. string_bytes f.name ∷ names) (names_are readable fs first later)
-names_are readable (f ∷ fs) [] (v ∷ later) = ap (λ names. string_bytes f.name ∷ names) (names_are readable fs [] later)
-names_are readable (f ∷ fs) [] [] = ap (λ names. string_bytes f.name ∷ names) (names_are readable fs [] [])
+pub names_are : (reader : Reader) (fs : List FieldShape) (first : List Field) (later : List (Option Datum)) → names_of (field_slots reader fs first later) ≡ map (λ (f : FieldShape). string_bytes f.name) fs
+names_are reader [] first later = refl
+names_are reader (f ∷ fs) (x ∷ first) later = ap (λ names. string_bytes f.name ∷ names) (names_are reader fs first later)
+names_are reader (f ∷ fs) [] (v ∷ later) = ap (λ names. string_bytes f.name ∷ names) (names_are reader fs [] later)
+names_are reader (f ∷ fs) [] [] = ap (λ names. string_bytes f.name ∷ names) (names_are reader fs [] [])
 
-pub slot_reads : (readable : Bool) (fs : List FieldShape) (first : List Field) (later : List (Option Datum)) (i : ℕ) (d : FieldShape)
-    → (get_or (field_slots readable fs first later) i (slot_of readable d None)).read ≡ reads (settled readable (get_or fs i d).shape)
-slot_reads readable [] first later i d = refl
-slot_reads readable (f ∷ fs) (x ∷ first) later zero d = refl
-slot_reads readable (f ∷ fs) (x ∷ first) later (suc i) d = slot_reads readable fs first later i d
-slot_reads readable (f ∷ fs) [] (v ∷ later) zero d = refl
-slot_reads readable (f ∷ fs) [] (v ∷ later) (suc i) d = slot_reads readable fs [] later i d
-slot_reads readable (f ∷ fs) [] [] zero d = refl
-slot_reads readable (f ∷ fs) [] [] (suc i) d = slot_reads readable fs [] [] i d
+pub slot_reads : (reader : Reader) (fs : List FieldShape) (first : List Field) (later : List (Option Datum)) (i : ℕ) (d : FieldShape)
+    → (get_or (field_slots reader fs first later) i (slot_of reader d None)).read ≡ reads_for reader (get_or fs i d).shape
+slot_reads reader [] first later i d = refl
+slot_reads reader (f ∷ fs) (x ∷ first) later zero d = refl
+slot_reads reader (f ∷ fs) (x ∷ first) later (suc i) d = slot_reads reader fs first later i d
+slot_reads reader (f ∷ fs) [] (v ∷ later) zero d = refl
+slot_reads reader (f ∷ fs) [] (v ∷ later) (suc i) d = slot_reads reader fs [] later i d
+slot_reads reader (f ∷ fs) [] [] zero d = refl
+slot_reads reader (f ∷ fs) [] [] (suc i) d = slot_reads reader fs [] [] i d
 
 -- the place of a key among the names of the fields of slots
 abbrev pub key_place : code.Slots → Utf8 → Option ℕ
 key_place s key = place_of (map (λ (f : FieldShape). string_bytes f.name) s.fields.now) key
 
 first_key : (s : code.Slots) (key : Utf8) (i : ℕ) → key_place s key ≡ Some i → IsFirst key (names_of (slots_view s)) i
-first_key s key i e = first_at key (names_of (slots_view s)) i (ap (λ names. place_of names key) (names_are s.readable s.fields.now s.first.items s.later.items) ∙ e)
+first_key s key i e = first_at key (names_of (slots_view s)) i (ap (λ names. place_of names key) (names_are s.reader.now s.fields.now s.first.items s.later.items) ∙ e)
 
 -- the key is the name of a field that has no value: the value is read at the field's shape
 module _ (s : code.Slots) (u : UnknownFields) (key : Utf8) (n : Node) (i : ℕ) (d : FieldShape) (place : key_place s key ≡ Some i) (unfilled : is_some (value_at (slots_view s) i) ≡ false) where
-  pub put_unfilled : put_at u key n (slots_view s) ≡ (under key (reads (settled s.readable (get_or s.fields.now i d).shape) n) >>= λ v. Ok (with_value (slots_view s) i v))
+  pub put_unfilled : put_at u key n (slots_view s) ≡ (under key (reads_for s.reader.now (get_or s.fields.now i d).shape n) >>= λ v. Ok (with_value (slots_view s) i v))
   put_unfilled =
-      slot_new u key n (slots_view s) i (slot_of s.readable d None) (first_key s key i place) unfilled
-      ∙ ap (λ (read : Node → Reading Marked). under key (read n) >>= λ v. Ok (with_value (slots_view s) i v)) (slot_reads s.readable s.fields.now s.first.items s.later.items i d)
+      slot_new u key n (slots_view s) i (slot_of s.reader.now d None) (first_key s key i place) unfilled
+      ∙ ap (λ (read : Node → Reading Marked). under key (read n) >>= λ v. Ok (with_value (slots_view s) i v)) (slot_reads s.reader.now s.fields.now s.first.items s.later.items i d)
 
-  pub value_put : (v : Marked) → under key (reads (settled s.readable (get_or s.fields.now i d).shape) n) ≡ Ok v → put_at u key n (slots_view s) ≡ Ok (with_value (slots_view s) i v)
+  pub value_put : (v : Marked) → under key (reads_for s.reader.now (get_or s.fields.now i d).shape n) ≡ Ok v → put_at u key n (slots_view s) ≡ Ok (with_value (slots_view s) i v)
   value_put v e = put_unfilled ∙ ap (λ r. r >>= λ x. Ok (with_value (slots_view s) i x)) e
 
-  pub value_refused : (t : Stop Fault) → StopsAs t (under key (reads (settled s.readable (get_or s.fields.now i d).shape) n)) → StopsAs t (put_at u key n (slots_view s))
-  value_refused t h = subst (λ (r : Reading Slots). StopsAs t r) (sym put_unfilled) (stops_bind t (under key (reads (settled s.readable (get_or s.fields.now i d).shape) n)) (λ v. Ok (with_value (slots_view s) i v)) h)
+  pub value_refused : (t : Stop Fault) → StopsAs t (under key (reads_for s.reader.now (get_or s.fields.now i d).shape n)) → StopsAs t (put_at u key n (slots_view s))
+  value_refused t h = subst (λ (r : Reading Slots). StopsAs t r) (sym put_unfilled) (stops_bind t (under key (reads_for s.reader.now (get_or s.fields.now i d).shape n)) (λ v. Ok (with_value (slots_view s) i v)) h)
 
 -- the key is the name of a field that has a value: the element is refused
 module _ (s : code.Slots) (u : UnknownFields) (key : Utf8) (n : Node) (i : ℕ) (place : key_place s key ≡ Some i) (filled : is_some (value_at (slots_view s) i) ≡ true) (default : Slot) where
@@ -148,7 +148,7 @@ module _ (s : code.Slots) (u : UnknownFields) (key : Utf8) (n : Node) (i : ℕ) 
 -- the key is the name of no field
 module _ (s : code.Slots) (u : UnknownFields) (key : Utf8) (n : Node) (none : key_place s key ≡ None) where
   put_unknown : put_at u key n (slots_view s) ≡ (unknown u key n >>= λ _. Ok (slots_view s))
-  put_unknown = put_none u key n (slots_view s) (none_is key (names_of (slots_view s)) (ap (λ names. place_of names key) (names_are s.readable s.fields.now s.first.items s.later.items) ∙ none))
+  put_unknown = put_none u key n (slots_view s) (none_is key (names_of (slots_view s)) (ap (λ names. place_of names key) (names_are s.reader.now s.fields.now s.first.items s.later.items) ∙ none))
 
   -- the slots are as before, or the struct is refused
   pub unknown_passed : (r : Result (Unit {0}) (Stop Fault)) → Reaches (λ x. x) r (unknown u key n) → Reaches (λ _. slots_view s) r (put_at u key n (slots_view s))

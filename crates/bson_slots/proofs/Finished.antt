@@ -1,5 +1,5 @@
 -- The slots of the fields of a struct: which have a value, how one more is kept, and what all give.
-use Rattle.std.proofs.Common.{◌≡◌, ℕ, zero, suc, ◌+◌, ◌<◌, ◌≤◌, List, [], ◌∷◌, ◌++◌, length, get_or, set, Bool, true, false, Option, Some, None, Result, Ok, Err, IfOk, refl, ap, sym, ◌∙◌, subst, string_bytes, arith}
+use Rattle.std.proofs.Common.{◌≡◌, ℕ, zero, suc, ◌+◌, ◌<◌, ◌≤◌, List, [], ◌∷◌, ◌++◌, length, get_or, set, true, false, Option, Some, None, Result, Ok, Err, IfOk, refl, ap, sym, ◌∙◌, subst, string_bytes, arith}
 use Rattle.std.specs.Prelude.{option_map, is_some}
 use Rattle.bson_base.specs.Outcome.{◌>>=◌, result_map}
 use Rattle.bson_rawdoc.specs.Piece.{Piece, made}
@@ -12,9 +12,12 @@ use Rattle.bson_datum.specs.declared.datum.Datum.{Datum}
 use Rattle.bson_datum.specs.declared.datum.Field.{Field}
 use Rattle.bson_datum.specs.declared.de.Fault.{Fault}
 use Rattle.bson_datum.specs.declared.stop.Stop.{Stop}
-use Rattle.bson_laws.specs.Reads.{slots_of}
-use Rattle.bson_laws.specs.Settled.{settled, settled_fields}
+use Rattle.bson_laws.specs.declared.origin.Reader.{Reader}
+use Rattle.bson_laws.specs.ReadsFrom.{reads_for, slots_for}
+use Rattle.bson_laws.specs.Scopes.{meanings_of}
+use Rattle.bson_laws.specs.Settled.{settled}
 use Rattle.bson_laws.specs.Slots.{Slot, Slots, missing_value, finish, value_or}
+use Rattle.bson_laws.proofs.Scoped.{missing_formed}
 use Rattle.bson_slots.specs.FieldSlots as spec
 use Rattle.bson_slots.specs.FieldSlots.{AreFirst, IsNamed, fields_marked, value_at, with_value}
 use Rattle.bson_met.proofs.Refusals.{StopsAs, stops_bind, stops_map}
@@ -40,19 +43,20 @@ pub ok_then : {T E : Type 0} {P Q : Type 0} (r : Result T E) → (P → Q) → I
 ok_then (Ok x) f p = f p
 ok_then (Err e) f p = tt
 
--- ---- the slots for a reader who is human or not
+-- ---- the slots for a reader
 
-module _ (readable : Bool) where
+module _ (reader : Reader) where
   abbrev slot_of : FieldShape → Option Marked → Slot
-  slot_of = spec.slot_of readable
+  slot_of = spec.slot_of reader
 
   abbrev field_slots : List FieldShape → List Field → List (Option Datum) → Slots
-  field_slots = spec.field_slots readable
+  field_slots = spec.field_slots reader
 
   -- no value yet
-  pub none_yet : (fs : List FieldShape) → field_slots fs [] [] ≡ slots_of (settled_fields readable (fields_of fs))
+  pub none_yet : (fs : List FieldShape) → field_slots fs [] [] ≡ slots_for reader (fields_of fs)
   none_yet [] = refl
-  none_yet (f ∷ fs) = ap (λ r. slot_of f None ∷ r) (none_yet fs)
+  none_yet (f ∷ fs) = λ i.
+      record { name = string_bytes f.name; missing = sym (missing_formed reader.readable (meanings_of reader) f.shape) i; read = reads_for reader f.shape; value = None } ∷ none_yet fs i
 
   -- each of the first has its value
   pub first_filled : (fs : List FieldShape) (first : List Field) (later : List (Option Datum)) (i : ℕ) → AreFirst fs first → i < length first → is_some (value_at (field_slots fs first later) i) ≡ true
@@ -129,19 +133,19 @@ module _ (readable : Bool) where
 
   -- the field behind the first, with the value that was read for it or that stands for a missing one
   pub first_given : (fs : List FieldShape) (first : List Field) (o : Option Datum) (later : List (Option Datum)) (f : FieldShape) (v : Datum) → length first < length fs → f ≡ get_or fs (length first) f
-      → value_or (string_bytes f.name) (missing_value (settled readable f.shape)) (option_map marked o) ≡ Ok (marked v) → finish (field_slots fs first (Some v ∷ later)) ≡ finish (field_slots fs first (o ∷ later))
+      → value_or (string_bytes f.name) (missing_value (settled reader.readable f.shape)) (option_map marked o) ≡ Ok (marked v) → finish (field_slots fs first (Some v ∷ later)) ≡ finish (field_slots fs first (o ∷ later))
   first_given [] first o later f v lt stands given = absurd (omega arith)
   first_given (g ∷ fs) [] o later f v lt stands given =
       sym (ap (λ r. r >>= λ x. result_map (field_value (made (string_bytes g.name)) x) (finish (field_slots fs [] later)))
-      (ap (λ (h : FieldShape). value_or (string_bytes h.name) (missing_value (settled readable h.shape)) (option_map marked o)) (sym stands) ∙ given))
+      (ap (λ (h : FieldShape). value_or (string_bytes h.name) (missing_value (settled reader.readable h.shape)) (option_map marked o)) (sym stands) ∙ given))
   first_given (g ∷ fs) (x ∷ first) o later f v lt stands given = ap (result_map (field_value (made (string_bytes g.name)) (marked x.value))) (first_given fs first o later f v (omega arith) stands given)
 
   -- where it has none and none stands for it, the struct is refused
   pub first_missing : (fs : List FieldShape) (first : List Field) (o : Option Datum) (later : List (Option Datum)) (f : FieldShape) (s : Stop Fault) → length first < length fs → f ≡ get_or fs (length first) f
-      → StopsAs s (value_or (string_bytes f.name) (missing_value (settled readable f.shape)) (option_map marked o)) → StopsAs s (finish (field_slots fs first (o ∷ later)))
+      → StopsAs s (value_or (string_bytes f.name) (missing_value (settled reader.readable f.shape)) (option_map marked o)) → StopsAs s (finish (field_slots fs first (o ∷ later)))
   first_missing [] first o later f s lt stands h = absurd (omega arith)
   first_missing (g ∷ fs) [] o later f s lt stands h =
-      stops_bind s (value_or (string_bytes g.name) (missing_value (settled readable g.shape)) (option_map marked o)) (λ x. result_map (field_value (made (string_bytes g.name)) x) (finish (field_slots fs [] later)))
-      (subst (λ (e : FieldShape). StopsAs s (value_or (string_bytes e.name) (missing_value (settled readable e.shape)) (option_map marked o))) stands h)
+      stops_bind s (value_or (string_bytes g.name) (missing_value (settled reader.readable g.shape)) (option_map marked o)) (λ x. result_map (field_value (made (string_bytes g.name)) x) (finish (field_slots fs [] later)))
+      (subst (λ (e : FieldShape). StopsAs s (value_or (string_bytes e.name) (missing_value (settled reader.readable e.shape)) (option_map marked o))) stands h)
   first_missing (g ∷ fs) (x ∷ first) o later f s lt stands h =
       stops_map s (field_value (made (string_bytes g.name)) (marked x.value)) (finish (field_slots fs first (o ∷ later))) (first_missing fs first o later f s (omega arith) stands h)

@@ -1,5 +1,5 @@
 -- The slots of the fields of a struct, with the values that were read for them. Source: serde's data model.
-use Rattle.std.specs.Prelude.{◌≡◌, Bool, ℕ, zero, suc, List, [], ◌∷◌, Option, Some, None, false, option_map, string_bytes}
+use Rattle.std.specs.Prelude.{◌≡◌, ℕ, zero, suc, List, [], ◌∷◌, Option, Some, None, false, option_map, string_bytes}
 use Rattle.std.specs.Coded.{Coded-set, coded_ℕ, coded_bool, coded_list, ×_prop, Unit-prop}
 use Rattle.bson_shape.specs.declared.shape.FieldShape.{FieldShape}
 use Rattle.bson_datum.specs.Borrowed.{text_borrowed}
@@ -9,7 +9,8 @@ use Rattle.bson_datum.specs.TextView.{text_view}
 use Rattle.bson_datum.specs.Value.{no_field_values, field_value}
 use Rattle.bson_datum.specs.declared.datum.Datum.{Datum}
 use Rattle.bson_datum.specs.declared.datum.Field.{Field}
-use Rattle.bson_laws.specs.Reads.{reads}
+use Rattle.bson_laws.specs.declared.origin.Reader.{Reader}
+use Rattle.bson_laws.specs.ReadsFrom.{reads_for}
 use Rattle.bson_laws.specs.Settled.{settled}
 use Rattle.bson_laws.specs.Slots.{Slot, Slots, missing_value}
 
@@ -27,16 +28,16 @@ with_value [] i v = []
 with_value (slot ∷ slots) zero v = record slot { value = Some v } ∷ slots
 with_value (slot ∷ slots) (suc i) v = slot ∷ with_value slots i v
 
--- the slot of a field, for a reader who is human or not
-abbrev pub slot_of : (readable : Bool) → FieldShape → Option Marked → Slot
-slot_of readable f value = record { name = string_bytes f.name; missing = missing_value (settled readable f.shape); read = reads (settled readable f.shape); value = value }
+-- the slot of a field, for a reader
+abbrev pub slot_of : (reader : Reader) → FieldShape → Option Marked → Slot
+slot_of reader f value = record { name = string_bytes f.name; missing = missing_value (settled reader.readable f.shape); read = reads_for reader f.shape; value = value }
 
 -- The slots of fields. The first have their values, those behind them what stands for each in the second list, and the others none.
-abbrev pub field_slots : (readable : Bool) → List FieldShape → (first : List Field) → (later : List (Option Datum)) → Slots
-field_slots readable [] first later = []
-field_slots readable (f ∷ fs) (x ∷ first) later = slot_of readable f (Some (marked x.value)) ∷ field_slots readable fs first later
-field_slots readable (f ∷ fs) [] (v ∷ later) = slot_of readable f (option_map marked v) ∷ field_slots readable fs [] later
-field_slots readable (f ∷ fs) [] [] = slot_of readable f None ∷ field_slots readable fs [] []
+abbrev pub field_slots : (reader : Reader) → List FieldShape → (first : List Field) → (later : List (Option Datum)) → Slots
+field_slots reader [] first later = []
+field_slots reader (f ∷ fs) (x ∷ first) later = slot_of reader f (Some (marked x.value)) ∷ field_slots reader fs first later
+field_slots reader (f ∷ fs) [] (v ∷ later) = slot_of reader f (option_map marked v) ∷ field_slots reader fs [] later
+field_slots reader (f ∷ fs) [] [] = slot_of reader f None ∷ field_slots reader fs [] []
 
 -- ---- fields
 

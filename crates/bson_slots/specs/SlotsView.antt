@@ -5,4 +5,4 @@ use Rattle.bson_slots.specs.declared.slots.Slots as code
 
 -- the slots of the fields, with the values that were read so far
 abbrev pub slots_view : code.Slots → Slots
-slots_view s = field_slots s.readable s.fields.now s.first.items s.later.items
+slots_view s = field_slots s.reader.now s.fields.now s.first.items s.later.items

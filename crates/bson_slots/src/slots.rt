@@ -1,13 +1,14 @@
-ghost use Rattle.std.specs.Prelude.{◌≡◌, Bool, ◌<◌, ◌≤◌, ◌+◌, [], ◌∷◌, length, false, if◌then◌else◌, Some, None, is_some, option_map, string_bytes, IfOk, List, Option};
+ghost use Rattle.std.specs.Prelude.{◌≡◌, ◌<◌, ◌≤◌, ◌+◌, [], ◌∷◌, length, false, if◌then◌else◌, Some, None, is_some, option_map, string_bytes, IfOk, List, Option};
 ghost use Rattle.std.specs.Bool.{OnTrue};
 ghost use Rattle.bson_shape.specs.ShapeView.{fields_of};
 ghost use Rattle.bson_rawdoc.specs.Piece.{Piece};
 ghost use Rattle.bson_datum.specs.MarkedView.{marked};
 ghost use Rattle.bson_datum.specs.Value.{none};
 ghost use Rattle.bson_datum.specs.declared.datum.Datum.{Datum};
-ghost use Rattle.bson_laws.specs.Reads.{slots_of};
-ghost use Rattle.bson_laws.specs.Settled.{settled, settled_fields};
+ghost use Rattle.bson_laws.specs.ReadsFrom.{slots_for};
+ghost use Rattle.bson_laws.specs.Settled.{settled};
 ghost use Rattle.bson_laws.specs.Slots as laws;
+ghost use Rattle.bson_laws.specs.declared.origin.Reader as for_reader;
 ghost use Rattle.bson_laws.specs.Views.{absent};
 ghost use Rattle.bson_slots.specs.FieldSlots.{AreFirst, AreFirst-prop, field_slots, fields_marked, value_at, with_value};
 ghost use Rattle.bson_met.specs.Gives.{Reaches};
@@ -15,6 +16,7 @@ ghost use Rattle.bson_met.specs.Gives.{Reaches};
 use crate::mode::due_shape;
 use crate::named::named_field;
 use bson_datum::{Cause, Datum, Field};
+use bson_laws::Reader;
 use bson_met::{Reading, refused};
 use bson_shape::{FieldShape, Form, Shape};
 use std::alloc::{AllocError, Global};
@@ -28,8 +30,8 @@ use std::mem;
 pub struct Slots<'s, 'de> {
     /// The fields, in the shape's order.
     pub fields: &'s [FieldShape],
-    /// Whether the reader is human.
-    pub readable: bool,
+    /// For whom they are read, and from what.
+    pub reader: &'s Reader<'s>,
     /// The first of them, with the values that came in order.
     first: Vec<Field<'de>>,
     /// The values of the fields behind the first, once one came out of order; those behind these have none.
@@ -41,7 +43,7 @@ pub struct Slots<'s, 'de> {
 impl<'s, 'de> Slots<'s, 'de> {
     ghost use Rattle.bson_slots.specs.SlotsView.{slots_view};
 
-    /// The slots of these fields, of which none has a value, for a reader who is human or not.
+    /// The slots of these fields, of which none has a value.
     ///
     /// # Errors
     ///
@@ -50,17 +52,17 @@ impl<'s, 'de> Slots<'s, 'de> {
     pub fn new(
         alloc: Global,
         fields: &'s [FieldShape],
-        readable: bool,
+        reader: &'s Reader<'s>,
     ) -> Result<Slots<'s, 'de>, AllocError>
-        ensures empty { IfOk result (λ s. slots_view s ≡ slots_of (settled_fields readable (fields_of fields.now))) }
+        ensures empty { IfOk result (λ s. slots_view s ≡ slots_for reader.now (fields_of fields.now)) }
         ensures fields { IfOk result (λ s. s.fields ≡ fields.entry) }
-        ensures readable { IfOk result (λ s. s.readable ≡ readable) }
+        ensures reader { IfOk result (λ s. s.reader ≡ reader.entry) }
     {
         let first = Vec::with_capacity(alloc, fields.len())?;
         let later = Vec::new(alloc);
         Ok(Slots {
             fields,
-            readable,
+            reader,
             first,
             later,
         })
@@ -91,7 +93,7 @@ impl<'s, 'de> Slots<'s, 'de> {
         ensures put { IfOk result (λ _. slots_view self.new
             ≡ with_value (slots_view self.old) place (marked value.entry)) }
         ensures fields { self.new.fields ≡ self.old.fields }
-        ensures readable { self.new.readable ≡ self.old.readable }
+        ensures reader { self.new.reader ≡ self.old.reader }
     {
         if self.is_next(place) {
             return push(alloc, self.fields, &mut self.first, value);
@@ -115,7 +117,7 @@ impl<'s, 'de> Slots<'s, 'de> {
         ensures put { IfOk result (λ _. slots_view self.new
             ≡ with_value (slots_view self.old) (length self.old.first.items + place) (marked value.entry)) }
         ensures fields { self.new.fields ≡ self.old.fields }
-        ensures readable { self.new.readable ≡ self.old.readable }
+        ensures reader { self.new.reader ≡ self.old.reader }
     {
         match self.reach(place) {
             Ok(()) => {
@@ -136,7 +138,7 @@ impl<'s, 'de> Slots<'s, 'de> {
         ensures slots { slots_view self.new ≡ slots_view self.old }
         ensures first { self.new.first ≡ self.old.first }
         ensures fields { self.new.fields ≡ self.old.fields }
-        ensures readable { self.new.readable ≡ self.old.readable }
+        ensures reader { self.new.reader ≡ self.old.reader }
     {
         while self.later.len() <= place {
             self.later.push(None)?;
@@ -163,7 +165,7 @@ impl<'s, 'de> Slots<'s, 'de> {
     fn finish_later(self, alloc: Global) -> Reading<Vec<Field<'de>>>
         ensures exact { Reaches (λ v. fields_marked v.items) result (laws.finish (slots_view self.entry)) }
     {
-        let (fields, readable) = (self.fields, self.readable);
+        let (fields, readable) = (self.fields, self.reader.readable);
         let mut first = self.first;
         for value in self.later {
             let value = value_or_missing(alloc, &fields[first.len()], readable, value)?;
@@ -188,8 +190,8 @@ fn push<'de>(
 ) -> Result<(), AllocError>
     requires within { length first.old.items < length fields.now }
     requires named { AreFirst fields.now first.old.items }
-    ensures pushed { IfOk result (λ _. (readable : Bool) (later : List (Option Datum)) → field_slots readable fields.now first.new.items later
-        ≡ field_slots readable fields.now first.old.items (Some value.entry ∷ later)) }
+    ensures pushed { IfOk result (λ _. (reader : for_reader.Reader) (later : List (Option Datum)) → field_slots reader fields.now first.new.items later
+        ≡ field_slots reader fields.now first.old.items (Some value.entry ∷ later)) }
     ensures named { AreFirst fields.now first.new.items }
     ensures within { length first.new.items ≤ length first.old.items + 1 }
     ensures grown { IfOk result (λ _. length first.new.items ≡ length first.old.items + 1) }

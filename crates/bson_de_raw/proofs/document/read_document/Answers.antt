@@ -3,6 +3,7 @@ use Rattle.bson_datum.specs.ErrorView.{read_fault, read_failure}
 use Rattle.bson_datum.specs.Stop.{stop_view}
 use Rattle.bson_laws.specs.CompactReads.{reads}
 use Rattle.bson_laws.specs.Reads.{answered}
+use Rattle.bson_laws.specs.Unrolled.{whole}
 use Rattle.bson_rawdoc.specs.DocumentView.{document_bytes}
 use Rattle.bson_de_raw.specs.Gives.{FailsAs}
 use Rattle.bson_laws.proofs.Enveloped.{document_read}
@@ -14,7 +15,7 @@ returns-in-Ok c =
     let s = c.args.shape.now in
     let d = document_bytes c.in_ok-document.document in
     record {
-      exact = document_read s c.args.bytes.now d (sym c.in_ok-document.ensures.envelope) ∙ ap (λ n. answered (reads s n)) (sym c.of_document.ensures.node) ∙ ap answered c.in-Ok.ensures.exact;
+      exact = document_read (whole s) c.args.bytes.now d (sym c.in_ok-document.ensures.envelope) ∙ ap (λ n. answered (reads s n)) (sym c.of_document.ensures.node) ∙ ap answered c.in-Ok.ensures.exact;
     }
 
 pub returns-in-Err : goal.returns-in-Err
@@ -23,5 +24,5 @@ returns-in-Err c =
     let d = document_bytes c.in_ok-document.document in
     let here = placed_as (stop_view read_fault c.in-Err.stop) (read_failure c.from_stop.result) (reads s c.of_document.result) c.from_stop.ensures.placed c.in-Err.ensures.exact in
     record {
-      exact = subst (FailsAs (read_failure c.from_stop.result)) (ap (λ n. answered (reads s n)) c.of_document.ensures.node ∙ sym (document_read s c.args.bytes.now d (sym c.in_ok-document.ensures.envelope))) here;
+      exact = subst (FailsAs (read_failure c.from_stop.result)) (ap (λ n. answered (reads s n)) c.of_document.ensures.node ∙ sym (document_read (whole s) c.args.bytes.now d (sym c.in_ok-document.ensures.envelope))) here;
     }

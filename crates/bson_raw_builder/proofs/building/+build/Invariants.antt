@@ -3,7 +3,7 @@ use Rattle.bson_base.specs.BsonView.{tree_of, trees_of, pairs_of}
 use Rattle.bson_base.specs.Outcome.{result_map}
 use Rattle.bson_base.specs.Tree.{elements, array_elements}
 use Rattle.bson_base.proofs.Nodes.{nodes, trees_nodes, pairs_nodes}
-use Rattle.bson_assembled.specs.Assembled.{built_pairs, built_trees}
+use Rattle.bson_laws.specs.Assembled.{built_pairs, built_trees}
 use Rattle.bson_raw_builder.proofs.building.+build.Given as goal
 
 abbrev pub decreases-put_value : goal.decreases-put_value

@@ -1,13 +1,13 @@
-use Rattle.std.proofs.Common.{rules, ◌++◌, ap, sym, ◌∙◌, arith}
+use Rattle.std.proofs.Common.{rules, ◌++◌, ap, sym, subst, ◌∙◌}
 use Rattle.bson_base.specs.BsonView.{tree_of}
 use Rattle.bson_base.specs.Outcome.{◌>>=◌}
 use Rattle.bson_base.specs.Sound.{max_levels}
 use Rattle.bson_base.specs.Tree.{kind, enc}
-use Rattle.bson_datum.specs.Cause.{too_long}
 use Rattle.bson_datum.specs.ErrorView.{read_failure}
-use Rattle.bson_assembled.specs.Assembled.{built, within_limit, assembled}
-use Rattle.bson_raw_builder.specs.Putting.{with_value}
-use Rattle.bson_raw_builder.proofs.Putting.{refuses_as, refused_for, whole_long, whole_fits}
+use Rattle.bson_laws.specs.Assembled.{Building, RawBytes, built, within_limit, assembled}
+use Rattle.bson_raw_builder.specs.Putting.{Gives, with_value}
+use Rattle.bson_raw_builder.specs.RawValueView.{raw_view}
+use Rattle.bson_raw_builder.proofs.Putting.{refuses_as, whole_built}
 use Rattle.bson_raw_builder.proofs.building.raw_of_bson.Goals as goal
 
 pub returns-in_err-element_type : goal.returns-in_err-element_type
@@ -16,16 +16,9 @@ returns-in_err-element_type c =
     let here = refuses_as (read_failure c.in_err-element_type.field-0.0) (λ u. (kind u, c.new-out.result.items ++ enc u)) (built t max_levels) (assembled t) (λ k e. ap (λ r. r >>= within_limit) e) c.in_err-element_type.ensures in
     record { assembled = search (rules, here) }
 
-pub returns-then-len-gt-MOST : goal.returns-then-len-gt-MOST
-returns-then-len-gt-MOST c =
-    let due = built (tree_of c.args.value.now) max_levels in
-    let new = c.put_value.new.out.items in
-    let whole = ap (λ b. with_value b due) (sym c.new-out.ensures.items) ∙ c.in_ok-element_type.ensures in
-    record { assembled = refused_for (read_failure c.refused.result) too_long (due >>= within_limit) c.refused.ensures (whole_long new c.in_ok-element_type.element_type due whole (omega arith)) }
-
 pub returns : goal.returns
 returns c =
     let due = built (tree_of c.args.value.now) max_levels in
     let new = c.put_value.new.out.items in
     let whole = ap (λ b. with_value b due) (sym c.new-out.ensures.items) ∙ c.in_ok-element_type.ensures in
-    record { assembled = whole_fits new c.in_ok-element_type.element_type due whole (omega arith) }
+    record { assembled = subst (λ (b : Building RawBytes). Gives raw_view c.finished.result b) (whole_built new c.in_ok-element_type.element_type due whole) c.finished.ensures }

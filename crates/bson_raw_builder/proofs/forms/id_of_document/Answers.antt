@@ -11,7 +11,7 @@ use Rattle.bson_datum.specs.Stop.{stop_view}
 use Rattle.bson_laws.specs.Reads.{reads}
 use Rattle.bson_laws.specs.Trees.{document_tree}
 use Rattle.bson_met.specs.Gives.{RefusesAs}
-use Rattle.bson_assembled.specs.FirstKeys.{id_in}
+use Rattle.bson_laws.specs.FirstKeys.{id_in}
 use Rattle.bson_raw_builder.proofs.ReadIds.{document_free, read_given, refused_id}
 use Rattle.bson_raw_builder.proofs.forms.id_of_document.Goals as goal
 

@@ -1,7 +1,7 @@
 use Rattle.std.proofs.Common.{Ok, ap, subst, sym}
 use Rattle.bson_base.specs.Tree.{binary}
 use Rattle.bson_base.proofs.Encodings.{old_fault}
-use Rattle.bson_assembled.specs.Assembled.{unless, plain}
+use Rattle.bson_laws.specs.Assembled.{unless, plain}
 use Rattle.bson_raw_builder.specs.Putting.{RefusesFor, with_value}
 use Rattle.bson_raw_builder.proofs.scalars.put_old_binary.Goals as goal
 

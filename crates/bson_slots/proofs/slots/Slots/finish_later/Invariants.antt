@@ -11,14 +11,14 @@ invariant-loop-value l =
     AreFirst l.fields l.first.items
     × (length l.first.items + length left.items ≤ length l.fields)
     × (left.len ≡ length left.items)
-    × (finish (field_slots l.fn.self.readable l.fields l.first.items left.items) ≡ finish (slots_view l.fn.self))
+    × (finish (field_slots l.fn.self.reader.now l.fields l.first.items left.items) ≡ finish (slots_view l.fn.self))
 
 -- so are the first so far alone
 abbrev pub invariant-loop-field : goal.invariant-loop-field
 invariant-loop-field l =
     AreFirst l.fields l.first.items
     × (length l.first.items ≤ length l.fields)
-    × (finish (field_slots l.fn.self.readable l.fields l.first.items []) ≡ finish (slots_view l.fn.self))
+    × (finish (field_slots l.fn.self.reader.now l.fields l.first.items []) ≡ finish (slots_view l.fn.self))
 
 abbrev pub decreases-loop-field : goal.decreases-loop-field
 decreases-loop-field l = length l.fields - length l.first.items

@@ -1,0 +1,21 @@
+use Rattle.std.proofs.Common.{IfOk, ap, subst}
+use Rattle.bson_datum.specs.Borrowed.{IsOwned}
+use Rattle.bson_datum.specs.ErrorView.{read_fault, read_failure}
+use Rattle.bson_datum.specs.Stop.{stop_view}
+use Rattle.bson_datum.specs.View.{view}
+use Rattle.bson_laws.specs.ReadsFrom.{answered_bare}
+use Rattle.bson_met.specs.Gives.{Reaches}
+use Rattle.bson_de_tree.proofs.Readings.{bare_as}
+use Rattle.bson_de_tree.proofs.reading.without_path.Goals as goal
+
+pub returns-in-Ok : goal.returns-in-Ok
+returns-in-Ok c = record {
+  exact = λ due h. ap answered_bare (subst (λ r. Reaches view r due) c.in-Ok.is h);
+  owned = λ h. subst (λ r. IfOk r IsOwned) c.in-Ok.is h;
+}
+
+pub returns-in-Err : goal.returns-in-Err
+returns-in-Err c = record {
+  exact = λ due h. bare_as (stop_view read_fault c.in-Err.stop) (read_failure c.bare.result) due c.bare.ensures (subst (λ r. Reaches view r due) c.in-Err.is h);
+  owned = λ h. tt;
+}

@@ -1,0 +1,7 @@
+-- What contracts see of the options of a reader of values in memory.
+use Rattle.std.specs.Prelude.{Bool, true, Option, Some, None}
+
+-- whether the reader is human
+abbrev pub is_readable : Option Bool → Bool
+is_readable (Some readable) = readable
+is_readable None = true

@@ -1,0 +1,33 @@
+use Rattle.std.proofs.Common.{Some, None, ap, sym, subst, ◌∙◌}
+use Rattle.bson_base.specs.BsonView.{pairs_of}
+use Rattle.bson_base.specs.Outcome.{◌>>=◌}
+use Rattle.bson_base.specs.Tree.{Tree, document}
+use Rattle.bson_datum.specs.Cause.{not_borrowed}
+use Rattle.bson_laws.specs.Assembled.{assembled_tree}
+use Rattle.bson_laws.specs.Judged.{Reading}
+use Rattle.bson_laws.specs.TreeRaw.{as_reading}
+use Rattle.bson_met.specs.ContainerView.{document_whole, document_elements}
+use Rattle.bson_met.proofs.Refusals.{StopsAs, refused_stops}
+use Rattle.bson_raw_builder.specs.RawTreeView.{IsBuilt}
+use Rattle.bson_raw_builder.proofs.RawTrees.{opened_built, held_built}
+use Rattle.bson_raw_builder.proofs.reading.build_document.Goals as goal
+
+pub returns-then-is_opened : goal.returns-then-is_opened
+returns-then-is_opened c =
+    let d = c.args.document in
+    let whole = opened_built (document_whole d) (document_elements d) (sym c.if-is_opened.ensures.opened) ∙ ap (λ r. r >>= λ ps. as_reading (assembled_tree (document ps))) c.in_ok-opened.ensures.exact in
+    record { built = subst (λ (r : Reading Tree). IsBuilt c.reading.result r) (sym whole) (c.reading.ensures.read (document (pairs_of c.in_ok-opened.opened)) tt c.raw_of_document.ensures.assembled) }
+
+pub returns-in-Some : goal.returns-in-Some
+returns-in-Some c =
+    let d = c.args.document in
+    let t = document (pairs_of c.in-Some.tree.now) in
+    let whole = held_built (document_whole d) (document_elements d) (Some t) (sym c.if-is_opened.ensures.opened) c.in-Some.ensures.tree in
+    record { built = subst (λ (r : Reading Tree). IsBuilt c.reading-in-Some.result r) (sym whole) (c.reading-in-Some.ensures.read t tt c.raw_of_document-in-Some.ensures.assembled) }
+
+pub returns-in-None : goal.returns-in-None
+returns-in-None c =
+    let d = c.args.document in
+    let stop = c.refused.result in
+    let whole = held_built (document_whole d) (document_elements d) None (sym c.if-is_opened.ensures.opened) c.in-None.ensures.tree in
+    record { built = subst (λ (r : Reading Tree). StopsAs stop r) (sym whole) (refused_stops Tree not_borrowed stop c.refused.ensures.here) }
