@@ -4,7 +4,7 @@ use Rattle.std.specs.Prelude.{◌⊎◌}
 use Rattle.bson_base.specs.Text.{Bytes, Utf8}
 use Rattle.bson_datum.specs.Refusal.{WriteFault, Failure}
 use Rattle.bson_shape.specs.Form.{Form}
-use Rattle.bson_recast_run.specs.Recasting.{Recast, writes, unread, unwritten, recast_of, Unwritten}
+use Rattle.bson_tree_recast.specs.Recast.{Recast, writes, unread, unwritten, recast_of, Unwritten}
 use Rattle.bson_buffers.specs.Asked.{shape_of_bytes, DenotesShape}
 use Rattle.bson_buffers.specs.Due.{IsDelivered, IsForRecast, IsRecastRow}
 use Rattle.bson_buffers.specs.Recasts.{recast_status, recast_status_at, IsRecast}

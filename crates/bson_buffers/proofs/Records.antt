@@ -4,9 +4,9 @@ use Rattle.std.specs.Prelude.{◌≢◌}
 use Rattle.std.proofs.lemmas.List.{append_assoc, length-append}
 use Rattle.bson_base.specs.Text.{Bytes, Utf8}
 use Rattle.bson_datum.specs.ErrorView.{read_failure, write_failure}
-use Rattle.bson_recast_run.specs.declared.recasting.RecastError.{RecastError}
-use Rattle.bson_recast_run.specs.declared.recasting.RecastError.TheVariants.{Read, Write, NoMemory}
-use Rattle.bson_recast_run.specs.Recasting.{Recast, writes, unread, unwritten, IsRefusal}
+use Rattle.bson_tree_recast.specs.declared.error.RecastError.{RecastError}
+use Rattle.bson_tree_recast.specs.declared.error.RecastError.TheVariants.{Read, Write, NoMemory}
+use Rattle.bson_tree_recast.specs.Recast.{Recast, writes, unread, unwritten, IsRefusal}
 use Rattle.bson_migrate_run.specs.declared.migrating.Refused.{Refused}
 use Rattle.bson_migrate_run.specs.Migrating.{NotRecast, AreListed}
 use Rattle.bson_migrate_run.proofs.LinesDue.{same_failure}

@@ -5,7 +5,7 @@ use Rattle.bson_datum.specs.Printed.{printed_failure, printed_read_fault, printe
 use Rattle.bson_datum.specs.Refusal as refusal
 use Rattle.bson_shape.specs.Form.{Form}
 use Rattle.bson_laws.specs.Settled.{IsSettled}
-use Rattle.bson_recast_run.specs.Recasting.{recast_of, writes, unread, Unwritten}
+use Rattle.bson_tree_recast.specs.Recast.{recast_of, writes, unread, Unwritten}
 use Rattle.bson_migrate_run.specs.declared.migrating.Migration.{Migration}
 use Rattle.bson_migrate_run.specs.declared.migrating.Refused.{Refused}
 use Rattle.bson_migrate_run.specs.Lines.{refused_lines, AreLines}

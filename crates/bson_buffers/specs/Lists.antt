@@ -5,7 +5,7 @@ use Rattle.bson_base.specs.Text.{Bytes, Utf8}
 use Rattle.bson_datum.specs.Printed.{printed_failure, printed_path, printed_read_fault, printed_write_fault}
 use Rattle.bson_datum.specs.Refusal.{ReadFault, WriteFault, Failure, no_memory, bare, placed}
 use Rattle.bson_rawdoc.specs.Cut.{cut}
-use Rattle.bson_recast_run.specs.Recasting.{Recast, writes, unread, unwritten, Unwritten}
+use Rattle.bson_tree_recast.specs.Recast.{Recast, writes, unread, unwritten, Unwritten}
 use Rattle.bson_migrate_run.specs.Migrating.{NotRecast}
 use Rattle.bson_buffers.specs.Asked.{shape_of_bytes}
 use Rattle.bson_buffers.specs.Buffers.{Call, IsSilent}

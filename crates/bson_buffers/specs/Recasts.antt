@@ -5,7 +5,7 @@ use Rattle.bson_datum.specs.Printed.{printed_failure, printed_read_fault, printe
 use Rattle.bson_datum.specs.Refusal.{ReadFault, WriteFault, Failure}
 use Rattle.bson_shape.specs.Form.{Form}
 use Rattle.bson_laws.specs.Settled.{IsSettled}
-use Rattle.bson_recast_run.specs.Recasting.{Recast, writes, unread, unwritten, recast_of, Unwritten}
+use Rattle.bson_tree_recast.specs.Recast.{Recast, writes, unread, unwritten, recast_of, Unwritten}
 use Rattle.bson_buffers.specs.Asked.{NoShape, shape_of_bytes, DenotesShape}
 use Rattle.bson_buffers.specs.Checks.{NoShapeRow}
 use Rattle.bson_buffers.specs.Buffers.{Call, Writes, LacksSpace, Tells, IsSilent}

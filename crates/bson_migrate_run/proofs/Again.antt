@@ -19,7 +19,7 @@ use Rattle.bson_rawdoc.proofs.Pieces.{cut-nil, cut_more}
 use Rattle.bson_shape.specs.Form.{Form}
 use Rattle.bson_shape.specs.Makers.{IsShape}
 use Rattle.bson_laws.specs.Settled.{IsSettled}
-use Rattle.bson_recast_run.specs.Recasting.{Recast, writes, unread, unwritten, recast_of}
+use Rattle.bson_tree_recast.specs.Recast.{Recast, writes, unread, unwritten, recast_of}
 use Rattle.bson_recast_run.proofs.Again.{recast_again, recast_framed}
 use Rattle.bson_migrate_run.specs.declared.migrating.Migration.{Migration}
 use Rattle.bson_migrate_run.specs.declared.migrating.MigrateError.{MigrateError}

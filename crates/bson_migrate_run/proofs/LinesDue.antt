@@ -8,11 +8,11 @@ use Rattle.bson_datum.specs.ErrorView.{read_failure, write_failure}
 use Rattle.bson_datum.specs.Printed.{printed_failure, printed_read_fault, printed_write_fault}
 use Rattle.bson_datum.specs.Refusal.{ReadFault, Failure}
 use Rattle.bson_shape.specs.Form.{Form}
-use Rattle.bson_recast_run.specs.declared.recasting.RecastError.{RecastError}
-use Rattle.bson_recast_run.specs.declared.recasting.RecastError.TheVariants.{Read, Write, NoMemory}
+use Rattle.bson_tree_recast.specs.declared.error.RecastError.{RecastError}
+use Rattle.bson_tree_recast.specs.declared.error.RecastError.TheVariants.{Read, Write, NoMemory}
 use Rattle.bson_recast_run.specs.Due.{read_refused_line}
-use Rattle.bson_recast_run.specs.Printed.{recast_error_text}
-use Rattle.bson_recast_run.specs.Recasting.{Recast, writes, unread, unwritten, IsRefusal}
+use Rattle.bson_tree_recast.specs.Printed.{recast_error_text}
+use Rattle.bson_tree_recast.specs.Recast.{Recast, writes, unread, unwritten, IsRefusal}
 use Rattle.bson_program.specs.ShapeWord.{newline}
 use Rattle.bson_migrate_run.specs.declared.migrating.Migration.{Migration}
 use Rattle.bson_migrate_run.specs.declared.migrating.Refused.{Refused}

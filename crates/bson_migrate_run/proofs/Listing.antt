@@ -6,9 +6,9 @@ use Rattle.bson_base.specs.Text.{Bytes}
 use Rattle.bson_rawdoc.specs.Cut.{Cut, whole, with_piece, piece_length, cut_at, cut_within, cut_from, cut}
 use Rattle.bson_rawdoc.proofs.Pieces.{piece_fits}
 use Rattle.bson_shape.specs.Form.{Form}
-use Rattle.bson_recast_run.specs.declared.recasting.RecastError.{RecastError}
-use Rattle.bson_recast_run.specs.declared.recasting.RecastError.TheVariants.{Read, Write, NoMemory}
-use Rattle.bson_recast_run.specs.Recasting.{Recast, writes, unread, unwritten, recast_of, IsRefusal}
+use Rattle.bson_tree_recast.specs.declared.error.RecastError.{RecastError}
+use Rattle.bson_tree_recast.specs.declared.error.RecastError.TheVariants.{Read, Write, NoMemory}
+use Rattle.bson_tree_recast.specs.Recast.{Recast, writes, unread, unwritten, recast_of, IsRefusal}
 use Rattle.bson_migrate_run.specs.declared.migrating.Migration.{Migration}
 use Rattle.bson_migrate_run.specs.declared.migrating.Refused.{Refused}
 use Rattle.bson_migrate_run.specs.Migrating.{NotRecast, bytes_of, outputs, listed, not_recast, migration_by, migration_of, AreListed, IsMigration}

@@ -4,10 +4,10 @@ use Rattle.std.specs.Fmt.{decimal}
 use Rattle.bson_base.specs.Text.{Utf8}
 use Rattle.bson_datum.specs.Refusal.{WriteFault, Failure}
 use Rattle.bson_recast_run.specs.Due.{read_refused_line, write_refused_line}
-use Rattle.bson_recast_run.specs.Printed.{recast_error_text}
+use Rattle.bson_tree_recast.specs.Printed.{recast_error_text}
 use Rattle.bson_program.specs.OneShape.{Usage}
 use Rattle.bson_program.specs.ShapeWord.{newline}
-use Rattle.bson_recast_run.specs.Recasting.{Recast, writes, unread, unwritten, Unwritten}
+use Rattle.bson_tree_recast.specs.Recast.{Recast, writes, unread, unwritten, Unwritten}
 use Rattle.bson_migrate_run.specs.declared.migrating.MigrateError.{MigrateError}
 use Rattle.bson_migrate_run.specs.declared.migrating.MigrateError.TheVariants.{Broken, NoMemory}
 use Rattle.bson_migrate_run.specs.declared.migrating.Refused.{Refused}

@@ -3,8 +3,8 @@ use Rattle.std.specs.Prelude.{◌≡◌, ◌≢◌, ℕ, suc, List, [], ◌∷�
 use Rattle.bson_base.specs.Text.{Bytes}
 use Rattle.bson_rawdoc.specs.Cut.{Cut, cut}
 use Rattle.bson_shape.specs.Form.{Form}
-use Rattle.bson_recast_run.specs.declared.recasting.RecastError.TheVariants.{NoMemory}
-use Rattle.bson_recast_run.specs.Recasting.{Recast, writes, unread, unwritten, recast_of, IsRefusal}
+use Rattle.bson_tree_recast.specs.declared.error.RecastError.TheVariants.{NoMemory}
+use Rattle.bson_tree_recast.specs.Recast.{Recast, writes, unread, unwritten, recast_of, IsRefusal}
 use Rattle.bson_migrate_run.specs.declared.migrating.Migration.{Migration}
 use Rattle.bson_migrate_run.specs.declared.migrating.MigrateError.{MigrateError}
 use Rattle.bson_migrate_run.specs.declared.migrating.MigrateError.TheVariants as errors

@@ -3,7 +3,7 @@ use Rattle.std.specs.Prelude.{◌≡◌, ◌+◌, ℕ, List, [], ◌++◌, lengt
 use Rattle.bson_base.specs.Text.{Bytes}
 use Rattle.bson_rawdoc.specs.Cut.{Cut, cut}
 use Rattle.bson_shape.specs.Form.{Form}
-use Rattle.bson_recast_run.specs.Recasting.{Recast}
+use Rattle.bson_tree_recast.specs.Recast.{Recast}
 use Rattle.bson_migrate_run.specs.declared.migrating.Refused.{Refused}
 use Rattle.bson_migrate_run.specs.Migrating.{bytes_of, outputs, listed, not_recast, AreListed}
 

@@ -1,7 +1,7 @@
 // A file of documents, each read at a shape and written anew.
 ghost use Rattle.std.specs.Prelude.{◌≡◌, [], IfOk};
 ghost use Rattle.bson_laws.specs.Settled.{IsSettled};
-ghost use Rattle.bson_recast_run.specs.Recasting.{recast_of};
+ghost use Rattle.bson_tree_recast.specs.Recast.{recast_of};
 ghost use Rattle.bson_migrate_run.specs.Migrating.{migration_of, migrated, IsMigration};
 ghost use Rattle.bson_migrate_run.specs.Step.{IsOneMigrated};
 

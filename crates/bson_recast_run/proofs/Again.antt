@@ -1,9 +1,8 @@
 -- What was recast is recast again as the same bytes.
 use Rattle.std.proofs.Common.{◌≡◌, ◌≤◌, [], length, Bool, true, false, Result, Ok, Err, Option, Some, None, refl, ap, sym, subst, ◌∙◌, arith, inl, inr}
-use Rattle.std.specs.Prelude.{◌⊎◌, ℕ, nat_lt, IfOk}
+use Rattle.std.specs.Prelude.{◌⊎◌, ℕ, IfOk}
 use Rattle.std.specs.Global.{Vec}
 use Rattle.std.specs.Io.KnownBytes.{Appends}
-use Rattle.std.proofs.lemmas.Bool.{le-ltb, ltb-false}
 use Rattle.bson_base.specs.Outcome.{result_map}
 use Rattle.bson_base.specs.Sound.{max_bytes, max_levels}
 use Rattle.bson_base.specs.Text.{Bytes, AreBytes}
@@ -17,13 +16,14 @@ use Rattle.bson_shape.specs.Form.{Form}
 use Rattle.bson_shape.specs.Makers.{IsShape}
 use Rattle.bson_datum.specs.Cause.{raw}
 use Rattle.bson_datum.specs.Marked.{contents}
-use Rattle.bson_datum.specs.Refusal.{ReadFault, Failure, bare, unreadable}
+use Rattle.bson_datum.specs.Refusal.{bare, unreadable}
 use Rattle.bson_datum.specs.Value.{Value}
 use Rattle.bson_laws.specs.CompactReads.{reads}
 use Rattle.bson_laws.specs.Reads.{answered, reads_document}
 use Rattle.bson_laws.specs.Settled.{IsSettled}
-use Rattle.bson_laws.specs.Spell.{Writing, spell_document, size}
-use Rattle.bson_laws.proofs.ReadAgain.{document_again, document_size}
+use Rattle.bson_laws.specs.Spell.{spell_document}
+use Rattle.bson_laws.proofs.AtShapes.{document_again}
+use Rattle.bson_laws.proofs.ReadAgain.{document_size}
 use Rattle.bson_program.proofs.Inputs.{whole}
 use Rattle.bson_program.specs.Command.{IsAskedFor}
 use Rattle.bson_program.specs.Ends.{ReadAs}
@@ -33,49 +33,26 @@ use Rattle.bson_program.specs.Run.{Run, AllQuiet, AreKept, AreWritten, Told, Cut
 use Rattle.bson_de_raw.specs.ReadsLossy.{reads_lossy}
 use Rattle.bson_de_raw.proofs.Lossy.{lossy_document_again}
 use Rattle.bson_recast_run.specs.declared.options.Job.{Job}
-use Rattle.bson_recast_run.specs.declared.recasting.RecastError.{RecastError}
+use Rattle.bson_recast_run.specs.declared.options.Way.{Way}
+use Rattle.bson_recast_run.specs.declared.options.Way.TheVariants as ways
+use Rattle.bson_tree_recast.proofs.Written.{Reader, written_as, recast_as}
+use Rattle.bson_tree_recast.specs.declared.error.RecastError.{RecastError}
 use Rattle.bson_recast_run.specs.declared.status.Status.{Status}
 use Rattle.bson_recast_run.specs.declared.status.Status.TheVariants as statuses
 use Rattle.bson_recast_run.specs.Digits.{document_in, shown}
-use Rattle.bson_recast_run.specs.Options.{recast_command, request, AskForDigits}
-use Rattle.bson_recast_run.specs.Recasting.{writes, written, recast_read, recast_of, lossy_recast_of, recast_with, IsRecast}
+use Rattle.bson_recast_run.specs.Options.{recast_command, request, AskForDigits, IsByValue}
+use Rattle.bson_tree_recast.specs.Recast.{writes, written, recast_read, recast_of, IsRecast}
+use Rattle.bson_recast_run.specs.Recasting.{lossy_recast_of, recast_with}
 use Rattle.bson_recast_run.specs.Rows.{AnswersDocument, AnswersJob, recast_input, recast_program, WritesExactly}
 use Rattle.bson_recast_run.proofs.AskedFor.{options_asked}
 use Rattle.bson_recast_run.proofs.DigitsBack.{document_are, shown_holds}
 use Rattle.bson_recast_run.proofs.Headline.{writes_job}
-
--- how a document's bytes are read
-abbrev Reader : Type 0
-Reader = Bytes → Result Value (Failure ReadFault)
-
--- a value that was read, and the document that it is written as
-pub record IsWrittenAs (read : Reader) (bytes out : Bytes) : Type 0 where
-  pub value : Value
-  pub tree : Tree
-  pub is_read : read bytes ≡ Ok value
-  pub spelled : spell_document value ≡ Ok tree
-  pub fits : size value ≤ max_bytes
-  pub is : out ≡ enc tree
-
-value_written : (read : Reader) (bytes out : Bytes) (d : Value) (long : Bool) (w : Writing Tree) → read bytes ≡ Ok d → nat_lt max_bytes (size d) ≡ long → spell_document d ≡ w → written long w ≡ writes out → IsWrittenAs read bytes out
-value_written read bytes out d long (Err r) is fits spelled e = absurd cc
-value_written read bytes out d true (Ok t) is fits spelled e = absurd cc
-value_written read bytes out d false (Ok t) is fits spelled e = record { value = d; tree = t; is_read = is; spelled = spelled; fits = ltb-false _ _ fits; is = cc }
-
-written_as : (read : Reader) (bytes out : Bytes) (answer : Result Value (Failure ReadFault)) → read bytes ≡ answer → recast_read answer ≡ writes out → IsWrittenAs read bytes out
-written_as read bytes out (Err f) is e = absurd cc
-written_as read bytes out (Ok d) is e = value_written read bytes out d (nat_lt max_bytes (size d)) (spell_document d) is refl refl e
 
 -- what is written has at most as many bytes as a document may
 written_fits : (read : Reader) (bytes out : Bytes) → recast_read (read bytes) ≡ writes out → length out ≤ max_bytes
 written_fits read bytes out e =
     let w = written_as read bytes out (read bytes) refl e in
     omega (arith, w.fits, document_size w.value w.tree w.spelled, ap length w.is)
-
--- what is read as a value that is written as a document of few enough bytes is recast as the document
-recast_as : (read : Reader) (bytes : Bytes) (d : Value) (t : Tree) → read bytes ≡ Ok d → spell_document d ≡ Ok t → length (enc t) ≤ max_bytes → recast_read (read bytes) ≡ writes (enc t)
-recast_as read bytes d t is spelled fits =
-    ap recast_read is ∙ ap (written (nat_lt max_bytes (size d))) spelled ∙ ap (λ b. written b (Ok t)) (le-ltb _ _ (omega (arith, document_size d t spelled, fits)))
 
 -- what is read and spelled as a document is read of the document again, as what is spelled as it
 abbrev ReadsAgain : Reader → Type 0
@@ -103,14 +80,16 @@ pub given_lossy_back : (s : Form) (bytes : Bytes) → IsShape s → IsSettled s 
 given_lossy_back s bytes shape due are (Ok v) h = lossy_again s bytes v.items shape due are h
 given_lossy_back s bytes shape due are (Err e) h = tt
 
--- the same with the option or without it
-with_again : (lossy : Bool) (s : Form) (bytes out : Bytes) → IsShape s → IsSettled s → AreBytes bytes → recast_with lossy s bytes ≡ writes out → recast_with lossy s out ≡ writes out
-with_again false s bytes out shape due are e = recast_again s bytes out shape due are e
-with_again true s bytes out shape due are e = lossy_again s bytes out shape due are e
+-- the same in each way that is by value
+with_again : (way : Way) (s : Form) (bytes out : Bytes) → IsByValue way → IsShape s → IsSettled s → AreBytes bytes → recast_with way s bytes ≡ writes out → recast_with way s out ≡ writes out
+with_again ways.Plain s bytes out by shape due are e = recast_again s bytes out shape due are e
+with_again ways.Lossy s bytes out by shape due are e = lossy_again s bytes out shape due are e
+with_again ways.Tree s bytes out by shape due are e = absurd by
 
-with_fits : (lossy : Bool) (s : Form) (bytes out : Bytes) → recast_with lossy s bytes ≡ writes out → length out ≤ max_bytes
-with_fits false s bytes out e = written_fits (reads_document s) bytes out e
-with_fits true s bytes out e = written_fits (reads_lossy s) bytes out e
+with_fits : (way : Way) (s : Form) (bytes out : Bytes) → IsByValue way → recast_with way s bytes ≡ writes out → length out ≤ max_bytes
+with_fits ways.Plain s bytes out by e = written_fits (reads_document s) bytes out e
+with_fits ways.Lossy s bytes out by e = written_fits (reads_lossy s) bytes out e
+with_fits ways.Tree s bytes out by e = absurd by
 
 -- ---- two runs
 
@@ -125,7 +104,7 @@ pub record IsDone (job : Job) (held : Option Bytes) (out : Bytes) : Type 0 where
   pub document : Bytes
   pub holds : held ≡ Some document
   pub written : Bytes
-  pub answer : recast_with job.options.lossy job.shape document ≡ writes written
+  pub answer : recast_with job.options.way job.shape document ≡ writes written
   pub are_bytes : AreBytes written
   pub shows : out ≡ shown job.options.hex written
 
@@ -164,24 +143,26 @@ shown_fits : (hex : Bool) (document out : Bytes) → length document ≤ max_byt
 shown_fits false document out small is digits = omega (arith, small, ap length is)
 shown_fits true document out small is digits = digits refl
 
--- A run that ended well on an input of bytes, at a shape that does not depend on whether the reader is human, wrote `out` to an empty output: a run with the
+-- A run by value that ended well on an input of bytes, at a shape that does not depend on whether the reader is human, wrote `out` to an empty output: a run with the
 -- same words on `out` writes exactly it, or nothing. Digits may be more than an input may have.
-pub run_again : (first second : Run Status) (job : Job) (given out : Bytes) → request first.words ≡ Ok job → IsSettled job.shape → IsAnswered recast_program first → first.status ≡ statuses.Done → AreBytes given → first.input.before ≡ Some given
+pub run_again : (first second : Run Status) (job : Job) (given out : Bytes) → request first.words ≡ Ok job → IsByValue job.options.way → IsSettled job.shape → IsAnswered recast_program first → first.status ≡ statuses.Done → AreBytes given → first.input.before ≡ Some given
     → first.out.before ≡ Some [] → first.out.after ≡ Some out → (AskForDigits first.words → length out ≤ max_bytes) → IsAnswered recast_program second → second.words ≡ first.words
     → second.input.before ≡ Some out → AllQuiet second → WritesExactly second out
-run_again first second job given out asked due answers done are told empty holds short again words input quiet =
+run_again first second job given out asked value due answers done are told empty holds short again words input quiet =
     let h = has_written first done answers in
     let d = h.done in
     let o = h.job.options in
     let s = h.job.shape in
     let is_input : h.bytes ≡ given = whole first.input.before first.input.after h.bytes given h.read.taken h.read.ended told in
     let is_out : h.out ≡ out = grown first.out.before first.out.after h.out out empty holds h.out_grew in
-    let settled : IsSettled s = subst (λ (j : Job). IsSettled j.shape) (ok_is job h.job (sym asked ∙ h.asked.is)) due in
+    let same_job : job ≡ h.job = ok_is job h.job (sym asked ∙ h.asked.is) in
+    let settled : IsSettled s = subst (λ (j : Job). IsSettled j.shape) same_job due in
+    let by : IsByValue o.way = subst (λ (j : Job). IsByValue j.options.way) same_job value in
     let held : document_in o.hex given ≡ Some d.document = sym (ap (document_in o.hex) is_input) ∙ d.holds in
     let shows : out ≡ shown o.hex d.written = sym is_out ∙ d.shows in
     let small : length out ≤ max_bytes =
-    shown_fits o.hex d.written out (with_fits o.lossy s d.document d.written d.answer) shows (λ hex. short (ap (λ p. p.hex) (options_asked first.words h.job h.asked.is) ∙ hex)) in
-    let next : recast_with o.lossy s d.written ≡ writes d.written = with_again o.lossy s d.document d.written h.asked.asks.made settled (document_are o.hex given d.document are held) d.answer in
+    shown_fits o.hex d.written out (with_fits o.way s d.document d.written by d.answer) shows (λ hex. short (ap (λ p. p.hex) (options_asked first.words h.job h.asked.is) ∙ hex)) in
+    let next : recast_with o.way s d.written ≡ writes d.written = with_again o.way s d.document d.written by h.asked.asks.made settled (document_are o.hex given d.document are held) d.answer in
     subst (WritesExactly second) (sym shows)
     (writes_job h.job out d.written d.written second again small (ap (document_in o.hex) shows ∙ shown_holds o.hex d.written d.are_bytes) next (ap request words ∙ h.asked.is) input quiet)
 

@@ -10,7 +10,7 @@ use Rattle.bson_shape.specs.Form.{Form}
 use Rattle.bson_laws.specs.Spell.{spell_document, size}
 use Rattle.bson_laws.proofs.ReadAgain.{document_size}
 use Rattle.bson_one_pass.specs.Recast.{IsRecastAs}
-use Rattle.bson_recast_run.specs.Recasting.{writes, recast_read, recast_of}
+use Rattle.bson_tree_recast.specs.Recast.{writes, recast_read, recast_of}
 use Rattle.bson_recast_run.proofs.RecastErrors.{within}
 
 pub at_once : (s : Form) (bytes made : Bytes) → IsRecastAs s bytes made → recast_of s bytes ≡ writes made

@@ -1,5 +1,5 @@
 -- The line of the digits of bytes stands for the bytes.
-use Rattle.std.proofs.Common.{◌≡◌, ℕ, zero, suc, ◌<◌, [], ◌∷◌, length, get_or, Bool, true, false, cond, Some, Result, Ok, Err, refl, ap, sym, subst, ◌∙◌, append-nil, arith, inl, inr}
+use Rattle.std.proofs.Common.{◌≡◌, ℕ, [], ◌∷◌, length, Bool, true, false, cond, Some, Result, Ok, Err, refl, ap, sym, subst, ◌∙◌, append-nil, arith, inl, inr}
 use Rattle.std.specs.Prelude.{not, ◌==◌, ◌||◌}
 use Rattle.std.specs.List.{AllPass, filter}
 use Rattle.std.specs.Result.{result_ok}
@@ -10,6 +10,7 @@ use Rattle.bson_base.specs.Text.{Bytes, AreBytes}
 use Rattle.hex.specs.Hex.{IsBytes, decode_of, encode_lower, is_hex_digit}
 use Rattle.hex.specs.declared.error.FromHexError.{FromHexError}
 use Rattle.hex.proofs.HexLemmas.{decode_of-encode_lower, decode_of-ok}
+use Rattle.bson_tree_recast.proofs.Written.{same_at}
 use Rattle.bson_recast_run.specs.Digits.{is_blank, bytes_of_digits, digits_line, document_in, shown}
 
 abbrev counts : ℕ → Bool
@@ -32,11 +33,6 @@ digits_count [] all = refl
 digits_count (c ∷ text) all =
     keeps (counts c) c text (digit_counts c (c == 32) (c == 9) (c == 13) (c == 10) refl refl refl refl (All-head (λ x. is_hex_digit x ≡ true) c text all))
     (digits_count text (All-tail (λ x. is_hex_digit x ≡ true) c text all))
-
-pub same_at : (bs : Bytes) (k d : ℕ) → k < length bs → get_or bs k d ≡ get_or bs k 0
-same_at [] k d lt = absurd (omega arith)
-same_at (b ∷ bs) zero d lt = refl
-same_at (b ∷ bs) (suc k) d lt = same_at bs k d (omega arith)
 
 each_byte : (b : Bytes) → AreBytes b → IsBytes b
 each_byte b all i = elim (cases_lt i (length b)) [

@@ -6,7 +6,7 @@ use Rattle.std.proofs.lemmas.Bool.{eqb-true}
 use Rattle.bson_base.specs.Sound.{IsSound, max_bytes}
 use Rattle.bson_base.specs.Text.{Bytes, Utf8}
 use Rattle.bson_base.specs.Tree.{Tree, enc}
-use Rattle.bson_shape.specs.Form.{dropped, denied, Form, leaf, optional, lossy, human_readable, by_mode, newtype, unit_structure, sequence, map, tuple, tuple_structure, structure, enumeration}
+use Rattle.bson_shape.specs.Form.{dropped, denied, Form, leaf, optional, lossy, human_readable, by_mode, newtype, unit_structure, sequence, map, tuple, tuple_structure, structure, enumeration, reference, definitions, no_fields}
 use Rattle.bson_shape.specs.Makers.{IsShape}
 use Rattle.bson_shape.specs.Notation.{text, bare, quoted}
 use Rattle.bson_shape.specs.Leaf.{word}
@@ -14,7 +14,7 @@ use Rattle.bson_shape.proofs.Words.{bare-word}
 use Rattle.bson_datum.specs.Value.{Value}
 use Rattle.bson_laws.specs.Means.{means}
 use Rattle.bson_laws.specs.Plain.{IsPlain}
-use Rattle.bson_laws.specs.Views.{views}
+use Rattle.bson_laws.specs.Recursive.{view}
 use Rattle.bson_recast_run.specs.declared.options.Job.{Job}
 use Rattle.bson_recast_run.specs.declared.status.Status.{Status}
 use Rattle.bson_recast_run.specs.declared.status.Status.TheVariants as statuses
@@ -24,7 +24,8 @@ use Rattle.bson_program.specs.Program.{IsAnswered}
 use Rattle.bson_program.specs.Run.{Run, AllQuiet, AreKept, Told}
 use Rattle.bson_recast_run.specs.Digits.{document_in, shown}
 use Rattle.bson_recast_run.specs.Options.{no_options, job_of, request}
-use Rattle.bson_recast_run.specs.Recasting.{writes, recast_with}
+use Rattle.bson_tree_recast.specs.Recast.{writes}
+use Rattle.bson_recast_run.specs.Recasting.{recast_with}
 use Rattle.bson_recast_run.specs.Rows.{AnswersRecast, AnswersDocument, AnswersJob, recast_input, recast_program, WritesExactly}
 use Rattle.bson_recast_run.proofs.AskedFor.{asked_alone}
 use Rattle.bson_recast_run.proofs.Migrates.{recasts_it}
@@ -66,6 +67,8 @@ no_option (map key s) = refl
 no_option (tuple ps) = refl
 no_option (tuple_structure name ps) = begins_no_option (bare name) name _ refl
 no_option (enumeration vs) = refl
+no_option (reference name) = refl
+no_option (definitions h s) = refl
 no_option (structure dropped [] fs) = refl
 no_option (structure denied [] fs) = refl
 no_option (structure u (c ∷ name) fs) = begins_no_option (bare (c ∷ name)) (c ∷ name) _ refl
@@ -87,7 +90,7 @@ writes_due hex document status bytes line h = absurd h
 
 -- Asked for a job on this input, which holds a document whose recast writes another, exactly that is written, or nothing.
 pub writes_job : (job : Job) (doc held out : Bytes) (r : Run Status) → IsAnswered recast_program r → length doc ≤ max_bytes → document_in job.options.hex doc ≡ Some held
-    → recast_with job.options.lossy job.shape held ≡ writes out → request r.words ≡ Ok job → r.input.before ≡ Some doc → AllQuiet r → WritesExactly r (shown job.options.hex out)
+    → recast_with job.options.way job.shape held ≡ writes out → request r.words ≡ Ok job → r.input.before ≡ Some doc → AllQuiet r → WritesExactly r (shown job.options.hex out)
 writes_job job doc held out r answers small holds recast_is asked told quiet =
     by_end (quiet_read recast_program recast_input (AnswersJob job) r job doc quiet asked (λ status bytes line h. h) told small answers) where
       by_end : Told (AnswersJob job doc) r ⊎ ((r.status ≡ statuses.NoMemory) × AreKept r.out r.err) → WritesExactly r (shown job.options.hex out)
@@ -98,6 +101,6 @@ writes_job job doc held out r answers small holds recast_is asked told quiet =
       by_end (inr h) = inr h
 
 -- Given the notation of a shape and the bytes of a sound document, whose value at the shape means a sound document, exactly that document is written, or nothing.
-pub headline : (s : Form) (t u : Tree) (d : Value) (r : Run Status) → IsAnswered recast_program r → IsShape s → IsPlain s → IsSound t → views s t ≡ Some d → means d ≡ Some u → IsSound u → r.words ≡ text s ∷ [] → r.input.before ≡ Some (enc t) → AllQuiet r → WritesExactly r (enc u)
-headline s t u d r answers shape plain sound view mean clean words told quiet =
-    writes_job (job_of no_options s) (enc t) (enc t) (enc u) r answers sound.fits refl (recasts_it s (enc t) t u d shape plain sound view mean clean refl) (asked_alone s r.words (no_option s) shape words) told quiet
+pub headline : (s : Form) (t u : Tree) (d : Value) (r : Run Status) → IsAnswered recast_program r → IsShape s → IsPlain s → IsSound t → view no_fields s t ≡ Some d → means d ≡ Some u → IsSound u → r.words ≡ text s ∷ [] → r.input.before ≡ Some (enc t) → AllQuiet r → WritesExactly r (enc u)
+headline s t u d r answers shape plain sound seen mean clean words told quiet =
+    writes_job (job_of no_options s) (enc t) (enc t) (enc u) r answers sound.fits refl (recasts_it s (enc t) t u d shape plain sound seen mean clean refl) (asked_alone s r.words (no_option s) shape words) told quiet

@@ -6,7 +6,7 @@ use Rattle.std.proofs.lemmas.Bool.{le-ltb, ltb-true}
 use Rattle.bson_base.specs.Text.{Bytes, AreBytes}
 use Rattle.bson_base.specs.Sound.{IsSound, max_bytes}
 use Rattle.bson_base.specs.Tree.{Tree, enc}
-use Rattle.bson_shape.specs.Form.{Form, lossy}
+use Rattle.bson_shape.specs.Form.{Form, lossy, no_fields}
 use Rattle.bson_shape.specs.Makers.{IsShape}
 use Rattle.bson_datum.specs.Value.{Value}
 use Rattle.bson_datum.specs.Cause.{too_long}
@@ -16,17 +16,17 @@ use Rattle.bson_laws.specs.Means.{means}
 use Rattle.bson_laws.specs.Plain.{OwnsTexts, IsPlain}
 use Rattle.bson_laws.specs.Reads.{reads_document}
 use Rattle.bson_laws.specs.Spell.{Writing, IsWrittenUnlessLarge, IsNumber, HoldsNumbers, spell_document, size}
-use Rattle.bson_laws.specs.Views.{views}
+use Rattle.bson_laws.specs.Recursive.{view}
 use Rattle.bson_laws.specs.Writable.{IsWritable}
-use Rattle.bson_laws.proofs.ReadBack.{views_reads}
-use Rattle.bson_laws.proofs.Documents.{document_written, document_numbers}
+use Rattle.bson_laws.proofs.AtShapes.{views_reads, document_written, document_numbers}
 use Rattle.bson_laws.proofs.Spelled.{spell_means}
 use Rattle.bson_de_raw.specs.ReadsLossy.{reads_lossy}
 use Rattle.bson_de_raw.proofs.Lossy.{lossy_numbers, lossy_written, lossy_views_read}
 use Rattle.bson_ser_stream.specs.Writing.{IsDue, too_long_failure}
-use Rattle.bson_recast_run.specs.declared.recasting.RecastError.{RecastError}
-use Rattle.bson_recast_run.specs.declared.recasting.RecastError.TheVariants.{Read, Write, NoMemory}
-use Rattle.bson_recast_run.specs.Recasting.{writes, unread, written, recast_read, recast_of, lossy_recast_of, Unwritten, IsRecast, GivesBytes, IsForSize, IsForNoNumber, IfUnwritten}
+use Rattle.bson_tree_recast.specs.declared.error.RecastError.{RecastError}
+use Rattle.bson_tree_recast.specs.declared.error.RecastError.TheVariants.{Read, Write, NoMemory}
+use Rattle.bson_tree_recast.specs.Recast.{writes, unread, written, recast_read, recast_of, Unwritten, IsRecast}
+use Rattle.bson_recast_run.specs.Recasting.{lossy_recast_of, GivesBytes, IsForSize, IsForNoNumber, IfUnwritten}
 
 -- what is read as a value that means a sound document
 module _ (answer : Result Value (Failure ReadFault)) (u : Tree) (d : Value) (read : answer ≡ Ok d) (mean : means d ≡ Some u) (clean : IsSound u) where
@@ -43,9 +43,9 @@ module _ (answer : Result Value (Failure ReadFault)) (u : Tree) (d : Value) (rea
   gives (Err (Write e)) h = subst (λ x. Unwritten x (write_failure e)) comes_to h
   gives (Err NoMemory) h = tt
 
-module _ (s : Form) (bytes : Bytes) (t u : Tree) (d : Value) (shape : IsShape s) (plain : IsPlain s) (sound : IsSound t) (view : views s t ≡ Some d) (mean : means d ≡ Some u) (clean : IsSound u) (is : bytes ≡ enc t) where
+module _ (s : Form) (bytes : Bytes) (t u : Tree) (d : Value) (shape : IsShape s) (plain : IsPlain s) (sound : IsSound t) (seen : view no_fields s t ≡ Some d) (mean : means d ≡ Some u) (clean : IsSound u) (is : bytes ≡ enc t) where
   reads_it : reads_document s bytes ≡ Ok d
-  reads_it = ap (reads_document s) is ∙ views_reads s t d shape plain sound view
+  reads_it = ap (reads_document s) is ∙ views_reads s t d shape plain sound seen
 
   pub recasts_it : recast_of s bytes ≡ writes (enc u)
   recasts_it = comes_to (reads_document s bytes) u d reads_it mean clean
@@ -55,7 +55,7 @@ module _ (s : Form) (bytes : Bytes) (t u : Tree) (d : Value) (shape : IsShape s)
 
   -- the same where texts are mended
   pub lossy_migrates : OwnsTexts s → (r : Result (Vec ℕ) RecastError) → IsRecast (lossy_recast_of s bytes) r → GivesBytes (enc u) r
-  lossy_migrates owned = gives (reads_lossy s bytes) u d (ap (reads_lossy s) is ∙ lossy_views_read s t d shape owned plain sound view) mean clean
+  lossy_migrates owned = gives (reads_lossy s bytes) u d (ap (reads_lossy s) is ∙ lossy_views_read s t d shape owned plain sound seen) mean clean
 
 -- ---- what was read is refused for its size alone
 

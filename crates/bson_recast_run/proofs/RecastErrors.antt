@@ -12,9 +12,9 @@ use Rattle.bson_datum.specs.ErrorView.{write_failure}
 use Rattle.bson_datum.specs.declared.ser.Error as ser
 use Rattle.bson_laws.specs.Spell.{Writing, spell_document, size}
 use Rattle.bson_ser_stream.specs.Writing.{Fails, IsDue, too_long_failure}
-use Rattle.bson_recast_run.specs.declared.recasting.RecastError.{RecastError}
-use Rattle.bson_recast_run.specs.declared.recasting.RecastError.TheVariants.{Read, Write, NoMemory}
-use Rattle.bson_recast_run.specs.Recasting.{writes, written, recast_read, Unwritten, IsRefusal, IsWriteError}
+use Rattle.bson_tree_recast.specs.declared.error.RecastError.{RecastError}
+use Rattle.bson_tree_recast.specs.declared.error.RecastError.TheVariants.{Read, Write, NoMemory}
+use Rattle.bson_tree_recast.specs.Recast.{writes, written, recast_read, Unwritten, IsRefusal, IsWriteError}
 
 -- ---- from the halves to the whole
 

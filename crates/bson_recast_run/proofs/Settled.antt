@@ -8,7 +8,8 @@ use Rattle.bson_recast_run.specs.declared.options.Job.{Job}
 use Rattle.bson_recast_run.specs.declared.status.Status.{Status}
 use Rattle.bson_recast_run.specs.declared.status.Status.TheVariants as statuses
 use Rattle.bson_recast_run.specs.Digits.{document_in}
-use Rattle.bson_recast_run.specs.Recasting.{Recast, writes, unread, unwritten, recast_with, Unwritten}
+use Rattle.bson_tree_recast.specs.Recast.{Recast, writes, unread, unwritten, Unwritten}
+use Rattle.bson_recast_run.specs.Recasting.{recast_with}
 use Rattle.bson_recast_run.specs.Rows.{AnswersRecast, AnswersNotDigits, AnswersDocument, AnswersJob, recast_status, document_status, recast_input, recast_program}
 
 status_unwritten : (r : Recast) (f : Failure WriteFault) → Unwritten r f → recast_status r ≡ statuses.WriteRefused
@@ -27,7 +28,7 @@ not_digits_is statuses.ReadRefused out line h = refl
 not_digits_is status out line h = absurd h
 
 document_is : (job : Job) (held : Option Bytes) (status : Status) (out line : Bytes) → AnswersDocument job held status out line → status ≡ document_status job held
-document_is job (Some document) status out line h = status_is job.options.hex (recast_with job.options.lossy job.shape document) status out line h
+document_is job (Some document) status out line h = status_is job.options.hex (recast_with job.options.way job.shape document) status out line h
 document_is job None status out line h = not_digits_is status out line h
 
 pub settled : Settles recast_program

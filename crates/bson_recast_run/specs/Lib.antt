@@ -1,6 +1,5 @@
 pub mod Number
 pub mod Recasting
-pub mod Printed
 pub mod Due
 pub mod Options
 pub mod Digits

@@ -12,27 +12,36 @@ use Rattle.bson_program.specs.ShapeWord.{RefusesWord}
 use Rattle.bson_recast_run.specs.Due.{recast_usage}
 use Rattle.bson_recast_run.specs.declared.options.Job.{Job}
 use Rattle.bson_recast_run.specs.declared.options.Options.{Options}
+use Rattle.bson_recast_run.specs.declared.options.Way.{Way}
+use Rattle.bson_recast_run.specs.declared.options.Way.TheVariants.{Plain, Lossy, Tree}
 
 abbrev pub lossy_option : Utf8
 lossy_option = codes "--lossy"
+
+abbrev pub tree_option : Utf8
+tree_option = codes "--tree"
 
 abbrev pub hex_option : Utf8
 hex_option = codes "--hex"
 
 abbrev pub no_options : Options
-no_options = record { lossy = false; hex = false }
+no_options = record { way = Plain; hex = false }
 
 -- ---- which words are options
 
--- The words are these options, each once, in any order.
-abbrev pub AreGiven : (lossy hex : Bool) → List Utf8 → Type 0
-AreGiven false false words = words ≡ []
-AreGiven true false words = words ≡ lossy_option ∷ []
-AreGiven false true words = words ≡ hex_option ∷ []
-AreGiven true true words = (words ≡ lossy_option ∷ hex_option ∷ []) ⊎ (words ≡ hex_option ∷ lossy_option ∷ [])
+-- the word that asks for a way, where one does
+abbrev pub way_option : Way → List Utf8
+way_option Plain = []
+way_option Lossy = lossy_option ∷ []
+way_option Tree = tree_option ∷ []
+
+-- The words are these options, each once, in any order. `--lossy` and `--tree` are two ways, so they are never together.
+abbrev pub AreGiven : Way → (hex : Bool) → List Utf8 → Type 0
+AreGiven way false words = words ≡ way_option way
+AreGiven way true words = (words ≡ way_option way ++ hex_option ∷ []) ⊎ (words ≡ hex_option ∷ way_option way)
 
 abbrev pub AreOptions : Options → List Utf8 → Type 0
-AreOptions o words = AreGiven o.lossy o.hex words
+AreOptions o words = AreGiven o.way o.hex words
 
 -- The words are options and one word behind them.
 pub record IsList (words : List Utf8) (options : Options) (word : Utf8) : Type 0 where
@@ -62,10 +71,16 @@ RefusesWords words line = (IsNoList words × (line ≡ recast_usage.line)) ⊎ I
 
 -- ---- what they ask for
 
--- the options and the one that a word is; none where it is none, or one that was given before
+-- no option asks for another way
+abbrev pub is_plain : Way → Bool
+is_plain Plain = true
+is_plain way = false
+
+-- the options and the one that a word is; none where it is none, or one that was given before, or where it asks for a second way
 abbrev pub with_option : Options → Utf8 → Option Options
 with_option o word =
-    if bytes_eq word lossy_option && not o.lossy then Some (record o { lossy = true })
+    if bytes_eq word lossy_option && is_plain o.way then Some (record o { way = Lossy })
+    else if bytes_eq word tree_option && is_plain o.way then Some (record o { way = Tree })
     else if bytes_eq word hex_option && not o.hex then Some (record o { hex = true })
     else None
 
@@ -85,6 +100,11 @@ request words = let led = options_of no_options words in result_map (job_of led.
 -- the command line of the recast
 abbrev pub recast_command : Command Job
 recast_command = record { AsksFor = AsksFor; Refuses = RefusesWords; request = request }
+
+-- A document's value is read from its bytes, and written: not by way of trees.
+abbrev pub IsByValue : Way → Type 0
+IsByValue Tree = ⊥
+IsByValue way = Unit {0}
 
 -- The words ask for hexadecimal digits.
 abbrev pub AskForDigits : List Utf8 → Type 0

@@ -12,7 +12,8 @@ use Rattle.bson_recast_run.specs.declared.status.Status.TheVariants as statuses
 use Rattle.bson_recast_run.specs.Digits.{document_in, shown}
 use Rattle.bson_recast_run.specs.Due.{read_refused_line, write_refused_line, too_long_line, not_digits_line}
 use Rattle.bson_recast_run.specs.Options.{recast_command}
-use Rattle.bson_recast_run.specs.Recasting.{Recast, writes, unread, unwritten, recast_with, Unwritten}
+use Rattle.bson_recast_run.specs.Recasting.{recast_with}
+use Rattle.bson_tree_recast.specs.Recast.{Recast, writes, unread, unwritten, Unwritten}
 
 -- The recast writes a document, which is shown in its bytes or in digits, and nothing is told.
 pub record DoneRow (hex : Bool) (recast : Recast) (out line : Bytes) : Type 0 where
@@ -55,7 +56,7 @@ AnswersNotDigits status out line = ⊥
 
 -- what is due for a job on the document that an input holds
 abbrev pub AnswersDocument : Job → Option Bytes → Due Status
-AnswersDocument job (Some document) = AnswersRecast job.options.hex (recast_with job.options.lossy job.shape document)
+AnswersDocument job (Some document) = AnswersRecast job.options.hex (recast_with job.options.way job.shape document)
 AnswersDocument job None = AnswersNotDigits
 
 -- what is due for a job on a whole input
@@ -70,7 +71,7 @@ recast_status (unwritten due too_long) = statuses.WriteRefused
 
 -- the status for a job on the document that an input holds
 abbrev pub document_status : Job → Option Bytes → Status
-document_status job (Some document) = recast_status (recast_with job.options.lossy job.shape document)
+document_status job (Some document) = recast_status (recast_with job.options.way job.shape document)
 document_status job None = statuses.ReadRefused
 
 -- an input that failed, and one that is too long

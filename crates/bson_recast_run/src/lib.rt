@@ -7,6 +7,7 @@ mod recasting;
 mod running;
 mod status;
 
-pub use recasting::{RecastError, recast, recast_to_buf, recast_utf8_lossy};
+pub use bson_tree_recast::{RecastError, recast_by_tree};
+pub use recasting::{recast, recast_to_buf, recast_utf8_lossy};
 pub use running::{law_run_again, run};
 pub use status::Status;

@@ -1,17 +1,29 @@
 // The options of the command line, and what it asks for.
 ghost use Rattle.std.specs.Prelude.{◌≡◌, map, string_bytes};
-ghost use Rattle.bson_recast_run.specs.Options.{no_options, options_of, with_option};
-ghost use Rattle.bson_recast_run.specs.Recasting.{recast_with, IsRecast};
+ghost use Rattle.bson_recast_run.specs.Options.{is_plain, no_options, options_of, with_option};
+ghost use Rattle.bson_recast_run.specs.Recasting.{recast_with};
+ghost use Rattle.bson_tree_recast.specs.Recast.{IsRecast};
 
-use crate::recasting::{RecastError, recast, recast_utf8_lossy};
+use crate::recasting::{recast, recast_utf8_lossy};
 use bson_shape::Shape;
+use bson_tree_recast::{RecastError, recast_by_tree};
 use std::alloc::Global;
+
+/// How a document is recast.
+#[derive(Clone, Copy)]
+pub(crate) enum Way {
+    /// Its value is read and written.
+    Plain,
+    /// `--lossy`: the same, and texts are mended.
+    Lossy,
+    /// `--tree`: by way of trees.
+    Tree,
+}
 
 /// What the options ask for.
 #[derive(Clone, Copy)]
 pub(crate) struct Options {
-    /// `--lossy`: texts are mended.
-    pub(crate) lossy: bool,
+    pub(crate) way: Way,
     /// `--hex`: the input and the output are hexadecimal digits.
     pub(crate) hex: bool,
 }
@@ -23,14 +35,27 @@ pub(crate) struct Job {
     pub(crate) shape: Shape,
 }
 
+impl Way {
+    // Whether no option asks for another way.
+    fn is_plain(self) -> bool
+        ensures { result ≡ is_plain self }
+    {
+        matches!(self, Way::Plain)
+    }
+}
+
 impl Options {
-    // These options and the one that a word is; `None` where it is none, or one that was given before.
+    // These options and the one that a word is; `None` where it is none, or one that was given before, or where `--lossy` and `--tree` would be together.
     fn with(self, word: &str) -> Option<Options>
         ensures { result ≡ with_option self word.now }
     {
         match word {
-            "--lossy" if !self.lossy => Some(Options {
-                lossy: true,
+            "--lossy" if self.way.is_plain() => Some(Options {
+                way: Way::Lossy,
+                ..self
+            }),
+            "--tree" if self.way.is_plain() => Some(Options {
+                way: Way::Tree,
                 ..self
             }),
             "--hex" if !self.hex => Some(Options { hex: true, ..self }),
@@ -45,7 +70,7 @@ pub(crate) fn leading_options(words: &[String]) -> (Options, &[String])
     ensures rest { map string_bytes result.1.now ≡ (options_of no_options (map string_bytes words.now)).1 }
 {
     let mut options = Options {
-        lossy: false,
+        way: Way::Plain,
         hex: false,
     };
     let mut rest = words;
@@ -62,11 +87,12 @@ pub(crate) fn leading_options(words: &[String]) -> (Options, &[String])
 impl Job {
     /// The recast of a document's bytes.
     pub(crate) fn recast(&self, alloc: Global, document: &[u8]) -> Result<Vec<u8>, RecastError>
-        ensures { IsRecast (recast_with self.now.options.lossy self.now.shape document.now) result }
+        ensures { IsRecast (recast_with self.now.options.way self.now.shape document.now) result }
     {
-        if self.options.lossy {
-            return recast_utf8_lossy(alloc, &self.shape, document);
+        match self.options.way {
+            Way::Plain => recast(alloc, &self.shape, document),
+            Way::Lossy => recast_utf8_lossy(alloc, &self.shape, document),
+            Way::Tree => recast_by_tree(alloc, &self.shape, document),
         }
-        recast(alloc, &self.shape, document)
     }
 }

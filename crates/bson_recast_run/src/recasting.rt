@@ -2,17 +2,18 @@ ghost use Rattle.std.specs.Prelude.{◌≡◌, Some, IfOk};
 ghost use Rattle.bson_base.specs.Sound.{IsSound};
 ghost use Rattle.bson_base.specs.Tree.{Tree, enc};
 ghost use Rattle.bson_datum.specs.Value.{Value};
-ghost use Rattle.bson_datum.specs.View.{view};
-ghost use Rattle.bson_laws.specs.Views.{views};
+ghost use Rattle.bson_datum.specs.View.{view as value_of};
+ghost use Rattle.bson_laws.specs.Recursive.{view};
 ghost use Rattle.bson_laws.specs.Means.{means};
 ghost use Rattle.bson_laws.specs.Plain.{OwnsTexts, IsPlain};
 ghost use Rattle.bson_laws.specs.Reads.{reads_document};
 ghost use Rattle.bson_laws.specs.Settled.{IsSettled};
 ghost use Rattle.bson_laws.specs.Writable.{IsWritable};
-ghost use Rattle.bson_shape.specs.Form.{lossy};
+ghost use Rattle.bson_shape.specs.Form.{lossy, no_fields};
 ghost use Rattle.bson_de_raw.specs.Gives.{Gives};
 ghost use Rattle.bson_de_raw.specs.ReadsLossy.{reads_lossy};
-ghost use Rattle.bson_recast_run.specs.Recasting.{recast_of, recast_read, lossy_recast_of, writes, IsRecast, IsAppended, GivesBytes, IsForSize, IsForNoNumber, IfUnwritten};
+ghost use Rattle.bson_recast_run.specs.Recasting.{lossy_recast_of, IsAppended, GivesBytes, IsForSize, IsForNoNumber, IfUnwritten};
+ghost use Rattle.bson_tree_recast.specs.Recast.{recast_of, recast_read, writes, IsRecast};
 
 use bson_datum::{Datum, de, ser};
 use bson_de_raw::{from_slice_at, from_slice_utf8_lossy_at};
@@ -20,80 +21,8 @@ use bson_io::{Out, Steps, Tally};
 use bson_one_pass::{recast_at_once, recast_at_once_utf8_lossy};
 use bson_ser_stream::to_buf;
 use bson_shape::Shape;
-use std::alloc::{AllocError, Global};
-use std::error::Error;
-use std::fmt;
-
-/// Why a document is not recast.
-#[derive(Debug, Drop)]
-pub enum RecastError {
-    /// It is not read at the shape. The error is never `NoMemory`.
-    Read(de::Error),
-    /// It is read, and its value is not written. The error is never `NoMemory`.
-    Write(ser::Error),
-    /// Memory ran out.
-    NoMemory,
-}
-
-impl fmt::Display for RecastError {
-    ghost use Rattle.std.specs.Prelude.{Some};
-    ghost use Rattle.bson_recast_run.specs.Printed.{recast_error_text};
-
-    ghost output = { λ e. Some (recast_error_text e) };
-
-    fn fmt<W: fmt::Write>(&self, f: &mut fmt::Formatter<W>) -> fmt::Result {
-        match self {
-            RecastError::Read(e) => write!(f, "read refused: {e}"),
-            RecastError::Write(e) => write!(f, "write refused: {e}"),
-            RecastError::NoMemory => f.write_str("out of memory"),
-        }
-    }
-}
-
-impl Error for RecastError {}
-
-impl From<AllocError> for RecastError {
-    ghost use Rattle.bson_recast_run.specs.declared.recasting.RecastError.TheVariants.{NoMemory as NoMemoryError};
-
-    ghost from_gives = { λ _ e. e ≡ NoMemoryError };
-
-    fn from(_error: AllocError) -> RecastError {
-        RecastError::NoMemory
-    }
-}
-
-impl From<de::Error> for RecastError {
-    ghost use Rattle.bson_recast_run.specs.Recasting.{IsReadError};
-
-    ghost from_gives = { λ e r. IsReadError e r };
-
-    fn from(error: de::Error) -> RecastError {
-        match error {
-            de::Error::NoMemory => RecastError::NoMemory,
-            e @ (de::Error::Io
-            | de::Error::EndOfStream
-            | de::Error::DeserializationError { .. }
-            | de::Error::WithPath { .. }) => RecastError::Read(e),
-        }
-    }
-}
-
-impl From<ser::Error> for RecastError {
-    ghost use Rattle.bson_recast_run.specs.Recasting.{IsWriteError};
-
-    ghost from_gives = { λ e r. IsWriteError e r };
-
-    fn from(error: ser::Error) -> RecastError {
-        match error {
-            ser::Error::NoMemory => RecastError::NoMemory,
-            e @ (ser::Error::InvalidDocumentKey(_)
-            | ser::Error::InvalidCString(_)
-            | ser::Error::UnsignedIntegerExceededRange(_)
-            | ser::Error::SerializationError { .. }
-            | ser::Error::WithPath { .. }) => RecastError::Write(e),
-        }
-    }
-}
+use bson_tree_recast::RecastError;
+use std::alloc::Global;
 
 /// Reads the bytes of a document at a shape, and gives the bytes of what was read.
 ///
@@ -115,7 +44,7 @@ pub fn recast(alloc: Global, shape: &Shape, bytes: &[u8]) -> Result<Vec<u8>, Rec
     // What is read at the shape is written.
     ensures exact { IsRecast (recast_of shape.now bytes.now) result }
     // A sound document, whose value at a plain shape means a sound document, becomes that document.
-    ensures migrates { (t u : Tree) (d : Value) → IsPlain shape.now → IsSound t → views shape.now t ≡ Some d → means d ≡ Some u → IsSound u
+    ensures migrates { (t u : Tree) (d : Value) → IsPlain shape.now → IsSound t → view no_fields shape.now t ≡ Some d → means d ≡ Some u → IsSound u
         → bytes.now ≡ enc t → GivesBytes (enc u) result }
     // What was written at a shape that does not depend on whether the reader is human is written as the same bytes when it is recast at the shape again.
     ensures again { IsSettled shape.now → IfOk result (λ v. recast_of shape.now v.items ≡ writes v.items) }
@@ -147,7 +76,7 @@ pub fn recast_utf8_lossy(alloc: Global, shape: &Shape, bytes: &[u8]) -> Result<V
     // What is read at the shape, where texts are mended, is written.
     ensures exact { IsRecast (lossy_recast_of shape.now bytes.now) result }
     // A sound document, whose value at a plain shape without `str` means a sound document, becomes that document.
-    ensures migrates { (t u : Tree) (d : Value) → OwnsTexts shape.now → IsPlain shape.now → IsSound t → views shape.now t ≡ Some d → means d ≡ Some u
+    ensures migrates { (t u : Tree) (d : Value) → OwnsTexts shape.now → IsPlain shape.now → IsSound t → view no_fields shape.now t ≡ Some d → means d ≡ Some u
         → IsSound u → bytes.now ≡ enc t → GivesBytes (enc u) result }
     // What was written at a shape that does not depend on whether the reader is human is written as the same bytes when it is recast at the shape again.
     ensures again { IsSettled shape.now → IfOk result (λ v. lossy_recast_of shape.now v.items ≡ writes v.items) }
@@ -163,21 +92,21 @@ pub fn recast_utf8_lossy(alloc: Global, shape: &Shape, bytes: &[u8]) -> Result<V
 
 // The value of the document, without its marks.
 fn read<'de>(alloc: Global, shape: &Shape, bytes: &'de [u8]) -> de::Result<Datum<'de>>
-    ensures exact { Gives view result (reads_document shape.now bytes.now) }
+    ensures exact { Gives value_of result (reads_document shape.now bytes.now) }
 {
     from_slice_at(alloc, shape, bytes)
 }
 
 // The same where texts are mended.
 fn read_lossy<'de>(alloc: Global, shape: &Shape, bytes: &'de [u8]) -> de::Result<Datum<'de>>
-    ensures exact { Gives view result (reads_lossy shape.now bytes.now) }
+    ensures exact { Gives value_of result (reads_lossy shape.now bytes.now) }
 {
     from_slice_utf8_lossy_at(alloc, shape, bytes)
 }
 
 // Appends the bytes of what was read.
 fn write(datum: &Datum<'_>, out: &mut Out) -> Result<(), RecastError>
-    ensures exact { IsAppended (recast_read (Ok (view datum.now))) out.old.bytes out.new.bytes result }
+    ensures exact { IsAppended (recast_read (Ok (value_of datum.now))) out.old.bytes out.new.bytes result }
 {
     let mut steps = Steps::<Tally>::new();
     to_buf(datum, out, &mut steps)?;

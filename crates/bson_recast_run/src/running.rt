@@ -3,11 +3,11 @@ ghost use Rattle.std.specs.Prelude.{◌≡◌, ◌≤◌, [], ◌∷◌, length,
 ghost use Rattle.bson_base.specs.Sound.{IsSound, max_bytes};
 ghost use Rattle.bson_base.specs.Text.{Bytes, AreBytes};
 ghost use Rattle.bson_base.specs.Tree.{Tree, enc};
-ghost use Rattle.bson_shape.specs.Form.{Form};
+ghost use Rattle.bson_shape.specs.Form.{Form, no_fields};
 ghost use Rattle.bson_shape.specs.Makers.{IsShape};
 ghost use Rattle.bson_shape.specs.Notation.{text};
 ghost use Rattle.bson_datum.specs.Value.{Value};
-ghost use Rattle.bson_laws.specs.Views.{views};
+ghost use Rattle.bson_laws.specs.Recursive.{view};
 ghost use Rattle.bson_laws.specs.Means.{means};
 ghost use Rattle.bson_laws.specs.Plain.{IsPlain};
 ghost use Rattle.bson_laws.specs.Settled.{IsSettled};
@@ -18,7 +18,7 @@ ghost use Rattle.bson_program.specs.Prepared.{Says};
 ghost use Rattle.bson_program.specs.Program.{IsDue, IsAnswered};
 ghost use Rattle.bson_program.specs.Run.{Run, run_of, AllQuiet};
 ghost use Rattle.bson_recast_run.specs.Due.{recast_usage};
-ghost use Rattle.bson_recast_run.specs.Options.{AskForDigits, request};
+ghost use Rattle.bson_recast_run.specs.Options.{AskForDigits, IsByValue, request};
 ghost use Rattle.bson_recast_run.specs.Recasting.{recast_with};
 ghost use Rattle.bson_recast_run.specs.Rows.{AnswersRecast, AnswersNotDigits, AnswersJob, recast_program, WritesExactly};
 ghost use Rattle.bson_recast_run.specs.declared.options.Job.{Job};
@@ -27,11 +27,11 @@ ghost use Rattle.bson_recast_run.specs.declared.status.Status.TheVariants as sta
 
 use crate::digits::{bytes_of_digits, shown};
 use crate::options::{Job, leading_options};
-use crate::recasting::RecastError;
 use crate::status::Status;
 use bson_io::{Sink, Source};
 use bson_program::{Answer, Endings, InputEndings, finish, read_input, shape_of_word};
 use bson_shape::Shape;
+use bson_tree_recast::RecastError;
 use std::alloc::{AllocError, Global};
 
 /// The line for words that ask for no recast.
@@ -74,7 +74,7 @@ fn asked(alloc: Global, words: &[String]) -> Result<Result<Job, String>, AllocEr
 
 // What is due for a document. An error means out of memory.
 fn answer_to(alloc: Global, job: &Job, document: &[u8]) -> Result<Answer<Status>, AllocError>
-    ensures { IfOk result (Says (AnswersRecast job.now.options.hex (recast_with job.now.options.lossy job.now.shape document.now))) }
+    ensures { IfOk result (Says (AnswersRecast job.now.options.hex (recast_with job.now.options.way job.now.shape document.now))) }
 {
     match job.recast(alloc, document) {
         Ok(written) => Ok(Answer {
@@ -136,12 +136,12 @@ fn prepare<I: Source>(
 
 /// What a run wrote, given to a run with the same words, is written again as the same bytes, or memory runs out.
 ///
-/// The words ask for a recast at a shape that does not depend on whether the reader is human. The first run ended as `Done`, its input was `given`, and its
+/// The words ask for a recast without `--tree`, at a shape that does not depend on whether the reader is human. The first run ended as `Done`, its input was `given`, and its
 /// output, which was empty, holds `out` now. It says so of the table of answers that each `run` meets (*answers*). With `--hex` the output may have more bytes
 /// than an input may; without it that is never so. The call does nothing.
 pub fn law_run_again()
-    ensures again { (first second : Run Status) (job : Job) (given out : Bytes) → request first.words ≡ Ok job → IsSettled job.shape → IsAnswered recast_program first
-        → first.status ≡ statuses.Done → AreBytes given → first.input.before ≡ Some given → first.out.before ≡ Some [] → first.out.after ≡ Some out
+    ensures again { (first second : Run Status) (job : Job) (given out : Bytes) → request first.words ≡ Ok job → IsByValue job.options.way → IsSettled job.shape
+        → IsAnswered recast_program first → first.status ≡ statuses.Done → AreBytes given → first.input.before ≡ Some given → first.out.before ≡ Some [] → first.out.after ≡ Some out
         → (AskForDigits first.words → length out ≤ max_bytes) → IsAnswered recast_program second → second.words ≡ first.words → second.input.before ≡ Some out
         → AllQuiet second → WritesExactly second out }
 {}
@@ -149,7 +149,8 @@ pub fn law_run_again()
 /// Judges the words, reads the input to its end, recasts it, and writes what is due.
 ///
 /// The words ask for a recast where they are options, each at most once and in any order, and behind them exactly one word, which does not begin with
-/// `--` and is the notation of a shape. With `--lossy` the texts of the document are mended, as `recast_utf8_lossy` does. With `--hex` the input is
+/// `--` and is the notation of a shape. With `--lossy` the texts of the document are mended, as `recast_utf8_lossy` does; with `--tree` the document is recast by way of
+/// trees, as `recast_by_tree` does; both together are no options. With `--hex` the input is
 /// hexadecimal digits, in either case, between which spaces, tabs, carriage returns and line feeds may stand, and the output is lower-case digits and one
 /// line feed. All memory is taken before the first write. The status says how it ended:
 ///
@@ -172,7 +173,7 @@ pub fn run<I: Source, O: Sink, E: Sink>(
     // writes exactly the bytes of that document, or reports that memory ran out.
     ensures headline { let r = run_of (map string_bytes words.now) (source_change I.left I.faults input.old input.new)
         (sink_change O.written O.room O.faults out.old out.new) (sink_change E.written E.room E.faults err.old err.new) result in
-        (s : Form) (t u : Tree) (d : Value) → IsShape s → IsPlain s → IsSound t → views s t ≡ Some d → means d ≡ Some u → IsSound u
+        (s : Form) (t u : Tree) (d : Value) → IsShape s → IsPlain s → IsSound t → view no_fields s t ≡ Some d → means d ≡ Some u → IsSound u
         → r.words ≡ text s ∷ [] → r.input.before ≡ Some (enc t) → AllQuiet r → WritesExactly r (enc u) }
 
     // The table of answers: each status only where its row holds, with exactly what the row says on the two sinks; and where the input tells its

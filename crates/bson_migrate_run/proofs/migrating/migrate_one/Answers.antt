@@ -1,5 +1,5 @@
 use Rattle.std.proofs.Common.{rules}
-use Rattle.bson_recast_run.specs.Recasting.{recast_of}
+use Rattle.bson_tree_recast.specs.Recast.{recast_of}
 use Rattle.bson_migrate_run.proofs.Listing.{one_refused}
 use Rattle.bson_migrate_run.proofs.migrating.migrate_one.Goals as goal
 

@@ -1,5 +1,6 @@
 use Rattle.std.proofs.Common.{sym, subst}
-use Rattle.bson_recast_run.specs.Recasting.{recast_read, IsAppended}
+use Rattle.bson_tree_recast.specs.Recast.{recast_read}
+use Rattle.bson_recast_run.specs.Recasting.{IsAppended}
 use Rattle.bson_recast_run.proofs.recasting.recast_in_two.Goals as goal
 
 pub returns : goal.returns

@@ -1,5 +1,6 @@
 use Rattle.std.proofs.Common.{ap, sym, subst, ◌∙◌}
-use Rattle.bson_recast_run.specs.Recasting.{Recast, writes, IsAppended}
+use Rattle.bson_tree_recast.specs.Recast.{Recast, writes}
+use Rattle.bson_recast_run.specs.Recasting.{IsAppended}
 use Rattle.bson_recast_run.proofs.AtOnce.{at_once}
 use Rattle.bson_recast_run.proofs.recasting.recast_to_buf.Goals as goal
 

@@ -1,6 +1,6 @@
 use Rattle.std.proofs.Common.{arith}
 use Rattle.bson_recast_run.proofs.Again.{given_lossy_back}
-use Rattle.bson_recast_run.proofs.DigitsBack.{same_at}
+use Rattle.bson_tree_recast.proofs.Written.{same_at}
 use Rattle.bson_recast_run.proofs.Migrates.{lossy_migrates, lossy_for_size, lossy_no_number}
 use Rattle.bson_recast_run.proofs.recasting.recast_utf8_lossy.Goals as goal
 

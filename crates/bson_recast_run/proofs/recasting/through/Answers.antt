@@ -1,5 +1,5 @@
 use Rattle.std.proofs.Common.{◌++◌, ap, sym, ◌∙◌}
-use Rattle.bson_recast_run.specs.Recasting.{writes}
+use Rattle.bson_tree_recast.specs.Recast.{writes}
 use Rattle.bson_recast_run.proofs.AtOnce.{at_once}
 use Rattle.bson_recast_run.proofs.recasting.through.Goals as goal
 

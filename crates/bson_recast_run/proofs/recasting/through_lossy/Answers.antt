@@ -1,6 +1,6 @@
 use Rattle.std.proofs.Common.{◌++◌, ap, sym, ◌∙◌}
 use Rattle.bson_shape.specs.Form.{lossy}
-use Rattle.bson_recast_run.specs.Recasting.{recast_read, writes}
+use Rattle.bson_tree_recast.specs.Recast.{recast_read, writes}
 use Rattle.bson_recast_run.proofs.AtOnce.{at_once}
 use Rattle.bson_recast_run.proofs.recasting.through_lossy.Goals as goal
 

@@ -1,7 +1,8 @@
 use Rattle.std.proofs.Common.{Ok, sym, subst}
 use Rattle.std.proofs.lemmas.Result.{err_from_is_err_and}
 use Rattle.bson_datum.specs.View.{view}
-use Rattle.bson_recast_run.specs.Recasting.{recast_read, IsAppended}
+use Rattle.bson_tree_recast.specs.Recast.{recast_read}
+use Rattle.bson_recast_run.specs.Recasting.{IsAppended}
 use Rattle.bson_recast_run.proofs.RecastErrors.{write_error}
 use Rattle.bson_recast_run.proofs.recasting.write.Goals as goal
 

@@ -3,8 +3,8 @@ use Rattle.std.specs.Prelude.{◌++◌, codes}
 use Rattle.bson_base.specs.Text.{Utf8}
 use Rattle.bson_datum.specs.ErrorView.{read_failure, write_failure}
 use Rattle.bson_datum.specs.Printed.{printed_failure, printed_read_fault, printed_write_fault}
-use Rattle.bson_recast_run.specs.declared.recasting.RecastError.{RecastError}
-use Rattle.bson_recast_run.specs.declared.recasting.RecastError.TheVariants.{Read, Write, NoMemory}
+use Rattle.bson_tree_recast.specs.declared.error.RecastError.{RecastError}
+use Rattle.bson_tree_recast.specs.declared.error.RecastError.TheVariants.{Read, Write, NoMemory}
 
 abbrev pub recast_error_text : RecastError → Utf8
 recast_error_text (Read e) = codes "read refused: " ++ printed_failure printed_read_fault (read_failure e)

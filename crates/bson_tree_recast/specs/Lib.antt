@@ -1,0 +1,4 @@
+pub mod Recast
+pub mod Printed
+pub mod ByTree
+pub mod Ways

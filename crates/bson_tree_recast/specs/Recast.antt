@@ -1,0 +1,106 @@
+-- What recasting a document's bytes at a shape comes to.
+use Rattle.std.specs.Prelude.{◌≡◌, ◌≢◌, ◌⊎◌, ℕ, Bool, true, false, nat_lt, Option, Some, None, Result, Ok, Err}
+use Rattle.std.specs.Global.{Vec}
+use Rattle.bson_base.specs.Text.{Bytes}
+use Rattle.bson_base.specs.Sound.{max_bytes}
+use Rattle.bson_base.specs.Tree.{Tree, enc}
+use Rattle.bson_shape.specs.Form.{Form}
+use Rattle.bson_datum.specs.Value.{Value}
+use Rattle.bson_datum.specs.Refusal.{ReadFault, WriteFault, Failure, no_memory, with_path}
+use Rattle.bson_datum.specs.declared.de.Error as de
+use Rattle.bson_datum.specs.declared.ser.Error as ser
+use Rattle.bson_datum.specs.ErrorView.{read_failure, write_failure}
+use Rattle.bson_laws.specs.Reads.{reads_document}
+use Rattle.bson_laws.specs.Spell.{Writing, spell_document, size}
+use Rattle.bson_ser_stream.specs.Writing.{too_long_failure}
+use Rattle.bson_tree_recast.specs.declared.error.RecastError.{RecastError}
+use Rattle.bson_tree_recast.specs.declared.error.RecastError.TheVariants.{Read, Write, NoMemory}
+
+-- what a recast comes to
+pub data Recast : Type 0 where
+  -- these bytes are written
+  writes : Bytes → Recast
+  -- the bytes are not read at the shape, for this failure
+  unread : Failure ReadFault → Recast
+  -- what is read is not written: for this failure, where one is due, or for its size, where it takes more bytes than a document may
+  unwritten : (due : Option (Failure WriteFault)) → (too_long : Bool) → Recast
+
+-- the recast of a value that is too long or not, by the tree that it is written as
+abbrev pub written : (too_long : Bool) → Writing Tree → Recast
+written too_long (Err r) = unwritten (Some (with_path r)) too_long
+written true (Ok t) = unwritten None true
+written false (Ok t) = writes (enc t)
+
+-- the recast of what was read
+abbrev pub recast_read : Result Value (Failure ReadFault) → Recast
+recast_read (Err f) = unread f
+recast_read (Ok d) = written (nat_lt max_bytes (size d)) (spell_document d)
+
+-- the recast of a document's bytes at a shape
+abbrev pub recast_of : Form → Bytes → Recast
+recast_of s bytes = recast_read (reads_document s bytes)
+
+-- ---- what a call returns
+
+-- the failure is the one that is due
+abbrev pub Is : Option (Failure WriteFault) → Failure WriteFault → Type 0
+Is None f = ⊥
+Is (Some due) f = f ≡ due
+
+-- What is read is not written, for this failure. Where a refusal is due and the whole is too long, it is either.
+abbrev pub Unwritten : Recast → Failure WriteFault → Type 0
+Unwritten (writes bytes) f = ⊥
+Unwritten (unread e) f = ⊥
+Unwritten (unwritten due too_long) f = Is due f ⊎ ((too_long ≡ true) × (f ≡ too_long_failure))
+
+-- the error of a recast; out of memory is free
+abbrev pub IsRefusal : Recast → RecastError → Type 0
+IsRefusal r (Read e) = r ≡ unread (read_failure e)
+IsRefusal r (Write e) = Unwritten r (write_failure e)
+IsRefusal r NoMemory = Unit {0}
+
+-- what a recast returns
+abbrev pub IsRecast : Recast → Result (Vec ℕ) RecastError → Type 0
+IsRecast r (Ok v) = r ≡ writes v.items
+IsRecast r (Err e) = IsRefusal r e
+
+-- an error of reading, unless it is out of memory
+abbrev pub IsReadError : de.Error → RecastError → Type 0
+IsReadError e NoMemory = read_failure e ≡ no_memory
+IsReadError e (Read d) = (d ≡ e) × (read_failure e ≢ no_memory)
+IsReadError e (Write d) = ⊥
+
+-- an error of writing, unless it is out of memory
+abbrev pub IsWriteError : ser.Error → RecastError → Type 0
+IsWriteError e NoMemory = write_failure e ≡ no_memory
+IsWriteError e (Write d) = (d ≡ e) × (write_failure e ≢ no_memory)
+IsWriteError e (Read d) = ⊥
+
+-- ---- one step of several
+
+-- why a recast ends at a step
+pub data Ending : Type 0 where
+  in_reading : Failure ReadFault → Ending
+  in_writing : Failure WriteFault → Ending
+
+-- why the recast ends that gives this error; nothing where memory ran out
+abbrev pub stopped : RecastError → Option Ending
+stopped (Read e) = Some (in_reading (read_failure e))
+stopped (Write e) = Some (in_writing (write_failure e))
+stopped NoMemory = None
+
+-- the recast ends so at this step; nothing is said where memory ran out
+abbrev pub StopsAs : {Y : Type 0} → Option Ending → Result Y Ending → Type 0
+StopsAs None due = Unit {0}
+StopsAs (Some x) due = due ≡ Err x
+
+-- A step gives what is due, seen so, or the recast ends; or memory ran out.
+abbrev pub Steps : {X Y : Type 0} → (X → Y) → Result X RecastError → Result Y Ending → Type 0
+Steps see (Ok x) due = due ≡ Ok (see x)
+Steps see (Err e) due = StopsAs (stopped e) due
+
+-- the recast whose last step comes to this
+abbrev pub ended : Result Bytes Ending → Recast
+ended (Ok bytes) = writes bytes
+ended (Err (in_reading f)) = unread f
+ended (Err (in_writing f)) = unwritten (Some f) false
