@@ -30,6 +30,7 @@ pub use Rattle.bson_shape.specs.Answers
 pub use Rattle.bson_shape.specs.FirstRefusal
 pub use Rattle.bson_shape.specs.Form
 pub use Rattle.bson_shape.specs.Fronts
+pub use Rattle.bson_shape.specs.Guarded
 pub use Rattle.bson_shape.specs.Leaf
 pub use Rattle.bson_shape.specs.Levels
 pub use Rattle.bson_shape.specs.Machine
@@ -72,6 +73,7 @@ pub use Rattle.bson_reserved.specs.AcceptedView
 pub use Rattle.bson_laws.specs.Unwrap
 pub use Rattle.bson_laws.specs.UuidBytes
 pub use Rattle.bson_laws.specs.Datum
+pub use Rattle.bson_laws.specs.Depths
 pub use Rattle.bson_laws.specs.Encodable
 pub use Rattle.bson_laws.specs.Fits
 pub use Rattle.bson_laws.specs.InRange
@@ -81,16 +83,20 @@ pub use Rattle.bson_laws.specs.Owned
 pub use Rattle.bson_laws.specs.Plain
 pub use Rattle.bson_laws.specs.RawFree
 pub use Rattle.bson_laws.specs.Reads
+pub use Rattle.bson_laws.specs.ReadsFrom
 pub use Rattle.bson_laws.specs.ReadsRaw
+pub use Rattle.bson_laws.specs.Recursive
 pub use Rattle.bson_laws.specs.Represented
 pub use Rattle.bson_laws.specs.Settled
 pub use Rattle.bson_laws.specs.Spell
+pub use Rattle.bson_laws.specs.SuitsTrees
 pub use Rattle.bson_laws.specs.Trees
 pub use Rattle.bson_laws.specs.Unmarked
+pub use Rattle.bson_laws.specs.Unrolled
 pub use Rattle.bson_laws.specs.Views
 pub use Rattle.bson_laws.specs.Writable
-pub use Rattle.bson_assembled.specs.Assembled
-pub use Rattle.bson_assembled.specs.FirstKeys
+pub use Rattle.bson_laws.specs.Assembled
+pub use Rattle.bson_laws.specs.FirstKeys
 pub use Rattle.bson_assembled.specs.FreeKeys
 pub use Rattle.bson_infer_laws.specs.Above
 pub use Rattle.bson_infer_laws.specs.Inferred
@@ -114,6 +120,7 @@ pub use Rattle.bson_raw_builder.specs.Putting as RawPutting
 pub use Rattle.bson_raw_builder.specs.RawValueView
 pub use Rattle.bson_de_raw.specs.Gives
 pub use Rattle.bson_de_raw.specs.ReadsLossy
+pub use Rattle.bson_de_tree.specs.Options as TreeOptions
 pub use Rattle.bson_ser_stream.specs.Writing
 pub use Rattle.bson_ser_parts.specs.Documents as PartsOfDocuments
 pub use Rattle.bson_ser_parts.specs.Pairs as PartsOfPairs
@@ -128,6 +135,9 @@ pub use Rattle.bson_writing.specs.Joined as TreeJoined
 pub use Rattle.bson_writing.specs.Levels as TreeLevels
 pub use Rattle.bson_ser_tree.specs.Made as TreeMade
 pub use Rattle.bson_ser_tree.specs.Taking as TreeTaking
+pub use Rattle.bson_source.specs.Taken
+pub use Rattle.bson_source.specs.FirstDocument
+pub use Rattle.bson_source.specs.FromSource
 pub use Rattle.bson_program.specs.Command
 pub use Rattle.bson_program.specs.Ends as RunEnds
 pub use Rattle.bson_program.specs.Input
@@ -140,7 +150,12 @@ pub use Rattle.bson_recast_run.specs.Digits
 pub use Rattle.bson_recast_run.specs.Due as RunDue
 pub use Rattle.bson_recast_run.specs.Number as RunNumber
 pub use Rattle.bson_recast_run.specs.Options as RunOptions
-pub use Rattle.bson_recast_run.specs.Printed as RecastPrinted
+pub use Rattle.bson_ways_laws.specs.Simple
+pub use Rattle.bson_ways_laws.specs.Ways
+pub use Rattle.bson_tree_recast.specs.ByTree
+pub use Rattle.bson_tree_recast.specs.Printed as RecastPrinted
+pub use Rattle.bson_tree_recast.specs.Recast
+pub use Rattle.bson_tree_recast.specs.Ways as TreeRecastWays
 pub use Rattle.bson_recast_run.specs.Recasting
 pub use Rattle.bson_recast_run.specs.Rows as RunRows
 pub use Rattle.bson_migrate_run.specs.Lines

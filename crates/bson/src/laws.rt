@@ -9,9 +9,12 @@ pub use bson_infer_laws::{
 pub use bson_infer_run::law_infer_files;
 pub use bson_laws::{
     law_datum_spells, law_fixed_point, law_opened_agrees, law_opened_represents, law_read_back,
-    law_reads_mended, law_reads_numbers, law_reads_spell, law_spell_means, law_views_means,
-    law_views_reads,
+    law_reads_mended, law_reads_numbers, law_reads_spell, law_reads_tree, law_references_read,
+    law_references_seen, law_spell_means, law_views_means, law_views_reads,
 };
 pub use bson_recast_run::law_run_again;
-pub use bson_shape::law_text;
-pub use bson_tree_laws::law_writers;
+pub use bson_shape::{law_guarded, law_text};
+pub use bson_tree_laws::{law_fitting_written, law_writers};
+pub use bson_ways_laws::{
+    law_two_ways, law_two_ways_reading, law_two_ways_simple, law_two_ways_writing,
+};

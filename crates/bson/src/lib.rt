@@ -7,6 +7,8 @@
 //! |---|---|
 //! | shapes | `Shape`; `FieldShape`, `VariantShape` and `VariantContent` to make one without its notation; `Form`, `Leaf` and `Named` to look at one |
 //! | reading and writing | `from_slice_at`, `from_slice_utf8_lossy_at`; `to_vec_at`, `to_buf`, `to_vec_counted`; `Datum` and its parts `Field`, `Entry`, `Text`, `ByteStr`, `RawDoc`, `RawArr`, `Double` |
+//! | reading from sources | `from_reader_at`, `from_reader_utf8_lossy_at`; `take_document`, `take_up_to` and `TakeFault` for the bytes alone |
+//! | reading from trees | `from_bson_at`, `from_document_at`, and with options; `Deserializer`, `DeserializerOptions` |
 //! | writing to trees | `to_bson_at`, `to_document_at`, and with options; `Serializer`, with a writer for each form of value that is handed in part by part; `SerializerOptions` |
 //! | writing part by part | `DocumentWriter`, `VariantWriter`, `ValueWriter`, over an `Out` |
 //! | both at once | `recast`, `recast_utf8_lossy`, `recast_to_buf` |
@@ -27,7 +29,7 @@
 //! # Shapes and their notation
 //!
 //! A shape says which values are read, and what they become. The README's table has every form of its notation. Makers such as `Shape::seq`,
-//! `Shape::structure` and `Shape::closed_structure` make the same shapes without a text.
+//! `Shape::structure`, `Shape::closed_structure` and, for recursive shapes, `Shape::definitions` make the same shapes without a text.
 //!
 //! `bson_examples/src/shapes.rt`:
 //!
@@ -57,7 +59,7 @@
 //! ghost use Rattle.std.specs.Prelude.{IsOk, OnOk};
 //! ghost use Rattle.bson.specs.Reads.{reads_document};
 //!
-//! use bson::{Shape, de, from_slice_at};
+//! use bson::{Document, Shape, de, from_document_at, from_slice_at};
 //! use std::alloc::Global;
 //!
 //! /// The age of the person in the bytes of a document such as `{name: "Ada", age: 36}`.
@@ -65,6 +67,12 @@
 //!     ensures read { OnOk result (IsOk (reads_document shape.now bytes.now)) }
 //! {
 //!     let person = from_slice_at(alloc, shape, bytes)?;
+//!     Ok(person.field("age").and_then(|age| age.as_i64()))
+//! }
+//!
+//! /// The age of the person in such a document in memory.
+//! pub fn age_in_memory(alloc: Global, shape: &Shape, person: Document) -> de::Result<Option<i64>> {
+//!     let person = from_document_at(alloc, shape, person)?;
 //!     Ok(person.field("age").and_then(|age| age.as_i64()))
 //! }
 //! ```
@@ -184,7 +192,7 @@
 //!
 //! ```rust
 //! ghost use Rattle.std.specs.Prelude.{◌≡◌, IfOk};
-//! ghost use Rattle.bson.specs.Recasting.{recast_of, writes};
+//! ghost use Rattle.bson.specs.Recast.{recast_of, writes};
 //! ghost use Rattle.bson.specs.Text.{Bytes};
 //!
 //! use bson::{RecastError, Shape, recast};
@@ -453,6 +461,15 @@ pub use bson_datum::ser;
 pub use bson_de::read_value;
 pub use bson_de_raw::from_slice_at;
 pub use bson_de_raw::from_slice_utf8_lossy_at;
+pub use bson_de_source::from_reader_at;
+pub use bson_de_source::from_reader_utf8_lossy_at;
+pub use bson_de_tree::Deserializer;
+pub use bson_de_tree::DeserializerOptions;
+pub use bson_de_tree::DeserializerOptionsBuilder;
+pub use bson_de_tree::from_bson_at;
+pub use bson_de_tree::from_bson_with_options_at;
+pub use bson_de_tree::from_document_at;
+pub use bson_de_tree::from_document_with_options_at;
 pub use bson_infer_run::InferError;
 pub use bson_infer_run::InferStatus;
 pub use bson_infer_run::infer;
@@ -504,6 +521,7 @@ pub use bson_rawdoc::raw;
 pub use bson_recast_run::RecastError;
 pub use bson_recast_run::Status;
 pub use bson_recast_run::recast;
+pub use bson_recast_run::recast_by_tree;
 pub use bson_recast_run::recast_to_buf;
 pub use bson_recast_run::recast_utf8_lossy;
 pub use bson_recast_run::run;
@@ -537,4 +555,7 @@ pub use bson_shape::Shape;
 pub use bson_shape::ShapeError;
 pub use bson_shape::VariantContent;
 pub use bson_shape::VariantShape;
+pub use bson_source::TakeFault;
+pub use bson_source::take_document;
+pub use bson_source::take_up_to;
 pub use bson_wrapped::data;

@@ -19,7 +19,7 @@ pub use files::{at_shape, longest};
 pub use parts::{person_by_fields, person_tree_by_fields};
 pub use places::{refusal, refused_key};
 pub use raw_documents::total;
-pub use reading::age;
+pub use reading::{age, age_in_memory};
 pub use recasting::upgraded;
 pub use shapes::person_shape;
 pub use trees::{ada, document_bytes, document_of, first_null};

@@ -1,5 +1,5 @@
 ghost use Rattle.std.specs.Prelude.{◌≡◌, IfOk};
-ghost use Rattle.bson.specs.Recasting.{recast_of, writes};
+ghost use Rattle.bson.specs.Recast.{recast_of, writes};
 ghost use Rattle.bson.specs.Text.{Bytes};
 
 use bson::{RecastError, Shape, recast};

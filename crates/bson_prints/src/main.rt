@@ -7,6 +7,7 @@ mod faults;
 mod printing;
 mod reading;
 mod refusals;
+mod sources;
 mod tree;
 mod writing;
 
@@ -19,6 +20,7 @@ fn print_values(rt: &impl Print, alloc: Global) -> Result<(), Fail> {
     debug::print_status(rt)?;
     debug::print_refusal(rt, alloc)?;
     reading::print_document(rt, alloc)?;
+    reading::print_by_tree(rt, alloc)?;
     reading::print_mended(rt, alloc)?;
     reading::print_raw_array(rt, alloc)?;
     tree::print_tree(rt, alloc)?;
@@ -34,7 +36,8 @@ fn print_faults(rt: &impl Print, alloc: Global) -> Result<(), Fail> {
     refusals::print_raw_array(rt, alloc)?;
     faults::print_input_faults(rt, alloc)?;
     faults::print_output_faults(rt, alloc)?;
-    faults::print_error_fault(rt, alloc)
+    faults::print_error_fault(rt, alloc)?;
+    sources::print_sources(rt, alloc)
 }
 
 fn main(rt: HostRuntime) -> Result<(), Fail> {

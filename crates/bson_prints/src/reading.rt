@@ -1,7 +1,7 @@
 // What is read where there is memory: a document at a shape.
 use crate::printing::{print_bytes, print_debug};
 use bson_de_raw::{from_slice_at, from_slice_utf8_lossy_at};
-use bson_recast_run::{recast, recast_utf8_lossy};
+use bson_recast_run::{recast, recast_by_tree, recast_utf8_lossy};
 use bson_shape::Shape;
 use std::alloc::Global;
 use std::io::Print;
@@ -31,6 +31,13 @@ pub fn print_document(rt: &impl Print, alloc: Global) -> Result<(), Fail> {
     let shape = Shape::parse(alloc, "S{i:i32}")?;
     print_read(rt, alloc, &shape, DOCUMENT)?;
     print_recast(rt, alloc, "recast", &shape, DOCUMENT)
+}
+
+/// The same document, recast by way of trees.
+pub fn print_by_tree(rt: &impl Print, alloc: Global) -> Result<(), Fail> {
+    let shape = Shape::parse(alloc, "S{i:i32}")?;
+    let made = recast_by_tree(alloc, &shape, DOCUMENT)?;
+    print_bytes(rt, alloc, "recast_by_tree", &made)
 }
 
 /// The document with the field `a`, an array of 1 and 2 whose keys are `5` and `7`.

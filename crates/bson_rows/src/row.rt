@@ -14,6 +14,8 @@ pub enum Program {
     Infer,
     /// The document is read at the first word, and written after the struct under its first key was given the second word as its name.
     Write,
+    /// The document, as a tree in memory, is read at the first word, and what is read is written as a tree again: for a human, or at the second word `compact` not.
+    Tree,
 }
 
 /// A row of the table.
@@ -118,6 +120,7 @@ fn program_of(cell: &str) -> Option<(Program, u8)> {
         "migrate" => Program::Migrate,
         "infer" => Program::Infer,
         "write" => Program::Write,
+        "tree" => Program::Tree,
         _ => return None,
     };
     Some((program, status.parse::<u8>().ok()?))

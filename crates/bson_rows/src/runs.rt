@@ -1,6 +1,8 @@
 // What comes of a row: runs of the programs over ends in memory, and documents that are written.
 use crate::row::{Program, Row};
-use bson_datum::{Datum, Text};
+use crate::trees::{read_tree, tree_in, write_tree};
+use bson_base::Document;
+use bson_datum::{Datum, Text, ser};
 use bson_de_raw::from_slice_at;
 use bson_infer_run::run_infer;
 use bson_io::{MemorySink, MemorySource};
@@ -73,6 +75,7 @@ pub fn run_row(alloc: Global, row: &Row) -> Result<Run, AllocError> {
         Program::Migrate => run_migration(alloc, row),
         Program::Infer => run_inference(alloc, row),
         Program::Write => write_row(alloc, row),
+        Program::Tree => tree_row(alloc, row),
     }
 }
 
@@ -131,16 +134,63 @@ fn write_at(alloc: Global, shape: &Shape, bytes: &[u8], name: &str) -> Result<Ru
 /// What comes of writing a document.
 fn written(alloc: Global, document: &Datum<'_>) -> Result<Run, AllocError> {
     match to_vec_at(alloc, document) {
-        Ok(output) => Ok(Run {
-            status: Status::Done.number(),
-            output,
-            errors: Vec::new(alloc),
-        }),
+        Ok(output) => done(alloc, output),
+        Err(error) => not_written(alloc, error),
+    }
+}
+
+/// An end at a value that is not written.
+fn not_written(alloc: Global, error: ser::Error) -> Result<Run, AllocError> {
+    let line = format!(in alloc; "{error}\n")?;
+    ended(alloc, Status::WriteRefused, line.as_str())
+}
+
+/// Reads the document of a row as a tree, and writes what is read as a tree.
+fn tree_row(alloc: Global, row: &Row) -> Result<Run, AllocError> {
+    let [shape, mode] = row.words.as_slice() else {
+        return ended(alloc, Status::Usage, "not two words");
+    };
+    let (Ok(shape), Some(document)) = (
+        Shape::parse(alloc, shape.as_str()),
+        tree_in(alloc, &row.input),
+    ) else {
+        return ended(alloc, Status::Usage, "no shape or no document");
+    };
+    match read_tree(alloc, &shape, document, mode.as_str()) {
+        Ok(value) => tree_written(alloc, &value, mode.as_str()),
+        Err(error) => {
+            let line = format!(in alloc; "{error}\n")?;
+            ended(alloc, Status::ReadRefused, line.as_str())
+        }
+    }
+}
+
+/// What comes of writing a value as a tree.
+fn tree_written(alloc: Global, value: &Datum<'_>, mode: &str) -> Result<Run, AllocError> {
+    match write_tree(alloc, value, mode) {
+        Ok(document) => encoded(alloc, &document),
+        Err(error) => not_written(alloc, error),
+    }
+}
+
+/// The bytes of a document.
+fn encoded(alloc: Global, document: &Document) -> Result<Run, AllocError> {
+    match document.to_vec(alloc) {
+        Ok(output) => done(alloc, output),
         Err(error) => {
             let line = format!(in alloc; "{error}\n")?;
             ended(alloc, Status::WriteRefused, line.as_str())
         }
     }
+}
+
+/// An end with this output.
+fn done(alloc: Global, output: Vec<u8>) -> Result<Run, AllocError> {
+    Ok(Run {
+        status: Status::Done.number(),
+        output,
+        errors: Vec::new(alloc),
+    })
 }
 
 /// Gives the struct under the first key of a document this name.

@@ -6,6 +6,3 @@ mod taking;
 
 pub use document::take_document;
 pub use taking::{TakeFault, take_up_to};
-
-#[cfg(test)]
-mod tests;

@@ -14,6 +14,7 @@ pub fn print_person(rt: &impl Print, alloc: Global) -> Result<(), Fail> {
     let shape = person_shape(alloc)?;
     print_value(rt, "age", &age(alloc, &shape, ADA)?)?;
     print_age(rt, alloc, &shape)?;
+    print_in_memory(rt, alloc, &shape)?;
     print_bytes(rt, alloc, "person_bytes", &person_bytes(alloc, "Ada", 36)?)?;
     print_written(
         rt,
@@ -37,6 +38,12 @@ pub fn print_parts(rt: &impl Print, alloc: Global) -> Result<(), Fail> {
 fn print_age(rt: &impl Print, alloc: Global, shape: &Shape) -> Result<(), Fail> {
     let person = from_slice_at(alloc, shape, ADA)?;
     print_value(rt, "age_of", &age_of(&person))
+}
+
+/// The age of a person in a document in memory.
+fn print_in_memory(rt: &impl Print, alloc: Global, shape: &Shape) -> Result<(), Fail> {
+    let age = age_in_memory(alloc, shape, ada(alloc)?)?;
+    print_value(rt, "age_in_memory", &age)
 }
 
 /// A city is found.
