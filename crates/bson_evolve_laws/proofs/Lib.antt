@@ -1,0 +1,16 @@
+pub mod Somes
+pub mod Layer
+pub mod Deep
+pub mod LeavesPass
+pub mod RowsPass
+pub mod Peels
+pub mod Olds
+pub mod News
+pub mod Closed
+pub mod Compatible
+pub mod Searched
+pub mod StepParts
+pub mod Universe
+pub mod Decided
+pub mod PlainTests
+pub mod Reflexive

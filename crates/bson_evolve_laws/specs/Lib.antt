@@ -1,0 +1,7 @@
+pub mod Named
+pub mod Placed
+pub mod Rows
+pub mod Compatible
+pub mod Places
+pub mod First
+pub mod PlainTest
