@@ -19,12 +19,14 @@ use Rattle.bson_shape.proofs.Names.{field_names_are}
 use Rattle.bson_datum.specs.Marked.{Marked, field_contents}
 use Rattle.bson_datum.specs.Value.{none}
 use Rattle.bson_laws.specs.Judged.{ignores}
-use Rattle.bson_laws.specs.CompactReads.{reads, slots_of, missing_value}
+use Rattle.bson_laws.specs.Scopes.{laid, laid_fields}
+use Rattle.bson_laws.specs.declared.origin.Reader.{Reader}
 use Rattle.bson_laws.specs.Slots.{Slots, fill, finish, put_at, value_or}
 use Rattle.bson_laws.specs.Spell.{spell_fields}
+use Rattle.bson_one_pass.specs.ReadsUnrolled.{reads, slots_of, missing_value}
 use Rattle.bson_one_pass.specs.Found.{name_of, names, IsField, slots_with, AreReadAs, IsNoted, AreFound, AreWritten, IsFoundPut, AreFoundPut, AreOthersPut}
 use Rattle.bson_one_pass.specs.Free.{is_free}
-use Rattle.bson_one_pass.specs.Put.{recast_by, recast_node, IsElementPut, ArePairsPut}
+use Rattle.bson_one_pass.specs.Put.{recast_by, recast_for, IsElementPut, ArePairsPut}
 use Rattle.bson_one_pass.proofs.Fields.{LacksName, names-append, put_dropped, fields_end}
 use Rattle.bson_one_pass.proofs.Places.{AreUnderWay, or_false, same_name, free_lacks, read_by, slot_of}
 
@@ -71,17 +73,17 @@ field_at (g ∷ fs) (suc i) f key lt got same = field_at fs i f key (omega (arit
 -- ---- elements that are found
 
 -- no element was found
-none_read : (levels : ℕ) (fs : List FieldShape) (values : List (Option Marked)) → AreReadAs levels fs (replicate (length fs) None) values → slots_with fs values ≡ slots_of (fields_of fs)
-none_read levels [] values h = refl
-none_read levels (f ∷ fs) [] h = absurd h
-none_read levels (f ∷ fs) (None ∷ values) h = ap (λ ss. slot_of f ∷ ss) (none_read levels fs values h.1)
-none_read levels (f ∷ fs) (Some v ∷ values) h = absurd h.0
+none_read : (reader : Reader) (levels : ℕ) (fs : List FieldShape) (values : List (Option Marked)) → AreReadAs reader levels fs (replicate (length fs) None) values → slots_with reader fs values ≡ slots_of (laid_fields reader (fields_of fs))
+none_read reader levels [] values h = refl
+none_read reader levels (f ∷ fs) [] h = absurd h
+none_read reader levels (f ∷ fs) (None ∷ values) h = ap (λ ss. slot_of reader f ∷ ss) (none_read reader levels fs values h.1)
+none_read reader levels (f ∷ fs) (Some v ∷ values) h = absurd h.0
 
-names-with : (levels : ℕ) (fs : List FieldShape) (es : List (Option Element)) (values : List (Option Marked)) → AreReadAs levels fs es values → names (slots_with fs values) ≡ map name_of fs
-names-with levels [] es values h = refl
-names-with levels (f ∷ fs) [] values h = absurd h
-names-with levels (f ∷ fs) (e ∷ es) [] h = absurd h
-names-with levels (f ∷ fs) (e ∷ es) (v ∷ values) h = ap (λ ns. name_of f ∷ ns) (names-with levels fs es values h.1)
+names-with : (reader : Reader) (levels : ℕ) (fs : List FieldShape) (es : List (Option Element)) (values : List (Option Marked)) → AreReadAs reader levels fs es values → names (slots_with reader fs values) ≡ map name_of fs
+names-with reader levels [] es values h = refl
+names-with reader levels (f ∷ fs) [] values h = absurd h
+names-with reader levels (f ∷ fs) (e ∷ es) [] h = absurd h
+names-with reader levels (f ∷ fs) (e ∷ es) (v ∷ values) h = ap (λ ns. name_of f ∷ ns) (names-with reader levels fs es values h.1)
 
 -- an element that slots behind others take
 put_behind : (u : UnknownFields) (key : Utf8) (n : Node) (front old new : Slots) → LacksName key (names front) → put_at u key n old ≡ Ok new → put_at u key n (front ++ old) ≡ Ok (front ++ new)
@@ -89,50 +91,50 @@ put_behind u key n [] old new free h = h
 put_behind u key n (s ∷ front) old new free h = rw (free.0, put_behind u key n front old new free.1 h) refl
 
 -- a field that had no element has this one
-noted : (u : UnknownFields) (levels : ℕ) (e : Element) (fs : List FieldShape) (i : ℕ) (es : List (Option Element)) (after : List (Option Marked)) → LacksName e.key (map name_of (take i fs)) → IsField fs i e.key → i < length es → get_or es i None ≡ None
-    → AreReadAs levels fs (set es i (Some e)) after
-    → (before : List (Option Marked)) × AreReadAs levels fs es before × (put_at u e.key (node_in levels e.kind e.value) (slots_with fs before) ≡ Ok (slots_with fs after))
-noted u levels e [] i es after lacks at lt empty h = absurd at
-noted u levels e (f ∷ fs) i [] after lacks at lt empty h = absurd (omega (arith, lt))
-noted u levels e (f ∷ fs) zero (o ∷ es) [] lacks at lt empty h = absurd h
-noted u levels e (f ∷ fs) zero (None ∷ es) (None ∷ values) lacks at lt empty h = absurd h.0
-noted u levels e (f ∷ fs) zero (None ∷ es) (Some v ∷ values) lacks at lt empty h = (None ∷ values, (tt, h.1), rw (at, h.0) refl)
-noted u levels e (f ∷ fs) zero (Some x ∷ es) (v ∷ values) lacks at lt empty h = absurd cc
-noted u levels e (f ∷ fs) (suc i) (o ∷ es) [] lacks at lt empty h = absurd h
-noted u levels e (f ∷ fs) (suc i) (o ∷ es) (v ∷ values) lacks at lt empty h =
-    let rest = noted u levels e fs i es values lacks.1 at (omega (arith, lt)) empty h.1 in
+noted : (reader : Reader) (u : UnknownFields) (levels : ℕ) (e : Element) (fs : List FieldShape) (i : ℕ) (es : List (Option Element)) (after : List (Option Marked)) → LacksName e.key (map name_of (take i fs)) → IsField fs i e.key → i < length es → get_or es i None ≡ None
+    → AreReadAs reader levels fs (set es i (Some e)) after
+    → (before : List (Option Marked)) × AreReadAs reader levels fs es before × (put_at u e.key (node_in levels e.kind e.value) (slots_with reader fs before) ≡ Ok (slots_with reader fs after))
+noted reader u levels e [] i es after lacks at lt empty h = absurd at
+noted reader u levels e (f ∷ fs) i [] after lacks at lt empty h = absurd (omega (arith, lt))
+noted reader u levels e (f ∷ fs) zero (o ∷ es) [] lacks at lt empty h = absurd h
+noted reader u levels e (f ∷ fs) zero (None ∷ es) (None ∷ values) lacks at lt empty h = absurd h.0
+noted reader u levels e (f ∷ fs) zero (None ∷ es) (Some v ∷ values) lacks at lt empty h = (None ∷ values, (tt, h.1), rw (at, h.0) refl)
+noted reader u levels e (f ∷ fs) zero (Some x ∷ es) (v ∷ values) lacks at lt empty h = absurd cc
+noted reader u levels e (f ∷ fs) (suc i) (o ∷ es) [] lacks at lt empty h = absurd h
+noted reader u levels e (f ∷ fs) (suc i) (o ∷ es) (v ∷ values) lacks at lt empty h =
+    let rest = noted reader u levels e fs i es values lacks.1 at (omega (arith, lt)) empty h.1 in
     (v ∷ rest.0, (h.0, rest.1), rw (lacks.0, rest.2) refl)
 
-pub element_noted : (u : UnknownFields) (levels : ℕ) (front fs : List FieldShape) (e : Element) (i : ℕ) (es : List (Option Element)) → AreDistinct (fields_of (front ++ fs)) → IsField fs i e.key → i < length es → get_or es i None ≡ None
-    → IsNoted u levels front fs e es (set es i (Some e))
-element_noted u levels front fs e i es distinct at lt empty after h =
+pub element_noted : (reader : Reader) (u : UnknownFields) (levels : ℕ) (front fs : List FieldShape) (e : Element) (i : ℕ) (es : List (Option Element)) → AreDistinct (fields_of (front ++ fs)) → IsField fs i e.key → i < length es → get_or es i None ≡ None
+    → IsNoted reader u levels front fs e es (set es i (Some e))
+element_noted reader u levels front fs e i es distinct at lt empty after h =
     let d : has_repeat (map name_of (front ++ fs)) ≡ false = ap has_repeat (field_names_are (front ++ fs)) ∙ distinct in
-    let r = noted u levels e fs i es after (lacks_before fs i e.key (distinct_behind front fs d) at) at lt empty h in
-    (r.0, r.1, λ slots named. put_behind u e.key (node_in levels e.kind e.value) slots (slots_with fs r.0) (slots_with fs after) (subst (LacksName e.key) named (lacks_front front fs i e.key d at)) r.2)
+    let r = noted reader u levels e fs i es after (lacks_before fs i e.key (distinct_behind front fs d) at) at lt empty h in
+    (r.0, r.1, λ slots named. put_behind u e.key (node_in levels e.kind e.value) slots (slots_with reader fs r.0) (slots_with reader fs after) (subst (LacksName e.key) named (lacks_front front fs i e.key d at)) r.2)
 
 -- an element that no field has, where it is dropped
-pub element_dropped : (u : UnknownFields) (levels : ℕ) (front fs : List FieldShape) (e : Element) (es : List (Option Element)) → is_free e.key fs ≡ true → is_free e.key front ≡ true → u ≡ dropped → ignores (node_in levels e.kind e.value) ≡ Ok tt → IsNoted u levels front fs e es es
-element_dropped u levels front fs e es free free_front drops passed after h = (
+pub element_dropped : (reader : Reader) (u : UnknownFields) (levels : ℕ) (front fs : List FieldShape) (e : Element) (es : List (Option Element)) → is_free e.key fs ≡ true → is_free e.key front ≡ true → u ≡ dropped → ignores (node_in levels e.kind e.value) ≡ Ok tt → IsNoted reader u levels front fs e es es
+element_dropped reader u levels front fs e es free free_front drops passed after h = (
   after,
   h,
   λ slots named.
-      let lacks : LacksName e.key (names slots ++ names (slots_with fs after)) =
-      lacks_both e.key (names slots) (names (slots_with fs after)) (subst (LacksName e.key) named (free_lacks e.key front free_front)) (subst (LacksName e.key) (sym (names-with levels fs es after h)) (free_lacks e.key fs free)) in
-      subst (λ v. put_at v e.key (node_in levels e.kind e.value) (slots ++ slots_with fs after) ≡ Ok (slots ++ slots_with fs after)) (sym drops)
-      (put_dropped e.key (node_in levels e.kind e.value) (slots ++ slots_with fs after) (subst (LacksName e.key) (sym (names-append slots (slots_with fs after))) lacks) passed),
+      let lacks : LacksName e.key (names slots ++ names (slots_with reader fs after)) =
+      lacks_both e.key (names slots) (names (slots_with reader fs after)) (subst (LacksName e.key) named (free_lacks e.key front free_front)) (subst (LacksName e.key) (sym (names-with reader levels fs es after h)) (free_lacks e.key fs free)) in
+      subst (λ v. put_at v e.key (node_in levels e.kind e.value) (slots ++ slots_with reader fs after) ≡ Ok (slots ++ slots_with reader fs after)) (sym drops)
+      (put_dropped e.key (node_in levels e.kind e.value) (slots ++ slots_with reader fs after) (subst (LacksName e.key) (sym (names-append slots (slots_with reader fs after))) lacks) passed),
 )
 
 -- no element is looked at yet
-pub found_none : (u : UnknownFields) (levels : ℕ) (front fs : List FieldShape) (whole : Nodes) (es : List (Option Element)) → es ≡ replicate (length fs) None → AreFound u levels front fs whole whole es
-found_none u levels front fs whole es is values h slots named = ap (λ ss. fill u whole (slots ++ ss)) (sym (none_read levels fs values (subst (λ l. AreReadAs levels fs l values) is h)))
+pub found_none : (reader : Reader) (u : UnknownFields) (levels : ℕ) (front fs : List FieldShape) (whole : Nodes) (es : List (Option Element)) → es ≡ replicate (length fs) None → AreFound reader u levels front fs whole whole es
+found_none reader u levels front fs whole es is values h slots named = ap (λ ss. fill u whole (slots ++ ss)) (sym (none_read reader levels fs values (subst (λ l. AreReadAs reader levels fs l values) is h)))
 
 -- one element more
-pub found_step : (u : UnknownFields) (levels : ℕ) (front fs : List FieldShape) (whole : Nodes) (old_walk new_walk : Walk) (e : Element) (old new : List (Option Element)) → AreFound u levels front fs whole (nodes_with (node_in levels) old_walk) old → old_walk ≡ then_walk e new_walk
-    → IsNoted u levels front fs e old new → AreFound u levels front fs whole (nodes_with (node_in levels) new_walk) new
-found_step u levels front fs whole old_walk new_walk e old new found step is values h slots named =
+pub found_step : (reader : Reader) (u : UnknownFields) (levels : ℕ) (front fs : List FieldShape) (whole : Nodes) (old_walk new_walk : Walk) (e : Element) (old new : List (Option Element)) → AreFound reader u levels front fs whole (nodes_with (node_in levels) old_walk) old → old_walk ≡ then_walk e new_walk
+    → IsNoted reader u levels front fs e old new → AreFound reader u levels front fs whole (nodes_with (node_in levels) new_walk) new
+found_step reader u levels front fs whole old_walk new_walk e old new found step is values h slots named =
     let before = is values h in
     found before.0 before.1 slots named
-    ∙ ap (λ w. fill u (nodes_with (node_in levels) w) (slots ++ slots_with fs before.0)) step
+    ∙ ap (λ w. fill u (nodes_with (node_in levels) w) (slots ++ slots_with reader fs before.0)) step
     ∙ ap (λ r. r >>= fill u (nodes_with (node_in levels) new_walk)) (before.2 slots named)
 
 -- ---- what is written
@@ -142,69 +144,69 @@ written_both levels [] ts bytes more h rest = subst (λ (b : Bytes). AreWritten 
 written_both levels (s ∷ ss) ts bytes more h rest = (h.0, h.1 ++ more, h.2, written_both levels ss ts h.1 more h.3 rest, ap (λ b. b ++ more) h.4 ∙ append_assoc h.0 h.1 more)
 
 -- The fields from a place on are left: whatever they are read and written as, with them all fields are written.
-abbrev pub FoundLeft : (levels : ℕ) → List FieldShape → List (Option Element) → (place : ℕ) → (old made : Bytes) → Type 0
-FoundLeft levels fs es i old made =
-    (values : List (Option Marked)) (bytes : Bytes) → AreReadAs levels (drop i fs) (drop i es) values → AreWritten levels (slots_with (drop i fs) values) bytes → AreFoundPut levels fs es old (made ++ bytes)
+abbrev pub FoundLeft : Reader → (levels : ℕ) → List FieldShape → List (Option Element) → (place : ℕ) → (old made : Bytes) → Type 0
+FoundLeft reader levels fs es i old made =
+    (values : List (Option Marked)) (bytes : Bytes) → AreReadAs reader levels (drop i fs) (drop i es) values → AreWritten levels (slots_with reader (drop i fs) values) bytes → AreFoundPut reader levels fs es old (made ++ bytes)
 
-pub left_all : (levels : ℕ) (fs : List FieldShape) (es : List (Option Element)) (old : Bytes) → FoundLeft levels fs es 0 old old
-left_all levels fs es old values bytes h written = (values, bytes, h, written, refl)
+pub left_all : (reader : Reader) (levels : ℕ) (fs : List FieldShape) (es : List (Option Element)) (old : Bytes) → FoundLeft reader levels fs es 0 old old
+left_all reader levels fs es old values bytes h written = (values, bytes, h, written, refl)
 
 -- one field less
-pub left_less : (levels : ℕ) (fs : List FieldShape) (es : List (Option Element)) (i : ℕ) (old made new : Bytes) (f : FieldShape) (o : Option Element) → FoundLeft levels fs es i old made → i < length fs → f ≡ get_or fs i f → i < length es
-    → o ≡ get_or es i o → IsFoundPut levels f o made new → FoundLeft levels fs es (i + 1) old new
-left_less levels fs es i old made new f o left lt got within found one values more h rest =
+pub left_less : (reader : Reader) (levels : ℕ) (fs : List FieldShape) (es : List (Option Element)) (i : ℕ) (old made new : Bytes) (f : FieldShape) (o : Option Element) → FoundLeft reader levels fs es i old made → i < length fs → f ≡ get_or fs i f → i < length es
+    → o ≡ get_or es i o → IsFoundPut reader levels f o made new → FoundLeft reader levels fs es (i + 1) old new
+left_less reader levels fs es i old made new f o left lt got within found one values more h rest =
     let fields_are : drop i fs ≡ f ∷ drop (i + 1) fs = drop-cons fs i f lt ∙ ap (λ g. g ∷ drop (suc i) fs) (sym got) ∙ ap (λ k. f ∷ drop k fs) (sym (add-one i)) in
     let elements_are : drop i es ≡ o ∷ drop (i + 1) es = drop-cons es i o within ∙ ap (λ g. g ∷ drop (suc i) es) (sym found) ∙ ap (λ k. o ∷ drop k es) (sym (add-one i)) in
-    subst (AreFoundPut levels fs es old) (sym (ap (λ b. b ++ more) one.4 ∙ append_assoc made one.1 more))
+    subst (AreFoundPut reader levels fs es old) (sym (ap (λ b. b ++ more) one.4 ∙ append_assoc made one.1 more))
     (left (one.0 ∷ values) (one.1 ++ more)
-    (subst (λ xs. AreReadAs levels xs (drop i es) (one.0 ∷ values)) (sym fields_are) (subst (λ ys. AreReadAs levels (f ∷ drop (i + 1) fs) ys (one.0 ∷ values)) (sym elements_are) (one.2, h)))
-    (subst (λ xs. AreWritten levels (slots_with xs (one.0 ∷ values)) (one.1 ++ more)) (sym fields_are) (one.1, more, one.3, rest, refl)))
+    (subst (λ xs. AreReadAs reader levels xs (drop i es) (one.0 ∷ values)) (sym fields_are) (subst (λ ys. AreReadAs reader levels (f ∷ drop (i + 1) fs) ys (one.0 ∷ values)) (sym elements_are) (one.2, h)))
+    (subst (λ xs. AreWritten levels (slots_with reader xs (one.0 ∷ values)) (one.1 ++ more)) (sym fields_are) (one.1, more, one.3, rest, refl)))
 
 -- a field that has an element
-element_put : (levels : ℕ) (f : FieldShape) (e : Element) (made new : Bytes) → has_zero (name_of f) ≡ false → IsElementPut (recast_node f.shape levels (node_in levels e.kind e.value)) (name_of f) made new → IsFoundPut levels f (Some e) made new
-element_put levels f e made new closed put =
-    let q = read_by levels (name_of f) made new (reads f.shape (node_in levels e.kind e.value)) put in
+element_put : (reader : Reader) (levels : ℕ) (f : FieldShape) (e : Element) (made new : Bytes) → has_zero (name_of f) ≡ false → IsElementPut (recast_for reader f.shape levels (node_in levels e.kind e.value)) (name_of f) made new → IsFoundPut reader levels f (Some e) made new
+element_put reader levels f e made new closed put =
+    let q = read_by levels (name_of f) made new (reads (laid reader f.shape) (node_in levels e.kind e.value)) put in
     (Some q.0, element (kind q.1) (name_of f) (enc q.1), q.2, record { value = q.0; tree = q.1; given = refl; spelled = q.3; closed = closed; bytes_are = refl }, q.4)
 
-pub if_element_put : {A : Type 0} (levels : ℕ) (f : FieldShape) (e : Element) (made new : Bytes) (r : Option A) → IfSome r (λ _. has_zero (name_of f) ≡ false) → IfSome r (λ _. IsElementPut (recast_node f.shape levels (node_in levels e.kind e.value)) (name_of f) made new)
-    → IfSome r (λ _. IsFoundPut levels f (Some e) made new)
-if_element_put levels f e made new None closed put = tt
-if_element_put levels f e made new (Some x) closed put = element_put levels f e made new closed put
+pub if_element_put : {A : Type 0} (reader : Reader) (levels : ℕ) (f : FieldShape) (e : Element) (made new : Bytes) (r : Option A) → IfSome r (λ _. has_zero (name_of f) ≡ false) → IfSome r (λ _. IsElementPut (recast_for reader f.shape levels (node_in levels e.kind e.value)) (name_of f) made new)
+    → IfSome r (λ _. IsFoundPut reader levels f (Some e) made new)
+if_element_put reader levels f e made new None closed put = tt
+if_element_put reader levels f e made new (Some x) closed put = element_put reader levels f e made new closed put
 
 -- a field that has none
-pub if_missing_put : {A : Type 0} (levels : ℕ) (f : FieldShape) (made new : Bytes) (r : Option A) → IfSome r (λ _. has_zero (name_of f) ≡ false) → IfSome r (λ _. missing_value {T = Piece} f.shape ≡ Some none) → IfSome r (λ _. new ≡ made ++ element Null (name_of f) [])
-    → IfSome r (λ _. IsFoundPut levels f None made new)
-if_missing_put levels f made new None closed none_there put = tt
-if_missing_put levels f made new (Some x) closed none_there put = (
+pub if_missing_put : {A : Type 0} (reader : Reader) (levels : ℕ) (f : FieldShape) (made new : Bytes) (r : Option A) → IfSome r (λ _. has_zero (name_of f) ≡ false) → IfSome r (λ _. (q : Reader) → missing_value {T = Piece} (laid q f.shape) ≡ Some none) → IfSome r (λ _. new ≡ made ++ element Null (name_of f) [])
+    → IfSome r (λ _. IsFoundPut reader levels f None made new)
+if_missing_put reader levels f made new None closed none_there put = tt
+if_missing_put reader levels f made new (Some x) closed none_there put = (
   None,
   element Null (name_of f) [],
   tt,
-  record { value = none; tree = null; given = ap (λ m. value_or (name_of f) m None) none_there; spelled = refl; closed = closed; bytes_are = refl },
+  record { value = none; tree = null; given = ap (λ m. value_or (name_of f) m None) (none_there reader); spelled = refl; closed = closed; bytes_are = refl },
   put,
 )
 
-pub left_none : (levels : ℕ) (fs : List FieldShape) (es : List (Option Element)) (i : ℕ) (old made : Bytes) → FoundLeft levels fs es i old made → length fs ≤ i → AreFoundPut levels fs es old made
-left_none levels fs es i old made left all =
-    subst (AreFoundPut levels fs es old) (append-nil made)
-    (left [] [] (subst (λ xs. AreReadAs levels xs (drop i es) []) (sym (drop_all i fs all)) refl) (subst (λ xs. AreWritten levels (slots_with xs []) []) (sym (drop_all i fs all)) refl))
+pub left_none : (reader : Reader) (levels : ℕ) (fs : List FieldShape) (es : List (Option Element)) (i : ℕ) (old made : Bytes) → FoundLeft reader levels fs es i old made → length fs ≤ i → AreFoundPut reader levels fs es old made
+left_none reader levels fs es i old made left all =
+    subst (AreFoundPut reader levels fs es old) (append-nil made)
+    (left [] [] (subst (λ xs. AreReadAs reader levels xs (drop i es) []) (sym (drop_all i fs all)) refl) (subst (λ xs. AreWritten levels (slots_with reader xs []) []) (sym (drop_all i fs all)) refl))
 
 -- the fields up to a place were written, and those behind it from the elements that were found for them
-others_put : (u : UnknownFields) (fs : List FieldShape) (levels : ℕ) (whole : Option Pairs) (place : ℕ) (old made new : Bytes) (w : Walk) → AreUnderWay u fs levels whole (nodes_with (node_in levels) w) place old made → AreOthersPut u levels (take place fs) (drop place fs) w made new
+others_put : (reader : Reader) (u : UnknownFields) (fs : List FieldShape) (levels : ℕ) (whole : Option Pairs) (place : ℕ) (old made new : Bytes) (w : Walk) → AreUnderWay reader u fs levels whole (nodes_with (node_in levels) w) place old made → AreOthersPut reader u levels (take place fs) (drop place fs) w made new
     → ArePairsPut whole old new
-others_put u fs levels whole place old made new w p others =
+others_put reader u fs levels whole place old made new w p others =
     let rest = drop place fs in
     let found = others.1 in
     let h = others.2 in
-    fields_end u levels whole (p.front ++ slots_with rest h.0) old (p.bytes ++ h.1) new (p.left ∙ ap (λ r. recast_by (λ vs. spell_fields (field_contents vs) levels) (r >>= finish)) (found h.0 h.2 p.front p.names_are))
-    (written_both levels p.front (slots_with rest h.0) p.bytes h.1 p.written h.3) (h.4 ∙ ap (λ b. b ++ h.1) p.put ∙ append_assoc old p.bytes h.1)
+    fields_end u levels whole (p.front ++ slots_with reader rest h.0) old (p.bytes ++ h.1) new (p.left ∙ ap (λ r. recast_by (λ vs. spell_fields (field_contents vs) levels) (r >>= finish)) (found h.0 h.2 p.front p.names_are))
+    (written_both levels p.front (slots_with reader rest h.0) p.bytes h.1 p.written h.3) (h.4 ∙ ap (λ b. b ++ h.1) p.put ∙ append_assoc old p.bytes h.1)
 
-pub if_others_put : {A : Type 0} (u : UnknownFields) (fs : List FieldShape) (levels : ℕ) (whole : Option Pairs) (place : ℕ) (old made new : Bytes) (w : Walk) (r : Option A) → AreUnderWay u fs levels whole (nodes_with (node_in levels) w) place old made
-    → IfSome r (λ _. AreOthersPut u levels (take place fs) (drop place fs) w made new) → IfSome r (λ _. ArePairsPut whole old new)
-if_others_put u fs levels whole place old made new w None p h = tt
-if_others_put u fs levels whole place old made new w (Some x) p h = others_put u fs levels whole place old made new w p h
+pub if_others_put : {A : Type 0} (reader : Reader) (u : UnknownFields) (fs : List FieldShape) (levels : ℕ) (whole : Option Pairs) (place : ℕ) (old made new : Bytes) (w : Walk) (r : Option A) → AreUnderWay reader u fs levels whole (nodes_with (node_in levels) w) place old made
+    → IfSome r (λ _. AreOthersPut reader u levels (take place fs) (drop place fs) w made new) → IfSome r (λ _. ArePairsPut whole old new)
+if_others_put reader u fs levels whole place old made new w None p h = tt
+if_others_put reader u fs levels whole place old made new w (Some x) p h = others_put reader u fs levels whole place old made new w p h
 
 -- the fields from a place on are no larger together
-pub fewer : (fs : List FieldShape) (i : ℕ) → fields_nodes (fields_of (drop i fs)) ≤ fields_nodes (fields_of fs)
-fewer fs zero = omega arith
-fewer [] (suc i) = omega arith
-fewer (f ∷ fs) (suc i) = omega (arith, fewer fs i)
+pub fewer : (reader : Reader) (fs : List FieldShape) (i : ℕ) → fields_nodes (laid_fields reader (fields_of (drop i fs))) ≤ fields_nodes (laid_fields reader (fields_of fs))
+fewer reader fs zero = omega arith
+fewer reader [] (suc i) = omega arith
+fewer reader (f ∷ fs) (suc i) = omega (arith, fewer reader fs i)

@@ -17,9 +17,9 @@ use Rattle.bson_datum.specs.Marked.{contents, item_contents, field_contents}
 use Rattle.bson_datum.specs.Value as value
 use Rattle.bson_laws.specs.Containers.{reads_items}
 use Rattle.bson_laws.specs.Judged.{Reading}
-use Rattle.bson_laws.specs.CompactReads.{reads, slots_of}
 use Rattle.bson_laws.specs.Slots.{fill, finish}
 use Rattle.bson_laws.specs.Spell.{Writing, spell, spell_items, spell_fields}
+use Rattle.bson_one_pass.specs.ReadsUnrolled.{reads, slots_of}
 use Rattle.bson_one_pass.specs.Put.{of_writing, recast_by, recast_node, recast_items, recast_fields, ArePut, IsPut, AreItemsPut, ArePairsPut}
 
 pub mapped : {A B : Type 0} (f : A → B) (w : Writing A) → of_writing (result_map f w) ≡ option_map f (of_writing w)

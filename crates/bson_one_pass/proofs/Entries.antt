@@ -19,10 +19,10 @@ use Rattle.bson_datum.specs.Same.{same}
 use Rattle.bson_datum.specs.Value as value
 use Rattle.bson_datum.specs.Value.{str, no_entries, entry}
 use Rattle.bson_laws.specs.Containers.{reads_key, reads_entries}
-use Rattle.bson_laws.specs.CompactReads.{reads}
 use Rattle.bson_laws.specs.ReadsLeaf.{put_entry}
 use Rattle.bson_laws.specs.Spell.{spell, spell_entries}
 use Rattle.bson_keys.specs.New.{is_new}
+use Rattle.bson_one_pass.specs.ReadsUnrolled.{reads}
 use Rattle.bson_one_pass.specs.Free.{takes_keys}
 use Rattle.bson_one_pass.specs.Put.{of_writing, recast_node, recast_entries, IsPut, IsElementPut, ArePairsPut}
 use Rattle.bson_one_pass.proofs.Containers.{recast_mapped, pairs_put}

@@ -14,14 +14,15 @@ use Rattle.bson_shape.specs.declared.shape.VariantShape.{VariantShape}
 use Rattle.bson_datum.specs.Marked.{Marked, contents}
 use Rattle.bson_datum.specs.Value as value
 use Rattle.bson_laws.specs.Judged.{Reading}
-use Rattle.bson_laws.specs.CompactReads.{reads}
 use Rattle.bson_laws.specs.Settled.{settled_variants, settled_content}
-use Rattle.bson_laws.specs.Unrolled.{whole_variants, whole_content}
+use Rattle.bson_laws.specs.Scopes.{laid_variants, laid_content}
+use Rattle.bson_laws.specs.declared.origin.Reader.{Reader}
 use Rattle.bson_laws.specs.Spell.{spell}
 use Rattle.bson_laws.specs.Variants.{content_of}
 use Rattle.bson_laws.proofs.Free.{free_spelled}
+use Rattle.bson_one_pass.specs.ReadsUnrolled.{reads}
 use Rattle.bson_one_pass.specs.Free.{names_unit}
-use Rattle.bson_one_pass.specs.Put.{of_writing, recast_by, recast_node}
+use Rattle.bson_one_pass.specs.Put.{of_writing, recast_by, recast_node, recast_for}
 
 -- ---- newtypes
 
@@ -51,17 +52,19 @@ names_is [] name e = absurd cc
 names_is (v ∷ vs) name e = named_unit (bytes_eq (string_bytes v.name) name) (shape_view.content_of v.content) (names_unit name vs) (content_of (variants_of vs) name) (names_is vs name) e
 
 -- a unit variant has its name alone for each reader
-settled_either : (b : Bool) (c : Content) (o p : Option Content) → (o ≡ Some unit_content → p ≡ Some unit_content) → cond b (Some c) o ≡ Some unit_content → cond b (Some (settled_content false (whole_content c))) p ≡ Some unit_content
-settled_either true unit_content o p others e = refl
-settled_either true (newtype_content s) o p others e = absurd cc
-settled_either true (tuple_content ps) o p others e = absurd cc
-settled_either true (struct_content fs) o p others e = absurd cc
-settled_either false c o p others e = others e
+settled_either : (reader : Reader) (b : Bool) (c : Content) (o p : Option Content) → (o ≡ Some unit_content → p ≡ Some unit_content) → cond b (Some c) o ≡ Some unit_content
+    → cond b (Some (settled_content false (laid_content reader c))) p ≡ Some unit_content
+settled_either reader true unit_content o p others e = refl
+settled_either reader true (newtype_content s) o p others e = absurd cc
+settled_either reader true (tuple_content ps) o p others e = absurd cc
+settled_either reader true (struct_content fs) o p others e = absurd cc
+settled_either reader false c o p others e = others e
 
-settled_unit : (vs : Variants) (name : Utf8) → content_of vs name ≡ Some unit_content → content_of (settled_variants false (whole_variants vs)) name ≡ Some unit_content
-settled_unit no_variants name e = absurd cc
-settled_unit (variant n c vs) name e = settled_either (bytes_eq n name) c (content_of vs name) (content_of (settled_variants false (whole_variants vs)) name) (settled_unit vs name) e
+settled_unit : (reader : Reader) (vs : Variants) (name : Utf8) → content_of vs name ≡ Some unit_content → content_of (settled_variants false (laid_variants reader vs)) name ≡ Some unit_content
+settled_unit reader no_variants name e = absurd cc
+settled_unit reader (variant n c vs) name e =
+    settled_either reader (bytes_eq n name) c (content_of vs name) (content_of (settled_variants false (laid_variants reader vs)) name) (settled_unit reader vs name) e
 
 -- the name of a unit variant is written as it is
-pub unit_read : (vs : Variants) (name : Utf8) (levels : ℕ) → is_utf8 name ≡ true → content_of vs name ≡ Some unit_content → recast_node (enumeration vs) levels (string (borrowed name)) ≡ Some (tree.string name)
-unit_read vs name levels text found = rw (text, settled_unit vs name found) refl
+pub unit_read : (reader : Reader) (vs : Variants) (name : Utf8) (levels : ℕ) → is_utf8 name ≡ true → content_of vs name ≡ Some unit_content → recast_for reader (enumeration vs) levels (string (borrowed name)) ≡ Some (tree.string name)
+unit_read reader vs name levels text found = rw (text, settled_unit reader vs name found) refl

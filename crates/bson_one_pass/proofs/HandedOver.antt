@@ -11,10 +11,10 @@ use Rattle.bson_datum.specs.Value.{kind_as}
 use Rattle.bson_datum.specs.View.{view}
 use Rattle.bson_datum.specs.declared.datum.Datum.{Datum}
 use Rattle.bson_datum.proofs.Marks.{marked-contents}
-use Rattle.bson_laws.specs.CompactReads.{reads}
 use Rattle.bson_laws.specs.Spell.{Writing, spell, spell_as}
 use Rattle.bson_laws.proofs.Sizes.{spell_kind}
 use Rattle.bson_ser_stream.specs.Writing.{with_tree}
+use Rattle.bson_one_pass.specs.ReadsUnrolled.{reads}
 use Rattle.bson_one_pass.specs.Put.{of_writing, recast_by, recast_node, IsPut}
 
 -- the bytes of what was read and written were appended

@@ -15,8 +15,8 @@ use Rattle.bson_datum.specs.Refusal.{under_index}
 use Rattle.bson_datum.specs.Value.{item}
 use Rattle.bson_laws.specs.Containers.{reads_items}
 use Rattle.bson_laws.specs.Judged.{Reading}
-use Rattle.bson_laws.specs.CompactReads.{reads}
 use Rattle.bson_laws.specs.Spell.{Writing, spell, spell_items}
+use Rattle.bson_one_pass.specs.ReadsUnrolled.{reads}
 use Rattle.bson_one_pass.specs.Put.{of_writing, recast_by, recast_node, recast_items, IsElementPut, AreItemsPut}
 
 spelled_by : (i : ℕ) (w : Writing Tree) (ws : Writing Trees) (t : Tree) → of_writing w ≡ Some t → of_writing (under_index i w >>= λ u. ws >>= λ us. Ok (tree u us)) ≡ option_map (tree t) (of_writing ws)

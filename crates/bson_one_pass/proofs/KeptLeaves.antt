@@ -12,6 +12,7 @@ use Rattle.bson_rawdoc.specs.Node.{from_input, node_in, tree_node}
 use Rattle.bson_rawdoc.specs.Numbers.{int32_in, int64_in, uint32_in}
 use Rattle.bson_rawdoc.specs.Piece.{borrowed, made}
 use Rattle.bson_shape.specs.Form.{Form, leaf}
+use Rattle.bson_shape.specs.declared.leaf.Leaf.{Leaf}
 use Rattle.bson_shape.specs.declared.leaf.Leaf.TheVariants as leaves
 use Rattle.bson_datum.specs.Marked.{Marked, contents}
 use Rattle.bson_datum.specs.Refusal.{here, unsigned_exceeds}
@@ -114,5 +115,5 @@ uuid_is b bytes size count subtype =
     (drop 5 b, record { are_bytes = dropped 5 b bytes; count = sixteen }, binary_parts b 4 (sixteen ∙ sym count) bytes (omega (arith, size)) subtype)
 
 -- what is written as it was read is kept
-pub kept_as_read : (s : Form) (levels : ℕ) (k : ElementType) (b : Bytes) → IsWrittenAsRead s levels k b → IsKept s levels k b
-kept_as_read s levels k b h = kept_put s levels k b [] b h refl
+pub kept_as_read : (l : Leaf) (levels : ℕ) (k : ElementType) (b : Bytes) → IsWrittenAsRead (leaf l) levels k b → IsKept (leaf l) levels k b
+kept_as_read l levels k b h = kept_put l levels k b [] b h refl

@@ -15,6 +15,7 @@ mod Tuples
 mod Entries
 mod Variants
 mod Whole
+mod Followed
 mod Copies
 mod Passed
 mod HandedOver

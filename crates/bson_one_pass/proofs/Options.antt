@@ -20,8 +20,8 @@ use Rattle.bson_shape.specs.Form.{Form, optional}
 use Rattle.bson_datum.specs.Marked.{Marked, contents}
 use Rattle.bson_datum.specs.Value as value
 use Rattle.bson_laws.specs.Judged.{Reading}
-use Rattle.bson_laws.specs.CompactReads.{reads}
 use Rattle.bson_laws.specs.Spell.{spell}
+use Rattle.bson_one_pass.specs.ReadsUnrolled.{reads}
 use Rattle.bson_one_pass.specs.Put.{recast_by, recast_node, IsPut}
 use Rattle.bson_one_pass.specs.Run.{IsKept}
 

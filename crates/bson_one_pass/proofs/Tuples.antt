@@ -17,9 +17,11 @@ use Rattle.bson_shape.specs.Form.{Form, Parts, part, tuple, tuple_structure}
 use Rattle.bson_shape.specs.ShapeView.{parts_of}
 use Rattle.bson_datum.specs.Marked.{Marked, MarkedItems, contents, item_contents}
 use Rattle.bson_datum.specs.Value as value
-use Rattle.bson_laws.specs.CompactReads.{reads, reads_parts}
+use Rattle.bson_laws.specs.Scopes.{laid, laid_parts}
+use Rattle.bson_laws.specs.declared.origin.Reader.{Reader}
 use Rattle.bson_laws.specs.Spell.{spell, spell_items}
-use Rattle.bson_one_pass.specs.Put.{recast_by, recast_node, recast_parts, IsPut, IsElementPut, AreItemsPut}
+use Rattle.bson_one_pass.specs.ReadsUnrolled.{reads, reads_parts}
+use Rattle.bson_one_pass.specs.Put.{recast_by, recast_node, recast_for, recast_parts, IsPut, IsElementPut, AreItemsPut}
 use Rattle.bson_one_pass.proofs.Containers.{recast_mapped, elements_put, array_node, frame_wraps}
 use Rattle.bson_one_pass.proofs.Items.{items_by, AreLeft, left_next, left_none}
 
@@ -41,19 +43,20 @@ part_put s ps levels i old_walk new_walk e whole key old made new step index bef
       (put ∙ ap (λ k. made ++ element (kind t) k (enc t)) index)
 
 -- the part at an index was put
-pub part_at_put : (ss : List Form) (s : Form) (levels i : ℕ) (old_walk new_walk : Walk) (e : Element) (whole : Option Trees) (key : Utf8) (old made new : Bytes) → i < length ss → s ≡ get_or ss i s
-    → old_walk ≡ then_walk e new_walk → key ≡ decimal i → AreLeft whole (recast_parts (parts_of (drop i ss)) levels i (nodes_with (node_in levels) old_walk)) i old made
-    → IsElementPut (recast_node s levels (node_in levels e.kind e.value)) key made new → AreLeft whole (recast_parts (parts_of (drop (i + 1) ss)) levels (i + 1) (nodes_with (node_in levels) new_walk)) (i + 1) old new
-part_at_put ss s levels i old_walk new_walk e whole key old made new lt is step index before h =
-    let split : parts_of (drop i ss) ≡ part s (parts_of (drop (suc i) ss)) = ap parts_of (drop-cons ss i s lt) ∙ ap (λ x. part x (parts_of (drop (suc i) ss))) (sym is) in
-    subst (λ m. AreLeft whole (recast_parts (parts_of (drop m ss)) levels m (nodes_with (node_in levels) new_walk)) m old new) (sym (add-one i))
-    (part_put s (parts_of (drop (suc i) ss)) levels i old_walk new_walk e whole key old made new step index
+pub part_at_put : (reader : Reader) (ss : List Form) (s : Form) (levels i : ℕ) (old_walk new_walk : Walk) (e : Element) (whole : Option Trees) (key : Utf8) (old made new : Bytes) → i < length ss → s ≡ get_or ss i s
+    → old_walk ≡ then_walk e new_walk → key ≡ decimal i → AreLeft whole (recast_parts (laid_parts reader (parts_of (drop i ss))) levels i (nodes_with (node_in levels) old_walk)) i old made
+    → IsElementPut (recast_for reader s levels (node_in levels e.kind e.value)) key made new → AreLeft whole (recast_parts (laid_parts reader (parts_of (drop (i + 1) ss))) levels (i + 1) (nodes_with (node_in levels) new_walk)) (i + 1) old new
+part_at_put reader ss s levels i old_walk new_walk e whole key old made new lt is step index before h =
+    let more = laid_parts reader (parts_of (drop (suc i) ss)) in
+    let split : laid_parts reader (parts_of (drop i ss)) ≡ part (laid reader s) more = ap (λ xs. laid_parts reader (parts_of xs)) (drop-cons ss i s lt) ∙ ap (λ x. part (laid reader x) more) (sym is) in
+    subst (λ m. AreLeft whole (recast_parts (laid_parts reader (parts_of (drop m ss))) levels m (nodes_with (node_in levels) new_walk)) m old new) (sym (add-one i))
+    (part_put (laid reader s) more levels i old_walk new_walk e whole key old made new step index
     (subst (λ ps. AreLeft whole (recast_parts ps levels i (nodes_with (node_in levels) old_walk)) i old made) split before) h)
 
 -- no part is left
-pub parts_put : (ss : List Form) (levels i : ℕ) (w : Walk) (whole : Option Trees) (old made : Bytes) → length ss ≤ i → AreLeft whole (recast_parts (parts_of (drop i ss)) levels i (nodes_with (node_in levels) w)) i old made → AreItemsPut whole 0 old made
-parts_put ss levels i w whole old made all h =
-    left_none whole i old made (subst (λ ps. AreLeft whole (recast_parts ps levels i (nodes_with (node_in levels) w)) i old made) (ap parts_of (drop_all i ss all)) h)
+pub parts_put : (reader : Reader) (ss : List Form) (levels i : ℕ) (w : Walk) (whole : Option Trees) (old made : Bytes) → length ss ≤ i → AreLeft whole (recast_parts (laid_parts reader (parts_of (drop i ss))) levels i (nodes_with (node_in levels) w)) i old made → AreItemsPut whole 0 old made
+parts_put reader ss levels i w whole old made all h =
+    left_none whole i old made (subst (λ ps. AreLeft whole (recast_parts ps levels i (nodes_with (node_in levels) w)) i old made) (ap (λ xs. laid_parts reader (parts_of xs)) (drop_all i ss all)) h)
 
 -- ---- the whole array
 

@@ -19,19 +19,19 @@ use Rattle.bson_shape.specs.Form.{dropped, enumeration, Variants, Content, unit_
 use Rattle.bson_shape.specs.Makers.{has_name, has_repeat, variant_names, AreVariants, IsContent}
 use Rattle.bson_shape.specs.ShapeView.{variants_of, content_of, variants_nodes, content_nodes}
 use Rattle.bson_shape.specs.declared.shape.VariantShape.{VariantShape}
-use Rattle.bson_shape.proofs.Shapes.{variant_smaller}
 use Rattle.bson_datum.specs.Marked.{Marked, contents}
 use Rattle.bson_datum.specs.Refusal.{under}
 use Rattle.bson_datum.specs.Value as value
-use Rattle.bson_laws.specs.CompactReads.{reads, reads_parts, slots_of}
 use Rattle.bson_laws.specs.Judged.{Reading, judged}
 use Rattle.bson_laws.specs.Reads as at_settled
 use Rattle.bson_laws.specs.Settled.{settled_variants, settled_content}
-use Rattle.bson_laws.specs.Unrolled.{whole_variants, whole_content}
+use Rattle.bson_laws.specs.Scopes.{laid_variants, laid_content}
+use Rattle.bson_laws.specs.declared.origin.Reader.{Reader}
 use Rattle.bson_laws.specs.Slots.{read_structure}
 use Rattle.bson_laws.specs.Spell.{Writing, spell, named, variant_at}
 use Rattle.bson_laws.specs.Taken.{array_of}
-use Rattle.bson_one_pass.specs.Put.{of_writing, recast_by, recast_node, recast_content, IsPut, IsElementPut, AreInsidePut}
+use Rattle.bson_one_pass.specs.ReadsUnrolled.{reads, reads_parts, slots_of}
+use Rattle.bson_one_pass.specs.Put.{of_writing, recast_by, recast_node, recast_for, recast_content, IsPut, IsElementPut, AreInsidePut}
 use Rattle.bson_one_pass.specs.Run.{NamesVariant, element_of, size}
 use Rattle.bson_one_pass.proofs.Containers.{pairs_put, document_node, frame_wraps}
 use Rattle.bson_one_pass.proofs.KnownNames.{bytes_same}
@@ -44,10 +44,10 @@ variant_name v = string_bytes v.name
 
 -- a value at the variant that its key names, and at the contents of a variant
 abbrev reads_variant : Variants → Utf8 → Node → Reading Marked
-reads_variant vs = at_settled.reads_variant (settled_variants false (whole_variants vs))
+reads_variant vs = at_settled.reads_variant (settled_variants false vs)
 
 abbrev reads_content : Utf8 → Content → Node → Reading Marked
-reads_content name c = at_settled.reads_content name (settled_content false (whole_content c))
+reads_content name c = at_settled.reads_content name (settled_content false c)
 
 -- ---- the variant of a name
 
@@ -58,14 +58,14 @@ other_name (w ∷ vs) zero v name lt got h = ap (λ u. bytes_eq name (variant_na
 other_name (w ∷ vs) (suc i) v name lt got h = other_name vs i v name (omega arith) got (or_false (bytes_eq name (variant_name w)) (has_name name (variant_names (variants_of vs))) h).1
 
 -- where the names are different, a value under the name of a variant is read as its contents
-variant_read : (vs : List VariantShape) (i : ℕ) (v : VariantShape) (n : Node) → i < length vs → v ≡ get_or vs i v → has_repeat (variant_names (variants_of vs)) ≡ false
-    → reads_variant (variants_of vs) (variant_name v) n ≡ reads_content (variant_name v) (content_of v.content) n
-variant_read [] i v n lt got distinct = absurd (omega arith)
-variant_read (w ∷ vs) zero v n lt got distinct =
-    subst (λ u. reads_variant (variants_of (w ∷ vs)) (variant_name u) n ≡ reads_content (variant_name u) (content_of u.content) n) (sym got) (rw (bytes_same (variant_name w) (variant_name w) refl) refl)
-variant_read (w ∷ vs) (suc i) v n lt got distinct =
+variant_read : (reader : Reader) (vs : List VariantShape) (i : ℕ) (v : VariantShape) (n : Node) → i < length vs → v ≡ get_or vs i v → has_repeat (variant_names (variants_of vs)) ≡ false
+    → reads_variant (laid_variants reader (variants_of vs)) (variant_name v) n ≡ reads_content (variant_name v) (laid_content reader (content_of v.content)) n
+variant_read reader [] i v n lt got distinct = absurd (omega arith)
+variant_read reader (w ∷ vs) zero v n lt got distinct =
+    subst (λ u. reads_variant (laid_variants reader (variants_of (w ∷ vs))) (variant_name u) n ≡ reads_content (variant_name u) (laid_content reader (content_of u.content)) n) (sym got) (rw (bytes_same (variant_name w) (variant_name w) refl) refl)
+variant_read reader (w ∷ vs) (suc i) v n lt got distinct =
     let parts = or_false (has_name (variant_name w) (variant_names (variants_of vs))) (has_repeat (variant_names (variants_of vs))) distinct in
-    rw (other_name vs i v (variant_name w) (omega arith) got parts.0) (variant_read vs i v n (omega arith) got parts.1)
+    rw (other_name vs i v (variant_name w) (omega arith) got parts.0) (variant_read reader vs i v n (omega arith) got parts.1)
 
 -- the contents of each variant are as its maker asks
 content_at : (vs : List VariantShape) (i : ℕ) (v : VariantShape) → i < length vs → v ≡ get_or vs i v → AreVariants (variants_of vs) → IsContent (content_of v.content)
@@ -77,8 +77,14 @@ pub named_content : (vs : List VariantShape) (v : VariantShape) (bytes : Bytes) 
 named_content vs v bytes k b names shapes = content_at vs names.place v names.within names.there shapes
 
 -- and have fewer nodes than the variants
-pub named_smaller : (vs : List VariantShape) (v : VariantShape) (bytes : Bytes) (k : ElementType) (b : Bytes) → NamesVariant vs bytes v k b → content_nodes (content_of v.content) < variants_nodes (variants_of vs)
-named_smaller vs v bytes k b names = omega (arith, variant_smaller vs names.place v names.within, ap (λ (w : VariantShape). content_nodes (content_of w.content)) names.there)
+variant_fewer : (reader : Reader) (vs : List VariantShape) (i : ℕ) (v : VariantShape) → i < length vs → v ≡ get_or vs i v → content_nodes (laid_content reader (content_of v.content)) < variants_nodes (laid_variants reader (variants_of vs))
+variant_fewer reader [] i v lt got = absurd (omega arith)
+variant_fewer reader (w ∷ vs) zero v lt got = omega (arith, ap (λ (u : VariantShape). content_nodes (laid_content reader (content_of u.content))) got)
+variant_fewer reader (w ∷ vs) (suc i) v lt got = omega (arith, variant_fewer reader vs i v (omega arith) got)
+
+pub named_smaller : (reader : Reader) (vs : List VariantShape) (v : VariantShape) (bytes : Bytes) (k : ElementType) (b : Bytes) → NamesVariant vs bytes v k b
+    → content_nodes (laid_content reader (content_of v.content)) < variants_nodes (laid_variants reader (variants_of vs))
+named_smaller reader vs v bytes k b names = variant_fewer reader vs names.place v names.within names.there
 
 -- ---- contents
 
@@ -122,33 +128,33 @@ content_written name (struct_content fs) m n closed = inside_by name m (value.st
 -- ---- the whole document
 
 -- a document whose first key names a variant
-first_written : (vs : List VariantShape) (i : ℕ) (v : VariantShape) (m : ℕ) (slice : Whole) (n : Node) (ns : Nodes) → i < length vs → v ≡ get_or vs i v → has_repeat (variant_names (variants_of vs)) ≡ false → has_zero (variant_name v) ≡ false
-    → recast_node (enumeration (variants_of vs)) (suc m) (node.document slice (then_node (borrowed (variant_name v)) n ns)) ≡ option_map (pair_of (variant_name v)) (recast_content (content_of v.content) m n)
-first_written vs i v m slice n ns lt got distinct closed =
-    ap (recast_by (λ v. spell (contents v) (suc m))) (variant_read vs i v n lt got distinct) ∙ content_written (variant_name v) (content_of v.content) m n closed
+first_written : (reader : Reader) (vs : List VariantShape) (i : ℕ) (v : VariantShape) (m : ℕ) (slice : Whole) (n : Node) (ns : Nodes) → i < length vs → v ≡ get_or vs i v → has_repeat (variant_names (variants_of vs)) ≡ false → has_zero (variant_name v) ≡ false
+    → recast_for reader (enumeration (variants_of vs)) (suc m) (node.document slice (then_node (borrowed (variant_name v)) n ns)) ≡ option_map (pair_of (variant_name v)) (recast_content (laid_content reader (content_of v.content)) m n)
+first_written reader vs i v m slice n ns lt got distinct closed =
+    ap (recast_by (λ v. spell (contents v) (suc m))) (variant_read reader vs i v n lt got distinct) ∙ content_written (variant_name v) (laid_content reader (content_of v.content)) m n closed
 
 -- the element whose key names a variant was put
-pair_put : (vs : List VariantShape) (v : VariantShape) (levels : ℕ) (bytes : Bytes) (k : ElementType) (b old new : Bytes) → NamesVariant vs bytes v k b → has_repeat (variant_names (variants_of vs)) ≡ false
-    → IsElementPut (recast_content (content_of v.content) levels (node_in levels k b)) (variant_name v) old new → AreInsidePut (enumeration (variants_of vs)) levels (nodes_with (node_in levels) (walk_elements bytes)) old new
-pair_put vs v levels bytes k b old new names distinct put = by_tree (recast_content (content_of v.content) levels (node_in levels k b)) refl put where
-  by_tree : (o : Option Tree) → recast_content (content_of v.content) levels (node_in levels k b) ≡ o → IsElementPut o (variant_name v) old new
-      → AreInsidePut (enumeration (variants_of vs)) levels (nodes_with (node_in levels) (walk_elements bytes)) old new
+pair_put : (reader : Reader) (vs : List VariantShape) (v : VariantShape) (levels : ℕ) (bytes : Bytes) (k : ElementType) (b old new : Bytes) → NamesVariant vs bytes v k b → has_repeat (variant_names (variants_of vs)) ≡ false
+    → IsElementPut (recast_content (laid_content reader (content_of v.content)) levels (node_in levels k b)) (variant_name v) old new → AreInsidePut (enumeration (laid_variants reader (variants_of vs))) levels (nodes_with (node_in levels) (walk_elements bytes)) old new
+pair_put reader vs v levels bytes k b old new names distinct put = by_tree (recast_content (laid_content reader (content_of v.content)) levels (node_in levels k b)) refl put where
+  by_tree : (o : Option Tree) → recast_content (laid_content reader (content_of v.content)) levels (node_in levels k b) ≡ o → IsElementPut o (variant_name v) old new
+      → AreInsidePut (enumeration (laid_variants reader (variants_of vs))) levels (nodes_with (node_in levels) (walk_elements bytes)) old new
   by_tree None is h = absurd h
   by_tree (Some t) is h = (
     pair (variant_name v) t no_pairs,
-    λ slice. ap (λ w. recast_node (enumeration (variants_of vs)) (suc levels) (node.document slice (nodes_with (node_in levels) w))) names.head.behind
-        ∙ first_written vs names.place v levels slice (node_in levels k b) (nodes_with (node_in levels) (walk_elements (drop (size (element_of k (variant_name v) b)) bytes))) names.within names.there distinct names.head.closed
+    λ slice. ap (λ w. recast_for reader (enumeration (variants_of vs)) (suc levels) (node.document slice (nodes_with (node_in levels) w))) names.head.behind
+        ∙ first_written reader vs names.place v levels slice (node_in levels k b) (nodes_with (node_in levels) (walk_elements (drop (size (element_of k (variant_name v) b)) bytes))) names.within names.there distinct names.head.closed
         ∙ ap (option_map (pair_of (variant_name v))) is,
     h ∙ ap (λ (x : Bytes). old ++ x) (sym (append-nil (element (kind t) (variant_name v) (enc t)))),
   )
 
 -- the same, where it was put
-pub if_pair_put : {A : Type 0} (r : Option A) (vs : List VariantShape) (v : VariantShape) (levels : ℕ) (bytes : Bytes) (k : ElementType) (name b old new : Bytes) → name ≡ variant_name v → NamesVariant vs bytes v k b
-    → has_repeat (variant_names (variants_of vs)) ≡ false → IfSome r (λ _. IsElementPut (recast_content (content_of v.content) levels (node_in levels k b)) name old new)
-    → IfSome r (λ _. AreInsidePut (enumeration (variants_of vs)) levels (nodes_with (node_in levels) (walk_elements bytes)) old new)
-if_pair_put None vs v levels bytes k name b old new same names distinct put = tt
-if_pair_put (Some x) vs v levels bytes k name b old new same names distinct put =
-    pair_put vs v levels bytes k b old new names distinct (subst (λ n. IsElementPut (recast_content (content_of v.content) levels (node_in levels k b)) n old new) same put)
+pub if_pair_put : {A : Type 0} (reader : Reader) (r : Option A) (vs : List VariantShape) (v : VariantShape) (levels : ℕ) (bytes : Bytes) (k : ElementType) (name b old new : Bytes) → name ≡ variant_name v → NamesVariant vs bytes v k b
+    → has_repeat (variant_names (variants_of vs)) ≡ false → IfSome r (λ _. IsElementPut (recast_content (laid_content reader (content_of v.content)) levels (node_in levels k b)) name old new)
+    → IfSome r (λ _. AreInsidePut (enumeration (laid_variants reader (variants_of vs))) levels (nodes_with (node_in levels) (walk_elements bytes)) old new)
+if_pair_put reader None vs v levels bytes k name b old new same names distinct put = tt
+if_pair_put reader (Some x) vs v levels bytes k name b old new same names distinct put =
+    pair_put reader vs v levels bytes k b old new names distinct (subst (λ n. IsElementPut (recast_content (laid_content reader (content_of v.content)) levels (node_in levels k b)) n old new) same put)
 
 -- a document that was closed behind this pair
 pub enum_put : (vs : Variants) (levels m : ℕ) (b old begun filled ended : Bytes) → levels ≡ suc m → ((b : Bytes) → filled ≡ begun ++ b → ended ≡ old ++ enclosed b) → AreInsidePut (enumeration vs) m (nodes_with (node_in m) (walk b)) begun filled
@@ -158,11 +164,11 @@ enum_put vs levels m b old begun filled ended e wraps h = pairs_put (enumeration
 -- ---- what is kept
 
 -- a document whose one pair is kept
-pub pair_kept : (vs : List VariantShape) (v : VariantShape) (levels : ℕ) (bytes : Bytes) (k : ElementType) (b : Bytes) → NamesVariant vs bytes v k b → has_repeat (variant_names (variants_of vs)) ≡ false
-    → length bytes ≤ size (element_of k (variant_name v) b) → IsPut (recast_content (content_of v.content) levels (node_in levels k b)) [] b k → AreInsidePut (enumeration (variants_of vs)) levels (nodes_with (node_in levels) (walk_elements bytes)) [] bytes
-pair_kept vs v levels bytes k b names distinct all kept =
+pub pair_kept : (reader : Reader) (vs : List VariantShape) (v : VariantShape) (levels : ℕ) (bytes : Bytes) (k : ElementType) (b : Bytes) → NamesVariant vs bytes v k b → has_repeat (variant_names (variants_of vs)) ≡ false
+    → length bytes ≤ size (element_of k (variant_name v) b) → IsPut (recast_content (laid_content reader (content_of v.content)) levels (node_in levels k b)) [] b k → AreInsidePut (enumeration (laid_variants reader (variants_of vs))) levels (nodes_with (node_in levels) (walk_elements bytes)) [] bytes
+pair_kept reader vs v levels bytes k b names distinct all kept =
     let whole : bytes ≡ element k (variant_name v) b = sym (take_all (size (element_of k (variant_name v) b)) bytes all) ∙ names.head.is in
-    pair_put vs v levels bytes k b [] bytes names distinct (kept_element (recast_content (content_of v.content) levels (node_in levels k b)) (variant_name v) b [] bytes k kept whole)
+    pair_put reader vs v levels bytes k b [] bytes names distinct (kept_element (recast_content (laid_content reader (content_of v.content)) levels (node_in levels k b)) (variant_name v) b [] bytes k kept whole)
 
 pub enum_kept : (vs : Variants) (levels m : ℕ) (b : Bytes) → levels ≡ suc m → is_closed b ≡ true → enclosed (inside b) ≡ b → AreInsidePut (enumeration vs) m (nodes_with (node_in m) (walk b)) [] (inside b)
     → IsPut (recast_node (enumeration vs) levels (node_in levels kinds.EmbeddedDocument b)) [] b kinds.EmbeddedDocument

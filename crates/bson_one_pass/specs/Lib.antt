@@ -1,4 +1,5 @@
 pub mod Recast
+pub mod ReadsUnrolled
 pub mod Put
 pub mod Free
 pub mod Found

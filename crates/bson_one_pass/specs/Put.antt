@@ -1,5 +1,5 @@
 -- What the parts of the pass append: the tree of a node, and the elements of a document or an array. It is for the contracts of these parts; what the pass
--- promises is in `Recast`.
+-- promises is in `Recast`. The forms are unrolled ones, but for a reader.
 use Rattle.std.specs.Prelude.{◌≡◌, ℕ, suc, [], ◌++◌, Option, Some, None, Ok, Err}
 use Rattle.bson_base.specs.Outcome.{◌>>=◌}
 use Rattle.bson_base.specs.Text.{Bytes, Utf8}
@@ -13,9 +13,11 @@ use Rattle.bson_shape.specs.declared.leaf.Leaf.{Leaf}
 use Rattle.bson_datum.specs.Marked.{MarkedEntries, contents, item_contents, entry_contents, field_contents}
 use Rattle.bson_laws.specs.Containers.{reads_items, reads_key, reads_entries}
 use Rattle.bson_laws.specs.Judged.{Reading}
-use Rattle.bson_laws.specs.CompactReads.{reads, reads_parts}
+use Rattle.bson_laws.specs.Scopes.{laid}
+use Rattle.bson_laws.specs.declared.origin.Reader.{Reader}
 use Rattle.bson_laws.specs.Slots.{Slots, fill, finish}
 use Rattle.bson_laws.specs.Spell.{Writing, spell, spell_items, spell_entries, spell_fields}
+use Rattle.bson_one_pass.specs.ReadsUnrolled.{reads, reads_parts}
 
 -- what is written, where it is
 abbrev pub of_writing : {A : Type 0} → Writing A → Option A
@@ -30,6 +32,10 @@ recast_by write (Err r) = None
 -- the tree of a value, with so many levels left
 abbrev pub recast_node : Form → (levels : ℕ) → Node → Option Tree
 recast_node s levels n = recast_by (λ v. spell (contents v) levels) (reads s n)
+
+-- the same for a reader, in the definitions around
+abbrev pub recast_for : Reader → Form → (levels : ℕ) → Node → Option Tree
+recast_for r s = recast_node (laid r s)
 
 -- the trees of the elements of an array from this index on
 abbrev pub recast_items : Form → (levels index : ℕ) → Nodes → Option Trees

@@ -1,12 +1,13 @@
 // Values that the pass does not take, each by itself.
 ghost use Rattle.std.specs.Prelude.{IfSome};
 ghost use Rattle.bson_rawdoc.specs.Node.{node_in};
-ghost use Rattle.bson_one_pass.specs.Put.{recast_node, IsPut};
+ghost use Rattle.bson_one_pass.specs.Put.{recast_for, IsPut};
 
 use crate::bytes::put;
 use bson_base::ElementType;
-use bson_de::read_value;
+use bson_de::read_for;
 use bson_io::{Out, Steps, Tally};
+use bson_laws::{Origin, Reader};
 use bson_met::Met;
 use bson_rawdoc::RawElement;
 use bson_ser_stream::put_value;
@@ -19,14 +20,27 @@ use bson_shape::Shape;
 #[inline(never)]
 pub(crate) fn recast_alone(
     made: &mut Vec<u8>,
+    reader: &Reader<'_>,
     shape: &Shape,
     levels: u32,
     element: &RawElement<'_>,
 ) -> Option<ElementType>
-    ensures { IfSome result (IsPut (recast_node shape.now levels (node_in levels element.now.kind element.now.value)) made.old.items made.new.items) }
+    ensures { IfSome result (IsPut (recast_for reader.now shape.now levels (node_in levels element.now.kind element.now.value)) made.old.items made.new.items) }
 {
     let alloc = *made.allocator();
-    let Ok(datum) = read_value(alloc, shape, &Met::of_element(levels, element.clone())) else {
+    let compact = Reader {
+        readable: false,
+        origin: Origin::Bytes,
+        table: reader.table,
+        rounds: reader.rounds,
+        steps: reader.steps,
+    };
+    let Ok(datum) = read_for(
+        alloc,
+        &compact,
+        shape,
+        &Met::of_element(levels, element.clone()),
+    ) else {
         return None;
     };
     let mut out = Out::new(alloc);

@@ -5,8 +5,9 @@ ghost use Rattle.bson_base.specs.declared.element_type.ElementType.TheVariants a
 ghost use Rattle.bson_rawdoc.specs.Node.{inner_node, node_in, nodes_with, value_node};
 ghost use Rattle.bson_rawdoc.specs.ValueView.{raw_value};
 ghost use Rattle.bson_rawdoc.specs.Walk.{Element, walk_elements};
-ghost use Rattle.bson_shape.specs.Form.{sequence};
-ghost use Rattle.bson_one_pass.specs.Put.{recast_node, recast_items, IsPut, AreItemsPut, IsElementPut};
+ghost use Rattle.bson_shape.specs.Form.{sequence, reference};
+ghost use Rattle.bson_laws.specs.Scopes.{laid};
+ghost use Rattle.bson_one_pass.specs.Put.{recast_for, recast_items, IsPut, AreItemsPut, IsElementPut};
 ghost use Rattle.bson_one_pass.specs.Run.{IsFirst, IsHead, element_of, run, size};
 
 use crate::alone::recast_alone;
@@ -20,6 +21,7 @@ use crate::structure::recast_struct;
 use crate::taken::{is_integer, is_taken, names_taken};
 use crate::value::recast_value;
 use bson_base::ElementType;
+use bson_laws::Reader;
 use bson_rawdoc::reading::{inside, is_closed};
 use bson_rawdoc::{RawBsonRef, RawElement, next_element};
 use bson_shape::{Form, Shape};
@@ -29,27 +31,58 @@ use bson_shape::{Form, Shape};
 #[cycle(recast)]
 pub(crate) fn recast_array(
     made: &mut Vec<u8>,
+    reader: &Reader<'_>,
     item: &Shape,
     levels: u32,
     bytes: &[u8],
 ) -> Option<ElementType>
-    ensures seen { IfSome result (IsPut (recast_node (sequence item.now) levels (inner_node levels kinds.Array bytes.now)) made.old.items made.new.items) }
-    ensures met { IfSome result (IsPut (recast_node (sequence item.now) levels (node_in levels kinds.Array bytes.now)) made.old.items made.new.items) }
+    ensures seen { IfSome result (IsPut (recast_for reader.now (sequence item.now) levels (inner_node levels kinds.Array bytes.now)) made.old.items made.new.items) }
+    ensures met { IfSome result (IsPut (recast_for reader.now (sequence item.now) levels (node_in levels kinds.Array bytes.now)) made.old.items made.new.items) }
 {
+    if let Form::Reference(name) = item.form() {
+        return recast_array_of(made, reader, name, levels, bytes);
+    }
     if levels == 0 || bytes.len() < 5 || !is_closed(bytes) {
         return None;
     }
     let start = made.len();
     put(made, &[0; 4])?;
-    recast_items(made, item, levels - 1, inside(bytes))?;
+    recast_items(made, reader, item, levels - 1, inside(bytes))?;
     close(made, start)?;
     Some(ElementType::Array)
 }
 
+// The same at references of this name: the definition is looked up once for all items.
+#[inline(never)]
+#[cycle(recast)]
+fn recast_array_of(
+    made: &mut Vec<u8>,
+    reader: &Reader<'_>,
+    name: &str,
+    levels: u32,
+    bytes: &[u8],
+) -> Option<ElementType>
+    ensures seen { IfSome result (IsPut (recast_for reader.now (sequence (reference name.now)) levels (inner_node levels kinds.Array bytes.now)) made.old.items made.new.items) }
+    ensures met { IfSome result (IsPut (recast_for reader.now (sequence (reference name.now)) levels (node_in levels kinds.Array bytes.now)) made.old.items made.new.items) }
+{
+    match reader.definition(name) {
+        Some(definition) => {
+            recast_array(made, &definition.reader, definition.shape, levels, bytes)
+        }
+        None => None,
+    }
+}
+
 /// The elements of an array.
 #[cycle(recast)]
-fn recast_items(made: &mut Vec<u8>, item: &Shape, levels: u32, elements: &[u8]) -> Option<()>
-    ensures { IfSome result (λ _. AreItemsPut (recast_items item.now levels 0 (nodes_with (node_in levels) (walk_elements elements.now))) 0
+fn recast_items(
+    made: &mut Vec<u8>,
+    reader: &Reader<'_>,
+    item: &Shape,
+    levels: u32,
+    elements: &[u8],
+) -> Option<()>
+    ensures { IfSome result (λ _. AreItemsPut (recast_items (laid reader.now item.now) levels 0 (nodes_with (node_in levels) (walk_elements elements.now))) 0
         made.old.items made.new.items) }
 {
     let mut digits = itoa::Buffer::new();
@@ -63,13 +96,13 @@ fn recast_items(made: &mut Vec<u8>, item: &Shape, levels: u32, elements: &[u8]) 
             Some((kind, value)) => {
                 let behind = at + named_len(&elements[at..], kind, key, value);
                 from = recast_known(
-                    made, item, levels, nested, elements, from, at, key, kind, value,
+                    made, reader, item, levels, nested, elements, from, at, key, kind, value,
                 )?;
                 nested = nested_behind(nested, from == behind);
                 at = behind;
             }
             None => {
-                at = recast_misnamed(made, item, levels, elements, from, at, key)?;
+                at = recast_misnamed(made, reader, item, levels, elements, from, at, key)?;
                 from = at;
             }
         }
@@ -89,6 +122,7 @@ fn nested_behind(nested: u32, changed: bool) -> u32 {
 #[cycle(recast)]
 pub(crate) fn recast_misnamed(
     made: &mut Vec<u8>,
+    reader: &Reader<'_>,
     shape: &Shape,
     levels: u32,
     elements: &[u8],
@@ -99,7 +133,7 @@ pub(crate) fn recast_misnamed(
     requires order { from ≤ at }
     requires within { at ≤ length elements.now }
     ensures { IfSome result (λ next. (e : Element) × IsHead (drop at elements.now) e × (next ≡ at + size e)
-        × IsElementPut (recast_node shape.now levels (node_in levels e.kind e.value)) key.now (made.old.items ++ run elements.now from at) made.new.items) }
+        × IsElementPut (recast_for reader.now shape.now levels (node_in levels e.kind e.value)) key.now (made.old.items ++ run elements.now from at) made.new.items) }
 {
     let Some(step) = next_element(&elements[at..]) else {
         return None;
@@ -109,7 +143,7 @@ pub(crate) fn recast_misnamed(
     };
     let behind = at + element_len(&elements[at..], &element);
     put_run(made, elements, from, at)?;
-    recast_item(made, shape, levels, &element, key)?;
+    recast_item(made, reader, shape, levels, &element, key)?;
     Some(behind)
 }
 
@@ -119,6 +153,7 @@ pub(crate) fn recast_misnamed(
 #[cycle(recast)]
 pub(crate) fn recast_next(
     made: &mut Vec<u8>,
+    reader: &Reader<'_>,
     shape: &Shape,
     levels: u32,
     nested: u32,
@@ -131,11 +166,12 @@ pub(crate) fn recast_next(
     requires within { at ≤ length elements.now }
     requires first { IsFirst (drop at elements.now) element.now }
     ensures behind { IfSome result (λ next. next ≤ at + size element.now) }
-    ensures put { IfSome result (λ next. IsElementPut (recast_node shape.now levels (node_in levels element.now.kind element.now.value)) element.now.key
+    ensures put { IfSome result (λ next. IsElementPut (recast_for reader.now shape.now levels (node_in levels element.now.kind element.now.value)) element.now.key
         (made.old.items ++ run elements.now from at) (made.new.items ++ run elements.now next (at + size element.now))) }
 {
     recast_known(
         made,
+        reader,
         shape,
         levels,
         nested,
@@ -153,6 +189,7 @@ pub(crate) fn recast_next(
 #[cycle(recast)]
 pub(crate) fn recast_known(
     made: &mut Vec<u8>,
+    reader: &Reader<'_>,
     shape: &Shape,
     levels: u32,
     nested: u32,
@@ -167,15 +204,32 @@ pub(crate) fn recast_known(
     requires within { at ≤ length elements.now }
     requires head { IsHead (drop at elements.now) (element_of kind key.now value.now) }
     ensures behind { IfSome result (λ next. next ≤ at + size (element_of kind key.now value.now)) }
-    ensures put { IfSome result (λ next. IsElementPut (recast_node shape.now levels (node_in levels kind value.now)) key.now
+    ensures put { IfSome result (λ next. IsElementPut (recast_for reader.now shape.now levels (node_in levels kind value.now)) key.now
         (made.old.items ++ run elements.now from at) (made.new.items ++ run elements.now next (at + size (element_of kind key.now value.now)))) }
 {
-    if is_kept(*made.allocator(), shape, levels, nested, kind, value) {
+    if is_kept(
+        *made.allocator(),
+        reader,
+        shape,
+        levels,
+        nested,
+        kind,
+        value,
+    ) {
         return Some(from);
     }
     let behind = at + named_len(&elements[at..], kind, key, value);
     put_run(made, elements, from, at)?;
-    recast_changed(made, shape, levels, &elements[at..], key, kind, value)?;
+    recast_changed(
+        made,
+        reader,
+        shape,
+        levels,
+        &elements[at..],
+        key,
+        kind,
+        value,
+    )?;
     Some(behind)
 }
 
@@ -183,6 +237,7 @@ pub(crate) fn recast_known(
 #[cycle(recast)]
 fn recast_changed(
     made: &mut Vec<u8>,
+    reader: &Reader<'_>,
     shape: &Shape,
     levels: u32,
     bytes: &[u8],
@@ -191,11 +246,11 @@ fn recast_changed(
     value: &[u8],
 ) -> Option<()>
     requires head { IsHead bytes.now (element_of kind key.now value.now) }
-    ensures { IfSome result (λ _. IsElementPut (recast_node shape.now levels (node_in levels kind value.now)) key.now made.old.items made.new.items) }
+    ensures { IfSome result (λ _. IsElementPut (recast_for reader.now shape.now levels (node_in levels kind value.now)) key.now made.old.items made.new.items) }
 {
     let place = made.len();
     put(made, named_front(bytes, kind, key, value))?;
-    let kind = recast_bytes(made, shape, levels, bytes, key, kind, value)?;
+    let kind = recast_bytes(made, reader, shape, levels, bytes, key, kind, value)?;
     set_kind(made, place, kind);
     Some(())
 }
@@ -205,6 +260,7 @@ fn recast_changed(
 #[cycle(recast)]
 fn recast_bytes(
     made: &mut Vec<u8>,
+    reader: &Reader<'_>,
     shape: &Shape,
     levels: u32,
     bytes: &[u8],
@@ -213,7 +269,7 @@ fn recast_bytes(
     value: &[u8],
 ) -> Option<ElementType>
     requires head { IsHead bytes.now (element_of kind key.now value.now) }
-    ensures { IfSome result (IsPut (recast_node shape.now levels (node_in levels kind value.now)) made.old.items made.new.items) }
+    ensures { IfSome result (IsPut (recast_for reader.now shape.now levels (node_in levels kind value.now)) made.old.items made.new.items) }
 {
     shape.known();
     match (shape.form(), kind) {
@@ -223,25 +279,56 @@ fn recast_bytes(
         (Form::Leaf(leaf), ElementType::Int64) if is_integer(leaf) => {
             recast_int64(made, leaf, levels, value)
         }
-        (Form::Seq(item), ElementType::Array) => recast_array(made, item, levels, value),
+        (Form::Seq(item), ElementType::Array) => recast_array(made, reader, item, levels, value),
         (Form::Struct(name, fields), ElementType::EmbeddedDocument) => {
-            recast_struct(made, name, fields, false, levels, value)
+            recast_struct(made, reader, name, fields, false, levels, value)
         }
         (Form::ClosedStruct(name, fields), ElementType::EmbeddedDocument) => {
-            recast_struct(made, name, fields, true, levels, value)
+            recast_struct(made, reader, name, fields, true, levels, value)
         }
         (Form::Enum(variants), ElementType::EmbeddedDocument) if names_taken(variants, value) => {
-            recast_enum(made, variants, levels, value)
+            recast_enum(made, reader, variants, levels, value)
         }
-        _ => recast_first(made, shape, levels, bytes),
+        (Form::Reference(name), _) => {
+            recast_referred(made, reader, name, levels, bytes, key, kind, value)
+        }
+        _ => recast_first(made, reader, shape, levels, bytes),
+    }
+}
+
+// The same at a reference of this name: it is written at its definition, once it is looked at. It does not call `recast_bytes`, so that this stays a part of its one caller.
+#[inline(never)]
+#[cycle(recast)]
+fn recast_referred(
+    made: &mut Vec<u8>,
+    reader: &Reader<'_>,
+    name: &str,
+    levels: u32,
+    bytes: &[u8],
+    key: &str,
+    kind: ElementType,
+    value: &[u8],
+) -> Option<ElementType>
+    requires head { IsHead bytes.now (element_of kind key.now value.now) }
+    ensures put { IfSome result (IsPut (recast_for reader.now (reference name.now) levels (node_in levels kind value.now)) made.old.items made.new.items) }
+{
+    match reader.definition(name) {
+        Some(definition) => recast_first(made, &definition.reader, definition.shape, levels, bytes),
+        None => None,
     }
 }
 
 // The value of the element that begins these bytes, once it is looked at.
 #[inline(never)]
 #[cycle(recast)]
-fn recast_first(made: &mut Vec<u8>, shape: &Shape, levels: u32, bytes: &[u8]) -> Option<ElementType>
-    ensures { (e : Element) → IsHead bytes.now e → IfSome result (IsPut (recast_node shape.now levels (node_in levels e.kind e.value)) made.old.items made.new.items) }
+fn recast_first(
+    made: &mut Vec<u8>,
+    reader: &Reader<'_>,
+    shape: &Shape,
+    levels: u32,
+    bytes: &[u8],
+) -> Option<ElementType>
+    ensures { (e : Element) → IsHead bytes.now e → IfSome result (IsPut (recast_for reader.now shape.now levels (node_in levels e.kind e.value)) made.old.items made.new.items) }
 {
     let Some(step) = next_element(bytes) else {
         return None;
@@ -249,7 +336,7 @@ fn recast_first(made: &mut Vec<u8>, shape: &Shape, levels: u32, bytes: &[u8]) ->
     let Ok((element, _)) = step else {
         return None;
     };
-    recast_other(made, shape, levels, &element)
+    recast_other(made, reader, shape, levels, &element)
 }
 
 /// The value of an element: that of a common kind from its bytes, any other once it is looked at.
@@ -257,11 +344,12 @@ fn recast_first(made: &mut Vec<u8>, shape: &Shape, levels: u32, bytes: &[u8]) ->
 #[cycle(recast)]
 fn recast_element(
     made: &mut Vec<u8>,
+    reader: &Reader<'_>,
     shape: &Shape,
     levels: u32,
     element: &RawElement<'_>,
 ) -> Option<ElementType>
-    ensures { IfSome result (IsPut (recast_node shape.now levels (node_in levels element.now.kind element.now.value)) made.old.items made.new.items) }
+    ensures { IfSome result (IsPut (recast_for reader.now shape.now levels (node_in levels element.now.kind element.now.value)) made.old.items made.new.items) }
 {
     shape.known();
     match (shape.form(), element.element_type()) {
@@ -272,15 +360,15 @@ fn recast_element(
             recast_int64(made, leaf, levels, element.slice())
         }
         (Form::Seq(item), ElementType::Array) => {
-            recast_array(made, item, levels, element.slice())
+            recast_array(made, reader, item, levels, element.slice())
         }
         (Form::Struct(name, fields), ElementType::EmbeddedDocument) => {
-            recast_struct(made, name, fields, false, levels, element.slice())
+            recast_struct(made, reader, name, fields, false, levels, element.slice())
         }
         (Form::ClosedStruct(name, fields), ElementType::EmbeddedDocument) => {
-            recast_struct(made, name, fields, true, levels, element.slice())
+            recast_struct(made, reader, name, fields, true, levels, element.slice())
         }
-        _ => recast_other(made, shape, levels, element),
+        _ => recast_other(made, reader, shape, levels, element),
     }
 }
 
@@ -290,39 +378,49 @@ fn recast_element(
 #[cycle(recast)]
 fn recast_other(
     made: &mut Vec<u8>,
+    reader: &Reader<'_>,
     shape: &Shape,
     levels: u32,
     element: &RawElement<'_>,
 ) -> Option<ElementType>
-    ensures { IfSome result (IsPut (recast_node shape.now levels (node_in levels element.now.kind element.now.value)) made.old.items made.new.items) }
+    ensures { IfSome result (IsPut (recast_for reader.now shape.now levels (node_in levels element.now.kind element.now.value)) made.old.items made.new.items) }
 {
     if let Some(value) = value_of(element, levels) {
-        if is_taken(shape, &value) {
-            return recast_value(made, shape, levels, &value);
+        if is_taken(reader, shape, &value) {
+            return recast_value(made, reader, shape, levels, &value);
         }
     }
-    recast_alone(made, shape, levels, element)
+    recast_alone(made, reader, shape, levels, element)
 }
 
 /// An element whose key is this.
 #[cycle(recast)]
 pub(crate) fn recast_item(
     made: &mut Vec<u8>,
+    reader: &Reader<'_>,
     shape: &Shape,
     levels: u32,
     element: &RawElement<'_>,
     key: &str,
 ) -> Option<()>
-    ensures { IfSome result (λ _. IsElementPut (recast_node shape.now levels (node_in levels element.now.kind element.now.value)) key.now
+    ensures { IfSome result (λ _. IsElementPut (recast_for reader.now shape.now levels (node_in levels element.now.kind element.now.value)) key.now
         made.old.items made.new.items) }
 {
     let (kind, bytes) = (element.element_type(), element.slice());
-    if is_kept(*made.allocator(), shape, levels, MOST_NESTED, kind, bytes) {
+    if is_kept(
+        *made.allocator(),
+        reader,
+        shape,
+        levels,
+        MOST_NESTED,
+        kind,
+        bytes,
+    ) {
         return put_element(made, kind, key, bytes);
     }
     let place = made.len();
     put_front(made, key.as_bytes())?;
-    let kind = recast_element(made, shape, levels, element)?;
+    let kind = recast_element(made, reader, shape, levels, element)?;
     set_kind(made, place, kind);
     Some(())
 }

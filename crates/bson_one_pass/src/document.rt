@@ -8,6 +8,7 @@ use crate::owned::borrows_nothing;
 use crate::value::recast_value;
 use bson_base::{ElementType, MAX_NESTING_LEVEL};
 use bson_io::MOST;
+use bson_laws::{Origin, Reader};
 use bson_rawdoc::{RawBsonRef, RawDocument};
 use bson_shape::{Form, Leaf, Shape};
 use std::alloc::Global;
@@ -35,6 +36,7 @@ pub fn recast_at_once(alloc: Global, shape: &Shape, bytes: &[u8]) -> Option<Vec<
     };
     match recast_value(
         &mut made,
+        &Reader::new(false, Origin::Bytes),
         shape,
         MAX_NESTING_LEVEL,
         &RawBsonRef::Document(document),

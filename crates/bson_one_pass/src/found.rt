@@ -5,6 +5,7 @@ ghost use Rattle.bson_rawdoc.specs.Walk.{walk_elements};
 ghost use Rattle.bson_shape.specs.Makers.{AreDistinct};
 ghost use Rattle.bson_shape.specs.ShapeView.{fields_of};
 ghost use Rattle.bson_slots.specs.FieldsRead.{unknown_of};
+ghost use Rattle.bson_laws.specs.declared.origin.Reader.{Reader};
 ghost use Rattle.bson_one_pass.specs.Found.{IsField, IsNoted, AreFound};
 ghost use Rattle.bson_one_pass.specs.Free.{is_free};
 
@@ -26,7 +27,7 @@ pub(crate) fn find_elements<'a>(
     elements: &'a [u8],
 ) -> Option<Vec<Option<RawElement<'a>>>>
     requires distinct { AreDistinct (fields_of (front.now ++ fields.now)) }
-    ensures { IfSome result (λ found. AreFound (unknown_of closed) levels front.now fields.now (nodes_with (node_in levels) (walk_elements elements.now)) ended found.items) }
+    ensures { IfSome result (λ found. (r : Reader) → AreFound r (unknown_of closed) levels front.now fields.now (nodes_with (node_in levels) (walk_elements elements.now)) ended found.items) }
 {
     let mut found = none_found(alloc, fields.len())?;
     let mut next = 0;
@@ -52,7 +53,7 @@ fn note_element<'a>(
     element: RawElement<'a>,
 ) -> Option<usize>
     requires distinct { AreDistinct (fields_of (front.now ++ fields.now)) }
-    ensures noted { IfSome result (λ _. IsNoted (unknown_of closed) levels front.now fields.now element.entry found.old.items found.new.items) }
+    ensures noted { IfSome result (λ _. (r : Reader) → IsNoted r (unknown_of closed) levels front.now fields.now element.entry found.old.items found.new.items) }
 {
     let Some(place) = place_of(fields, next, element.key()) else {
         if closed {

@@ -12,16 +12,18 @@ ghost use Rattle.bson_shape.specs.Form.{UnknownFields};
 ghost use Rattle.bson_shape.specs.Makers.{AreDistinct, AreVariants, IsContent, has_repeat, is_reserved_newtype, variant_names};
 ghost use Rattle.bson_shape.specs.ShapeView.{content_of, fields_of, parts_of, variants_of};
 ghost use Rattle.bson_laws.specs.Leaves.{extended_values, leaf_kind, of_kind};
-ghost use Rattle.bson_laws.specs.CompactReads.{slots_of};
+ghost use Rattle.bson_laws.specs.Scopes.{laid, laid_content, laid_fields, laid_parts, laid_variants};
 ghost use Rattle.bson_itself.specs.Encoded.{IsFrame, IsTextValue, IsTrueOrFalse};
 ghost use Rattle.bson_one_pass.specs.Put.{recast_items, recast_parts, recast_fields, recast_content, IsPut, AreItemsPut, ArePairsPut, AreInsidePut};
+ghost use Rattle.bson_one_pass.specs.ReadsUnrolled.{slots_of};
 ghost use Rattle.bson_one_pass.specs.Run.{IsKept, IsUuid};
 
 use crate::named::{named_len, named_variant, value_under};
-use crate::owned::borrows_nothing;
+use crate::owned::borrows_nothing_in;
 use bson_base::ElementType;
 use bson_io::MOST;
 use bson_itself::{UntypedLeaf, boolean_len, frame_len, is_itself, text_len};
+use bson_laws::Reader;
 use bson_rawdoc::reading::{inside, is_closed, known_bytes, uint32_in};
 use bson_shape::{FieldShape, Form, Leaf, Shape, VariantContent, VariantShape};
 use std::alloc::Global;
@@ -37,17 +39,18 @@ pub(crate) const MOST_NESTED: u32 = 2;
 #[cycle(kept)]
 pub(crate) fn is_kept(
     alloc: Global,
+    reader: &Reader<'_>,
     shape: &Shape,
     levels: u32,
     nested: u32,
     kind: ElementType,
     bytes: &[u8],
 ) -> bool
-    ensures { IsTrue result → IsKept shape.now levels kind bytes.now }
+    ensures { IsTrue result → IsKept (laid reader.now shape.now) levels kind bytes.now }
 {
     match shape.form() {
         Form::Leaf(leaf) => is_leaf_kept(alloc, leaf, levels, kind, bytes),
-        _ => is_form_kept(alloc, shape, levels, nested, kind, bytes),
+        _ => is_form_kept(alloc, reader, shape, levels, nested, kind, bytes),
     }
 }
 
@@ -56,55 +59,89 @@ pub(crate) fn is_kept(
 #[cycle(kept)]
 fn is_form_kept(
     alloc: Global,
+    reader: &Reader<'_>,
     shape: &Shape,
     levels: u32,
     nested: u32,
     kind: ElementType,
     bytes: &[u8],
 ) -> bool
-    ensures { IsTrue result → IsKept shape.now levels kind bytes.now }
+    ensures { IsTrue result → IsKept (laid reader.now shape.now) levels kind bytes.now }
 {
     shape.known();
     match shape.form() {
         Form::Option(inner) => match kind {
             ElementType::Null => bytes.is_empty(),
-            _ => is_kept(alloc, inner, levels, nested, kind, bytes),
+            _ => is_kept(alloc, reader, inner, levels, nested, kind, bytes),
         },
         Form::Newtype(name, inner) => {
-            is_newtype_kept(alloc, name, inner, levels, nested, kind, bytes)
+            is_newtype_kept(alloc, reader, name, inner, levels, nested, kind, bytes)
         }
-        Form::Lossy(inner) => is_marked_kept(alloc, inner, levels, nested, kind, bytes),
+        Form::Lossy(inner) => is_marked_kept(alloc, reader, inner, levels, nested, kind, bytes),
         Form::Seq(item) => match kind {
             ElementType::Array if nested > 0 => {
-                is_array_kept(alloc, item, levels, nested - 1, bytes)
+                is_array_kept(alloc, reader, item, levels, nested - 1, bytes)
             }
             _ => false,
         },
         Form::Struct(name, fields) => match kind {
             ElementType::EmbeddedDocument if nested > 0 => {
-                is_struct_kept(alloc, name, fields, levels, nested - 1, bytes)
+                is_struct_kept(alloc, reader, name, fields, levels, nested - 1, bytes)
             }
             _ => false,
         },
         Form::Tuple(parts) => match kind {
             ElementType::Array if nested > 0 => {
-                is_tuple_kept(alloc, parts, levels, nested - 1, bytes)
+                is_tuple_kept(alloc, reader, parts, levels, nested - 1, bytes)
             }
             _ => false,
         },
         Form::Enum(variants) => match kind {
             ElementType::EmbeddedDocument if nested > 0 => {
-                is_enum_kept(alloc, variants, levels, nested - 1, bytes)
+                is_enum_kept(alloc, reader, variants, levels, nested - 1, bytes)
             }
             _ => false,
         },
         Form::ClosedStruct(name, fields) => match kind {
             ElementType::EmbeddedDocument if nested > 0 => {
-                is_struct_kept(alloc, name, fields, levels, nested - 1, bytes)
+                is_struct_kept(alloc, reader, name, fields, levels, nested - 1, bytes)
             }
             _ => false,
         },
+        Form::Reference(name) if nested > 0 => {
+            is_reference_kept(alloc, reader, name, levels, nested, kind, bytes)
+        }
         _ => false,
+    }
+}
+
+// The same at a reference: its definition is looked up.
+#[inline(never)]
+#[cycle(kept)]
+fn is_reference_kept(
+    alloc: Global,
+    reader: &Reader<'_>,
+    name: &str,
+    levels: u32,
+    nested: u32,
+    kind: ElementType,
+    bytes: &[u8],
+) -> bool
+    ensures { IsTrue result → IsKept (laid reader.now (form.reference name.now)) levels kind bytes.now }
+{
+    match reader.definition(name) {
+        Some(definition) => {
+            is_kept(
+                alloc,
+                &definition.reader,
+                definition.shape,
+                levels,
+                nested,
+                kind,
+                bytes,
+            )
+        }
+        None => false,
     }
 }
 
@@ -113,6 +150,7 @@ fn is_form_kept(
 #[cycle(kept)]
 fn is_newtype_kept(
     alloc: Global,
+    reader: &Reader<'_>,
     name: &str,
     inner: &Shape,
     levels: u32,
@@ -121,9 +159,9 @@ fn is_newtype_kept(
     bytes: &[u8],
 ) -> bool
     requires free { is_reserved_newtype name.now ≡ false }
-    ensures { IsTrue result → IsKept (form.newtype name.now inner.now) levels kind bytes.now }
+    ensures { IsTrue result → IsKept (laid reader.now (form.newtype name.now inner.now)) levels kind bytes.now }
 {
-    is_kept(alloc, inner, levels, nested, kind, bytes)
+    is_kept(alloc, reader, inner, levels, nested, kind, bytes)
 }
 
 // The same at a mark: nothing is mended, since each text is UTF-8.
@@ -131,15 +169,17 @@ fn is_newtype_kept(
 #[cycle(kept)]
 fn is_marked_kept(
     alloc: Global,
+    reader: &Reader<'_>,
     inner: &Shape,
     levels: u32,
     nested: u32,
     kind: ElementType,
     bytes: &[u8],
 ) -> bool
-    ensures { IsTrue result → IsKept (form.lossy inner.now) levels kind bytes.now }
+    ensures { IsTrue result → IsKept (laid reader.now (form.lossy inner.now)) levels kind bytes.now }
 {
-    borrows_nothing(inner) && is_kept(alloc, inner, levels, nested, kind, bytes)
+    borrows_nothing_in(reader.table, inner)
+        && is_kept(alloc, reader, inner, levels, nested, kind, bytes)
 }
 
 /// Whether a value of the kind in these bytes is written at a leaf as these bytes.
@@ -276,20 +316,34 @@ fn is_frame(bytes: &[u8]) -> bool
 // Whether the array in these bytes is written as these bytes, with its values at a shape.
 #[inline(never)]
 #[cycle(kept)]
-fn is_array_kept(alloc: Global, item: &Shape, levels: u32, nested: u32, bytes: &[u8]) -> bool
-    ensures { IsTrue result → IsKept (form.sequence item.now) levels kinds.Array bytes.now }
+fn is_array_kept(
+    alloc: Global,
+    reader: &Reader<'_>,
+    item: &Shape,
+    levels: u32,
+    nested: u32,
+    bytes: &[u8],
+) -> bool
+    ensures { IsTrue result → IsKept (laid reader.now (form.sequence item.now)) levels kinds.Array bytes.now }
 {
     if levels == 0 || !is_frame(bytes) {
         return false;
     }
-    are_items_kept(alloc, item, levels - 1, nested, inside(bytes))
+    are_items_kept(alloc, reader, item, levels - 1, nested, inside(bytes))
 }
 
 // Whether the elements of an array are written as these bytes: their keys are their indexes.
 #[inline(always)]
 #[cycle(kept)]
-fn are_items_kept(alloc: Global, item: &Shape, levels: u32, nested: u32, elements: &[u8]) -> bool
-    ensures { IsTrue result → AreItemsPut (recast_items item.now levels 0 (nodes_with (node_in levels) (walk_elements elements.now))) 0 [] elements.now }
+fn are_items_kept(
+    alloc: Global,
+    reader: &Reader<'_>,
+    item: &Shape,
+    levels: u32,
+    nested: u32,
+    elements: &[u8],
+) -> bool
+    ensures { IsTrue result → AreItemsPut (recast_items (laid reader.now item.now) levels 0 (nodes_with (node_in levels) (walk_elements elements.now))) 0 [] elements.now }
 {
     let mut digits = itoa::Buffer::new();
     let mut index: u64 = 0;
@@ -299,7 +353,7 @@ fn are_items_kept(alloc: Global, item: &Shape, levels: u32, nested: u32, element
         let Some((kind, value)) = value_under(&elements[at..], key) else {
             return false;
         };
-        if !is_kept(alloc, item, levels, nested, kind, value) {
+        if !is_kept(alloc, reader, item, levels, nested, kind, value) {
             return false;
         }
         at += named_len(&elements[at..], kind, key, value);
@@ -317,6 +371,7 @@ fn are_items_kept(alloc: Global, item: &Shape, levels: u32, nested: u32, element
 #[cycle(kept)]
 fn is_struct_kept(
     alloc: Global,
+    reader: &Reader<'_>,
     name: &str,
     fields: &[FieldShape],
     levels: u32,
@@ -325,13 +380,13 @@ fn is_struct_kept(
 ) -> bool
     requires free { reserved_kind name.now ≡ None }
     requires distinct { AreDistinct (fields_of fields.now) }
-    ensures drops { IsTrue result → IsKept (form.structure form.dropped name.now (fields_of fields.now)) levels kinds.EmbeddedDocument bytes.now }
-    ensures denies { IsTrue result → IsKept (form.structure form.denied name.now (fields_of fields.now)) levels kinds.EmbeddedDocument bytes.now }
+    ensures drops { IsTrue result → IsKept (laid reader.now (form.structure form.dropped name.now (fields_of fields.now))) levels kinds.EmbeddedDocument bytes.now }
+    ensures denies { IsTrue result → IsKept (laid reader.now (form.structure form.denied name.now (fields_of fields.now))) levels kinds.EmbeddedDocument bytes.now }
 {
     if levels == 0 || !is_frame(bytes) {
         return false;
     }
-    are_fields_kept(alloc, fields, levels - 1, nested, inside(bytes))
+    are_fields_kept(alloc, reader, fields, levels - 1, nested, inside(bytes))
 }
 
 // Whether the elements of a document are written as these bytes: they are those of the fields, in their order.
@@ -339,13 +394,14 @@ fn is_struct_kept(
 #[cycle(kept)]
 fn are_fields_kept(
     alloc: Global,
+    reader: &Reader<'_>,
     fields: &[FieldShape],
     levels: u32,
     nested: u32,
     elements: &[u8],
 ) -> bool
     requires distinct { AreDistinct (fields_of fields.now) }
-    ensures { IsTrue result → (unknown : UnknownFields) → ArePairsPut (recast_fields unknown (slots_of (fields_of fields.now)) levels
+    ensures { IsTrue result → (unknown : UnknownFields) → ArePairsPut (recast_fields unknown (slots_of (laid_fields reader.now (fields_of fields.now))) levels
         (nodes_with (node_in levels) (walk_elements elements.now))) [] elements.now }
 {
     let mut place = 0;
@@ -358,7 +414,7 @@ fn are_fields_kept(
         let Some((kind, value)) = value_under(&elements[at..], name) else {
             return false;
         };
-        if !is_kept(alloc, &field.shape, levels, nested, kind, value) {
+        if !is_kept(alloc, reader, &field.shape, levels, nested, kind, value) {
             return false;
         }
         at += named_len(&elements[at..], kind, name, value);
@@ -370,20 +426,34 @@ fn are_fields_kept(
 // Whether the array in these bytes is written as these bytes, with its parts at shapes.
 #[inline(never)]
 #[cycle(kept)]
-fn is_tuple_kept(alloc: Global, parts: &[Shape], levels: u32, nested: u32, bytes: &[u8]) -> bool
-    ensures { IsTrue result → IsKept (form.tuple (parts_of parts.now)) levels kinds.Array bytes.now }
+fn is_tuple_kept(
+    alloc: Global,
+    reader: &Reader<'_>,
+    parts: &[Shape],
+    levels: u32,
+    nested: u32,
+    bytes: &[u8],
+) -> bool
+    ensures { IsTrue result → IsKept (laid reader.now (form.tuple (parts_of parts.now))) levels kinds.Array bytes.now }
 {
     if levels == 0 || !is_frame(bytes) {
         return false;
     }
-    are_parts_kept(alloc, parts, levels - 1, nested, inside(bytes))
+    are_parts_kept(alloc, reader, parts, levels - 1, nested, inside(bytes))
 }
 
 // Whether the elements of an array are written as these bytes: they are one for each part, and their keys are their indexes.
 #[inline(always)]
 #[cycle(kept)]
-fn are_parts_kept(alloc: Global, parts: &[Shape], levels: u32, nested: u32, elements: &[u8]) -> bool
-    ensures { IsTrue result → AreItemsPut (recast_parts (parts_of parts.now) levels 0 (nodes_with (node_in levels) (walk_elements elements.now))) 0 [] elements.now }
+fn are_parts_kept(
+    alloc: Global,
+    reader: &Reader<'_>,
+    parts: &[Shape],
+    levels: u32,
+    nested: u32,
+    elements: &[u8],
+) -> bool
+    ensures { IsTrue result → AreItemsPut (recast_parts (laid_parts reader.now (parts_of parts.now)) levels 0 (nodes_with (node_in levels) (walk_elements elements.now))) 0 [] elements.now }
 {
     let mut digits = itoa::Buffer::new();
     let mut index: u64 = 0;
@@ -393,7 +463,7 @@ fn are_parts_kept(alloc: Global, parts: &[Shape], levels: u32, nested: u32, elem
         let Some((kind, value)) = value_under(&elements[at..], name) else {
             return false;
         };
-        if !is_kept(alloc, part, levels, nested, kind, value) {
+        if !is_kept(alloc, reader, part, levels, nested, kind, value) {
             return false;
         }
         at += named_len(&elements[at..], kind, name, value);
@@ -410,6 +480,7 @@ fn are_parts_kept(alloc: Global, parts: &[Shape], levels: u32, nested: u32, elem
 #[cycle(kept)]
 fn is_enum_kept(
     alloc: Global,
+    reader: &Reader<'_>,
     variants: &[VariantShape],
     levels: u32,
     nested: u32,
@@ -417,12 +488,12 @@ fn is_enum_kept(
 ) -> bool
     requires distinct { has_repeat (variant_names (variants_of variants.now)) ≡ false }
     requires shapes { AreVariants (variants_of variants.now) }
-    ensures { IsTrue result → IsKept (form.enumeration (variants_of variants.now)) levels kinds.EmbeddedDocument bytes.now }
+    ensures { IsTrue result → IsKept (laid reader.now (form.enumeration (variants_of variants.now))) levels kinds.EmbeddedDocument bytes.now }
 {
     if levels == 0 || !is_frame(bytes) {
         return false;
     }
-    is_pair_kept(alloc, variants, levels - 1, nested, inside(bytes))
+    is_pair_kept(alloc, reader, variants, levels - 1, nested, inside(bytes))
 }
 
 // Whether the elements of a document are written at an enum as these bytes: they are one, whose key names a variant.
@@ -430,6 +501,7 @@ fn is_enum_kept(
 #[cycle(kept)]
 fn is_pair_kept(
     alloc: Global,
+    reader: &Reader<'_>,
     variants: &[VariantShape],
     levels: u32,
     nested: u32,
@@ -437,7 +509,7 @@ fn is_pair_kept(
 ) -> bool
     requires distinct { has_repeat (variant_names (variants_of variants.now)) ≡ false }
     requires shapes { AreVariants (variants_of variants.now) }
-    ensures { IsTrue result → AreInsidePut (form.enumeration (variants_of variants.now)) levels (nodes_with (node_in levels) (walk_elements elements.now))
+    ensures { IsTrue result → AreInsidePut (form.enumeration (laid_variants reader.now (variants_of variants.now))) levels (nodes_with (node_in levels) (walk_elements elements.now))
         [] elements.now }
 {
     let Some((variant, kind, value)) = named_variant(variants, elements) else {
@@ -447,7 +519,7 @@ fn is_pair_kept(
     if named_len(elements, kind, name, value) < elements.len() {
         return false;
     }
-    is_content_kept(alloc, &variant.content, levels, nested, kind, value)
+    is_content_kept(alloc, reader, &variant.content, levels, nested, kind, value)
 }
 
 // Whether a value of the kind in these bytes is written as the contents of a variant as these bytes.
@@ -455,6 +527,7 @@ fn is_pair_kept(
 #[cycle(kept)]
 fn is_content_kept(
     alloc: Global,
+    reader: &Reader<'_>,
     content: &VariantContent,
     levels: u32,
     nested: u32,
@@ -462,19 +535,21 @@ fn is_content_kept(
     bytes: &[u8],
 ) -> bool
     requires shape { IsContent (content_of content.now) }
-    ensures { IsTrue result → IsPut (recast_content (content_of content.now) levels (node_in levels kind bytes.now)) [] bytes.now kind }
+    ensures { IsTrue result → IsPut (recast_content (laid_content reader.now (content_of content.now)) levels (node_in levels kind bytes.now)) [] bytes.now kind }
 {
     match content {
-        VariantContent::Newtype(shape) => is_kept(alloc, shape, levels, nested, kind, bytes),
+        VariantContent::Newtype(shape) => is_kept(
+            alloc, reader, shape, levels, nested, kind, bytes,
+        ),
         VariantContent::Tuple(parts) => match kind {
             ElementType::Array if nested > 0 => {
-                is_tuple_kept(alloc, parts, levels, nested - 1, bytes)
+                is_tuple_kept(alloc, reader, parts, levels, nested - 1, bytes)
             }
             _ => false,
         },
         VariantContent::Struct(fields) => match kind {
             ElementType::EmbeddedDocument if nested > 0 => {
-                is_struct_kept(alloc, "", fields, levels, nested - 1, bytes)
+                is_struct_kept(alloc, reader, "", fields, levels, nested - 1, bytes)
             }
             _ => false,
         },

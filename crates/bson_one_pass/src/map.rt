@@ -6,8 +6,9 @@ ghost use Rattle.bson_rawdoc.specs.Node.{inner_node, node_in, nodes_with};
 ghost use Rattle.bson_rawdoc.specs.Walk.{walk_elements};
 ghost use Rattle.bson_shape.specs.Form as form;
 ghost use Rattle.bson_datum.specs.Value.{no_entries};
+ghost use Rattle.bson_laws.specs.Scopes.{laid};
 ghost use Rattle.bson_one_pass.specs.Free.{takes_keys};
-ghost use Rattle.bson_one_pass.specs.Put.{recast_node, recast_entries, IsPut, ArePairsPut};
+ghost use Rattle.bson_one_pass.specs.Put.{recast_for, recast_entries, IsPut, ArePairsPut};
 
 use crate::array::recast_next;
 use crate::bytes::{close, put};
@@ -15,6 +16,7 @@ use crate::kept::MOST_NESTED;
 use crate::run::{element_len, put_run};
 use bson_base::ElementType;
 use bson_keys::MetKeys;
+use bson_laws::Reader;
 use bson_rawdoc::reading::inside;
 use bson_rawdoc::{RawDocument, next_element};
 use bson_shape::{Leaf, Shape};
@@ -24,12 +26,13 @@ use bson_shape::{Leaf, Shape};
 #[cycle(recast)]
 pub(crate) fn recast_map(
     made: &mut Vec<u8>,
+    reader: &Reader<'_>,
     key: Leaf,
     shape: &Shape,
     levels: u32,
     document: RawDocument<'_>,
 ) -> Option<ElementType>
-    ensures { IfSome result (IsPut (recast_node (form.map (form.leaf key) shape.now) levels
+    ensures { IfSome result (IsPut (recast_for reader.now (form.map (form.leaf key) shape.now) levels
         (inner_node levels kinds.EmbeddedDocument (document_bytes document.entry))) made.old.items made.new.items) }
 {
     let bytes = document.as_bytes();
@@ -38,7 +41,7 @@ pub(crate) fn recast_map(
     }
     let start = made.len();
     put(made, &[0; 4])?;
-    recast_entries(made, key, shape, levels - 1, inside(bytes))?;
+    recast_entries(made, reader, key, shape, levels - 1, inside(bytes))?;
     close(made, start)?;
     Some(ElementType::EmbeddedDocument)
 }
@@ -54,13 +57,14 @@ pub(crate) fn takes_keys(key: Leaf) -> bool
 #[cycle(recast)]
 fn recast_entries(
     made: &mut Vec<u8>,
+    reader: &Reader<'_>,
     key: Leaf,
     shape: &Shape,
     levels: u32,
     elements: &[u8],
 ) -> Option<()>
     requires keys { takes_keys key ≡ true }
-    ensures { IfSome result (λ _. ArePairsPut (recast_entries key shape.now no_entries levels (nodes_with (node_in levels) (walk_elements elements.now)))
+    ensures { IfSome result (λ _. ArePairsPut (recast_entries key (laid reader.now shape.now) no_entries levels (nodes_with (node_in levels) (walk_elements elements.now)))
         made.old.items made.new.items) }
 {
     let mut keys = MetKeys::new(*made.allocator());
@@ -75,6 +79,7 @@ fn recast_entries(
         }
         from = recast_next(
             made,
+            reader,
             shape,
             levels,
             MOST_NESTED,

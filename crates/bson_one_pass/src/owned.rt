@@ -6,6 +6,14 @@ ghost use Rattle.bson_laws.specs.Owned.{IsOwned, AreFieldsOwned, ArePartsOwned, 
 
 use bson_shape::{FieldShape, Form, Leaf, Shape, VariantContent, VariantShape};
 
+/// Whether a shape in definitions borrows nothing, nor do these.
+pub(crate) fn borrows_nothing_in(table: &[FieldShape], shape: &Shape) -> bool
+    ensures table { IsTrue result → AreFieldsOwned (fields_of table.now) }
+    ensures shape { IsTrue result → IsOwned shape.now }
+{
+    fields_borrow_nothing(table) && borrows_nothing(shape)
+}
+
 /// Whether a shape borrows nothing: neither `str` nor `bytes` stands in it.
 #[cycle(owned)]
 pub(crate) fn borrows_nothing(shape: &Shape) -> bool

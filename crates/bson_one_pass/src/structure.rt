@@ -11,10 +11,12 @@ ghost use Rattle.bson_shape.specs.Form.{structure};
 ghost use Rattle.bson_shape.specs.Makers.{AreDistinct};
 ghost use Rattle.bson_shape.specs.ShapeView.{fields_of};
 ghost use Rattle.bson_datum.specs.Value.{none};
-ghost use Rattle.bson_laws.specs.CompactReads.{slots_of, missing_value};
+ghost use Rattle.bson_laws.specs.Scopes.{laid, laid_fields};
+ghost use Rattle.bson_laws.specs.declared.origin.Reader.{Reader};
 ghost use Rattle.bson_slots.specs.FieldsRead.{unknown_of};
 ghost use Rattle.bson_one_pass.specs.Found.{IsFoundPut, AreFoundPut, AreOthersPut};
-ghost use Rattle.bson_one_pass.specs.Put.{recast_node, recast_fields, IsPut, IsElementPut, ArePairsPut};
+ghost use Rattle.bson_one_pass.specs.Put.{recast_for, recast_fields, IsPut, IsElementPut, ArePairsPut};
+ghost use Rattle.bson_one_pass.specs.ReadsUnrolled.{slots_of, missing_value};
 
 use crate::array::{recast_item, recast_known};
 use crate::bytes::{close, put, put_front, set_kind};
@@ -24,6 +26,7 @@ use crate::kept::MOST_NESTED;
 use crate::named::{named_len, value_under};
 use crate::run::{element_len, put_run};
 use bson_base::{ElementType, has_zero};
+use bson_laws::Reader;
 use bson_rawdoc::reading::{inside, is_closed};
 use bson_rawdoc::{RawElement, next_element};
 use bson_shape::{FieldShape, Form};
@@ -36,6 +39,7 @@ const MOST_COMPARED: usize = 64;
 #[cycle(recast)]
 pub(crate) fn recast_struct(
     made: &mut Vec<u8>,
+    reader: &Reader<'_>,
     name: &str,
     fields: &[FieldShape],
     closed: bool,
@@ -44,9 +48,9 @@ pub(crate) fn recast_struct(
 ) -> Option<ElementType>
     requires free { reserved_kind name.now ≡ None }
     requires distinct { AreDistinct (fields_of fields.now) }
-    ensures seen { IfSome result (IsPut (recast_node (structure (unknown_of closed) name.now (fields_of fields.now)) levels (inner_node levels kinds.EmbeddedDocument bytes.now))
+    ensures seen { IfSome result (IsPut (recast_for reader.now (structure (unknown_of closed) name.now (fields_of fields.now)) levels (inner_node levels kinds.EmbeddedDocument bytes.now))
         made.old.items made.new.items) }
-    ensures met { IfSome result (IsPut (recast_node (structure (unknown_of closed) name.now (fields_of fields.now)) levels (node_in levels kinds.EmbeddedDocument bytes.now))
+    ensures met { IfSome result (IsPut (recast_for reader.now (structure (unknown_of closed) name.now (fields_of fields.now)) levels (node_in levels kinds.EmbeddedDocument bytes.now))
         made.old.items made.new.items) }
 {
     if levels == 0 || bytes.len() < 5 || !is_closed(bytes) {
@@ -54,7 +58,7 @@ pub(crate) fn recast_struct(
     }
     let start = made.len();
     put(made, &[0; 4])?;
-    recast_fields(made, fields, closed, levels - 1, inside(bytes))?;
+    recast_fields(made, reader, fields, closed, levels - 1, inside(bytes))?;
     close(made, start)?;
     Some(ElementType::EmbeddedDocument)
 }
@@ -64,13 +68,14 @@ pub(crate) fn recast_struct(
 #[cycle(recast)]
 fn recast_fields(
     made: &mut Vec<u8>,
+    reader: &Reader<'_>,
     fields: &[FieldShape],
     closed: bool,
     levels: u32,
     elements: &[u8],
 ) -> Option<()>
     requires distinct { AreDistinct (fields_of fields.now) }
-    ensures { IfSome result (λ _. ArePairsPut (recast_fields (unknown_of closed) (slots_of (fields_of fields.now)) levels (nodes_with (node_in levels) (walk_elements elements.now)))
+    ensures { IfSome result (λ _. ArePairsPut (recast_fields (unknown_of closed) (slots_of (laid_fields reader.now (fields_of fields.now))) levels (nodes_with (node_in levels) (walk_elements elements.now)))
         made.old.items made.new.items) }
 {
     let mut place = 0;
@@ -83,6 +88,7 @@ fn recast_fields(
                 let behind = at + named_len(&elements[at..], kind, name, value);
                 from = recast_known(
                     made,
+                    reader,
                     &field.shape,
                     levels,
                     MOST_NESTED,
@@ -110,7 +116,7 @@ fn recast_fields(
         put_run(made, elements, from, at)?;
         if !is_free(fields, element.key()) {
             let (front, others) = fields.split_at(place);
-            return recast_others(made, front, others, closed, levels, &elements[at..]);
+            return recast_others(made, reader, front, others, closed, levels, &elements[at..]);
         }
         if closed {
             return None;
@@ -132,6 +138,7 @@ fn recast_fields(
 #[cycle(recast)]
 fn recast_others(
     made: &mut Vec<u8>,
+    reader: &Reader<'_>,
     front: &[FieldShape],
     fields: &[FieldShape],
     closed: bool,
@@ -139,44 +146,46 @@ fn recast_others(
     elements: &[u8],
 ) -> Option<()>
     requires distinct { AreDistinct (fields_of (front.now ++ fields.now)) }
-    ensures { IfSome result (λ _. AreOthersPut (unknown_of closed) levels front.now fields.now (walk_elements elements.now) made.old.items made.new.items) }
+    ensures { IfSome result (λ _. AreOthersPut reader.now (unknown_of closed) levels front.now fields.now (walk_elements elements.now) made.old.items made.new.items) }
 {
     let found = find_elements(*made.allocator(), front, fields, closed, levels, elements)?;
-    put_found(made, fields, levels, &found)
+    put_found(made, reader, fields, levels, &found)
 }
 
 /// The element of a field.
 #[cycle(recast)]
 fn recast_field(
     made: &mut Vec<u8>,
+    reader: &Reader<'_>,
     field: &FieldShape,
     levels: u32,
     element: &RawElement<'_>,
 ) -> Option<()>
     ensures name { IfSome result (λ _. has_zero (string_bytes field.now.name) ≡ false) }
-    ensures put { IfSome result (λ _. IsElementPut (recast_node field.now.shape levels (node_in levels element.now.kind element.now.value))
+    ensures put { IfSome result (λ _. IsElementPut (recast_for reader.now field.now.shape levels (node_in levels element.now.kind element.now.value))
         (string_bytes field.now.name) made.old.items made.new.items) }
 {
     let name = field.name.as_str();
     if has_zero(name) {
         return None;
     }
-    recast_item(made, &field.shape, levels, element, name)
+    recast_item(made, reader, &field.shape, levels, element, name)
 }
 
 /// Fields from the elements that were found for them, in the fields' order.
 #[cycle(recast)]
 fn put_found(
     made: &mut Vec<u8>,
+    reader: &Reader<'_>,
     fields: &[FieldShape],
     levels: u32,
     found: &[Option<RawElement<'_>>],
 ) -> Option<()>
-    ensures { IfSome result (λ _. AreFoundPut levels fields.now found.now made.old.items made.new.items) }
+    ensures { IfSome result (λ _. AreFoundPut reader.now levels fields.now found.now made.old.items made.new.items) }
 {
     let mut place = 0;
     while let Some(field) = fields.get(place) {
-        put_field(made, field, levels, found.get(place)?)?;
+        put_field(made, reader, field, levels, found.get(place)?)?;
         place += 1;
     }
     Some(())
@@ -186,14 +195,15 @@ fn put_found(
 #[cycle(recast)]
 fn put_field(
     made: &mut Vec<u8>,
+    reader: &Reader<'_>,
     field: &FieldShape,
     levels: u32,
     found: &Option<RawElement<'_>>,
 ) -> Option<()>
-    ensures { IfSome result (λ _. IsFoundPut levels field.now found.now made.old.items made.new.items) }
+    ensures { IfSome result (λ _. IsFoundPut reader.now levels field.now found.now made.old.items made.new.items) }
 {
     match found {
-        Some(element) => recast_field(made, field, levels, element),
+        Some(element) => recast_field(made, reader, field, levels, element),
         None => put_missing(made, field),
     }
 }
@@ -201,7 +211,7 @@ fn put_field(
 /// A field that no element has: an option is null.
 fn put_missing(made: &mut Vec<u8>, field: &FieldShape) -> Option<()>
     ensures name { IfSome result (λ _. has_zero (string_bytes field.now.name) ≡ false) }
-    ensures absent { IfSome result (λ _. missing_value {T = Piece} field.now.shape ≡ Some none) }
+    ensures absent { IfSome result (λ _. (r : Reader) → missing_value {T = Piece} (laid r field.now.shape) ≡ Some none) }
     ensures put { IfSome result (λ _. made.new.items ≡ made.old.items ++ element kinds.Null (string_bytes field.now.name) []) }
 {
     let name = field.name.as_str();

@@ -1,22 +1,23 @@
 // What the pass takes of a value, before any of it is written.
 use crate::map::takes_keys;
 use crate::named::named_variant;
-use crate::owned::borrows_nothing;
+use crate::owned::borrows_nothing_in;
 use bson_base::{BinarySubtype, ElementType};
+use bson_laws::Reader;
 use bson_rawdoc::RawBsonRef;
 use bson_rawdoc::reading::inside;
-use bson_shape::{Form, Leaf, Shape, VariantContent, VariantShape};
+use bson_shape::{FieldShape, Form, Leaf, Shape, VariantContent, VariantShape};
 
 /// Whether the pass takes a value at a shape, as far as the shape and the kind of the value tell. It answers for the cost alone: any answer is right.
 #[cycle(taken)]
-pub(crate) fn is_taken(shape: &Shape, value: &RawBsonRef<'_>) -> bool {
+pub(crate) fn is_taken(reader: &Reader<'_>, shape: &Shape, value: &RawBsonRef<'_>) -> bool {
     match shape.form() {
         Form::Leaf(leaf) => is_taken_at(leaf, value),
         Form::Option(inner) => match value {
             RawBsonRef::Null => true,
-            _ => is_taken(inner, value),
+            _ => is_taken(reader, inner, value),
         },
-        Form::Newtype(_, inner) => is_taken(inner, value),
+        Form::Newtype(_, inner) => is_taken(reader, inner, value),
         Form::Seq(_) | Form::Tuple(_) | Form::TupleStruct(_, _) => {
             matches!(value, RawBsonRef::Array(_))
         }
@@ -31,10 +32,33 @@ pub(crate) fn is_taken(shape: &Shape, value: &RawBsonRef<'_>) -> bool {
             RawBsonRef::Document(document) => names_taken(variants, document.as_bytes()),
             _ => false,
         },
-        Form::Lossy(inner) => borrows_nothing(inner) && is_taken(inner, value),
-        Form::Readable(_) | Form::Mode(_, _) | Form::Reference(_) | Form::Definitions(_, _) =>
-            false,
+        Form::Lossy(inner) => {
+            borrows_nothing_in(reader.table, inner) && is_taken(reader, inner, value)
+        }
+        Form::Reference(name) => is_reference_taken(reader, name, value),
+        Form::Definitions(table, inner) => is_taken_inside(reader, table, inner, value),
+        Form::Readable(_) | Form::Mode(_, _) => false,
     }
+}
+
+// The same at a reference: its definition is looked up.
+#[cycle(taken)]
+fn is_reference_taken(reader: &Reader<'_>, name: &str, value: &RawBsonRef<'_>) -> bool {
+    match reader.definition(name) {
+        Some(definition) => is_taken(&definition.reader, definition.shape, value),
+        None => false,
+    }
+}
+
+// The same at a shape in these definitions.
+#[cycle(taken)]
+fn is_taken_inside(
+    reader: &Reader<'_>,
+    table: &[FieldShape],
+    inner: &Shape,
+    value: &RawBsonRef<'_>,
+) -> bool {
+    is_taken(&reader.inside(table), inner, value)
 }
 
 /// The same for the document in these bytes at an enum: its first key names a variant with contents of the kind of its value.

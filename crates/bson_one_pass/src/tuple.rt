@@ -6,7 +6,8 @@ ghost use Rattle.bson_rawdoc.specs.Node.{inner_node, node_in, nodes_with};
 ghost use Rattle.bson_rawdoc.specs.Walk.{walk_elements};
 ghost use Rattle.bson_shape.specs.Form.{tuple, tuple_structure};
 ghost use Rattle.bson_shape.specs.ShapeView.{parts_of};
-ghost use Rattle.bson_one_pass.specs.Put.{recast_node, recast_parts, IsPut, AreItemsPut};
+ghost use Rattle.bson_laws.specs.Scopes.{laid_parts};
+ghost use Rattle.bson_one_pass.specs.Put.{recast_for, recast_parts, IsPut, AreItemsPut};
 
 use crate::array::{recast_known, recast_misnamed};
 use crate::bytes::{close, put};
@@ -14,6 +15,7 @@ use crate::kept::MOST_NESTED;
 use crate::named::{named_len, value_under};
 use crate::run::put_run;
 use bson_base::ElementType;
+use bson_laws::Reader;
 use bson_rawdoc::reading::{inside, is_closed};
 use bson_shape::Shape;
 
@@ -22,15 +24,16 @@ use bson_shape::Shape;
 #[cycle(recast)]
 pub(crate) fn recast_tuple(
     made: &mut Vec<u8>,
+    reader: &Reader<'_>,
     parts: &[Shape],
     levels: u32,
     bytes: &[u8],
 ) -> Option<ElementType>
-    ensures nameless { IfSome result (IsPut (recast_node (tuple (parts_of parts.now)) levels (inner_node levels kinds.Array bytes.now))
+    ensures nameless { IfSome result (IsPut (recast_for reader.now (tuple (parts_of parts.now)) levels (inner_node levels kinds.Array bytes.now))
         made.old.items made.new.items) }
-    ensures named { (name : Utf8) → IfSome result (IsPut (recast_node (tuple_structure name (parts_of parts.now)) levels (inner_node levels kinds.Array bytes.now))
+    ensures named { (name : Utf8) → IfSome result (IsPut (recast_for reader.now (tuple_structure name (parts_of parts.now)) levels (inner_node levels kinds.Array bytes.now))
         made.old.items made.new.items) }
-    ensures met { IfSome result (IsPut (recast_node (tuple (parts_of parts.now)) levels (node_in levels kinds.Array bytes.now))
+    ensures met { IfSome result (IsPut (recast_for reader.now (tuple (parts_of parts.now)) levels (node_in levels kinds.Array bytes.now))
         made.old.items made.new.items) }
 {
     if levels == 0 || bytes.len() < 5 || !is_closed(bytes) {
@@ -38,15 +41,21 @@ pub(crate) fn recast_tuple(
     }
     let start = made.len();
     put(made, &[0; 4])?;
-    recast_parts(made, parts, levels - 1, inside(bytes))?;
+    recast_parts(made, reader, parts, levels - 1, inside(bytes))?;
     close(made, start)?;
     Some(ElementType::Array)
 }
 
 /// The parts from the elements of an array, one each. Further elements stay unread.
 #[cycle(recast)]
-fn recast_parts(made: &mut Vec<u8>, parts: &[Shape], levels: u32, elements: &[u8]) -> Option<()>
-    ensures { IfSome result (λ _. AreItemsPut (recast_parts (parts_of parts.now) levels 0 (nodes_with (node_in levels) (walk_elements elements.now))) 0
+fn recast_parts(
+    made: &mut Vec<u8>,
+    reader: &Reader<'_>,
+    parts: &[Shape],
+    levels: u32,
+    elements: &[u8],
+) -> Option<()>
+    ensures { IfSome result (λ _. AreItemsPut (recast_parts (laid_parts reader.now (parts_of parts.now)) levels 0 (nodes_with (node_in levels) (walk_elements elements.now))) 0
         made.old.items made.new.items) }
 {
     let mut digits = itoa::Buffer::new();
@@ -60,6 +69,7 @@ fn recast_parts(made: &mut Vec<u8>, parts: &[Shape], levels: u32, elements: &[u8
                 let behind = at + named_len(&elements[at..], kind, key, value);
                 from = recast_known(
                     made,
+                    reader,
                     part,
                     levels,
                     MOST_NESTED,
@@ -73,7 +83,7 @@ fn recast_parts(made: &mut Vec<u8>, parts: &[Shape], levels: u32, elements: &[u8
                 at = behind;
             }
             None => {
-                at = recast_misnamed(made, part, levels, elements, from, at, key)?;
+                at = recast_misnamed(made, reader, part, levels, elements, from, at, key)?;
                 from = at;
             }
         }

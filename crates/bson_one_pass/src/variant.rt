@@ -4,8 +4,9 @@ ghost use Rattle.bson_rawdoc.specs.Node as nodes;
 ghost use Rattle.bson_rawdoc.specs.Piece.{borrowed};
 ghost use Rattle.bson_shape.specs.Form.{enumeration};
 ghost use Rattle.bson_shape.specs.ShapeView.{variants_of};
+ghost use Rattle.bson_laws.specs.declared.origin.Reader.{Reader};
 ghost use Rattle.bson_one_pass.specs.Free.{names_unit};
-ghost use Rattle.bson_one_pass.specs.Put.{recast_node, IsPut};
+ghost use Rattle.bson_one_pass.specs.Put.{recast_for, IsPut};
 
 use crate::leaf::put_text;
 use bson_base::ElementType;
@@ -18,7 +19,7 @@ pub(crate) fn recast_variant(
     levels: u32,
     name: &str,
 ) -> Option<ElementType>
-    ensures { IfSome result (IsPut (recast_node (enumeration (variants_of variants.now)) levels (nodes.string (borrowed name.now))) made.old.items made.new.items) }
+    ensures { (r : Reader) → IfSome result (IsPut (recast_for r (enumeration (variants_of variants.now)) levels (nodes.string (borrowed name.now))) made.old.items made.new.items) }
 {
     if !names_unit(variants, name) {
         return None;

@@ -16,7 +16,7 @@ returns c =
     let d = document_bytes c.in-Ok.document in
     let passed : envelope b ≡ Ok d = sym c.in-Ok.ensures.envelope in
     let same : c.as_bytes-bytes.result.now ≡ b = c.as_bytes-bytes.ensures.bytes ∙ sym (frame b d passed).0 in
-    let s = leaf c.args.leaf in
-    subst (λ o. IfSome o (λ v. IsRecastAs s b v.items)) (sym c.ok.ensures.value)
-    (if_copied (λ v. v.items) (IsRecastAs s b) b c.from_slice.result (rw same at c.from_slice.ensures.items)
-    (λ made copied. document_copied s b d made passed (kept_written s max_levels EmbeddedDocument b (rw same at (c.if-not-is_leaf_kept.ensures refl))) (omega (arith, ap length same)) copied))
+    let l = c.args.leaf in
+    subst (λ o. IfSome o (λ v. IsRecastAs (leaf l) b v.items)) (sym c.ok.ensures.value)
+    (if_copied (λ v. v.items) (IsRecastAs (leaf l) b) b c.from_slice.result (rw same at c.from_slice.ensures.items)
+    (λ made copied. document_copied l b d made passed (kept_written l max_levels EmbeddedDocument b (rw same at (c.if-not-is_leaf_kept.ensures refl))) (omega (arith, ap length same)) copied))

@@ -9,4 +9,4 @@ returns-in-EmbeddedDocument c =
     let made = c.recast_value.new.made.items in
     let empty : c.in-Ok-with_capacity.made.items ≡ [] = search rules in
     let few : length made ≤ max_bytes = search rules in
-    record { recast = document_put c.args.shape.now c.args.bytes.now (document_bytes c.in-Ok.document) made (sym c.in-Ok.ensures.envelope) (rw empty at (rw c.in-EmbeddedDocument.is at c.in_ok-recast_value.ensures.put)) few }
+    record { recast = document_put c.new.result c.args.shape.now c.args.bytes.now (document_bytes c.in-Ok.document) made c.new.ensures.readable (c.new.ensures.whole c.args.shape.now) (sym c.in-Ok.ensures.envelope) (rw empty at (rw c.in-EmbeddedDocument.is at c.in_ok-recast_value.ensures.put)) few }

@@ -6,6 +6,6 @@ use Rattle.bson_one_pass.proofs.AnyOrder.{found_none}
 use Rattle.bson_one_pass.proofs.found.find_elements.Goals as goal
 
 pub loop-step-init : goal.loop-step-init
-loop-step-init c =
+loop-step-init c = λ r.
     let levels = c.args.levels in
-    found_none (unknown_of c.args.closed) levels c.args.front.now c.args.fields.now (nodes_with (node_in levels) (walk_elements c.args.elements.now)) c.in_ok-found.found.items (search rules)
+    found_none r (unknown_of c.args.closed) levels c.args.front.now c.args.fields.now (nodes_with (node_in levels) (walk_elements c.args.elements.now)) c.in_ok-found.found.items (search rules)

@@ -1,5 +1,4 @@
 use Rattle.std.proofs.Common.{arith}
-use Rattle.bson_shape.specs.Form.{leaf}
 use Rattle.bson_itself.proofs.Kept.{kind_kept}
 use Rattle.bson_one_pass.proofs.KeptLeaves.{kept_as_read}
 use Rattle.bson_one_pass.proofs.kept.is_extended_kept.Goals as goal
@@ -8,4 +7,4 @@ pub returns : goal.returns
 returns c = λ h.
     let b = c.args.bytes.now in
     let test = c.is_itself.ensures in
-    kept_as_read (leaf c.args.leaf) c.args.levels c.args.kind b (kind_kept c.args.leaf c.args.levels c.args.kind b c.requires.kind (omega (arith, test.few h)) (test.itself h))
+    kept_as_read c.args.leaf c.args.levels c.args.kind b (kind_kept c.args.leaf c.args.levels c.args.kind b c.requires.kind (omega (arith, test.few h)) (test.itself h))
