@@ -1,0 +1,4 @@
+pub mod Marks
+pub mod Helpers
+pub mod Dates
+pub mod Prover

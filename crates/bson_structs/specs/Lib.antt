@@ -1,0 +1,4 @@
+pub mod FieldsAdded
+pub mod FieldsLeft
+pub mod Variants
+pub mod Prover

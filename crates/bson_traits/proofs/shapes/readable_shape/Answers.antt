@@ -1,0 +1,5 @@
+use Rattle.bson_traits.proofs.ShapesMade.{made_within}
+use Rattle.bson_traits.proofs.shapes.readable_shape.Goals as goal
+
+pub returns : goal.returns
+returns c = record { shape = made_within _ c.readable.result c.readable.ensures.made }

@@ -1,0 +1,6 @@
+pub mod ScalarsBack
+pub mod SequencesBack
+pub mod OptionsBack
+pub mod MapsBack
+pub mod ExtendedBack
+pub mod StructsBack

@@ -1,0 +1,143 @@
+ghost use Rattle.std.specs.Prelude.{◌≡◌, IfOk, string_bytes};
+ghost use Rattle.bson_datum.specs.TextView.{text_view};
+ghost use Rattle.bson_shape.specs.Form.{leaf};
+ghost use Rattle.bson_shape.specs.declared.leaf.Leaf.TheVariants as leaves;
+ghost use Rattle.bson_traits.specs.ShapeOf.{IsShapeOf};
+
+use crate::known::known_text;
+use crate::refusal::not_fitting;
+use crate::traits::{Deserialize, NeverNull, RoundTrip, Serialize};
+use bson_datum::{Datum, Shape, ShapeError, Text, de, ser};
+use std::alloc::{AllocError, Global};
+
+impl Serialize for String {
+    ghost use Rattle.std.specs.Prelude.{Ok, string_bytes};
+    ghost use Rattle.bson_datum.specs.Value.{str};
+
+    ghost written = { λ s. Ok (str (string_bytes s)) };
+
+    fn to_datum(&self, _alloc: Global) -> ser::Result<Datum<'_>> {
+        Ok(Datum::Str(Text::Borrowed(self.as_str())))
+    }
+}
+
+impl<'de> Deserialize<'de> for String {
+    ghost use Rattle.std.specs.Prelude.{string_bytes};
+    ghost use Rattle.bson_base.specs.Text.{Utf8};
+    ghost use Rattle.bson_shape.specs.Form.{leaf};
+    ghost use Rattle.bson_shape.specs.declared.leaf.Leaf.TheVariants as leaves;
+    ghost use Rattle.bson_traits.specs.Scalars.{taken_text};
+
+    ghost form = { leaf leaves.String };
+
+    ghost Contents = { Utf8 };
+
+    ghost contents = { λ s. string_bytes s };
+
+    ghost taken = { taken_text };
+
+    fn shape(_alloc: Global) -> Result<Shape, ShapeError> {
+        Ok(Shape::string())
+    }
+
+    fn from_datum(alloc: Global, datum: Datum<'de>) -> de::Result<String> {
+        match datum {
+            Datum::Str(text) => Ok(string_of(alloc, text)?),
+            _ => Err(not_fitting()),
+        }
+    }
+}
+
+impl<'de> RoundTrip<'de> for String {
+    ghost use Rattle.std.specs.Prelude.{◌≡◌, true, string_bytes};
+    ghost use Rattle.std.specs.Str.{is_utf8};
+    ghost use Rattle.bson_traits.specs.Prover.ScalarsBack.{string_returns};
+
+    ghost is_value = { λ s. is_utf8 (string_bytes s) ≡ true };
+
+    fn known(&self) {
+        known_text(self.as_str());
+    }
+
+    ghost returns = { λ s. string_returns (string_bytes s) };
+}
+
+impl<'de> NeverNull<'de> for String {
+    ghost use Rattle.std.specs.Prelude.{string_bytes};
+    ghost use Rattle.bson_traits.specs.Prover.ScalarsBack.{string_not_null};
+
+    ghost not_null = { λ s _. string_not_null (string_bytes s) };
+}
+
+impl<'a> Serialize for Text<'a> {
+    ghost use Rattle.std.specs.Prelude.{Ok};
+    ghost use Rattle.bson_datum.specs.TextView.{text_view};
+    ghost use Rattle.bson_datum.specs.Value.{str};
+
+    ghost written = { λ t. Ok (str (text_view t)) };
+
+    fn to_datum(&self, _alloc: Global) -> ser::Result<Datum<'_>> {
+        Ok(Datum::Str(Text::Borrowed(self.as_str())))
+    }
+}
+
+impl<'de> Deserialize<'de> for Text<'de> {
+    ghost use Rattle.bson_base.specs.Text.{Utf8};
+    ghost use Rattle.bson_datum.specs.TextView.{text_view};
+    ghost use Rattle.bson_shape.specs.Form.{leaf};
+    ghost use Rattle.bson_shape.specs.declared.leaf.Leaf.TheVariants as leaves;
+    ghost use Rattle.bson_traits.specs.Scalars.{taken_text};
+
+    ghost form = { leaf leaves.Str };
+
+    ghost Contents = { Utf8 };
+
+    ghost contents = { λ t. text_view t };
+
+    ghost taken = { taken_text };
+
+    fn shape(_alloc: Global) -> Result<Shape, ShapeError>
+        ensures shape { IsShapeOf (leaf leaves.Str) result }
+    {
+        Ok(Shape::str())
+    }
+
+    fn from_datum(_alloc: Global, datum: Datum<'de>) -> de::Result<Text<'de>> {
+        match datum {
+            Datum::Str(text) => Ok(text),
+            _ => Err(not_fitting()),
+        }
+    }
+}
+
+impl<'de> RoundTrip<'de> for Text<'de> {
+    ghost use Rattle.std.specs.Prelude.{◌≡◌, true};
+    ghost use Rattle.std.specs.Str.{is_utf8};
+    ghost use Rattle.bson_datum.specs.TextView.{text_view};
+    ghost use Rattle.bson_traits.specs.Prover.ScalarsBack.{str_returns};
+
+    ghost is_value = { λ t. is_utf8 (text_view t) ≡ true };
+
+    fn known(&self) {
+        known_text(self.as_str());
+    }
+
+    ghost returns = { λ t. str_returns (text_view t) };
+}
+
+impl<'de> NeverNull<'de> for Text<'de> {
+    ghost use Rattle.bson_datum.specs.TextView.{text_view};
+    ghost use Rattle.bson_traits.specs.Prover.ScalarsBack.{string_not_null};
+
+    ghost not_null = { λ t _. string_not_null (text_view t) };
+}
+
+// The text, owned.
+pub(crate) fn string_of(alloc: Global, text: Text<'_>) -> Result<String, AllocError>
+    ensures text { IfOk result (λ s. string_bytes s ≡ text_view text.entry) }
+{
+    match text {
+        Text::Borrowed(text) => String::from_str(alloc, text),
+        Text::Owned(text) => Ok(text),
+    }
+}

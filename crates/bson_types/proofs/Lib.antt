@@ -1,0 +1,7 @@
+mod Again
+mod Levels
+mod Unrolled
+mod Read
+mod Written
+mod Enveloped
+mod FromSources

@@ -1,0 +1,12 @@
+-- Values that are given by the bytes of a whole document, where they are given by the bytes of one.
+use Rattle.std.specs.Prelude.{◌≡◌, Ok}
+use Rattle.bson_rawdoc.specs.Envelope.{envelope}
+use Rattle.bson_datum.specs.Value.{Value, some, newtype, raw_document, mode}
+
+-- the bytes pass the test of their envelope, in each form that the value has
+abbrev pub IsFramed : Value → Type 0
+IsFramed (raw_document bytes) = envelope bytes ≡ Ok bytes
+IsFramed (some v) = IsFramed v
+IsFramed (newtype name v) = IsFramed v
+IsFramed (mode readable compact) = IsFramed readable × IsFramed compact
+IsFramed v = Unit {0}

@@ -1,0 +1,3 @@
+pub mod Framed
+pub mod Typed
+pub mod FromSource
