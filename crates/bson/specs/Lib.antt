@@ -32,6 +32,7 @@ pub use Rattle.bson_shape.specs.Form
 pub use Rattle.bson_shape.specs.Fronts
 pub use Rattle.bson_shape.specs.Guarded
 pub use Rattle.bson_shape.specs.Leaf
+pub use Rattle.bson_shape.specs.declared.leaf.Leaf.TheVariants as Leaves
 pub use Rattle.bson_shape.specs.Levels
 pub use Rattle.bson_shape.specs.Machine
 pub use Rattle.bson_shape.specs.Makers
@@ -138,6 +139,30 @@ pub use Rattle.bson_ser_tree.specs.Taking as TreeTaking
 pub use Rattle.bson_source.specs.Taken
 pub use Rattle.bson_source.specs.FirstDocument
 pub use Rattle.bson_source.specs.FromSource
+pub use Rattle.bson_traits.specs.Answers as TypeAnswers
+pub use Rattle.bson_traits.specs.Extended as ExtendedTypes
+pub use Rattle.bson_traits.specs.Laws as TypeLaws
+pub use Rattle.bson_traits.specs.Maps
+pub use Rattle.bson_traits.specs.Options
+pub use Rattle.bson_traits.specs.Scalars
+pub use Rattle.bson_traits.specs.Sequences
+pub use Rattle.bson_traits.specs.ShapeOf
+pub use Rattle.bson_traits.specs.Structs
+pub use Rattle.bson_traits.specs.Prover.ExtendedBack
+pub use Rattle.bson_traits.specs.Prover.MapsBack
+pub use Rattle.bson_traits.specs.Prover.OptionsBack
+pub use Rattle.bson_traits.specs.Prover.ScalarsBack
+pub use Rattle.bson_traits.specs.Prover.SequencesBack
+pub use Rattle.bson_traits.specs.Prover.StructsBack
+pub use Rattle.bson_structs.specs.FieldsAdded
+pub use Rattle.bson_structs.specs.FieldsLeft
+pub use Rattle.bson_structs.specs.Variants as OwnVariants
+pub use Rattle.bson_structs.specs.Prover.VariantsBack
+pub use Rattle.bson_types.specs.Typed
+pub use Rattle.bson_types.specs.FromSource as TypedSource
+pub use Rattle.bson_helpers.specs.Dates
+pub use Rattle.bson_helpers.specs.Helpers
+pub use Rattle.bson_helpers.specs.Marks
 pub use Rattle.bson_program.specs.Command
 pub use Rattle.bson_program.specs.Ends as RunEnds
 pub use Rattle.bson_program.specs.Input

@@ -11,6 +11,7 @@
 //! | reading from trees | `from_bson_at`, `from_document_at`, and with options; `Deserializer`, `DeserializerOptions` |
 //! | writing to trees | `to_bson_at`, `to_document_at`, and with options; `Serializer`, with a writer for each form of value that is handed in part by part; `SerializerOptions` |
 //! | writing part by part | `DocumentWriter`, `VariantWriter`, `ValueWriter`, over an `Out` |
+//! | types of one's own | `Serialize`, `Deserialize`, `RoundTrip`, `NeverNull`; `to_vec`, `to_raw_document_buf`, `to_bson`, `to_document`, `from_bson`, `from_document`, and with options; `from_slice`, `from_reader`, and lossy; `FieldShapes`, `StructFields`, `add_field`, `struct_datum`, `VariantShapes`, `unit_variant`, `newtype_variant`, `is_unit_variant`, `newtype_value` and `not_fitting` for their impls; `HumanReadable`, `Utf8LossyDeserialization` and the modules of `bson_helpers` |
 //! | both at once | `recast`, `recast_utf8_lossy`, `recast_to_buf` |
 //! | the shape of documents | `infer` |
 //! | trees | `Bson`, `Document` with `Iter` and `IntoIter`, and the types of values, such as `ObjectId`, `DateTime` and `Binary`; `read_value` and `Met` to read from one |
@@ -25,6 +26,50 @@
 //!
 //! The examples are the functions of the crate `bson_examples`, where each is proved; the program `bson_tour` runs each once. An example without a clause is
 //! proved too: it is safe, and it returns.
+//!
+//! # Types of one's own
+//!
+//! A value of a type with the traits `Serialize` and `Deserialize` is written and read as a whole. `Cat` is a struct of a name and an age, `Person` one of a name, an age and a vector
+//! of `Pet`, an enum; `tools/derive.py` writes the impls of such types, with nothing to prove by hand (docs/USING.md). What `from_slice` reads from what `to_vec` wrote is the value
+//! again: `laws::law_round_trip` says so.
+//!
+//! `bson_examples/src/own_types.rt`:
+//!
+//! ```rust
+//! use crate::{Cat, Person};
+//! use bson::{Document, de, from_document, from_slice, ser, to_document, to_vec};
+//! use std::alloc::Global;
+//!
+//! /// The bytes of the document that a cat is, as `{name: "Garfield", age: 43}`.
+//! pub fn cat_bytes(alloc: Global, cat: &Cat) -> ser::Result<Vec<u8>> {
+//!     to_vec(alloc, cat)
+//! }
+//!
+//! /// The cat that the bytes of a document are.
+//! pub fn cat_of(alloc: Global, bytes: &[u8]) -> de::Result<Cat> {
+//!     from_slice(alloc, bytes)
+//! }
+//!
+//! /// The bytes of the document that a person with pets is.
+//! pub fn household_bytes(alloc: Global, person: &Person) -> ser::Result<Vec<u8>> {
+//!     to_vec(alloc, person)
+//! }
+//!
+//! /// The person with pets that the bytes of a document are.
+//! pub fn household_of(alloc: Global, bytes: &[u8]) -> de::Result<Person> {
+//!     from_slice(alloc, bytes)
+//! }
+//!
+//! /// The document in memory that a person with pets is.
+//! pub fn household_document(alloc: Global, person: &Person) -> ser::Result<Document> {
+//!     to_document(alloc, person)
+//! }
+//!
+//! /// The person with pets that a document in memory is.
+//! pub fn household_in(alloc: Global, document: Document) -> de::Result<Person> {
+//!     from_document(alloc, document)
+//! }
+//! ```
 //!
 //! # Shapes and their notation
 //!
@@ -470,6 +515,19 @@ pub use bson_de_tree::from_bson_at;
 pub use bson_de_tree::from_bson_with_options_at;
 pub use bson_de_tree::from_document_at;
 pub use bson_de_tree::from_document_with_options_at;
+pub use bson_helpers::HumanReadable;
+pub use bson_helpers::Utf8LossyDeserialization;
+pub use bson_helpers::bson_datetime_as_rfc3339_string;
+pub use bson_helpers::hex_string_as_object_id;
+pub use bson_helpers::i64_as_bson_datetime;
+pub use bson_helpers::rfc3339_string_as_bson_datetime;
+pub use bson_helpers::serialize_object_id_as_hex_string;
+pub use bson_helpers::serialize_u32_as_i32;
+pub use bson_helpers::serialize_u32_as_i64;
+pub use bson_helpers::serialize_u64_as_i32;
+pub use bson_helpers::serialize_u64_as_i64;
+pub use bson_helpers::timestamp_as_u32;
+pub use bson_helpers::u32_as_timestamp;
 pub use bson_infer_run::InferError;
 pub use bson_infer_run::InferStatus;
 pub use bson_infer_run::infer;
@@ -558,4 +616,32 @@ pub use bson_shape::VariantShape;
 pub use bson_source::TakeFault;
 pub use bson_source::take_document;
 pub use bson_source::take_up_to;
+pub use bson_structs::FieldShapes;
+pub use bson_structs::StructFields;
+pub use bson_structs::VariantShapes;
+pub use bson_structs::add_field;
+pub use bson_structs::is_unit_variant;
+pub use bson_structs::newtype_value;
+pub use bson_structs::newtype_variant;
+pub use bson_structs::struct_datum;
+pub use bson_structs::unit_variant;
+pub use bson_typed_trees::from_bson;
+pub use bson_typed_trees::from_bson_with_options;
+pub use bson_typed_trees::from_document;
+pub use bson_typed_trees::from_document_with_options;
+pub use bson_typed_trees::to_bson;
+pub use bson_typed_trees::to_bson_with_options;
+pub use bson_typed_trees::to_document;
+pub use bson_typed_trees::to_document_with_options;
+pub use bson_types::Deserialize;
+pub use bson_types::NeverNull;
+pub use bson_types::RoundTrip;
+pub use bson_types::Serialize;
+pub use bson_types::from_reader;
+pub use bson_types::from_reader_utf8_lossy;
+pub use bson_types::from_slice;
+pub use bson_types::from_slice_utf8_lossy;
+pub use bson_types::not_fitting;
+pub use bson_types::to_raw_document_buf;
+pub use bson_types::to_vec;
 pub use bson_wrapped::data;

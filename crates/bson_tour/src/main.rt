@@ -1,6 +1,7 @@
 //! Runs each example of the tour once, where there is memory, and prints what it returns.
 #![tactic(auto)]
 
+mod cats;
 mod people;
 mod printing;
 mod values;
@@ -9,6 +10,7 @@ use std::test::Fail;
 
 fn main(rt: HostRuntime) -> Result<(), Fail> {
     let alloc = rt.alloc();
+    cats::print_cats(&rt, alloc)?;
     people::print_person(&rt, alloc)?;
     people::print_parts(&rt, alloc)?;
     people::print_city(&rt, alloc)?;

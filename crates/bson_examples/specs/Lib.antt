@@ -1,0 +1,3 @@
+pub mod Cat
+pub mod Pet
+pub mod Person

@@ -1,0 +1,75 @@
+use bson::{
+    Datum, Deserialize, FieldShapes, NeverNull, RoundTrip, Serialize, Shape, ShapeError,
+    StructFields, add_field, de, ser, struct_datum,
+};
+use std::alloc::Global;
+
+/// A cat.
+#[derive(Debug, PartialEq, Eq, Drop)]
+pub struct Cat {
+    /// Its name.
+    pub name: String,
+    /// Its age in years.
+    pub age: i32,
+}
+
+impl Serialize for Cat {
+    ghost use Rattle.bson_examples.specs.Cat.{written_cat};
+
+    ghost written = { written_cat };
+
+    fn to_datum(&self, alloc: Global) -> ser::Result<Datum<'_>> {
+        let name = self.name.to_datum(alloc)?;
+        let age = self.age.to_datum(alloc)?;
+        let mut fields = Vec::new(alloc);
+        add_field(&mut fields, "name", name)?;
+        add_field(&mut fields, "age", age)?;
+        Ok(struct_datum("Cat", fields))
+    }
+}
+
+impl<'de> Deserialize<'de> for Cat {
+    ghost use Rattle.bson_examples.specs.Cat.{cat_form, CatContents, cat_contents, taken_cat};
+
+    ghost form = { cat_form };
+
+    ghost Contents = { CatContents };
+
+    ghost contents = { cat_contents };
+
+    ghost taken = { taken_cat };
+
+    fn shape(alloc: Global) -> Result<Shape, ShapeError> {
+        let mut fields = FieldShapes::new(alloc);
+        fields.add(alloc, "name", <String as Deserialize<'de>>::shape(alloc)?)?;
+        fields.add(alloc, "age", <i32 as Deserialize<'de>>::shape(alloc)?)?;
+        fields.into_struct(alloc, "Cat")
+    }
+
+    fn from_datum(alloc: Global, datum: Datum<'de>) -> de::Result<Cat> {
+        let mut fields = StructFields::of("Cat", datum)?;
+        let name = fields.next(alloc, "name")?;
+        let age = fields.next(alloc, "age")?;
+        fields.end()?;
+        Ok(Cat { name, age })
+    }
+}
+
+impl<'de> RoundTrip<'de> for Cat {
+    ghost use Rattle.bson_examples.specs.Cat.{IsCat, cat_returns};
+
+    ghost is_value = { IsCat };
+
+    fn known(&self) {
+        self.name.known();
+        self.age.known();
+    }
+
+    ghost returns = { cat_returns };
+}
+
+impl<'de> NeverNull<'de> for Cat {
+    ghost use Rattle.bson_examples.specs.Cat.{cat_not_null};
+
+    ghost not_null = { λ cat _. cat_not_null cat };
+}

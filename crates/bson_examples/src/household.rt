@@ -1,0 +1,83 @@
+use crate::pet::Pet;
+use bson::{
+    Datum, Deserialize, FieldShapes, NeverNull, RoundTrip, Serialize, Shape, ShapeError,
+    StructFields, add_field, de, ser, struct_datum,
+};
+use std::alloc::Global;
+
+/// A person, with pets.
+#[derive(Debug, PartialEq, Eq, Drop)]
+pub struct Person {
+    /// The name.
+    pub name: String,
+    /// The age in years.
+    pub age: i64,
+    /// Whom the person lives with.
+    pub pets: Vec<Pet>,
+}
+
+impl Serialize for Person {
+    ghost use Rattle.bson_examples.specs.Person.{written_person};
+
+    ghost written = { written_person };
+
+    fn to_datum(&self, alloc: Global) -> ser::Result<Datum<'_>> {
+        let name = self.name.to_datum(alloc)?;
+        let age = self.age.to_datum(alloc)?;
+        let pets = self.pets.to_datum(alloc)?;
+        let mut fields = Vec::new(alloc);
+        add_field(&mut fields, "name", name)?;
+        add_field(&mut fields, "age", age)?;
+        add_field(&mut fields, "pets", pets)?;
+        Ok(struct_datum("Person", fields))
+    }
+}
+
+impl<'de> Deserialize<'de> for Person {
+    ghost use Rattle.bson_examples.specs.Person.{person_form, PersonContents, person_contents, taken_person};
+
+    ghost form = { person_form };
+
+    ghost Contents = { PersonContents };
+
+    ghost contents = { person_contents };
+
+    ghost taken = { taken_person };
+
+    fn shape(alloc: Global) -> Result<Shape, ShapeError> {
+        let mut fields = FieldShapes::new(alloc);
+        fields.add(alloc, "name", <String as Deserialize<'de>>::shape(alloc)?)?;
+        fields.add(alloc, "age", <i64 as Deserialize<'de>>::shape(alloc)?)?;
+        fields.add(alloc, "pets", <Vec<Pet> as Deserialize<'de>>::shape(alloc)?)?;
+        fields.into_struct(alloc, "Person")
+    }
+
+    fn from_datum(alloc: Global, datum: Datum<'de>) -> de::Result<Person> {
+        let mut fields = StructFields::of("Person", datum)?;
+        let name = fields.next(alloc, "name")?;
+        let age = fields.next(alloc, "age")?;
+        let pets = fields.next(alloc, "pets")?;
+        fields.end()?;
+        Ok(Person { name, age, pets })
+    }
+}
+
+impl<'de> RoundTrip<'de> for Person {
+    ghost use Rattle.bson_examples.specs.Person.{IsPerson, person_returns};
+
+    ghost is_value = { IsPerson };
+
+    fn known(&self) {
+        self.name.known();
+        self.age.known();
+        self.pets.known();
+    }
+
+    ghost returns = { person_returns };
+}
+
+impl<'de> NeverNull<'de> for Person {
+    ghost use Rattle.bson_examples.specs.Person.{person_not_null};
+
+    ghost not_null = { λ person _. person_not_null person };
+}

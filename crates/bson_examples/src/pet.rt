@@ -1,0 +1,86 @@
+use crate::cat::Cat;
+use bson::{
+    Datum, Deserialize, NeverNull, RoundTrip, Serialize, Shape, ShapeError, VariantShapes, de,
+    is_unit_variant, newtype_value, newtype_variant, not_fitting, ser, unit_variant,
+};
+use std::alloc::Global;
+
+/// Whom one lives with.
+#[derive(Debug, PartialEq, Eq, Drop)]
+pub enum Pet {
+    /// An animal that comes and goes.
+    Stray,
+    /// A cat.
+    Cat(Cat),
+}
+
+impl Serialize for Pet {
+    ghost use Rattle.bson_examples.specs.Pet.{written_pet};
+
+    ghost written = { written_pet };
+
+    fn to_datum(&self, alloc: Global) -> ser::Result<Datum<'_>> {
+        match self {
+            Pet::Stray => Ok(unit_variant("Stray")),
+            Pet::Cat(value) => {
+                let value = value.to_datum(alloc)?;
+                let datum = newtype_variant(alloc, "Cat", value)?;
+                Ok(datum)
+            }
+        }
+    }
+}
+
+impl<'de> Deserialize<'de> for Pet {
+    ghost use Rattle.bson_examples.specs.Pet.{pet_form, PetContents, pet_contents, taken_pet};
+
+    ghost form = { pet_form };
+
+    ghost Contents = { PetContents };
+
+    ghost contents = { pet_contents };
+
+    ghost taken = { taken_pet };
+
+    fn shape(alloc: Global) -> Result<Shape, ShapeError> {
+        let mut variants = VariantShapes::new(alloc);
+        variants.add_unit(alloc, "Stray")?;
+        variants.add_newtype(alloc, "Cat", <Cat as Deserialize<'de>>::shape(alloc)?)?;
+        variants.into_enum()
+    }
+
+    fn from_datum(alloc: Global, datum: Datum<'de>) -> de::Result<Pet> {
+        if is_unit_variant(&datum, "Stray") {
+            return Ok(Pet::Stray);
+        }
+        let _datum = match newtype_value(datum, "Cat") {
+            Ok(value) => {
+                let value = <Cat as Deserialize<'de>>::from_datum(alloc, value)?;
+                return Ok(Pet::Cat(value));
+            }
+            Err(datum) => datum,
+        };
+        Err(not_fitting())
+    }
+}
+
+impl<'de> RoundTrip<'de> for Pet {
+    ghost use Rattle.bson_examples.specs.Pet.{IsPet, pet_returns};
+
+    ghost is_value = { IsPet };
+
+    fn known(&self) {
+        match self {
+            Pet::Stray => {}
+            Pet::Cat(value) => value.known(),
+        }
+    }
+
+    ghost returns = { pet_returns };
+}
+
+impl<'de> NeverNull<'de> for Pet {
+    ghost use Rattle.bson_examples.specs.Pet.{pet_not_null};
+
+    ghost not_null = { λ pet _. pet_not_null pet };
+}
