@@ -1,8 +1,9 @@
 #!/usr/bin/env python3
-"""Copies the list of crates from crates.txt to the pages that have it: docs/ARCHITECTURE.md (what each crate depends on) and docs/USING.md (those of `bson`).
+"""Copies the list of crates from crates.txt to the pages that have it: docs/ARCHITECTURE.md (what each crate depends on, as a table and as a picture) and
+docs/USING.md (those of `bson`).
 
 Run at the top of the repository. It writes the pages anew; with --check it writes nothing, and ends with status 1 where a page differs. What a crate is about
-is written in docs/ARCHITECTURE.md, in a row for each crate.
+is written in docs/ARCHITECTURE.md, in a row for each crate, and so are the groups of the picture.
 """
 import re
 import sys
@@ -11,6 +12,7 @@ import textwrap
 ARCHITECTURE, USING = "docs/ARCHITECTURE.md", "docs/USING.md"
 ROW = re.compile(r"^\| `(\w+)` \| (.*) \| .* ?\|$")
 TABLE = re.compile(r"(?<=\| crate \| subject \| depends on \|\n\|---\|---\|---\|\n)(?:\|.*\n)+")
+PICTURE = re.compile(r"(?<=^```mermaid\n)(?:.*\n)+?(?=```$)", re.MULTILINE)
 LOOP = re.compile(r"(?<=^for name in )[^\n](?:[^\n]|\\\n)*(?=\ndo$)", re.MULTILINE)
 LINES = re.compile(r"(?<=^```text\n)bson_\w+:.*\n(?:.*\n)*?(?=\w+: anyhow bson$)", re.MULTILINE)
 
@@ -50,6 +52,17 @@ def table(old, below):
     return "".join(f"| `{name}` | {subject} | {others} |\n" if others else f"| `{name}` | {subject} | |\n" for name, subject, others in rows)
 
 
+def picture(old, below):
+    """The picture with an arrow from each crate to those that it depends on; a crate is a word in square brackets."""
+    groups = [line for line in old.splitlines() if "-->" not in line]
+    drawn = re.findall(r'\b(\w+)\[(?!")', "\n".join(groups))
+    if sorted(drawn) != sorted(below):
+        sys.exit(f"{ARCHITECTURE}: the picture has not each crate of crates.txt once: {', '.join(set(drawn) ^ set(below)) or 'one is there twice'}")
+    needed = ((name, [other for other in direct(name, below) if other in below]) for name in below)
+    arrows = [f"  {name} --> {' & '.join(others)}" for name, others in needed if others]
+    return "".join(line + "\n" for line in groups + arrows)
+
+
 def loop(names):
     lines = textwrap.wrap(" ".join(names), 125)
     return " \\\n    ".join(lines)
@@ -61,6 +74,7 @@ def pages():
     used = [name for name in below if name in all_below("bson", below)]
     architecture, using = read(ARCHITECTURE), read(USING)
     new = TABLE.sub(lambda found: table(found[0], below), architecture)
+    new = PICTURE.sub(lambda found: picture(found[0], below), new)
     yield ARCHITECTURE, architecture, new
     new = LOOP.sub(lambda _: loop(used), using)
     yield USING, using, LINES.sub(lambda _: "".join(lines[name] + "\n" for name in used), new)
