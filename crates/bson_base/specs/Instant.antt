@@ -1,4 +1,4 @@
--- What contracts see of a `DateTime`.
+-- What contracts see of a `DateTime`. Source: bsonspec.org, version 1.1, UTC datetime.
 use Rattle.std.specs.Prelude.{ℤ}
 use Rattle.bson_base.specs.declared.date_time.DateTime.{DateTime}
 

@@ -1,4 +1,4 @@
--- A step of an iterator over the pairs of a document.
+-- A step of an iterator over the pairs of a document. Source: std's `Iterator`.
 use Rattle.std.specs.Prelude.{◌≡◌, Option, Some, None, string_bytes}
 use Rattle.std.specs.Borrow.{Bor}
 use Rattle.std.specs.Global.{Global}

@@ -1,4 +1,4 @@
--- One step after another, where each may refuse.
+-- One step after another, where each may refuse. Source: std's `Result`.
 use Rattle.std.specs.Prelude.{Result, Ok, Err}
 
 infixl 10 ◌>>=◌

@@ -1,4 +1,4 @@
--- The pairs of a document as an ordered map.
+-- The pairs of a document as an ordered map. Source: the usual map that keeps the order of insertion.
 use Rattle.std.specs.Prelude.{ℕ, suc, List, [], ◌∷◌, if◌then◌else◌, Option, None, Some}
 use Rattle.std.specs.Str.{bytes_eq}
 use Rattle.bson_base.specs.Text.{Utf8}

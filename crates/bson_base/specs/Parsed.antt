@@ -1,4 +1,4 @@
--- What a text stands for, as a call gives it.
+-- What a text stands for, as a call gives it. Source: MongoDB's extended JSON, version 2, and RFC 4648, section 4.
 use Rattle.std.specs.Prelude.{◌≡◌, ℕ, ◌&&◌, ◌^◌, nat_lt, Bool, if◌then◌else◌, [], ◌∷◌, length, Option, Some, None, option_and_then, ℤ, pos, negsuc, Result, Ok, Err}
 use Rattle.std.specs.Char.{digit_value}
 use Rattle.std.specs.List.{list_all}

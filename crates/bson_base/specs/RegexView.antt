@@ -1,4 +1,4 @@
--- What contracts see of a `Regex`.
+-- What contracts see of a `Regex`. Source: bsonspec.org, version 1.1, regular expressions.
 use Rattle.bson_base.specs.Text.{Utf8}
 
 -- its two texts (that the options are in order is an invariant of `Regex`)

@@ -1,4 +1,4 @@
--- The struct names that carry extended values through serde's data model.
+-- The struct names that carry extended values through serde's data model. Source: the reserved names of MongoDB's crate bson, version 2.
 use Rattle.std.specs.Prelude.{List, [], ◌∷◌, if◌then◌else◌, Option, Some, None, codes}
 use Rattle.std.specs.Str.{bytes_eq}
 use Rattle.bson_base.specs.declared.element_type.ElementType.{ElementType}

@@ -1,4 +1,4 @@
--- Whether two values are equal: of one kind, part by part.
+-- Whether two values are equal: of one kind, part by part. Source: bsonspec.org, version 1.1.
 use Rattle.std.specs.Prelude.{Bool, true, false, ◌&&◌, nat_eq}
 use Rattle.std.specs.Bool.{beq}
 use Rattle.std.specs.Ordering.{int_eq}

@@ -1,4 +1,4 @@
--- Texts and byte strings, as definitions see them.
+-- Texts and byte strings, as definitions see them. Source: bsonspec.org, version 1.1, `string` and `cstring`.
 use Rattle.std.specs.Prelude.{◌≡◌, ℕ, ◌<◌, List, [], ◌∷◌, Bool, false, true, ◌||◌, eqb, All}
 use Rattle.std.specs.Str.{is_utf8}
 

@@ -1,4 +1,4 @@
--- From what is due for a shape and what was delivered to the table of statuses.
+-- From what must be written for a shape and what was delivered to the table of statuses.
 use Rattle.std.proofs.Common.{◌≡◌, ◌≤◌, ℕ, [], length, ap, subst, arith}
 use Rattle.bson_base.specs.Text.{Bytes, Utf8}
 use Rattle.bson_buffers.specs.Asked.{DenotesNone}

@@ -1,4 +1,4 @@
--- From what is due for a file whose refused documents are listed, and what was delivered, to the table of statuses.
+-- From what must be written for a file whose refused documents are listed, and what was delivered, to the table of statuses.
 use Rattle.std.proofs.Common.{◌≡◌, ◌≤◌, ◌<◌, ℕ, List, [], ◌∷◌, length, string_bytes, Result, Ok, Err, refl, ap, subst, sym, ◌∙◌, inl, inr}
 use Rattle.std.specs.Prelude.{◌⊎◌, IfOk}
 use Rattle.std.specs.declared.alloc.AllocError.{AllocError}
@@ -22,7 +22,7 @@ use Rattle.bson_buffers.proofs.Checked.{nothing_written, no_shape_row}
 use Rattle.bson_buffers.proofs.Delivery.{within_or_above, fits, lacks}
 use Rattle.bson_buffers.proofs.Records.{are_records}
 
--- ---- what is due for a migration that was done
+-- ---- what must be written for a migration that was done
 
 by_list : (shape file output : Bytes) (s : Form) (ds : List NotRecast) (xs : List Refused) → DenotesShape shape s → migration_of s file ≡ migrated output ds → (IsSettled s → migration_of s output ≡ migrated output []) → AreListed ds xs
     → IsForListing shape file (listed_status xs) 0 output (texts_of xs) (records_from file 0 xs)

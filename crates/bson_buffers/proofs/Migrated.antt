@@ -1,4 +1,4 @@
--- From what is due for a file and what was delivered to the table of statuses.
+-- From what must be written for a file and what was delivered to the table of statuses.
 use Rattle.std.proofs.Common.{◌≡◌, ◌≤◌, ◌<◌, ℕ, List, [], ◌∷◌, length, string_bytes, Result, Ok, Err, refl, ap, subst, sym, ◌∙◌, inl, inr}
 use Rattle.std.specs.Prelude.{◌⊎◌, IfOk}
 use Rattle.std.specs.declared.alloc.AllocError.{AllocError}
@@ -21,7 +21,7 @@ use Rattle.bson_buffers.specs.declared.status.Status.TheVariants as statuses
 use Rattle.bson_buffers.proofs.Checked.{nothing_written, no_shape_row}
 use Rattle.bson_buffers.proofs.Delivery.{within_or_above, fits, lacks}
 
--- ---- what is due for a migration that was done
+-- ---- what must be written for a migration that was done
 
 by_list : (shape file output : Bytes) (s : Form) (xs : List Refused) → DenotesShape shape s → rows.AnswersMigration (migration_of s file) (rows.listed_status xs) output (refused_lines xs) → (IsSettled s → migration_of s output ≡ migrated output [])
     → IsForMigration shape file (listed_status xs) 0 output (refused_lines xs)

@@ -1,4 +1,4 @@
--- From what is due for a document and what was delivered to the table of statuses.
+-- From what must be written for a document and what was delivered to the table of statuses.
 use Rattle.std.proofs.Common.{◌≡◌, ◌≤◌, ◌<◌, ℕ, length, refl, ap, subst, sym, ◌∙◌, inl, inr}
 use Rattle.std.specs.Prelude.{◌⊎◌}
 use Rattle.bson_base.specs.Text.{Bytes, Utf8}
@@ -14,7 +14,7 @@ use Rattle.bson_buffers.specs.declared.status.Status.TheVariants as statuses
 use Rattle.bson_buffers.proofs.Checked.{nothing_written, no_shape_row}
 use Rattle.bson_buffers.proofs.Delivery.{within_or_above, fits, lacks}
 
--- the status that is due at a notation
+-- the status that must be returned at a notation
 status_named : (shape bytes : Bytes) (places : ℕ) (s : Form) (r : Recast) → DenotesShape shape s → recast_of s bytes ≡ r → recast_status_at places bytes (shape_of_bytes shape) ≡ recast_status places r
 status_named shape bytes places s r n is = ap (recast_status_at places bytes) n.asked ∙ ap (recast_status places) is
 

@@ -24,7 +24,7 @@ reason_is (unwritten due long) (Read e) h some = absurd cc
 reason_is (unwritten due long) (Write e) h some = (write_failure e, h, refl)
 reason_is (unwritten due long) NoMemory h some = absurd (some refl)
 
--- the records of the refused documents are those that are due
+-- the records of the refused documents are those that must be written
 pub are_records : (file : Bytes) (start : ℕ) (ds : List NotRecast) (xs : List Refused) → AreListed ds xs → AreRecords file start ds (records_from file start xs) (texts_of xs)
 are_records file start [] [] h = (refl, refl)
 are_records file start [] (x ∷ xs) h = absurd h

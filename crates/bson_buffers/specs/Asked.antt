@@ -1,4 +1,4 @@
--- The shape that bytes from outside are the notation of.
+-- The shape that bytes from outside are the notation of. Source: this library's own calls with buffers.
 use Rattle.std.specs.Prelude.{◌≡◌, ◌⊎◌, ℕ, if◌then◌else◌, codes, false, Result, Ok, Err}
 use Rattle.std.specs.Str.{is_utf8}
 use Rattle.std.specs.Str.Lossy.{utf8_valid_len}

@@ -1,4 +1,4 @@
--- Judging a shape: when each status comes, and what the call did then.
+-- Judging a shape: when each status comes, and what the call did then. Source: this library's own calls with buffers.
 use Rattle.std.specs.Prelude.{◌≡◌, ◌⊎◌, [], Result, Ok, Err}
 use Rattle.bson_base.specs.Text.{Bytes}
 use Rattle.bson_shape.specs.Form.{Form}
@@ -26,7 +26,7 @@ abbrev pub judged : Result Form NoShape → Status
 judged (Ok s) = statuses.Done
 judged (Err why) = statuses.ShapeRefused
 
--- The table of statuses: each status comes only where its row holds, and it is the one that is due, or out of memory.
+-- The table of statuses: each status comes only where its row holds, and it is the one that must be returned, or out of memory.
 pub record IsChecked (shape : Bytes) (status : Status) (c : Call) : Type 0 where
   pub done : status ≡ statuses.Done → IsShapeRow shape c
   pub shape_refused : status ≡ statuses.ShapeRefused → NoShapeRow shape c

@@ -1,4 +1,5 @@
--- What is due for a call before its buffers are looked at: what the proofs of the calls need, and no definition.
+-- What must be written for a call before its buffers are looked at: what the proofs of the calls need, and no definition.
+-- Source: this library's own calls with buffers.
 use Rattle.std.specs.Prelude.{◌≡◌, ◌<◌, ◌≤◌, ℕ, List, [], ◌∷◌, length, string_bytes}
 use Rattle.bson_base.specs.Text.{Bytes, Utf8}
 use Rattle.bson_datum.specs.Printed.{printed_failure, printed_read_fault, printed_write_fault}
@@ -19,7 +20,7 @@ use Rattle.bson_buffers.specs.declared.due.Due as due
 use Rattle.bson_buffers.specs.declared.status.Status.{Status}
 use Rattle.bson_buffers.specs.declared.status.Status.TheVariants as statuses
 
--- What was due was put into the buffers; where the output does not fit, the status tells it.
+-- What had to be written was put into the buffers; where the output does not fit, the status tells it.
 pub record IsDelivered (due : Status) (place : ℕ) (output : Bytes) (said : Utf8) (status : Status) (c : Call) : Type 0 where
   pub at : c.place ≡ place
   pub told : Tells c said

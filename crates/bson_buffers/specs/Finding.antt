@@ -1,4 +1,4 @@
--- The document at a place of a file of documents.
+-- The document at a place of a file of documents. Source: bsonspec.org, version 1.1, `document`.
 use Rattle.std.specs.Prelude.{◌≡◌, ◌+◌, ◌≤◌, ℕ, length, take, drop}
 use Rattle.bson_base.specs.Text.{Bytes}
 use Rattle.bson_rawdoc.specs.Cut.{Cut, whole, broken_at, with_piece, cut_from}

@@ -1,4 +1,5 @@
 -- Migrating a file with a record for each refused document: what the records say, when each status comes, and what the call did then.
+-- Source: this library's own calls with buffers.
 use Rattle.std.specs.Prelude.{◌≡◌, ◌⊎◌, ◌+◌, ℕ, min, List, [], ◌∷◌, ◌++◌, length, take, drop, codes}
 use Rattle.std.specs.List.{sum_by}
 use Rattle.bson_base.specs.Text.{Bytes, Utf8}
@@ -92,7 +93,7 @@ ListedRow shape file c a = RefusedRow (ListsEach file a) shape file c
 abbrev pub LargerListedRow : (shape file : Bytes) → Call → Records → Type 0
 LargerListedRow shape file c a = UnfittedRow (ListsEach file a) shape file c
 
--- The table of statuses: each status comes only where its row holds, and it is the one that is due, or out of memory.
+-- The table of statuses: each status comes only where its row holds, and it is the one that must be returned, or out of memory.
 pub record IsListedMigration (shape file : Bytes) (status : Status) (c : Call) (a : Records) : Type 0 where
   pub done : status ≡ statuses.Done → MigratedRow shape file c × ListsRecords a []
   pub some_refused : status ≡ statuses.SomeRefused → ListedRow shape file c a

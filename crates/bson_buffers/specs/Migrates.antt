@@ -1,4 +1,4 @@
--- Migrating a file of documents: when each status comes, and what the call did then.
+-- Migrating a file of documents: when each status comes, and what the call did then. Source: this library's own calls with buffers.
 use Rattle.std.specs.Prelude.{◌≡◌, ◌⊎◌, ℕ, List, [], ◌∷◌, length, Result, Ok, Err}
 use Rattle.bson_base.specs.Text.{Bytes, Utf8}
 use Rattle.bson_shape.specs.Form.{Form}
@@ -80,7 +80,7 @@ abbrev pub migration_status_at : (places : ℕ) → (file : Bytes) → Result Fo
 migration_status_at places file (Err why) = statuses.ShapeRefused
 migration_status_at places file (Ok s) = migration_status places (migration_of s file)
 
--- The table of statuses: each status comes only where its row holds, and it is the one that is due, or out of memory.
+-- The table of statuses: each status comes only where its row holds, and it is the one that must be returned, or out of memory.
 pub record IsMigrated (shape file : Bytes) (status : Status) (c : Call) : Type 0 where
   pub done : status ≡ statuses.Done → MigratedRow shape file c
   pub some_refused : status ≡ statuses.SomeRefused → SomeRefusedRow shape file c

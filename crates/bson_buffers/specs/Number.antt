@@ -1,4 +1,4 @@
--- The number of a status.
+-- The number of a status. Source: this library's own calls with buffers.
 use Rattle.std.specs.Prelude.{ℕ}
 use Rattle.bson_buffers.specs.declared.status.Status.{Status}
 use Rattle.bson_buffers.specs.declared.status.Status.TheVariants.{Done, SomeRefused, ShapeRefused, ReadRefused, WriteRefused, Broken, End, BufferTooSmall, NoMemory}

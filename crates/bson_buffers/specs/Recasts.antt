@@ -1,4 +1,4 @@
--- Recasting a document: when each status comes, and what the call did then.
+-- Recasting a document: when each status comes, and what the call did then. Source: this library's own calls with buffers.
 use Rattle.std.specs.Prelude.{◌≡◌, ◌⊎◌, ℕ, nat_lt, if◌then◌else◌, [], length, Result, Ok, Err}
 use Rattle.bson_base.specs.Text.{Bytes}
 use Rattle.bson_datum.specs.Printed.{printed_failure, printed_read_fault, printed_write_fault}
@@ -69,7 +69,7 @@ abbrev pub recast_status_at : (places : ℕ) → (bytes : Bytes) → Result Form
 recast_status_at places bytes (Err why) = statuses.ShapeRefused
 recast_status_at places bytes (Ok s) = recast_status places (recast_of s bytes)
 
--- The table of statuses: each status comes only where its row holds, and it is the one that is due, or out of memory.
+-- The table of statuses: each status comes only where its row holds, and it is the one that must be returned, or out of memory.
 pub record IsRecast (shape bytes : Bytes) (status : Status) (c : Call) : Type 0 where
   pub done : status ≡ statuses.Done → RecastRow shape bytes c
   pub buffer_too_small : status ≡ statuses.BufferTooSmall → LargerRow shape bytes c

@@ -12,7 +12,7 @@ use crate::report::Report;
 use crate::status::Status;
 use std::alloc::{AllocError, Global};
 
-// What is due for a shape. An error means out of memory.
+// What must be written for a shape. An error means out of memory.
 fn due_for(alloc: Global, shape: &[u8]) -> Result<Due, AllocError>
     ensures { IfOk result (λ d. IsForCheck shape.now d.status d.place d.output.items (string_bytes d.text)) }
 {
@@ -44,7 +44,7 @@ pub fn check_shape(alloc: Global, shape: &[u8], text: &mut [u8]) -> Report
     ensures done { result.status ≡ statuses.Done → IsShapeRow shape.now (call_of result [] [] text.old text.new) }
     ensures shape_refused { result.status ≡ statuses.ShapeRefused → NoShapeRow shape.now (call_of result [] [] text.old text.new) }
     ensures no_memory { result.status ≡ statuses.NoMemory → IsSilent (call_of result [] [] text.old text.new) }
-    // The status is the one that is due, or out of memory.
+    // The status is the one that must be returned, or out of memory.
     ensures complete { (result.status ≡ judged (shape_of_bytes shape.now)) ⊎ (result.status ≡ statuses.NoMemory) }
 {
     check(alloc, shape, text)

@@ -1,4 +1,4 @@
-// What is due for a call, before its buffers are looked at, and its delivery.
+// What must be written for a call, before its buffers are looked at, and its delivery.
 ghost use Rattle.std.specs.Prelude.{◌≡◌, [], string_bytes};
 ghost use Rattle.bson_buffers.specs.Due.{IsDelivered};
 ghost use Rattle.bson_buffers.specs.Buffers.{call_of};
@@ -10,7 +10,7 @@ use crate::report::Report;
 use crate::status::Status;
 use std::alloc::Global;
 
-/// A status, with what is due to the two buffers.
+/// A status, with what must be written to the two buffers.
 #[derive(Drop)]
 pub struct Due {
     pub status: Status,

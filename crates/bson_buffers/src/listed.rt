@@ -18,14 +18,14 @@ use crate::status::Status;
 use bson_migrate_run::{MigrateError, Migration, migrate};
 use std::alloc::{AllocError, Global};
 
-// What is due for a file: to the two buffers, and to the array of records.
+// What must be written for a file: to the two buffers, and to the array of records.
 #[derive(Drop)]
 struct DueList {
     due: Due,
     refusals: Vec<Refusal>,
 }
 
-// What is due for a file that was migrated. An error means out of memory.
+// What must be written for a file that was migrated. An error means out of memory.
 fn due_for_migration(
     alloc: Global,
     file: &[u8],
@@ -49,7 +49,7 @@ fn due_for_migration(
     })
 }
 
-// What is due for a file at a shape. An error means out of memory.
+// What must be written for a file at a shape. An error means out of memory.
 fn due_for(alloc: Global, shape: &[u8], file: &[u8]) -> Result<DueList, AllocError>
     ensures { IfOk result (λ d. IsForListing shape.now file.now d.due.status d.due.place d.due.output.items (string_bytes d.due.text) d.refusals.items) }
 {
@@ -130,7 +130,7 @@ pub fn migrate_and_list(
         × ListsRecords (records_by result refusals.old refusals.new) [] }
     ensures no_memory { result.report.status ≡ statuses.NoMemory → IsSilent (call_of result.report output.old output.new text.old text.new)
         × ListsRecords (records_by result refusals.old refusals.new) [] }
-    // The status is the one that is due, or out of memory.
+    // The status is the one that must be returned, or out of memory.
     ensures complete { (result.report.status ≡ migration_status_at (length output.old) file.now (shape_of_bytes shape.now)) ⊎ (result.report.status ≡ statuses.NoMemory) }
 {
     migrate_whole(alloc, shape, file, output, text, refusals)

@@ -14,7 +14,7 @@ use crate::status::Status;
 use bson_migrate_run::{MigrateError, Migration, lines_of, migrate};
 use std::alloc::{AllocError, Global};
 
-// What is due for a file that was migrated. An error means out of memory.
+// What must be written for a file that was migrated. An error means out of memory.
 fn due_for_migration(alloc: Global, migration: Migration) -> Result<Due, AllocError>
     ensures { IfOk result (λ d. IsOfMigration migration d) }
 {
@@ -31,7 +31,7 @@ fn due_for_migration(alloc: Global, migration: Migration) -> Result<Due, AllocEr
     })
 }
 
-// What is due for a file at a shape. An error means out of memory.
+// What must be written for a file at a shape. An error means out of memory.
 fn due_for(alloc: Global, shape: &[u8], file: &[u8]) -> Result<Due, AllocError>
     ensures { IfOk result (λ d. IsForMigration shape.now file.now d.status d.place d.output.items (string_bytes d.text)) }
 {
@@ -92,7 +92,7 @@ pub fn migrate_into(
     ensures shape_refused { result.status ≡ statuses.ShapeRefused → NoShapeRow shape.now (call_of result output.old output.new text.old text.new) }
     ensures broken { result.status ≡ statuses.Broken → BrokenRow shape.now file.now (call_of result output.old output.new text.old text.new) }
     ensures no_memory { result.status ≡ statuses.NoMemory → IsSilent (call_of result output.old output.new text.old text.new) }
-    // The status is the one that is due, or out of memory.
+    // The status is the one that must be returned, or out of memory.
     ensures complete { (result.status ≡ migration_status_at (length output.old) file.now (shape_of_bytes shape.now)) ⊎ (result.status ≡ statuses.NoMemory) }
 {
     migrate_whole(alloc, shape, file, output, text)

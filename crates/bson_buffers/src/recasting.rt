@@ -14,7 +14,7 @@ use crate::status::Status;
 use bson_recast_run::{RecastError, recast};
 use std::alloc::{AllocError, Global};
 
-// What is due for a document at a shape. An error means out of memory.
+// What must be written for a document at a shape. An error means out of memory.
 fn due_for(alloc: Global, shape: &[u8], bytes: &[u8]) -> Result<Due, AllocError>
     ensures { IfOk result (λ d. IsForRecast shape.now bytes.now d.status d.place d.output.items (string_bytes d.text)) }
 {
@@ -80,7 +80,7 @@ pub fn recast_into(
     ensures read_refused { result.status ≡ statuses.ReadRefused → UnreadRow shape.now bytes.now (call_of result output.old output.new text.old text.new) }
     ensures write_refused { result.status ≡ statuses.WriteRefused → UnwrittenRow shape.now bytes.now (call_of result output.old output.new text.old text.new) }
     ensures no_memory { result.status ≡ statuses.NoMemory → IsSilent (call_of result output.old output.new text.old text.new) }
-    // The status is the one that is due, or out of memory.
+    // The status is the one that must be returned, or out of memory.
     ensures complete { (result.status ≡ recast_status_at (length output.old) bytes.now (shape_of_bytes shape.now)) ⊎ (result.status ≡ statuses.NoMemory) }
 {
     recast_whole(alloc, shape, bytes, output, text)

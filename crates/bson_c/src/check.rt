@@ -15,7 +15,7 @@ pub extern "C" fn tbson_check_shape(alloc: Global, shape: &[u8], text: &mut [u8]
     ensures done { result.status ≡ number_of statuses.Done → IsShapeRow shape.now (crossed_call result [] [] text.old text.new) }
     ensures shape_refused { result.status ≡ number_of statuses.ShapeRefused → NoShapeRow shape.now (crossed_call result [] [] text.old text.new) }
     ensures no_memory { result.status ≡ number_of statuses.NoMemory → IsSilent (crossed_call result [] [] text.old text.new) }
-    // The status is the one that is due, or out of memory.
+    // The status is the one that must be returned, or out of memory.
     ensures complete { (result.status ≡ number_of (judged (shape_of_bytes shape.now))) ⊎ (result.status ≡ number_of statuses.NoMemory) }
 {
     Report::crossed(bson_buffers::check_shape(alloc, shape, text))

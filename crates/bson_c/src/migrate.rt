@@ -25,7 +25,7 @@ pub extern "C" fn tbson_migrate(
     ensures shape_refused { result.status ≡ number_of statuses.ShapeRefused → NoShapeRow shape.now (crossed_call result output.old output.new text.old text.new) }
     ensures broken { result.status ≡ number_of statuses.Broken → BrokenRow shape.now file.now (crossed_call result output.old output.new text.old text.new) }
     ensures no_memory { result.status ≡ number_of statuses.NoMemory → IsSilent (crossed_call result output.old output.new text.old text.new) }
-    // The status is the one that is due, or out of memory.
+    // The status is the one that must be returned, or out of memory.
     ensures complete { (result.status ≡ number_of (migration_status_at (length output.old) file.now (shape_of_bytes shape.now))) ⊎ (result.status ≡ number_of statuses.NoMemory) }
 {
     Report::crossed(bson_buffers::migrate_into(alloc, shape, file, output, text))

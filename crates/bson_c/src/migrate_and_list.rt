@@ -34,7 +34,7 @@ pub extern "C" fn tbson_migrate_and_list(
         × ListsRecords (crossed_records result refusals.old refusals.new) [] }
     ensures no_memory { result.report.status ≡ number_of statuses.NoMemory → IsSilent (crossed_call result.report output.old output.new text.old text.new)
         × ListsRecords (crossed_records result refusals.old refusals.new) [] }
-    // The status is the one that is due, or out of memory.
+    // The status is the one that must be returned, or out of memory.
     ensures complete { (result.report.status ≡ number_of (migration_status_at (length output.old) file.now (shape_of_bytes shape.now))) ⊎ (result.report.status ≡ number_of statuses.NoMemory) }
 {
     MigrationReport::crossed(bson_buffers::migrate_and_list(

@@ -25,7 +25,7 @@ pub extern "C" fn tbson_recast(
     ensures read_refused { result.status ≡ number_of statuses.ReadRefused → UnreadRow shape.now bytes.now (crossed_call result output.old output.new text.old text.new) }
     ensures write_refused { result.status ≡ number_of statuses.WriteRefused → UnwrittenRow shape.now bytes.now (crossed_call result output.old output.new text.old text.new) }
     ensures no_memory { result.status ≡ number_of statuses.NoMemory → IsSilent (crossed_call result output.old output.new text.old text.new) }
-    // The status is the one that is due, or out of memory.
+    // The status is the one that must be returned, or out of memory.
     ensures complete { (result.status ≡ number_of (recast_status_at (length output.old) bytes.now (shape_of_bytes shape.now))) ⊎ (result.status ≡ number_of statuses.NoMemory) }
 {
     Report::crossed(bson_buffers::recast_into(alloc, shape, bytes, output, text))

@@ -1,4 +1,4 @@
--- What the private parts of the reader of date texts give and ask.
+-- What the private parts of the reader of date texts give and ask. Source: RFC 3339, section 5.6.
 use Rattle.std.specs.Prelude.{Bool, false, [], ◌∷◌, Option, Some, None}
 use Rattle.std.specs.Borrow.{Bor}
 use Rattle.bson_dates.specs.DateText.{Utf8, Part, part, is_digit}

@@ -1,4 +1,4 @@
--- What contracts see of a byte string: its contents, whoever owns them.
+-- What contracts see of a byte string: its contents, whoever owns them. Source: this library's own types.
 use Rattle.bson_base.specs.Text.{Bytes}
 use Rattle.bson_datum.specs.declared.byte_str.ByteStr.{ByteStr}
 use Rattle.bson_datum.specs.declared.byte_str.ByteStr.TheVariants.{Borrowed, Owned}

@@ -42,7 +42,7 @@ pub data Cause : Type 0 where
   contents_wanted : Cause
   -- a document names a variant that has no contents
   unit_in_document : Cause
-  -- an empty document of a tree, where the name of a variant is due
+  -- an empty document of a tree, where the name of a variant is expected
   empty_enum : Cause
   -- a second key in the document of a tree that names a variant
   extra_key : Utf8 → Cause

@@ -1,4 +1,4 @@
--- What contracts see of an error.
+-- What contracts see of an error. Source: the errors of MongoDB's crate bson, version 2.
 use Rattle.std.specs.Prelude.{pos, string_bytes}
 use Rattle.bson_base.specs.BsonView.{tree_of}
 use Rattle.bson_datum.specs.Cause as cause

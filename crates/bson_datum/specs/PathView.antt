@@ -1,4 +1,4 @@
--- What contracts see of a path: its segments.
+-- What contracts see of a path: its segments. Source: this library's own types.
 use Rattle.std.specs.Prelude.{map, string_bytes}
 use Rattle.bson_datum.specs.Refusal as refusal
 use Rattle.bson_datum.specs.Refusal.{at_key, at_index}

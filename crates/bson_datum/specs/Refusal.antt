@@ -17,7 +17,7 @@ Path = List Segment
 pub data ReadFault : Type 0 where
   -- a call of the source failed
   io : ReadFault
-  -- an empty document, where the name of a variant is due; a text in a tree, where the contents of a variant are due; or the source ended before the length of a document
+  -- an empty document, where the name of a variant is expected; a text in a tree, where the contents of a variant are expected; or the source ended before the length of a document
   end_of_stream : ReadFault
   unreadable : Cause → ReadFault
 

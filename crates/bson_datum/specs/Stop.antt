@@ -1,4 +1,4 @@
--- What contracts see of a refusal on its way out.
+-- What contracts see of a refusal on its way out. Source: this library's own errors.
 use Rattle.std.specs.Prelude.{◌≡◌, [], ◌∷◌, ◌++◌, map, reverse, Option, Some, None}
 use Rattle.bson_base.specs.Text.{Utf8}
 use Rattle.bson_datum.specs.Refusal.{Refusal, Path, Segment, at_key, with_path, Failure, no_memory}

@@ -1,4 +1,4 @@
--- What contracts see of a text: its contents, whoever owns them.
+-- What contracts see of a text: its contents, whoever owns them. Source: this library's own types.
 use Rattle.std.specs.Prelude.{string_bytes}
 use Rattle.bson_base.specs.Text.{Utf8}
 use Rattle.bson_datum.specs.declared.text.Text.{Text}

@@ -45,13 +45,13 @@ pub enum Cause {
     ContentsWanted,
     /// A document names a variant that has no contents.
     UnitInDocument,
-    /// An empty document of a tree in memory, where the name of a variant is due.
+    /// An empty document of a tree in memory, where the name of a variant is expected.
     EmptyEnum,
     /// A second key in a document of a tree in memory that names a variant.
     ExtraKey(String),
     /// A key, or a part of a regular expression, holds a zero character.
     ZeroByte,
-    /// The value has this kind, where a document is due.
+    /// The value has this kind, where a document is expected.
     TopLevel(ElementType),
     /// A binary of so many bytes, which are more than 16777216.
     BinaryTooLong(u64),
@@ -61,7 +61,7 @@ pub enum Cause {
     BadStep,
     /// The document would have more than 2147483647 bytes.
     TooLong,
-    /// The value is made into a BSON value of this kind, where a document is due.
+    /// The value is made into a BSON value of this kind, where a document is expected.
     NotDocument(ElementType),
     /// A call of the writer was refused before.
     Failed,

@@ -15,7 +15,7 @@ use std::fmt;
 /// What a value is refused for, without its path.
 #[derive(Debug, Drop)]
 pub enum Fault {
-    /// An empty document, where the name of a variant is due; or a text in a tree in memory, where the contents of a variant are due.
+    /// An empty document, where the name of a variant is expected; or a text in a tree in memory, where the contents of a variant are expected.
     EndOfStream,
     /// A value is refused for this cause.
     Cause(Cause),
@@ -26,7 +26,7 @@ pub enum Fault {
 pub enum Error {
     /// A call of the source failed.
     Io,
-    /// An empty document, where the name of a variant is due; a text in a tree in memory, where the contents of a variant are due; or the source ended before the length
+    /// An empty document, where the name of a variant is expected; a text in a tree in memory, where the contents of a variant are expected; or the source ended before the length
     /// of a document.
     EndOfStream,
     /// A value is refused for this cause.

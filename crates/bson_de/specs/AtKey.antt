@@ -1,4 +1,4 @@
--- What contracts see of a reading at a key.
+-- What contracts see of a reading at a key. Source: serde's data model.
 use Rattle.std.specs.Prelude.{◌≡◌, Result, Ok, Err}
 use Rattle.bson_base.specs.Text.{Utf8}
 use Rattle.bson_datum.specs.Stop.{IsUnderKey}

@@ -1,4 +1,4 @@
--- What contracts see of enums.
+-- What contracts see of enums. Source: serde's data model.
 use Rattle.std.specs.Prelude.{Ok, Err}
 use Rattle.bson_base.specs.Text.{Utf8}
 use Rattle.bson_base.specs.Outcome.{◌>>=◌, result_map}

@@ -1,4 +1,4 @@
--- What contracts see of the contents of variants in a tree.
+-- What contracts see of the contents of variants in a tree. Source: serde's data model.
 use Rattle.bson_base.specs.Outcome.{◌>>=◌}
 use Rattle.bson_base.specs.declared.element_type.ElementType.TheVariants as kinds
 use Rattle.std.specs.Prelude.{Ok}

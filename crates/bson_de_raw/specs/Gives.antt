@@ -1,4 +1,4 @@
--- What a reader of whole documents returns: what the definition of reading answers, or out of memory.
+-- What a reader of whole documents returns: what the definition of reading answers, or out of memory. Source: this library's own errors.
 use Rattle.std.specs.Prelude.{◌≡◌, Result, Ok, Err}
 use Rattle.bson_datum.specs.Refusal.{ReadFault, Failure, no_memory, bare, placed}
 use Rattle.bson_datum.specs.Value.{Value}

@@ -1,4 +1,4 @@
--- What contracts see of a refusal without its path.
+-- What contracts see of a refusal without its path. Source: this library's own errors.
 use Rattle.std.specs.Prelude.{◌≡◌, Option, Some, None}
 use Rattle.bson_datum.specs.Refusal.{ReadFault, Refusal, Failure, no_memory, bare}
 

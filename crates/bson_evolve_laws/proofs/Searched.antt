@@ -69,7 +69,7 @@ in_met [] p i = absurd i
 in_met (q ∷ qs) p (inl e) = ap (λ b. b || is_met qs p) (subst (λ z. same_pair z p ≡ true) e (pair_self p))
 in_met (q ∷ qs) p (inr i) = or_right (same_pair q p) (is_met qs p) (in_met qs p i)
 
--- ---- the pairs that are due
+-- ---- the pairs that are to be entered
 
 abbrev pub AllDue : (Pair → Type 0) → List DuePair → Type 0
 AllDue P [] = Unit {0}

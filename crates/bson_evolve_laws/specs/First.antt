@@ -22,7 +22,7 @@ abbrev pub is_met : List Pair → Pair → Bool
 is_met [] p = false
 is_met (q ∷ qs) p = same_pair q p || is_met qs p
 
--- a pair that is due, and the path to it
+-- a pair that is to be entered, and the path to it
 pub record DuePair : Type 0 where
   pub path : Path
   pub pair : Pair
@@ -40,12 +40,12 @@ pub data Outcome : Type 0 where
   -- it was cut off
   cut_off : Outcome
 
--- what is due, without the pairs before the first that was not met
+-- the pairs that are to be entered, without the pairs before the first that was not met
 abbrev pub unmet : List Pair → List DuePair → List DuePair
 unmet met [] = []
 unmet met (d ∷ due) = if is_met met d.pair then unmet met due else d ∷ due
 
--- A pair is entered: where it passes no row it is the fault, and else the pairs that its row names come before those that are due already.
+-- A pair is entered: where it passes no row it is the fault, and else the pairs that its row names come before those that were to be entered before.
 abbrev pub entered : (List Pair → List DuePair → Outcome) → List Pair → DuePair → List DuePair → Answer → Outcome
 entered go_on met d due None = fault d.path
 entered go_on met d due (Some ss) = go_on (d.pair ∷ met) (map (due_step d) ss ++ due)
@@ -54,7 +54,7 @@ abbrev pub entered_first : (List Pair → List DuePair → Outcome) → List Pai
 entered_first go_on met [] = all_pass met
 entered_first go_on met (d ∷ due) = entered go_on met d due (row d.pair.old.form d.pair.new.form)
 
--- The search: the first of the pairs that are due and were not met before is entered, and so on. It is cut off before it has entered so many.
+-- The search: the first of the pairs that are to be entered and were not met before is entered, and so on. It is cut off before it has entered so many.
 abbrev pub search : ℕ → List Pair → List DuePair → Outcome
 search zero met due = cut_off
 search (suc n) met due = entered_first (λ more later. search n more later) met (unmet met due)

@@ -1,4 +1,4 @@
--- Which fields are the first of some that a struct is accepted with whose name is reserved.
+-- Which fields are the first of some that a struct is accepted with whose name is reserved. Source: the reserved names of MongoDB's crate bson, version 2.
 use Rattle.std.specs.Prelude.{◌≡◌, Bool, true, false, List, [], ◌++◌, Option, Some, None, is_some, codes}
 use Rattle.bson_base.specs.Text.{Utf8}
 use Rattle.bson_base.specs.declared.element_type.ElementType.{ElementType}

@@ -1,4 +1,4 @@
--- What contracts see of places, and of the places that are left behind some parts.
+-- What contracts see of places, and of the places that are left behind some parts. Source: this library's own types.
 use Rattle.std.specs.Prelude.{◌≡◌, false, List, ◌∷◌, map, Option, Some, None}
 use Rattle.bson_base.specs.Text.{Utf8}
 use Rattle.bson_datum.specs.Value.{Value}

@@ -1,4 +1,4 @@
--- Values that are written for a human reader.
+-- Values that are written for a human reader. Source: serde's `is_human_readable`.
 use Rattle.std.specs.Prelude.{if◌then◌else◌, Err, codes}
 use Rattle.std.specs.Str.{bytes_eq}
 use Rattle.bson_base.specs.Outcome.{result_map}

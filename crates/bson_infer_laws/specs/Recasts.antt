@@ -1,4 +1,4 @@
--- A document that is read from its bytes at a form, as a value that is written again.
+-- A document that is read from its bytes at a form, as a value that is written again. Source: serde's data model.
 use Rattle.std.specs.Prelude.{◌≡◌, Ok}
 use Rattle.bson_base.specs.Tree.{Tree, enc}
 use Rattle.bson_shape.specs.Form.{Form}

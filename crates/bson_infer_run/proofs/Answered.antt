@@ -1,4 +1,4 @@
--- What is due for a file settles the status, and what is due for the words.
+-- What must be written for a file settles the status, and what must be written for the words.
 use Rattle.std.proofs.Common.{◌≡◌, List, [], ◌∷◌, Result, Ok, Err, Bool, true, length, map, refl, sym, ◌∙◌, arith, string_bytes}
 use Rattle.std.specs.Prelude.{◌==◌, String}
 use Rattle.std.specs.declared.alloc.Global.{Global}

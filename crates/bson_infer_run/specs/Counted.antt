@@ -1,4 +1,4 @@
--- The fields of the structs that were joined, with how often each was there.
+-- The fields of the structs that were joined, with how often each was there. Source: this library's own join of shapes.
 use Rattle.std.specs.Prelude.{ℕ, ◌+◌, ◌≤◌, Bool, true, false, if◌then◌else◌, nat_lt, List, [], ◌∷◌}
 use Rattle.std.specs.Str.{bytes_eq}
 use Rattle.bson_base.specs.Text.{Utf8}

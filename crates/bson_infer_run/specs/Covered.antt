@@ -1,4 +1,4 @@
--- A document in its bytes that adds nothing to a form: it is sound, and the form has all that it has.
+-- A document in its bytes that adds nothing to a form: it is sound, and the form has all that it has. Source: this library's own join of shapes.
 use Rattle.std.specs.Prelude.{◌≡◌, ℕ, ◌+◌, true, length, drop, Option, Some, None, Result, Ok, Err}
 use Rattle.bson_base.specs.Text.{Utf8, IsPlainName}
 use Rattle.bson_base.specs.Tree.{Tree, document, Pairs, enc}

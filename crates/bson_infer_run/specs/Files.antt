@@ -1,4 +1,4 @@
--- What the inference from a file of documents comes to.
+-- What the inference from a file of documents comes to. Source: this library's own programs.
 use Rattle.std.specs.Prelude.{◌≡◌, ℕ, suc, ◌+◌, List, [], ◌∷◌, Bool, false, if◌then◌else◌, Option, Some, None, Result, Ok, Err}
 use Rattle.bson_base.specs.BsonView.{pairs_of}
 use Rattle.bson_base.specs.Text.{Bytes}

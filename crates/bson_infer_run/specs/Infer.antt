@@ -1,4 +1,4 @@
--- What the inference from documents answers.
+-- What the inference from documents answers. Source: this library's own join of shapes.
 use Rattle.std.specs.Prelude.{◌≡◌, ℕ, zero, suc, List, [], ◌∷◌, Result, Ok, Err}
 use Rattle.bson_base.specs.BsonView.{pairs_of}
 use Rattle.bson_base.specs.Sound.{IsSound}

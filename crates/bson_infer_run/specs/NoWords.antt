@@ -1,4 +1,4 @@
--- The command line of a program that takes no word.
+-- The command line of a program that takes no word. Source: this library's own programs.
 use Rattle.std.specs.Prelude.{◌≡◌, ◌≢◌, List, [], ◌∷◌, Result, Ok, Err}
 use Rattle.bson_base.specs.Text.{Utf8}
 use Rattle.bson_program.specs.Command.{Command}

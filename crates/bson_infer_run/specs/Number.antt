@@ -1,4 +1,4 @@
--- The number that the program ends with.
+-- The number that the program ends with. Source: this library's own programs.
 use Rattle.std.specs.Prelude.{ℕ}
 use Rattle.bson_infer_run.specs.declared.status.InferStatus.{InferStatus}
 use Rattle.bson_infer_run.specs.declared.status.InferStatus.TheVariants.{Done, DocumentRefused, Broken, Usage, SourceFault, SinkFault, NoMemory}

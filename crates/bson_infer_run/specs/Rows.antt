@@ -1,4 +1,4 @@
--- The program: the rows of its table of answers for a file that was read whole, and what it shares with every other.
+-- The program: the rows of its table of answers for a file that was read whole, and what it shares with every other. Source: this library's own programs.
 use Rattle.std.specs.Prelude.{◌≡◌, ℕ, List, [], ◌∷◌, ◌++◌}
 use Rattle.std.specs.Io.KnownBytes.{Appends}
 use Rattle.bson_base.specs.Text.{Bytes, Utf8}
@@ -14,7 +14,7 @@ use Rattle.bson_infer_run.specs.NoWords.{no_words}
 use Rattle.bson_infer_run.specs.declared.status.InferStatus.{InferStatus}
 use Rattle.bson_infer_run.specs.declared.status.InferStatus.TheVariants as statuses
 
--- the status for what an inference comes to, and what is due to the output and to the output for lines
+-- the status for what an inference comes to, and what must be written to the output and to the output for lines
 abbrev pub inferring_status : Inferring → InferStatus
 inferring_status (broken place) = statuses.Broken
 inferring_status (faulty f) = statuses.DocumentRefused
@@ -32,7 +32,7 @@ lines_of (faulty f) = faulty_line f.number f.error
 lines_of (unsound n) = unsound_line n
 lines_of (found s) = []
 
--- What is due for what the inference from a whole file comes to.
+-- What must be written for what the inference from a whole file comes to.
 pub record Answers (r : Inferring) (status : InferStatus) (out lines : Bytes) : Type 0 where
   pub ended : status ≡ inferring_status r
   pub writes : out ≡ output_of r

@@ -1,4 +1,4 @@
--- The leaf of a value that has no inner values.
+-- The leaf of a value that has no inner values. Source: serde's data model.
 use Rattle.std.specs.Prelude.{◌≡◌}
 use Rattle.bson_base.specs.Tree.{Tree, document, array}
 use Rattle.bson_shape.specs.Form.{leaf}

@@ -1,4 +1,4 @@
--- What contracts see of a summary: the form of the values that were joined.
+-- What contracts see of a summary: the form of the values that were joined. Source: this library's own types.
 use Rattle.std.specs.Prelude.{◌≡◌, ℕ, zero, suc, ◌<◌, Bool, true, false, List, [], ◌∷◌, length}
 use Rattle.std.specs.Str.{bytes_eq}
 use Rattle.bson_base.specs.Text.{Utf8}

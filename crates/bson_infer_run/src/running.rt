@@ -35,7 +35,7 @@ const INPUT_ENDINGS: InputEndings<InferStatus> = InputEndings {
     too_long_line: "input too long\n",
 };
 
-// What is due for an input that was read to its end. An error means out of memory.
+// What must be written for an input that was read to its end. An error means out of memory.
 fn answer_to(alloc: Global, bytes: &[u8]) -> Result<Answer<InferStatus>, AllocError>
     ensures { IfOk result (Says (Answers (inferring_of bytes.now))) }
 {
@@ -64,7 +64,7 @@ fn answer_to(alloc: Global, bytes: &[u8]) -> Result<Answer<InferStatus>, AllocEr
     })
 }
 
-// What is due for these words on this input. An error means out of memory.
+// What must be written for these words on this input. An error means out of memory.
 fn prepare<I: Source>(
     alloc: Global,
     words: &[String],
@@ -92,7 +92,7 @@ fn prepare<I: Source>(
 /// - `Broken`: the input cannot be cut into documents, or has more than 2147483647 bytes.
 /// - `Usage`: there is a word. The input is not touched.
 /// - `SourceFault`: a call on the input failed. For these four a line tells why on `err`, and `out` is unchanged.
-/// - `SinkFault`: a call on `out` or `err` failed. Each got a first part of what was due.
+/// - `SinkFault`: a call on `out` or `err` failed. Each got a first part of what had to be written.
 /// - `NoMemory`: memory ran out. `out` and `err` are unchanged.
 pub fn run_infer<I: Source, O: Sink, E: Sink>(
     alloc: Global,

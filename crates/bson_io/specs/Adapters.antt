@@ -1,5 +1,5 @@
 -- What contracts see of the adapters over std's readers and writers: their count of faults, and the reader or writer
--- that they wrap.
+-- that they wrap. Source: this library's own types.
 use Rattle.std.specs.Prelude.{ℕ}
 use Rattle.bson_io.specs.declared.adapters.ReadAdapter.{ReadAdapter}
 use Rattle.bson_io.specs.declared.adapters.WriteAdapter.{WriteAdapter}

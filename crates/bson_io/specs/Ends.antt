@@ -1,5 +1,5 @@
 -- Sources and sinks: what they tell of their bytes, and what a failure shows.
--- What a source has left and what a sink has written are `Some` bytes where they are told, else `None`.
+-- What a source has left and what a sink has written are `Some` bytes where they are told, else `None`. Source: std's `Read` and `Write`.
 use Rattle.std.specs.Prelude.{◌≡◌, ℕ, ◌+◌, ◌-◌, ◌^◌, ◌<◌, ◌≤◌, min, List, length, take, Result, Ok, OnErr, ⊤, Some, None, MatchResult}
 use Rattle.std.specs.declared.option.Option.{Option}
 use Rattle.std.specs.Io.KnownBytes.{Appends, Consumes}
@@ -42,7 +42,7 @@ abbrev pub FitsIn : Option ℕ → List ℕ → Type 0
 FitsIn None bytes = ⊥
 FitsIn (Some r) bytes = length bytes ≤ r
 
--- Some first part of what was due was written, and nothing else.
+-- Some first part of what was to be written was written, and nothing else.
 pub record AppendsPrefix (old new : Option (List ℕ)) (due : List ℕ) : Type 0 where
   pub count : ℕ
   pub within : count ≤ length due

@@ -1,5 +1,5 @@
 -- Sources and sinks in memory: which of their calls fail, and how much the others move.
--- Calls are numbered from 1. A call with an empty buffer or piece has no number.
+-- Calls are numbered from 1. A call with an empty buffer or piece has no number. Source: std's `Read` and `Write`.
 use Rattle.std.specs.Prelude.{◌≡◌, ℕ, ◌+◌, ◌-◌, ◌<◌, min, max, List, ◌++◌, take, drop, Contains, slice_get, unwrap_or}
 use Rattle.bson_io.specs.Ends.{last_count}
 

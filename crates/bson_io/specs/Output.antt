@@ -1,4 +1,4 @@
--- What contracts see of an output buffer: its bytes, and how many more it takes without memory.
+-- What contracts see of an output buffer: its bytes, and how many more it takes without memory. Source: this library's own types.
 use Rattle.std.specs.Prelude.{ℕ, ◌+◌, ◌≤◌, ◌≡◌, List, ◌++◌, length, take, drop}
 
 -- the bytes so far, and how many more bytes can be appended without taking memory

@@ -1,4 +1,4 @@
--- What contracts see of a steady sink.
+-- What contracts see of a steady sink. Source: this library's own types.
 use Rattle.std.specs.Prelude.{ℕ, ◌-◌, List, length, take}
 use Rattle.bson_io.specs.declared.steady.SteadySink.{SteadySink}
 

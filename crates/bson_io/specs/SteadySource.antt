@@ -1,4 +1,4 @@
--- What contracts see of a steady source.
+-- What contracts see of a steady source. Source: this library's own types.
 use Rattle.std.specs.Prelude.{ℕ, List}
 use Rattle.bson_io.specs.declared.steady.SteadySource.{SteadySource}
 

@@ -1,4 +1,4 @@
-// A source read to its end, and all that is due written to a sink.
+// A source read to its end, and all that is to be written, written to a sink.
 ghost use Rattle.std.specs.Prelude.{◌≡◌, ◌≢◌, ◌+◌, ◌≤◌, ◌<◌, ℕ, length, IfOk, IsOk, OnOk};
 ghost use Rattle.std.specs.Io.KnownBytes.{Appends, Consumes, IsAtEnd};
 ghost use Rattle.bson_io.specs.Ends.{Rose, HasSinkCause, AppendsPrefix, FitsIn, Takes, TakesAtMost, TakesExactly};
@@ -72,7 +72,7 @@ pub fn read_to_end<I: Source>(alloc: Global, input: &mut I) -> Result<Vec<u8>, R
     }
 }
 
-/// Writes all that is due, in as many calls as it takes.
+/// Writes all that is to be written, in as many calls as it takes.
 ///
 /// # Errors
 ///

@@ -1,4 +1,4 @@
--- Values whose bytes are kept.
+-- Values whose bytes are kept. Source: serde's data model.
 use Rattle.std.specs.Prelude.{◌≡◌, ℕ, Ok}
 use Rattle.bson_base.specs.Text.{Bytes}
 use Rattle.bson_base.specs.Tree.{Tree, kind, enc}

@@ -1,4 +1,4 @@
--- Keys of documents and of arrays.
+-- Keys of documents and of arrays. Source: bsonspec.org, version 1.1, `e_list` and `e_name`.
 use Rattle.std.specs.Prelude.{◌≡◌, ◌∷◌, ◌++◌, true, false}
 use Rattle.std.specs.Str.{is_utf8}
 use Rattle.bson_base.specs.Text.{Bytes, has_zero}

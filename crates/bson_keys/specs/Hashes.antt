@@ -1,4 +1,4 @@
--- The hashes of keys. Nothing rests on them but that keys with different hashes are different.
+-- The hashes of keys. Nothing rests on them but that keys with different hashes are different. Source: std's `FoldHasher` and `DefaultHasher`.
 use Rattle.std.specs.Prelude.{ℕ}
 use Rattle.std.specs.Hash.DefaultHasher as siphash
 use Rattle.std.specs.Hash.FoldHasher as folding

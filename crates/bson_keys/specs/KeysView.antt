@@ -1,4 +1,4 @@
--- What contracts see of the keys of a map that is read.
+-- What contracts see of the keys of a map that is read. Source: this library's own types.
 use Rattle.std.specs.Prelude.{◌≡◌, ◌≤◌, ℕ, List, map, take, Option, Some, None, option_map, box_value}
 use Rattle.std.specs.Borrow.{Bor}
 use Rattle.std.specs.BTreeMap.{BTreeMap}

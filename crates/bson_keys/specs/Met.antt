@@ -1,4 +1,4 @@
--- The keys of a document that were met.
+-- The keys of a document that were met. Source: this library's own types.
 use Rattle.std.specs.Prelude.{◌≡◌, ◌≤◌, ◌⊎◌, List, [], length, map}
 use Rattle.std.specs.List.{IsDistinct}
 use Rattle.std.specs.Map.Iter.{deref}

@@ -1,4 +1,4 @@
--- Keys that are new.
+-- Keys that are new. Source: this library's own types.
 use Rattle.std.specs.Prelude.{List, [], ◌∷◌, Bool, true, false, if◌then◌else◌}
 use Rattle.std.specs.Str.{bytes_eq}
 use Rattle.bson_base.specs.Text.{Utf8}

@@ -468,7 +468,7 @@ module _ (a b : Change) (is_bare : Bool) (f : Follows a b is_bare) where
         rest.2,
       )
 
-  -- the value that is due, and those behind it
+  -- the value of the next element, and those behind it
   next_after : {A B : Type 0} (g : A → B) (i : ℕ) (read : Node → Reading Marked) (others : Marked → Nodes → Reading A) (ns : Nodes) (x : A) → EachAfter read
       → ((v w : Marked) (ms : Nodes) → contents w ≡ contents v → others v (nodes_before ms) ≡ Ok x → ReadAs g (others w (nodes_after ms)) (g x)) → reads_next i read others (nodes_before ns) ≡ Ok x → ReadAs g (reads_next i read others (nodes_after ns)) (g x)
   next_after g i read others ended x each rest e = absurd cc

@@ -256,7 +256,7 @@ module _ (sight : Sight) where
   given_leaf (value.raw_array b) l g = g
   given_leaf (value.mode v w) l g = g
 
-  -- what is given where texts are mended, at the form that is due of two, and at definitions, of whatever form the value is
+  -- what is given where texts are mended, at the form that applies of two, and at definitions, of whatever form the value is
   lossy_given : (v : Value) (s : Form) → IsGiven (marked sight) v s → IsGiven sight v (lossy s)
   lossy_given value.none s g = g
   lossy_given v s g = g
@@ -451,7 +451,7 @@ module _ (sight : Sight) where
   entries_given key s no_entries h = tt
   entries_given key s (entry k v es) h = (h.0, h.1, entries_given key s es h.2)
 
-  -- the value that is read for the element that is due, and what is read from those behind it
+  -- the value that is read for the next element, and what is read from those behind it
   next_read : {A : Type 0} (i : ℕ) (read : Node → Reading Marked) (others : Marked → Nodes → Reading A) (ns : Nodes) (x : A) → AreTame ns → reads_next i read others ns ≡ Ok x
       → (n : Node) × (v : Marked) × (rest : Nodes) × IsTame n × AreTame rest × (read n ≡ Ok v) × (others v rest ≡ Ok x)
   next_read i read others ended x t e = absurd cc

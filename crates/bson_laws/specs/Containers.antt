@@ -32,7 +32,7 @@ reads_items read i ended = Ok no_items
 reads_items read i (faulty e) = refused (raw e)
 reads_items read i (then_node key n ns) = under_index i (read n) >>= λ v. result_map (item v) (reads_items read (suc i) ns)
 
--- the value that is due at an index, and then what is read from the others; where none is left, a fault that ends the list comes before that there
+-- the value of the next element, at an index, and then what is read from the others; where none is left, a fault that ends the list comes before that there
 -- are too few
 abbrev pub reads_next : {A : Type 0} → ℕ → (Node → Reading Marked) → (Marked → Nodes → Reading A) → Nodes → Reading A
 reads_next i read others ended = refused (invalid_length i)

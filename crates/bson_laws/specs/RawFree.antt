@@ -1,4 +1,4 @@
--- The trees in which nothing is given by its bytes.
+-- The trees in which nothing is given by its bytes. Source: this library's own types.
 use Rattle.bson_base.specs.Tree.{Tree, document, array, javascript_code_with_scope, raw, Pairs, no_pairs, pair, Trees, no_trees, tree}
 
 abbrev mutual

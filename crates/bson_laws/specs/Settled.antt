@@ -2,12 +2,12 @@
 use Rattle.std.specs.Prelude.{Bool, true, if◌then◌else◌}
 use Rattle.bson_shape.specs.Form.{Form, leaf, optional, lossy, human_readable, by_mode, sequence, newtype, unit_structure, map, tuple, tuple_structure, structure, enumeration, reference, definitions, Fields, no_fields, field, Parts, no_parts, part, Content, unit_content, newtype_content, tuple_content, struct_content, Variants, no_variants, variant}
 
--- of two forms the one that is due, for each reader
+-- of two forms the one that applies, for each reader
 abbrev pub alike : Form → Form
 alike s = by_mode s s
 
 abbrev mutual
-  -- The form for a reader who is human, or for one who is not: where a value has two forms, each is the one that is due. Inside the readable form the
+  -- The form for a reader who is human, or for one who is not: where a value has two forms, each is the one that applies. Inside the readable form the
   -- reader is human. The key of a map is a text for each reader.
   pub settled : (readable : Bool) → Form → Form
   settled readable (leaf l) = leaf l

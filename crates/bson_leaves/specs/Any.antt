@@ -1,4 +1,4 @@
--- What contracts see of values without a shape.
+-- What contracts see of values without a shape. Source: serde's data model.
 use Rattle.std.specs.Prelude.{ℕ, zero, Bool, true, false}
 use Rattle.bson_base.specs.Outcome.{◌>>=◌}
 use Rattle.bson_rawdoc.specs.Node.{Node, inner_node, value_node}

@@ -1,4 +1,4 @@
--- What contracts see of the entries of a map that is read.
+-- What contracts see of the entries of a map that is read. Source: this library's own types.
 use Rattle.std.specs.Prelude.{◌≡◌, ℕ, suc, List, true, if◌then◌else◌, length, Option, Some, None, Ok, option_map}
 use Rattle.std.specs.Str.{IsUtf8}
 use Rattle.bson_base.specs.Text.{Utf8}

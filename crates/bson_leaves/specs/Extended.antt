@@ -1,4 +1,4 @@
--- The extended leaves: those whose values serde's data model lacks.
+-- The extended leaves: those whose values serde's data model lacks. Source: the extended types of MongoDB's crate bson, version 2.
 use Rattle.std.specs.Prelude.{Bool, true, false}
 use Rattle.bson_shape.specs.declared.leaf.Leaf.{Leaf}
 use Rattle.bson_shape.specs.declared.leaf.Leaf.TheVariants.{ObjectId, DateTime, Binary, Timestamp, Regex, CodeWithScope, Decimal128, DbPointer, Uuid, Bson, Document, RawDocument, RawArray, RawBson}

@@ -1,4 +1,4 @@
--- The keys that texts are.
+-- The keys that texts are. Source: serde's data model.
 use Rattle.bson_base.specs.Text.{Utf8}
 use Rattle.bson_base.specs.Outcome.{result_map}
 use Rattle.bson_rawdoc.specs.Piece.{borrowed}

@@ -1,4 +1,4 @@
--- What contracts see of the variant that has a name.
+-- What contracts see of the variant that has a name. Source: serde's data model.
 use Rattle.std.specs.Prelude.{List, [], ◌∷◌, if◌then◌else◌, Ok, string_bytes}
 use Rattle.std.specs.Str.{bytes_eq}
 use Rattle.bson_base.specs.Text.{Utf8}

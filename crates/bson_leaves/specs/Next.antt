@@ -1,4 +1,4 @@
--- A step over the elements of a document or an array of the input.
+-- A step over the elements of a document or an array of the input. Source: bsonspec.org, version 1.1, `e_list`.
 use Rattle.std.specs.Prelude.{◌≡◌, Option, Some, None, Result, Ok, Err}
 use Rattle.bson_rawdoc.specs.Walk.{Element, Walk, ended, faulty, then_walk}
 use Rattle.bson_rawdoc.specs.declared.raw.Error.{Error}

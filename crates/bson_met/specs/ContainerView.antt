@@ -1,4 +1,4 @@
--- What contracts see of a document and of an array that are met, before their elements are looked at.
+-- What contracts see of a document and of an array that are met, before their elements are looked at. Source: this library's own types.
 use Rattle.std.specs.Prelude.{ℕ, Bool, true, false}
 use Rattle.bson_base.specs.BsonView.{pairs_of, trees_of}
 use Rattle.bson_base.specs.Tree as trees

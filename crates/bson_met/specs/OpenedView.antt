@@ -1,4 +1,5 @@
 -- What contracts see of values of kinds that serde's data model lacks, and of what is left of the documents that they are opened to.
+-- Source: MongoDB's extended JSON, version 2.
 use Rattle.std.specs.Prelude.{ℕ, pos, true, false, codes, [], ◌∷◌}
 use Rattle.bson_base.specs.BsonView.{pairs_of}
 use Rattle.bson_base.specs.Instant.{millis}

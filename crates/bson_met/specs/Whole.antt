@@ -1,4 +1,4 @@
--- The texts of a tree itself are texts.
+-- The texts of a tree itself are texts. Source: bsonspec.org, version 1.1, `string`.
 use Rattle.std.specs.Prelude.{◌≡◌, true}
 use Rattle.std.specs.Str.{is_utf8}
 use Rattle.bson_base.specs.Tree.{Tree, string, regular_expression, db_pointer, javascript_code, symbol, javascript_code_with_scope, raw}

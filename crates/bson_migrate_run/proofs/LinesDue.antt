@@ -43,7 +43,7 @@ line_by n (unwritten due long) NoMemory h some = absurd (some refl)
 line_is : (d : NotRecast) (x : Refused) → IsListed d x → IsLine d.number d.recast (refused_text x ++ newline)
 line_is d x h = subst (λ n. IsLine d.number d.recast (of_document n (recast_error_text x.error) ++ newline)) (sym h.number) (line_by d.number d.recast x.error h.refusal h.cause)
 
--- the lines of the refused documents are those that are due
+-- the lines of the refused documents are those that must be written
 lines_are : (ds : List NotRecast) (xs : List Refused) → AreListed ds xs → AreLines ds (refused_lines xs)
 lines_are [] [] h = refl
 lines_are [] (x ∷ xs) h = absurd h

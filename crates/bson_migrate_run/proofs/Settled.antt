@@ -1,4 +1,4 @@
--- What is due for a file settles the status.
+-- What must be written for a file settles the status.
 use Rattle.std.proofs.Common.{◌≡◌, ap, sym}
 use Rattle.bson_base.specs.Text.{Bytes}
 use Rattle.bson_program.proofs.Answered.{Settles}

@@ -18,7 +18,7 @@ use Rattle.bson_migrate_run.specs.Migrating.{NotRecast, migrated, migration_of}
 use Rattle.bson_migrate_run.specs.Rows.{AnswersMigration, migrate_input, migrate_program, WritesMigrated}
 use Rattle.bson_migrate_run.proofs.Settled.{status_is}
 
--- what is due where the migration comes to these bytes and these documents
+-- what must be written where the migration comes to these bytes and these documents
 migrated_due : (output : Bytes) (refused : List NotRecast) (status : MigrateStatus) (bytes lines : Bytes) → AnswersMigration (migrated output refused) status bytes lines → (bytes ≡ output) × AreLines refused lines
 migrated_due output refused statuses.Done bytes lines h =
     let none : [] ≡ refused = (let e = h.answer in cc) in

@@ -1,4 +1,4 @@
--- The lines that are printed.
+-- The lines that are printed. Source: this library's own programs.
 use Rattle.std.specs.Prelude.{◌≡◌, ℕ, List, [], ◌∷◌, ◌++◌, false, codes}
 use Rattle.std.specs.Fmt.{decimal}
 use Rattle.bson_base.specs.Text.{Utf8}

@@ -1,4 +1,4 @@
--- The number that the program ends with.
+-- The number that the program ends with. Source: this library's own programs.
 use Rattle.std.specs.Prelude.{ℕ}
 use Rattle.bson_migrate_run.specs.declared.status.MigrateStatus.{MigrateStatus}
 use Rattle.bson_migrate_run.specs.declared.status.MigrateStatus.TheVariants.{Done, SomeRefused, Broken, Usage, SourceFault, SinkFault, NoMemory}

@@ -1,4 +1,4 @@
--- The program: the rows of its table of answers for a file that was read whole, and what it shares with every other.
+-- The program: the rows of its table of answers for a file that was read whole, and what it shares with every other. Source: this library's own programs.
 use Rattle.std.specs.Prelude.{◌≡◌, ℕ, List, [], ◌∷◌}
 use Rattle.std.specs.Io.KnownBytes.{Appends}
 use Rattle.bson_base.specs.Text.{Bytes, Utf8}
@@ -32,7 +32,7 @@ pub record BrokenRow (migration : Migrating) (out line : Bytes) : Type 0 where
   pub says : line ≡ broken_line place
   pub nothing : out ≡ []
 
--- what is due for what the migration of a whole file comes to
+-- what must be written for what the migration of a whole file comes to
 abbrev pub AnswersMigration : Migrating → Due MigrateStatus
 AnswersMigration migration statuses.Done out lines = DoneRow migration out lines
 AnswersMigration migration statuses.SomeRefused out lines = SomeRefusedRow migration out lines

@@ -1,4 +1,4 @@
--- A migration under way: what the proof of its loop needs, and no definition.
+-- A migration under way: what the proof of its loop needs, and no definition. Source: this library's own programs.
 use Rattle.std.specs.Prelude.{◌≡◌, ◌+◌, ℕ, List, [], ◌++◌, length}
 use Rattle.bson_base.specs.Text.{Bytes}
 use Rattle.bson_rawdoc.specs.Cut.{Cut, cut}

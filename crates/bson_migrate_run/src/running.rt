@@ -72,7 +72,7 @@ fn status_of(refused: &[Refused]) -> MigrateStatus
     }
 }
 
-// What is due for an input that was read to its end. An error means out of memory.
+// What must be written for an input that was read to its end. An error means out of memory.
 fn answer_to(
     alloc: Global,
     shape: &Shape,
@@ -96,7 +96,7 @@ fn answer_to(
     })
 }
 
-// What is due for these words on this input. An error means out of memory.
+// What must be written for these words on this input. An error means out of memory.
 fn prepare<I: Source>(
     alloc: Global,
     words: &[String],
@@ -115,7 +115,7 @@ fn prepare<I: Source>(
     }
 }
 
-/// Judges the words, reads the input to its end, recasts its documents one by one, and writes what is due.
+/// Judges the words, reads the input to its end, recasts its documents one by one, and writes the answer.
 ///
 /// The words ask for a migration where they are exactly one word, which is the notation of a shape. All memory is taken before the first write, and `out` is written before `err`. The status says how it ended:
 ///
@@ -124,7 +124,7 @@ fn prepare<I: Source>(
 /// - `Broken`: the input cannot be cut into documents, or has more than 2147483647 bytes.
 /// - `Usage`: the words ask for no migration. The input is not touched.
 /// - `SourceFault`: a call on the input failed. For these three a line tells why on `err`, and `out` is unchanged.
-/// - `SinkFault`: a call on `out` or `err` failed. Each got a first part of what was due.
+/// - `SinkFault`: a call on `out` or `err` failed. Each got a first part of what had to be written.
 /// - `NoMemory`: memory ran out. `out` and `err` are unchanged.
 pub fn run_migrate<I: Source, O: Sink, E: Sink>(
     alloc: Global,

@@ -112,7 +112,7 @@ module _ (reader : Reader) (u : UnknownFields) (fs : List FieldShape) (levels : 
       ∙ sym (map-append name_of (take place fs) (drop place fs))
       ∙ ap (map name_of) (take-append-drop place fs)
 
-  -- the element of the field that is due
+  -- the element of the next field
   pub due_step : (old_walk new_walk : Walk) (e : Element) (f : FieldShape) (new : Bytes) → AreUnderWay reader u fs levels whole (nodes_with (node_in levels) old_walk) place old made → old_walk ≡ then_walk e new_walk → place < length fs
       → f ≡ get_or fs place f → bytes_eq (name_of f) e.key ≡ true → AreDistinct (fields_of fs) → has_zero (name_of f) ≡ false → IsElementPut (recast_for reader f.shape levels (node_in levels e.kind e.value)) (name_of f) made new
       → AreUnderWay reader u fs levels whole (nodes_with (node_in levels) new_walk) (place + 1) old new

@@ -24,7 +24,7 @@ use Rattle.bson_one_pass.proofs.Places.{AreUnderWay, due_step, same_name}
 use Rattle.bson_one_pass.proofs.Runs.{walk_next, next_kept}
 use Rattle.bson_one_pass.proofs.Tuples.{part_at_put}
 
--- the element of the field that is due
+-- the element of the next field
 pub next_due : (reader : Reader) (u : UnknownFields) (fs : List FieldShape) (levels : ℕ) (whole : Option Pairs) (place at n : ℕ) (bytes : Bytes) (e : Element) (f : FieldShape) (old made new : Bytes)
     → AreUnderWay reader u fs levels whole (nodes_with (node_in levels) (walk_elements (drop at bytes))) place old made → IsHead (drop at bytes) e → n ≡ size e → place < length fs → f ≡ get_or fs place f → bytes_eq (name_of f) e.key ≡ true
     → AreDistinct (fields_of fs) → IsElementPut (recast_for reader f.shape levels (node_in levels e.kind e.value)) e.key made new → AreUnderWay reader u fs levels whole (nodes_with (node_in levels) (walk_elements (drop (at + n) bytes))) (place + 1) old new
@@ -41,7 +41,7 @@ next_field_kept reader u fs levels whole place at n bytes e f before head is lt 
     let put = subst (λ m. IsElementPut (recast_for reader f.shape levels (node_in levels e.kind e.value)) e.key (run bytes 0 at) (run bytes 0 (at + m))) (sym is) (next_kept (laid reader f.shape) levels bytes 0 at e [] (omega arith) head kept) in
     next_due reader u fs levels whole place at n bytes e f [] (run bytes 0 at) (run bytes 0 (at + n)) before head is lt got same distinct put
 
--- the element of an array that is due
+-- the next element of an array
 pub next_item : (s : Form) (levels i j : ℕ) (whole : Option Trees) (at n : ℕ) (bytes : Bytes) (e : Element) (key : Utf8) (old made new : Bytes) → AreLeft whole (recast_items s levels i (nodes_with (node_in levels) (walk_elements (drop at bytes)))) i old made
     → IsHead (drop at bytes) e → n ≡ size e → key ≡ decimal i → j ≡ suc i → IsElementPut (recast_node s levels (node_in levels e.kind e.value)) key made new
     → AreLeft whole (recast_items s levels j (nodes_with (node_in levels) (walk_elements (drop (at + n) bytes)))) j old new
@@ -57,7 +57,7 @@ next_item_kept s levels i j whole at n bytes e before head is index next kept =
     let put = subst (λ m. IsElementPut (recast_node s levels (node_in levels e.kind e.value)) e.key (run bytes 0 at) (run bytes 0 (at + m))) (sym is) (next_kept s levels bytes 0 at e [] (omega arith) head kept) in
     next_item s levels i j whole at n bytes e e.key [] (run bytes 0 at) (run bytes 0 (at + n)) before head is index next put
 
--- the part of a tuple that is due
+-- the next part of a tuple
 pub next_part : (reader : Reader) (ss : List Form) (s : Form) (levels i : ℕ) (whole : Option Trees) (at n : ℕ) (bytes : Bytes) (e : Element) (key : Utf8) (old made new : Bytes) → i < length ss → s ≡ get_or ss i s
     → AreLeft whole (recast_parts (laid_parts reader (parts_of (drop i ss))) levels i (nodes_with (node_in levels) (walk_elements (drop at bytes)))) i old made → IsHead (drop at bytes) e → n ≡ size e → key ≡ decimal i
     → IsElementPut (recast_for reader s levels (node_in levels e.kind e.value)) key made new → AreLeft whole (recast_parts (laid_parts reader (parts_of (drop (i + 1) ss))) levels (i + 1) (nodes_with (node_in levels) (walk_elements (drop (at + n) bytes)))) (i + 1) old new

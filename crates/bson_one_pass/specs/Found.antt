@@ -1,4 +1,5 @@
 -- The fields of a struct whose elements come in any order: what is found of them, and what is written. It is for the contracts of the parts of the pass.
+-- Source: this library's own readers and writers.
 use Rattle.std.specs.Prelude.{◌≡◌, ℕ, zero, suc, ◌++◌, List, [], ◌∷◌, map, Option, Some, None, Ok, true, false, string_bytes}
 use Rattle.std.specs.Str.{bytes_eq}
 use Rattle.bson_base.specs.Text.{Bytes, Utf8, has_zero}

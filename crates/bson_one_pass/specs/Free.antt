@@ -1,4 +1,5 @@
 -- A key that no field has, values that are dropped, a text that names a unit variant, and leaves at the keys of maps: for the contracts of the parts of the pass.
+-- Source: this library's own readers and writers.
 use Rattle.std.specs.Prelude.{◌≡◌, ℕ, Ok, List, [], ◌∷◌, Bool, false, true, if◌then◌else◌, string_bytes}
 use Rattle.std.specs.Str.{bytes_eq}
 use Rattle.bson_base.specs.Text.{Utf8}

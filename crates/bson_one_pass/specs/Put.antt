@@ -1,5 +1,5 @@
 -- What the parts of the pass append: the tree of a node, and the elements of a document or an array. It is for the contracts of these parts; what the pass
--- promises is in `Recast`. The forms are unrolled ones, but for a reader.
+-- promises is in `Recast`. The forms are unrolled ones, but for a reader. Source: this library's own readers and writers.
 use Rattle.std.specs.Prelude.{◌≡◌, ℕ, suc, [], ◌++◌, Option, Some, None, Ok, Err}
 use Rattle.bson_base.specs.Outcome.{◌>>=◌}
 use Rattle.bson_base.specs.Text.{Bytes, Utf8}

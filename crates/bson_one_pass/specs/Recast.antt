@@ -1,4 +1,4 @@
--- What the pass promises: the bytes that it makes are those of the value that the document is read as.
+-- What the pass promises: the bytes that it makes are those of the value that the document is read as. Source: this library's own readers and writers.
 use Rattle.std.specs.Prelude.{◌≡◌, ◌≤◌, length, Ok}
 use Rattle.bson_base.specs.Sound.{max_bytes}
 use Rattle.bson_base.specs.Text.{Bytes}

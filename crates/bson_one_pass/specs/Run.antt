@@ -1,4 +1,5 @@
 -- Elements in bytes one behind another, runs of them, and values that are written as they were read. It is for the contracts of the parts of the pass.
+-- Source: this library's own readers and writers.
 use Rattle.std.specs.Prelude.{◌≡◌, ℕ, ◌+◌, ◌-◌, ◌<◌, ◌≤◌, List, [], length, get_or, take, drop, false, string_bytes}
 use Rattle.bson_base.specs.Sound.{HasBytes}
 use Rattle.bson_base.specs.Text.{Bytes, Utf8, has_zero}

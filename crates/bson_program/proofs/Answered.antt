@@ -1,4 +1,4 @@
--- A run that finishes with what is due meets the table of answers.
+-- A run that finishes with its answer meets the table of answers.
 use Rattle.std.proofs.Common.{◌≡◌, ◌≤◌, ◌<◌, length, List, Option, Some, None, Result, Ok, Err, refl, ap, sym, subst, ◌∙◌, inl, inr, arith, string_bytes}
 use Rattle.std.specs.Prelude.{◌⊎◌, ℕ, IfSome, IfOk}
 use Rattle.std.specs.declared.alloc.AllocError.{AllocError}
@@ -13,7 +13,7 @@ use Rattle.bson_program.specs.Program.{Program, IsDue, requested_status, status_
 use Rattle.bson_program.specs.Run.{Run, Due, AllQuiet, AreKept, AreCut, Told, CutShort}
 use Rattle.bson_program.specs.declared.answer.Answer.{Answer}
 
--- What is due for a job settles the status, where the input tells its bytes and did not fail.
+-- What must be written for a job settles the status, where the input tells its bytes and did not fail.
 pub record Settles {Job Status : Type 0} (p : Program Job Status) : Type 0 where
   pub settles : (job : Job) (input : SourceChange) (doc : Bytes) → input.before ≡ Some doc → input.faults_after ≡ input.faults_before → (status : Status) (out lines : Bytes)
       → p.Answers job input status out lines → status ≡ p.status job doc
@@ -32,7 +32,7 @@ abbrev IsEnded : {Job Status : Type 0} → Program Job Status → Run Status →
 IsEnded p r = Told (IsDue p r.words r.input) r ⊎ ((r.status ≡ p.endings.sink_fault) × CutShort (IsDue p r.words r.input) r) ⊎ ((r.status ≡ p.endings.no_memory) × AreKept r.out r.err)
 
 module _ {Job Status : Type 0} (p : Program Job Status) (settled : Settles p) where
-  -- the status with which something is due is the one that is due
+  -- the status with which something must be written is the one that must be returned
   due_status : (words : List Utf8) (input : SourceChange) (doc : Bytes) → input.before ≡ Some doc → input.faults_after ≡ input.faults_before → (status : Status) (out lines : Bytes)
       → IsDue p words input status out lines → status ≡ status_due p words doc
   due_status words input doc told quiet status out lines (inl h) = settled.settles h.job input doc told quiet status out lines h.answer ∙ sym (ap (λ r. requested_status p r doc) h.asked.is)
@@ -62,7 +62,7 @@ module _ {Job Status : Type 0} (p : Program Job Status) (settled : Settles p) wh
 same_job : {Job : Type 0} (q : Result Job Utf8) (j k : Job) → q ≡ Ok k → q ≡ Ok j → j ≡ k
 same_job q j k a b = cc
 
--- Where nothing outside failed, what is due for the job was told, or memory ran out.
+-- Where nothing outside failed, what must be written for the job was told, or memory ran out.
 module _ {Job Status : Type 0} (p : Program Job Status) (r : Run Status) (job : Job) (quiet : AllQuiet r) (asked : p.command.request r.words ≡ Ok job) where
   job_told : Told (IsDue p r.words r.input) r → Told (p.Answers job r.input) r
   job_told h = record { bytes = h.bytes; lines = h.lines; due = by_due h.due; written = h.written } where

@@ -26,20 +26,20 @@ long (Some xs) (Some ys) told count h taken =
     omega (arith, taken.all, length-append taken.bytes ys, ap length taken.taken, ap length same)
 
 module _ {Status : Type 0} (ends : InputEnds Status) (Answers : Bytes → Due Status) (input : SourceChange) (doc : Bytes) (told : input.before ≡ Some doc) where
-  -- what is due for a whole input is due for the bytes that it told
+  -- what must be written for a whole input must be written for the bytes that it told
   pub of_told : (status : Status) (out lines : Bytes) → WholeRow Answers input status out lines → (length doc ≤ max_bytes) × Answers doc status out lines
   of_told status out lines h =
       let is : h.bytes ≡ doc = whole input.before input.after h.bytes doc h.read.taken h.read.ended told in
       (omega (arith, h.read.most, ap length is), subst (λ b. Answers b status out lines) is h.answer)
 
   module _ (quiet : input.faults_after ≡ input.faults_before) where
-    -- what is due for an input that did not fail and is not too long is due for the bytes that it told
+    -- what must be written for an input that did not fail and is not too long must be written for the bytes that it told
     pub read_whole : length doc ≤ max_bytes → (status : Status) (out lines : Bytes) → OnInput ends Answers input status out lines → Answers doc status out lines
     read_whole most status out lines (inl h) = (of_told status out lines h).1
     read_whole most status out lines (inr (inl h)) = absurd (omega (arith, most, long input.before input.after doc (max_bytes + 1) told h.taken))
     read_whole most status out lines (inr (inr h)) = absurd (omega (arith, h.rose, quiet))
 
-    -- what is due for an input that did not fail settles the status
+    -- what must be written for an input that did not fail settles the status
     pub input_settles : (of_whole : Bytes → Status) → ((bytes : Bytes) (status : Status) (out lines : Bytes) → Answers bytes status out lines → status ≡ of_whole bytes)
         → (status : Status) (out lines : Bytes) → OnInput ends Answers input status out lines → status ≡ input_status ends of_whole doc
     input_settles of_whole settles status out lines (inl h) =

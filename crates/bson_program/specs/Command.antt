@@ -1,4 +1,4 @@
--- What the words of a command line ask for.
+-- What the words of a command line ask for. Source: this library's own programs.
 use Rattle.std.specs.Prelude.{◌≡◌, List, Result, Ok, Err, string_bytes, String}
 use Rattle.std.specs.declared.alloc.Global.{Global}
 use Rattle.bson_base.specs.Text.{Utf8}

@@ -1,4 +1,4 @@
--- A source and a sink before and after a call.
+-- A source and a sink before and after a call. Source: std's `Read` and `Write`.
 use Rattle.std.specs.Prelude.{ℕ}
 use Rattle.std.specs.declared.option.Option.{Option}
 use Rattle.std.specs.Io.KnownBytes.{Consumes, IsAtEnd}

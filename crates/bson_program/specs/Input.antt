@@ -1,4 +1,4 @@
--- What is due for an input, of a program that reads one to its end.
+-- What must be written for an input, of a program that reads one to its end. Source: this library's own programs.
 use Rattle.std.specs.Prelude.{◌≡◌, ◌+◌, ◌⊎◌, nat_lt, if◌then◌else◌, [], length, codes}
 use Rattle.bson_base.specs.Sound.{max_bytes}
 use Rattle.bson_base.specs.Text.{Bytes, Utf8}
@@ -19,7 +19,7 @@ input_ends e = record { source_fault = e.source_fault; too_long = e.too_long; to
 abbrev pub source_fault_line : Utf8
 source_fault_line = codes "source fault\n"
 
--- These bytes were the whole input, and this is due for them.
+-- These bytes were the whole input, and this must be written for them.
 pub record WholeRow {Status : Type 0} (Answers : Bytes → Due Status) (input : SourceChange) (status : Status) (out lines : Bytes) : Type 0 where
   pub bytes : Bytes
   pub read : ReadAs input bytes
@@ -44,7 +44,7 @@ pub record SourceFaultRow {Status : Type 0} (ends : InputEnds Status) (input : S
 abbrev pub IsUnread : {Status : Type 0} → InputEnds Status → SourceChange → Due Status
 IsUnread ends input status out line = TooLongRow ends input status out line ⊎ SourceFaultRow ends input status out line
 
--- what is due for an input, by what is due for the bytes of a whole one
+-- what must be written for an input, by what must be written for the bytes of a whole one
 abbrev pub OnInput : {Status : Type 0} → InputEnds Status → (Answers : Bytes → Due Status) → SourceChange → Due Status
 OnInput ends Answers input status out lines = WholeRow Answers input status out lines ⊎ IsUnread ends input status out lines
 

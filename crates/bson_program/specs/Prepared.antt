@@ -1,4 +1,4 @@
--- What a run has in hand before it writes, and what becomes of it.
+-- What a run has in hand before it writes, and what becomes of it. Source: this library's own programs.
 use Rattle.std.specs.Prelude.{◌≡◌, ◌⊎◌, ℕ, Result, Ok, Err, string_bytes}
 use Rattle.std.specs.Global.{Vec}
 use Rattle.std.specs.declared.alloc.AllocError.{AllocError}
@@ -8,7 +8,7 @@ use Rattle.bson_program.specs.Run.{Due, AreKept, AreWritten, AreCut}
 use Rattle.bson_program.specs.declared.answer.Answer.{Answer}
 use Rattle.bson_program.specs.declared.endings.Endings.{Endings}
 
--- the answer is what is due
+-- the answer is what must be written
 abbrev pub Says : {Status : Type 0} → Due Status → Answer Status → Type 0
 Says IsDue a = IsDue a.status a.bytes.items (string_bytes a.lines)
 

@@ -1,4 +1,5 @@
--- A program of a command line: what is due for its words and its input, and the table of answers that each run meets.
+-- A program of a command line: what must be written for its words and its input, and the table of answers that each run meets.
+-- Source: this library's own programs.
 use Rattle.std.specs.Prelude.{◌≡◌, ◌≤◌, ◌⊎◌, List, [], Result, Ok, Err, IfSome}
 use Rattle.std.specs.Io.KnownBytes.{Keeps}
 use Rattle.bson_base.specs.Text.{Bytes, Utf8}
@@ -11,16 +12,16 @@ use Rattle.bson_program.specs.declared.endings.Endings.{Endings}
 pub record Program (Job Status : Type 0) : Type 1 where
   -- the job that its words ask for
   pub command : Command Job
-  -- what is due for a job on an input
+  -- what must be written for a job on an input
   pub Answers : Job → SourceChange → Due Status
   -- the status for a job on an input of these bytes
   pub status : Job → Bytes → Status
   -- the status for words that ask for no job
   pub usage : Status
-  -- how it ends where what is due is not written
+  -- how it ends where the answer is not written
   pub endings : Endings Status
 
--- The words ask for a job, and this is due for it.
+-- The words ask for a job, and this must be written for it.
 pub record JobRow {Job Status : Type 0} (p : Program Job Status) (words : List Utf8) (input : SourceChange) (status : Status) (out lines : Bytes) : Type 0 where
   pub job : Job
   pub asked : IsAskedFor p.command words job
@@ -33,7 +34,7 @@ pub record UsageRow {Job Status : Type 0} (p : Program Job Status) (words : List
   pub unread : Keeps input.before input.after
   pub nothing : out ≡ []
 
--- what is due for these words on this input
+-- what must be written for these words on this input
 abbrev pub IsDue : {Job Status : Type 0} → Program Job Status → List Utf8 → SourceChange → Due Status
 IsDue p words input status out lines = JobRow p words input status out lines ⊎ UsageRow p words input status out lines
 
@@ -42,17 +43,17 @@ abbrev pub requested_status : {Job Status : Type 0} → Program Job Status → R
 requested_status p (Ok job) bytes = p.status job bytes
 requested_status p (Err line) bytes = p.usage
 
--- the status that is due for these words on an input of these bytes
+-- the status that must be returned for these words on an input of these bytes
 abbrev pub status_due : {Job Status : Type 0} → Program Job Status → List Utf8 → Bytes → Status
 status_due p words bytes = requested_status p (p.command.request words) bytes
 
 -- The table of answers.
 pub record IsAnswered {Job Status : Type 0} (p : Program Job Status) (r : Run Status) : Type 0 where
-  -- each status comes only with exactly what is due with it on the two sinks; but a sink failed, or memory ran out and nothing was written
+  -- each status comes only with exactly what must be written with it on the two sinks; but a sink failed, or memory ran out and nothing was written
   pub ended : Told (IsDue p r.words r.input) r
       ⊎ ((r.status ≡ p.endings.sink_fault) × CutShort (IsDue p r.words r.input) r)
       ⊎ ((r.status ≡ p.endings.no_memory) × AreKept r.out r.err)
-  -- where the input tells its bytes, no count rose and no sink's count is at its last value, the status is the one that is due, or out of memory
+  -- where the input tells its bytes, no count rose and no sink's count is at its last value, the status is the one that must be returned, or out of memory
   pub complete : AllQuiet r → IfSome r.input.before (λ bytes. (r.status ≡ status_due p r.words bytes) ⊎ (r.status ≡ p.endings.no_memory))
   -- no count falls
   pub input_later : r.input.faults_before ≤ r.input.faults_after

@@ -1,4 +1,4 @@
--- A run of a program: what it was given, what became of its ends, and how it ended.
+-- A run of a program: what it was given, what became of its ends, and how it ended. Source: this library's own programs.
 use Rattle.std.specs.Prelude.{◌≡◌, ◌<◌, ◌⊎◌, List}
 use Rattle.std.specs.Io.KnownBytes.{Keeps, Appends}
 use Rattle.bson_base.specs.Text.{Bytes, Utf8}
@@ -24,7 +24,7 @@ pub record AllQuiet {Status : Type 0} (r : Run Status) : Type 0 where
   pub err : r.err.faults_after ≡ r.err.faults_before
   pub err_below : r.err.faults_after < last_count
 
--- what is due with a status: these bytes to the output, and these lines to the output for lines
+-- what must be written with a status: these bytes to the output, and these lines to the output for lines
 abbrev pub Due : Type 0 → Type 1
 Due Status = Status → (out lines : Bytes) → Type 0
 
@@ -38,7 +38,7 @@ pub record AreWritten (bytes lines : Bytes) (out err : SinkChange) : Type 0 wher
   pub out_grew : Appends out.before out.after bytes
   pub err_grew : Appends err.before err.after lines
 
--- A sink's count rose or is at its last value; each sink grew by a first part of what was due; and there was not room for all of it that a sink told of.
+-- A sink's count rose or is at its last value; each sink grew by a first part of what had to be written; and there was not room for all of it that a sink told of.
 pub record AreCut (bytes lines : Bytes) (out err : SinkChange) : Type 0 where
   pub cause : RoseOrLast out.faults_before out.faults_after ⊎ RoseOrLast err.faults_before err.faults_after
   pub out_grew : AppendsPrefix out.before out.after bytes
@@ -47,14 +47,14 @@ pub record AreCut (bytes lines : Bytes) (out err : SinkChange) : Type 0 where
   pub in_order : Appends out.before out.after bytes ⊎ Keeps err.before err.after
   pub no_room : FitsIn out.room bytes → FitsIn err.room lines → ⊥
 
--- What was due with the status was written.
+-- What had to be written with the status was written.
 pub record Told {Status : Type 0} (IsDue : Due Status) (r : Run Status) : Type 0 where
   pub bytes : Bytes
   pub lines : Bytes
   pub due : IsDue r.status bytes lines
   pub written : AreWritten bytes lines r.out r.err
 
--- What was due with some status was cut short.
+-- What had to be written with some status was cut short.
 pub record CutShort {Status : Type 0} (IsDue : Due Status) (r : Run Status) : Type 0 where
   pub status : Status
   pub bytes : Bytes

@@ -1,4 +1,4 @@
--- A word of a command line as the notation of a shape, and the line that refuses one that is none.
+-- A word of a command line as the notation of a shape, and the line that refuses one that is none. Source: this library's own programs.
 use Rattle.std.specs.Prelude.{◌≡◌, ◌⊎◌, ℕ, [], ◌∷◌, ◌++◌, codes, Option, Some, None, Result, Ok, Err, string_bytes, String}
 use Rattle.std.specs.Fmt.{decimal}
 use Rattle.std.specs.declared.alloc.Global.{Global}

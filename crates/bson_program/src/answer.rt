@@ -2,14 +2,14 @@ ghost use Rattle.std.specs.Prelude.{◌≡◌, [], string_bytes};
 
 use std::alloc::Global;
 
-/// A status, with what is due to the two sinks.
+/// A status, with what must be written to the two sinks.
 #[derive(Drop)]
 pub struct Answer<S> {
     /// How the program ends once all is written.
     pub status: S,
-    /// The bytes that are due to the output.
+    /// The bytes that must be written to the output.
     pub bytes: Vec<u8>,
-    /// The lines that are due to the output for lines.
+    /// The lines that must be written to the output for lines.
     pub lines: String,
 }
 

@@ -1,6 +1,6 @@
 // How a program ends where it has no answer of its own.
 
-/// The statuses of each program where what is due is not written.
+/// The statuses of each program where the answer is not written.
 #[derive(Clone, Copy)]
 pub struct Endings<S> {
     /// A call on one of the sinks failed.

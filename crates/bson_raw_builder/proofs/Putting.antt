@@ -1,4 +1,4 @@
--- What was appended so far, and what is due: elements, documents and arrays, codes with scopes.
+-- What was appended so far, and what the definition gives: elements, documents and arrays, codes with scopes.
 use Rattle.std.proofs.Common.{◌≡◌, ℕ, zero, suc, ◌+◌, ◌-◌, ◌<◌, ◌≤◌, List, get_or, [], ◌∷◌, ◌++◌, length, take, drop, true, false, cond, Option, Some, None, Ok, Err, refl, ap, sym, subst, ◌∙◌, append_assoc, true≢false, arith}
 use Rattle.std.specs.Prelude.{is_some}
 use Rattle.std.specs.Fmt.{decimal}
@@ -21,7 +21,7 @@ use Rattle.bson_raw_builder.specs.Putting.{RefusesFor, with_value, looked_kind, 
 
 -- ---- refusals
 
--- a failure for the cause that is due
+-- a failure for the cause of the definition
 pub refused_for : {A : Type 0} (f : Failure ReadFault) (c : Cause) (due : Building A) → f ≡ bare (unreadable c) → due ≡ Err c → RefusesFor f due
 refused_for f c due is e = subst (λ g. RefusesFor g due) (sym is) e
 
@@ -111,7 +111,7 @@ zero_refused old key due z = ap (λ b. result_map (λ t. old ++ element (kind t)
 
 -- ---- the elements of a document and of an array
 
--- one more element was appended: what is due of the others is due behind it
+-- one more element was appended: what the definition gives for the others comes behind it
 pub pairs_more : (out more key : Bytes) (value : Building Tree) (others : Building Pairs) → result_map (λ t. out ++ element (kind t) key (enc t)) (under_key key value) ≡ Ok more
     → result_map (λ ps. out ++ elements ps) (with_pair key value others) ≡ result_map (λ ps. more ++ elements ps) others
 pairs_more out more key value others e =
@@ -248,7 +248,7 @@ scope_refused old begun new k text (Err c) some e = absurd cc
 
 -- ---- whole values
 
--- the whole that is due, by what was appended
+-- the whole of the definition, by what was appended
 pub whole_built : (new : Bytes) (k : ElementType) (r : Building Tree) → with_value [] r ≡ Ok (k, new) → whole_of k new ≡ (r >>= within_limit)
 whole_built new k (Ok t) e = let p = first_is (kind t) k (enc t) new e in λ i. whole_of (sym p.0 i) (sym p.1 i)
 whole_built new k (Err c) e = absurd cc

@@ -1,4 +1,4 @@
--- What contracts see of what a first key stands for.
+-- What contracts see of what a first key stands for. Source: this library's own types.
 use Rattle.bson_base.specs.Instant.{millis}
 use Rattle.bson_base.specs.Tree as tree
 use Rattle.bson_base.specs.Tree.{Tree}

@@ -1,4 +1,4 @@
--- What contracts see of a first key in code.
+-- What contracts see of a first key in code. Source: this library's own types.
 use Rattle.std.specs.Prelude.{Option, Some, None}
 use Rattle.bson_datum.specs.declared.wrapper.Wrapper.{Wrapper}
 use Rattle.bson_laws.specs.FirstKeys as keys

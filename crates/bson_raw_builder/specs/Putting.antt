@@ -1,4 +1,4 @@
--- What the builder leaves: what is due, or why not.
+-- What the builder leaves: what the definition gives, or why not. Source: this library's own readers and writers.
 use Rattle.std.specs.Prelude.{◌≡◌, ℕ, ◌++◌, length, nat_lt, if◌then◌else◌, Bool, true, false, Option, Some, None, Result, Ok, Err}
 use Rattle.bson_base.specs.Encoded.{zero_fault}
 use Rattle.bson_base.specs.Folded.{text_of}
@@ -16,13 +16,13 @@ use Rattle.bson_datum.specs.declared.wrapper.Wrapper.TheVariants.{Code}
 use Rattle.bson_laws.specs.Assembled.{Building, RawBytes, unless, Looked, stays, becomes, looked_tree, or_bad, of_body, after_code}
 use Rattle.bson_laws.specs.FirstKeys.{FirstKey, body, first_key}
 
--- the failure is the refusal that is due, without a path; nothing is said where memory ran out
+-- the failure is the refusal of the definition, without a path; nothing is said where memory ran out
 abbrev pub RefusesFor : {A : Type 0} → Failure ReadFault → Building A → Type 0
 RefusesFor no_memory due = Unit {0}
 RefusesFor (bare (unreadable c)) due = due ≡ Err c
 RefusesFor f due = ⊥
 
--- the call gives what is due, its value seen so, or the refusal that is due; or memory ran out
+-- the call gives what the definition gives, its value seen so, or the refusal of the definition; or memory ran out
 abbrev pub Gives : {X Y : Type 0} → (X → Y) → Result X Error → Building Y → Type 0
 Gives see (Ok x) due = due ≡ Ok (see x)
 Gives see (Err e) due = RefusesFor (read_failure e) due
@@ -31,7 +31,7 @@ Gives see (Err e) due = RefusesFor (read_failure e) due
 abbrev pub with_value : Bytes → Building Tree → Building (ElementType × Bytes)
 with_value old due = result_map (λ t. (kind t, old ++ enc t)) due
 
--- the value that is due was appended, and its kind is answered
+-- the value of the definition was appended, and its kind is answered
 abbrev pub Puts : Result ElementType Error → (old new : Bytes) → Building Tree → Type 0
 Puts result old new due = Gives (λ k. (k, new)) result (with_value old due)
 
@@ -47,7 +47,7 @@ with_looked old due = result_map (λ x. (looked_kind x, old ++ enc (looked_tree 
 abbrev pub PutsLooked : Result (Option ElementType) Error → (old new : Bytes) → Building Looked → Type 0
 PutsLooked result old new due = Gives (λ k. (k, new)) result (with_looked old due)
 
--- the part that is due was appended as these bytes
+-- the part of the definition was appended as these bytes
 abbrev pub PutsPart : {A : Type 0} → (A → Bytes) → Result (Unit {0}) Error → (old new : Bytes) → Building A → Type 0
 PutsPart bytes result old new due = Gives (λ _. new) result (result_map (λ x. old ++ bytes x) due)
 

@@ -1,4 +1,4 @@
--- What contracts see of values of a tree at raw leaves.
+-- What contracts see of values of a tree at raw leaves. Source: this library's own types.
 use Rattle.std.specs.Prelude.{◌≡◌, ◌≤◌, length, Option, Some, None, Result, Ok, Err}
 use Rattle.bson_base.specs.Outcome.{◌>>=◌}
 use Rattle.bson_base.specs.Sound.{max_bytes}

@@ -1,4 +1,4 @@
--- What contracts see of a raw value: its kind and its bytes, whoever owns them.
+-- What contracts see of a raw value: its kind and its bytes, whoever owns them. Source: this library's own types.
 use Rattle.std.specs.Prelude.{◌≡◌}
 use Rattle.bson_base.specs.Text.{Bytes}
 use Rattle.bson_datum.specs.ByteStrView.{bytes_view}

@@ -17,7 +17,7 @@ not_true false n = refl
 pub not_text : (bs : List ℕ) → ¬ (IsUtf8 bs) → is_utf8 bs ≡ false
 not_text bs n = not_true (is_utf8 bs) (λ e. n (IsUtf8-from_is_utf8 bs e))
 
--- a test that lends the text where there is one
+-- a test that hands on the text where there is one
 pub decided : {E : Type 0} (bs : List ℕ) (r : Result (Bor (List ℕ)) E) → MatchResult r (λ s. (s.now ≡ bs) × IsUtf8 bs) (λ _. ¬ (IsUtf8 bs)) → is_ok r ≡ is_utf8 bs
 decided bs (Ok s) m = sym (is_utf8-from_IsUtf8 bs m.1)
 decided bs (Err e) m = sym (not_text bs m)

@@ -1,4 +1,4 @@
--- The value at a key of a document in its bytes.
+-- The value at a key of a document in its bytes. Source: MongoDB's crate bson, version 2, `RawDocument::get`.
 use Rattle.std.specs.Prelude.{if◌then◌else◌, Option, None, Some, Result, Ok, Err}
 use Rattle.std.specs.Str.{bytes_eq}
 use Rattle.bson_base.specs.Text.{Utf8}

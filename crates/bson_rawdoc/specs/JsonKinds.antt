@@ -1,4 +1,4 @@
--- The kinds whose values JSON has too.
+-- The kinds whose values JSON has too. Source: JSON (RFC 8259).
 use Rattle.std.specs.Prelude.{Bool, true, false}
 use Rattle.bson_base.specs.declared.element_type.ElementType.{ElementType}
 use Rattle.bson_base.specs.declared.element_type.ElementType.TheVariants.{Double, String, EmbeddedDocument, Array, Boolean, Null, Int32, Int64}

@@ -21,7 +21,7 @@ lossy_tree (symbol t) = Some (tree.symbol (utf8_lossy t))
 lossy_tree (javascript_code_with_scope code scope) = Some (tree.javascript_code_with_scope (utf8_lossy code) no_pairs)
 lossy_tree v = None
 
--- This is given for the value that is due, or its fault, or memory ran out where no fault is due.
+-- This is given for the value, or its fault, or memory ran out where it has no fault.
 abbrev pub MendsAs : Result (Option Bson) Error → Result (Option RawValue) Error → Type 0
 MendsAs (Ok o) due = result_map (option_and_then lossy_tree) due ≡ Ok (option_map tree_of o)
 MendsAs (Err NoMemory) due = IsOk due

@@ -1,4 +1,4 @@
--- A step of an iterator over a walk.
+-- A step of an iterator over a walk. Source: std's `Iterator`.
 use Rattle.std.specs.Prelude.{◌≡◌, ℕ, suc, Option, Some, None, Result, Ok, Err}
 use Rattle.std.specs.Borrow.{Bor}
 use Rattle.bson_base.specs.Text.{Bytes}

@@ -1,4 +1,4 @@
--- Texts and byte strings, and whether they are borrowed from the input.
+-- Texts and byte strings, and whether they are borrowed from the input. Source: serde's data model, borrowed and owned strings.
 use Rattle.std.specs.Prelude.{Bool, true, false}
 use Rattle.bson_base.specs.Text.{Bytes}
 

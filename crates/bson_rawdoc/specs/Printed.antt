@@ -1,4 +1,4 @@
--- What is printed of a fault.
+-- What is printed of a fault. Source: this library's own errors.
 use Rattle.std.specs.Prelude.{◌++◌, codes}
 use Rattle.std.specs.Fmt.{decimal}
 use Rattle.bson_base.specs.Text.{Utf8}

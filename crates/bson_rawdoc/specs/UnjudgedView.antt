@@ -1,4 +1,4 @@
--- What contracts see of an `Unjudged`.
+-- What contracts see of an `Unjudged`. Source: this library's own types.
 use Rattle.bson_rawdoc.specs.RawValue as raw
 use Rattle.bson_rawdoc.specs.DocumentView.{document_bytes}
 use Rattle.bson_rawdoc.specs.declared.unjudged.Unjudged.{Unjudged}

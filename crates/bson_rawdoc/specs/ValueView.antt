@@ -1,4 +1,4 @@
--- What contracts see of a `RawBsonRef`.
+-- What contracts see of a `RawBsonRef`. Source: this library's own types.
 use Rattle.bson_base.specs.Instant.{millis}
 use Rattle.bson_rawdoc.specs.RawValue as raw
 use Rattle.bson_rawdoc.specs.DocumentView.{document_bytes, array_bytes}

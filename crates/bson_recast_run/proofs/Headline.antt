@@ -81,7 +81,7 @@ keeps_from None b h = tt
 keeps_from (Some x) None h = absurd h
 keeps_from (Some x) (Some y) h = h ∙ append-nil x
 
--- what is due where the recast writes this document
+-- what must be written where the recast writes this document
 writes_due : (hex : Bool) (document : Bytes) (status : Status) (bytes line : Bytes) → AnswersRecast hex (writes document) status bytes line → (status ≡ statuses.Done) × (bytes ≡ shown hex document) × (line ≡ [])
 writes_due hex document statuses.Done bytes line h = (refl, h.shows ∙ ap (shown hex) (let e = h.answer in cc), h.no_line)
 writes_due hex document statuses.ReadRefused bytes line h = absurd (let e = h.answer in cc)

@@ -59,7 +59,7 @@ module _ (s : Form) (bytes : Bytes) (t u : Tree) (d : Value) (shape : IsShape s)
 
 -- ---- what was read is refused for its size alone
 
--- what is due for a value that is not written
+-- the answer to a value that is not written
 value_refused : (d : Value) (b : Bool) (w : Writing Tree) (f : Failure WriteFault) → nat_lt max_bytes (size d) ≡ b → Unwritten (written b w) f → IsDue w f ⊎ ((f ≡ too_long_failure) × (max_bytes < size d))
 value_refused d b (Err r) f e (inl is) = inl is
 value_refused d b (Err r) f e (inr long) = inr (long.1, ltb-true _ _ (e ∙ long.0))
@@ -67,7 +67,7 @@ value_refused d true (Ok t) f e (inl is) = absurd is
 value_refused d true (Ok t) f e (inr long) = inr (long.1, ltb-true _ _ e)
 value_refused d false (Ok t) f e h = absurd h
 
--- a value that was read and is not written, for the refusal that is due or for its size
+-- a value that was read and is not written, for its refusal or for its size
 pub record IsValueRefused (answer : Result Value (Failure ReadFault)) (f : Failure WriteFault) : Type 0 where
   pub value : Value
   pub read : answer ≡ Ok value

@@ -1,4 +1,4 @@
--- What is due for a document settles the status.
+-- What must be written for a document settles the status.
 use Rattle.std.proofs.Common.{◌≡◌, Bool, Option, Some, None, ap, refl, sym}
 use Rattle.bson_base.specs.Text.{Bytes}
 use Rattle.bson_datum.specs.Refusal.{WriteFault, Failure}

@@ -1,4 +1,4 @@
--- Bytes as hexadecimal digits.
+-- Bytes as hexadecimal digits. Source: this library's own programs.
 use Rattle.std.specs.Prelude.{ℕ, ◌++◌, Bool, true, false, ◌==◌, ◌||◌, not, Option, Some}
 use Rattle.std.specs.List.{filter}
 use Rattle.std.specs.Result.{result_ok}

@@ -1,4 +1,4 @@
--- The lines that are printed of an input.
+-- The lines that are printed of an input. Source: this library's own programs.
 use Rattle.std.specs.Prelude.{◌++◌, nat_eq, codes}
 use Rattle.std.specs.List.{starts_with}
 use Rattle.bson_base.specs.Text.{Utf8}

@@ -1,4 +1,4 @@
--- The number that a program ends with.
+-- The number that a program ends with. Source: this library's own programs.
 use Rattle.std.specs.Prelude.{ℕ}
 use Rattle.bson_recast_run.specs.declared.status.Status.{Status}
 use Rattle.bson_recast_run.specs.declared.status.Status.TheVariants.{Done, ReadRefused, WriteRefused, Usage, SourceFault, SinkFault, NoMemory}

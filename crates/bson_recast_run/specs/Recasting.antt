@@ -1,4 +1,4 @@
--- What the calls and the program give of a recast.
+-- What the calls and the program give of a recast. Source: this library's own readers and writers.
 use Rattle.std.specs.Prelude.{◌≡◌, ◌⊎◌, ◌++◌, ℕ, ◌<◌, Result, Ok, Err}
 use Rattle.std.specs.Global.{Vec}
 use Rattle.bson_base.specs.Text.{Bytes}

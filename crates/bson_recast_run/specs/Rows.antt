@@ -1,4 +1,4 @@
--- The program: the rows of its table of answers for an input that was read whole, and what it shares with every other.
+-- The program: the rows of its table of answers for an input that was read whole, and what it shares with every other. Source: this library's own programs.
 use Rattle.std.specs.Prelude.{◌≡◌, ◌⊎◌, [], Bool, Option, Some, None}
 use Rattle.std.specs.Io.KnownBytes.{Appends, Keeps}
 use Rattle.bson_base.specs.Text.{Bytes, AreBytes}
@@ -42,24 +42,24 @@ pub record NotDigitsRow (out line : Bytes) : Type 0 where
   pub says : line ≡ not_digits_line
   pub nothing : out ≡ []
 
--- what is due for what the recast of a whole document comes to
+-- what must be written for what the recast of a whole document comes to
 abbrev pub AnswersRecast : (hex : Bool) → Recast → Due Status
 AnswersRecast hex recast statuses.Done out line = DoneRow hex recast out line
 AnswersRecast hex recast statuses.ReadRefused out line = ReadRefusedRow recast out line
 AnswersRecast hex recast statuses.WriteRefused out line = WriteRefusedRow recast out line
 AnswersRecast hex recast status out line = ⊥
 
--- what is due where an input is to be digits and is not
+-- what must be written where an input is to be digits and is not
 abbrev pub AnswersNotDigits : Due Status
 AnswersNotDigits statuses.ReadRefused out line = NotDigitsRow out line
 AnswersNotDigits status out line = ⊥
 
--- what is due for a job on the document that an input holds
+-- what must be written for a job on the document that an input holds
 abbrev pub AnswersDocument : Job → Option Bytes → Due Status
 AnswersDocument job (Some document) = AnswersRecast job.options.hex (recast_with job.options.way job.shape document)
 AnswersDocument job None = AnswersNotDigits
 
--- what is due for a job on a whole input
+-- what must be written for a job on a whole input
 abbrev pub AnswersJob : Job → Bytes → Due Status
 AnswersJob job bytes = AnswersDocument job (document_in job.options.hex bytes)
 

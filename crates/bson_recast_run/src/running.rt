@@ -72,7 +72,7 @@ fn asked(alloc: Global, words: &[String]) -> Result<Result<Job, String>, AllocEr
     }
 }
 
-// What is due for a document. An error means out of memory.
+// What must be written for a document. An error means out of memory.
 fn answer_to(alloc: Global, job: &Job, document: &[u8]) -> Result<Answer<Status>, AllocError>
     ensures { IfOk result (Says (AnswersRecast job.now.options.hex (recast_with job.now.options.way job.now.shape document.now))) }
 {
@@ -94,7 +94,7 @@ fn answer_to(alloc: Global, job: &Job, document: &[u8]) -> Result<Answer<Status>
     }
 }
 
-// What is due for an input that is to be digits and is not. An error means out of memory.
+// What must be written for an input that is to be digits and is not. An error means out of memory.
 fn not_digits(alloc: Global) -> Result<Answer<Status>, AllocError>
     ensures { IfOk result (Says AnswersNotDigits) }
 {
@@ -102,7 +102,7 @@ fn not_digits(alloc: Global) -> Result<Answer<Status>, AllocError>
     Ok(Answer::line(alloc, Status::ReadRefused, line))
 }
 
-// What is due for an input that was read to its end. An error means out of memory.
+// What must be written for an input that was read to its end. An error means out of memory.
 fn answer_to_input(alloc: Global, job: &Job, bytes: Vec<u8>) -> Result<Answer<Status>, AllocError>
     ensures { IfOk result (Says (AnswersJob job.now bytes.items)) }
 {
@@ -115,7 +115,7 @@ fn answer_to_input(alloc: Global, job: &Job, bytes: Vec<u8>) -> Result<Answer<St
     }
 }
 
-// What is due for these words on this input. An error means out of memory.
+// What must be written for these words on this input. An error means out of memory.
 fn prepare<I: Source>(
     alloc: Global,
     words: &[String],
@@ -146,7 +146,7 @@ pub fn law_run_again()
         → AllQuiet second → WritesExactly second out }
 {}
 
-/// Judges the words, reads the input to its end, recasts it, and writes what is due.
+/// Judges the words, reads the input to its end, recasts it, and writes the answer.
 ///
 /// The words ask for a recast where they are options, each at most once and in any order, and behind them exactly one word, which does not begin with
 /// `--` and is the notation of a shape. With `--lossy` the texts of the document are mended, as `recast_utf8_lossy` does; with `--tree` the document is recast by way of
@@ -160,7 +160,7 @@ pub fn law_run_again()
 ///   bytes, digits or not.
 /// - `WriteRefused`: what was read cannot be written.
 /// - `SourceFault`: a call on the input failed. For these four a line tells why on `err`, and `out` is unchanged.
-/// - `SinkFault`: a call on `out` or `err` failed. Each got a first part of what was due.
+/// - `SinkFault`: a call on `out` or `err` failed. Each got a first part of what had to be written.
 /// - `NoMemory`: memory ran out. `out` and `err` are unchanged.
 pub fn run<I: Source, O: Sink, E: Sink>(
     alloc: Global,

@@ -1,4 +1,4 @@
--- What contracts see of what is accepted.
+-- What contracts see of what is accepted. Source: this library's own types.
 use Rattle.std.specs.Prelude.{ℕ, Bool, true, false, Option, Some, None, option_map}
 use Rattle.bson_base.specs.Text.{Bytes, Utf8}
 use Rattle.bson_base.specs.Instant.{millis}

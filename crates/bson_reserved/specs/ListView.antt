@@ -1,4 +1,4 @@
--- What contracts see of a list of keys and values.
+-- What contracts see of a list of keys and values. Source: this library's own types.
 use Rattle.std.specs.Prelude.{List, map}
 use Rattle.bson_datum.specs.Value.{Value}
 use Rattle.bson_datum.specs.View.{view}

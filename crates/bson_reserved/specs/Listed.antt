@@ -1,4 +1,4 @@
--- What listing answers, where a list has room for six parts, and what a list is accepted as.
+-- What listing answers, where a list has room for six parts, and what a list is accepted as. Source: the reserved names of MongoDB's crate bson, version 2.
 use Rattle.std.specs.Prelude.{◌≡◌, ℕ, ◌<◌, List, ◌++◌, length, Option, None, option_map, codes, Result, Ok, Err}
 use Rattle.bson_base.specs.Tree as tree
 use Rattle.bson_base.specs.Tree.{Tree}

@@ -1,4 +1,4 @@
--- The writer of a document or an array, part by part.
+-- The writer of a document or an array, part by part. Source: this library's own readers and writers.
 use Rattle.std.specs.Prelude.{◌≡◌, Bool, true, false, ◌++◌, length, Result, Ok}
 use Rattle.bson_base.specs.Sound.{max_levels}
 use Rattle.bson_base.specs.Text.{Bytes}

@@ -1,4 +1,4 @@
--- A document of one pair that is begun before what is under its key is known.
+-- A document of one pair that is begun before what is under its key is known. Source: bsonspec.org, version 1.1, `document`.
 use Rattle.std.specs.Prelude.{◌≡◌, ℕ, ◌+◌, ◌-◌, ◌<◌, ◌≤◌, Bool, true, if◌then◌else◌, [], ◌∷◌, ◌++◌, ◌⊎◌, length}
 use Rattle.bson_base.specs.Kind.{byte}
 use Rattle.bson_base.specs.Sound.{max_bytes}

@@ -1,4 +1,4 @@
--- What the calls of a writer answer that takes a value part by part, by what the whole value is written as.
+-- What the calls of a writer answer that takes a value part by part, by what the whole value is written as. Source: this library's own readers and writers.
 use Rattle.std.specs.Prelude.{◌≡◌, ℕ, ◌<◌, ◌≤◌, Bool, true, Some, Result, Ok, Err, IsErrAnd}
 use Rattle.bson_base.specs.Sound.{max_bytes}
 use Rattle.bson_base.specs.Text.{Bytes}
@@ -24,7 +24,7 @@ RefusesFor why result = IsErrAnd result (λ e. IsPlaced (Some (here (unwritable 
 abbrev pub AnswersFailed : {X : Type 0} → Result X Error → Type 0
 AnswersFailed result = RefusesFor cause.failed result
 
--- it answers that no such step is due
+-- it answers that no such step may come now
 abbrev pub AnswersBadStep : {X : Type 0} → Result X Error → Type 0
 AnswersBadStep result = RefusesFor cause.bad_step result
 
@@ -32,7 +32,7 @@ AnswersBadStep result = RefusesFor cause.bad_step result
 abbrev pub Refuses : {Y : Type 0} → (size : ℕ) → Writing Y → Failure WriteFault → Type 0
 Refuses size due f = Fails size due f × (f ≡ too_long_failure → max_bytes < size)
 
--- The part was taken. Or the writer has failed: for the refusal that is due with the whole value, for memory, or since all that it was given has more bytes than a
+-- The part was taken. Or the writer has failed: for the refusal of the definition with the whole value, for memory, or since all that it was given has more bytes than a
 -- document may.
 abbrev pub Takes : {Y : Type 0} → (taken fails : Type 0) → (size : ℕ) → Writing Y → Result (Unit {0}) Error → Type 0
 Takes taken fails size due (Ok x) = taken

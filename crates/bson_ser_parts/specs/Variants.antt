@@ -1,4 +1,4 @@
--- The writer of a variant with contents, part by part.
+-- The writer of a variant with contents, part by part. Source: this library's own readers and writers.
 use Rattle.std.specs.Prelude.{◌≡◌, Bool, true, false, ◌++◌, length, String, string_bytes, Result, Ok}
 use Rattle.std.specs.Global.{Global}
 use Rattle.bson_base.specs.Sound.{max_levels}

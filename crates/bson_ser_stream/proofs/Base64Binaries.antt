@@ -36,7 +36,7 @@ judged_size : (long : Bool) (r : Refusal WriteFault) (t : Tree) → IsOk (cond l
 judged_size true r t ok = absurd cc
 judged_size false r t ok = refl
 
--- where something is due, it is a binary of the bytes that the text stands for
+-- where the definition gives something, it is a binary of the bytes that the text stands for
 pub decoded_due : (subtype : ℕ) (o : Option Bytes) → IsOk (spell_decoded subtype o) → (bs : Bytes) × (o ≡ Some bs) × (written_size (spell_decoded subtype o) ≡ length (binary_front subtype 0) + length bs)
 decoded_due subtype None ok = absurd cc
 decoded_due subtype (Some bs) ok =

@@ -113,6 +113,6 @@ ok_binary : (small : Bool) (r : Refusal WriteFault) (subtype : ℕ) (bs : Bytes)
 ok_binary true r subtype bs t e = absurd cc
 ok_binary false r subtype bs t e = cc
 
--- how many bytes a binary of subtype 0 has, where one is due
+-- how many bytes a binary of subtype 0 has, where the definition gives one
 pub length-generic : (bs : Bytes) (t : Tree) → spell_binary 0 bs ≡ Ok t → length (enc t) ≡ length bs + 5
 length-generic bs t e = ap (λ x. length (enc x)) (ok_binary (ltb (max_binary 0) (length bs)) _ 0 bs t e) ∙ length-binary 0 bs

@@ -47,16 +47,16 @@ refusal_halts size due f old (Stopped NoMemory) is at = λ ok. absurd (refused_o
 refusal_halts size due f old TooLong is at = absurd at
 
 module _ (its : ElementType) (size : ℕ) (due : Writing Tree) (old new : Output) (before now : ℕ) (grows : Grows old new before now) where
-  -- the value that is due was appended
+  -- the value of the definition was appended
   pub puts_value : (t : Tree) → due ≡ Ok t → new.bytes ≡ old.bytes ++ enc t → size ≤ max_bytes → Puts its size due old new before now (Ok its)
   puts_value t is made fits = record { kind = refl; bytes = ap (with_tree old.bytes) is ∙ ap Ok (sym made); fits = fits; grows = grows }
 
-  -- memory ran out, and a value that is due has no room
+  -- memory ran out, and the value of the definition has no room
   pub out_of_memory : (r : Result ElementType Halt) → IsErrAnd r IsOutOfMemory → (IsOk due → old.spare < size) → Puts its size due old new before now r
   out_of_memory (Ok k) out short = absurd out
   out_of_memory (Err h) out short = record { kind = tt; bytes = memory_halts size due old h out short; fits = tt; grows = grows }
 
-  -- the value is refused, as is due
+  -- the value is refused, as the definition says
   pub puts_refusal : (f : WriteFault) (h : Halt) → due ≡ Err (here f) → IsHereOrMemory f h → Puts its size due old new before now (Err h)
   puts_refusal f h is at = record { kind = tt; bytes = refusal_halts size due f old h is at; fits = tt; grows = grows }
 
@@ -64,7 +64,7 @@ module _ (its : ElementType) (size : ℕ) (due : Writing Tree) (old new : Output
   pub puts_too_long : max_bytes < size → Puts its size due old new before now (Err TooLong)
   puts_too_long long = record { kind = tt; bytes = long; fits = tt; grows = grows }
 
--- the size of an answer is that of the value that is due
+-- the size of an answer is that of the value of the definition
 pub size_due : (due : Writing Tree) (t : Tree) → due ≡ Ok t → written_size due ≡ length (enc t)
 size_due due t is = ap written_size is
 
@@ -89,7 +89,7 @@ ok_is : (due : Writing Tree) (old new : Bytes) → with_tree old due ≡ Ok new 
 ok_is (Ok t) old new e = refl
 ok_is (Err r) old new e = absurd cc
 
--- an answer whose size is known where a value is due
+-- an answer whose size is known where the definition gives a value
 pub puts_at : (its : ElementType) (n : ℕ) (due : Writing Tree) (old new : Output) (before now : ℕ) (r : Result ElementType Halt) → ((t : Tree) → due ≡ Ok t → length (enc t) ≡ n)
     → Puts its (written_size due) due old new before now r → Puts its n due old new before now r
 puts_at its n due old new before now (Ok k) long h = record { kind = h.kind; bytes = h.bytes; fits = omega (arith, h.fits, of_size due n long (ok_is due old.bytes new.bytes h.bytes)); grows = h.grows }

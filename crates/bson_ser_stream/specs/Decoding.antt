@@ -1,4 +1,4 @@
--- What decoding a base64 text into a buffer leaves.
+-- What decoding a base64 text into a buffer leaves. Source: RFC 4648, section 4.
 use Rattle.std.specs.Prelude.{◌≡◌, ℕ, ◌<◌, length, Option, Some, None, Result, Ok, Err}
 use Rattle.bson_base.specs.Text.{Bytes}
 use Rattle.bson_io.specs.Output.{Output, Appended}
@@ -9,13 +9,13 @@ use Rattle.bson_writing.specs.declared.halt.Halt.{Halt}
 use Rattle.bson_ser_stream.specs.declared.base64_text.Base64Fault.{Base64Fault}
 use Rattle.bson_ser_stream.specs.declared.base64_text.Base64Fault.TheVariants.{NotBase64, NoMemory}
 
--- The bytes that are due were appended.
+-- The bytes of the definition were appended.
 pub record IsDecoded (due : Option Bytes) (old new : Output) (before now : ℕ) : Type 0 where
   pub bytes : Bytes
   pub is_due : due ≡ Some bytes
   pub appended : Appended old new bytes before now
 
--- the bytes that are due were appended; or none are due; or any that are due take more room than is spare
+-- the bytes of the definition were appended; or it gives none; or those that it gives take more room than is spare
 abbrev pub Decodes : {T : Type 0} → Result T Base64Fault → Option Bytes → Output → Output → ℕ → ℕ → Type 0
 Decodes (Ok x) due old new before now = IsDecoded due old new before now
 Decodes (Err NotBase64) due old new before now = due ≡ None

@@ -1,4 +1,4 @@
--- What a writer of bytes leaves, whether it comes to its end or halts.
+-- What a writer of bytes leaves, whether it comes to its end or halts. Source: this library's own readers and writers.
 use Rattle.std.specs.Prelude.{◌≡◌, ℕ, ◌+◌, ◌-◌, ◌*◌, ◌<◌, ◌≤◌, [], ◌∷◌, ◌++◌, length, take, Result, IfOk, OnOk}
 use Rattle.bson_base.specs.Sound.{max_bytes}
 use Rattle.bson_base.specs.Text.{Bytes}
@@ -19,14 +19,14 @@ pub record Grows (old new : Output) (before now : ℕ) : Type 0 where
   pub least : before + length new.bytes ≤ now + length old.bytes
   pub most : now + 2 * length old.bytes ≤ before + 2 * length new.bytes
 
--- A value of a kind and a size was appended as what is due, and its kind is answered; or there is a reason not to.
+-- A value of a kind and a size was appended as the definition says, and its kind is answered; or there is a reason not to.
 pub record Puts (its : ElementType) (size : ℕ) (due : Writing Tree) (old new : Output) (before now : ℕ) (result : Result ElementType Halt) : Type 0 where
   pub kind : IfOk result (λ k. k ≡ its)
   pub bytes : Gives size old.spare (λ _. new.bytes) result (with_tree old.bytes due)
   pub fits : OnOk result (size ≤ max_bytes)
   pub grows : Grows old new before now
 
--- Elements that take so many bytes were appended, so that these bytes are due; or there is a reason not to.
+-- Elements that take so many bytes were appended, so that these are the bytes of the definition; or there is a reason not to.
 pub record PutsParts (size : ℕ) (due : Writing Bytes) (old new : Output) (before now : ℕ) (result : Result (Unit {0}) Halt) : Type 0 where
   pub bytes : Gives size old.spare (λ _. new.bytes) result due
   pub grows : Grows old new before now

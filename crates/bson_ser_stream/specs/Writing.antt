@@ -1,4 +1,4 @@
--- What a writer answers.
+-- What a writer answers. Source: bsonspec.org, version 1.1, `document` and `element`.
 use Rattle.std.specs.Prelude.{◌≡◌, ℕ, zero, suc, ◌<◌, [], ◌∷◌, ◌++◌, ◌⊎◌, Result, Ok, Err}
 use Rattle.std.specs.Global.{Vec}
 use Rattle.bson_base.specs.Text.{Bytes, Utf8}
@@ -52,12 +52,12 @@ level_inside (suc levels) = Ok levels
 abbrev pub too_long_failure : Failure WriteFault
 too_long_failure = with_path (here (unwritable too_long))
 
--- the failure is the refusal that is due, with its path
+-- the failure is the refusal of the definition, with its path
 abbrev pub IsDue : {A : Type 0} → Writing A → Failure WriteFault → Type 0
 IsDue (Ok x) f = ⊥
 IsDue (Err r) f = f ≡ with_path r
 
--- Why something of a size is not written: because memory ran out, for the refusal that is due, or for its size.
+-- Why something of a size is not written: because memory ran out, for the refusal of the definition, or for its size.
 abbrev pub Fails : {A : Type 0} → ℕ → Writing A → Failure WriteFault → Type 0
 Fails size due f = (f ≡ no_memory) ⊎ IsDue due f ⊎ ((f ≡ too_long_failure) × (max_bytes < size))
 

@@ -1,4 +1,4 @@
--- What a call that writes a whole value answers.
+-- What a call that writes a whole value answers. Source: this library's own errors.
 use Rattle.std.specs.Prelude.{◌≡◌, Bool, Result, Ok, Err}
 use Rattle.bson_base.specs.Outcome.{◌>>=◌}
 use Rattle.bson_base.specs.Tree.{Tree, document, kind, Pairs}

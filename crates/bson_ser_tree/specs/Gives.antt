@@ -1,4 +1,4 @@
--- What a writer of values gives: what the definition of writing gives, or out of memory.
+-- What a writer of values gives: what the definition of writing gives, or out of memory. Source: this library's own errors.
 use Rattle.std.specs.Prelude.{◌≡◌, Option, Some, None, Result, Ok, Err}
 use Rattle.bson_rawdoc.specs.declared.raw.Error.{Error}
 use Rattle.bson_rawdoc.specs.declared.raw.Error.TheVariants.{NoMemory}
@@ -10,7 +10,7 @@ use Rattle.bson_datum.specs.declared.ser.Fault.{Fault}
 use Rattle.bson_datum.specs.declared.stop.Stop.{Stop}
 use Rattle.bson_laws.specs.Spell.{Writing}
 
--- what is due is this refusal; nothing is said where memory ran out
+-- what the definition gives is this refusal; nothing is said where memory ran out
 abbrev pub RefusesAs : {Y : Type 0} → Option (Refusal WriteFault) → Writing Y → Type 0
 RefusesAs None due = Unit {0}
 RefusesAs (Some r) due = due ≡ Err r
@@ -26,7 +26,7 @@ IsFaultOrMemory e None = Unit {0}
 IsFaultOrMemory NoMemory (Some r) = ⊥
 IsFaultOrMemory e (Some r) = r ≡ here (unwritable (raw e))
 
--- A writer inside a value gives what is due, seen so, or its refusal with the path so far; or memory ran out.
+-- A writer inside a value gives what the definition gives, seen so, or its refusal with the path so far; or memory ran out.
 abbrev pub Reaches : {X Y : Type 0} → (X → Y) → Result X (Stop Fault) → Writing Y → Type 0
 Reaches see (Ok x) due = due ≡ Ok (see x)
 Reaches see (Err s) due = RefusesAs (stop_view write_fault s) due

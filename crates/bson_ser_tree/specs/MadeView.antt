@@ -1,4 +1,4 @@
--- What contracts see of the parts that a writer was given: what was made of them.
+-- What contracts see of the parts that a writer was given: what was made of them. Source: this library's own types.
 use Rattle.std.specs.Prelude.{ℕ, Option, option_map}
 use Rattle.bson_base.specs.BsonView.{trees_of, pairs_of}
 use Rattle.bson_ser_tree.specs.Made.{ItemsMade, PairsMade}

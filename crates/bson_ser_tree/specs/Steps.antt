@@ -1,4 +1,4 @@
--- What one more part makes of those that were made before.
+-- What one more part makes of those that were made before. Source: this library's own readers and writers.
 use Rattle.std.specs.Prelude.{◌≡◌, ℕ, Bool, false, Option, Some, None, Result, Ok, Err}
 use Rattle.bson_base.specs.Outcome.{◌>>=◌}
 use Rattle.bson_base.specs.Pairs.{put}
@@ -13,7 +13,7 @@ use Rattle.bson_tree_laws.specs.TreeSpell.{tree_spell}
 use Rattle.bson_ser_tree.specs.Answers.{FailsAs, without_paths}
 use Rattle.bson_ser_tree.specs.Taking.{HasFailed, AnswersFailed}
 
--- what is due was made; or nothing is left, and the refusal is answered without its path, or that memory ran out
+-- what the definition gives was made; or nothing is left, and the refusal is answered without its path, or that memory ran out
 abbrev pub Steps : {A : Type 0} → Writing A → (new : Option A) → Result (Unit {0}) Error → Type 0
 Steps due new (Ok x) = (a : _) × (due ≡ Ok a) × (new ≡ Some a)
 Steps due new (Err e) = HasFailed new × FailsAs (write_failure e) (without_paths due)

@@ -1,4 +1,4 @@
--- What the calls of a writer that takes a value part by part answer, by what the whole value is made into.
+-- What the calls of a writer that takes a value part by part answer, by what the whole value is made into. Source: this library's own readers and writers.
 use Rattle.std.specs.Prelude.{◌≡◌, ℕ, Bool, false, [], Option, Some, None, Result, Ok, Err, IsErrAnd}
 use Rattle.bson_base.specs.BsonView.{tree_of}
 use Rattle.bson_base.specs.Text.{Utf8}
@@ -17,7 +17,7 @@ use Rattle.bson_ser_tree.specs.Made.{ItemsMade, PairsMade, EntriesMade}
 
 -- ---- what a writer has taken
 
--- what was made so far is what is due
+-- what was made so far is what the definition gives
 abbrev pub IsMade : {A : Type 0} → Option A → Writing A → Type 0
 IsMade None due = ⊥
 IsMade (Some a) due = due ≡ Ok a
@@ -44,7 +44,7 @@ HasFailed made = made ≡ None
 
 -- ---- what a call answers
 
--- the part was taken; or the writer has failed, and answers the refusal that is due without its path, or that memory ran out
+-- the part was taken; or the writer has failed, and answers the refusal of the definition without its path, or that memory ran out
 abbrev pub Takes : {Y : Type 0} → (taken failed : Type 0) → Writing Y → Result (Unit {0}) Error → Type 0
 Takes taken failed due (Ok x) = taken
 Takes taken failed due (Err e) = failed × FailsAs (write_failure e) (without_paths due)

@@ -1,4 +1,4 @@
--- The writer of a value that serde's data model lacks, field by field of the struct of its reserved name.
+-- The writer of a value that serde's data model lacks, field by field of the struct of its reserved name. Source: this library's own readers and writers.
 use Rattle.std.specs.Prelude.{◌≡◌, false, Some, ◌⊎◌, Result, Ok, Err}
 use Rattle.std.specs.Global.{Vec}
 use Rattle.bson_base.specs.Reserved.{reserved_kind}

@@ -154,7 +154,7 @@ record ReadsItem (st : List Level) (g : Group) (x : Utf8) (refused : ℕ → Opt
   behind : BehindItem state h st
   reads : (rest : Utf8) (at : ℕ) → goes_on rest ≡ false → read at (Item_due g, st) (x ++ rest) ≡ settle (refused at) (read (at + length x) state rest)
 
--- All items to come are read, where the first of them is due; with them the group is the second.
+-- All items to come are read, where the first of them is expected; with them the group is the second.
 abbrev ReadsAll : List Level → Group → List Utf8 → (ℕ → Option MakerRefusal) → Group → Type 0
 ReadsAll st g xs refused h =
     (rest : Utf8) (at : ℕ) → read at (Item_due g, st) (listed xs ++ closing h ∷ rest) ≡ settle (or_else (refused at) (closed_refusal (at + length (listed xs) + 1) (closed h))) (read (at + length (listed xs) + 1) (after (closed h) st) rest)
@@ -204,7 +204,7 @@ comma_and st g h x xs refused all = λ s behind rest at.
     read_step at s.0 s.1 44 (items ++ closing h ∷ rest) (Item_due g, st) (behind.next at) ∙ all rest (at + 1)
     ∙ moved (at + 1 + length items + 1) (at + length (44 ∷ items) + 1) (refused (at + 1)) (closed h) st rest (omega arith)
 
--- ---- where an item is due
+-- ---- where an item is expected
 
 field_begins : (h : Holder) (at : ℕ) (fs : Fields) (st : List Level) → BeginsName at (Item_due (Braces h fs)) (Item_of (Braces h fs)) st
 unfolding step item_due item_begun field_due name_due
@@ -252,7 +252,7 @@ part_begins : (at b : ℕ) (h : Holder) (ps : Parts) (st : List Level) → begin
 unfolding step item_due item_begun
 part_begins at b h ps st k = rw (differs begins_form b 41 k refl) refl
 
--- ---- where a form is due
+-- ---- where a form is expected
 
 form_step : (b at : ℕ) (st : List Level) → begins_form b ≡ true → nat_le 512 (length st) ≡ false → step at Form_due st b ≡ Ok (form_begun at st b)
 unfolding step form_due

@@ -84,7 +84,7 @@ pub variants_shown : (vs : List VariantShape) → map variant_shown vs ≡ varia
 variants_shown [] = refl
 variants_shown (v ∷ vs) = ap (λ xs. variant_shown v ∷ xs) (variants_shown vs)
 
--- a comma where one is due, what is before the form, and the form
+-- a comma where one is needed, what is before the form, and the form
 pub field_printed : (c : ℕ) (out next last comma name t : Utf8) → next ≡ out ++ (comma ++ (name ++ c ∷ [])) → last ≡ next ++ t → last ≡ out ++ (comma ++ (name ++ c ∷ t))
 field_printed c out next last comma name t named ended = ended ∙ ap (λ y. y ++ t) named ∙ regrouped
   where

@@ -225,7 +225,7 @@ form_leaves at st b s so_far has =
     (λ d. begun h))
     (λ h. refl)
 
--- where an item is due
+-- where an item is expected
 name_leaves : (at : ℕ) (g : Group) (st : List Level) (b : ℕ) (s : State) → written s ≡ levels_text st ++ due_text g → (TextState s → TextGroup g × TextLevels st) → Leaves at s b (name_due at g st b)
 unfolding name_due
 name_leaves at g st b s so_far has = chosen at s b (begins_name b) (Ok (name_begun (Item_of g) b, st)) _ (λ h. begun_takes (eqb b 34) (Item_of g) st b s refl h so_far has) (λ h. refl)
@@ -247,7 +247,7 @@ marked_leaves at (Nameless_at place) no_fields st b s is none so_far has = marke
 marked_leaves at (Named_at place n) no_fields st b s is none so_far has = marked_takes place n st b s is so_far (λ k. ((has k).0.0, (has k).1))
 marked_leaves at (Variant_of e n) no_fields st b s is none so_far has = refl
 
--- where a field is due
+-- where a field is expected
 field_leaves : (at : ℕ) (h : Holder) (fs : Fields) (st : List Level) (b : ℕ) (s : State) → written s ≡ levels_text st ++ due_text (Braces h fs) → (TextState s → TextGroup (Braces h fs) × TextLevels st) → Leaves at s b (field_due at h fs st b)
 unfolding field_due
 field_leaves at h fs st b s so_far has =
@@ -282,7 +282,7 @@ opened_group g st b c s opens none is so_far has = record {
   grew = (λ i. levels_text st ++ ((before_text g ++ (opens i ++ listed (none i))) ++ sep (none i))) ∙ ap (λ xs. levels_text st ++ xs) (append-nil (before_text g ++ c ∷ [])) ∙ sym (append_assoc (levels_text st) (before_text g) (c ∷ [])) ∙ behind_read (levels_text st ++ before_text g) b c s so_far is;
 }
 
--- a form is due behind a byte that ends the text of a level
+-- a form is expected behind a byte that ends the text of a level
 level_takes : (l : Level) (pre : Utf8) (st : List Level) (b c : ℕ) (s : State) → eqb b c ≡ true → level_text l ≡ pre ++ c ∷ [] → written s ≡ levels_text st ++ pre → (TextState s → TextLevels (l ∷ st)) → Takes s b (Form_due, l ∷ st)
 level_takes l pre st b c s is same so_far has = record {
   valid = tt;

@@ -1,4 +1,4 @@
--- What a call of the parser answers.
+-- What a call of the parser answers. Source: this library's own errors.
 use Rattle.std.specs.Prelude.{◌≡◌, Option, Some, None, Result, Ok, Err}
 use Rattle.bson_shape.specs.Machine.{Refusal, Not_notation, Refused}
 use Rattle.bson_shape.specs.declared.error.ParseError.{ParseError}

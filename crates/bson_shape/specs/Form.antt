@@ -19,7 +19,7 @@ mutual
     lossy : (inner : Form) → Form
     -- a value of this form, read and written as for a reader who is human
     human_readable : (inner : Form) → Form
-    -- a value that has two forms: the one that is due for a reader who is human, and the other
+    -- a value that has two forms: the one that applies for a reader who is human, and the other
     by_mode : (readable : Form) → (compact : Form) → Form
     -- an array whose elements have this form
     sequence : (item : Form) → Form

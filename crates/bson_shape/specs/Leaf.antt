@@ -1,4 +1,4 @@
--- The leaf words of the notation.
+-- The leaf words of the notation. Source: this library's own notation.
 use Rattle.std.specs.Prelude.{Bool as Test, true, false, List, [], ◌∷◌, if◌then◌else◌, Option, Some, None, codes}
 use Rattle.std.specs.Str.{bytes_eq}
 use Rattle.bson_base.specs.Text.{Utf8}

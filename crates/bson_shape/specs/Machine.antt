@@ -94,11 +94,11 @@ pub data Owner : Type 0 where
 
 -- What is read at the moment.
 pub data Mode : Type 0 where
-  -- a form is due
+  -- a form is expected
   Form_due : Mode
   -- behind a sign with which the form at this place begins
   Behind_sign : Sign → ℕ → Mode
-  -- an item is due, or the closing bracket where the group has no item
+  -- an item is expected, or the closing bracket where the group has no item
   Item_due : Group → Mode
   -- inside a bare name
   Bare : Owner → Utf8 → Mode
@@ -265,7 +265,7 @@ enclosed at f (In_item g name ∷ st) b = item_ended at (grown g name f) st b
 unfoldable pub form_ended : ℕ → Form → List Level → ℕ → Result State Refusal
 form_ended at f st b = wrapped at f st >>= λ e. enclosed at e.0 e.1 b
 
--- ---- where a form or an item is due
+-- ---- where a form or an item is expected
 
 abbrev pub begins_name : ℕ → Bool
 begins_name b = begins_bare b || (b == quote)
@@ -296,7 +296,7 @@ form_begun at st b =
     else (if b == open_angle then (Item_due (Angles (opened_enum at)), st)
     else (name_begun (Form_at at) b, st))))))))))
 
--- where a form is due
+-- where a form is expected
 unfoldable pub form_due : ℕ → List Level → ℕ → Result State Refusal
 form_due at st b =
     if begins_form b then (if nat_le max_shape_levels (length st) then Err (Refused (record { met = at + 1; place = at; cause = TooDeep })) else Ok (form_begun at st b))
@@ -308,7 +308,7 @@ behind_sign at Percent place st b = if b == open_paren then Ok (Form_due, In_pai
 behind_sign at Ampersand place st b = if b == open_paren then Ok (Item_due (Table place no_fields), st) else Err (Not_notation at)
 behind_sign at At place st b = if begins_name b then Ok (name_begun (Reference_at place) b, st) else Err (Not_notation at)
 
--- where the name of an item is due
+-- where the name of an item is expected
 unfoldable pub name_due : ℕ → Group → List Level → ℕ → Result State Refusal
 name_due at g st b = if begins_name b then Ok (name_begun (Item_of g) b, st) else Err (Not_notation at)
 
@@ -318,11 +318,11 @@ struct_marked at (Nameless_at place) st = Ok (Item_due (Closed_braces place [] n
 struct_marked at (Named_at place name) st = Ok (Item_due (Closed_braces place name no_fields), st)
 struct_marked at (Variant_of e name) st = Err (Not_notation at)
 
--- where a field is due; a struct that has none yet may deny unknown ones
+-- where a field is expected; a struct that has none yet may deny unknown ones
 unfoldable pub field_due : ℕ → Holder → Fields → List Level → ℕ → Result State Refusal
 field_due at h fs st b = if (b == exclamation) && has_no_fields fs then struct_marked at h st else name_due at (Braces h fs) st b
 
--- where an item is due
+-- where an item is expected
 unfoldable pub item_begun : ℕ → Group → List Level → ℕ → Result State Refusal
 item_begun at (Braces h fs) st b = field_due at h fs st b
 item_begun at (Closed_braces place n fs) st b = name_due at (Closed_braces place n fs) st b

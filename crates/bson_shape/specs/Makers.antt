@@ -219,7 +219,7 @@ made_form (enumeration vs) = made_enumeration vs
 made_form (reference name) = Ok (reference name)
 made_form (definitions h f) = made_definitions h f
 
--- What a maker that takes memory answers, where this is due: what is due, or that memory ran out where no refusal is due.
+-- What a maker that takes memory answers, where it answers this if there is memory: this, or, where this is no refusal, that memory ran out.
 abbrev pub Makes : Result Form ShapeError → Result Form ShapeError → Type 0
 Makes (Ok f) due = due ≡ Ok f
 Makes (Err NoMemory) due = IsOk due

@@ -1,4 +1,4 @@
--- What the parser's values stand for.
+-- What the parser's values stand for. Source: this library's own notation.
 use Rattle.std.specs.Prelude.{List, [], ◌∷◌, map, reverse, Option, Some, None, Result, string_bytes}
 use Rattle.bson_shape.specs.Answers.{Gives}
 use Rattle.bson_shape.specs.ShapeView.{fields_of, parts_of, variants_of}

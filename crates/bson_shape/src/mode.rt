@@ -27,11 +27,11 @@ pub(crate) enum Sign {
 /// What is read at the moment.
 #[derive(Drop)]
 pub(crate) enum Mode {
-    /// A form is due.
+    /// A form is expected.
     FormDue,
     /// Behind a sign with which the form at this place begins.
     BehindSign(Sign, usize),
-    /// An item is due, or the closing bracket where the group has no item.
+    /// An item is expected, or the closing bracket where the group has no item.
     ItemDue(Group),
     /// Inside a bare name.
     Bare(Owner, String),

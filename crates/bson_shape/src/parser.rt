@@ -95,7 +95,7 @@ fn form_begun(alloc: Global, levels: &mut Vec<Level>, at: usize, b: u8) -> Resul
     name_begun(alloc, Owner::FormAt(at), b)
 }
 
-/// Where a form is due.
+/// Where a form is expected.
 #[tactic(auto, unfolding(crate::specs::Machine::form_due))]
 fn form_due(alloc: Global, levels: &mut Vec<Level>, at: usize, b: u8) -> Result<Mode, ParseError>
     requires { b < 128 }
@@ -135,7 +135,7 @@ fn behind_sign(
     }
 }
 
-/// Where the name of an item is due.
+/// Where the name of an item is expected.
 #[tactic(auto, unfolding(crate::specs::Machine::name_due))]
 fn name_due(
     alloc: Global,
@@ -153,7 +153,7 @@ fn name_due(
     Err(ParseError::NotNotation(at))
 }
 
-/// Where a field is due; a struct that has none yet may deny unknown ones.
+/// Where a field is expected; a struct that has none yet may deny unknown ones.
 #[tactic(auto, unfolding(crate::specs::Machine::field_due), using(crate::proofs::Groups::fields_none))]
 fn field_due(
     alloc: Global,
@@ -172,7 +172,7 @@ fn field_due(
     name_due(alloc, Group::Braces(holder, fields), levels, at, b)
 }
 
-/// Where an item is due.
+/// Where an item is expected.
 #[tactic(auto, unfolding(crate::specs::Machine::item_begun))]
 fn item_begun(
     alloc: Global,
@@ -199,7 +199,7 @@ fn item_begun(
     }
 }
 
-/// Where an item is due; a group that has none yet may close.
+/// Where an item is expected; a group that has none yet may close.
 #[tactic(auto, unfolding(crate::specs::Machine::item_due))]
 fn item_due(
     alloc: Global,

@@ -65,7 +65,7 @@ fn put_comma(out: &mut String, i: usize) -> Result<(), AllocError>
     Ok(())
 }
 
-/// Appends the comma before a field or a definition, where one is due, its name, and what divides that from its form.
+/// Appends the comma before a field or a definition, where one is needed, its name, and what divides that from its form.
 fn put_field_name(out: &mut String, i: usize, name: &str, divider: char) -> Result<(), AllocError>
     requires { divider < 128 }
     ensures { OnOk result (string_bytes out.new ≡ string_bytes out.old ++ (comma_at i ++ (notation.name_text name.now ++ divider ∷ []))) }
@@ -76,7 +76,7 @@ fn put_field_name(out: &mut String, i: usize, name: &str, divider: char) -> Resu
     Ok(())
 }
 
-/// Appends the comma before a variant, where one is due, and its name.
+/// Appends the comma before a variant, where one is needed, and its name.
 fn put_variant_name(out: &mut String, i: usize, name: &str) -> Result<(), AllocError>
     ensures { OnOk result (string_bytes out.new ≡ string_bytes out.old ++ (comma_at i ++ notation.name_text name.now)) }
 {

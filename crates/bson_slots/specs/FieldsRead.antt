@@ -1,4 +1,4 @@
--- What contracts see of the fields of a struct that are read, each into its slot.
+-- What contracts see of the fields of a struct that are read, each into its slot. Source: serde's data model.
 use Rattle.std.specs.Prelude.{Bool, if◌then◌else◌}
 use Rattle.bson_base.specs.Outcome.{◌>>=◌}
 use Rattle.bson_rawdoc.specs.Node.{Node, Nodes}

@@ -1,4 +1,4 @@
--- What contracts see of a map from names to places.
+-- What contracts see of a map from names to places. Source: this library's own types.
 use Rattle.std.specs.Prelude.{◌≡◌, ℕ, List}
 use Rattle.std.specs.Borrow.{Bor}
 use Rattle.std.specs.BTreeMap.{BTreeMap, get_by}

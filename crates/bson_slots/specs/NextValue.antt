@@ -1,4 +1,4 @@
--- What contracts see of the element of an array that is due next.
+-- What contracts see of the next element of an array. Source: serde's data model.
 use Rattle.std.specs.Prelude.{◌≡◌, ℕ, Result, Ok, Err}
 use Rattle.bson_rawdoc.specs.Node.{Node, Nodes, ended, faulty, then_node}
 use Rattle.bson_datum.specs.Cause.{raw, invalid_length}
@@ -11,7 +11,7 @@ use Rattle.bson_datum.specs.declared.stop.Stop.{Stop}
 use Rattle.bson_laws.specs.Judged.{Reading, refused}
 use Rattle.bson_met.specs.Gives.{RefusesAs}
 
--- the value of the element that is due at an index; where none is left, a fault of the list is told before that there are too few
+-- the value of the next element at an index; where none is left, a fault of the list is told before that there are too few
 abbrev pub next_value : ℕ → (Node → Reading Marked) → Nodes → Reading Marked
 next_value i read ended = refused (invalid_length i)
 next_value i read (faulty e) = refused (raw e)
@@ -29,7 +29,7 @@ behind_first ended = ended
 behind_first (faulty e) = ended
 behind_first (then_node k n ns) = ns
 
--- the element that is due is given, and those behind it are left
+-- the next element is given, and those behind it are left
 abbrev pub IsDue : ℕ → Nodes → Result Node (Stop Fault) → Nodes → Type 0
 IsDue i old (Ok n) new = (next_node i old ≡ Ok n) × (new ≡ behind_first old)
 IsDue i old (Err s) new = RefusesAs (stop_view read_fault s) (next_node i old)

@@ -1,4 +1,4 @@
--- What contracts see of the slots of a struct.
+-- What contracts see of the slots of a struct. Source: this library's own types.
 use Rattle.bson_laws.specs.Slots.{Slots}
 use Rattle.bson_slots.specs.FieldSlots.{field_slots}
 use Rattle.bson_slots.specs.declared.slots.Slots as code

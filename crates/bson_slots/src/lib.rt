@@ -1,4 +1,4 @@
-//! The fields of a struct while they are read: the place of a name among them, the element that is due for the next of them, and the values that were read so far.
+//! The fields of a struct while they are read: the place of a name among them, the next element for each of them, and the values that were read so far.
 #![tactic(auto)]
 
 mod index;

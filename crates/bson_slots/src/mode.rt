@@ -1,9 +1,9 @@
-// Which of two shapes is due.
+// Which of two shapes applies.
 ghost use Rattle.std.specs.Prelude.{◌≡◌, if◌then◌else◌};
 
 use bson_shape::Shape;
 
-/// The one of two shapes that is due for a reader who is human or not.
+/// The one of two shapes that applies for a reader who is human or not.
 #[inline(always)]
 pub fn due_shape<'s>(readable: bool, human: &'s Shape, compact: &'s Shape) -> &'s Shape
     ensures { result.now ≡ (if readable then human.now else compact.now) }

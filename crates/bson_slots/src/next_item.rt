@@ -1,4 +1,4 @@
-// The element of an array that is due for the next part of a tuple or the next field of a struct.
+// The element of an array for the next part of a tuple or the next field of a struct.
 ghost use Rattle.bson_slots.specs.NextValue.{IsDue};
 
 use bson_datum::Cause;

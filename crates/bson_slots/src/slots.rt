@@ -146,7 +146,7 @@ impl<'s, 'de> Slots<'s, 'de> {
         Ok(())
     }
 
-    /// All fields with their values, in the shape's order. A field that has no value is none, where its shape is an option, or the one of two shapes that is due
+    /// All fields with their values, in the shape's order. A field that has no value is none, where its shape is an option, or the one of two shapes that applies
     /// is one.
     ///
     /// The struct is refused for `MissingField`, with the name of the first field that has no value and is no such option.
@@ -222,7 +222,7 @@ fn value_or_missing<'de>(
     Err(refused(alloc, Cause::MissingField(name)))
 }
 
-/// Whether a field of the shape may be missing: where it is an option, or the one of two shapes that is due is one. It is looked through two shapes once.
+/// Whether a field of the shape may be missing: where it is an option, or the one of two shapes that applies is one. It is looked through two shapes once.
 fn may_be_missing(shape: &Shape, readable: bool) -> bool
     ensures missing { laws.missing_value {T = Piece} (settled readable shape.now) ≡ (if result then Some none else None) }
 {

@@ -18,7 +18,7 @@ use Rattle.bson_source.specs.Taken.{TakesSome, TakesAll}
 use Rattle.bson_source.specs.FirstDocument.{announced, document_length, due, first_document, of_length, or_four}
 use Rattle.bson_source.specs.FromSource.{IsAll, IsTakeError, ReadsOne, Stops}
 
--- ---- how many bytes are due
+-- ---- how many bytes are to be taken
 
 due_short : (b : Bytes) → length b < 4 → due b ≡ 4
 due_short b h = ap (λ t. cond t 4 (or_four (announced b))) (lt-ltb _ _ h)
@@ -93,7 +93,7 @@ ended see a b before now more e t h is = record {
       (at_end b more h t.ended, ap (λ s. cond s (Err (bare end_of_stream)) (of_length more (announced more))) (lt-ltb _ _ h));
 }
 
--- what is due, and the first document, where the length is known
+-- how many bytes are to be taken, and the first document, where the length is known
 due_is : (b : Bytes) (o : Option ℕ) → 4 ≤ length b → announced b ≡ o → due b ≡ or_four o
 due_is b o h is = due_long b h ∙ ap or_four is
 

@@ -19,7 +19,7 @@ abbrev pub or_four : Option ℕ → ℕ
 or_four None = 4
 or_four (Some n) = n
 
--- How many bytes are due, by those that came: the four of the length, and then as many as they announce.
+-- How many bytes are to be taken, by those that came: the four of the length, and then as many as they announce.
 abbrev pub due : Bytes → ℕ
 due b = if nat_lt (length b) 4 then 4 else or_four (announced b)
 

@@ -1,4 +1,4 @@
--- What is read of a source: the first document of what it has left, and nothing behind it.
+-- What is read of a source: the first document of what it has left, and nothing behind it. Source: MongoDB's crate bson, version 2, `from_reader`.
 use Rattle.std.specs.Prelude.{◌≡◌, ℕ, ◌≤◌, ◌⊎◌, length, Option, Result, Ok, Err}
 use Rattle.std.specs.Io.KnownBytes.{Consumes, IsAtEnd}
 use Rattle.bson_base.specs.Outcome.{◌>>=◌}
@@ -9,7 +9,7 @@ use Rattle.bson_datum.specs.declared.de.Error.{Error}
 use Rattle.bson_io.specs.Ends.{Rose}
 use Rattle.bson_source.specs.FirstDocument.{due, first_document}
 
--- All that was due came, or the source has no more.
+-- All that was to be taken came, or the source has no more.
 abbrev pub IsAll : (left : Option Bytes) → (came : Bytes) → Type 0
 IsAll left came = (length came ≡ due came) ⊎ IsAtEnd left
 
@@ -19,19 +19,19 @@ IsTakeError failed no_memory = Unit {0}
 IsTakeError failed (bare io) = failed
 IsTakeError failed f = ⊥
 
--- A failure, where all came that was due and it is what is answered; or, as `Io`, where a call on the source failed; or memory ran out.
+-- A failure, where all came that was to be taken and it is what is answered; or, as `Io`, where a call on the source failed; or memory ran out.
 abbrev pub Stops : {Y : Type 0} → (all failed : Type 0) → Failure ReadFault → Result Y (Failure ReadFault) → Type 0
 Stops all failed no_memory answer = Unit {0}
 Stops all failed (bare io) answer = failed ⊎ (all × (answer ≡ Err (bare io)))
 Stops all failed (bare f) answer = all × (answer ≡ Err (bare f))
 Stops all failed (placed path f) answer = all × (answer ≡ Err (placed path f))
 
--- the value that is answered, where all came that was due; or a failure
+-- the value that is answered, where all came that was to be taken; or a failure
 abbrev pub Ends : {X Y : Type 0} → (X → Y) → (all failed : Type 0) → Result X Error → Result Y (Failure ReadFault) → Type 0
 Ends see all failed (Ok x) answer = all × (answer ≡ Ok (see x))
 Ends see all failed (Err e) answer = Stops all failed (read_failure e) answer
 
--- Bytes were taken off the front of what the source had left, no more than are due of the first document. The result is what they are answered with, where all
+-- Bytes were taken off the front of what the source had left, no more than are to be taken for the first document. The result is what they are answered with, where all
 -- of them came.
 pub record ReadsOne {X Y : Type 0} (see : X → Y) (answer : Bytes → Result Y (Failure ReadFault)) (old new : Option Bytes) (before now : ℕ) (result : Result X Error) : Type 0 where
   pub came : Bytes

@@ -1,4 +1,4 @@
--- The variants of an enum: a type of one's own tries them one after another.
+-- The variants of an enum: a type of one's own tries them one after another. Source: serde's data model.
 use Rattle.std.specs.Prelude.{◌≡◌, Bool, false, if◌then◌else◌, Option, Some, None, Result, Ok, Err}
 use Rattle.std.specs.Str.{bytes_eq}
 use Rattle.bson_base.specs.Outcome.{result_map}

@@ -1,4 +1,4 @@
--- What contracts see of leaves.
+-- What contracts see of leaves. Source: serde's data model.
 use Rattle.std.specs.Prelude.{ℕ, ℤ, Bool, if◌then◌else◌, Option, Some, None}
 use Rattle.bson_base.specs.Text.{Bytes}
 use Rattle.bson_base.specs.Outcome.{◌>>=◌}

@@ -1,4 +1,4 @@
--- What contracts see, with its marks, of a list of data and of a list of entries.
+-- What contracts see, with its marks, of a list of data and of a list of entries. Source: this library's own types.
 use Rattle.std.specs.Prelude.{List, [], ◌∷◌}
 use Rattle.bson_datum.specs.Marked.{MarkedItems, MarkedEntries}
 use Rattle.bson_datum.specs.MarkedView.{marked}

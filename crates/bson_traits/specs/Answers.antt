@@ -1,4 +1,4 @@
--- What calls that write and read values of a type answer: what the meaning of the type says, or out of memory.
+-- What calls that write and read values of a type answer: what the meaning of the type says, or out of memory. Source: this library's own errors.
 use Rattle.std.specs.Prelude.{◌≡◌, Result, Ok, Err}
 use Rattle.bson_datum.specs.Cause as cause
 use Rattle.bson_datum.specs.Refusal.{ReadFault, WriteFault, unreadable, Failure, no_memory, bare, placed}

@@ -1,4 +1,5 @@
 -- Extended values: each is written as the struct of its reserved name, and what is that struct gives the value again.
+-- Source: the extended types of MongoDB's crate bson, version 2.
 use Rattle.std.specs.Prelude.{ℕ, ℤ, nat_eq, length, if◌then◌else◌, Option, Some, None, option_map, option_and_then, Ok, Err, codes}
 use Rattle.bson_base.specs.Outcome.{result_map}
 use Rattle.bson_base.specs.Parsed.{bytes_of_base64, bytes_of_digits, integer_of_text, subtype_of_text}

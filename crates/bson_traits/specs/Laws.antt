@@ -1,4 +1,4 @@
--- The laws of types whose values are read as they were written.
+-- The laws of types whose values are read as they were written. Source: serde's data model.
 use Rattle.std.specs.Prelude.{◌≡◌, Ok, Err, Some}
 use Rattle.bson_base.specs.Tree.{null}
 use Rattle.bson_shape.specs.Form.{Form}

@@ -1,4 +1,4 @@
--- Maps from texts to values of a type.
+-- Maps from texts to values of a type. Source: serde's data model.
 use Rattle.std.specs.Prelude.{◌≡◌, Bool, true, false, ◌&&◌, if◌then◌else◌, List, [], ◌∷◌, map as list_map, Ok, Err, String, string_bytes}
 use Rattle.std.specs.Global.{Global}
 use Rattle.std.specs.List.{All}

@@ -1,4 +1,4 @@
--- Optional values of a type.
+-- Optional values of a type. Source: serde's data model.
 use Rattle.std.specs.Prelude.{Option, Some, None, Ok, Err}
 use Rattle.bson_base.specs.Outcome.{result_map}
 use Rattle.bson_datum.specs.Value.{Value, none, some}

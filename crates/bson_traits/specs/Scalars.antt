@@ -1,4 +1,4 @@
--- What a value gives at the types without parts.
+-- What a value gives at the types without parts. Source: serde's data model.
 use Rattle.std.specs.Prelude.{ℕ, ℤ, pos, Bool, if◌then◌else◌, Ok, Err}
 use Rattle.bson_base.specs.Outcome.{◌>>=◌}
 use Rattle.bson_base.specs.Text.{Bytes, Utf8}

@@ -1,4 +1,4 @@
--- Sequences of values of a type.
+-- Sequences of values of a type. Source: serde's data model.
 use Rattle.std.specs.Prelude.{List, [], ◌∷◌, Ok, Err}
 use Rattle.bson_base.specs.Outcome.{◌>>=◌, result_map}
 use Rattle.bson_datum.specs.Value.{Value, sequence, Items, no_items, item}

@@ -1,4 +1,4 @@
--- Structs whose fields are values of types: a type of one's own is written and read by these, field by field.
+-- Structs whose fields are values of types: a type of one's own is written and read by these, field by field. Source: serde's data model.
 use Rattle.std.specs.Prelude.{if◌then◌else◌, Ok, Err}
 use Rattle.std.specs.Str.{bytes_eq}
 use Rattle.bson_base.specs.Outcome.{◌>>=◌, result_map}

@@ -1,4 +1,4 @@
--- What recasting a document's bytes by way of trees comes to. No refusal has a path.
+-- What recasting a document's bytes by way of trees comes to. No refusal has a path. Source: this library's own readers and writers.
 use Rattle.std.specs.Prelude.{false, Option, Some, None, Result, Ok, Err}
 use Rattle.bson_base.specs.Encoded.{EncodeFault, key_zero, binary_too_long, too_long, encoded}
 use Rattle.bson_base.specs.Outcome.{◌>>=◌}

@@ -1,4 +1,4 @@
--- The text of an error of a recast.
+-- The text of an error of a recast. Source: this library's own texts.
 use Rattle.std.specs.Prelude.{◌++◌, codes}
 use Rattle.bson_base.specs.Text.{Utf8}
 use Rattle.bson_datum.specs.ErrorView.{read_failure, write_failure}

@@ -1,4 +1,4 @@
--- What recasting a document's bytes at a shape comes to.
+-- What recasting a document's bytes at a shape comes to. Source: this library's own readers and writers.
 use Rattle.std.specs.Prelude.{◌≡◌, ◌≢◌, ◌⊎◌, ℕ, Bool, true, false, nat_lt, Option, Some, None, Result, Ok, Err}
 use Rattle.std.specs.Global.{Vec}
 use Rattle.bson_base.specs.Text.{Bytes}
@@ -22,7 +22,7 @@ pub data Recast : Type 0 where
   writes : Bytes → Recast
   -- the bytes are not read at the shape, for this failure
   unread : Failure ReadFault → Recast
-  -- what is read is not written: for this failure, where one is due, or for its size, where it takes more bytes than a document may
+  -- what is read is not written: for this failure, where there is one, or for its size, where it takes more bytes than a document may
   unwritten : (due : Option (Failure WriteFault)) → (too_long : Bool) → Recast
 
 -- the recast of a value that is too long or not, by the tree that it is written as
@@ -42,12 +42,12 @@ recast_of s bytes = recast_read (reads_document s bytes)
 
 -- ---- what a call returns
 
--- the failure is the one that is due
+-- the failure is this one
 abbrev pub Is : Option (Failure WriteFault) → Failure WriteFault → Type 0
 Is None f = ⊥
 Is (Some due) f = f ≡ due
 
--- What is read is not written, for this failure. Where a refusal is due and the whole is too long, it is either.
+-- What is read is not written, for this failure. Where there is a refusal and the whole is too long, it is either.
 abbrev pub Unwritten : Recast → Failure WriteFault → Type 0
 Unwritten (writes bytes) f = ⊥
 Unwritten (unread e) f = ⊥
@@ -94,7 +94,7 @@ abbrev pub StopsAs : {Y : Type 0} → Option Ending → Result Y Ending → Type
 StopsAs None due = Unit {0}
 StopsAs (Some x) due = due ≡ Err x
 
--- A step gives what is due, seen so, or the recast ends; or memory ran out.
+-- A step gives what the definition gives, seen so, or the recast ends; or memory ran out.
 abbrev pub Steps : {X Y : Type 0} → (X → Y) → Result X RecastError → Result Y Ending → Type 0
 Steps see (Ok x) due = due ≡ Ok (see x)
 Steps see (Err e) due = StopsAs (stopped e) due

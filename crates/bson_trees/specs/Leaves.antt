@@ -1,4 +1,4 @@
--- What contracts see of values at the leaves of extended kinds.
+-- What contracts see of values at the leaves of extended kinds. Source: serde's data model.
 use Rattle.std.specs.Prelude.{Bool, true, false}
 use Rattle.bson_base.specs.Outcome.{◌>>=◌, result_map}
 use Rattle.bson_base.specs.Text.{Bytes, Utf8}

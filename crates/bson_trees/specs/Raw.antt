@@ -1,4 +1,4 @@
--- What contracts see of documents and arrays in their bytes.
+-- What contracts see of documents and arrays in their bytes. Source: this library's own types.
 use Rattle.bson_base.specs.Outcome.{◌>>=◌}
 use Rattle.bson_rawdoc.specs.Node.{Node}
 use Rattle.bson_rawdoc.specs.Piece.{Piece}

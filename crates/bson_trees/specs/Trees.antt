@@ -1,4 +1,4 @@
--- What contracts see of values that are read as trees: data.
+-- What contracts see of values that are read as trees: data. Source: MongoDB's extended JSON, version 2.
 use Rattle.std.specs.Prelude.{Bool, true, false}
 use Rattle.bson_base.specs.Outcome.{◌>>=◌, result_map}
 use Rattle.bson_base.specs.Sorted.{sorted}

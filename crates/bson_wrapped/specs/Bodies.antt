@@ -1,4 +1,4 @@
--- What contracts see of the values of wrapper keys.
+-- What contracts see of the values of wrapper keys. Source: MongoDB's extended JSON, version 2.
 use Rattle.std.specs.Prelude.{Bool, true, false, Option, Some, None, option_map, option_and_then, Ok}
 use Rattle.uuid.specs.Text.{parsed}
 use Rattle.bson_base.specs.Outcome.{◌>>=◌, result_map}

@@ -1,4 +1,4 @@
--- What contracts see of JavaScript code with the entries of its scope.
+-- What contracts see of JavaScript code with the entries of its scope. Source: the reserved names of MongoDB's crate bson, version 2.
 use Rattle.std.specs.Prelude.{codes}
 use Rattle.bson_base.specs.Text.{Utf8}
 use Rattle.bson_rawdoc.specs.Piece.{made}

@@ -1,4 +1,4 @@
--- What contracts see of the fields of a struct that are read.
+-- What contracts see of the fields of a struct that are read. Source: MongoDB's extended JSON, version 2.
 use Rattle.std.specs.Prelude.{[], ◌∷◌, Option, None}
 use Rattle.bson_base.specs.Text.{Utf8}
 use Rattle.bson_rawdoc.specs.Node.{Node}

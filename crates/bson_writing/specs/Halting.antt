@@ -1,4 +1,4 @@
--- Why a writer stops before its end.
+-- Why a writer stops before its end. Source: this library's own errors.
 use Rattle.std.specs.Prelude.{◌≡◌, ℕ, ◌<◌, reverse, Option, Some, Result, Ok, Err, IsOk}
 use Rattle.bson_base.specs.Sound.{max_bytes}
 use Rattle.bson_datum.specs.Cause.{too_long}
@@ -39,14 +39,14 @@ IsUnder segment TooLong h = h ≡ TooLong
 IsUnder segment (Stopped s) (Stopped t) = stops.IsUnder segment s t
 IsUnder segment (Stopped s) TooLong = ⊥
 
--- Why something of a size is not written into so much spare room: a refusal is the one that is due, memory runs out only where
--- another refusal is due or the room is too small, and only what has more bytes than a document may is too long.
+-- Why something of a size is not written into so much spare room: a refusal is the one of the definition, memory runs out only where
+-- the definition gives another refusal or the room is too small, and only what has more bytes than a document may is too long.
 abbrev pub Halts : {A : Type 0} → ℕ → ℕ → Writing A → Halt → Type 0
 Halts size spare due (Stopped (Refused r)) = due ≡ Err (refusal r.value)
 Halts size spare due (Stopped NoMemory) = IsOk due → spare < size
 Halts size spare due TooLong = max_bytes < size
 
--- what is due is given, or there is a reason not to
+-- what the definition gives is given, or there is a reason not to
 abbrev pub Gives : {X Y : Type 0} → ℕ → ℕ → (X → Y) → Result X Halt → Writing Y → Type 0
 Gives size spare view (Ok x) due = due ≡ Ok (view x)
 Gives size spare view (Err h) due = Halts size spare due h

@@ -1,4 +1,4 @@
--- How many levels of documents and arrays are left for the parts of a value that is written part by part.
+-- How many levels of documents and arrays are left for the parts of a value that is written part by part. Source: the limits of this library.
 use Rattle.std.specs.Prelude.{ℕ, ◌-◌}
 use Rattle.bson_base.specs.Sound.{max_levels}
 

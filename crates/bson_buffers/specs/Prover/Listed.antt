@@ -1,4 +1,4 @@
--- What is due for a call that lists the refused documents.
+-- What must be written for a call that lists the refused documents.
 use Rattle.std.specs.Prelude.{◌≡◌, ◌+◌, ℕ, List, [], ◌∷◌, ◌++◌, length, take, drop, codes, string_bytes}
 use Rattle.std.specs.List.{sum_by}
 use Rattle.bson_base.specs.Text.{Bytes, Utf8}
@@ -58,7 +58,7 @@ pub record IsListingOf (file : Bytes) (m : Migration) (d : DueList) : Type 0 whe
   pub texts : string_bytes d.due.text ≡ texts_of m.refused.items
   pub records : d.refusals.items ≡ records_from file 0 m.refused.items
 
--- what is due for a file
+-- what must be written for a file
 abbrev pub IsForListing : (shape file : Bytes) → Status → (place : ℕ) → (output : Bytes) → (said : Utf8) → (records : List Refusal) → Type 0
 IsForListing shape file statuses.Done place output said records =
     (s : Form) × DenotesShape shape s × (migration_of s file ≡ migrated output []) × (IsSettled s → migration_of s output ≡ migrated output []) × (place ≡ 0) × (said ≡ []) × (records ≡ [])

@@ -1,4 +1,4 @@
--- The first `at` bytes that are due were written, and the rest still fits in what room was told.
+-- The first `at` bytes that are to be written were, and the rest still fits in what room was told.
 use Rattle.std.proofs.Common.{◌-◌, ◌≤◌, length, take, drop}
 use Rattle.std.specs.Io.KnownBytes.{Appends}
 use Rattle.bson_io.specs.Ends.{FitsIn}
