@@ -20,6 +20,7 @@ pub use Rattle.bson_base.specs.Sorted
 pub use Rattle.bson_base.specs.Sound
 pub use Rattle.bson_base.specs.Text
 pub use Rattle.bson_base.specs.Tree
+pub use Rattle.bson_made.specs.Made as MadeRows
 pub use Rattle.bson_io.specs.Adapters
 pub use Rattle.bson_io.specs.Ends
 pub use Rattle.bson_io.specs.Memory
@@ -173,6 +174,7 @@ pub use Rattle.bson_program.specs.Run
 pub use Rattle.bson_program.specs.ShapeWord
 pub use Rattle.bson_recast_run.specs.Digits
 pub use Rattle.bson_recast_run.specs.Due as RunDue
+pub use Rattle.bson_recast_run.specs.Making as RunMaking
 pub use Rattle.bson_recast_run.specs.Number as RunNumber
 pub use Rattle.bson_recast_run.specs.Options as RunOptions
 pub use Rattle.bson_ways_laws.specs.Simple

@@ -27,12 +27,13 @@ use Rattle.bson_laws.proofs.ReadAgain.{document_size}
 use Rattle.bson_program.proofs.Inputs.{whole}
 use Rattle.bson_program.specs.Command.{IsAskedFor}
 use Rattle.bson_program.specs.Ends.{ReadAs}
-use Rattle.bson_program.specs.Input.{OnInput}
 use Rattle.bson_program.specs.Program.{IsDue, IsAnswered}
 use Rattle.bson_program.specs.Run.{Run, AllQuiet, AreKept, AreWritten, Told, CutShort}
 use Rattle.bson_de_raw.specs.ReadsLossy.{reads_lossy}
 use Rattle.bson_de_raw.proofs.Lossy.{lossy_document_again}
 use Rattle.bson_recast_run.specs.declared.options.Job.{Job}
+use Rattle.bson_recast_run.specs.declared.options.Request.{Request}
+use Rattle.bson_recast_run.specs.declared.options.Request.TheVariants as requests
 use Rattle.bson_recast_run.specs.declared.options.Way.{Way}
 use Rattle.bson_recast_run.specs.declared.options.Way.TheVariants as ways
 use Rattle.bson_tree_recast.proofs.Written.{Reader, written_as, recast_as}
@@ -43,7 +44,7 @@ use Rattle.bson_recast_run.specs.Digits.{document_in, shown}
 use Rattle.bson_recast_run.specs.Options.{recast_command, request, AskForDigits, IsByValue}
 use Rattle.bson_tree_recast.specs.Recast.{writes, written, recast_read, recast_of, IsRecast}
 use Rattle.bson_recast_run.specs.Recasting.{lossy_recast_of, recast_with}
-use Rattle.bson_recast_run.specs.Rows.{AnswersDocument, AnswersJob, recast_input, recast_program, WritesExactly}
+use Rattle.bson_recast_run.specs.Rows.{AnswersDocument, AnswersRequest, recast_program, WritesExactly}
 use Rattle.bson_recast_run.proofs.AskedFor.{options_asked}
 use Rattle.bson_recast_run.proofs.DigitsBack.{document_are, shown_holds}
 use Rattle.bson_recast_run.proofs.Headline.{writes_job}
@@ -115,23 +116,24 @@ done_for job None out line h = absurd h
 -- a run that ended well: the job that was asked for, the input, and what was written
 pub record HasWritten (r : Run Status) : Type 0 where
   pub job : Job
-  pub asked : IsAskedFor recast_command r.words job
+  pub asked : IsAskedFor recast_command r.words (requests.Recast job)
   pub bytes : Bytes
   pub read : ReadAs r.input bytes
   pub out : Bytes
   pub done : IsDone job (document_in job.options.hex bytes) out
   pub out_grew : Appends r.out.before r.out.after out
 
-has_written : (r : Run Status) → r.status ≡ statuses.Done → IsAnswered recast_program r → HasWritten r
-has_written r done answers = by_end answers.ended where
+has_written : (r : Run Status) (job : Job) → request r.words ≡ Ok (requests.Recast job) → r.status ≡ statuses.Done → IsAnswered recast_program r → HasWritten r
+has_written r job asks done answers = by_end answers.ended where
   by_due : (bytes lines : Bytes) → AreWritten bytes lines r.out r.err → IsDue recast_program r.words r.input statuses.Done bytes lines → HasWritten r
   by_due bytes lines written (inr row) = absurd (let e = row.ended in cc)
-  by_due bytes lines written (inl row) = by_input row.answer where
-    by_input : OnInput recast_input (AnswersJob row.job) r.input statuses.Done bytes lines → HasWritten r
-    by_input (inl h) =
-        record { job = row.job; asked = row.asked; bytes = h.bytes; read = h.read; out = bytes; done = done_for row.job (document_in row.job.options.hex h.bytes) bytes lines h.answer; out_grew = written.out_grew }
-    by_input (inr (inl h)) = absurd (let e = h.ended in cc)
-    by_input (inr (inr h)) = absurd (let e = h.ended in cc)
+  by_due bytes lines written (inl row) = by_request row.job row.asked row.answer where
+    by_request : (asked : Request) → IsAskedFor recast_command r.words asked → AnswersRequest asked r.input statuses.Done bytes lines → HasWritten r
+    by_request (requests.Make rows) is h = absurd (let e = sym asks ∙ is.is in cc)
+    by_request (requests.Recast job) is (inl h) =
+        record { job = job; asked = is; bytes = h.bytes; read = h.read; out = bytes; done = done_for job (document_in job.options.hex h.bytes) bytes lines h.answer; out_grew = written.out_grew }
+    by_request (requests.Recast job) is (inr (inl h)) = absurd (let e = h.ended in cc)
+    by_request (requests.Recast job) is (inr (inr h)) = absurd (let e = h.ended in cc)
 
   by_end : Told (IsDue recast_program r.words r.input) r ⊎ ((r.status ≡ statuses.SinkFault) × CutShort (IsDue recast_program r.words r.input) r) ⊎ ((r.status ≡ statuses.NoMemory) × AreKept r.out r.err) → HasWritten r
   by_end (inl h) = by_due h.bytes h.lines h.written (subst (λ x. IsDue recast_program r.words r.input x h.bytes h.lines) done h.due)
@@ -145,17 +147,18 @@ shown_fits true document out small is digits = digits refl
 
 -- A run by value that ended well on an input of bytes, at a shape that does not depend on whether the reader is human, wrote `out` to an empty output: a run with the
 -- same words on `out` writes exactly it, or nothing. Digits may be more than an input may have.
-pub run_again : (first second : Run Status) (job : Job) (given out : Bytes) → request first.words ≡ Ok job → IsByValue job.options.way → IsSettled job.shape → IsAnswered recast_program first → first.status ≡ statuses.Done → AreBytes given → first.input.before ≡ Some given
+pub run_again : (first second : Run Status) (job : Job) (given out : Bytes) → request first.words ≡ Ok (requests.Recast job) → IsByValue job.options.way → IsSettled job.shape → IsAnswered recast_program first → first.status ≡ statuses.Done → AreBytes given → first.input.before ≡ Some given
     → first.out.before ≡ Some [] → first.out.after ≡ Some out → (AskForDigits first.words → length out ≤ max_bytes) → IsAnswered recast_program second → second.words ≡ first.words
     → second.input.before ≡ Some out → AllQuiet second → WritesExactly second out
 run_again first second job given out asked value due answers done are told empty holds short again words input quiet =
-    let h = has_written first done answers in
+    let h = has_written first job asked done answers in
     let d = h.done in
     let o = h.job.options in
     let s = h.job.shape in
     let is_input : h.bytes ≡ given = whole first.input.before first.input.after h.bytes given h.read.taken h.read.ended told in
     let is_out : h.out ≡ out = grown first.out.before first.out.after h.out out empty holds h.out_grew in
-    let same_job : job ≡ h.job = ok_is job h.job (sym asked ∙ h.asked.is) in
+    let same_request : requests.Recast job ≡ requests.Recast h.job = ok_is (requests.Recast job) (requests.Recast h.job) (sym asked ∙ h.asked.is) in
+    let same_job : job ≡ h.job = cc in
     let settled : IsSettled s = subst (λ (j : Job). IsSettled j.shape) same_job due in
     let by : IsByValue o.way = subst (λ (j : Job). IsByValue j.options.way) same_job value in
     let held : document_in o.hex given ≡ Some d.document = sym (ap (document_in o.hex) is_input) ∙ d.holds in

@@ -16,6 +16,7 @@ use Rattle.bson_laws.specs.Means.{means}
 use Rattle.bson_laws.specs.Plain.{IsPlain}
 use Rattle.bson_laws.specs.Recursive.{view}
 use Rattle.bson_recast_run.specs.declared.options.Job.{Job}
+use Rattle.bson_recast_run.specs.declared.options.Request.TheVariants as requests
 use Rattle.bson_recast_run.specs.declared.status.Status.{Status}
 use Rattle.bson_recast_run.specs.declared.status.Status.TheVariants as statuses
 use Rattle.bson_recast_run.specs.Due.{recast_usage}
@@ -90,9 +91,9 @@ writes_due hex document status bytes line h = absurd h
 
 -- Asked for a job on this input, which holds a document whose recast writes another, exactly that is written, or nothing.
 pub writes_job : (job : Job) (doc held out : Bytes) (r : Run Status) → IsAnswered recast_program r → length doc ≤ max_bytes → document_in job.options.hex doc ≡ Some held
-    → recast_with job.options.way job.shape held ≡ writes out → request r.words ≡ Ok job → r.input.before ≡ Some doc → AllQuiet r → WritesExactly r (shown job.options.hex out)
+    → recast_with job.options.way job.shape held ≡ writes out → request r.words ≡ Ok (requests.Recast job) → r.input.before ≡ Some doc → AllQuiet r → WritesExactly r (shown job.options.hex out)
 writes_job job doc held out r answers small holds recast_is asked told quiet =
-    by_end (quiet_read recast_program recast_input (AnswersJob job) r job doc quiet asked (λ status bytes line h. h) told small answers) where
+    by_end (quiet_read recast_program recast_input (AnswersJob job) r (requests.Recast job) doc quiet asked (λ status bytes line h. h) told small answers) where
       by_end : Told (AnswersJob job doc) r ⊎ ((r.status ≡ statuses.NoMemory) × AreKept r.out r.err) → WritesExactly r (shown job.options.hex out)
       by_end (inl h) =
           let of_held : AnswersDocument job (Some held) r.status h.bytes h.lines = subst (λ d. AnswersDocument job d r.status h.bytes h.lines) holds h.due in

@@ -2,6 +2,9 @@ pub mod RecastErrors
 pub mod DigitsBack
 mod LeadingOptions
 pub mod AskedFor
+mod RowsAsked
+mod MadeRecast
+mod RowsDue
 pub mod Migrates
 pub mod Headline
 pub mod Settled

@@ -1,5 +1,5 @@
 -- The options of the command line, and what it asks for. Source: this library's own programs.
-use Rattle.std.specs.Prelude.{◌≡◌, ◌⊎◌, List, [], ◌∷◌, ◌++◌, Bool, true, false, not, ◌&&◌, IsTrue, if◌then◌else◌, Option, Some, None, Result, codes}
+use Rattle.std.specs.Prelude.{◌≡◌, ◌⊎◌, ℕ, List, [], ◌∷◌, ◌++◌, Bool, true, false, not, ◌&&◌, IsTrue, if◌then◌else◌, Option, Some, None, Result, Ok, codes}
 use Rattle.std.specs.Str.{bytes_eq}
 use Rattle.bson_base.specs.Outcome.{result_map}
 use Rattle.bson_base.specs.Text.{Utf8}
@@ -10,8 +10,11 @@ use Rattle.bson_program.specs.Command.{Command}
 use Rattle.bson_program.specs.OneShape as one_shape
 use Rattle.bson_program.specs.ShapeWord.{RefusesWord}
 use Rattle.bson_recast_run.specs.Due.{recast_usage}
+use Rattle.bson_recast_run.specs.Making.{AskForRows, rows_asked}
 use Rattle.bson_recast_run.specs.declared.options.Job.{Job}
 use Rattle.bson_recast_run.specs.declared.options.Options.{Options}
+use Rattle.bson_recast_run.specs.declared.options.Request.{Request}
+use Rattle.bson_recast_run.specs.declared.options.Request.TheVariants as requests
 use Rattle.bson_recast_run.specs.declared.options.Way.{Way}
 use Rattle.bson_recast_run.specs.declared.options.Way.TheVariants.{Plain, Lossy, Tree}
 
@@ -50,7 +53,7 @@ pub record IsList (words : List Utf8) (options : Options) (word : Utf8) : Type 0
   pub is : words ≡ given ++ word ∷ []
 
 -- The words are options and the notation of this shape.
-pub record AsksFor (words : List Utf8) (job : Job) : Type 0 where
+pub record AsksForJob (words : List Utf8) (job : Job) : Type 0 where
   pub list : IsList words job.options (text job.shape)
   pub made : IsShape job.shape
 
@@ -65,9 +68,9 @@ pub record IsNoShape (words : List Utf8) (line : Utf8) : Type 0 where
   pub list : IsList words options word
   pub refused : RefusesWord word line
 
--- The words ask for nothing, and the line tells why.
-abbrev pub RefusesWords : List Utf8 → (line : Utf8) → Type 0
-RefusesWords words line = (IsNoList words × (line ≡ recast_usage.line)) ⊎ IsNoShape words line
+-- The words ask for no recast of an input, and the line tells why.
+abbrev pub RefusesJob : List Utf8 → (line : Utf8) → Type 0
+RefusesJob words line = (IsNoList words × (line ≡ recast_usage.line)) ⊎ IsNoShape words line
 
 -- ---- what they ask for
 
@@ -94,11 +97,34 @@ abbrev pub job_of : Options → Form → Job
 job_of o s = record { options = o; shape = s }
 
 -- what is asked for by options, each at most once, and exactly one word behind them, which is no option and the notation of a shape
-abbrev pub request : List Utf8 → Result Job Utf8
-request words = let led = options_of no_options words in result_map (job_of led.0) (one_shape.request recast_usage led.1)
+abbrev pub job_request : List Utf8 → Result Job Utf8
+job_request words = let led = options_of no_options words in result_map (job_of led.0) (one_shape.request recast_usage led.1)
+
+-- the command line of a recast of an input
+abbrev pub job_command : Command Job
+job_command = record { AsksFor = AsksForJob; Refuses = RefusesJob; request = job_request }
+
+-- ---- a recast of an input, or of a document of rows
+
+-- The words ask for this.
+abbrev pub AsksFor : List Utf8 → Request → Type 0
+AsksFor words (requests.Recast job) = AsksForJob words job
+AsksFor words (requests.Make rows) = AskForRows words rows
+
+-- The words ask for nothing, and the line tells why.
+abbrev pub RefusesWords : List Utf8 → (line : Utf8) → Type 0
+RefusesWords words line = ((rows : ℕ) → AskForRows words rows → ⊥) × RefusesJob words line
+
+-- what is asked for: so many rows where words ask for them, or a recast of an input
+abbrev pub request_of : (rows : Option ℕ) → (job : Result Job Utf8) → Result Request Utf8
+request_of (Some rows) job = Ok (requests.Make rows)
+request_of None job = result_map requests.Recast job
+
+abbrev pub request : List Utf8 → Result Request Utf8
+request words = request_of (rows_asked words) (job_request words)
 
 -- the command line of the recast
-abbrev pub recast_command : Command Job
+abbrev pub recast_command : Command Request
 recast_command = record { AsksFor = AsksFor; Refuses = RefusesWords; request = request }
 
 -- A document's value is read from its bytes, and written: not by way of trees.

@@ -1,16 +1,20 @@
 -- The program: the rows of its table of answers for an input that was read whole, and what it shares with every other. Source: this library's own programs.
-use Rattle.std.specs.Prelude.{◌≡◌, ◌⊎◌, [], Bool, Option, Some, None}
+use Rattle.std.specs.Prelude.{◌≡◌, ◌⊎◌, ℕ, [], Bool, Option, Some, None}
 use Rattle.std.specs.Io.KnownBytes.{Appends, Keeps}
 use Rattle.bson_base.specs.Text.{Bytes, AreBytes}
 use Rattle.bson_datum.specs.Refusal.{ReadFault, WriteFault, Failure}
+use Rattle.bson_program.specs.Ends.{SourceChange}
 use Rattle.bson_program.specs.Input.{InputEnds, OnInput, input_status}
 use Rattle.bson_program.specs.Program.{Program}
 use Rattle.bson_program.specs.Run.{Run, Due, AreKept}
 use Rattle.bson_recast_run.specs.declared.options.Job.{Job}
+use Rattle.bson_recast_run.specs.declared.options.Request.{Request}
+use Rattle.bson_recast_run.specs.declared.options.Request.TheVariants as requests
 use Rattle.bson_recast_run.specs.declared.status.Status.{Status}
 use Rattle.bson_recast_run.specs.declared.status.Status.TheVariants as statuses
 use Rattle.bson_recast_run.specs.Digits.{document_in, shown}
 use Rattle.bson_recast_run.specs.Due.{read_refused_line, write_refused_line, too_long_line, not_digits_line}
+use Rattle.bson_recast_run.specs.Making.{IsMadeLine}
 use Rattle.bson_recast_run.specs.Options.{recast_command}
 use Rattle.bson_recast_run.specs.Recasting.{recast_with}
 use Rattle.bson_tree_recast.specs.Recast.{Recast, writes, unread, unwritten, Unwritten}
@@ -74,16 +78,36 @@ abbrev pub document_status : Job → Option Bytes → Status
 document_status job (Some document) = recast_status (recast_with job.options.way job.shape document)
 document_status job None = statuses.ReadRefused
 
+-- The document of so many rows is recast, as the output tells.
+pub record MadeRow (rows : ℕ) (out line : Bytes) : Type 0 where
+  pub tells : IsMadeLine rows out
+  pub no_line : line ≡ []
+
+-- what must be written for so many rows
+abbrev pub AnswersRows : (rows : ℕ) → Due Status
+AnswersRows rows statuses.Done out line = MadeRow rows out line
+AnswersRows rows status out line = ⊥
+
 -- an input that failed, and one that is too long
 abbrev pub recast_input : InputEnds Status
 recast_input = record { source_fault = statuses.SourceFault; too_long = statuses.ReadRefused; too_long_line = too_long_line }
 
--- The program takes options and one shape, and reads an input to its end. The input may have as many bytes as a document may, digits or not.
-abbrev pub recast_program : Program Job Status
+-- what must be written for what is asked for; for rows the input is not touched
+abbrev pub AnswersRequest : Request → SourceChange → Due Status
+AnswersRequest (requests.Recast job) input status out line = OnInput recast_input (AnswersJob job) input status out line
+AnswersRequest (requests.Make rows) input status out line = Keeps input.before input.after × AnswersRows rows status out line
+
+-- the status for what is asked for, on an input of these bytes
+abbrev pub request_status : Request → Bytes → Status
+request_status (requests.Recast job) bytes = input_status recast_input (λ whole. document_status job (document_in job.options.hex whole)) bytes
+request_status (requests.Make rows) bytes = statuses.Done
+
+-- The program takes options and one shape, and reads an input to its end; or it takes a number of rows. The input may have as many bytes as a document may, digits or not.
+abbrev pub recast_program : Program Request Status
 recast_program = record {
   command = recast_command;
-  Answers = λ job. OnInput recast_input (AnswersJob job);
-  status = λ job. input_status recast_input (λ bytes. document_status job (document_in job.options.hex bytes));
+  Answers = AnswersRequest;
+  status = request_status;
   usage = statuses.Usage;
   endings = record { sink_fault = statuses.SinkFault; no_memory = statuses.NoMemory };
 }

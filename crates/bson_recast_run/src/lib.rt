@@ -2,6 +2,7 @@
 #![tactic(auto)]
 
 mod digits;
+mod making;
 mod options;
 mod recasting;
 mod running;

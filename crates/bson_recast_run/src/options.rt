@@ -1,5 +1,6 @@
 // The options of the command line, and what it asks for.
 ghost use Rattle.std.specs.Prelude.{◌≡◌, map, string_bytes};
+ghost use Rattle.bson_recast_run.specs.Making.{rows_in, rows_asked};
 ghost use Rattle.bson_recast_run.specs.Options.{is_plain, no_options, options_of, with_option};
 ghost use Rattle.bson_recast_run.specs.Recasting.{recast_with};
 ghost use Rattle.bson_tree_recast.specs.Recast.{IsRecast};
@@ -34,6 +35,18 @@ pub(crate) struct Job {
     pub(crate) options: Options,
     pub(crate) shape: Shape,
 }
+
+/// What the words ask for.
+#[derive(Drop)]
+pub(crate) enum Request {
+    /// A recast of the input.
+    Recast(Job),
+    /// `--make`: a recast of a document of so many rows, which is made.
+    Make(u32),
+}
+
+/// The most rows that may be asked for.
+const MAX_ROWS: u32 = 100_000;
 
 impl Way {
     // Whether no option asks for another way.
@@ -82,6 +95,31 @@ pub(crate) fn leading_options(words: &[String]) -> (Options, &[String])
         rest = others;
     }
     (options, rest)
+}
+
+/// The number of rows that the words ask for, where they are `--make` and such a number.
+pub(crate) fn rows_asked(words: &[String]) -> Option<u32>
+    ensures { result ≡ rows_asked (map string_bytes words.now) }
+{
+    match words {
+        [option, number] if option.as_str() == "--make" => rows_in(number.as_str()),
+        _ => None,
+    }
+}
+
+// The number of rows that a word is in decimal digits, with no zero in front.
+fn rows_in(word: &str) -> Option<u32>
+    ensures { result ≡ rows_in word.now }
+{
+    let Ok(rows) = word.parse::<u32>() else {
+        return None;
+    };
+    let mut digits = itoa::Buffer::new();
+    if rows <= MAX_ROWS && digits.format(rows) == word {
+        Some(rows)
+    } else {
+        None
+    }
 }
 
 impl Job {

@@ -14,19 +14,23 @@ ghost use Rattle.bson_laws.specs.Settled.{IsSettled};
 ghost use Rattle.bson_program.specs.Command.{Asked};
 ghost use Rattle.bson_program.specs.OneShape.{one_shape};
 ghost use Rattle.bson_program.specs.Ends.{source_change, sink_change};
+ghost use Rattle.bson_program.specs.Input.{OnInput};
 ghost use Rattle.bson_program.specs.Prepared.{Says};
 ghost use Rattle.bson_program.specs.Program.{IsDue, IsAnswered};
 ghost use Rattle.bson_program.specs.Run.{Run, run_of, AllQuiet};
 ghost use Rattle.bson_recast_run.specs.Due.{recast_usage};
-ghost use Rattle.bson_recast_run.specs.Options.{AskForDigits, IsByValue, request};
+ghost use Rattle.bson_recast_run.specs.Making.{max_rows};
+ghost use Rattle.bson_recast_run.specs.Options.{AskForDigits, IsByValue, job_command, request};
 ghost use Rattle.bson_recast_run.specs.Recasting.{recast_with};
-ghost use Rattle.bson_recast_run.specs.Rows.{AnswersRecast, AnswersNotDigits, AnswersJob, recast_program, WritesExactly};
+ghost use Rattle.bson_recast_run.specs.Rows.{AnswersRecast, AnswersNotDigits, AnswersJob, AnswersRows, recast_input, recast_program, WritesExactly};
 ghost use Rattle.bson_recast_run.specs.declared.options.Job.{Job};
+ghost use Rattle.bson_recast_run.specs.declared.options.Request.TheVariants as requests;
 ghost use Rattle.bson_recast_run.specs.declared.status.Status.{Status};
 ghost use Rattle.bson_recast_run.specs.declared.status.Status.TheVariants as statuses;
 
 use crate::digits::{bytes_of_digits, shown};
-use crate::options::{Job, leading_options};
+use crate::making::made_line;
+use crate::options::{Job, Request, leading_options, rows_asked};
 use crate::status::Status;
 use bson_io::{Sink, Source};
 use bson_program::{Answer, Endings, InputEndings, finish, read_input, shape_of_word};
@@ -34,7 +38,7 @@ use bson_shape::Shape;
 use bson_tree_recast::RecastError;
 use std::alloc::{AllocError, Global};
 
-/// The line for words that ask for no recast.
+/// The line for words that ask for nothing.
 const USAGE: &str = "usage: bson_recast [OPTIONS] SHAPE\n";
 
 /// The line for an input that is to be hexadecimal digits and is not.
@@ -61,13 +65,26 @@ fn asked_shape(alloc: Global, words: &[String]) -> Result<Result<Shape, String>,
     }
 }
 
-// What the words ask for, or the line that refuses them. The outer error means out of memory.
-fn asked(alloc: Global, words: &[String]) -> Result<Result<Job, String>, AllocError>
-    ensures { IfOk result (Asked recast_program.command (map string_bytes words.now)) }
+// The recast of an input that the words ask for, or the line that refuses them. The outer error means out of memory.
+fn asked_job(alloc: Global, words: &[String]) -> Result<Result<Job, String>, AllocError>
+    ensures { IfOk result (Asked job_command (map string_bytes words.now)) }
 {
     let (options, rest) = leading_options(words);
     match asked_shape(alloc, rest)? {
         Ok(shape) => Ok(Ok(Job { options, shape })),
+        Err(line) => Ok(Err(line)),
+    }
+}
+
+// What the words ask for, or the line that refuses them. The outer error means out of memory.
+fn asked(alloc: Global, words: &[String]) -> Result<Result<Request, String>, AllocError>
+    ensures { IfOk result (Asked recast_program.command (map string_bytes words.now)) }
+{
+    if let Some(rows) = rows_asked(words) {
+        return Ok(Ok(Request::Make(rows)));
+    }
+    match asked_job(alloc, words)? {
+        Ok(job) => Ok(Ok(Request::Recast(job))),
         Err(line) => Ok(Err(line)),
     }
 }
@@ -115,6 +132,33 @@ fn answer_to_input(alloc: Global, job: &Job, bytes: Vec<u8>) -> Result<Answer<St
     }
 }
 
+// What must be written for a recast of an input. An error means out of memory.
+fn answer_to_job<I: Source>(
+    alloc: Global,
+    job: &Job,
+    input: &mut I,
+) -> Result<Answer<Status>, AllocError>
+    ensures due { IfOk result (Says (OnInput recast_input (AnswersJob job.now) (source_change I.left I.faults input.old input.new))) }
+    ensures later { I.faults input.old ≤ I.faults input.new }
+{
+    match read_input(alloc, INPUT_ENDINGS, input)? {
+        Ok(bytes) => answer_to_input(alloc, job, bytes),
+        Err(answer) => Ok(answer),
+    }
+}
+
+// What must be written for so many rows. An error means out of memory.
+fn answer_to_rows(alloc: Global, rows: u32) -> Result<Answer<Status>, AllocError>
+    requires { rows ≤ max_rows }
+    ensures { IfOk result (Says (AnswersRows rows)) }
+{
+    Ok(Answer {
+        status: Status::Done,
+        bytes: made_line(alloc, rows)?.into_bytes(),
+        lines: String::new(alloc),
+    })
+}
+
 // What must be written for these words on this input. An error means out of memory.
 fn prepare<I: Source>(
     alloc: Global,
@@ -124,13 +168,10 @@ fn prepare<I: Source>(
     ensures due { IfOk result (Says (IsDue recast_program (map string_bytes words.now) (source_change I.left I.faults input.old input.new))) }
     ensures later { I.faults input.old ≤ I.faults input.new }
 {
-    let job = match asked(alloc, words)? {
-        Ok(job) => job,
-        Err(line) => return Ok(Answer::line(alloc, Status::Usage, line)),
-    };
-    match read_input(alloc, INPUT_ENDINGS, input)? {
-        Ok(bytes) => answer_to_input(alloc, &job, bytes),
-        Err(answer) => Ok(answer),
+    match asked(alloc, words)? {
+        Ok(Request::Recast(job)) => answer_to_job(alloc, &job, input),
+        Ok(Request::Make(rows)) => answer_to_rows(alloc, rows),
+        Err(line) => Ok(Answer::line(alloc, Status::Usage, line)),
     }
 }
 
@@ -140,22 +181,28 @@ fn prepare<I: Source>(
 /// output, which was empty, holds `out` now. It says so of the table of answers that each `run` meets (*answers*). With `--hex` the output may have more bytes
 /// than an input may; without it that is never so. The call does nothing.
 pub fn law_run_again()
-    ensures again { (first second : Run Status) (job : Job) (given out : Bytes) → request first.words ≡ Ok job → IsByValue job.options.way → IsSettled job.shape
+    ensures again { (first second : Run Status) (job : Job) (given out : Bytes) → request first.words ≡ Ok (requests.Recast job) → IsByValue job.options.way → IsSettled job.shape
         → IsAnswered recast_program first → first.status ≡ statuses.Done → AreBytes given → first.input.before ≡ Some given → first.out.before ≡ Some [] → first.out.after ≡ Some out
         → (AskForDigits first.words → length out ≤ max_bytes) → IsAnswered recast_program second → second.words ≡ first.words → second.input.before ≡ Some out
         → AllQuiet second → WritesExactly second out }
 {}
 
-/// Judges the words, reads the input to its end, recasts it, and writes the answer.
+/// Judges the words, reads the input to its end, recasts it, and writes the answer; or makes a document of rows, recasts it, and writes a line that tells of it.
 ///
 /// The words ask for a recast where they are options, each at most once and in any order, and behind them exactly one word, which does not begin with
 /// `--` and is the notation of a shape. With `--lossy` the texts of the document are mended, as `recast_utf8_lossy` does; with `--tree` the document is recast by way of
 /// trees, as `recast_by_tree` does; both together are no options. With `--hex` the input is
 /// hexadecimal digits, in either case, between which spaces, tabs, carriage returns and line feeds may stand, and the output is lower-case digits and one
-/// line feed. All memory is taken before the first write. The status says how it ended:
+/// line feed.
 ///
-/// - `Done`: the document was written to `out`, and nothing to `err`.
-/// - `Usage`: the words ask for no recast. The input is not touched.
+/// Or the words are `--make` and a number from 0 to 100000 in decimal digits, without a zero in front. Then the input is not touched: a document of so many rows is made, as
+/// `bson_made::made` does, and recast at `{rows:[{n:u32,name:string}]}`. The line on `out` has the number of rows, the lengths of the document and of its recast in bytes, and the sum of the
+/// bytes of the recast. The status is `Done`, `SinkFault` or `NoMemory`.
+///
+/// All memory is taken before the first write. The status says how it ended:
+///
+/// - `Done`: the document, or the line for the rows, was written to `out`, and nothing to `err`.
+/// - `Usage`: the words ask for nothing. The input is not touched.
 /// - `ReadRefused`: the input is no document that can be read at the shape, or is to be an even number of digits and is not, or has more than 2147483647
 ///   bytes, digits or not.
 /// - `WriteRefused`: what was read cannot be written.

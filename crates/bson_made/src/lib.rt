@@ -1,0 +1,6 @@
+//! Documents of rows that are made.
+#![tactic(auto)]
+
+mod making;
+
+pub use making::made;
