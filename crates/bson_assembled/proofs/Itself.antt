@@ -3,11 +3,11 @@ use Rattle.std.proofs.Common.{◌≡◌, ℕ, zero, suc, ◌≤◌, length, fals
 use Rattle.std.specs.Prelude.{nat_lt}
 use Rattle.std.proofs.lemmas.Bool.Decides.{nat_tests}
 use Rattle.bson_base.specs.Encoded.{key_zero, binary_too_long, or_else, zero_fault, binary_fault}
-use Rattle.bson_base.specs.Outcome.{◌>>=◌, result_map}
+use Rattle.bson_kinds.specs.Outcome.{◌>>=◌, result_map}
 use Rattle.bson_base.specs.Sound.{max_levels, max_bytes, max_binary}
-use Rattle.bson_base.specs.Text.{Bytes, Utf8, has_zero}
+use Rattle.bson_kinds.specs.Text.{Bytes, Utf8, has_zero}
 use Rattle.bson_base.specs.Tree.{Tree, double, string, document, array, binary, undefined, object_id, boolean, date_time, null, regular_expression, db_pointer, javascript_code, symbol, javascript_code_with_scope, int32, timestamp, int64, decimal128, max_key, min_key, raw, Pairs, no_pairs, pair, Trees, no_trees, tree, behind_subtype, enc, depth, pairs_depth, trees_depth}
-use Rattle.bson_datum.specs.Cause.{too_long}
+use Rattle.bson_values.specs.Cause.{too_long}
 use Rattle.bson_laws.specs.Encodable.{IsEncodable, ArePairsEncodable, AreTreesEncodable}
 use Rattle.bson_laws.proofs.TreesRead.{no_wrapper}
 use Rattle.bson_laws.specs.Assembled.{Building, unless, stays, looked_tree, with_pair, with_scope, by_key, built, looked_at, built_pairs, built_trees, after_code, raw_bytes, within_limit, assembled}

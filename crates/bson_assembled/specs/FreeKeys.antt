@@ -1,6 +1,6 @@
 -- The trees in which no document is looked at as another value. Source: MongoDB's extended JSON, version 2.
 use Rattle.std.specs.Prelude.{◌≡◌, false}
-use Rattle.bson_base.specs.Text.{begins_with_dollar}
+use Rattle.bson_kinds.specs.Text.{begins_with_dollar}
 use Rattle.bson_base.specs.Tree.{Tree, document, array, javascript_code_with_scope, Pairs, no_pairs, pair, Trees, no_trees, tree}
 
 abbrev mutual

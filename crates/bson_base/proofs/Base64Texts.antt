@@ -17,7 +17,7 @@ use Rattle.base64.proofs.Decoding.{IsLeftover, IsLeftover_next, scan-cons_err, s
 use Rattle.base64.proofs.Tables.{IsDecodeTable_from, are_tables_inverse}
 use Rattle.base64.proofs.EngineFacts.{decode_of_strict, decode_of-encode_of, encode_of-append}
 use Rattle.bson_base.specs.Parsed.{bytes_of_base64}
-use Rattle.bson_base.specs.Text.{Bytes}
+use Rattle.bson_kinds.specs.Text.{Bytes}
 
 -- a whole group's bytes before those of what follows it
 abbrev pub after_group : Option Bytes → Option Bytes → Option Bytes

@@ -3,7 +3,7 @@ use Rattle.std.proofs.Common.{◌≡◌, ◌+◌, ◌<◌, ◌++◌, length, tru
 use Rattle.std.specs.Prelude.{nat_lt}
 use Rattle.std.proofs.lemmas.Bool.Decides.{nat_tests}
 use Rattle.std.proofs.lemmas.List.{length-append}
-use Rattle.bson_base.specs.Text.{Bytes}
+use Rattle.bson_kinds.specs.Text.{Bytes}
 use Rattle.bson_base.specs.Encoded.{binary_too_long, binary_fault}
 use Rattle.bson_base.specs.Tree.{le32}
 use Rattle.bson_base.proofs.Lengths.{length-le32}

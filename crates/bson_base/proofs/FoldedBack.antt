@@ -6,7 +6,7 @@ use Rattle.std.proofs.lemmas.Bool.Decides.{nat_tests}
 use Rattle.std.proofs.lemmas.List.Elements.{All-nil, All-cons}
 use Rattle.bson_base.specs.Made.{digits, number_text, base64_text}
 use Rattle.bson_base.specs.Parsed.{first_byte, bytes_of_digits}
-use Rattle.bson_base.specs.Text.{Bytes, AreBytes, Utf8}
+use Rattle.bson_kinds.specs.Text.{Bytes, AreBytes, Utf8}
 use Rattle.bson_base.specs.Opened.{IsExtended, one, two, opened}
 use Rattle.bson_base.specs.Tree.{Tree, double, string, document, array, binary, undefined, object_id, boolean, date_time, null, regular_expression, db_pointer, javascript_code, symbol, javascript_code_with_scope, int32, timestamp, int64, decimal128, max_key, min_key, raw, Pairs, no_pairs}
 use Rattle.bson_base.specs.Folded.{uint32_of, or_document, fold, fold_values, IsInKind, HasForm, KeepsScope}

@@ -6,7 +6,7 @@ use Rattle.std.specs.Str.{IsAscii}
 use Rattle.std.proofs.lemmas.Bool.Decides.{nat_tests}
 use Rattle.std.proofs.lemmas.Str.{IsUtf8-from_ascii, is_utf8-from_IsUtf8}
 use Rattle.std.proofs.lemmas.Str.Ascii.{IsAscii-nil, IsAscii-cons}
-use Rattle.bson_base.specs.Text.{Utf8, has_zero, begins_with_dollar, IsPlainName}
+use Rattle.bson_kinds.specs.Text.{Utf8, has_zero, begins_with_dollar, IsPlainName}
 
 -- the characters are decimal digits
 abbrev AreDigits : Utf8 → Type 0

@@ -3,8 +3,8 @@ use Rattle.std.proofs.Common.{◌≡◌, ℕ, suc, ◌+◌, ◌≤◌, ℤ, Bool
 use Rattle.std.specs.Fmt.{decimal}
 use Rattle.std.specs.Int.{w32, w64, cast_unsigned}
 use Rattle.std.proofs.lemmas.List.{length-append}
-use Rattle.bson_base.specs.Text.{Bytes, Utf8}
-use Rattle.bson_base.specs.declared.element_type.ElementType.{ElementType}
+use Rattle.bson_kinds.specs.Text.{Bytes, Utf8}
+use Rattle.bson_kinds.specs.declared.element_type.ElementType.{ElementType}
 use Rattle.bson_base.specs.Tree.{Tree, string, document, array, binary, boolean, date_time, regular_expression, db_pointer, javascript_code_with_scope, int32, timestamp, int64, Pairs, pair, Trees, tree, kind, le32, le64, behind_subtype, enclosed, element, enc, elements, array_elements}
 
 pub length-le32 : (n : ℕ) → length (le32 n) ≡ 4

@@ -1,4 +1,3 @@
-pub mod Outcomes
 pub mod Lengths
 pub mod Encodings
 pub mod Folds
@@ -15,4 +14,3 @@ pub mod SubtypeTexts
 pub mod WrittenTexts
 pub mod FoldedBack
 pub mod MadeTexts
-pub mod Tests

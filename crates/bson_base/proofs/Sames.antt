@@ -1,7 +1,6 @@
 -- Equality, part by part.
-use Rattle.std.proofs.Common.{◌≡◌, ◌↔◌, IsTrue, ℕ, Bool, true, false, List, [], ◌∷◌, length, drop, refl, ap, sym, ◌∙◌, arith}
+use Rattle.std.proofs.Common.{◌≡◌, ℕ, Bool, true, false, List, [], ◌∷◌, length, drop, refl, ap, sym, ◌∙◌, arith}
 use Rattle.std.specs.Prelude.{◌&&◌, string_bytes}
-use Rattle.std.specs.Bool.{Decides}
 use Rattle.std.specs.Global.{Vec}
 use Rattle.std.specs.String.{string_eq}
 use Rattle.std.specs.Str.{bytes_eq}
@@ -15,10 +14,6 @@ use Rattle.bson_base.specs.declared.bson.Bson.{Bson}
 use Rattle.bson_base.specs.declared.bson.Bson.TheViews.{roll-Bson, roll-out-Bson, rolls-Array, outs-Array', rolls-Document, rolls-JavaScriptCodeWithScope, outs-Document', outs-JavaScriptCodeWithScope'}
 use Rattle.bson_base.specs.declared.code_with_scope.JavaScriptCodeWithScope.{JavaScriptCodeWithScope}
 use Rattle.bson_base.specs.declared.document.Document.{Document}
-
--- what a test that decides a fact answers says of the fact
-pub exactly : {P : Type 0} (r test : Bool) → r ≡ test → Decides test P → IsTrue r ↔ P
-exactly r test e d = (λ t. d.0 (sym e ∙ t), λ p. e ∙ d.1 p)
 
 -- the values that a loop has left to compare
 abbrev pub same_trees_from : ℕ → List Bson → List Bson → Bool

@@ -8,7 +8,7 @@ use Rattle.hex.specs.Hex.{decode_of, decode_pairs, decode_sized, pair_value, is_
 use Rattle.hex.specs.declared.error.FromHexError.{FromHexError}
 use Rattle.hex.proofs.HexLemmas.{decode_of-even, decode_of-ok, decode_pairs-digits, decode_sized-ok, decode_sized-twice}
 use Rattle.bson_base.specs.Parsed.{first_byte, subtype_of_text}
-use Rattle.bson_base.specs.Text.{Bytes}
+use Rattle.bson_kinds.specs.Text.{Bytes}
 
 -- the first byte of what digits stand for
 abbrev first_of : Result Bytes FromHexError → Option ℕ

@@ -12,7 +12,7 @@ use Rattle.hex.specs.Hex.{IsBytes}
 use Rattle.hex.proofs.HexLemmas.{decode_of-encode_lower, decode_sized-encode_lower}
 use Rattle.bson_base.specs.Made.{digits, number_text, base64_text}
 use Rattle.bson_base.specs.Parsed.{first_byte, bytes_of_digits, subtype_of_text, is_numeral, is_int64, integer_of_text, bytes_of_base64}
-use Rattle.bson_base.specs.Text.{Bytes, AreBytes}
+use Rattle.bson_kinds.specs.Text.{Bytes, AreBytes}
 use Rattle.bson_base.proofs.Base64Texts.{bytes_of_base64-written}
 use Rattle.bson_base.proofs.IntegerTexts.{numeral_back, int64_fits, all_numeral, fits_int64}
 

@@ -9,7 +9,7 @@ use Rattle.std.specs.String.{string_eq}
 use Rattle.std.proofs.lemmas.List.{take_more}
 use Rattle.std.proofs.lemmas.Option.{slice_get-get_or, slice_get_past}
 use Rattle.std.proofs.lemmas.Grind.{common_steps}
-use Rattle.bson_base.specs.Text.{Utf8}
+use Rattle.bson_kinds.specs.Text.{Utf8}
 use Rattle.bson_base.specs.Tree.{Tree, Trees, no_trees, tree, no_pairs, pair}
 use Rattle.bson_base.specs.BsonView.{Key, zipped, tree_of, trees_of}
 use Rattle.bson_base.specs.Sound.{Lacks}

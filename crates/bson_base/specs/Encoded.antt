@@ -1,7 +1,7 @@
 -- The bytes of a document, or why it has none. Source: bsonspec.org, version 1.1, `cstring`, and the limits of this library.
 use Rattle.std.specs.Prelude.{◌≡◌, ℕ, ◌++◌, length, nat_lt, if◌then◌else◌, Option, Some, None, Result, Ok, Err, string_bytes}
 use Rattle.std.specs.Global.{Vec}
-use Rattle.bson_base.specs.Text.{Bytes, Utf8, has_zero}
+use Rattle.bson_kinds.specs.Text.{Bytes, Utf8, has_zero}
 use Rattle.bson_base.specs.Sound.{max_bytes, max_binary}
 use Rattle.bson_base.specs.Tree.{Tree, document, array, binary, regular_expression, javascript_code_with_scope, Pairs, no_pairs, pair, Trees, no_trees, tree, behind_subtype, enc}
 use Rattle.bson_base.specs.declared.encoding.EncodeError.{EncodeError}

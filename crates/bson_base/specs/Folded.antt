@@ -10,7 +10,7 @@ use Rattle.bson_base.specs.Pairs.{lookup}
 use Rattle.bson_base.specs.Parsed.{bytes_of_digits, integer_of_text, bytes_of_base64, first_byte}
 use Rattle.bson_base.specs.Sorted.{sorted}
 use Rattle.bson_base.specs.Sound.{HasBytes}
-use Rattle.bson_base.specs.Text.{Bytes, AreBytes, Utf8}
+use Rattle.bson_kinds.specs.Text.{Bytes, AreBytes, Utf8}
 use Rattle.bson_base.specs.Tree.{Tree, double, string, document, binary, undefined, object_id, boolean, date_time, regular_expression, db_pointer, javascript_code, symbol, javascript_code_with_scope, int32, timestamp, int64, decimal128, max_key, min_key, Pairs, no_pairs, pair}
 
 -- ---- the forms of values

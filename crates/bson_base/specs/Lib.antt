@@ -1,9 +1,5 @@
-pub mod Text
-pub mod Kind
-pub mod Reserved
 pub mod Tree
 pub mod Sound
-pub mod Outcome
 pub mod Instant
 pub mod Made
 pub mod Parsed

@@ -1,7 +1,7 @@
 -- The documents that extended values are opened to, for readers without their kinds. Source: MongoDB's extended JSON, but for `$numberDecimalBytes`, the order of
 -- `$binary`, and the Int64s of `$timestamp`.
 use Rattle.std.specs.Prelude.{◌≢◌, [], ◌∷◌, pos, true, nat_eq, if◌then◌else◌, codes}
-use Rattle.bson_base.specs.Text.{Utf8}
+use Rattle.bson_kinds.specs.Text.{Utf8}
 use Rattle.bson_base.specs.Made.{digits, number_text, base64_text}
 use Rattle.bson_base.specs.Tree.{Tree, double, string, document, array, binary, undefined, object_id, boolean, date_time, null, regular_expression, db_pointer, javascript_code, symbol, javascript_code_with_scope, int32, timestamp, int64, decimal128, max_key, min_key, raw, Pairs, no_pairs, pair}
 

@@ -1,7 +1,7 @@
 -- The pairs of a document as an ordered map. Source: the usual map that keeps the order of insertion.
 use Rattle.std.specs.Prelude.{ℕ, suc, List, [], ◌∷◌, if◌then◌else◌, Option, None, Some}
 use Rattle.std.specs.Str.{bytes_eq}
-use Rattle.bson_base.specs.Text.{Utf8}
+use Rattle.bson_kinds.specs.Text.{Utf8}
 use Rattle.bson_base.specs.Tree.{Tree, Pairs, no_pairs, pair}
 use Rattle.bson_base.specs.Sound.{Lacks}
 

@@ -8,7 +8,7 @@ use Rattle.hex.specs.Hex as hex
 use Rattle.hex.specs.Hex.{decode_sized}
 use Rattle.base64.specs.Engines.{standard}
 use Rattle.base64.specs.GeneralPurpose as base64
-use Rattle.bson_base.specs.Text.{Bytes, Utf8}
+use Rattle.bson_kinds.specs.Text.{Bytes, Utf8}
 
 -- the call gives the value that the text stands for, or its one refusal where the text stands for none
 abbrev pub Parses : {X Y E : Type 0} → (X → Y) → Result X E → Option Y → Type 0

@@ -1,5 +1,5 @@
 -- What contracts see of a `Regex`. Source: bsonspec.org, version 1.1, regular expressions.
-use Rattle.bson_base.specs.Text.{Utf8}
+use Rattle.bson_kinds.specs.Text.{Utf8}
 
 -- its two texts (that the options are in order is an invariant of `Regex`)
 pub record RegexTexts : Type 0 where

@@ -2,7 +2,7 @@
 use Rattle.std.specs.Prelude.{◌≡◌, ℕ, ◌^◌, ◌<◌, ◌≤◌, length, true, false, FitsSigned, if◌then◌else◌, nat_eq}
 use Rattle.std.specs.Int.{w32, w64}
 use Rattle.std.specs.Str.{bytes_eq, is_utf8}
-use Rattle.bson_base.specs.Text.{Bytes, Utf8, AreBytes, has_zero, IsPlainName}
+use Rattle.bson_kinds.specs.Text.{Bytes, Utf8, AreBytes, has_zero, IsPlainName}
 use Rattle.bson_base.specs.Tree.{Tree, double, string, document, array, binary, undefined, object_id, boolean, date_time, null, regular_expression, db_pointer, javascript_code, symbol, javascript_code_with_scope, int32, timestamp, int64, decimal128, max_key, min_key, raw, Pairs, no_pairs, pair, Trees, no_trees, tree, enc, depth}
 
 -- the most levels of documents and arrays

@@ -5,7 +5,8 @@ ghost use Rattle.bson_base.specs.BsonView.{tree_of, trees_of};
 use crate::binary::Binary;
 use crate::code_with_scope::JavaScriptCodeWithScope;
 use crate::document::Document;
-use crate::{DateTime, DbPointer, Decimal128, Double, ElementType, ObjectId, Regex, Timestamp};
+use crate::{DateTime, DbPointer, Decimal128, Double, ObjectId, Regex, Timestamp};
+use bson_kinds::ElementType;
 use std::alloc::{AllocError, Global};
 
 /// A BSON value.

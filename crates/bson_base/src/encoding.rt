@@ -3,16 +3,17 @@ ghost use Rattle.std.specs.Prelude.{◌≡◌, ◌≤◌, ◌+◌, ◌-◌, ◌+
 ghost use Rattle.std.specs.Fmt.{decimal};
 ghost use Rattle.bson_base.specs.BsonView.{tree_of, trees_of, pairs_of};
 ghost use Rattle.bson_base.specs.Encoded.{zero_fault, binary_fault, encode_fault, encoded, Encodes, Puts, TellsZero};
-ghost use Rattle.bson_base.specs.Kind.{byte};
+ghost use Rattle.bson_kinds.specs.Kind.{byte};
 ghost use Rattle.bson_base.specs.Tree as trees;
 ghost use Rattle.bson_base.specs.Tree.{enc, closed_text, le32};
 
+use crate::Timestamp;
 use crate::bson::Bson;
 use crate::document::Document;
 use crate::limits::{MAX_BINARY, MAX_BYTES};
 use crate::regex::Regex;
 use crate::texts::has_zero;
-use crate::{ElementType, Timestamp};
+use bson_kinds::ElementType;
 use std::alloc::{AllocError, Global};
 use thiserror::Error;
 

@@ -1,7 +1,7 @@
 // Texts that are made of bytes and of numbers, and the test of a text for a zero.
 ghost use Rattle.std.specs.Prelude.{◌≡◌, string_bytes, IfOk};
 ghost use Rattle.bson_base.specs.Made.{digits, number_text, base64_text};
-ghost use Rattle.bson_base.specs.Text.{has_zero};
+ghost use Rattle.bson_kinds.specs.Text.{has_zero};
 
 use base64::engine::general_purpose::STANDARD;
 use std::alloc::{AllocError, Global};

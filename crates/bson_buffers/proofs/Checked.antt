@@ -1,6 +1,6 @@
 -- From what must be written for a shape and what was delivered to the table of statuses.
 use Rattle.std.proofs.Common.{◌≡◌, ◌≤◌, ℕ, [], length, ap, subst, arith}
-use Rattle.bson_base.specs.Text.{Bytes, Utf8}
+use Rattle.bson_kinds.specs.Text.{Bytes, Utf8}
 use Rattle.bson_buffers.specs.Asked.{DenotesNone}
 use Rattle.bson_buffers.specs.Checks.{NoShapeRow}
 use Rattle.bson_buffers.specs.Due.{IsDelivered}

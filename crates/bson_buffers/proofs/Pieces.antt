@@ -2,7 +2,7 @@
 use Rattle.std.proofs.Common.{◌≡◌, ℕ, ◌+◌, ◌<◌, ◌≤◌, ◌-◌, [], ◌∷◌, length, take, drop, Option, Some, None, refl, ap, sym, ◌∙◌, inl, inr, arith}
 use Rattle.std.specs.Prelude.{◌⊎◌}
 use Rattle.std.proofs.lemmas.List.{length-drop, length-take-le, drop_all, drop-drop, take_rest}
-use Rattle.bson_base.specs.Text.{Bytes}
+use Rattle.bson_kinds.specs.Text.{Bytes}
 use Rattle.bson_rawdoc.specs.Cut.{Cut, whole, broken_at, with_piece, piece_length, cut_from, cut}
 use Rattle.bson_rawdoc.proofs.Pieces.{piece_fits, cut-nil, cut_more, cut_broken}
 use Rattle.bson_buffers.specs.Finding.{left_at, IsDocument, IsEnd, IsBroken}

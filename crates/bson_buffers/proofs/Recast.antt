@@ -1,8 +1,8 @@
 -- From what must be written for a document and what was delivered to the table of statuses.
 use Rattle.std.proofs.Common.{◌≡◌, ◌≤◌, ◌<◌, ℕ, length, refl, ap, subst, sym, ◌∙◌, inl, inr}
 use Rattle.std.specs.Prelude.{◌⊎◌}
-use Rattle.bson_base.specs.Text.{Bytes, Utf8}
-use Rattle.bson_datum.specs.Refusal.{WriteFault, Failure}
+use Rattle.bson_kinds.specs.Text.{Bytes, Utf8}
+use Rattle.bson_values.specs.Refusal.{WriteFault, Failure}
 use Rattle.bson_shape.specs.Form.{Form}
 use Rattle.bson_tree_recast.specs.Recast.{Recast, writes, unread, unwritten, recast_of, Unwritten}
 use Rattle.bson_buffers.specs.Asked.{shape_of_bytes, DenotesShape}

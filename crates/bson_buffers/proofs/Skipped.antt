@@ -4,7 +4,7 @@ use Rattle.std.specs.Prelude.{◌⊎◌}
 use Rattle.std.specs.List.{sum_by}
 use Rattle.std.proofs.lemmas.List.{length-drop, length-take-le}
 use Rattle.std.proofs.lemmas.List.Sums.{sum_by-cons}
-use Rattle.bson_base.specs.Text.{Bytes}
+use Rattle.bson_kinds.specs.Text.{Bytes}
 use Rattle.bson_rawdoc.specs.Cut.{Cut, cut}
 use Rattle.bson_buffers.specs.Finding.{left_at, IsDocument}
 use Rattle.bson_buffers.specs.Lists.{offset_in}

@@ -2,7 +2,7 @@
 use Rattle.std.specs.Prelude.{◌≡◌, ◌⊎◌, ℕ, if◌then◌else◌, codes, false, Result, Ok, Err}
 use Rattle.std.specs.Str.{is_utf8}
 use Rattle.std.specs.Str.Lossy.{utf8_valid_len}
-use Rattle.bson_base.specs.Text.{Bytes, Utf8}
+use Rattle.bson_kinds.specs.Text.{Bytes, Utf8}
 use Rattle.bson_shape.specs.Form.{Form}
 use Rattle.bson_shape.specs.Fronts.{IsNotNotationAt, IsRefusedAt}
 use Rattle.bson_shape.specs.Machine.{Refusal, Not_notation, Refused, parsed}

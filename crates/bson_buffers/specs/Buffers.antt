@@ -1,6 +1,6 @@
 -- The buffers that a caller gives, and what a call did with them. Source: this library's own calls with buffers.
 use Rattle.std.specs.Prelude.{◌≡◌, ◌<◌, ◌≤◌, ℕ, min, [], ◌++◌, length, take, drop}
-use Rattle.bson_base.specs.Text.{Bytes, Utf8}
+use Rattle.bson_kinds.specs.Text.{Bytes, Utf8}
 use Rattle.bson_buffers.specs.declared.report.Report.{Report}
 
 -- the bytes of a buffer before and after a call

@@ -1,6 +1,6 @@
 -- Judging a shape: when each status comes, and what the call did then. Source: this library's own calls with buffers.
 use Rattle.std.specs.Prelude.{◌≡◌, ◌⊎◌, [], Result, Ok, Err}
-use Rattle.bson_base.specs.Text.{Bytes}
+use Rattle.bson_kinds.specs.Text.{Bytes}
 use Rattle.bson_shape.specs.Form.{Form}
 use Rattle.bson_buffers.specs.Asked.{NoShape, shape_of_bytes, DenotesShape, DenotesNone}
 use Rattle.bson_buffers.specs.Buffers.{Call, Writes, Tells, IsSilent}

@@ -1,9 +1,9 @@
 -- What must be written for a call before its buffers are looked at: what the proofs of the calls need, and no definition.
 -- Source: this library's own calls with buffers.
 use Rattle.std.specs.Prelude.{◌≡◌, ◌<◌, ◌≤◌, ℕ, List, [], ◌∷◌, length, string_bytes}
-use Rattle.bson_base.specs.Text.{Bytes, Utf8}
-use Rattle.bson_datum.specs.Printed.{printed_failure, printed_read_fault, printed_write_fault}
-use Rattle.bson_datum.specs.Refusal as refusal
+use Rattle.bson_kinds.specs.Text.{Bytes, Utf8}
+use Rattle.bson_values.specs.Printed.{printed_failure, printed_read_fault, printed_write_fault}
+use Rattle.bson_values.specs.Refusal as refusal
 use Rattle.bson_shape.specs.Form.{Form}
 use Rattle.bson_laws.specs.Settled.{IsSettled}
 use Rattle.bson_tree_recast.specs.Recast.{recast_of, writes, unread, Unwritten}

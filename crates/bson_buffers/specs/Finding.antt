@@ -1,6 +1,6 @@
 -- The document at a place of a file of documents. Source: bsonspec.org, version 1.1, `document`.
 use Rattle.std.specs.Prelude.{◌≡◌, ◌+◌, ◌≤◌, ℕ, length, take, drop}
-use Rattle.bson_base.specs.Text.{Bytes}
+use Rattle.bson_kinds.specs.Text.{Bytes}
 use Rattle.bson_rawdoc.specs.Cut.{Cut, whole, broken_at, with_piece, cut_from}
 use Rattle.bson_buffers.specs.declared.finding.Found.{Found}
 use Rattle.bson_buffers.specs.declared.finding.Found.TheVariants.{Document, End, Broken}

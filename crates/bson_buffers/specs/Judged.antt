@@ -1,6 +1,6 @@
 -- What the bytes of a shape are refused with: what the proofs of the calls need, and no definition. Source: this library's own calls with buffers.
 use Rattle.std.specs.Prelude.{Result, Ok, Err, string_bytes}
-use Rattle.bson_base.specs.Text.{Bytes}
+use Rattle.bson_kinds.specs.Text.{Bytes}
 use Rattle.bson_shape.specs.Form.{Form}
 use Rattle.bson_buffers.specs.declared.asking.ShapeRefusal.{ShapeRefusal}
 use Rattle.bson_buffers.specs.Asked.{NoShape, DenotesShape, DenotesNone}

@@ -2,9 +2,9 @@
 -- Source: this library's own calls with buffers.
 use Rattle.std.specs.Prelude.{◌≡◌, ◌⊎◌, ◌+◌, ℕ, min, List, [], ◌∷◌, ◌++◌, length, take, drop, codes}
 use Rattle.std.specs.List.{sum_by}
-use Rattle.bson_base.specs.Text.{Bytes, Utf8}
-use Rattle.bson_datum.specs.Printed.{printed_failure, printed_path, printed_read_fault, printed_write_fault}
-use Rattle.bson_datum.specs.Refusal.{ReadFault, WriteFault, Failure, no_memory, bare, placed}
+use Rattle.bson_kinds.specs.Text.{Bytes, Utf8}
+use Rattle.bson_values.specs.Printed.{printed_failure, printed_path, printed_read_fault, printed_write_fault}
+use Rattle.bson_values.specs.Refusal.{ReadFault, WriteFault, Failure, no_memory, bare, placed}
 use Rattle.bson_rawdoc.specs.Cut.{cut}
 use Rattle.bson_tree_recast.specs.Recast.{Recast, writes, unread, unwritten, Unwritten}
 use Rattle.bson_migrate_run.specs.Migrating.{NotRecast}

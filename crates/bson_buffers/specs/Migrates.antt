@@ -1,6 +1,6 @@
 -- Migrating a file of documents: when each status comes, and what the call did then. Source: this library's own calls with buffers.
 use Rattle.std.specs.Prelude.{◌≡◌, ◌⊎◌, ℕ, List, [], ◌∷◌, length, Result, Ok, Err}
-use Rattle.bson_base.specs.Text.{Bytes, Utf8}
+use Rattle.bson_kinds.specs.Text.{Bytes, Utf8}
 use Rattle.bson_shape.specs.Form.{Form}
 use Rattle.bson_laws.specs.Settled.{IsSettled}
 use Rattle.bson_migrate_run.specs.Lines.{AreLines}

@@ -1,8 +1,8 @@
 -- Recasting a document: when each status comes, and what the call did then. Source: this library's own calls with buffers.
 use Rattle.std.specs.Prelude.{◌≡◌, ◌⊎◌, ℕ, nat_lt, if◌then◌else◌, [], length, Result, Ok, Err}
-use Rattle.bson_base.specs.Text.{Bytes}
-use Rattle.bson_datum.specs.Printed.{printed_failure, printed_read_fault, printed_write_fault}
-use Rattle.bson_datum.specs.Refusal.{ReadFault, WriteFault, Failure}
+use Rattle.bson_kinds.specs.Text.{Bytes}
+use Rattle.bson_values.specs.Printed.{printed_failure, printed_read_fault, printed_write_fault}
+use Rattle.bson_values.specs.Refusal.{ReadFault, WriteFault, Failure}
 use Rattle.bson_shape.specs.Form.{Form}
 use Rattle.bson_laws.specs.Settled.{IsSettled}
 use Rattle.bson_tree_recast.specs.Recast.{Recast, writes, unread, unwritten, recast_of, Unwritten}

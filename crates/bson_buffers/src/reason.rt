@@ -1,12 +1,12 @@
 // Why a document is refused.
 ghost use Rattle.std.specs.Prelude.{◌≡◌, IfOk, string_bytes};
-ghost use Rattle.bson_datum.specs.ErrorView.{read_failure, write_failure};
+ghost use Rattle.bson_values.specs.ErrorView.{read_failure, write_failure};
 ghost use Rattle.bson_buffers.specs.Lists.{printed_front};
 ghost use Rattle.bson_buffers.specs.Prover.Listed.{IsReason};
 
 use crate::status::Status;
-use bson_datum::{de, ser};
 use bson_recast_run::RecastError;
+use bson_values::{de, ser};
 use std::alloc::{AllocError, Global};
 
 /// Why a document is refused, by the status of its recast and by a text.

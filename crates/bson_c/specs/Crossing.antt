@@ -1,6 +1,6 @@
 -- What crosses the border: the reports of the library, with a status as its number. Source: this library's own calls with buffers.
 use Rattle.std.specs.Prelude.{◌≡◌, List}
-use Rattle.bson_base.specs.Text.{Bytes}
+use Rattle.bson_kinds.specs.Text.{Bytes}
 use Rattle.bson_buffers.specs.Number.{number_of}
 use Rattle.bson_buffers.specs.Buffers.{Call}
 use Rattle.bson_buffers.specs.Lists.{Records}

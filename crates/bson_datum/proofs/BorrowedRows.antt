@@ -1,7 +1,8 @@
 -- The borrowed parts of a datum whose values, entries or fields are in a `Vec`.
 use Rattle.std.proofs.Common.{◌≡◌, ◌∷◌, ◌++◌, refl, ap, ◌∙◌}
 use Rattle.std.specs.Global.{Vec}
-use Rattle.bson_datum.specs.Borrowed.{text_borrowed, borrowed_parts, item_rows_borrowed, entry_rows_borrowed, rows_borrowed, items_borrowed, entries_borrowed, fields_borrowed}
+use Rattle.bson_values.specs.Pieces.{text_borrowed}
+use Rattle.bson_datum.specs.Borrowed.{borrowed_parts, item_rows_borrowed, entry_rows_borrowed, rows_borrowed, items_borrowed, entries_borrowed, fields_borrowed}
 use Rattle.bson_datum.specs.declared.datum.Entry.{Entry}
 use Rattle.bson_datum.specs.declared.datum.Field.{Field}
 use Rattle.bson_datum.specs.declared.datum.Datum.TheBlock.{hidden-the_row-Datum-0, hidden-the_row-Entry-1, hidden-the_row-Field-2}

@@ -2,27 +2,17 @@
 use Rattle.std.proofs.Common.{◌≡◌, ℕ, Bool, true, false, List, [], ◌∷◌, map, length, drop, refl, ap, sym, ◌∙◌, arith}
 use Rattle.std.specs.Prelude.{◌&&◌}
 use Rattle.std.specs.Global.{Box, Vec}
-use Rattle.std.specs.Cmp.Lexicographic.{pointwise}
 use Rattle.std.proofs.lemmas.Bool.{and_right}
-use Rattle.bson_base.specs.Text.{Utf8}
-use Rattle.bson_datum.specs.Value as value
-use Rattle.bson_datum.specs.Value.{Value, Items, Entries, FieldValues, newtype, newtype_variant, sequence, tuple, tuple_structure, tuple_variant, structure, structure_variant}
-use Rattle.bson_datum.specs.PathView.{segment_view}
+use Rattle.bson_kinds.specs.Text.{Utf8}
+use Rattle.bson_values.specs.Value as value
+use Rattle.bson_values.specs.Value.{Value, Items, Entries, FieldValues, newtype, newtype_variant, sequence, tuple, tuple_structure, tuple_variant, structure, structure_variant}
 use Rattle.bson_datum.specs.View.{view, items_view, entries_view, fields_view}
-use Rattle.bson_datum.specs.Same.{same, same_items, same_entries, same_fields, same_segment, same_path}
-use Rattle.bson_datum.specs.declared.text.Text.{Text}
-use Rattle.bson_datum.specs.declared.path.Segment.{Segment}
+use Rattle.bson_values.specs.Same.{same, same_items, same_entries, same_fields}
+use Rattle.bson_values.specs.declared.text.Text.{Text}
 use Rattle.bson_datum.specs.declared.datum.Entry.{Entry}
 use Rattle.bson_datum.specs.declared.datum.Field.{Field}
 use Rattle.bson_datum.specs.declared.datum.Datum.{Datum, NewtypeStruct, NewtypeStruct', NewtypeVariant, NewtypeVariant', Seq, Seq', Tuple, Tuple', TupleStruct, TupleStruct', TupleVariant, TupleVariant', Map, Map', Struct, Struct', StructVariant, StructVariant'}
 use Rattle.bson_datum.specs.declared.datum.Datum.TheViews.{roll-Datum, roll-out-Datum, rolls-NewtypeStruct, outs-NewtypeStruct', rolls-NewtypeVariant, outs-NewtypeVariant', rolls-Seq, outs-Seq', rolls-Tuple, outs-Tuple', rolls-TupleStruct, outs-TupleStruct', rolls-TupleVariant, outs-TupleVariant', rolls-Map, outs-Map', rolls-Struct, outs-Struct', rolls-StructVariant, outs-StructVariant'}
-
--- the segments of two paths, compared as they are in the code
-pub same_segments : (ss ts : List Segment) → pointwise (λ s t. same_segment (segment_view s) (segment_view t)) ss ts ≡ same_path (map segment_view ss) (map segment_view ts)
-same_segments [] [] = refl
-same_segments [] (t ∷ ts) = refl
-same_segments (s ∷ ss) [] = refl
-same_segments (s ∷ ss) (t ∷ ts) = ap (λ b. same_segment (segment_view s) (segment_view t) && b) (same_segments ss ts)
 
 -- the values that a loop has left to compare
 abbrev pub same_items_from : ℕ → List Datum → List Datum → Bool

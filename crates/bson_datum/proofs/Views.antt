@@ -1,10 +1,10 @@
 -- The value of a datum whose values, entries or fields are in a `Vec`.
 use Rattle.std.proofs.Common.{◌≡◌, refl, ap, ◌∙◌}
 use Rattle.std.specs.Global.{Vec}
-use Rattle.bson_datum.specs.TextView.{text_view}
-use Rattle.bson_datum.specs.Value.{sequence, tuple, tuple_structure, tuple_variant, item, map, entry, structure, structure_variant, field_value}
+use Rattle.bson_values.specs.TextView.{text_view}
+use Rattle.bson_values.specs.Value.{sequence, tuple, tuple_structure, tuple_variant, item, map, entry, structure, structure_variant, field_value}
 use Rattle.bson_datum.specs.View.{view, item_rows_view, items_view, entry_rows_view, entries_view, rows_view, fields_view}
-use Rattle.bson_datum.specs.declared.text.Text.{Text}
+use Rattle.bson_values.specs.declared.text.Text.{Text}
 use Rattle.bson_datum.specs.declared.datum.Entry.{Entry}
 use Rattle.bson_datum.specs.declared.datum.Field.{Field}
 use Rattle.bson_datum.specs.declared.datum.Datum.TheBlock.{hidden-the_row-Datum-0, hidden-the_row-Entry-1, hidden-the_row-Field-2}

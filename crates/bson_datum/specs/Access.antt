@@ -1,8 +1,8 @@
 -- What is asked of a value: its field, the value at a key, its text, truth value, number, bytes and items. Source: serde's data model.
 use Rattle.std.specs.Prelude.{ℤ, Bool, false, if◌then◌else◌, Option, Some, None}
 use Rattle.std.specs.Str.{bytes_eq}
-use Rattle.bson_base.specs.Text.{Bytes, Utf8}
-use Rattle.bson_datum.specs.Value.{Value, boolean, double, integer, i64, in_range, str, bytes, sequence, tuple, tuple_structure, tuple_variant, map, structure, structure_variant, Items, Entries, no_entries, entry, FieldValues, no_field_values, field_value}
+use Rattle.bson_kinds.specs.Text.{Bytes, Utf8}
+use Rattle.bson_values.specs.Value.{Value, boolean, double, integer, i64, in_range, str, bytes, sequence, tuple, tuple_structure, tuple_variant, map, structure, structure_variant, Items, Entries, no_entries, entry, FieldValues, no_field_values, field_value}
 
 -- the value of the first field of a name
 abbrev pub field_named : (name : Utf8) → FieldValues → Option Value

@@ -1,10 +1,7 @@
 -- Which parts of a datum are borrowed: its texts and byte strings, and its documents and arrays in their bytes, by the input or by a value that is written. Source: serde's data model, borrowed and owned strings.
 use Rattle.std.specs.Prelude.{◌≡◌, Bool, true, false, List, [], ◌∷◌, ◌++◌}
 use Rattle.std.specs.List.{flat_map, AllByRecursion}
-use Rattle.bson_datum.specs.declared.text.Text as text
-use Rattle.bson_datum.specs.declared.text.Text.TheVariants as texts
-use Rattle.bson_datum.specs.declared.byte_str.ByteStr as byte_str
-use Rattle.bson_datum.specs.declared.byte_str.ByteStr.TheVariants as byte_strs
+use Rattle.bson_values.specs.Pieces.{text_borrowed, bytes_borrowed}
 use Rattle.bson_datum.specs.declared.raw_doc.RawDoc as raw_doc
 use Rattle.bson_datum.specs.declared.raw_doc.RawDoc.TheVariants as raw_docs
 use Rattle.bson_datum.specs.declared.raw_arr.RawArr as raw_arr
@@ -13,14 +10,6 @@ use Rattle.bson_datum.specs.declared.datum.Entry.{Entry}
 use Rattle.bson_datum.specs.declared.datum.Field.{Field}
 use Rattle.bson_datum.specs.declared.datum.Datum as datum
 use Rattle.bson_datum.specs.declared.datum.Datum.{Datum, Str, Bytes, UnitStruct, UnitVariant, NewtypeStruct', NewtypeVariant', Seq', Tuple', TupleStruct', TupleVariant', Map', Struct', StructVariant', RawDocument, RawArray, Mode', Row_of-Datum, end_of-Datum, more_of-Datum, Row_of-Entry, end_of-Entry, more_of-Entry, Row_of-Field, end_of-Field, more_of-Field}
-
-abbrev pub text_borrowed : text.Text → Bool
-text_borrowed (texts.Borrowed s) = true
-text_borrowed (texts.Owned s) = false
-
-abbrev pub bytes_borrowed : byte_str.ByteStr → Bool
-bytes_borrowed (byte_strs.Borrowed s) = true
-bytes_borrowed (byte_strs.Owned v) = false
 
 abbrev pub raw_document_borrowed : raw_doc.RawDoc → Bool
 raw_document_borrowed (raw_docs.Borrowed d) = true

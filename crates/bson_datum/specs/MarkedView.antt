@@ -1,24 +1,15 @@
 -- What contracts see of a datum with its marks. Source: serde's data model, borrowed and owned strings.
 use Rattle.std.specs.Prelude.{pos}
 use Rattle.bson_rawdoc.specs.Piece.{Piece}
-use Rattle.bson_datum.specs.TextView.{text_view}
-use Rattle.bson_datum.specs.ByteStrView.{bytes_view}
 use Rattle.bson_datum.specs.RawView.{raw_document_view, raw_array_view}
-use Rattle.bson_datum.specs.Borrowed.{text_borrowed, bytes_borrowed, raw_document_borrowed, raw_array_borrowed}
-use Rattle.bson_datum.specs.Value.{boolean, integer, i8, i16, i32, i64, u8, u16, u32, u64, double, character, str, bytes, none, some, unit, unit_structure, unit_variant, newtype, newtype_variant, sequence, tuple, tuple_structure, tuple_variant, map, structure, structure_variant, raw_document, raw_array, mode, no_items, item, no_entries, entry, no_field_values, field_value}
-use Rattle.bson_datum.specs.Marked.{Marked, MarkedItems, MarkedEntries, MarkedFields}
-use Rattle.bson_datum.specs.declared.text.Text as text
-use Rattle.bson_datum.specs.declared.byte_str.ByteStr as byte_str
+use Rattle.bson_values.specs.Pieces.{text_piece, bytes_piece}
+use Rattle.bson_datum.specs.Borrowed.{raw_document_borrowed, raw_array_borrowed}
+use Rattle.bson_values.specs.Value.{boolean, integer, i8, i16, i32, i64, u8, u16, u32, u64, double, character, str, bytes, none, some, unit, unit_structure, unit_variant, newtype, newtype_variant, sequence, tuple, tuple_structure, tuple_variant, map, structure, structure_variant, raw_document, raw_array, mode, no_items, item, no_entries, entry, no_field_values, field_value}
+use Rattle.bson_values.specs.Marked.{Marked, MarkedItems, MarkedEntries, MarkedFields}
 use Rattle.bson_datum.specs.declared.raw_doc.RawDoc as raw_doc
 use Rattle.bson_datum.specs.declared.raw_arr.RawArr as raw_arr
 use Rattle.bson_datum.specs.declared.datum.Datum as datum
 use Rattle.bson_datum.specs.declared.datum.Datum.{Datum, Bool, I8, I16, I32, I64, U8, U16, U32, U64, Double, Char, Str, Bytes, UnitStruct, UnitVariant, NewtypeStruct', NewtypeVariant', Seq', Tuple', TupleStruct', TupleVariant', Map', Struct', StructVariant', RawDocument, RawArray, Mode', Row_of-Datum, end_of-Datum, more_of-Datum, Row_of-Entry, end_of-Entry, more_of-Entry, Row_of-Field, end_of-Field, more_of-Field}
-
-abbrev pub text_piece : text.Text → Piece
-text_piece t = record { bytes = text_view t; in_input = text_borrowed t }
-
-abbrev pub bytes_piece : byte_str.ByteStr → Piece
-bytes_piece b = record { bytes = bytes_view b; in_input = bytes_borrowed b }
 
 abbrev pub raw_document_piece : raw_doc.RawDoc → Piece
 raw_document_piece d = record { bytes = raw_document_view d; in_input = raw_document_borrowed d }

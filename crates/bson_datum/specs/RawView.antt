@@ -1,5 +1,5 @@
 -- What contracts see of a document and of an array in their bytes: the bytes, whoever owns them. Source: this library's own types.
-use Rattle.bson_base.specs.Text.{Bytes}
+use Rattle.bson_kinds.specs.Text.{Bytes}
 use Rattle.bson_rawdoc.specs.DocumentView.{document_bytes, array_bytes}
 use Rattle.bson_datum.specs.declared.raw_doc.RawDoc as raw_doc
 use Rattle.bson_datum.specs.declared.raw_doc.RawDoc.TheVariants as raw_docs

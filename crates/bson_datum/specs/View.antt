@@ -1,10 +1,10 @@
 -- What contracts see of a datum: the value that it stands for. Source: serde's data model.
 use Rattle.std.specs.Prelude.{pos, List, [], ◌∷◌}
-use Rattle.bson_base.specs.Text.{Utf8}
-use Rattle.bson_datum.specs.TextView.{text_view}
-use Rattle.bson_datum.specs.ByteStrView.{bytes_view}
+use Rattle.bson_kinds.specs.Text.{Utf8}
+use Rattle.bson_values.specs.TextView.{text_view}
+use Rattle.bson_values.specs.ByteStrView.{bytes_view}
 use Rattle.bson_datum.specs.RawView.{raw_document_view, raw_array_view}
-use Rattle.bson_datum.specs.Value.{Value, boolean, integer, i8, i16, i32, i64, u8, u16, u32, u64, double, character, str, bytes, none, some, unit, unit_structure, unit_variant, newtype, newtype_variant, sequence, tuple, tuple_structure, tuple_variant, map, structure, structure_variant, raw_document, raw_array, mode, Items, no_items, item, Entries, no_entries, entry, FieldValues, no_field_values, field_value}
+use Rattle.bson_values.specs.Value.{Value, boolean, integer, i8, i16, i32, i64, u8, u16, u32, u64, double, character, str, bytes, none, some, unit, unit_structure, unit_variant, newtype, newtype_variant, sequence, tuple, tuple_structure, tuple_variant, map, structure, structure_variant, raw_document, raw_array, mode, Items, no_items, item, Entries, no_entries, entry, FieldValues, no_field_values, field_value}
 use Rattle.bson_datum.specs.declared.datum.Entry.{Entry}
 use Rattle.bson_datum.specs.declared.datum.Field.{Field}
 use Rattle.bson_datum.specs.declared.datum.Datum as datum

@@ -1,13 +1,13 @@
 ghost use Rattle.std.specs.Prelude.{◌≡◌};
-ghost use Rattle.bson_datum.specs.Value.{kind_as, kind_of, newtype_kind, readable_inside, struct_kind};
-ghost use Rattle.bson_datum.specs.TextView.{text_view};
+ghost use Rattle.bson_values.specs.Value.{kind_as, kind_of, newtype_kind, readable_inside, struct_kind};
+ghost use Rattle.bson_values.specs.TextView.{text_view};
 ghost use Rattle.bson_datum.specs.View.{view};
 
-use crate::byte_str::ByteStr;
 use crate::raw_arr::RawArr;
 use crate::raw_doc::RawDoc;
-use crate::text::Text;
-use bson_base::{Double, ElementType, reserved_kind};
+use bson_base::Double;
+use bson_kinds::{ElementType, reserved_kind};
+use bson_values::{ByteStr, Text};
 
 /// A field of a struct, with its value.
 #[cycle(datum)]

@@ -1,50 +1,13 @@
 ghost use Rattle.std.specs.Prelude.{◌≡◌, ◌↔◌, IsTrue};
 ghost use Rattle.std.specs.Str.{bytes_eq};
-ghost use Rattle.bson_datum.specs.TextView.{text_view};
-ghost use Rattle.bson_datum.specs.ByteStrView.{bytes_view};
+ghost use Rattle.bson_values.specs.TextView.{text_view};
 ghost use Rattle.bson_datum.specs.RawView.{raw_document_view, raw_array_view};
-ghost use Rattle.bson_datum.specs.PathView.{path_view, segment_view};
-ghost use Rattle.bson_datum.specs.Value.{newtype, newtype_variant, sequence, tuple, tuple_structure, tuple_variant, map, structure, structure_variant};
+ghost use Rattle.bson_values.specs.Value.{newtype, newtype_variant, sequence, tuple, tuple_structure, tuple_variant, map, structure, structure_variant};
 ghost use Rattle.bson_datum.specs.View.{view, items_view, entry_view, entries_view, field_view, fields_view};
-ghost use Rattle.bson_datum.specs.Same.{same, same_items, same_entries, same_entry, same_fields, same_field, same_segment, same_path};
+ghost use Rattle.bson_values.specs.Same.{same, same_items, same_entries, same_entry, same_fields, same_field};
 
-use crate::{ByteStr, Datum, Entry, Field, Path, RawArr, RawDoc, Segment, Text};
-
-/// Two texts are equal exactly where their contents are, whoever owns them.
-impl PartialEq for Text<'_> {
-    ghost use Rattle.std.specs.Str.{bytes_eq};
-    ghost use Rattle.bson_datum.specs.TextView.{text_view};
-    ghost use Rattle.bson_datum.specs.Prover.Decided.{text_laws};
-
-    ghost eq = { λ a b. bytes_eq (text_view a) (text_view b) };
-
-    ghost laws = { text_laws };
-
-    fn eq(&self, other: &Self) -> bool
-        ensures value { result ≡ bytes_eq (text_view self.now) (text_view other.now) }
-        ensures equal { IsTrue result ↔ (text_view self.now ≡ text_view other.now) }
-    {
-        self.as_str() == other.as_str()
-    }
-}
-
-/// Two byte strings are equal exactly where their contents are, whoever owns them.
-impl PartialEq for ByteStr<'_> {
-    ghost use Rattle.std.specs.Str.{bytes_eq};
-    ghost use Rattle.bson_datum.specs.ByteStrView.{bytes_view};
-    ghost use Rattle.bson_datum.specs.Prover.Decided.{byte_str_laws};
-
-    ghost eq = { λ a b. bytes_eq (bytes_view a) (bytes_view b) };
-
-    ghost laws = { byte_str_laws };
-
-    fn eq(&self, other: &Self) -> bool
-        ensures value { result ≡ bytes_eq (bytes_view self.now) (bytes_view other.now) }
-        ensures equal { IsTrue result ↔ (bytes_view self.now ≡ bytes_view other.now) }
-    {
-        self.as_bytes() == other.as_bytes()
-    }
-}
+use crate::{Datum, Entry, Field, RawArr, RawDoc};
+use bson_values::Text;
 
 /// Two documents in their bytes are equal exactly where their bytes are, whoever owns them.
 impl PartialEq for RawDoc<'_> {
@@ -82,50 +45,10 @@ impl PartialEq for RawArr<'_> {
     }
 }
 
-/// Two segments are equal exactly where both are one key or one index.
-impl PartialEq for Segment {
-    ghost use Rattle.bson_datum.specs.PathView.{segment_view};
-    ghost use Rattle.bson_datum.specs.Same.{same_segment};
-    ghost use Rattle.bson_datum.specs.Prover.Decided.{segment_laws};
-
-    ghost eq = { λ a b. same_segment (segment_view a) (segment_view b) };
-
-    ghost laws = { segment_laws };
-
-    fn eq(&self, other: &Self) -> bool
-        ensures value { result ≡ same_segment (segment_view self.now) (segment_view other.now) }
-        ensures equal { IsTrue result ↔ (segment_view self.now ≡ segment_view other.now) }
-    {
-        match (self, other) {
-            (Segment::Key(key), Segment::Key(other)) => key == other,
-            (Segment::Index(index), Segment::Index(other)) => index == other,
-            _ => false,
-        }
-    }
-}
-
-/// Two paths are equal exactly where their segments are, in order.
-impl PartialEq for Path {
-    ghost use Rattle.bson_datum.specs.PathView.{path_view};
-    ghost use Rattle.bson_datum.specs.Same.{same_path};
-    ghost use Rattle.bson_datum.specs.Prover.Decided.{path_laws};
-
-    ghost eq = { λ a b. same_path (path_view a) (path_view b) };
-
-    ghost laws = { path_laws };
-
-    fn eq(&self, other: &Self) -> bool
-        ensures value { result ≡ same_path (path_view self.now) (path_view other.now) }
-        ensures equal { IsTrue result ↔ (path_view self.now ≡ path_view other.now) }
-    {
-        self.segments() == other.segments()
-    }
-}
-
 /// Two entries are equal exactly where their keys are and their values are.
 impl PartialEq for Entry<'_> {
     ghost use Rattle.bson_datum.specs.View.{entry_view};
-    ghost use Rattle.bson_datum.specs.Same.{same_entry};
+    ghost use Rattle.bson_values.specs.Same.{same_entry};
     ghost use Rattle.bson_datum.specs.Prover.Decided.{entry_laws};
 
     ghost eq = { λ a b. same_entry (entry_view a) (entry_view b) };
@@ -143,7 +66,7 @@ impl PartialEq for Entry<'_> {
 /// Two fields are equal exactly where their names are and their values are.
 impl PartialEq for Field<'_> {
     ghost use Rattle.bson_datum.specs.View.{field_view};
-    ghost use Rattle.bson_datum.specs.Same.{same_field};
+    ghost use Rattle.bson_values.specs.Same.{same_field};
     ghost use Rattle.bson_datum.specs.Prover.Decided.{field_laws};
 
     ghost eq = { λ a b. same_field (field_view a) (field_view b) };
@@ -161,7 +84,7 @@ impl PartialEq for Field<'_> {
 /// Two data are equal exactly where they stand for one value.
 impl PartialEq for Datum<'_> {
     ghost use Rattle.bson_datum.specs.View.{view};
-    ghost use Rattle.bson_datum.specs.Same.{same};
+    ghost use Rattle.bson_values.specs.Same.{same};
     ghost use Rattle.bson_datum.specs.Prover.Decided.{datum_laws};
 
     ghost eq = { λ a b. same (view a) (view b) };

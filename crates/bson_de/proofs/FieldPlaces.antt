@@ -2,17 +2,18 @@
 use Rattle.std.proofs.Common.{◌≡◌, ℕ, suc, ◌+◌, ◌<◌, List, [], ◌∷◌, ◌++◌, length, get_or, drop, Ok, Err, refl, ap, sym, subst, ◌∙◌, add-one, string_bytes, arith}
 use Rattle.std.proofs.Math.Seq.{drop-cons}
 use Rattle.std.proofs.lemmas.List.{drop_all}
-use Rattle.bson_base.specs.Outcome.{◌>>=◌, result_map}
+use Rattle.bson_kinds.specs.Outcome.{◌>>=◌, result_map}
 use Rattle.bson_rawdoc.specs.Node.{Nodes}
 use Rattle.bson_rawdoc.specs.Piece.{made}
 use Rattle.bson_shape.specs.ShapeView.{fields_of}
 use Rattle.bson_shape.specs.declared.shape.FieldShape.{FieldShape}
-use Rattle.bson_datum.specs.Marked.{MarkedFields}
-use Rattle.bson_datum.specs.MarkedView.{marked, text_piece}
-use Rattle.bson_datum.specs.Value.{no_field_values, field_value}
+use Rattle.bson_values.specs.Marked.{MarkedFields}
+use Rattle.bson_values.specs.Pieces.{text_piece}
+use Rattle.bson_datum.specs.MarkedView.{marked}
+use Rattle.bson_values.specs.Value.{no_field_values, field_value}
 use Rattle.bson_datum.specs.declared.datum.Field.{Field}
-use Rattle.bson_datum.specs.declared.de.Fault.{Fault}
-use Rattle.bson_datum.specs.declared.stop.Stop.{Stop}
+use Rattle.bson_values.specs.declared.de.Fault.{Fault}
+use Rattle.bson_values.specs.declared.stop.Stop.{Stop}
 use Rattle.bson_laws.specs.declared.origin.Reader.{Reader}
 use Rattle.bson_laws.specs.Judged.{Reading}
 use Rattle.bson_laws.specs.ReadsFrom.{reads_for, slots_for}

@@ -1,14 +1,14 @@
 -- A value at a map, whose keys are read as in no definitions.
 use Rattle.std.proofs.Common.{◌≡◌, Ok, ap, sym, subst, ◌∙◌}
-use Rattle.bson_base.specs.Outcome.{◌>>=◌, result_map}
+use Rattle.bson_kinds.specs.Outcome.{◌>>=◌, result_map}
 use Rattle.bson_rawdoc.specs.Node.{Node, Nodes}
 use Rattle.bson_rawdoc.specs.Piece.{Piece}
 use Rattle.bson_shape.specs.Form.{Form, map}
-use Rattle.bson_datum.specs.Marked.{Marked}
-use Rattle.bson_datum.specs.Value as value
-use Rattle.bson_datum.specs.Value.{no_entries}
-use Rattle.bson_datum.specs.declared.de.Fault.{Fault}
-use Rattle.bson_datum.specs.declared.stop.Stop.{Stop}
+use Rattle.bson_values.specs.Marked.{Marked}
+use Rattle.bson_values.specs.Value as value
+use Rattle.bson_values.specs.Value.{no_entries}
+use Rattle.bson_values.specs.declared.de.Fault.{Fault}
+use Rattle.bson_values.specs.declared.stop.Stop.{Stop}
 use Rattle.bson_laws.specs.Containers.{reads_entries, reads_key}
 use Rattle.bson_laws.specs.Judged.{Reading}
 use Rattle.bson_laws.specs.ReadsFrom.{reads_for}

@@ -1,8 +1,8 @@
 -- A value at an option.
 use Rattle.std.proofs.Common.{◌≡◌, true, Ok, refl}
 use Rattle.bson_rawdoc.specs.Node.{Node, null}
-use Rattle.bson_datum.specs.Marked.{Marked}
-use Rattle.bson_datum.specs.Value as value
+use Rattle.bson_values.specs.Marked.{Marked}
+use Rattle.bson_values.specs.Value as value
 use Rattle.bson_laws.specs.Containers.{reads_option}
 use Rattle.bson_laws.specs.Judged.{Reading}
 use Rattle.bson_met.specs.Nulls.{is_null}

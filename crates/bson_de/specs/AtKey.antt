@@ -1,9 +1,9 @@
 -- What contracts see of a reading at a key. Source: serde's data model.
 use Rattle.std.specs.Prelude.{◌≡◌, Result, Ok, Err}
-use Rattle.bson_base.specs.Text.{Utf8}
-use Rattle.bson_datum.specs.Stop.{IsUnderKey}
-use Rattle.bson_datum.specs.declared.de.Fault.{Fault}
-use Rattle.bson_datum.specs.declared.stop.Stop.{Stop}
+use Rattle.bson_kinds.specs.Text.{Utf8}
+use Rattle.bson_values.specs.Stop.{IsUnderKey}
+use Rattle.bson_values.specs.declared.de.Fault.{Fault}
+use Rattle.bson_values.specs.declared.stop.Stop.{Stop}
 
 -- the same, seen from the document that has the value at the key; or out of memory
 abbrev pub IsAtKey : {X : Type 0} → Utf8 → Result X (Stop Fault) → Result X (Stop Fault) → Type 0

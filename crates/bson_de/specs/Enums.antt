@@ -1,14 +1,14 @@
 -- What contracts see of enums. Source: serde's data model.
 use Rattle.std.specs.Prelude.{Ok, Err}
-use Rattle.bson_base.specs.Text.{Utf8}
-use Rattle.bson_base.specs.Outcome.{◌>>=◌, result_map}
+use Rattle.bson_kinds.specs.Text.{Utf8}
+use Rattle.bson_kinds.specs.Outcome.{◌>>=◌, result_map}
 use Rattle.bson_rawdoc.specs.Node.{Node, Nodes, ended, faulty, then_node}
 use Rattle.bson_rawdoc.specs.Piece.{Piece, made}
 use Rattle.bson_shape.specs.Form.{Content, unit_content, newtype_content, tuple_content, struct_content}
-use Rattle.bson_datum.specs.Cause.{raw, unit_in_document, empty_enum, extra_key}
-use Rattle.bson_datum.specs.Marked.{Marked}
-use Rattle.bson_datum.specs.Refusal.{here, end_of_stream}
-use Rattle.bson_datum.specs.Value as value
+use Rattle.bson_values.specs.Cause.{raw, unit_in_document, empty_enum, extra_key}
+use Rattle.bson_values.specs.Marked.{Marked}
+use Rattle.bson_values.specs.Refusal.{here, end_of_stream}
+use Rattle.bson_values.specs.Value as value
 use Rattle.bson_laws.specs.Judged.{Reading, refused, judged}
 use Rattle.bson_laws.specs.declared.origin.Origin.{Origin}
 use Rattle.bson_laws.specs.declared.origin.Origin.TheVariants.{Bytes, Tree}

@@ -1,10 +1,10 @@
 -- What contracts see of the contents of variants in a tree. Source: serde's data model.
-use Rattle.bson_base.specs.Outcome.{◌>>=◌}
-use Rattle.bson_base.specs.declared.element_type.ElementType.TheVariants as kinds
+use Rattle.bson_kinds.specs.Outcome.{◌>>=◌}
+use Rattle.bson_kinds.specs.declared.element_type.ElementType.TheVariants as kinds
 use Rattle.std.specs.Prelude.{Ok}
 use Rattle.bson_rawdoc.specs.Node.{Node, document, Nodes, ended, faulty, then_node, kind_of}
-use Rattle.bson_datum.specs.Cause.{raw, invalid_type}
-use Rattle.bson_datum.specs.Marked.{MarkedFields}
+use Rattle.bson_values.specs.Cause.{raw, invalid_type}
+use Rattle.bson_values.specs.Marked.{MarkedFields}
 use Rattle.bson_laws.specs.Judged.{Reading, refused, judged}
 use Rattle.bson_laws.specs.Taken.{array_of}
 use Rattle.bson_laws.specs.declared.origin.Origin.{Origin}

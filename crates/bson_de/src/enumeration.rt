@@ -22,12 +22,13 @@ use crate::from_tree::{
 use crate::structure::{read_by_key, read_fields};
 use crate::tuple::read_parts;
 use crate::value::read_for;
-use bson_datum::{Cause, Datum, Field, Stop, Text, de};
+use bson_datum::{Datum, Field};
 use bson_laws::{Origin, Reader};
 use bson_leaves::{unit_of, variant_of};
 use bson_met::{Elements, Items, Met, Reading, Step, Value, refused};
 use bson_shape::{FieldShape, Shape, VariantContent, VariantShape};
 use bson_slots::named_struct_variant;
+use bson_values::{Cause, Stop, Text, de};
 use std::alloc::Global;
 
 /// The value at an enum with these variants: a text names a unit variant, the first key of a document another one.

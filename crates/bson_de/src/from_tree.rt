@@ -13,12 +13,13 @@ ghost use Rattle.bson_de.specs.Enums.{end_at, only_of, pair_of};
 ghost use Rattle.bson_de.specs.TreeContents.{document_elements_of, filled_items_of, not_ended};
 
 use crate::enumeration::at_key;
-use bson_base::ElementType;
-use bson_datum::{Cause, Datum, Stop, Text, de};
+use bson_datum::Datum;
+use bson_kinds::ElementType;
 use bson_leaves::variant_of;
 use bson_met::{Elements, Items, Met, MetArray, Reading, Step, Value, refused};
 use bson_shape::{Leaf, VariantContent, VariantShape};
 use bson_trees::read_extended;
+use bson_values::{Cause, Stop, Text, de};
 use std::alloc::Global;
 
 /// The unit variant that a text of a tree names. Where the variant has contents, the text ends before them.

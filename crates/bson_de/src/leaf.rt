@@ -6,13 +6,14 @@ ghost use Rattle.bson_laws.specs.ReadsFrom.{reads_from};
 ghost use Rattle.bson_laws.specs.declared.origin.Origin.TheVariants as origins;
 ghost use Rattle.bson_met.specs.Gives.{Reaches};
 
-use bson_datum::{Cause, Datum};
+use bson_datum::Datum;
 use bson_laws::Origin;
 use bson_leaves::{is_extended, read_leaf};
 use bson_met::{Met, Reading, refused};
 use bson_raw_builder::read_raw_tree;
 use bson_shape::Leaf;
 use bson_trees::read_extended;
+use bson_values::Cause;
 use std::alloc::Global;
 
 /// The value at a leaf.

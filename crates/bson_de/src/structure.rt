@@ -2,7 +2,7 @@ ghost use Rattle.std.specs.Prelude.{◌≡◌};
 ghost use Rattle.bson_shape.specs.Form as form;
 ghost use Rattle.bson_shape.specs.Makers.{AreDistinct};
 ghost use Rattle.bson_shape.specs.ShapeView.{fields_of};
-ghost use Rattle.bson_datum.specs.Cause.{unknown_field};
+ghost use Rattle.bson_values.specs.Cause.{unknown_field};
 ghost use Rattle.bson_datum.specs.MarkedView.{marked};
 ghost use Rattle.bson_laws.specs.Judged.{refused};
 ghost use Rattle.bson_laws.specs.ReadsFrom.{reads_for, slots_for};
@@ -15,12 +15,13 @@ ghost use Rattle.bson_slots.specs.FieldsRead.{unknown_of, fields_read, fields_by
 
 use crate::tuple::read_next;
 use crate::value::read_for;
-use bson_datum::{Cause, Datum, Field};
+use bson_datum::{Datum, Field};
 use bson_laws::Reader;
 use bson_met::{Elements, Items, Met, Reading, Step, Value, refused};
 use bson_shape::FieldShape;
 use bson_slots::{NameIndex, Slots, named_field, named_struct};
 use bson_texts::ignore;
+use bson_values::Cause;
 use std::alloc::Global;
 
 /// The value at a struct of this name with these fields.

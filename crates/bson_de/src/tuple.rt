@@ -9,11 +9,12 @@ ghost use Rattle.bson_texts.specs.ListsMarked.{items_marked};
 ghost use Rattle.bson_slots.specs.NextValue.{next_value, behind_first};
 
 use crate::value::read_item;
-use bson_datum::{Datum, Text};
+use bson_datum::Datum;
 use bson_laws::Reader;
 use bson_met::{Items, Met, Reading};
 use bson_shape::Shape;
 use bson_slots::due;
+use bson_values::Text;
 use std::alloc::Global;
 
 /// The value at a tuple whose parts have these shapes.

@@ -2,7 +2,7 @@ ghost use Rattle.std.specs.Prelude.{false};
 ghost use Rattle.bson_shape.specs.Form as form;
 ghost use Rattle.bson_shape.specs.ShapeView.{fields_of};
 ghost use Rattle.bson_datum.specs.MarkedView.{marked};
-ghost use Rattle.bson_datum.specs.Refusal.{under_index};
+ghost use Rattle.bson_values.specs.Refusal.{under_index};
 ghost use Rattle.bson_laws.specs.Containers.{reads_items};
 ghost use Rattle.bson_laws.specs.Reads.{reads};
 ghost use Rattle.bson_laws.specs.ReadsFrom.{reads_for};
@@ -16,12 +16,13 @@ use crate::leaf::read_leaf_at;
 use crate::map::read_map;
 use crate::structure::{read_closed_struct, read_struct};
 use crate::tuple::{read_tuple, read_tuple_struct};
-use bson_datum::{Cause, Datum, Text};
+use bson_datum::Datum;
 use bson_laws::{Origin, Reader};
 use bson_leaves::null;
 use bson_met::{Items, Met, Reading, refused};
 use bson_shape::{FieldShape, Form, Shape};
 use bson_slots::due_shape;
+use bson_values::{Cause, Text};
 use std::alloc::Global;
 
 /// The value at a shape, for a reader who is not human: of a document in its bytes (`Met::of_document`), or of what is inside one.

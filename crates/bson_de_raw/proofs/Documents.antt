@@ -1,8 +1,8 @@
 -- The failure of a whole document.
 use Rattle.std.proofs.Common.{Option, Some, None, ap, sym, subst, ◌∙◌}
 use Rattle.std.specs.Prelude.{Err}
-use Rattle.bson_datum.specs.Refusal.{ReadFault, Refusal, Failure, no_memory, bare, placed}
-use Rattle.bson_datum.specs.Stop.{IsPlaced}
+use Rattle.bson_values.specs.Refusal.{ReadFault, Refusal, Failure, no_memory, bare, placed}
+use Rattle.bson_values.specs.Stop.{IsPlaced}
 use Rattle.bson_laws.specs.Judged.{Reading}
 use Rattle.bson_laws.specs.Reads.{answered}
 use Rattle.bson_met.specs.Gives.{RefusesAs}

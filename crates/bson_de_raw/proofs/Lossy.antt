@@ -1,19 +1,19 @@
 -- Whole documents whose texts are mended: what is read of one, and what was written of it is read and written so again.
 use Rattle.std.proofs.Common.{◌≡◌, ◌^◌, ◌<◌, ◌≤◌, length, false, Some, Result, Ok, Err, refl, ap, sym, subst, ◌∙◌, arith}
-use Rattle.bson_base.specs.Outcome.{result_map}
+use Rattle.bson_kinds.specs.Outcome.{result_map}
 use Rattle.bson_base.specs.Sound.{IsSound, max_bytes, max_levels}
-use Rattle.bson_base.specs.Text.{Bytes, AreBytes}
+use Rattle.bson_kinds.specs.Text.{Bytes, AreBytes}
 use Rattle.bson_base.specs.Tree.{Tree, document, raw, kind, enc}
-use Rattle.bson_base.specs.declared.element_type.ElementType.{ElementType}
-use Rattle.bson_base.specs.declared.element_type.ElementType.TheVariants.{EmbeddedDocument}
+use Rattle.bson_kinds.specs.declared.element_type.ElementType.{ElementType}
+use Rattle.bson_kinds.specs.declared.element_type.ElementType.TheVariants.{EmbeddedDocument}
 use Rattle.bson_rawdoc.specs.Envelope.{is_closed, envelope}
 use Rattle.bson_rawdoc.specs.Node.{of_bytes, from_input, from_marked, node_in, inner_node, tree_node, mended}
 use Rattle.bson_shape.specs.Form.{Form, lossy, no_fields}
 use Rattle.bson_shape.specs.Makers as makers
-use Rattle.bson_datum.specs.Cause as cause
-use Rattle.bson_datum.specs.Marked.{Marked, contents}
-use Rattle.bson_datum.specs.Refusal.{ReadFault, Failure, bare, unreadable}
-use Rattle.bson_datum.specs.Value.{Value, kind_of}
+use Rattle.bson_values.specs.Cause as cause
+use Rattle.bson_values.specs.Marked.{Marked, contents}
+use Rattle.bson_values.specs.Refusal.{ReadFault, Failure, bare, unreadable}
+use Rattle.bson_values.specs.Value.{Value, kind_of}
 use Rattle.bson_laws.specs.CompactReads.{reads_at, reads}
 use Rattle.bson_laws.specs.Plain as plain
 use Rattle.bson_laws.specs.Reads as at_settled

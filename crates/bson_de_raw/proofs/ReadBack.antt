@@ -1,21 +1,21 @@
 -- What a value means is read back as the normal form of the value.
 use Rattle.std.proofs.Common.{◌≡◌, Some, Result, Ok, Err, refl, ap, ◌∙◌}
 use Rattle.bson_base.specs.Sound.{IsSound}
-use Rattle.bson_base.specs.Text.{Bytes}
+use Rattle.bson_kinds.specs.Text.{Bytes}
 use Rattle.bson_base.specs.Tree.{Tree, enc}
 use Rattle.bson_shape.specs.Form.{Form, no_fields}
 use Rattle.bson_shape.specs.Makers.{IsShape}
-use Rattle.bson_datum.specs.Refusal.{ReadFault, Failure, no_memory, bare, placed}
-use Rattle.bson_datum.specs.ErrorView.{read_failure}
-use Rattle.bson_datum.specs.Value.{Value}
+use Rattle.bson_values.specs.Refusal.{ReadFault, Failure, no_memory, bare, placed}
+use Rattle.bson_values.specs.ErrorView.{read_failure}
+use Rattle.bson_values.specs.Value.{Value}
 use Rattle.bson_datum.specs.View.{view}
 use Rattle.bson_datum.specs.declared.datum.Datum.{Datum}
-use Rattle.bson_datum.specs.declared.de.Error.{Error}
+use Rattle.bson_values.specs.declared.de.Error.{Error}
 use Rattle.bson_laws.specs.Recursive.{FitsIn}
 use Rattle.bson_laws.specs.Means.{means, norm}
 use Rattle.bson_laws.specs.Plain.{IsPlain}
-use Rattle.bson_base.specs.Outcome.{result_map}
-use Rattle.bson_datum.specs.Marked.{Marked, contents}
+use Rattle.bson_kinds.specs.Outcome.{result_map}
+use Rattle.bson_values.specs.Marked.{Marked, contents}
 use Rattle.bson_datum.specs.MarkedView.{marked}
 use Rattle.bson_datum.proofs.Marks.{marked-contents}
 use Rattle.bson_laws.specs.Reads.{reads_document, reads_marked}

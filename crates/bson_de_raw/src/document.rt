@@ -2,7 +2,7 @@ ghost use Rattle.std.specs.Prelude.{◌≡◌, Some};
 ghost use Rattle.bson_base.specs.Sound.{IsSound};
 ghost use Rattle.bson_base.specs.Tree.{Tree, enc};
 ghost use Rattle.bson_datum.specs.MarkedView.{marked};
-ghost use Rattle.bson_datum.specs.Value.{Value};
+ghost use Rattle.bson_values.specs.Value.{Value};
 ghost use Rattle.bson_shape.specs.Form.{no_fields};
 ghost use Rattle.bson_laws.specs.Recursive.{FitsIn};
 ghost use Rattle.bson_laws.specs.Means.{means, norm};
@@ -11,11 +11,12 @@ ghost use Rattle.bson_laws.specs.Reads.{reads_marked};
 ghost use Rattle.bson_de_raw.specs.Gives.{Gives, GivesValue};
 ghost use Rattle.bson_de_raw.specs.ReadsLossy.{reads_lossy_marked};
 
-use bson_datum::{Datum, MAX_NESTING_LEVEL, de};
+use bson_datum::{Datum, MAX_NESTING_LEVEL};
 use bson_de::read_value;
 use bson_met::Met;
 use bson_rawdoc::RawDocument;
 use bson_shape::Shape;
+use bson_values::de;
 use std::alloc::Global;
 
 /// The value that the bytes of a document are at a shape, by serde's data model.

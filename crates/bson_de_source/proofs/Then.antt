@@ -1,11 +1,11 @@
 -- What is answered of the first document, and then of what it is read as.
 use Rattle.std.proofs.Common.{◌≡◌, ℕ, Option, Result, Ok, Err, ap, ◌∙◌, inl, inr}
-use Rattle.bson_base.specs.Outcome.{◌>>=◌}
-use Rattle.bson_base.specs.Text.{Bytes}
+use Rattle.bson_kinds.specs.Outcome.{◌>>=◌}
+use Rattle.bson_kinds.specs.Text.{Bytes}
 use Rattle.bson_io.specs.Ends.{Rose}
-use Rattle.bson_datum.specs.ErrorView.{read_failure}
-use Rattle.bson_datum.specs.Refusal.{ReadFault, Failure, no_memory, bare, placed, io, end_of_stream, unreadable}
-use Rattle.bson_datum.specs.declared.de.Error.{Error}
+use Rattle.bson_values.specs.ErrorView.{read_failure}
+use Rattle.bson_values.specs.Refusal.{ReadFault, Failure, no_memory, bare, placed, io, end_of_stream, unreadable}
+use Rattle.bson_values.specs.declared.de.Error.{Error}
 use Rattle.bson_de_raw.specs.Gives.{FailsAs, Gives}
 use Rattle.bson_source.specs.FirstDocument.{first_document}
 use Rattle.bson_source.specs.FromSource.{IsAll, Stops, Ends, ReadsOne, read_first}

@@ -6,11 +6,12 @@ ghost use Rattle.bson_de_raw.specs.ReadsLossy.{reads_lossy};
 ghost use Rattle.bson_laws.specs.Reads.{reads_document};
 ghost use Rattle.bson_source.specs.FromSource.{ReadsOne, read_first};
 
-use bson_datum::{Datum, de};
+use bson_datum::Datum;
 use bson_de_raw::{from_slice_at, from_slice_utf8_lossy_at};
 use bson_io::Source;
 use bson_shape::Shape;
 use bson_source::take_document;
+use bson_values::de;
 use std::alloc::Global;
 
 /// The value that the first document of what a source has left is at a shape. All of it is owned.

@@ -1,20 +1,20 @@
 -- What is read of a value in memory, and its refusals.
 use Rattle.std.proofs.Common.{◌≡◌, Bool, Option, Some, None, Result, Ok, ap, sym, subst, ◌∙◌, ◌≤◌}
-use Rattle.bson_base.specs.Outcome.{result_map}
+use Rattle.bson_kinds.specs.Outcome.{result_map}
 use Rattle.bson_base.specs.Sound.{IsClean, max_levels}
 use Rattle.bson_base.specs.Tree.{Tree, depth}
 use Rattle.bson_rawdoc.specs.Node.{Node, from_memory, tree_node}
 use Rattle.bson_shape.specs.Form.{Form, no_fields}
 use Rattle.bson_shape.specs.Makers.{IsShape}
-use Rattle.bson_datum.specs.Marked.{Marked, contents}
+use Rattle.bson_values.specs.Marked.{Marked, contents}
 use Rattle.bson_datum.specs.MarkedView.{marked}
-use Rattle.bson_datum.specs.Refusal.{ReadFault, Refusal, Failure}
-use Rattle.bson_datum.specs.Value.{Value}
+use Rattle.bson_values.specs.Refusal.{ReadFault, Refusal, Failure}
+use Rattle.bson_values.specs.Value.{Value}
 use Rattle.bson_datum.specs.View.{view}
 use Rattle.bson_datum.specs.declared.datum.Datum.{Datum}
-use Rattle.bson_datum.specs.declared.de.Error.{Error}
-use Rattle.bson_datum.specs.declared.de.Fault.{Fault}
-use Rattle.bson_datum.specs.declared.stop.Stop.{Stop}
+use Rattle.bson_values.specs.declared.de.Error.{Error}
+use Rattle.bson_values.specs.declared.de.Fault.{Fault}
+use Rattle.bson_values.specs.declared.stop.Stop.{Stop}
 use Rattle.bson_datum.proofs.Marks.{marked-contents}
 use Rattle.bson_laws.specs.Judged.{Reading}
 use Rattle.bson_laws.specs.Means.{means, norm}

@@ -9,8 +9,9 @@ ghost use Rattle.bson_de_tree.specs.Options.{is_readable};
 use crate::options::DeserializerOptions;
 use crate::reading::from_bson_with_options_at;
 use bson_base::Bson;
-use bson_datum::{Datum, de};
+use bson_datum::Datum;
 use bson_shape::Shape;
+use bson_values::de;
 use std::alloc::Global;
 
 /// A reader of one value in memory.

@@ -5,9 +5,9 @@ ghost use Rattle.bson_base.specs.Tree as trees;
 ghost use Rattle.bson_base.specs.Tree.{Tree, depth};
 ghost use Rattle.bson_shape.specs.Form.{no_fields};
 ghost use Rattle.bson_datum.specs.Borrowed.{IsOwned};
-ghost use Rattle.bson_datum.specs.ErrorView.{read_failure, read_fault};
-ghost use Rattle.bson_datum.specs.Stop.{stop_view};
-ghost use Rattle.bson_datum.specs.Value.{Value};
+ghost use Rattle.bson_values.specs.ErrorView.{read_failure, read_fault};
+ghost use Rattle.bson_values.specs.Stop.{stop_view};
+ghost use Rattle.bson_values.specs.Value.{Value};
 ghost use Rattle.bson_datum.specs.View.{view};
 ghost use Rattle.bson_laws.specs.Judged as laws;
 ghost use Rattle.bson_laws.specs.Means.{means, norm};
@@ -23,11 +23,12 @@ ghost use Rattle.bson_de_tree.specs.Options.{is_readable};
 
 use crate::options::DeserializerOptions;
 use bson_base::{Bson, Document, MAX_NESTING_LEVEL};
-use bson_datum::{Datum, Refused, Stop, de};
+use bson_datum::Datum;
 use bson_de::read_for;
 use bson_laws::{Origin, Reader};
 use bson_met::{Met, Reading};
 use bson_shape::Shape;
+use bson_values::{Refused, Stop, de};
 use std::alloc::Global;
 
 /// The value that a value in memory is at a shape, for a reader who is human. All of it is owned.

@@ -5,7 +5,7 @@ use Rattle.bson_base.specs.Sound.{IsClean}
 use Rattle.bson_base.specs.Tree.{Tree}
 use Rattle.bson_shape.specs.Form.{Form, no_fields, Fields}
 use Rattle.bson_shape.specs.Makers.{IsShape}
-use Rattle.bson_datum.specs.Value.{Value}
+use Rattle.bson_values.specs.Value.{Value}
 use Rattle.bson_laws.specs.Means.{means}
 use Rattle.bson_laws.specs.Plain.{IsPlain}
 use Rattle.bson_laws.specs.Recursive.{view, FitsIn}

@@ -3,7 +3,7 @@ use Rattle.std.proofs.Common.{◌≡◌, ℕ, zero, suc, ◌+◌, ◌*◌, ◌<�
 use Rattle.bson_shape.specs.Form.{Form, no_fields}
 use Rattle.bson_shape.specs.Makers.{IsShape}
 use Rattle.bson_laws.specs.Plain.{IsPlain}
-use Rattle.bson_datum.specs.Refusal.{Path}
+use Rattle.bson_values.specs.Refusal.{Path}
 use Rattle.bson_evolve_laws.specs.Compatible.{IsCompatible}
 use Rattle.bson_evolve_laws.specs.First.{Pair, DuePair, due_step, Outcome, all_pass, fault, cut_off, unmet, entered, entered_first, search, start, IsFirstFault, most_pairs, fault_of, first_fault, is_met}
 use Rattle.bson_evolve_laws.specs.Placed.{placed}

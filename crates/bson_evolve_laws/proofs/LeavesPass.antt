@@ -4,12 +4,12 @@ use Rattle.std.specs.Prelude.{IsSome, nat_eq, FitsSigned, ◌&&◌, not, int_le,
 use Rattle.std.specs.Int.{w32, w64}
 use Rattle.std.proofs.lemmas.Bool.Decides.{nat_tests}
 use Rattle.std.proofs.lemmas.Int.{ints}
-use Rattle.bson_base.specs.Kind.{byte}
+use Rattle.bson_kinds.specs.Kind.{byte}
 use Rattle.bson_base.specs.Sound.{IsClean}
 use Rattle.bson_base.specs.Tree.{Tree, kind, null, string, binary, boolean, double, int32, int64}
-use Rattle.bson_base.specs.declared.element_type.ElementType.TheVariants as kinds
-use Rattle.bson_datum.specs.Value as value
-use Rattle.bson_datum.specs.Value.{IntegerType, u64, least, greatest, in_range, Value}
+use Rattle.bson_kinds.specs.declared.element_type.ElementType.TheVariants as kinds
+use Rattle.bson_values.specs.Value as value
+use Rattle.bson_values.specs.Value.{IntegerType, u64, least, greatest, in_range, Value}
 use Rattle.bson_laws.specs.Leaves.{LeafKind, anything, booleans, numbers, doubles, characters, texts, byte_strings, byte_buffers, units, ExtendedLeaf, object_ids, uuids, of_kind, trees, documents, extended_values}
 use Rattle.bson_laws.specs.Views.{as_integer, views_any, views_leaf, views_extended}
 use Rattle.bson_evolve_laws.specs.Rows.{top, lies_in, is_free, extended_in, leaf_in}

@@ -3,12 +3,12 @@ use Rattle.std.proofs.Common.{◌≡◌, ℕ, suc, ◌≤◌, Bool, true, false,
 use Rattle.std.specs.Prelude.{IsSome, ◌||◌, ◌&&◌, option_map}
 use Rattle.std.specs.Str.{bytes_eq}
 use Rattle.bson_base.specs.Pairs.{lookup}
-use Rattle.bson_base.specs.Text.{Utf8}
+use Rattle.bson_kinds.specs.Text.{Utf8}
 use Rattle.bson_base.specs.Tree.{Tree, string, document, array, null, depth, Pairs, no_pairs, pair, pairs_depth, Trees, no_trees, tree, trees_depth}
 use Rattle.bson_shape.specs.Form.{UnknownFields, dropped, denied, Form, leaf, optional, sequence, unit_structure, map, tuple, tuple_structure, structure, enumeration, Fields, no_fields, field, Parts, no_parts, part, Content, unit_content, newtype_content, tuple_content, struct_content, Variants, no_variants, variant}
 use Rattle.bson_shape.specs.Makers.{has_name, has_field, IsShape, AreShapes, AreParts, AreVariants, IsContent}
-use Rattle.bson_datum.specs.Value as value
-use Rattle.bson_datum.specs.Value.{Value, item, entry, field_value}
+use Rattle.bson_values.specs.Value as value
+use Rattle.bson_values.specs.Value.{Value, item, entry, field_value}
 use Rattle.bson_laws.specs.Recursive.{view}
 use Rattle.bson_laws.specs.Unrolled as unrolled
 use Rattle.bson_laws.specs.Unrolled.{Meanings, unrolled_fields, unrolled_parts, unrolled_variants, unrolled_content, in_table}

@@ -2,8 +2,8 @@
 use Rattle.std.proofs.Common.{◌≡◌, ℕ, zero, suc, Bool, true, false, cond, Option, Some, None, refl, ap, sym, subst, ◌∙◌}
 use Rattle.std.specs.Prelude.{◌||◌}
 use Rattle.std.specs.Str.{bytes_eq}
-use Rattle.bson_base.specs.Text.{Utf8}
-use Rattle.bson_base.proofs.Outcomes.{some_is}
+use Rattle.bson_kinds.specs.Text.{Utf8}
+use Rattle.bson_kinds.proofs.Outcomes.{some_is}
 use Rattle.bson_shape.specs.Form.{Form, optional, lossy, human_readable, by_mode, newtype, reference, definitions, Fields, no_fields, field}
 use Rattle.bson_shape.specs.Guarded.{count, definition, Leads, FoundLeads, Ends, IsGuarded}
 use Rattle.bson_shape.specs.Makers.{has_field, IsShape, AreShapes}

@@ -3,12 +3,12 @@ use Rattle.std.proofs.Common.{◌≡◌, ℕ, zero, suc, ℤ, Bool, true, false,
 use Rattle.std.specs.Prelude.{◌||◌, ◌&&◌, int_le, option_map, option_and_then}
 use Rattle.std.specs.Str.{bytes_eq}
 use Rattle.std.proofs.lemmas.Int.{ints}
-use Rattle.bson_base.specs.Text.{Utf8}
+use Rattle.bson_kinds.specs.Text.{Utf8}
 use Rattle.bson_shape.specs.Form.{dropped, denied, Form, leaf, optional, lossy, sequence, newtype, unit_structure, map, tuple, tuple_structure, structure, enumeration, reference, definitions, Fields, no_fields, field, Parts, no_parts, part, Content, unit_content, newtype_content, tuple_content, struct_content, Variants, no_variants, variant}
 use Rattle.bson_shape.specs.Makers.{has_name, has_repeat, field_names, variant_names, is_unit, are_units, IsShape, AreShapes, AreParts, AreVariants, IsContent}
 use Rattle.bson_shape.specs.declared.leaf.Leaf.{Leaf}
-use Rattle.bson_datum.specs.Refusal.{Path, at_key, at_index}
-use Rattle.bson_datum.specs.Value.{IntegerType, least, greatest}
+use Rattle.bson_values.specs.Refusal.{Path, at_key, at_index}
+use Rattle.bson_values.specs.Value.{IntegerType, least, greatest}
 use Rattle.bson_laws.specs.Leaves.{LeafKind, anything, ignored, numbers, texts, units, of_kind, trees, documents, extended_values, raw_documents, raw_arrays, raw_values, leaf_kind}
 use Rattle.bson_laws.specs.Plain.{IsKept, IsPlainKey, IsPlain, IsPlainIn, AreFieldsPlainIn, ArePartsPlainIn, AreVariantsPlainIn, IsContentPlainIn}
 use Rattle.bson_laws.specs.Variants.{content_of}

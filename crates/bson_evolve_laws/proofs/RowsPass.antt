@@ -3,16 +3,16 @@ use Rattle.std.proofs.Common.{◌≡◌, ℕ, suc, ◌+◌, ◌<◌, Bool, true,
 use Rattle.std.specs.Prelude.{IsSome, ◌⊎◌, ◌||◌, ◌&&◌, option_map, option_and_then}
 use Rattle.std.specs.Str.{bytes_eq}
 use Rattle.bson_base.specs.Pairs.{lookup}
-use Rattle.bson_base.specs.Text.{Utf8}
+use Rattle.bson_kinds.specs.Text.{Utf8}
 use Rattle.bson_base.specs.Sound.{IsClean}
 use Rattle.bson_base.specs.Tree.{Tree, string, document, array, null, Pairs, no_pairs, pair, Trees, no_trees, tree}
 use Rattle.bson_shape.specs.Form.{UnknownFields, dropped, denied, Form, leaf, optional, sequence, unit_structure, map, tuple, tuple_structure, structure, enumeration, Fields, no_fields, field, Parts, no_parts, part, Content, unit_content, newtype_content, tuple_content, struct_content, Variants, no_variants, variant}
 use Rattle.bson_shape.specs.Makers.{are_units}
 use Rattle.bson_shape.specs.declared.leaf.Leaf.{Leaf}
 use Rattle.bson_shape.specs.declared.leaf.Leaf.TheVariants.{Any, Bson}
-use Rattle.bson_datum.specs.Value as value
-use Rattle.bson_datum.specs.Value.{item, entry}
-use Rattle.bson_datum.specs.Refusal.{Path, at_key}
+use Rattle.bson_values.specs.Value as value
+use Rattle.bson_values.specs.Value.{item, entry}
+use Rattle.bson_values.specs.Refusal.{Path, at_key}
 use Rattle.bson_laws.specs.Leaves.{LeafKind, anything, texts, units, trees, documents, extended_values, leaf_kind}
 use Rattle.bson_laws.specs.Variants.{content_of}
 use Rattle.bson_laws.specs.Views.{views_any, views_any_items, views_any_entries, views_leaf, views_leaf_key, views_key, named_unit, views_unit}

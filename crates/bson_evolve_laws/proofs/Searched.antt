@@ -4,7 +4,7 @@ use Rattle.std.specs.Prelude.{◌⊎◌, ◌&&◌, ◌||◌}
 use Rattle.bson_shape.specs.Form.{Form, Fields, no_fields, definitions}
 use Rattle.bson_shape.specs.Same.{same, same_fields}
 use Rattle.bson_shape.specs.Prover.Decided.{same_decides}
-use Rattle.bson_datum.specs.Refusal.{Path}
+use Rattle.bson_values.specs.Refusal.{Path}
 use Rattle.bson_evolve_laws.specs.Compatible.{Meets, Met, ArePassing, IsCompatible}
 use Rattle.bson_evolve_laws.specs.First.{Pair, pair_of, same_pair, is_met, DuePair, due_step, all_pass, fault, cut_off, unmet, entered, entered_first, search, start, IsFirstFault}
 use Rattle.bson_evolve_laws.specs.Placed.{Placed, placed, same_placed}

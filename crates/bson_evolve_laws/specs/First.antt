@@ -1,7 +1,7 @@
 -- The first place where compatibility fails. Source: depth-first search.
 use Rattle.std.specs.Prelude.{◌≡◌, ℕ, zero, suc, ◌*◌, length, Bool, false, ◌&&◌, ◌||◌, if◌then◌else◌, List, [], ◌∷◌, ◌++◌, map, Option, Some, None}
 use Rattle.bson_shape.specs.Form.{Form, no_fields}
-use Rattle.bson_datum.specs.Refusal.{Path}
+use Rattle.bson_values.specs.Refusal.{Path}
 use Rattle.bson_evolve_laws.specs.Placed.{Placed, placed, same_placed, peel}
 use Rattle.bson_evolve_laws.specs.Places.{all_places}
 use Rattle.bson_evolve_laws.specs.Rows.{Step, Answer, row}

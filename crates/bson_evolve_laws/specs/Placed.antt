@@ -1,7 +1,7 @@
 -- A form with the definitions around it, and what it is seen through newtypes, marks, references and definitions. Source: the usual meaning of recursive types.
 use Rattle.std.specs.Prelude.{suc, Bool, ◌&&◌, if◌then◌else◌}
 use Rattle.std.specs.Str.{bytes_eq}
-use Rattle.bson_base.specs.Text.{Utf8}
+use Rattle.bson_kinds.specs.Text.{Utf8}
 use Rattle.bson_shape.specs.Form.{Form, lossy, newtype, reference, definitions, Fields, no_fields, field}
 use Rattle.bson_shape.specs.Guarded.{count}
 use Rattle.bson_shape.specs.Same.{same, same_fields}

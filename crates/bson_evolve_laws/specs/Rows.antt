@@ -1,14 +1,14 @@
 -- The rows of compatibility: which pair of an old and a new form passes, and which pairs of their parts must pass then. The forms are seen through (`Placed`); the
 -- numbers are those of the table in docs/DEFINITIONS.md. Source: serde's data model.
 use Rattle.std.specs.Prelude.{ℕ, suc, Bool, true, false, ◌&&◌, int_le, if◌then◌else◌, List, [], ◌∷◌, ◌++◌, Option, Some, None, option_map, option_and_then, codes, nat_eq}
-use Rattle.bson_base.specs.Kind.{byte}
-use Rattle.bson_base.specs.Text.{Utf8}
-use Rattle.bson_base.specs.declared.element_type.ElementType.TheVariants as kinds
+use Rattle.bson_kinds.specs.Kind.{byte}
+use Rattle.bson_kinds.specs.Text.{Utf8}
+use Rattle.bson_kinds.specs.declared.element_type.ElementType.TheVariants as kinds
 use Rattle.bson_shape.specs.Form.{dropped, denied, Form, leaf, optional, sequence, unit_structure, map, tuple, tuple_structure, structure, enumeration, Fields, no_fields, field, Parts, no_parts, part, Content, unit_content, newtype_content, tuple_content, struct_content, Variants, no_variants, variant}
 use Rattle.bson_shape.specs.Makers.{are_units}
 use Rattle.bson_shape.specs.declared.leaf.Leaf.TheVariants.{Any, Bson}
-use Rattle.bson_datum.specs.Value.{IntegerType, u64, i64, least, greatest}
-use Rattle.bson_datum.specs.Refusal.{Path, at_key, at_index}
+use Rattle.bson_values.specs.Value.{IntegerType, u64, i64, least, greatest}
+use Rattle.bson_values.specs.Refusal.{Path, at_key, at_index}
 use Rattle.bson_laws.specs.Leaves.{LeafKind, anything, ignored, booleans, numbers, doubles, characters, texts, byte_strings, byte_buffers, units, ExtendedLeaf, object_ids, uuids, of_kind, trees, documents, extended_values, raw_documents, raw_arrays, raw_values, leaf_kind}
 use Rattle.bson_laws.specs.Variants.{content_of}
 use Rattle.bson_evolve_laws.specs.Named.{form_of, has}

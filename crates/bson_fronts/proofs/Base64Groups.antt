@@ -5,7 +5,7 @@ use Rattle.std.specs.Option.{option_eq}
 use Rattle.std.proofs.lemmas.Bool.Decides.{eqb_tells}
 use Rattle.base64.specs.GeneralPurpose.{IsBytes}
 use Rattle.bson_base.specs.Parsed.{bytes_of_base64}
-use Rattle.bson_base.specs.Text.{Bytes}
+use Rattle.bson_kinds.specs.Text.{Bytes}
 use Rattle.bson_base.proofs.Base64Texts.{after_group, base64_cut, bytes_back}
 
 -- whether a text is base64 is whether what is left of it is

@@ -2,7 +2,7 @@
 use Rattle.std.proofs.Common.{◌≡◌, List, [], ◌∷◌, length, Bool, true, false, Option, Some, None, refl, ap, sym, subst, ◌∙◌}
 use Rattle.std.specs.Prelude.{is_some, ◌&&◌, option_map}
 use Rattle.std.specs.Bool.{then_some}
-use Rattle.bson_datum.specs.Value.{Value}
+use Rattle.bson_values.specs.Value.{Value}
 use Rattle.bson_laws.specs.Unwrap.{Part}
 use Rattle.bson_fronts.specs.Places.{Place, takes, agrees}
 use Rattle.bson_fronts.specs.PlaceView.{Front, place_view, places_view, Behind}

@@ -1,6 +1,6 @@
 -- A field that is not alone.
 use Rattle.std.proofs.Common.{◌≡◌, [], ◌∷◌, List, length, false, ◌==◌, refl, ◌∙◌}
-use Rattle.bson_base.specs.Text.{Utf8}
+use Rattle.bson_kinds.specs.Text.{Utf8}
 use Rattle.bson_datum.specs.View.{fields_view}
 use Rattle.bson_datum.specs.declared.datum.Field.{Field}
 use Rattle.bson_fronts.specs.Fronts.{is_lone}

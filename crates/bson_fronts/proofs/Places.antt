@@ -5,11 +5,11 @@ use Rattle.std.specs.Str.{bytes_eq}
 use Rattle.std.proofs.lemmas.List.Elements.{All-nil, All-cons}
 use Rattle.bson_base.specs.Made.{digits, number_text, base64_text}
 use Rattle.bson_base.specs.Parsed.{bytes_of_digits, integer_of_text, bytes_of_base64, subtype_of_text}
-use Rattle.bson_base.specs.Text.{Bytes, AreBytes, Utf8}
+use Rattle.bson_kinds.specs.Text.{Bytes, AreBytes, Utf8}
 use Rattle.bson_base.proofs.IntegerTexts.{int64_fits}
 use Rattle.bson_base.proofs.WrittenTexts.{digits_read, subtype_read, integer_read, base64_read}
 use Rattle.bson_laws.proofs.Fitted.{bytes_eq-refl}
-use Rattle.bson_datum.specs.Value.{Value, unit, str, bytes, integer, u8, i64, map, raw_document, no_entries}
+use Rattle.bson_values.specs.Value.{Value, unit, str, bytes, integer, u8, i64, map, raw_document, no_entries}
 use Rattle.bson_laws.specs.Unwrap.{Part, a_key, a_value, ◌>>=◌, next_key, next_key_of, next_text, next_bytes, next_byte, next_unsigned, next_scope, sixteen}
 use Rattle.bson_fronts.specs.Places.{Place, this_key, key_of, object_id, number, base64, subtype, text, byte_string, decimal, byte, unsigned, scope, takes, agrees}
 

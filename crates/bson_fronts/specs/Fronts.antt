@@ -1,9 +1,9 @@
 -- Which fields are the first of some that a struct is accepted with whose name is reserved. Source: the reserved names of MongoDB's crate bson, version 2.
 use Rattle.std.specs.Prelude.{◌≡◌, Bool, true, false, List, [], ◌++◌, Option, Some, None, is_some, codes}
-use Rattle.bson_base.specs.Text.{Utf8}
-use Rattle.bson_base.specs.declared.element_type.ElementType.{ElementType}
-use Rattle.bson_base.specs.declared.element_type.ElementType.TheVariants.{Binary, Undefined, ObjectId, DateTime, RegularExpression, DbPointer, JavaScriptCode, JavaScriptCodeWithScope, Symbol, Timestamp, Decimal128, MaxKey, MinKey}
-use Rattle.bson_datum.specs.Value.{Value, FieldValues, no_field_values}
+use Rattle.bson_kinds.specs.Text.{Utf8}
+use Rattle.bson_kinds.specs.declared.element_type.ElementType.{ElementType}
+use Rattle.bson_kinds.specs.declared.element_type.ElementType.TheVariants.{Binary, Undefined, ObjectId, DateTime, RegularExpression, DbPointer, JavaScriptCode, JavaScriptCodeWithScope, Symbol, Timestamp, Decimal128, MaxKey, MinKey}
+use Rattle.bson_values.specs.Value.{Value, FieldValues, no_field_values}
 use Rattle.bson_laws.specs.Unwrap.{Part, listed, lone_field, object_id_list, date_time_list, binary_list, timestamp_list, text_list, regular_expression_list, db_pointer_list, decimal128_list, scoped_code}
 
 -- a list of keys and values is accepted for a kind

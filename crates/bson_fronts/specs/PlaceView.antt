@@ -1,7 +1,7 @@
 -- What contracts see of places, and of the places that are left behind some parts. Source: this library's own types.
 use Rattle.std.specs.Prelude.{◌≡◌, false, List, ◌∷◌, map, Option, Some, None}
-use Rattle.bson_base.specs.Text.{Utf8}
-use Rattle.bson_datum.specs.Value.{Value}
+use Rattle.bson_kinds.specs.Text.{Utf8}
+use Rattle.bson_values.specs.Value.{Value}
 use Rattle.bson_laws.specs.Unwrap.{Part, a_key, a_value, listed_part}
 use Rattle.bson_fronts.specs.Places.{Place, this_key, key_of, object_id, number, base64, subtype, text, byte_string, decimal, byte, unsigned, scope, agrees}
 use Rattle.bson_fronts.specs.declared.place.Place as code

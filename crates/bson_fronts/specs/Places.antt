@@ -2,10 +2,10 @@
 use Rattle.std.specs.Prelude.{pos, ◌^◌, nat_lt, Bool, true, false, ◌&&◌, ◌||◌, List, [], ◌∷◌, is_some, codes}
 use Rattle.std.specs.Str.{bytes_eq}
 use Rattle.bson_base.specs.Parsed.{bytes_of_digits, integer_of_text, bytes_of_base64, subtype_of_text}
-use Rattle.bson_base.specs.Text.{Bytes, Utf8}
-use Rattle.bson_base.specs.declared.element_type.ElementType.{ElementType}
-use Rattle.bson_base.specs.declared.element_type.ElementType.TheVariants.{Binary, ObjectId, DateTime, RegularExpression, DbPointer, JavaScriptCode, JavaScriptCodeWithScope, Symbol, Timestamp, Decimal128}
-use Rattle.bson_datum.specs.Value.{i64, u8, Value, integer, str, bytes, map, raw_document}
+use Rattle.bson_kinds.specs.Text.{Bytes, Utf8}
+use Rattle.bson_kinds.specs.declared.element_type.ElementType.{ElementType}
+use Rattle.bson_kinds.specs.declared.element_type.ElementType.TheVariants.{Binary, ObjectId, DateTime, RegularExpression, DbPointer, JavaScriptCode, JavaScriptCodeWithScope, Symbol, Timestamp, Decimal128}
+use Rattle.bson_values.specs.Value.{i64, u8, Value, integer, str, bytes, map, raw_document}
 use Rattle.bson_laws.specs.Unwrap.{Part, a_key, a_value, sixteen}
 
 -- what a part of a list has to be

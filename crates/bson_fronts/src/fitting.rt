@@ -1,6 +1,6 @@
 // Fields whose list of keys and values is gone over part by part, beside the places that say what each part has to be.
 ghost use Rattle.std.specs.Prelude.{◌≡◌, [], option_map};
-ghost use Rattle.bson_datum.specs.TextView.{text_view};
+ghost use Rattle.bson_values.specs.TextView.{text_view};
 ghost use Rattle.bson_datum.specs.View.{view, fields_view};
 ghost use Rattle.bson_laws.specs.Unwrap.{listed, listed_part};
 ghost use Rattle.bson_fronts.specs.Places.{agrees};

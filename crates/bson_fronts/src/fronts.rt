@@ -7,8 +7,8 @@ ghost use Rattle.bson_fronts.specs.Places.{ways, agrees_some};
 
 use crate::fitting::agrees;
 use crate::place::Place;
-use bson_base::ElementType;
 use bson_datum::Field;
+use bson_kinds::ElementType;
 
 /// Whether these fields are the first of those that some struct is accepted with whose name is reserved for this kind: whether some list that is accepted begins with
 /// that of their keys and values. It takes no memory.

@@ -1,6 +1,6 @@
 // What a part of the list of a struct's fields has to be.
 ghost use Rattle.std.specs.Prelude.{◌≡◌};
-ghost use Rattle.bson_datum.specs.Value as values;
+ghost use Rattle.bson_values.specs.Value as values;
 ghost use Rattle.bson_datum.specs.View.{view};
 ghost use Rattle.bson_laws.specs.Unwrap.{a_key, a_value};
 ghost use Rattle.bson_fronts.specs.Places.{takes};

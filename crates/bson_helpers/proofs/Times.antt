@@ -2,9 +2,9 @@
 use Rattle.std.proofs.Common.{◌≡◌, ℤ, Result, Ok, Err, refl, sym, subst, inl, inr}
 use Rattle.std.specs.Prelude.{String}
 use Rattle.std.specs.Global.{Global}
-use Rattle.bson_datum.specs.ErrorView.{read_failure}
-use Rattle.bson_datum.specs.Refusal.{ReadFault, Failure, no_memory, bare, placed}
-use Rattle.bson_datum.specs.declared.de.Error.{Error}
+use Rattle.bson_values.specs.ErrorView.{read_failure}
+use Rattle.bson_values.specs.Refusal.{ReadFault, Failure, no_memory, bare, placed}
+use Rattle.bson_values.specs.declared.de.Error.{Error}
 use Rattle.bson_traits.specs.Answers.{Reading, FailsAs}
 use Rattle.bson_helpers.specs.Dates.{ReadsTime}
 

@@ -2,14 +2,14 @@
 use Rattle.std.specs.Prelude.{◌≡◌, ℤ, ◌⊎◌, Result, Ok, Err, String, string_bytes}
 use Rattle.std.specs.Global.{Global}
 use Rattle.bson_dates.specs.DatePrinted.{HasYear, IsDateText}
-use Rattle.bson_datum.specs.Cause.{no_rfc3339}
-use Rattle.bson_datum.specs.ErrorView.{read_failure, write_failure}
-use Rattle.bson_datum.specs.Refusal.{Failure, no_memory}
-use Rattle.bson_datum.specs.Value.{Value, str}
+use Rattle.bson_values.specs.Cause.{no_rfc3339}
+use Rattle.bson_values.specs.ErrorView.{read_failure, write_failure}
+use Rattle.bson_values.specs.Refusal.{Failure, no_memory}
+use Rattle.bson_values.specs.Value.{Value, str}
 use Rattle.bson_datum.specs.View.{view}
 use Rattle.bson_datum.specs.declared.datum.Datum.{Datum}
-use Rattle.bson_datum.specs.declared.de.Error.{Error as ReadError}
-use Rattle.bson_datum.specs.declared.ser.Error.{Error as WriteError}
+use Rattle.bson_values.specs.declared.de.Error.{Error as ReadError}
+use Rattle.bson_values.specs.declared.ser.Error.{Error as WriteError}
 use Rattle.bson_traits.specs.Answers.{Reading}
 use Rattle.bson_helpers.specs.Helpers.{no_reading, no_writing}
 

@@ -1,15 +1,15 @@
 -- The helpers, each as its partial map. Source: MongoDB's crate bson, version 2, `serde_helpers`.
 use Rattle.std.specs.Prelude.{◌≡◌, ℕ, ℤ, pos, nat_eq, nat_lt, if◌then◌else◌, Option, Some, None, Result, Ok, Err}
 use Rattle.bson_base.specs.Made.{digits}
-use Rattle.bson_base.specs.Outcome.{◌>>=◌, result_map}
+use Rattle.bson_kinds.specs.Outcome.{◌>>=◌, result_map}
 use Rattle.bson_base.specs.Parsed.{bytes_of_digits}
-use Rattle.bson_base.specs.Text.{Bytes, Utf8}
+use Rattle.bson_kinds.specs.Text.{Bytes, Utf8}
 use Rattle.bson_dates.specs.DateText.{date_of_text}
-use Rattle.bson_datum.specs.Cause.{Cause, not_i32, not_i64, increment, not_date, not_object_id}
-use Rattle.bson_datum.specs.ErrorView.{write_failure}
-use Rattle.bson_datum.specs.Refusal.{Failure, ReadFault, WriteFault, bare, unreadable, unwritable}
-use Rattle.bson_datum.specs.Value.{Value, integer, i32, i64, u32, str}
-use Rattle.bson_datum.specs.declared.ser.Error.{Error as WriteError}
+use Rattle.bson_values.specs.Cause.{Cause, not_i32, not_i64, increment, not_date, not_object_id}
+use Rattle.bson_values.specs.ErrorView.{write_failure}
+use Rattle.bson_values.specs.Refusal.{Failure, ReadFault, WriteFault, bare, unreadable, unwritable}
+use Rattle.bson_values.specs.Value.{Value, integer, i32, i64, u32, str}
+use Rattle.bson_values.specs.declared.ser.Error.{Error as WriteError}
 use Rattle.bson_traits.specs.Answers.{Reading, Writing}
 use Rattle.bson_traits.specs.Extended.{date_datum, id_datum, stamp_datum, taken_id, taken_stamp}
 use Rattle.bson_traits.specs.Scalars.{taken_text, taken_u32}

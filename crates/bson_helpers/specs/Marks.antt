@@ -1,9 +1,9 @@
 -- Values that are written for a human reader. Source: serde's `is_human_readable`.
 use Rattle.std.specs.Prelude.{if◌then◌else◌, Err, codes}
 use Rattle.std.specs.Str.{bytes_eq}
-use Rattle.bson_base.specs.Outcome.{result_map}
-use Rattle.bson_base.specs.Text.{Utf8}
-use Rattle.bson_datum.specs.Value.{Value, newtype}
+use Rattle.bson_kinds.specs.Outcome.{result_map}
+use Rattle.bson_kinds.specs.Text.{Utf8}
+use Rattle.bson_values.specs.Value.{Value, newtype}
 use Rattle.bson_traits.specs.Answers.{Reading, Writing, not_fitting}
 
 -- the name of the newtype in which a value is written for a human reader

@@ -10,8 +10,10 @@ ghost use Rattle.bson_helpers.specs.Helpers.{date_in_text};
 
 use crate::errors::{unreadable, unwritable};
 use bson_base::{DateError, DateTime};
-use bson_datum::{Cause, Datum, Shape, Text, de, ser};
+use bson_datum::Datum;
+use bson_shape::Shape;
 use bson_traits::Deserialize;
+use bson_values::{Cause, Text, de, ser};
 use std::alloc::{AllocError, Global};
 
 /// The shape `string`. It takes no memory.

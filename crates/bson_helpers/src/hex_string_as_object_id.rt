@@ -8,8 +8,10 @@ ghost use Rattle.bson_helpers.specs.Helpers.{text_as_id, text_of_id};
 
 use crate::errors::unwritable;
 use bson_base::{NotHex, ObjectId};
-use bson_datum::{Cause, Datum, Shape, de, ser};
+use bson_datum::Datum;
+use bson_shape::Shape;
 use bson_traits::{Deserialize, id_datum};
+use bson_values::{Cause, de, ser};
 use std::alloc::{AllocError, Global};
 
 /// The shape `oid`. It takes no memory.

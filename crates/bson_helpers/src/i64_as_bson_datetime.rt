@@ -7,8 +7,10 @@ ghost use Rattle.bson_traits.specs.Answers.{Reads, Writes};
 ghost use Rattle.bson_traits.specs.Extended.{date_datum, taken_date};
 
 use bson_base::DateTime;
-use bson_datum::{Datum, Shape, de, ser};
+use bson_datum::Datum;
+use bson_shape::Shape;
 use bson_traits::{Deserialize, date_datum};
+use bson_values::{de, ser};
 use std::alloc::{AllocError, Global};
 
 /// The shape `datetime`. It takes no memory.

@@ -1,12 +1,14 @@
 ghost use Rattle.std.specs.Prelude.{◌≡◌, IfOk};
-ghost use Rattle.bson_datum.specs.Value.{newtype};
+ghost use Rattle.bson_values.specs.Value.{newtype};
 ghost use Rattle.bson_datum.specs.View.{view};
 ghost use Rattle.bson_helpers.specs.Marks.{readable_name};
 
-use bson_datum::{Datum, Shape, ShapeError, Text, de, ser};
+use bson_datum::Datum;
+use bson_shape::{Shape, ShapeError};
 use bson_traits::{
     Deserialize, NeverNull, RoundTrip, Serialize, lossy_shape, not_fitting, readable_shape,
 };
+use bson_values::{Text, de, ser};
 use std::alloc::{AllocError, Global};
 
 /// A value that is written for a human reader, also in bytes, and read as it was written so.

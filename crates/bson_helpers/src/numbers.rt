@@ -4,7 +4,8 @@ ghost use Rattle.bson_helpers.specs.Helpers.{Answers, number_as_i32, number_as_i
 
 use crate::errors::unwritable;
 use bson_base::ObjectId;
-use bson_datum::{Cause, Datum, Text, ser};
+use bson_datum::Datum;
+use bson_values::{Cause, Text, ser};
 use std::alloc::Global;
 
 /// The number as an `i32`. It takes no memory.

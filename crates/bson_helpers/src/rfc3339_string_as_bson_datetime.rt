@@ -11,8 +11,10 @@ ghost use Rattle.bson_helpers.specs.Helpers.{text_as_date};
 use crate::bson_datetime_as_rfc3339_string::text_of;
 use crate::errors::unwritable;
 use bson_base::{DateTime, NotDate};
-use bson_datum::{Cause, Datum, Shape, de, ser};
+use bson_datum::Datum;
+use bson_shape::Shape;
 use bson_traits::{Deserialize, date_datum};
+use bson_values::{Cause, de, ser};
 use std::alloc::{AllocError, Global};
 
 /// The shape `datetime`. It takes no memory.

@@ -8,8 +8,10 @@ ghost use Rattle.bson_helpers.specs.Helpers.{stamp_as_seconds, stamp_of_seconds}
 
 use crate::errors::unwritable;
 use bson_base::Timestamp;
-use bson_datum::{Cause, Datum, Shape, de, ser};
+use bson_datum::Datum;
+use bson_shape::Shape;
 use bson_traits::Deserialize;
+use bson_values::{Cause, de, ser};
 use std::alloc::{AllocError, Global};
 
 /// The shape `u32`. It takes no memory.

@@ -7,8 +7,10 @@ ghost use Rattle.bson_traits.specs.Answers.{Reads, Writes};
 ghost use Rattle.bson_helpers.specs.Helpers.{seconds_as_stamp, seconds_of_stamp};
 
 use bson_base::Timestamp;
-use bson_datum::{Datum, Shape, de, ser};
+use bson_datum::Datum;
+use bson_shape::Shape;
 use bson_traits::{Deserialize, stamp_datum};
+use bson_values::{de, ser};
 use std::alloc::{AllocError, Global};
 
 /// The shape `timestamp`. It takes no memory.

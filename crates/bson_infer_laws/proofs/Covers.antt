@@ -3,15 +3,15 @@ use Rattle.std.proofs.Common.{◌≡◌, zero, pos, negsuc, ℤ, Bool, true, fal
 use Rattle.std.specs.Prelude.{◌⊎◌, IsSome}
 use Rattle.std.specs.Str.{bytes_eq}
 use Rattle.std.proofs.lemmas.Int.{ints}
-use Rattle.bson_base.specs.Text.{Utf8}
+use Rattle.bson_kinds.specs.Text.{Utf8}
 use Rattle.bson_base.specs.Pairs.{lookup}
 use Rattle.bson_base.specs.Tree as tree
 use Rattle.bson_base.specs.Tree.{Tree, null, document, array, string, binary, int32, int64, Pairs, no_pairs, pair, Trees, no_trees}
 use Rattle.bson_shape.specs.Form.{dropped, Form, leaf, optional, sequence, structure, enumeration, Fields, no_fields, field, no_variants}
 use Rattle.bson_shape.specs.declared.leaf.Leaf.{Leaf}
 use Rattle.bson_shape.specs.declared.leaf.Leaf.TheVariants.{I32, ByteBuf, Binary}
-use Rattle.bson_datum.specs.Value as value
-use Rattle.bson_datum.specs.Value.{i32, i64, in_range, Value}
+use Rattle.bson_values.specs.Value as value
+use Rattle.bson_values.specs.Value.{i32, i64, in_range, Value}
 use Rattle.bson_laws.specs.Leaves.{numbers, units, byte_buffers, leaf_kind}
 use Rattle.bson_laws.specs.Views.{as_integer, views_leaf}
 use Rattle.bson_infer_laws.specs.Named.{form_of, has}

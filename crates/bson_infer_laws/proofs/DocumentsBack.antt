@@ -4,13 +4,13 @@ use Rattle.std.specs.Prelude.{nat_lt}
 use Rattle.std.specs.Str.{bytes_eq}
 use Rattle.std.proofs.lemmas.Bool.{le-ltb, cond-false}
 use Rattle.std.proofs.lemmas.List.{length-append, take_at, drop_at}
-use Rattle.bson_base.specs.Outcome.{◌>>=◌, result_map}
+use Rattle.bson_kinds.specs.Outcome.{◌>>=◌, result_map}
 use Rattle.bson_base.specs.Pairs.{put}
 use Rattle.bson_base.specs.Sound.{Lacks, IsClean, ArePairsClean, AreTreesClean, IsSound}
-use Rattle.bson_base.specs.Text.{Bytes, Utf8}
+use Rattle.bson_kinds.specs.Text.{Bytes, Utf8}
 use Rattle.bson_base.specs.Tree as tree
 use Rattle.bson_base.specs.Tree.{Tree, document, array, Pairs, no_pairs, pair, Trees, no_trees, kind, enclosed, enc, elements, array_elements, depth, pairs_depth, trees_depth}
-use Rattle.bson_base.specs.declared.element_type.ElementType.TheVariants.{EmbeddedDocument}
+use Rattle.bson_kinds.specs.declared.element_type.ElementType.TheVariants.{EmbeddedDocument}
 use Rattle.bson_base.proofs.Lengths.{head_size, tail_size, first_size, later_size, elements_size, array_elements_size, length-javascript_code_with_scope}
 use Rattle.bson_rawdoc.specs.Cut.{with_piece, length_within, piece_length, cut_from, cut}
 use Rattle.bson_rawdoc.specs.DocumentTree.{pairs_with, and_last, trees_with, pairs_at, trees_at, tree_at, document_pairs}

@@ -2,11 +2,11 @@
 use Rattle.std.proofs.Common.{◌≡◌, true, Option, Some, None, refl}
 use Rattle.std.specs.Prelude.{IsSome, option_map, option_and_then}
 use Rattle.bson_base.specs.Pairs.{lookup}
-use Rattle.bson_base.specs.Text.{Utf8}
+use Rattle.bson_kinds.specs.Text.{Utf8}
 use Rattle.bson_base.specs.Tree.{Tree, document, array, null, Pairs, no_pairs, pair, Trees, no_trees, tree}
 use Rattle.bson_shape.specs.Form.{dropped, Form, leaf, optional, sequence, structure, Fields, no_fields, field}
-use Rattle.bson_datum.specs.Value as value
-use Rattle.bson_datum.specs.Value.{Value, item, field_value}
+use Rattle.bson_values.specs.Value as value
+use Rattle.bson_values.specs.Value.{Value, item, field_value}
 use Rattle.bson_laws.specs.Leaves.{leaf_kind}
 use Rattle.bson_laws.specs.Views.{views_items, absent, views_at, views_leaf, views, views_fields}
 use Rattle.bson_infer_laws.specs.Named.{has}

@@ -2,7 +2,7 @@
 use Rattle.std.proofs.Common.{◌≡◌, Bool, true, false, cond, Option, Some, None, inl, inr, refl, ap, sym, subst, ◌∙◌}
 use Rattle.std.specs.Prelude.{◌||◌, ◌⊎◌}
 use Rattle.std.specs.Str.{bytes_eq}
-use Rattle.bson_base.specs.Text.{Utf8}
+use Rattle.bson_kinds.specs.Text.{Utf8}
 use Rattle.bson_shape.specs.Form.{dropped, Form, leaf, optional, sequence, structure, Fields, no_fields, field, joined}
 use Rattle.bson_shape.specs.declared.leaf.Leaf.{Leaf}
 use Rattle.bson_shape.specs.declared.leaf.Leaf.TheVariants.{Bson}

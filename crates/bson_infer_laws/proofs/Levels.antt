@@ -2,7 +2,7 @@
 use Rattle.std.proofs.Common.{zero, suc, ◌+◌, ◌≤◌, arith, ◌≡◌, ℕ, Bool, true, false, cond, Option, Some, None, refl, ap, sym, subst, ◌∙◌}
 use Rattle.std.specs.Prelude.{◌||◌, max}
 use Rattle.std.specs.Str.{bytes_eq}
-use Rattle.bson_base.specs.Text.{Utf8}
+use Rattle.bson_kinds.specs.Text.{Utf8}
 use Rattle.bson_shape.specs.Form.{dropped, Form, leaf, optional, sequence, structure, enumeration, Fields, no_fields, field, no_variants, joined}
 use Rattle.bson_shape.specs.declared.leaf.Leaf.TheVariants.{Bson}
 use Rattle.std.specs.Str.{is_utf8}

@@ -3,22 +3,22 @@ use Rattle.std.proofs.Common.{◌≡◌, ℕ, zero, suc, ◌≤◌, [], ℤ, pos
 use Rattle.std.specs.Prelude.{IsSome, int_lt, option_map}
 use Rattle.std.specs.Str.{bytes_eq}
 use Rattle.std.proofs.lemmas.Int.{ints}
-use Rattle.bson_base.specs.Outcome.{◌>>=◌, result_map}
+use Rattle.bson_kinds.specs.Outcome.{◌>>=◌, result_map}
 use Rattle.bson_base.specs.Pairs.{lookup}
 use Rattle.bson_base.specs.Sound.{IsClean, ArePairsClean, AreTreesClean, IsDocument, IsSound, max_levels}
-use Rattle.bson_base.specs.Text.{Utf8}
+use Rattle.bson_kinds.specs.Text.{Utf8}
 use Rattle.bson_base.specs.Tree as tree
 use Rattle.bson_base.specs.Tree.{Tree, document, array, null, string, boolean, binary, int32, int64, double, object_id, Pairs, no_pairs, pair, Trees, no_trees, depth, pairs_depth, trees_depth}
-use Rattle.bson_base.specs.declared.element_type.ElementType.{ElementType}
-use Rattle.bson_base.specs.declared.element_type.ElementType.TheVariants as kinds
-use Rattle.bson_base.proofs.Outcomes.{some_is, some_map, some_then}
+use Rattle.bson_kinds.specs.declared.element_type.ElementType.{ElementType}
+use Rattle.bson_kinds.specs.declared.element_type.ElementType.TheVariants as kinds
+use Rattle.bson_kinds.proofs.Outcomes.{some_is, some_map, some_then}
 use Rattle.bson_shape.specs.Form.{dropped, Form, leaf, optional, sequence, structure, enumeration, Fields, no_fields, field, no_variants}
 use Rattle.bson_shape.specs.Makers.{IsShape}
 use Rattle.bson_shape.specs.declared.leaf.Leaf.{Leaf}
 use Rattle.bson_shape.specs.declared.leaf.Leaf.TheVariants.{Bool as BoolLeaf, I32, I64, Double, String, ByteBuf, Binary, Unit as UnitLeaf, ObjectId, DateTime, Timestamp, Regex, CodeWithScope, Decimal128, DbPointer, Bson}
-use Rattle.bson_datum.specs.Refusal.{here, invalid_cstring, unsigned_exceeds, under, under_index}
-use Rattle.bson_datum.specs.Value as value
-use Rattle.bson_datum.specs.Value.{i32, i64, in_range, greatest, Value, Items, no_items, item, FieldValues, no_field_values, field_value}
+use Rattle.bson_values.specs.Refusal.{here, invalid_cstring, unsigned_exceeds, under, under_index}
+use Rattle.bson_values.specs.Value as value
+use Rattle.bson_values.specs.Value.{i32, i64, in_range, greatest, Value, Items, no_items, item, FieldValues, no_field_values, field_value}
 use Rattle.bson_laws.specs.Datum.{datum, itself, sorted_tree}
 use Rattle.bson_laws.specs.Leaves.{object_ids, of_kind, leaf_kind, booleans, numbers, doubles, texts, byte_buffers, units}
 use Rattle.bson_laws.specs.Plain.{IsPlain}

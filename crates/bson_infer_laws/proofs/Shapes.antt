@@ -4,14 +4,14 @@ use Rattle.std.specs.Prelude.{◌||◌, IsSome, FitsSigned}
 use Rattle.std.specs.Int.{w32, w64}
 use Rattle.std.specs.Str.{bytes_eq}
 use Rattle.std.proofs.lemmas.Int.{ints}
-use Rattle.bson_base.specs.Text.{Utf8}
+use Rattle.bson_kinds.specs.Text.{Utf8}
 use Rattle.bson_base.specs.Pairs.{lookup}
 use Rattle.bson_base.specs.Sound.{IsClean, ArePairsClean, AreTreesClean, Lacks}
 use Rattle.bson_base.specs.Tree as tree
 use Rattle.bson_base.specs.Tree.{Tree, Pairs, no_pairs, pair, Trees, no_trees}
 use Rattle.bson_shape.specs.Form.{Form, Fields, no_fields, field}
-use Rattle.bson_datum.specs.Value as value
-use Rattle.bson_datum.specs.Value.{i32, i64, in_range, Value}
+use Rattle.bson_values.specs.Value as value
+use Rattle.bson_values.specs.Value.{i32, i64, in_range, Value}
 use Rattle.bson_laws.specs.Views.{views}
 use Rattle.bson_laws.proofs.Fitted.{bytes_eq-refl, chosen_t, chosen_f, Unnamed, unlike_swap}
 use Rattle.bson_infer_laws.specs.Named.{has}

@@ -7,7 +7,7 @@ use Rattle.std.proofs.lemmas.List.{length-append}
 use Rattle.std.proofs.lemmas.Str.{encodes-chars, IsUtf8-from_is_utf8}
 use Rattle.bson_base.specs.Sorted.{insert, ascending, sorted}
 use Rattle.bson_base.specs.Sound.{Lacks, IsClean, ArePairsClean, AreTreesClean, IsSound}
-use Rattle.bson_base.specs.Text.{Bytes, Utf8}
+use Rattle.bson_kinds.specs.Text.{Bytes, Utf8}
 use Rattle.bson_base.specs.Tree as tree
 use Rattle.bson_base.specs.Tree.{Tree, document, Pairs, no_pairs, pair, Trees, no_trees, kind, enc, element, elements, array_elements, depth, pairs_depth, trees_depth}
 use Rattle.bson_base.proofs.Lengths.{length-document, length-array, length-regular_expression, length-javascript_code_with_scope}

@@ -2,7 +2,7 @@
 use Rattle.std.proofs.Common.{◌≡◌, [], zero, suc, Bool, true, false, cond, Option, Some, None, refl, subst}
 use Rattle.std.specs.Prelude.{◌||◌}
 use Rattle.std.specs.Str.{bytes_eq}
-use Rattle.bson_base.specs.Text.{Utf8, has_zero}
+use Rattle.bson_kinds.specs.Text.{Utf8, has_zero}
 use Rattle.bson_base.specs.Sound.{IsClean, ArePairsClean, AreTreesClean, IsDocument}
 use Rattle.bson_base.specs.Tree as tree
 use Rattle.bson_base.specs.Tree.{Tree, Pairs, no_pairs, pair, Trees, no_trees}

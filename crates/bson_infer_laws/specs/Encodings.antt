@@ -1,7 +1,7 @@
 -- A file of documents: their bytes, one behind another. Source: bsonspec.org, version 1.1, `document`.
 use Rattle.std.specs.Prelude.{List, [], ◌∷◌, ◌++◌, None, Result}
-use Rattle.bson_base.specs.Outcome.{◌>>=◌}
-use Rattle.bson_base.specs.Text.{Bytes}
+use Rattle.bson_kinds.specs.Outcome.{◌>>=◌}
+use Rattle.bson_kinds.specs.Text.{Bytes}
 use Rattle.bson_base.specs.Tree as tree
 use Rattle.bson_base.specs.Tree.{Pairs, Trees, no_trees, enc}
 use Rattle.bson_rawdoc.specs.Cut.{Cut}

@@ -2,7 +2,7 @@
 use Rattle.std.proofs.Common.{◌≡◌, List, [], ◌∷◌, Result, Ok, Err, Bool, true, length, map, refl, sym, ◌∙◌, arith, string_bytes}
 use Rattle.std.specs.Prelude.{◌==◌, String}
 use Rattle.std.specs.declared.alloc.Global.{Global}
-use Rattle.bson_base.specs.Text.{Utf8}
+use Rattle.bson_kinds.specs.Text.{Utf8}
 use Rattle.bson_program.proofs.Answered.{Settles}
 use Rattle.bson_program.proofs.Inputs.{input_settles}
 use Rattle.bson_program.specs.Command.{IsAskedFor, IsRefused}

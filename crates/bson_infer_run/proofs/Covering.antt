@@ -3,10 +3,10 @@ use Rattle.std.proofs.Common.{◌≡◌, ℕ, zero, suc, ◌+◌, ◌<◌, ◌�
 use Rattle.std.specs.Prelude.{◌||◌}
 use Rattle.std.specs.Str.{bytes_eq}
 use Rattle.std.proofs.lemmas.List.{length-append}
-use Rattle.bson_base.specs.Outcome.{◌>>=◌, result_map}
+use Rattle.bson_kinds.specs.Outcome.{◌>>=◌, result_map}
 use Rattle.bson_base.specs.Pairs.{put}
 use Rattle.bson_base.specs.Sound.{IsClean, ArePairsClean, Lacks, max_bytes}
-use Rattle.bson_base.specs.Text.{Bytes, Utf8, IsPlainName}
+use Rattle.bson_kinds.specs.Text.{Bytes, Utf8, IsPlainName}
 use Rattle.bson_base.specs.Tree.{Tree, document, Pairs, no_pairs, pair, kind, enc, elements, element, depth, pairs_depth}
 use Rattle.bson_base.proofs.Lengths.{length-document}
 use Rattle.bson_laws.proofs.Fitted.{bytes_eq-refl, unlike_swap}

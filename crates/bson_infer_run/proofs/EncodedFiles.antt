@@ -1,7 +1,7 @@
 -- The inference from the bytes of sound documents, one behind another.
 use Rattle.std.proofs.Common.{◌≡◌, ℕ, suc, true, List, Option, Some, None, Ok, refl, ap, ◌∙◌}
 use Rattle.std.specs.Prelude.{if◌then◌else◌}
-use Rattle.bson_base.specs.Text.{Bytes}
+use Rattle.bson_kinds.specs.Text.{Bytes}
 use Rattle.bson_base.specs.Tree.{document, Pairs, Trees, no_trees, tree, enc}
 use Rattle.bson_rawdoc.specs.Cut.{Cut, cut}
 use Rattle.bson_laws.specs.Datum.{sorted_pairs, sorted_trees}

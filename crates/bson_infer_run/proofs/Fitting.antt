@@ -5,7 +5,7 @@ use Rattle.std.proofs.lemmas.List.{length-append}
 use Rattle.std.specs.Int.{w32, w64}
 use Rattle.std.specs.Str.{is_utf8}
 use Rattle.bson_base.specs.Sound.{HasBytes, max_binary, max_bytes}
-use Rattle.bson_base.specs.Text.{Bytes, Utf8, AreBytes}
+use Rattle.bson_kinds.specs.Text.{Bytes, Utf8, AreBytes}
 use Rattle.bson_base.specs.Tree.{Tree, string, document, array, binary, date_time, db_pointer, javascript_code, symbol, javascript_code_with_scope, int32, timestamp, int64, Pairs, Trees, depth, le32, enc, elements, array_elements, behind_subtype}
 use Rattle.bson_base.proofs.Lengths.{length-le32, length-text, length-binary, length-date_time, length-db_pointer, length-int32, length-timestamp, length-int64, length-document, length-array, length-javascript_code_with_scope}
 use Rattle.bson_infer_run.specs.Fits.{Fits, PairsFit, TreesFit}

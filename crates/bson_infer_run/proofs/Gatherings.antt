@@ -1,6 +1,6 @@
 -- The documents of a file, one after another.
 use Rattle.std.proofs.Common.{◌≡◌, ℕ, zero, suc, ◌+◌, List, [], ◌∷◌, Bool, true, false, cond, Option, Some, None, Result, Ok, Err, is_some, refl, ap, sym, subst, ◌∙◌, add-one}
-use Rattle.bson_base.specs.Text.{Bytes}
+use Rattle.bson_kinds.specs.Text.{Bytes}
 use Rattle.bson_base.specs.Sound.{IsSound}
 use Rattle.bson_base.specs.Tree.{Tree, Trees, no_trees, tree, Pairs, document}
 use Rattle.bson_rawdoc.specs.Cut.{Cut, whole, with_piece, broken_at, cut}

@@ -11,7 +11,7 @@ use Rattle.std.proofs.lemmas.List.{take_more, map-append, length-map, length-tak
 use Rattle.std.proofs.lemmas.Map.Text.{btree_map_updates_text}
 use Rattle.std.proofs.lemmas.Slice.Eq.{bytes_eq-Decides}
 use Rattle.bson_base.specs.BsonView.{Key}
-use Rattle.bson_base.specs.Text.{Utf8}
+use Rattle.bson_kinds.specs.Text.{Utf8}
 use Rattle.bson_infer_run.specs.NamesView.{further_or_first, place_among, FindsAll, IsIndexed}
 use Rattle.bson_infer_run.specs.SummaryView.{IsAt}
 use Rattle.bson_infer_run.proofs.Places.{at_distinct}

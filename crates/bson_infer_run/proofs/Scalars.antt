@@ -2,7 +2,7 @@
 use Rattle.std.proofs.Common.{◌≡◌, ℕ, zero, suc, refl, ap, sym, ◌∙◌}
 use Rattle.std.specs.Global.{Vec}
 use Rattle.bson_base.specs.BsonView.{tree_of}
-use Rattle.bson_base.specs.Text.{Bytes}
+use Rattle.bson_kinds.specs.Text.{Bytes}
 use Rattle.bson_base.specs.Tree.{binary}
 use Rattle.bson_base.specs.declared.bson.Bson as bson
 use Rattle.bson_base.specs.declared.bson.Bson.{Bson}

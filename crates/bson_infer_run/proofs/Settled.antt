@@ -4,7 +4,7 @@ use Rattle.std.specs.Prelude.{◌||◌, nat_lt}
 use Rattle.std.specs.Option.{option_map}
 use Rattle.std.specs.Str.{bytes_eq}
 use Rattle.std.proofs.lemmas.Bool.{lt-ltb}
-use Rattle.bson_base.specs.Text.{Utf8}
+use Rattle.bson_kinds.specs.Text.{Utf8}
 use Rattle.bson_base.specs.Tree.{Pairs, no_pairs, pair}
 use Rattle.bson_shape.specs.Form.{dropped, Form, optional, structure, Fields, field, joined}
 use Rattle.bson_infer_laws.specs.Above.{IsJoined, AreJoined}

@@ -1,6 +1,6 @@
 -- The fields of a shape that is made of a struct, one after another.
 use Rattle.std.proofs.Common.{◌≡◌, ℕ, ◌+◌, ◌<◌, List, [], ◌∷◌, ◌++◌, length, get_or, drop, Result, Ok, nat_lt, refl, ap, sym, subst, ◌∙◌, string_bytes, arith, add-one}
-use Rattle.bson_base.specs.Text.{Utf8}
+use Rattle.bson_kinds.specs.Text.{Utf8}
 use Rattle.bson_shape.specs.Form.{dropped, Form, structure, Fields, no_fields, field, joined}
 use Rattle.bson_shape.specs.Makers.{IsShape, Makes, made_structure}
 use Rattle.bson_shape.specs.ShapeView.{fields_of}

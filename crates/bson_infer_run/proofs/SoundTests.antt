@@ -7,7 +7,7 @@ use Rattle.std.specs.Str.{bytes_eq, is_utf8}
 use Rattle.std.proofs.lemmas.Bool.{and_parts, and_from}
 use Rattle.std.proofs.lemmas.Int.{ints}
 use Rattle.bson_base.specs.Sound.{HasBytes, IsBinary, IsZeroFree, Lacks, IsClean, ArePairsClean, AreTreesClean, IsSound, max_binary, max_levels, max_bytes}
-use Rattle.bson_base.specs.Text.{Bytes, Utf8, AreBytes, has_zero, begins_with_dollar, IsPlainName}
+use Rattle.bson_kinds.specs.Text.{Bytes, Utf8, AreBytes, has_zero, begins_with_dollar, IsPlainName}
 use Rattle.bson_base.specs.Tree.{Tree, double, string, document, array, binary, undefined, object_id, boolean, date_time, null, regular_expression, db_pointer, javascript_code, symbol, javascript_code_with_scope, int32, timestamp, int64, decimal128, max_key, min_key, raw, Pairs, no_pairs, pair, Trees, no_trees, tree, enc, depth}
 use Rattle.bson_infer_run.specs.SoundTest.{are_bytes, has_bytes, is_binary, is_zero_free, is_plain_name, is_within, lacks, is_clean, are_pairs_clean, are_trees_clean, is_sound}
 

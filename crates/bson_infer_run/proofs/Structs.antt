@@ -2,7 +2,7 @@
 use Rattle.std.proofs.Common.{◌≡◌, ℕ, zero, suc, ◌+◌, ◌<◌, Bool, true, false, cond, List, [], ◌∷◌, length, get_or, inl, inr, refl, ap, sym, subst, ◌∙◌, arith}
 use Rattle.std.specs.Prelude.{◌||◌, ◌⊎◌, slice_set, nat_lt}
 use Rattle.bson_base.specs.Sound.{ArePairsClean}
-use Rattle.bson_base.specs.Text.{Utf8}
+use Rattle.bson_kinds.specs.Text.{Utf8}
 use Rattle.bson_base.specs.Tree.{Pairs, document}
 use Rattle.bson_shape.specs.Form.{dropped, Form, optional, structure}
 use Rattle.bson_shape.specs.ShapeView.{nodes, fields_nodes}

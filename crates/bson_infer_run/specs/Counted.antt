@@ -1,7 +1,7 @@
 -- The fields of the structs that were joined, with how often each was there. Source: this library's own join of shapes.
 use Rattle.std.specs.Prelude.{ℕ, ◌+◌, ◌≤◌, Bool, true, false, if◌then◌else◌, nat_lt, List, [], ◌∷◌}
 use Rattle.std.specs.Str.{bytes_eq}
-use Rattle.bson_base.specs.Text.{Utf8}
+use Rattle.bson_kinds.specs.Text.{Utf8}
 use Rattle.bson_base.specs.Tree.{Pairs, no_pairs, pair}
 use Rattle.bson_shape.specs.Form.{Form, Fields, no_fields, field}
 use Rattle.bson_infer_laws.specs.Inferred.{shape_of}

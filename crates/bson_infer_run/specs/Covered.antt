@@ -1,8 +1,8 @@
 -- A document in its bytes that adds nothing to a form: it is sound, and the form has all that it has. Source: this library's own join of shapes.
 use Rattle.std.specs.Prelude.{◌≡◌, ℕ, ◌+◌, true, length, drop, Option, Some, None, Result, Ok, Err}
-use Rattle.bson_base.specs.Text.{Utf8, IsPlainName}
+use Rattle.bson_kinds.specs.Text.{Utf8, IsPlainName}
 use Rattle.bson_base.specs.Tree.{Tree, document, Pairs, enc}
-use Rattle.bson_base.specs.Outcome.{◌>>=◌}
+use Rattle.bson_kinds.specs.Outcome.{◌>>=◌}
 use Rattle.bson_rawdoc.specs.DocumentTree.{tree_at}
 use Rattle.bson_rawdoc.specs.RawValue.{value_in}
 use Rattle.bson_rawdoc.specs.Walk.{Element}

@@ -1,7 +1,7 @@
 -- What the inference from a file of documents comes to. Source: this library's own programs.
 use Rattle.std.specs.Prelude.{◌≡◌, ℕ, suc, ◌+◌, List, [], ◌∷◌, Bool, false, if◌then◌else◌, Option, Some, None, Result, Ok, Err}
 use Rattle.bson_base.specs.BsonView.{pairs_of}
-use Rattle.bson_base.specs.Text.{Bytes}
+use Rattle.bson_kinds.specs.Text.{Bytes}
 use Rattle.bson_base.specs.Tree.{Tree, document, Pairs, Trees, no_trees, tree}
 use Rattle.bson_base.specs.declared.document.Document.{Document}
 use Rattle.bson_rawdoc.specs.Cut.{Cut, cut}

@@ -1,7 +1,7 @@
 -- The lines that are printed. Source: this library's own programs.
 use Rattle.std.specs.Prelude.{ℕ, [], ◌∷◌, ◌++◌, codes}
 use Rattle.std.specs.Fmt.{decimal}
-use Rattle.bson_base.specs.Text.{Utf8}
+use Rattle.bson_kinds.specs.Text.{Utf8}
 use Rattle.bson_program.specs.ShapeWord.{newline}
 use Rattle.bson_rawdoc.specs.Printed.{printed_fault}
 use Rattle.bson_rawdoc.specs.declared.raw.Error.{Error}

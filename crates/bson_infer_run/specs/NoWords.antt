@@ -1,6 +1,6 @@
 -- The command line of a program that takes no word. Source: this library's own programs.
 use Rattle.std.specs.Prelude.{◌≡◌, ◌≢◌, List, [], ◌∷◌, Result, Ok, Err}
-use Rattle.bson_base.specs.Text.{Utf8}
+use Rattle.bson_kinds.specs.Text.{Utf8}
 use Rattle.bson_program.specs.Command.{Command}
 
 -- There is a word, and the line tells how the program is used.

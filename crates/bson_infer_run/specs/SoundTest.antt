@@ -2,7 +2,7 @@
 use Rattle.std.specs.Prelude.{ℕ, ◌^◌, length, Bool, true, false, ◌&&◌, not, nat_lt, nat_le, nat_eq, ℤ, pos, negsuc, [], ◌∷◌}
 use Rattle.std.specs.Str.{bytes_eq, is_utf8}
 use Rattle.bson_base.specs.Sound.{max_binary, max_levels, max_bytes}
-use Rattle.bson_base.specs.Text.{Bytes, Utf8, has_zero, begins_with_dollar}
+use Rattle.bson_kinds.specs.Text.{Bytes, Utf8, has_zero, begins_with_dollar}
 use Rattle.bson_base.specs.Tree.{Tree, double, string, document, array, binary, undefined, object_id, boolean, date_time, null, regular_expression, db_pointer, javascript_code, symbol, javascript_code_with_scope, int32, timestamp, int64, decimal128, max_key, min_key, raw, Pairs, no_pairs, pair, Trees, no_trees, tree, enc, depth}
 
 abbrev pub are_bytes : Bytes → Bool

@@ -1,7 +1,7 @@
 -- What contracts see of a summary: the form of the values that were joined. Source: this library's own types.
 use Rattle.std.specs.Prelude.{◌≡◌, ℕ, zero, suc, ◌<◌, Bool, true, false, List, [], ◌∷◌, length}
 use Rattle.std.specs.Str.{bytes_eq}
-use Rattle.bson_base.specs.Text.{Utf8}
+use Rattle.bson_kinds.specs.Text.{Utf8}
 use Rattle.bson_shape.specs.Form.{dropped, Form, leaf, optional, sequence, structure}
 use Rattle.bson_infer_laws.specs.Above.{IsJoined}
 use Rattle.bson_infer_laws.specs.Join.{nothing}

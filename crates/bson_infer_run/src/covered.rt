@@ -1,6 +1,6 @@
 // A document in its bytes that adds nothing to what is common to the documents before.
 ghost use Rattle.std.specs.Prelude.{◌≡◌, ◌<◌, ◌+◌, IsTrue, IfSome, vec_len};
-ghost use Rattle.bson_base.specs.Outcome.{result_map};
+ghost use Rattle.bson_kinds.specs.Outcome.{result_map};
 ghost use Rattle.bson_base.specs.Tree as tree;
 ghost use Rattle.bson_rawdoc.specs.DocumentTree.{tree_at, pairs_at, document_pairs};
 ghost use Rattle.bson_rawdoc.specs.DocumentView.{document_bytes};

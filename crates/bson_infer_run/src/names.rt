@@ -3,7 +3,7 @@ ghost use Rattle.std.specs.Prelude.{◌≡◌, ◌≤◌, ◌<◌, ◌+◌, [], 
 ghost use Rattle.std.specs.BTreeMap.{get_by_text};
 ghost use Rattle.std.specs.List.{list_any};
 ghost use Rattle.std.specs.Str.{bytes_eq};
-ghost use Rattle.bson_base.specs.Text.{Utf8};
+ghost use Rattle.bson_kinds.specs.Text.{Utf8};
 ghost use Rattle.bson_infer_run.specs.NamesView.{place_among, FindsAll};
 ghost use Rattle.bson_infer_run.specs.SummaryView.{IsAt};
 
@@ -28,7 +28,7 @@ pub(crate) struct Names {
 
 impl Model for Names {
     ghost use Rattle.std.specs.Prelude.{List, map, string_bytes};
-    ghost use Rattle.bson_base.specs.Text.{Utf8};
+    ghost use Rattle.bson_kinds.specs.Text.{Utf8};
 
     ghost Value = { List Utf8 };
 

@@ -1,7 +1,7 @@
 // The run: there is to be no word, the input is read to its end, the shape of its documents is inferred, and all is written.
 ghost use Rattle.std.specs.Prelude.{◌≡◌, ◌≤◌, ◌⊎◌, [], length, map, string_bytes, IfOk, Some};
 ghost use Rattle.bson_base.specs.Sound.{max_bytes};
-ghost use Rattle.bson_base.specs.Text.{Bytes};
+ghost use Rattle.bson_kinds.specs.Text.{Bytes};
 ghost use Rattle.bson_base.specs.Tree.{Trees};
 ghost use Rattle.bson_shape.specs.Form.{Form};
 ghost use Rattle.bson_program.specs.Ends.{source_change, sink_change};

@@ -6,7 +6,7 @@ ghost use Rattle.std.specs.Str.{is_utf8};
 ghost use Rattle.bson_base.specs.BsonView.{tree_of, trees_of, pairs_of, binary_of, regex_of, pointer_of, scoped_of};
 ghost use Rattle.bson_base.specs.Instant.{millis};
 ghost use Rattle.bson_base.specs.Sound.{HasBytes, IsSound, max_bytes};
-ghost use Rattle.bson_base.specs.Text.{AreBytes, IsPlainName};
+ghost use Rattle.bson_kinds.specs.Text.{AreBytes, IsPlainName};
 ghost use Rattle.bson_base.specs.Tree as tree;
 ghost use Rattle.bson_base.specs.Tree.{enc, elements, array_elements};
 ghost use Rattle.bson_infer_run.specs.Fits.{Fits, PairsFit, TreesFit};

@@ -1,19 +1,19 @@
 -- The law at `any`: a tree of its own form is read as a value that is written as this tree, so its bytes are written as they are.
 use Rattle.std.proofs.Common.{◌≡◌, ℕ, zero, suc, List, [], ◌∷◌, ◌++◌, length, false, cond, Ok, Err, refl, ap, sym, subst, ◌∙◌, arith}
 use Rattle.std.proofs.lemmas.Bool.{le-ltb}
-use Rattle.bson_base.specs.Outcome.{◌>>=◌, result_map}
+use Rattle.bson_kinds.specs.Outcome.{◌>>=◌, result_map}
 use Rattle.bson_base.specs.Sound.{max_binary}
-use Rattle.bson_base.specs.Text.{Utf8}
+use Rattle.bson_kinds.specs.Text.{Utf8}
 use Rattle.bson_base.specs.Tree as tree
 use Rattle.bson_base.specs.Tree.{Tree, double, string, document, array, binary, boolean, null, int32, int64, Pairs, no_pairs, pair, Trees, no_trees, enc, behind_subtype}
 use Rattle.bson_rawdoc.specs.Node as node
 use Rattle.bson_rawdoc.specs.Node.{Whole, of_bytes, from_input, Node, Nodes, tree_node, pair_nodes, tree_nodes}
-use Rattle.bson_datum.specs.Value as value
-use Rattle.bson_datum.specs.Value.{str, no_items, item, no_entries, entry}
-use Rattle.bson_datum.specs.Marked.{Marked, MarkedItems, MarkedEntries, contents, item_contents, entry_contents}
-use Rattle.bson_datum.specs.Cause.{binary_too_long}
-use Rattle.bson_datum.specs.Refusal.{under, here, unwritable, unsigned_exceeds}
-use Rattle.bson_datum.specs.Same.{same}
+use Rattle.bson_values.specs.Value as value
+use Rattle.bson_values.specs.Value.{str, no_items, item, no_entries, entry}
+use Rattle.bson_values.specs.Marked.{Marked, MarkedItems, MarkedEntries, contents, item_contents, entry_contents}
+use Rattle.bson_values.specs.Cause.{binary_too_long}
+use Rattle.bson_values.specs.Refusal.{under, here, unwritable, unsigned_exceeds}
+use Rattle.bson_values.specs.Same.{same}
 use Rattle.bson_rawdoc.specs.Piece.{borrowed}
 use Rattle.bson_laws.specs.Judged.{Reading, judged}
 use Rattle.bson_laws.specs.ReadsLeaf.{put_entry, read_any, any_items, any_entries}

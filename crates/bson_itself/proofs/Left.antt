@@ -7,12 +7,12 @@ use Rattle.std.specs.Prelude.{not}
 use Rattle.std.proofs.lemmas.Slice.Eq.{bytes_eq-Decides}
 use Rattle.std.proofs.lemmas.Bool.{eqb-true}
 use Rattle.std.proofs.lemmas.List.{take_all, length-drop, drop-drop, take-append-drop}
-use Rattle.bson_base.specs.Kind.{byte, of_byte, with_byte}
-use Rattle.bson_base.specs.Kind.{kinds as all_kinds}
-use Rattle.bson_base.specs.Text.{Bytes, Utf8, has_zero}
+use Rattle.bson_kinds.specs.Kind.{byte, of_byte, with_byte}
+use Rattle.bson_kinds.specs.Kind.{kinds as all_kinds}
+use Rattle.bson_kinds.specs.Text.{Bytes, Utf8, has_zero}
 use Rattle.bson_base.specs.Tree.{Pairs, no_pairs, pair, Trees, no_trees, tree, kind, enc, elements, array_elements}
-use Rattle.bson_base.specs.declared.element_type.ElementType.{ElementType}
-use Rattle.bson_base.proofs.Outcomes.{some_is}
+use Rattle.bson_kinds.specs.declared.element_type.ElementType.{ElementType}
+use Rattle.bson_kinds.proofs.Outcomes.{some_is}
 use Rattle.bson_rawdoc.specs.Extent.{in_front, cut_at_zero}
 use Rattle.bson_itself.specs.Encoded.{EncodesItself, ArePairs, AreTrees}
 use Rattle.bson_itself.specs.Itself.{ArePairsThemselves, AreTreesThemselves, IsTakenKey}

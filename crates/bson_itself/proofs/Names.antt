@@ -2,9 +2,9 @@
 use Rattle.std.proofs.Common.{◌≡◌, [], ◌∷◌, ◌++◌, List, true, ◌∙◌}
 use Rattle.std.specs.Str.{bytes_eq}
 use Rattle.bson_base.specs.Sound.{Lacks}
-use Rattle.bson_base.specs.Text.{Utf8}
+use Rattle.bson_kinds.specs.Text.{Utf8}
 use Rattle.bson_base.specs.Tree.{Tree, Pairs, pair}
-use Rattle.bson_base.proofs.Tests.{not_taken}
+use Rattle.bson_kinds.proofs.Tests.{not_taken}
 use Rattle.bson_keys.specs.New.{is_new}
 use Rattle.bson_keys.proofs.Distinct.{bytes_eq-swap}
 

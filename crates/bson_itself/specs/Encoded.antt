@@ -4,9 +4,9 @@ use Rattle.std.specs.Prelude.{◌≡◌, ℕ, Bool, true}
 use Rattle.std.specs.Str.{is_utf8}
 use Rattle.bson_base.specs.Sorted.{sorted}
 use Rattle.bson_base.specs.Sound.{IsBinary, IsZeroFree, HasBytes}
-use Rattle.bson_base.specs.Text.{Bytes, Utf8, AreBytes}
+use Rattle.bson_kinds.specs.Text.{Bytes, Utf8, AreBytes}
 use Rattle.bson_base.specs.Tree.{Tree, boolean, binary, regular_expression, db_pointer, Pairs, Trees, kind, enc, elements, array_elements, closed_text, enclosed, behind_subtype}
-use Rattle.bson_base.specs.declared.element_type.ElementType.{ElementType}
+use Rattle.bson_kinds.specs.declared.element_type.ElementType.{ElementType}
 use Rattle.bson_rawdoc.specs.Envelope.{inside}
 use Rattle.bson_itself.specs.Itself.{IsItself, ArePairsThemselves, AreTreesThemselves, IsTakenSubtype}
 use Rattle.bson_itself.specs.declared.untyped.UntypedLeaf.{UntypedLeaf}

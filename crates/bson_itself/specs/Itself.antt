@@ -5,9 +5,9 @@ use Rattle.std.specs.Int.{w32, w64}
 use Rattle.std.specs.Str.{is_utf8}
 use Rattle.bson_base.specs.Sorted.{sorted}
 use Rattle.bson_base.specs.Sound.{Lacks, HasBytes, IsBinary, IsZeroFree}
-use Rattle.bson_base.specs.Text.{Utf8, has_zero}
+use Rattle.bson_kinds.specs.Text.{Utf8, has_zero}
 use Rattle.bson_base.specs.Tree.{Tree, double, string, document, array, binary, undefined, object_id, boolean, date_time, null, regular_expression, db_pointer, javascript_code, symbol, javascript_code_with_scope, int32, timestamp, int64, decimal128, max_key, min_key, raw, Pairs, no_pairs, pair, Trees, no_trees, tree}
-use Rattle.bson_datum.specs.Wrapper.{of_key}
+use Rattle.bson_values.specs.Wrapper.{of_key}
 use Rattle.bson_itself.specs.declared.untyped.UntypedLeaf.{UntypedLeaf}
 use Rattle.bson_itself.specs.declared.untyped.UntypedLeaf.TheVariants.{Any, Bson}
 

@@ -1,13 +1,13 @@
 -- Values whose bytes are kept. Source: serde's data model.
 use Rattle.std.specs.Prelude.{◌≡◌, ℕ, Ok}
-use Rattle.bson_base.specs.Text.{Bytes}
+use Rattle.bson_kinds.specs.Text.{Bytes}
 use Rattle.bson_base.specs.Tree.{Tree, kind, enc}
-use Rattle.bson_base.specs.declared.element_type.ElementType.{ElementType}
+use Rattle.bson_kinds.specs.declared.element_type.ElementType.{ElementType}
 use Rattle.bson_rawdoc.specs.Node.{node_in}
 use Rattle.bson_shape.specs.Form.{Form}
 use Rattle.bson_shape.specs.declared.leaf.Leaf.{Leaf}
 use Rattle.bson_shape.specs.declared.leaf.Leaf.TheVariants as leaves
-use Rattle.bson_datum.specs.Marked.{Marked, contents}
+use Rattle.bson_values.specs.Marked.{Marked, contents}
 use Rattle.bson_laws.specs.CompactReads.{reads}
 use Rattle.bson_laws.specs.Spell.{spell}
 use Rattle.bson_itself.specs.declared.untyped.UntypedLeaf.{UntypedLeaf}

@@ -1,7 +1,7 @@
 // The elements of documents and arrays, one by one.
 ghost use Rattle.std.specs.Prelude.{◌≡◌, ◌≤◌, take, length, IfSome, IsTrue};
 ghost use Rattle.bson_base.specs.Sound.{max_bytes};
-ghost use Rattle.bson_base.specs.declared.element_type.ElementType.TheVariants as kinds;
+ghost use Rattle.bson_kinds.specs.declared.element_type.ElementType.TheVariants as kinds;
 ghost use Rattle.bson_shape.specs.Form as form;
 ghost use Rattle.bson_itself.specs.Encoded.{EncodesItself, ArePairs, AreTrees, IsFrame};
 ghost use Rattle.bson_itself.specs.Kept.{IsWrittenAsRead, leaf_of};
@@ -10,9 +10,9 @@ ghost use Rattle.bson_itself.specs.declared.untyped.UntypedLeaf.TheVariants.{Bso
 use crate::keys::key;
 use crate::untyped::{UntypedLeaf, is_taken_key};
 use crate::values::{binary_len, boolean_len, expression_len, fixed_len, pointer_len, text_len};
-use bson_base::ElementType;
 use bson_io::MOST;
 use bson_keys::MetKeys;
+use bson_kinds::ElementType;
 use bson_rawdoc::reading::{inside, is_closed, known_bytes, uint32_in};
 use std::alloc::Global;
 

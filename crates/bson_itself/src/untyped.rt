@@ -1,9 +1,9 @@
 // The leaves that take a value of any kind.
 ghost use Rattle.std.specs.Prelude.{◌≡◌, IsTrue};
-ghost use Rattle.bson_base.specs.Text.{begins_with_dollar};
+ghost use Rattle.bson_kinds.specs.Text.{begins_with_dollar};
 ghost use Rattle.bson_itself.specs.Itself.{IsTakenKey, IsTakenSubtype};
 
-use bson_datum::Wrapper;
+use bson_values::Wrapper;
 
 /// A leaf that takes a value of any kind.
 #[derive(Clone, Copy, Debug, PartialEq, Eq)]

@@ -1,7 +1,7 @@
 // The bytes of values without others in them.
 ghost use Rattle.std.specs.Prelude.{◌≡◌, ◌≤◌, take, length, IfSome, IsTrue};
 ghost use Rattle.bson_base.specs.Sorted.{sorted};
-ghost use Rattle.bson_base.specs.Text.{AreBytes};
+ghost use Rattle.bson_kinds.specs.Text.{AreBytes};
 ghost use Rattle.bson_itself.specs.Encoded.{IsTextValue, IsBinaryValue, IsBehind, IsExpression, IsPointer, IsTrueOrFalse};
 
 use crate::keys::key;

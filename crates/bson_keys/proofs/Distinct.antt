@@ -10,8 +10,8 @@ use Rattle.std.proofs.lemmas.Cmp.{nat_cmp_total, eq_by_cmp_equiv}
 use Rattle.std.proofs.lemmas.List.Sorted.{IsPermutation-sym}
 use Rattle.std.proofs.lemmas.Map.Keys.{IsDistinct-IsPermutation, IsDistinct-from_sorted, sorted_from_strictly_increasing}
 use Rattle.std.proofs.lemmas.Slice.Eq.{bytes_eq-Decides}
-use Rattle.bson_base.specs.Text.{Utf8}
-use Rattle.bson_base.proofs.Tests.{not_taken}
+use Rattle.bson_kinds.specs.Text.{Utf8}
+use Rattle.bson_kinds.proofs.Tests.{not_taken}
 use Rattle.bson_keys.specs.New.{is_new}
 
 pub bytes_eq-swap : (xs ys : Utf8) → bytes_eq xs ys ≡ bytes_eq ys xs

@@ -2,7 +2,7 @@
 use Rattle.std.specs.Prelude.{ℕ}
 use Rattle.std.specs.Hash.DefaultHasher as siphash
 use Rattle.std.specs.Hash.FoldHasher as folding
-use Rattle.bson_base.specs.Text.{Utf8}
+use Rattle.bson_kinds.specs.Text.{Utf8}
 
 -- the hash of a key, std's `FoldHasher` of its bytes
 unfoldable pub hash_of : Utf8 → ℕ

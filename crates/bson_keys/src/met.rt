@@ -5,7 +5,7 @@ ghost use Rattle.std.specs.List.Sorted.{IsStrictlyIncreasing};
 ghost use Rattle.std.specs.Map.Iter.{deref};
 ghost use Rattle.std.specs.Ordering.{eq_by_cmp, nat_cmp};
 ghost use Rattle.std.specs.Str.{bytes_eq};
-ghost use Rattle.bson_base.specs.Text.{Utf8};
+ghost use Rattle.bson_kinds.specs.Text.{Utf8};
 ghost use Rattle.bson_keys.specs.New.{is_new};
 ghost use Rattle.bson_keys.specs.Met.{HasKeys};
 

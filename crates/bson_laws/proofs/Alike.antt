@@ -2,8 +2,8 @@
 use Rattle.std.proofs.Common.{◌≡◌, List, [], ◌∷◌, Bool, true, false, cond, Option, Some, None, refl, subst}
 use Rattle.std.specs.Prelude.{option_and_then, codes}
 use Rattle.std.specs.Str.{bytes_eq}
-use Rattle.bson_base.specs.Text.{Utf8}
-use Rattle.bson_datum.specs.Value.{Value, str, map, raw_document}
+use Rattle.bson_kinds.specs.Text.{Utf8}
+use Rattle.bson_values.specs.Value.{Value, str, map, raw_document}
 use Rattle.bson_laws.specs.Unwrap.{Part, a_key, a_value, next_key, next_text, next_scope, end_as, scoped_code}
 
 -- as many parts, with the same keys and the same values, which are written alike

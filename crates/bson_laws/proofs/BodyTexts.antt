@@ -2,18 +2,18 @@
 use Rattle.std.proofs.Common.{◌≡◌, ℕ, ◌<◌, ◌^◌, pos, [], ◌∷◌, true, false, cond, Some, None, Ok, Err, refl, ap, ◌∙◌, arith}
 use Rattle.std.specs.Str.{bytes_eq, is_utf8}
 use Rattle.std.proofs.lemmas.Int.{ints}
-use Rattle.bson_base.specs.Outcome.{◌>>=◌, result_map}
-use Rattle.bson_base.specs.Text.{Utf8}
+use Rattle.bson_kinds.specs.Outcome.{◌>>=◌, result_map}
+use Rattle.bson_kinds.specs.Text.{Utf8}
 use Rattle.bson_rawdoc.specs.Node.{Node, string, made_document, int64, ended, one, two}
 use Rattle.bson_rawdoc.specs.Piece.{made}
 use Rattle.bson_rawdoc.specs.declared.raw.Error.TheVariants.{NotUtf8}
 use Rattle.bson_shape.specs.Form.{dropped, Form, leaf}
 use Rattle.bson_shape.specs.declared.leaf.Leaf.TheVariants.{U32}
-use Rattle.bson_datum.specs.Cause.{out_of_range}
-use Rattle.bson_datum.specs.Marked.{Marked}
-use Rattle.bson_datum.specs.Refusal.{under}
-use Rattle.bson_datum.specs.Value as value
-use Rattle.bson_datum.specs.Value.{u32, in_range, no_field_values, field_value}
+use Rattle.bson_values.specs.Cause.{out_of_range}
+use Rattle.bson_values.specs.Marked.{Marked}
+use Rattle.bson_values.specs.Refusal.{under}
+use Rattle.bson_values.specs.Value as value
+use Rattle.bson_values.specs.Value.{u32, in_range, no_field_values, field_value}
 use Rattle.bson_laws.specs.Judged.{Reading, refused, judged, faultless}
 use Rattle.bson_laws.specs.Leaves.{texts}
 use Rattle.bson_laws.specs.ReadsLeaf.{no_extended, read_leaf_with}

@@ -4,20 +4,20 @@ use Rattle.std.proofs.Common.{◌≡◌, ℕ, ℤ, pos, suc, [], ◌∷◌, Bool
 use Rattle.std.specs.Prelude.{codes, option_map}
 use Rattle.std.specs.Str.{bytes_eq, chars, is_utf8}
 use Rattle.bson_base.specs.Made.{digits}
-use Rattle.bson_base.specs.Text.{Bytes, Utf8}
-use Rattle.bson_base.specs.Outcome.{◌>>=◌, result_map}
-use Rattle.bson_base.proofs.Outcomes.{ok_is, map_ok, bind_ok}
+use Rattle.bson_kinds.specs.Text.{Bytes, Utf8}
+use Rattle.bson_kinds.specs.Outcome.{◌>>=◌, result_map}
+use Rattle.bson_kinds.proofs.Outcomes.{ok_is, map_ok, bind_ok}
 use Rattle.bson_rawdoc.specs.Node.{Whole, Node, double, string, document, array, bytes, boolean, null, int32, int64, extended, too_deep, Extended, binary, object_id, regular_expression, db_pointer, javascript_code, symbol, javascript_code_with_scope, Nodes, ended, faulty, then_node, or_else, text_fault, fault, extended_fault, piece, mended}
 use Rattle.bson_rawdoc.specs.Piece.{Piece, made}
 use Rattle.bson_rawdoc.specs.declared.raw.Error.{Error}
 use Rattle.bson_rawdoc.specs.declared.raw.Error.TheVariants.{NotUtf8}
 use Rattle.bson_shape.specs.Form.{UnknownFields, dropped, denied, Form, leaf, optional, lossy, human_readable, by_mode, sequence, newtype, unit_structure, map, tuple, tuple_structure, structure, enumeration, reference, definitions, Fields, no_fields, field, Parts, no_parts, part, Content, unit_content, newtype_content, tuple_content, struct_content, Variants, no_variants, variant}
-use Rattle.bson_datum.specs.Value as value
-use Rattle.bson_datum.specs.Value.{u8, readable_newtype, Value, Entries, item, no_entries, entry, field_value}
-use Rattle.bson_datum.specs.Marked.{Marked, MarkedItems, MarkedEntries, MarkedFields, contents, item_contents, entry_contents, field_contents}
-use Rattle.bson_datum.specs.Same.{same}
-use Rattle.bson_datum.specs.Cause.{unknown_reference, not_utf8, not_borrowed}
-use Rattle.bson_datum.specs.Refusal.{Segment, at_index, inside, under, under_index}
+use Rattle.bson_values.specs.Value as value
+use Rattle.bson_values.specs.Value.{u8, readable_newtype, Value, Entries, item, no_entries, entry, field_value}
+use Rattle.bson_values.specs.Marked.{Marked, MarkedItems, MarkedEntries, MarkedFields, contents, item_contents, entry_contents, field_contents}
+use Rattle.bson_values.specs.Same.{same}
+use Rattle.bson_values.specs.Cause.{unknown_reference, not_utf8, not_borrowed}
+use Rattle.bson_values.specs.Refusal.{Segment, at_index, inside, under, under_index}
 use Rattle.bson_laws.specs.Datum.{one, two, nameless, wrapped}
 use Rattle.bson_laws.specs.Leaves.{LeafKind, anything, ignored, booleans, numbers, doubles, characters, texts, byte_strings, byte_buffers, units, ExtendedLeaf, extended_values, raw_documents, raw_arrays, raw_values, leaf_kind}
 use Rattle.bson_laws.specs.Owned.{IsTextOwned, IsLeafOwned, IsOwned, AreFieldsOwned, ArePartsOwned, AreVariantsOwned, IsContentOwned}

@@ -4,26 +4,26 @@ use Rattle.std.specs.Prelude.{unsigned_abs, codes, option_map, option_and_then}
 use Rattle.std.specs.Str.{bytes_eq}
 use Rattle.uuid.specs.Text.{parsed}
 use Rattle.bson_dates.specs.DateText.{date_of_text}
-use Rattle.bson_base.specs.Outcome.{◌>>=◌, result_map}
+use Rattle.bson_kinds.specs.Outcome.{◌>>=◌, result_map}
 use Rattle.bson_base.specs.Parsed.{bytes_of_digits, integer_of_text}
 use Rattle.bson_base.specs.Sorted.{sorted}
-use Rattle.bson_base.specs.Text.{Bytes, Utf8}
+use Rattle.bson_kinds.specs.Text.{Bytes, Utf8}
 use Rattle.bson_base.specs.Tree as tree
 use Rattle.bson_base.specs.Tree.{Tree, Pairs, no_pairs, Trees}
-use Rattle.bson_base.specs.declared.element_type.ElementType.TheVariants as kinds
-use Rattle.bson_base.proofs.Outcomes.{map_ok, bind_ok}
+use Rattle.bson_kinds.specs.declared.element_type.ElementType.TheVariants as kinds
+use Rattle.bson_kinds.proofs.Outcomes.{map_ok, bind_ok}
 use Rattle.bson_rawdoc.specs.Node as node
 use Rattle.bson_rawdoc.specs.Node.{Node, Extended, Nodes, ended, faulty, then_node, text_fault, fault, extended_fault, mended}
 use Rattle.bson_rawdoc.specs.Piece.{Piece, made}
 use Rattle.bson_shape.specs.Form.{Form, leaf}
 use Rattle.bson_shape.specs.declared.leaf.Leaf.TheVariants as leaves
-use Rattle.bson_datum.specs.Cause.{unknown_field}
-use Rattle.bson_datum.specs.Marked.{Marked, contents}
-use Rattle.bson_datum.specs.Refusal.{at_index, under, under_index}
-use Rattle.bson_datum.specs.Value.{Value}
-use Rattle.bson_datum.specs.Wrapper.{of_key}
-use Rattle.bson_datum.specs.declared.wrapper.Wrapper.{Wrapper}
-use Rattle.bson_datum.specs.declared.wrapper.Wrapper.TheVariants as wrappers
+use Rattle.bson_values.specs.Cause.{unknown_field}
+use Rattle.bson_values.specs.Marked.{Marked, contents}
+use Rattle.bson_values.specs.Refusal.{at_index, under, under_index}
+use Rattle.bson_values.specs.Value.{Value}
+use Rattle.bson_values.specs.Wrapper.{of_key}
+use Rattle.bson_values.specs.declared.wrapper.Wrapper.{Wrapper}
+use Rattle.bson_values.specs.declared.wrapper.Wrapper.TheVariants as wrappers
 use Rattle.bson_laws.specs.Datum.{datum, uuid_datum}
 use Rattle.bson_laws.specs.Leaves as leaf_kinds
 use Rattle.bson_laws.specs.Leaves.{ExtendedLeaf, object_ids, uuids, of_kind, documents}
@@ -35,7 +35,7 @@ use Rattle.bson_laws.specs.Shaped.{reads}
 use Rattle.bson_laws.specs.Taken.{text_of}
 use Rattle.bson_laws.specs.Trees.{code_key, or_bad, pairs_in, put_pair, by_meaning, by_key, after_scope, as_tree, extended_tree, array_trees, document_tree, after_code}
 use Rattle.bson_laws.specs.Wrapped.{id_of_text, text_at, text_body, int32_of, double_of_text, binary_of_texts, of_length, Body, at, text, with_field, with_fields, a_text, a_number, a_boolean, some_bytes, a_field, two_fields, two_texts, two_numbers, oid_body, date_body, judging, tree_if, being_one, Meaning, body, code, scope, meaning}
-use Rattle.bson_datum.specs.declared.wrapper.Wrapper.TheVariants.{Oid}
+use Rattle.bson_values.specs.declared.wrapper.Wrapper.TheVariants.{Oid}
 use Rattle.bson_laws.proofs.Changed as changes
 use Rattle.bson_laws.proofs.Changed.{Follows, neither, read_after, then_after, text_after, text_same}
 use Rattle.bson_laws.proofs.ChangedNodes.{Change, changed, changed_value, changed_nodes, bare, as_it_is, changed_same, mended_bare}

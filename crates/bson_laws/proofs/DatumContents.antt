@@ -4,9 +4,9 @@ use Rattle.std.specs.Prelude.{codes}
 use Rattle.bson_base.specs.Tree as tree
 use Rattle.bson_base.specs.Tree.{Tree, Pairs, no_pairs, pair, Trees, no_trees, kind}
 use Rattle.bson_rawdoc.specs.Piece.{made}
-use Rattle.bson_datum.specs.Value as value
-use Rattle.bson_datum.specs.Value.{item, entry}
-use Rattle.bson_datum.specs.Marked.{contents, item_contents, entry_contents}
+use Rattle.bson_values.specs.Value as value
+use Rattle.bson_values.specs.Value.{item, entry}
+use Rattle.bson_values.specs.Marked.{contents, item_contents, entry_contents}
 use Rattle.bson_laws.specs.Datum.{two, datum, itself, pair_data, tree_data, sorted_tree}
 
 mutual

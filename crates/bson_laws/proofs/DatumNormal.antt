@@ -3,14 +3,14 @@ use Rattle.std.proofs.Common.{◌≡◌, zero, suc, Bool, true, false, cond, Opt
 use Rattle.std.specs.Prelude.{nat_eq, codes, option_map}
 use Rattle.std.specs.Result.{result_ok}
 use Rattle.std.proofs.lemmas.Bool.Decides.{nat_tests}
-use Rattle.bson_base.specs.Kind.{byte, of_byte}
+use Rattle.bson_kinds.specs.Kind.{byte, of_byte}
 use Rattle.bson_base.specs.Tree as tree
 use Rattle.bson_base.specs.Tree.{Tree, Pairs, no_pairs, pair, Trees, no_trees}
-use Rattle.bson_base.specs.declared.element_type.ElementType.{ElementType}
-use Rattle.bson_base.specs.Prover.KindBytes.{of_byte-byte}
-use Rattle.bson_base.proofs.Outcomes.{some_is, some_map, some_then, ok_is}
-use Rattle.bson_datum.specs.Value as value
-use Rattle.bson_datum.specs.Value.{item, entry}
+use Rattle.bson_kinds.specs.declared.element_type.ElementType.{ElementType}
+use Rattle.bson_kinds.specs.Prover.KindBytes.{of_byte-byte}
+use Rattle.bson_kinds.proofs.Outcomes.{some_is, some_map, some_then, ok_is}
+use Rattle.bson_values.specs.Value as value
+use Rattle.bson_values.specs.Value.{item, entry}
 use Rattle.bson_laws.specs.Written.{Writing, with_scope, spell_whole}
 use Rattle.bson_laws.specs.Datum.{datum, itself, two, pair_data, tree_data, sorted_tree, sorted_pairs, sorted_trees}
 use Rattle.bson_laws.specs.InRange.{IsInRange, ArePairsInRange, AreTreesInRange}

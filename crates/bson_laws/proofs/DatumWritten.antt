@@ -2,14 +2,14 @@
 use Rattle.std.proofs.Common.{◌≡◌, ℕ, zero, suc, ◌≤◌, ltb, length, Bool, true, false, cond, Option, Some, Ok, Err, refl, ap, sym, ◌∙◌, arith}
 use Rattle.std.specs.Prelude.{codes}
 use Rattle.std.proofs.lemmas.Bool.Decides.{nat_tests}
-use Rattle.bson_base.specs.Outcome.{◌>>=◌, result_map}
+use Rattle.bson_kinds.specs.Outcome.{◌>>=◌, result_map}
 use Rattle.bson_base.specs.Sound.{max_binary}
-use Rattle.bson_base.specs.Text.{Bytes, Utf8, has_zero}
+use Rattle.bson_kinds.specs.Text.{Bytes, Utf8, has_zero}
 use Rattle.bson_base.specs.Tree as tree
 use Rattle.bson_base.specs.Tree.{Tree, Pairs, no_pairs, pair, Trees, no_trees, depth, pairs_depth, trees_depth}
-use Rattle.bson_base.proofs.Outcomes.{some_is, ok_is, map_ok, bind_ok}
-use Rattle.bson_datum.specs.Refusal.{WriteFault, Refusal, at_index, under, under_index}
-use Rattle.bson_datum.specs.Value as value
+use Rattle.bson_kinds.proofs.Outcomes.{some_is, ok_is, map_ok, bind_ok}
+use Rattle.bson_values.specs.Refusal.{WriteFault, Refusal, at_index, under, under_index}
+use Rattle.bson_values.specs.Value as value
 use Rattle.bson_laws.specs.Written.{with_scope, spell_binary, spell_whole, spell_unwrapped}
 use Rattle.bson_laws.specs.Datum.{datum, itself, pair_data, tree_data, sorted_tree, sorted_pairs, sorted_trees}
 use Rattle.bson_laws.specs.Encodable.{IsEncodable, ArePairsEncodable, AreTreesEncodable}

@@ -1,21 +1,21 @@
 -- What is read from a document is written as a document, unless it is too large.
 use Rattle.std.proofs.Common.{◌≡◌, Bool, true, false, cond, Result, Ok, Err, refl, ap, sym, subst, ◌∙◌}
 use Rattle.std.specs.Str.{bytes_eq}
-use Rattle.bson_base.specs.Text.{Bytes, AreBytes, Utf8}
-use Rattle.bson_base.specs.Outcome.{◌>>=◌, result_map}
+use Rattle.bson_kinds.specs.Text.{Bytes, AreBytes, Utf8}
+use Rattle.bson_kinds.specs.Outcome.{◌>>=◌, result_map}
 use Rattle.bson_base.specs.Sound.{max_levels}
-use Rattle.bson_base.specs.declared.element_type.ElementType.TheVariants.{EmbeddedDocument}
-use Rattle.bson_base.proofs.Outcomes.{map_ok, bind_ok}
+use Rattle.bson_kinds.specs.declared.element_type.ElementType.TheVariants.{EmbeddedDocument}
+use Rattle.bson_kinds.proofs.Outcomes.{map_ok, bind_ok}
 use Rattle.bson_rawdoc.specs.Envelope.{is_closed, envelope}
 use Rattle.bson_rawdoc.specs.Node.{Whole, of_bytes, Sight, from_input, Node, document, broken, Nodes, ended, faulty, then_node, node_in, mended}
 use Rattle.bson_rawdoc.specs.Piece.{made}
 use Rattle.bson_rawdoc.specs.declared.raw.Error as raw_error
 use Rattle.bson_shape.specs.Form.{dropped, Form, leaf, optional, lossy, human_readable, by_mode, sequence, newtype, unit_structure, map, tuple, tuple_structure, structure, enumeration, reference, definitions, Content, unit_content, newtype_content, tuple_content, struct_content, Variants, no_variants, variant}
-use Rattle.bson_datum.specs.Value as value
-use Rattle.bson_datum.specs.Value.{Value, no_entries, kind_of, reserved_or_document}
-use Rattle.bson_datum.specs.Marked.{Marked, contents}
-use Rattle.bson_datum.specs.Cause.{raw, unknown_reference}
-use Rattle.bson_datum.specs.Refusal.{Failure, ReadFault, bare, unreadable}
+use Rattle.bson_values.specs.Value as value
+use Rattle.bson_values.specs.Value.{Value, no_entries, kind_of, reserved_or_document}
+use Rattle.bson_values.specs.Marked.{Marked, contents}
+use Rattle.bson_values.specs.Cause.{raw, unknown_reference}
+use Rattle.bson_values.specs.Refusal.{Failure, ReadFault, bare, unreadable}
 use Rattle.bson_laws.specs.Leaves.{LeafKind, anything, ignored, extended_values, documents, raw_documents, raw_values, leaf_kind}
 use Rattle.bson_laws.specs.Judged.{Reading, judged}
 use Rattle.bson_laws.specs.ReadsRaw.{slice_of}

@@ -2,17 +2,17 @@
 use Rattle.std.proofs.Common.{◌≡◌, ℕ, ◌≤◌, false, cond, Option, Some, refl, ap, sym, subst, ◌∙◌, arith}
 use Rattle.std.specs.Prelude.{option_map, option_and_then}
 use Rattle.std.specs.Str.{bytes_eq}
-use Rattle.bson_base.specs.Text.{Utf8}
-use Rattle.bson_base.specs.Outcome.{◌>>=◌}
+use Rattle.bson_kinds.specs.Text.{Utf8}
+use Rattle.bson_kinds.specs.Outcome.{◌>>=◌}
 use Rattle.bson_base.specs.Sound.{ArePairsClean, Lacks}
 use Rattle.bson_base.specs.Tree.{Tree, Pairs, no_pairs, pair, pairs_depth}
-use Rattle.bson_base.proofs.Outcomes.{some_is, some_map, some_then}
+use Rattle.bson_kinds.proofs.Outcomes.{some_is, some_map, some_then}
 use Rattle.bson_rawdoc.specs.Node.{Sight, piece, Node, tree_node, pair_nodes}
 use Rattle.bson_rawdoc.specs.Piece.{Piece}
-use Rattle.bson_datum.specs.Value.{EntriesOf, ValueOf, Value, Entries, no_entries, entry}
-use Rattle.bson_datum.specs.Marked.{Marked, MarkedEntries, contents, entry_contents}
-use Rattle.bson_datum.specs.Same.{same}
-use Rattle.bson_datum.specs.Refusal.{under}
+use Rattle.bson_values.specs.Value.{EntriesOf, ValueOf, Value, Entries, no_entries, entry}
+use Rattle.bson_values.specs.Marked.{Marked, MarkedEntries, contents, entry_contents}
+use Rattle.bson_values.specs.Same.{same}
+use Rattle.bson_values.specs.Refusal.{under}
 use Rattle.bson_laws.specs.Judged.{Reading}
 use Rattle.bson_laws.specs.ReadsLeaf.{put_entry}
 use Rattle.bson_laws.specs.Containers.{reads_entries}

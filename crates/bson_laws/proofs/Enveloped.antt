@@ -1,17 +1,17 @@
 -- A whole document as a reader meets it.
 use Rattle.std.proofs.Common.{◌≡◌, true, false, cond, Result, Ok, Err, ap, subst, ◌∙◌}
-use Rattle.bson_base.specs.Text.{Bytes}
+use Rattle.bson_kinds.specs.Text.{Bytes}
 use Rattle.bson_base.specs.Sound.{max_levels}
-use Rattle.bson_base.specs.declared.element_type.ElementType.TheVariants.{EmbeddedDocument}
+use Rattle.bson_kinds.specs.declared.element_type.ElementType.TheVariants.{EmbeddedDocument}
 use Rattle.bson_rawdoc.specs.Envelope.{is_closed, envelope}
 use Rattle.bson_rawdoc.specs.Node.{of_bytes, document, broken, nodes_with, node_in, inner_node}
 use Rattle.bson_rawdoc.specs.Walk.{walk}
 use Rattle.bson_rawdoc.specs.declared.raw.Error.{Error}
 use Rattle.bson_rawdoc.specs.declared.raw.Error.TheVariants.{ValueUnclosed}
 use Rattle.bson_shape.specs.Form.{Form}
-use Rattle.bson_datum.specs.Cause.{raw}
-use Rattle.bson_datum.specs.Marked.{Marked}
-use Rattle.bson_datum.specs.Refusal.{ReadFault, unreadable, Failure, bare}
+use Rattle.bson_values.specs.Cause.{raw}
+use Rattle.bson_values.specs.Marked.{Marked}
+use Rattle.bson_values.specs.Refusal.{ReadFault, unreadable, Failure, bare}
 use Rattle.bson_laws.specs.Reads.{reads, answered, marked_at}
 use Rattle.bson_laws.specs.Settled.{settled}
 use Rattle.bson_laws.proofs.Framed.{frame}

@@ -1,17 +1,17 @@
 -- What a reference means is what its definition means, at every value.
 use Rattle.std.proofs.Common.{◌≡◌, ℕ, zero, suc, ◌≤◌, Bool, true, false, cond, Some, None, refl, ap, sym, ◌∙◌, subst, arith}
 use Rattle.std.specs.Str.{bytes_eq}
-use Rattle.bson_base.specs.Outcome.{◌>>=◌}
-use Rattle.bson_base.specs.Text.{Utf8}
+use Rattle.bson_kinds.specs.Outcome.{◌>>=◌}
+use Rattle.bson_kinds.specs.Text.{Utf8}
 use Rattle.bson_base.specs.Tree.{Tree, depth}
 use Rattle.bson_rawdoc.specs.Node.{Node}
 use Rattle.bson_shape.specs.Form.{Form, reference, definitions, Fields, no_fields, field}
 use Rattle.bson_shape.specs.Guarded.{count, definition}
 use Rattle.bson_shape.specs.Makers.{IsShape}
 use Rattle.bson_shape.proofs.Chains.{guarded_if}
-use Rattle.bson_datum.specs.Cause.{unknown_reference}
-use Rattle.bson_datum.specs.Value as value
-use Rattle.bson_datum.specs.Value.{Value}
+use Rattle.bson_values.specs.Cause.{unknown_reference}
+use Rattle.bson_values.specs.Value as value
+use Rattle.bson_values.specs.Value.{Value}
 use Rattle.bson_laws.specs.declared.origin.Origin.{Origin}
 use Rattle.bson_laws.specs.Depths.{height, value_depth}
 use Rattle.bson_laws.specs.Fits.{Fits}

@@ -3,9 +3,9 @@ use Rattle.std.proofs.Common.{◌≡◌, ℕ, pos, [], ◌∷◌, ◌++◌, Bool
 use Rattle.std.specs.Prelude.{codes}
 use Rattle.std.specs.Str.{bytes_eq, is_utf8}
 use Rattle.std.specs.Str.Lossy.{utf8_lossy}
-use Rattle.bson_base.specs.Text.{Bytes, Utf8}
+use Rattle.bson_kinds.specs.Text.{Bytes, Utf8}
 use Rattle.bson_base.specs.Tree as tree
-use Rattle.bson_base.specs.declared.element_type.ElementType.TheVariants.{Boolean, ObjectId, EmbeddedDocument, Array, JavaScriptCodeWithScope}
+use Rattle.bson_kinds.specs.declared.element_type.ElementType.TheVariants.{Boolean, ObjectId, EmbeddedDocument, Array, JavaScriptCodeWithScope}
 use Rattle.bson_base.specs.Made.{digits}
 use Rattle.bson_rawdoc.specs.Node.{of_opening, of_bytes, from_input, Node, string, document, made_document, array, bytes, boolean, null, int32, int64, broken, too_deep, Nodes, ended, faulty, then_node, mended, object_id, symbol, javascript_code_with_scope, decimal128, opens, tree_node}
 use Rattle.bson_rawdoc.specs.declared.raw.Error.{Error}
@@ -13,11 +13,11 @@ use Rattle.bson_rawdoc.specs.Piece.{borrowed, made}
 use Rattle.bson_shape.specs.Form.{dropped, denied, Form, leaf, lossy, map, structure, enumeration, no_fields, field, unit_content, newtype_content, no_variants, variant}
 use Rattle.bson_shape.specs.declared.leaf.Leaf.TheVariants.{Any, I32, Str, String, Unit, RawDocument, RawArray, RawBson}
 use Rattle.bson_shape.specs.declared.leaf.Leaf.TheVariants as leaves
-use Rattle.bson_datum.specs.Value as value
-use Rattle.bson_datum.specs.Value.{i32, u8, no_entries, entry, no_field_values, field_value}
-use Rattle.bson_datum.specs.Cause as causes
-use Rattle.bson_datum.specs.Cause.{raw, invalid_type, not_borrowed, invalid_length, missing_field, duplicate_field, unknown_field, unit_in_document}
-use Rattle.bson_datum.specs.Refusal.{at_key, end_of_stream, here, unreadable, unwritable, invalid_document_key}
+use Rattle.bson_values.specs.Value as value
+use Rattle.bson_values.specs.Value.{i32, u8, no_entries, entry, no_field_values, field_value}
+use Rattle.bson_values.specs.Cause as causes
+use Rattle.bson_values.specs.Cause.{raw, invalid_type, not_borrowed, invalid_length, missing_field, duplicate_field, unknown_field, unit_in_document}
+use Rattle.bson_values.specs.Refusal.{at_key, end_of_stream, here, unreadable, unwritable, invalid_document_key}
 use Rattle.bson_laws.specs.ReadsRaw.{scoped_code}
 use Rattle.bson_laws.specs.Reads.{reads}
 use Rattle.bson_laws.specs.Spell.{spell_binary, spell_as, spell, spell_key, spell_document}

@@ -3,17 +3,17 @@ use Rattle.std.proofs.Common.{◌≡◌, ℕ, [], ◌∷◌, List, Bool, true, f
 use Rattle.std.specs.Prelude.{option_map, option_and_then}
 use Rattle.std.specs.Str.{bytes_eq}
 use Rattle.bson_base.specs.Pairs.{lookup}
-use Rattle.bson_base.specs.Text.{Utf8}
-use Rattle.bson_base.specs.Outcome.{◌>>=◌, result_map}
+use Rattle.bson_kinds.specs.Text.{Utf8}
+use Rattle.bson_kinds.specs.Outcome.{◌>>=◌, result_map}
 use Rattle.bson_base.specs.Sound.{Lacks}
 use Rattle.bson_base.specs.Tree.{Tree, Pairs, no_pairs, pair}
-use Rattle.bson_base.proofs.Outcomes.{some_is, some_map, some_then}
+use Rattle.bson_kinds.proofs.Outcomes.{some_is, some_map, some_then}
 use Rattle.bson_rawdoc.specs.Node.{Sight, tree_node, pair_nodes}
 use Rattle.bson_rawdoc.specs.Piece.{made}
 use Rattle.bson_shape.specs.Form.{UnknownFields, Form, Fields, no_fields, field}
-use Rattle.bson_datum.specs.Value.{no_field_values, field_value}
-use Rattle.bson_datum.specs.Marked.{Marked, MarkedFields}
-use Rattle.bson_datum.specs.Refusal.{under}
+use Rattle.bson_values.specs.Value.{no_field_values, field_value}
+use Rattle.bson_values.specs.Marked.{Marked, MarkedFields}
+use Rattle.bson_values.specs.Refusal.{under}
 use Rattle.bson_laws.specs.Judged.{Reading}
 use Rattle.bson_laws.specs.Slots.{Slot, Slots, missing_value, fill_slot, unknown, put_at, fill, value_or, finish}
 use Rattle.bson_laws.specs.declared.origin.Origin.{Origin}

@@ -6,20 +6,20 @@ use Rattle.std.specs.Str.{bytes_eq, chars}
 use Rattle.std.proofs.lemmas.Slice.Eq.{bytes_eq-Decides}
 use Rattle.std.proofs.lemmas.Str.{chars-encodes}
 use Rattle.bson_base.specs.Pairs.{lookup}
-use Rattle.bson_base.specs.Text.{Utf8}
-use Rattle.bson_base.specs.Reserved.{reserved_kind}
+use Rattle.bson_kinds.specs.Text.{Utf8}
+use Rattle.bson_kinds.specs.Reserved.{reserved_kind}
 use Rattle.bson_base.specs.Sound.{IsClean, ArePairsClean, AreTreesClean, Lacks}
-use Rattle.bson_base.specs.declared.element_type.ElementType.{ElementType}
-use Rattle.bson_base.specs.Kind.{byte}
-use Rattle.bson_base.specs.declared.element_type.ElementType.TheVariants as kinds
-use Rattle.bson_base.specs.declared.element_type.ElementType.TheVariants.{Int32}
+use Rattle.bson_kinds.specs.declared.element_type.ElementType.{ElementType}
+use Rattle.bson_kinds.specs.Kind.{byte}
+use Rattle.bson_kinds.specs.declared.element_type.ElementType.TheVariants as kinds
+use Rattle.bson_kinds.specs.declared.element_type.ElementType.TheVariants.{Int32}
 use Rattle.bson_base.specs.Tree as tree
 use Rattle.bson_base.specs.Tree.{Tree, kind, string, binary, null, int32, int64, document, array, Pairs, no_pairs, pair, Trees, no_trees}
-use Rattle.bson_base.proofs.Outcomes.{some_is, some_map, some_then}
+use Rattle.bson_kinds.proofs.Outcomes.{some_is, some_map, some_then}
 use Rattle.bson_shape.specs.Form.{Form, leaf, optional, lossy, sequence, newtype, unit_structure, map, tuple, tuple_structure, structure, enumeration, definitions, Fields, no_fields, field, Parts, no_parts, part, Content, newtype_content, tuple_content, struct_content, Variants, no_variants, variant}
 use Rattle.bson_shape.specs.Makers.{is_reserved_newtype}
-use Rattle.bson_datum.specs.Value as value
-use Rattle.bson_datum.specs.Value.{IntegerType, i32, i64, in_range, written_as, Value, integer, str, Items, no_items, item, Entries, no_entries, entry, FieldValues, no_field_values, field_value}
+use Rattle.bson_values.specs.Value as value
+use Rattle.bson_values.specs.Value.{IntegerType, i32, i64, in_range, written_as, Value, integer, str, Items, no_items, item, Entries, no_entries, entry, FieldValues, no_field_values, field_value}
 use Rattle.bson_laws.specs.Leaves.{LeafKind, anything, booleans, numbers, doubles, characters, texts, byte_strings, byte_buffers, units, ExtendedLeaf, object_ids, uuids, of_kind, trees, documents, extended_values, leaf_kind}
 use Rattle.bson_laws.specs.Datum.{datum, itself, uuid_datum, sorted_tree}
 use Rattle.bson_laws.specs.Variants.{content_of}

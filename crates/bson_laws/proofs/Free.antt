@@ -3,12 +3,12 @@ use Rattle.std.proofs.Common.{◌≡◌, ℕ, List, [], ◌∷◌, Bool, true, f
 use Rattle.std.specs.Prelude.{◌||◌, option_map}
 use Rattle.std.specs.Str.{bytes_eq}
 use Rattle.std.proofs.lemmas.Slice.Eq.{bytes_eq-Decides}
-use Rattle.bson_base.specs.Reserved.{Reserved, reserved_names, kind_in, reserved_kind}
-use Rattle.bson_base.specs.Text.{Utf8, begins_with_dollar, IsFreeName}
+use Rattle.bson_kinds.specs.Reserved.{Reserved, reserved_names, kind_in, reserved_kind}
+use Rattle.bson_kinds.specs.Text.{Utf8, begins_with_dollar, IsFreeName}
 use Rattle.bson_base.specs.Tree.{binary, document}
-use Rattle.bson_base.specs.declared.element_type.ElementType.TheVariants.{Binary}
+use Rattle.bson_kinds.specs.declared.element_type.ElementType.TheVariants.{Binary}
 use Rattle.bson_shape.specs.Makers.{reserved_newtypes, is_reserved_newtype}
-use Rattle.bson_datum.specs.Value.{Value, newtype, structure, FieldValues, uuid_newtype, readable_newtype, readable_inside, kind_as, kind_of}
+use Rattle.bson_values.specs.Value.{Value, newtype, structure, FieldValues, uuid_newtype, readable_newtype, readable_inside, kind_as, kind_of}
 use Rattle.bson_laws.specs.Unwrap.{unwrap, scoped_code}
 use Rattle.bson_laws.specs.UuidBytes.{uuid_bytes}
 use Rattle.bson_laws.specs.Means.{norm_struct, norm, norm_fields, struct_means, reserved_means, means, means_fields, means_list}

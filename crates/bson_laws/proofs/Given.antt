@@ -6,20 +6,20 @@ use Rattle.std.specs.Char.{IsScalar}
 use Rattle.std.specs.Int.{w32, w64}
 use Rattle.std.specs.Prelude.{FitsSigned}
 use Rattle.std.specs.Str.{bytes_eq, is_utf8, chars}
-use Rattle.bson_base.specs.Text.{Bytes, Utf8, has_zero}
-use Rattle.bson_base.specs.Outcome.{◌>>=◌, result_map}
-use Rattle.bson_base.proofs.Outcomes.{some_is, ok_is, map_ok, bind_ok}
+use Rattle.bson_kinds.specs.Text.{Bytes, Utf8, has_zero}
+use Rattle.bson_kinds.specs.Outcome.{◌>>=◌, result_map}
+use Rattle.bson_kinds.proofs.Outcomes.{some_is, ok_is, map_ok, bind_ok}
 use Rattle.bson_rawdoc.specs.Node as node
 use Rattle.bson_rawdoc.specs.Node.{Sight, Node, Nodes, ended, faulty, then_node, mended}
 use Rattle.bson_rawdoc.specs.Piece.{Piece, made}
 use Rattle.bson_shape.specs.Form.{UnknownFields, dropped, denied, Form, leaf, optional, lossy, human_readable, by_mode, sequence, newtype, unit_structure, map, tuple, tuple_structure, structure, enumeration, reference, definitions, Fields, no_fields, field, Parts, no_parts, part, Content, unit_content, newtype_content, tuple_content, struct_content, Variants, no_variants, variant}
 use Rattle.bson_shape.specs.declared.leaf.Leaf.{Leaf}
-use Rattle.bson_datum.specs.Value as value
-use Rattle.bson_datum.specs.Value.{readable_newtype, IntegerType, i32, i64, in_range, Value, Items, no_items, item, Entries, no_entries, entry, FieldValues, no_field_values, field_value}
-use Rattle.bson_datum.specs.Marked.{Marked, MarkedItems, MarkedEntries, MarkedFields, contents, item_contents, entry_contents, field_contents}
-use Rattle.bson_datum.specs.Same.{same}
-use Rattle.bson_datum.specs.Cause.{out_of_range, unknown_reference, not_utf8, not_borrowed}
-use Rattle.bson_datum.specs.Refusal.{at_index, under, under_index}
+use Rattle.bson_values.specs.Value as value
+use Rattle.bson_values.specs.Value.{readable_newtype, IntegerType, i32, i64, in_range, Value, Items, no_items, item, Entries, no_entries, entry, FieldValues, no_field_values, field_value}
+use Rattle.bson_values.specs.Marked.{Marked, MarkedItems, MarkedEntries, MarkedFields, contents, item_contents, entry_contents, field_contents}
+use Rattle.bson_values.specs.Same.{same}
+use Rattle.bson_values.specs.Cause.{out_of_range, unknown_reference, not_utf8, not_borrowed}
+use Rattle.bson_values.specs.Refusal.{at_index, under, under_index}
 use Rattle.bson_laws.specs.Leaves.{LeafKind, anything, ignored, booleans, numbers, doubles, characters, texts, byte_strings, byte_buffers, units, ExtendedLeaf, extended_values, raw_documents, raw_arrays, raw_values, leaf_kind}
 use Rattle.bson_laws.specs.Variants.{content_of}
 use Rattle.bson_laws.specs.Views.{one_character}

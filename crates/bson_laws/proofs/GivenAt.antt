@@ -2,7 +2,7 @@
 use Rattle.std.proofs.Common.{◌≡◌, Ok}
 use Rattle.bson_rawdoc.specs.Node.{Sight, Node}
 use Rattle.bson_shape.specs.Form.{Form}
-use Rattle.bson_datum.specs.Marked.{Marked, contents}
+use Rattle.bson_values.specs.Marked.{Marked, contents}
 use Rattle.bson_laws.specs.Reads.{reads}
 use Rattle.bson_laws.specs.ReadsExtended.{read_extended}
 use Rattle.bson_laws.proofs.Given as given

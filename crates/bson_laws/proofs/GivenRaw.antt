@@ -3,18 +3,18 @@ use Rattle.std.proofs.Common.{◌≡◌, ℕ, zero, pos, ◌^◌, ◌<◌, lengt
 use Rattle.std.specs.Int.{w32, w64}
 use Rattle.std.specs.Prelude.{FitsSigned, codes}
 use Rattle.std.specs.Str.{is_utf8}
-use Rattle.bson_base.specs.Outcome.{◌>>=◌}
-use Rattle.bson_base.specs.Text.{Bytes, Utf8, AreBytes, has_zero}
+use Rattle.bson_kinds.specs.Outcome.{◌>>=◌}
+use Rattle.bson_kinds.specs.Text.{Bytes, Utf8, AreBytes, has_zero}
 use Rattle.bson_base.specs.Tree as tree
 use Rattle.bson_base.specs.Tree.{Tree, kind}
-use Rattle.bson_base.proofs.Outcomes.{ok_is, map_ok}
+use Rattle.bson_kinds.proofs.Outcomes.{ok_is, map_ok}
 use Rattle.bson_rawdoc.specs.Node as node
 use Rattle.bson_rawdoc.specs.Node.{of_bytes, Whole, Sight, Node, Extended, fault, extended_fault}
 use Rattle.bson_rawdoc.specs.Piece.{Piece, borrowed}
-use Rattle.bson_datum.specs.Marked.{Marked, contents}
-use Rattle.bson_datum.specs.Refusal.{under}
-use Rattle.bson_datum.specs.Value as value
-use Rattle.bson_datum.specs.Value.{u8, i32, i64, Value}
+use Rattle.bson_values.specs.Marked.{Marked, contents}
+use Rattle.bson_values.specs.Refusal.{under}
+use Rattle.bson_values.specs.Value as value
+use Rattle.bson_values.specs.Value.{u8, i32, i64, Value}
 use Rattle.bson_laws.specs.Datum.{datum, itself, two, nameless, wrapped}
 use Rattle.bson_laws.specs.Judged.{judged, scope_key}
 use Rattle.bson_laws.specs.ReadsRaw.{slice_of, raw_document_of, raw_array_of, scoped_code, raw_extended, raw_value_of}

@@ -3,14 +3,14 @@ use Rattle.std.proofs.Common.{◌≡◌, zero, suc, ◌^◌, ◌<◌, length, tr
 use Rattle.std.specs.Int.{w32, w64}
 use Rattle.std.specs.Prelude.{FitsSigned, nat_eq}
 use Rattle.std.specs.Str.{is_utf8, bytes_eq}
-use Rattle.bson_base.specs.Kind.{byte}
+use Rattle.bson_kinds.specs.Kind.{byte}
 use Rattle.bson_base.specs.Sorted.{sorted}
 use Rattle.bson_base.specs.Sound.{Lacks}
-use Rattle.bson_base.specs.Text.{Bytes, Utf8, AreBytes}
+use Rattle.bson_kinds.specs.Text.{Bytes, Utf8, AreBytes}
 use Rattle.bson_base.specs.Tree as tree
 use Rattle.bson_base.specs.Tree.{Tree, Pairs, no_pairs, pair, Trees, no_trees, kind}
-use Rattle.bson_datum.specs.Value.{Value}
-use Rattle.bson_datum.specs.Wrapper.{of_key}
+use Rattle.bson_values.specs.Value.{Value}
+use Rattle.bson_values.specs.Wrapper.{of_key}
 use Rattle.bson_laws.specs.Datum.{datum, uuid_datum, itself, sorted_tree, sorted_pairs, sorted_trees}
 use Rattle.bson_laws.specs.Leaves as leaf_kinds
 use Rattle.bson_laws.specs.Leaves.{ExtendedLeaf, object_ids, uuids, of_kind, documents}

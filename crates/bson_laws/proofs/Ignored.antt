@@ -1,10 +1,10 @@
 -- A value that no field takes is walked to its end and dropped.
 use Rattle.std.proofs.Common.{◌≡◌, ℕ, zero, suc, ◌≤◌, Ok, refl, ap, ◌∙◌, arith}
-use Rattle.bson_base.specs.Outcome.{◌>>=◌}
+use Rattle.bson_kinds.specs.Outcome.{◌>>=◌}
 use Rattle.bson_base.specs.Sound.{IsClean, ArePairsClean, AreTreesClean}
 use Rattle.bson_base.specs.Tree.{Tree, document, array, binary, javascript_code_with_scope, raw, Pairs, no_pairs, pair, Trees, no_trees, tree, depth, pairs_depth, trees_depth}
 use Rattle.bson_rawdoc.specs.Node.{Sight, tree_node, pair_nodes, tree_nodes}
-use Rattle.bson_datum.specs.Refusal.{under, under_index}
+use Rattle.bson_values.specs.Refusal.{under, under_index}
 use Rattle.bson_laws.specs.Judged.{at_its_key, at_its_index, scope_key, passes, pass_nodes, ignores}
 use Rattle.bson_laws.proofs.Judged.{judged_again}
 

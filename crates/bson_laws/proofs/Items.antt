@@ -1,14 +1,14 @@
 -- The values of an array, one after another, are read back.
 use Rattle.std.proofs.Common.{◌≡◌, ℕ, suc, ◌≤◌, Option, Some, refl, ap, ◌∙◌, arith}
 use Rattle.std.specs.Prelude.{option_map}
-use Rattle.bson_base.specs.Outcome.{◌>>=◌, result_map}
+use Rattle.bson_kinds.specs.Outcome.{◌>>=◌, result_map}
 use Rattle.bson_base.specs.Sound.{IsClean, AreTreesClean}
 use Rattle.bson_base.specs.Tree.{Tree, Trees, no_trees, tree, depth, trees_depth}
-use Rattle.bson_base.proofs.Outcomes.{some_is, some_map, some_then}
+use Rattle.bson_kinds.proofs.Outcomes.{some_is, some_map, some_then}
 use Rattle.bson_rawdoc.specs.Node.{Sight, Node, tree_node, tree_nodes}
-use Rattle.bson_datum.specs.Value.{Value, Items, no_items, item}
-use Rattle.bson_datum.specs.Marked.{Marked, contents, item_contents}
-use Rattle.bson_datum.specs.Refusal.{under_index}
+use Rattle.bson_values.specs.Value.{Value, Items, no_items, item}
+use Rattle.bson_values.specs.Marked.{Marked, contents, item_contents}
+use Rattle.bson_values.specs.Refusal.{under_index}
 use Rattle.bson_laws.specs.Judged.{Reading}
 use Rattle.bson_laws.specs.Containers.{reads_items}
 use Rattle.bson_laws.specs.Views.{views_items}

@@ -2,12 +2,12 @@
 use Rattle.std.proofs.Common.{◌≡◌, ℕ, zero, suc, ◌-◌, ◌≤◌, drop, Bool, true, false, cond, Option, Some, None, Result, Ok, Err, refl, ap, sym, subst, ◌∙◌, arith}
 use Rattle.std.specs.Str.{is_utf8}
 use Rattle.std.proofs.lemmas.Bool.{cond-true}
-use Rattle.bson_base.specs.Text.{Bytes, Utf8}
-use Rattle.bson_base.specs.Outcome.{◌>>=◌, result_map}
+use Rattle.bson_kinds.specs.Text.{Bytes, Utf8}
+use Rattle.bson_kinds.specs.Outcome.{◌>>=◌, result_map}
 use Rattle.bson_base.specs.Sound.{IsClean}
 use Rattle.bson_base.specs.Tree.{Tree, null, string, document, array, binary, regular_expression, db_pointer, javascript_code, symbol, javascript_code_with_scope, raw, Pairs, Trees, depth}
-use Rattle.bson_base.specs.declared.element_type.ElementType.TheVariants.{EmbeddedDocument, Array, JavaScriptCodeWithScope}
-use Rattle.bson_base.specs.declared.element_type.ElementType.{ElementType}
+use Rattle.bson_kinds.specs.declared.element_type.ElementType.TheVariants.{EmbeddedDocument, Array, JavaScriptCodeWithScope}
+use Rattle.bson_kinds.specs.declared.element_type.ElementType.{ElementType}
 use Rattle.bson_rawdoc.specs.declared.raw.Error.{Error}
 use Rattle.bson_rawdoc.specs.declared.raw.Error.TheVariants.{NotUtf8, ValueUnclosed}
 use Rattle.bson_rawdoc.specs.Envelope.{is_closed}
@@ -16,8 +16,8 @@ use Rattle.bson_rawdoc.specs.Piece.{Piece}
 use Rattle.bson_rawdoc.specs.Walk.{walk}
 use Rattle.bson_rawdoc.specs.Node as node
 use Rattle.bson_rawdoc.specs.Node.{of_bytes, Whole, Node, Nodes, broken, too_deep, opens, or_broken, scoped_bytes, nodes_with, closed_node, node_in, Sight, or_else, text_fault, fault, piece, whole_at, one_level, mended_if, tree_node, pair_nodes, tree_nodes}
-use Rattle.bson_datum.specs.Value as value
-use Rattle.bson_datum.specs.Marked.{Marked}
+use Rattle.bson_values.specs.Value as value
+use Rattle.bson_values.specs.Marked.{Marked}
 use Rattle.bson_laws.specs.Judged.{Reading, with_level, faultless, judged}
 use Rattle.bson_laws.specs.Taken.{document_of, array_of}
 use Rattle.bson_laws.specs.Containers.{reads_option}

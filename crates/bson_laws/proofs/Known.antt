@@ -3,12 +3,12 @@ use Rattle.std.proofs.Common.{◌≡◌, Bool, true, false, cond, Option, Some, 
 use Rattle.std.specs.Prelude.{◌&&◌, ◌||◌, option_map}
 use Rattle.std.specs.Str.{bytes_eq}
 use Rattle.std.proofs.lemmas.Slice.Eq.{bytes_eq-Decides}
-use Rattle.bson_base.specs.Text.{Utf8}
+use Rattle.bson_kinds.specs.Text.{Utf8}
 use Rattle.bson_base.specs.Tree.{Pairs, no_pairs, pair}
-use Rattle.bson_base.proofs.Outcomes.{some_is, some_map, some_then}
+use Rattle.bson_kinds.proofs.Outcomes.{some_is, some_map, some_then}
 use Rattle.bson_shape.specs.Form.{UnknownFields, dropped, denied, Fields, no_fields, field}
 use Rattle.bson_shape.specs.Makers.{has_field}
-use Rattle.bson_datum.specs.Value.{FieldValues, no_field_values, field_value}
+use Rattle.bson_values.specs.Value.{FieldValues, no_field_values, field_value}
 use Rattle.bson_laws.specs.Views.{are_named, all_known}
 use Rattle.bson_laws.specs.Means.{means, means_fields}
 use Rattle.bson_laws.specs.Fits.{FieldsFit}

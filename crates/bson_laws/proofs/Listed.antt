@@ -1,8 +1,8 @@
 -- What a struct is accepted as whose list is known: code with a scope is written as its scope is.
 use Rattle.std.proofs.Common.{◌≡◌, ℕ, List, [], Bool, Option, Some, None, refl, ap, sym, ◌∙◌}
-use Rattle.bson_base.specs.Text.{Utf8}
+use Rattle.bson_kinds.specs.Text.{Utf8}
 use Rattle.bson_base.specs.Tree.{Tree}
-use Rattle.bson_datum.specs.Value.{Value, structure, mode, FieldValues, no_field_values, field_value}
+use Rattle.bson_values.specs.Value.{Value, structure, mode, FieldValues, no_field_values, field_value}
 use Rattle.bson_laws.specs.Unwrap.{Part, listed, listed_part, scoped_code}
 use Rattle.bson_laws.specs.Spell.{Writing, spell_as, spell_list, spell_part, size_as, size_list, size_part}
 use Rattle.bson_laws.proofs.Alike.{AreAlike, Both, SameScope, scopes_alike}

@@ -5,14 +5,14 @@ use Rattle.std.proofs.Math.Dec.{eqb-suc-zero}
 use Rattle.bson_base.specs.Made.{digits, base64_text}
 use Rattle.bson_base.specs.Opened.{IsExtended, one, two, opened}
 use Rattle.bson_base.specs.Sound.{IsClean}
-use Rattle.bson_base.specs.Text.{Bytes}
+use Rattle.bson_kinds.specs.Text.{Bytes}
 use Rattle.bson_base.specs.Tree as tree
 use Rattle.bson_base.specs.Tree.{Tree, Pairs, no_pairs, depth}
-use Rattle.bson_base.specs.declared.element_type.ElementType.TheVariants.{EmbeddedDocument}
+use Rattle.bson_kinds.specs.declared.element_type.ElementType.TheVariants.{EmbeddedDocument}
 use Rattle.bson_rawdoc.specs.Node as node
 use Rattle.bson_rawdoc.specs.Node.{of_opening, Sight, Extended, object_id, date_time, regular_expression, db_pointer, javascript_code, symbol, javascript_code_with_scope, timestamp, decimal128, opens, one_level, tree_node, pair_nodes}
 use Rattle.bson_rawdoc.specs.Piece.{made}
-use Rattle.bson_datum.specs.Wrapper.{of_key}
+use Rattle.bson_values.specs.Wrapper.{of_key}
 use Rattle.bson_laws.specs.Datum.{sorted_tree}
 use Rattle.bson_laws.specs.RawFree.{ArePairsRawFree}
 use Rattle.bson_laws.specs.Trees.{as_tree, read_tree}

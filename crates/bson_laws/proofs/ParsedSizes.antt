@@ -18,11 +18,11 @@ use Rattle.uuid.specs.Text.{is_hex_digit, value_of, by_index, byte_of_digits, pa
 use Rattle.uuid.proofs.TextLemmas.{by_index_length, by_index_at}
 use Rattle.bson_base.specs.Parsed.{bytes_of_digits, bytes_of_base64, integer_of_text, is_numeral, is_int64}
 use Rattle.bson_base.specs.Sorted.{ascending, sorted}
-use Rattle.bson_base.specs.Text.{AreBytes}
+use Rattle.bson_kinds.specs.Text.{AreBytes}
 use Rattle.bson_base.proofs.Base64Texts.{base64_ok}
 use Rattle.bson_base.proofs.IntegerTexts.{int64_fits}
 use Rattle.bson_base.proofs.Orders.{scalars-ascending, sorted-again}
-use Rattle.bson_base.proofs.Outcomes.{some_is}
+use Rattle.bson_kinds.proofs.Outcomes.{some_is}
 
 -- ---- hexadecimal digits
 

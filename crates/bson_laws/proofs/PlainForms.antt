@@ -1,5 +1,5 @@
 -- Plainness of forms that are unrolled: a reference that is left asks for nothing, and definitions have no names left.
-use Rattle.bson_base.specs.Text.{IsFreeName}
+use Rattle.bson_kinds.specs.Text.{IsFreeName}
 use Rattle.bson_shape.specs.Form.{Form, leaf, optional, lossy, human_readable, by_mode, sequence, newtype, unit_structure, map, tuple, tuple_structure, structure, enumeration, reference, definitions, Fields, no_fields, field, Parts, no_parts, part, Content, unit_content, newtype_content, tuple_content, struct_content, Variants, no_variants, variant}
 use Rattle.bson_laws.specs.Leaves.{leaf_kind}
 use Rattle.bson_laws.specs.Plain.{IsKept, OwnsTextLeaf, IsPlainKey}

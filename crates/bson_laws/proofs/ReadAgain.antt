@@ -1,17 +1,17 @@
 -- What was read and written is read again, and written as the same bytes.
 use Rattle.std.proofs.Common.{◌≡◌, ◌^◌, ◌<◌, ◌≤◌, length, false, Ok, Err, refl, ap, sym, subst, ◌∙◌, arith}
-use Rattle.bson_base.specs.Outcome.{result_map}
+use Rattle.bson_kinds.specs.Outcome.{result_map}
 use Rattle.bson_base.specs.Sound.{max_levels, max_bytes}
-use Rattle.bson_base.specs.Text.{Bytes, AreBytes}
+use Rattle.bson_kinds.specs.Text.{Bytes, AreBytes}
 use Rattle.bson_base.specs.Tree.{Tree, document, raw, kind, enc}
-use Rattle.bson_base.specs.declared.element_type.ElementType.{ElementType}
-use Rattle.bson_base.specs.declared.element_type.ElementType.TheVariants.{EmbeddedDocument}
+use Rattle.bson_kinds.specs.declared.element_type.ElementType.{ElementType}
+use Rattle.bson_kinds.specs.declared.element_type.ElementType.TheVariants.{EmbeddedDocument}
 use Rattle.bson_rawdoc.specs.Node.{from_input, node_in, tree_node}
 use Rattle.bson_shape.specs.Form.{Form}
-use Rattle.bson_datum.specs.Cause as cause
-use Rattle.bson_datum.specs.Marked.{Marked, contents}
-use Rattle.bson_datum.specs.Refusal.{bare, unreadable}
-use Rattle.bson_datum.specs.Value.{Value, kind_of}
+use Rattle.bson_values.specs.Cause as cause
+use Rattle.bson_values.specs.Marked.{Marked, contents}
+use Rattle.bson_values.specs.Refusal.{bare, unreadable}
+use Rattle.bson_values.specs.Value.{Value, kind_of}
 use Rattle.bson_laws.specs.Reads.{reads, answered, document_at}
 use Rattle.bson_laws.specs.Settled.{settled, IsSettled}
 use Rattle.bson_laws.specs.Spell.{Writing, at_top, spell, spell_document, size}

@@ -1,18 +1,18 @@
 -- What is given at a shape is written, unless it is too large.
 use Rattle.std.proofs.Common.{◌≡◌, ℕ, zero, suc, Bool, true, false, cond, Option, Some, Ok, Err, ap, sym, subst, ◌∙◌}
 use Rattle.std.specs.Prelude.{codes}
-use Rattle.bson_base.specs.Reserved.{reserved_kind}
-use Rattle.bson_base.specs.Text.{Bytes, Utf8, has_zero}
+use Rattle.bson_kinds.specs.Reserved.{reserved_kind}
+use Rattle.bson_kinds.specs.Text.{Bytes, Utf8, has_zero}
 use Rattle.bson_base.specs.Tree as tree
 use Rattle.bson_base.specs.Tree.{Tree, kind, document, array}
-use Rattle.bson_base.specs.declared.element_type.ElementType.TheVariants.{EmbeddedDocument, Array, Int32, Int64}
-use Rattle.bson_base.specs.declared.element_type.ElementType.{ElementType}
+use Rattle.bson_kinds.specs.declared.element_type.ElementType.TheVariants.{EmbeddedDocument, Array, Int32, Int64}
+use Rattle.bson_kinds.specs.declared.element_type.ElementType.{ElementType}
 use Rattle.bson_rawdoc.specs.Node.{Sight}
 use Rattle.bson_shape.specs.Form.{Form, leaf, optional, lossy, human_readable, by_mode, sequence, newtype, unit_structure, map, tuple, tuple_structure, structure, enumeration, definitions, Fields, no_fields, field, Parts, no_parts, part, Content, newtype_content, tuple_content, struct_content, Variants, no_variants, variant}
 use Rattle.bson_shape.specs.Makers.{is_reserved_newtype}
-use Rattle.bson_datum.specs.Value as value
-use Rattle.bson_datum.specs.Value.{IntegerType, i8, i16, i32, i64, u8, u16, u32, u64, in_range, written_as, Value, Items, no_items, item, Entries, no_entries, entry, FieldValues, no_field_values, field_value}
-use Rattle.bson_datum.specs.Refusal.{WriteFault, Refusal, at_key, at_index, here, invalid_cstring, under, under_index}
+use Rattle.bson_values.specs.Value as value
+use Rattle.bson_values.specs.Value.{IntegerType, i8, i16, i32, i64, u8, u16, u32, u64, in_range, written_as, Value, Items, no_items, item, Entries, no_entries, entry, FieldValues, no_field_values, field_value}
+use Rattle.bson_values.specs.Refusal.{WriteFault, Refusal, at_key, at_index, here, invalid_cstring, under, under_index}
 use Rattle.bson_laws.specs.Leaves.{LeafKind, anything, ignored, booleans, numbers, doubles, characters, texts, byte_strings, byte_buffers, units, ExtendedLeaf, object_ids, uuids, of_kind, trees, documents, extended_values, raw_documents, raw_arrays, raw_values, leaf_kind}
 use Rattle.bson_laws.specs.Plain.{IsPlainKey}
 use Rattle.bson_laws.specs.Variants.{content_of}
@@ -30,7 +30,7 @@ use Rattle.bson_laws.proofs.Lent.{marked}
 use Rattle.bson_laws.proofs.Free.{free_spelled, free_struct}
 use Rattle.bson_laws.proofs.Writable.{wide_small, short_small, taken, binary_written, unless_bind, unless_map, unless_inside, unless_named, Written, number_written, bytes_written, enclosed_written, variant_written}
 use Rattle.std.specs.Str.{bytes_eq}
-use Rattle.bson_base.proofs.Outcomes.{some_is}
+use Rattle.bson_kinds.proofs.Outcomes.{some_is}
 
 -- ---- items, entries and fields
 

@@ -1,14 +1,14 @@
 -- Structs are read alike where their fields are read alike from all values that are no deeper.
 use Rattle.std.proofs.Common.{◌≡◌, ℕ, suc, ◌≤◌, [], ◌∷◌, Bool, true, false, cond, Option, Some, None, Ok, Err, refl, ap, subst, arith}
 use Rattle.std.specs.Str.{bytes_eq}
-use Rattle.bson_base.specs.Text.{Utf8}
-use Rattle.bson_base.specs.Outcome.{◌>>=◌, result_map}
+use Rattle.bson_kinds.specs.Text.{Utf8}
+use Rattle.bson_kinds.specs.Outcome.{◌>>=◌, result_map}
 use Rattle.bson_rawdoc.specs.Node.{Node, document, array, extended, Nodes, ended, faulty, then_node}
 use Rattle.bson_rawdoc.specs.Piece.{made}
 use Rattle.bson_shape.specs.Form.{UnknownFields, dropped, denied}
-use Rattle.bson_datum.specs.Value.{field_value}
-use Rattle.bson_datum.specs.Marked.{Marked}
-use Rattle.bson_datum.specs.Refusal.{under, under_index}
+use Rattle.bson_values.specs.Value.{field_value}
+use Rattle.bson_values.specs.Marked.{Marked}
+use Rattle.bson_values.specs.Refusal.{under, under_index}
 use Rattle.bson_laws.specs.Depths.{height, heights}
 use Rattle.bson_laws.specs.Judged.{Reading}
 use Rattle.bson_laws.specs.Slots.{Slot, Slots, unknown, fill_slot, put_at, fill, value_or, finish, reads_places, by_place, read_structure}

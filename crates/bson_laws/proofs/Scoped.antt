@@ -1,15 +1,15 @@
 -- What a reader makes of references and definitions.
 use Rattle.std.proofs.Common.{◌≡◌, ℕ, zero, suc, ◌<◌, List, [], ◌∷◌, length, get_or, Bool, true, false, cond, Option, Some, None, refl, ap, sym, ◌∙◌, arith}
 use Rattle.std.specs.Str.{bytes_eq}
-use Rattle.bson_base.specs.Outcome.{◌>>=◌}
-use Rattle.bson_base.specs.Text.{Utf8}
+use Rattle.bson_kinds.specs.Outcome.{◌>>=◌}
+use Rattle.bson_kinds.specs.Text.{Utf8}
 use Rattle.bson_rawdoc.specs.Node.{Node}
 use Rattle.bson_rawdoc.specs.Piece.{Piece}
 use Rattle.bson_shape.specs.Form.{Form, leaf, optional, by_mode, enumeration, reference, definitions, Fields, Content, unit_content, newtype_content, tuple_content, struct_content, Variants, no_variants, variant}
 use Rattle.bson_shape.specs.Guarded.{count, definition}
 use Rattle.bson_shape.specs.ShapeView.{fields_of, parts_of, nodes, fields_nodes, parts_nodes}
 use Rattle.bson_shape.specs.declared.shape.FieldShape.{FieldShape}
-use Rattle.bson_datum.specs.Cause.{unknown_reference}
+use Rattle.bson_values.specs.Cause.{unknown_reference}
 use Rattle.bson_laws.specs.Containers.{unit_of, reads_key}
 use Rattle.bson_laws.specs.FromTree.{tree_unit_of}
 use Rattle.bson_laws.specs.Judged.{judged, refused}

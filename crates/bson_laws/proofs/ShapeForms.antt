@@ -2,8 +2,8 @@
 -- names left.
 use Rattle.std.specs.Prelude.{◌≡◌, true, false, None}
 use Rattle.std.specs.Str.{is_utf8}
-use Rattle.bson_base.specs.Text.{Utf8}
-use Rattle.bson_base.specs.Reserved.{reserved_kind}
+use Rattle.bson_kinds.specs.Text.{Utf8}
+use Rattle.bson_kinds.specs.Reserved.{reserved_kind}
 use Rattle.bson_shape.specs.Form.{Form, leaf, optional, lossy, human_readable, by_mode, sequence, newtype, unit_structure, map, tuple, tuple_structure, structure, enumeration, reference, definitions, Fields, no_fields, field, Parts, no_parts, part, Content, unit_content, newtype_content, tuple_content, struct_content, Variants, no_variants, variant}
 use Rattle.bson_shape.specs.Makers.{AreDistinct, has_repeat, variant_names, is_reserved_newtype, is_text_key}
 

@@ -1,7 +1,7 @@
 -- What is unrolled of a shape is one, but for its levels.
 use Rattle.std.proofs.Common.{ℕ, Bool, true, false, cond, ap, ◌∙◌}
 use Rattle.std.specs.Str.{bytes_eq}
-use Rattle.bson_base.specs.Text.{Utf8}
+use Rattle.bson_kinds.specs.Text.{Utf8}
 use Rattle.bson_shape.specs.Form.{Form, leaf, optional, lossy, human_readable, by_mode, sequence, newtype, unit_structure, map, tuple, tuple_structure, structure, enumeration, reference, definitions, Fields, no_fields, field, Parts, no_parts, part, Content, unit_content, newtype_content, tuple_content, struct_content, Variants, no_variants, variant}
 use Rattle.bson_shape.specs.Makers as makers
 use Rattle.bson_shape.specs.Makers.{has_repeat}

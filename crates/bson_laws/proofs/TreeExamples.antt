@@ -2,22 +2,22 @@
 use Rattle.std.proofs.Common.{◌≡◌, pos, [], ◌∷◌, true, false, Ok, Err, refl, arith}
 use Rattle.std.specs.Prelude.{codes}
 use Rattle.std.specs.Str.{is_utf8}
-use Rattle.bson_base.specs.Text.{Bytes, Utf8}
+use Rattle.bson_kinds.specs.Text.{Bytes, Utf8}
 use Rattle.bson_base.specs.Tree as tree
 use Rattle.bson_base.specs.Tree.{Tree, le32, le64, enc}
-use Rattle.bson_base.specs.declared.element_type.ElementType.TheVariants.{EmbeddedDocument, Array, Null, ObjectId, Int32}
+use Rattle.bson_kinds.specs.declared.element_type.ElementType.TheVariants.{EmbeddedDocument, Array, Null, ObjectId, Int32}
 use Rattle.bson_rawdoc.specs.Node.{Node, string, null, boolean, int32, made_document, too_deep, ended, then_node}
 use Rattle.bson_rawdoc.specs.Piece.{made}
 use Rattle.bson_shape.specs.Form.{dropped, Form, leaf, lossy, map, structure, enumeration, Parts, no_parts, no_fields, field, unit_content, tuple_content, struct_content, no_variants, variant}
 use Rattle.bson_shape.specs.declared.leaf.Leaf.TheVariants as leaves
 use Rattle.bson_shape.proofs.TextStates.{text-one}
-use Rattle.bson_datum.specs.Value as value
-use Rattle.bson_datum.specs.Value.{no_field_values, field_value}
-use Rattle.bson_datum.specs.Cause as causes
-use Rattle.bson_datum.specs.Wrapper.{of_key}
-use Rattle.bson_datum.specs.Refusal.{at_key, end_of_stream, here, unreadable}
+use Rattle.bson_values.specs.Value as value
+use Rattle.bson_values.specs.Value.{no_field_values, field_value}
+use Rattle.bson_values.specs.Cause as causes
+use Rattle.bson_values.specs.Wrapper.{of_key}
+use Rattle.bson_values.specs.Refusal.{at_key, end_of_stream, here, unreadable}
 use Rattle.bson_laws.specs.declared.origin.Origin.TheVariants as origins
-use Rattle.bson_datum.specs.Marked.{Marked}
+use Rattle.bson_values.specs.Marked.{Marked}
 use Rattle.bson_laws.specs.Judged.{Reading}
 use Rattle.bson_laws.specs.ReadsFrom.{reads_from, reads_tree}
 

@@ -3,22 +3,22 @@ use Rattle.std.proofs.Common.{◌≡◌, ℕ, zero, suc, [], ◌∷◌, ◌≤�
 use Rattle.std.specs.Prelude.{◌&&◌, nat_eq, length}
 use Rattle.std.specs.Str.{bytes_eq, is_utf8}
 use Rattle.std.proofs.lemmas.Bool.{and_parts}
-use Rattle.bson_base.specs.Kind.{byte}
-use Rattle.bson_base.specs.Text.{Bytes, Utf8, begins_with_dollar}
-use Rattle.bson_base.specs.Outcome.{◌>>=◌, result_map}
+use Rattle.bson_kinds.specs.Kind.{byte}
+use Rattle.bson_kinds.specs.Text.{Bytes, Utf8, begins_with_dollar}
+use Rattle.bson_kinds.specs.Outcome.{◌>>=◌, result_map}
 use Rattle.bson_base.specs.Sound.{Lacks, IsClean, ArePairsClean, AreTreesClean}
 use Rattle.bson_base.specs.Tree as tree
 use Rattle.bson_base.specs.Tree.{Tree, Pairs, no_pairs, pair, Trees, no_trees, kind, depth, pairs_depth, trees_depth}
-use Rattle.bson_base.proofs.Outcomes.{some_is}
+use Rattle.bson_kinds.proofs.Outcomes.{some_is}
 use Rattle.bson_rawdoc.specs.Node.{Sight, fault, tree_node, pair_nodes, tree_nodes}
 use Rattle.bson_rawdoc.specs.Piece.{made}
-use Rattle.bson_datum.specs.Cause.{wrong_kind, invalid_length}
-use Rattle.bson_datum.specs.Marked.{contents}
-use Rattle.bson_datum.specs.Refusal.{under, under_index}
-use Rattle.bson_datum.specs.Value.{Value}
-use Rattle.bson_datum.specs.Wrapper as wrapper
-use Rattle.bson_datum.specs.Wrapper.{wrappers, with_key, of_key}
-use Rattle.bson_datum.specs.declared.wrapper.Wrapper.{Wrapper}
+use Rattle.bson_values.specs.Cause.{wrong_kind, invalid_length}
+use Rattle.bson_values.specs.Marked.{contents}
+use Rattle.bson_values.specs.Refusal.{under, under_index}
+use Rattle.bson_values.specs.Value.{Value}
+use Rattle.bson_values.specs.Wrapper as wrapper
+use Rattle.bson_values.specs.Wrapper.{wrappers, with_key, of_key}
+use Rattle.bson_values.specs.declared.wrapper.Wrapper.{Wrapper}
 use Rattle.bson_laws.specs.Datum.{datum, uuid_datum, itself, sorted_tree, sorted_pairs, sorted_trees}
 use Rattle.bson_laws.specs.Leaves as leaf_kinds
 use Rattle.bson_laws.specs.Leaves.{ExtendedLeaf, object_ids, uuids, of_kind, documents}

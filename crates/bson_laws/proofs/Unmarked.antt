@@ -5,10 +5,10 @@ use Rattle.std.proofs.Math.Dec.{eqb-suc-zero}
 use Rattle.bson_base.specs.Made.{digits, base64_text}
 use Rattle.bson_base.specs.Opened as for_trees
 use Rattle.bson_base.specs.Opened.{IsExtended}
-use Rattle.bson_base.specs.Text.{Bytes}
+use Rattle.bson_kinds.specs.Text.{Bytes}
 use Rattle.bson_base.specs.Tree as tree
 use Rattle.bson_base.specs.Tree.{Tree, Pairs, no_pairs, pair, Trees, no_trees, depth, pairs_depth, trees_depth}
-use Rattle.bson_base.proofs.Outcomes.{some_is, some_then}
+use Rattle.bson_kinds.proofs.Outcomes.{some_is, some_then}
 use Rattle.bson_rawdoc.specs.Node as for_nodes
 use Rattle.bson_rawdoc.specs.Node.{Node, Extended, binary, undefined, object_id, date_time, regular_expression, db_pointer, javascript_code, symbol, javascript_code_with_scope, timestamp, decimal128, max_key, min_key, Sight, tree_node, pair_nodes, tree_nodes}
 use Rattle.bson_rawdoc.specs.Piece.{Piece, made}

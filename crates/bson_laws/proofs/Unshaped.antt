@@ -1,18 +1,18 @@
 -- What a clean tree is without a shape is read from it.
 use Rattle.std.proofs.Common.{◌≡◌, ℕ, zero, suc, ◌≤◌, Option, Some, Ok, refl, ap, sym, ◌∙◌, arith}
 use Rattle.std.specs.Prelude.{option_map, option_and_then}
-use Rattle.bson_base.specs.Text.{Utf8}
-use Rattle.bson_base.specs.Outcome.{◌>>=◌, result_map}
+use Rattle.bson_kinds.specs.Text.{Utf8}
+use Rattle.bson_kinds.specs.Outcome.{◌>>=◌, result_map}
 use Rattle.bson_base.specs.Sound.{IsClean}
 use Rattle.bson_base.specs.Tree.{Tree, double, string, document, array, binary, boolean, null, javascript_code_with_scope, int32, int64, Pairs, no_pairs, pair, Trees, no_trees, tree, depth}
-use Rattle.bson_base.proofs.Outcomes.{some_is, some_map}
+use Rattle.bson_kinds.proofs.Outcomes.{some_is, some_map}
 use Rattle.bson_rawdoc.specs.Node as node
 use Rattle.bson_rawdoc.specs.Node.{Sight, piece, Node, Nodes, tree_node, pair_nodes, tree_nodes}
 use Rattle.bson_rawdoc.specs.Piece.{Piece}
-use Rattle.bson_datum.specs.Value as value
-use Rattle.bson_datum.specs.Value.{i32, i64, Value, item, no_entries, entry}
-use Rattle.bson_datum.specs.Marked.{Marked, MarkedEntries, contents}
-use Rattle.bson_datum.specs.Refusal.{under, under_index}
+use Rattle.bson_values.specs.Value as value
+use Rattle.bson_values.specs.Value.{i32, i64, Value, item, no_entries, entry}
+use Rattle.bson_values.specs.Marked.{Marked, MarkedEntries, contents}
+use Rattle.bson_values.specs.Refusal.{under, under_index}
 use Rattle.bson_laws.specs.Judged.{Reading, judged}
 use Rattle.bson_laws.specs.Taken.{owned_under_mark}
 use Rattle.bson_laws.specs.ReadsLeaf.{put_entry, read_any, any_items, any_entries}

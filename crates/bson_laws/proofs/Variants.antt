@@ -1,11 +1,11 @@
 -- The variants of an enum: what is read, viewed and fits by their names.
 use Rattle.std.proofs.Common.{◌≡◌, Bool, true, false, cond, Option, Some, Ok, refl, sym, subst}
 use Rattle.std.specs.Str.{bytes_eq}
-use Rattle.bson_base.specs.Text.{Utf8}
-use Rattle.bson_base.proofs.Outcomes.{some_is}
+use Rattle.bson_kinds.specs.Text.{Utf8}
+use Rattle.bson_kinds.proofs.Outcomes.{some_is}
 use Rattle.bson_shape.specs.Form.{enumeration, Content, unit_content, newtype_content, tuple_content, struct_content, Variants}
-use Rattle.bson_datum.specs.Value as value
-use Rattle.bson_datum.specs.Value.{Value, Items, FieldValues}
+use Rattle.bson_values.specs.Value as value
+use Rattle.bson_values.specs.Value.{Value, Items, FieldValues}
 use Rattle.bson_laws.specs.Variants.{content_of}
 use Rattle.bson_laws.specs.Views.{named_unit}
 use Rattle.bson_rawdoc.specs.Piece.{made}

@@ -5,7 +5,7 @@ use Rattle.std.specs.Str.{chars}
 use Rattle.std.proofs.lemmas.Str.{encodes-chars, IsUtf8-from_is_utf8}
 use Rattle.bson_base.specs.Sorted.{insert, ascending, sorted}
 use Rattle.bson_base.specs.Sound.{IsZeroFree}
-use Rattle.bson_base.specs.Text.{Bytes, Utf8, has_zero}
+use Rattle.bson_kinds.specs.Text.{Bytes, Utf8, has_zero}
 use Rattle.bson_laws.proofs.ParsedSizes.{sorted_text}
 
 pub neither : (a b : Bool) → (a || b) ≡ false → (a ≡ false) × (b ≡ false)

@@ -1,7 +1,7 @@
 -- A text that is mended holds a zero only where it did before.
 use Rattle.std.proofs.Common.{◌≡◌, ℕ, zero, suc, List, [], ◌∷◌, ◌++◌, length, ◌+◌, take, drop, Bool, true, false, cond, refl, eqb}
 use Rattle.std.specs.Str.Lossy.{utf8_valid_len, utf8_lossy, utf8_lossy_within, replacement_bytes, after_first_chunk, utf8_invalid_len}
-use Rattle.bson_base.specs.Text.{has_zero}
+use Rattle.bson_kinds.specs.Text.{has_zero}
 use Rattle.bson_laws.proofs.ZeroFree.{neither, none_of, free_both}
 
 free_take : (n : ℕ) (bs : List ℕ) → has_zero bs ≡ false → has_zero (take n bs) ≡ false

@@ -5,15 +5,15 @@ use Rattle.std.specs.Str.{bytes_eq}
 use Rattle.bson_base.specs.Encoded as faults
 use Rattle.bson_base.specs.Encoded.{EncodeFault, zero_fault, encode_fault}
 use Rattle.bson_base.specs.Folded.{text_of}
-use Rattle.bson_base.specs.Outcome.{◌>>=◌, result_map}
+use Rattle.bson_kinds.specs.Outcome.{◌>>=◌, result_map}
 use Rattle.bson_base.specs.Sound.{max_levels, max_bytes}
-use Rattle.bson_base.specs.Text.{Bytes, Utf8}
+use Rattle.bson_kinds.specs.Text.{Bytes, Utf8}
 use Rattle.bson_base.specs.Tree.{Tree, document, array, javascript_code, javascript_code_with_scope, Pairs, no_pairs, pair, Trees, no_trees, tree, kind, enc}
-use Rattle.bson_base.specs.declared.element_type.ElementType.{ElementType}
-use Rattle.bson_datum.specs.Cause.{Cause, too_deep, unknown_field, bad_body, zero_byte, binary_too_long, too_long}
-use Rattle.bson_datum.specs.Wrapper.{of_key}
-use Rattle.bson_datum.specs.declared.wrapper.Wrapper.{Wrapper}
-use Rattle.bson_datum.specs.declared.wrapper.Wrapper.TheVariants.{Code}
+use Rattle.bson_kinds.specs.declared.element_type.ElementType.{ElementType}
+use Rattle.bson_values.specs.Cause.{Cause, too_deep, unknown_field, bad_body, zero_byte, binary_too_long, too_long}
+use Rattle.bson_values.specs.Wrapper.{of_key}
+use Rattle.bson_values.specs.declared.wrapper.Wrapper.{Wrapper}
+use Rattle.bson_values.specs.declared.wrapper.Wrapper.TheVariants.{Code}
 use Rattle.bson_laws.specs.Judged.{scope_key}
 use Rattle.bson_laws.specs.FirstKeys.{FirstKey, body, code, ordinary, first_key}
 

@@ -1,16 +1,16 @@
 -- Reading arrays, maps, enums and options, whose parts are read by what is passed for them. Source: serde's data model, over the node that the value is.
 use Rattle.std.specs.Prelude.{ℕ, suc, Option, Some, None, Ok, Err}
-use Rattle.bson_base.specs.Text.{Utf8}
-use Rattle.bson_base.specs.Outcome.{◌>>=◌, result_map}
-use Rattle.bson_base.specs.declared.element_type.ElementType.TheVariants.{String}
+use Rattle.bson_kinds.specs.Text.{Utf8}
+use Rattle.bson_kinds.specs.Outcome.{◌>>=◌, result_map}
+use Rattle.bson_kinds.specs.declared.element_type.ElementType.TheVariants.{String}
 use Rattle.bson_rawdoc.specs.Node.{Node, string, null, Nodes, ended, faulty, then_node}
 use Rattle.bson_rawdoc.specs.Piece.{Piece, made}
 use Rattle.bson_shape.specs.Form.{Form, leaf, enumeration, Content, unit_content, Variants}
-use Rattle.bson_datum.specs.Value as value
-use Rattle.bson_datum.specs.Value.{no_items, item}
-use Rattle.bson_datum.specs.Marked.{Marked, MarkedItems, MarkedEntries}
-use Rattle.bson_datum.specs.Cause.{raw, invalid_type, invalid_length, unknown_variant, contents_wanted}
-use Rattle.bson_datum.specs.Refusal.{end_of_stream, here, under, under_index}
+use Rattle.bson_values.specs.Value as value
+use Rattle.bson_values.specs.Value.{no_items, item}
+use Rattle.bson_values.specs.Marked.{Marked, MarkedItems, MarkedEntries}
+use Rattle.bson_values.specs.Cause.{raw, invalid_type, invalid_length, unknown_variant, contents_wanted}
+use Rattle.bson_values.specs.Refusal.{end_of_stream, here, under, under_index}
 use Rattle.bson_laws.specs.Leaves.{leaf_kind}
 use Rattle.bson_laws.specs.Variants.{content_of}
 use Rattle.bson_laws.specs.Judged.{Reading, refused}

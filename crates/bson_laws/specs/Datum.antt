@@ -3,10 +3,10 @@ use Rattle.std.specs.Prelude.{zero, suc, pos, true, [], ◌∷◌, codes}
 use Rattle.uuid.specs.Text.{hyphenated_text, lower}
 use Rattle.bson_base.specs.Made.{digits, number_text, base64_text}
 use Rattle.bson_base.specs.Sorted.{sorted}
-use Rattle.bson_base.specs.Text.{Bytes, Utf8}
+use Rattle.bson_kinds.specs.Text.{Bytes, Utf8}
 use Rattle.bson_base.specs.Tree as tree
 use Rattle.bson_base.specs.Tree.{Tree, Pairs, no_pairs, pair, Trees, no_trees}
-use Rattle.bson_datum.specs.Value.{i32, i64, ValueOf, boolean, integer, double, str, bytes, unit, newtype, sequence, map, structure, mode, uuid_newtype, ItemsOf, no_items, item, EntriesOf, no_entries, entry, FieldsOf, no_field_values, field_value}
+use Rattle.bson_values.specs.Value.{i32, i64, ValueOf, boolean, integer, double, str, bytes, unit, newtype, sequence, map, structure, mode, uuid_newtype, ItemsOf, no_items, item, EntriesOf, no_entries, entry, FieldsOf, no_field_values, field_value}
 
 -- each text, name and byte string of the value is what the function gives for its bytes
 module _ {T : Type 0} (text : Bytes → T) where

@@ -1,8 +1,8 @@
 -- How deep values are: in steps into documents and arrays, those included that values are opened to. Source: the usual depth of trees.
 use Rattle.std.specs.Prelude.{ℕ, suc, max}
 use Rattle.bson_rawdoc.specs.Node.{Node, document, array, extended, Extended, binary, date_time, timestamp, regular_expression, db_pointer, javascript_code_with_scope, Nodes, ended, faulty, then_node}
-use Rattle.bson_datum.specs.Value as value
-use Rattle.bson_datum.specs.Value.{Value, Items, no_items, item, Entries, no_entries, entry, FieldValues, no_field_values, field_value}
+use Rattle.bson_values.specs.Value as value
+use Rattle.bson_values.specs.Value.{Value, Items, no_items, item, Entries, no_entries, entry, FieldValues, no_field_values, field_value}
 
 -- ---- values as a reader meets them
 

@@ -1,7 +1,7 @@
 -- The trees that the format has bytes for. Source: bsonspec.org, version 1.1, `cstring`, and the limits of this library.
 use Rattle.std.specs.Prelude.{◌≡◌, ◌≤◌, length, false}
 use Rattle.bson_base.specs.Sound.{max_binary}
-use Rattle.bson_base.specs.Text.{has_zero}
+use Rattle.bson_kinds.specs.Text.{has_zero}
 use Rattle.bson_base.specs.Tree.{Tree, document, array, binary, regular_expression, javascript_code_with_scope, raw, Pairs, no_pairs, pair, Trees, no_trees, tree}
 
 abbrev mutual

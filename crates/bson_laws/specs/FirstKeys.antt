@@ -4,11 +4,11 @@ use Rattle.std.specs.Prelude.{ℕ, ℤ, nat_eq, Bool, true, false, if◌then◌e
 use Rattle.bson_base.specs.Folded.{at, text_of, plain_bytes, of_text, of_pairs, is_int32, byte_of, uint32_of}
 use Rattle.bson_base.specs.Parsed.{bytes_of_digits}
 use Rattle.bson_base.specs.Sound.{max_levels}
-use Rattle.bson_base.specs.Text.{Bytes}
+use Rattle.bson_kinds.specs.Text.{Bytes}
 use Rattle.bson_base.specs.Tree.{Tree, string, document, binary, undefined, object_id, boolean, date_time, regular_expression, db_pointer, symbol, int32, timestamp, int64, decimal128, max_key, min_key, Pairs}
 use Rattle.bson_rawdoc.specs.Node.{from_memory, tree_node}
-use Rattle.bson_datum.specs.declared.wrapper.Wrapper.{Wrapper}
-use Rattle.bson_datum.specs.declared.wrapper.Wrapper.TheVariants.{Oid, Symbol, Binary, Code, Timestamp, RegularExpression, DbPointer, Date, MinKey, MaxKey, Undefined, NumberDecimalBytes}
+use Rattle.bson_values.specs.declared.wrapper.Wrapper.{Wrapper}
+use Rattle.bson_values.specs.declared.wrapper.Wrapper.TheVariants.{Oid, Symbol, Binary, Code, Timestamp, RegularExpression, DbPointer, Date, MinKey, MaxKey, Undefined, NumberDecimalBytes}
 use Rattle.bson_laws.specs.Judged.{Reading}
 use Rattle.bson_laws.specs.Trees.{read_tree}
 use Rattle.bson_laws.specs.Wrapped.{tree_if}

@@ -5,15 +5,15 @@ use Rattle.std.specs.Str.{is_utf8}
 use Rattle.bson_laws.specs.InRange.{IsInRange}
 use Rattle.bson_base.specs.Sound.{HasBytes}
 use Rattle.bson_base.specs.Tree.{Tree, kind}
-use Rattle.bson_base.specs.declared.element_type.ElementType.{ElementType}
-use Rattle.bson_base.specs.declared.element_type.ElementType.TheVariants as kinds
-use Rattle.bson_base.specs.Text.{Bytes, AreBytes}
+use Rattle.bson_kinds.specs.declared.element_type.ElementType.{ElementType}
+use Rattle.bson_kinds.specs.declared.element_type.ElementType.TheVariants as kinds
+use Rattle.bson_kinds.specs.Text.{Bytes, AreBytes}
 use Rattle.bson_shape.specs.Form.{Form, leaf, optional, lossy, sequence, newtype, unit_structure, map, tuple, tuple_structure, structure, enumeration, definitions, Fields, no_fields, field, Parts, no_parts, part, unit_content, newtype_content, tuple_content, struct_content}
 use Rattle.bson_laws.specs.Variants.{content_of}
 use Rattle.bson_laws.specs.Leaves.{LeafKind, anything, booleans, numbers, doubles, characters, texts, byte_strings, byte_buffers, units, extended_values, ExtendedLeaf, object_ids, uuids, of_kind, trees, documents, leaf_kind}
 use Rattle.bson_laws.specs.Datum.{datum, uuid_datum, itself}
-use Rattle.bson_datum.specs.Value as value
-use Rattle.bson_datum.specs.Value.{i32, i64, in_range, Value, boolean, integer, double, character, str, bytes, none, some, unit, Items, no_items, item, Entries, no_entries, entry, FieldValues, no_field_values, field_value}
+use Rattle.bson_values.specs.Value as value
+use Rattle.bson_values.specs.Value.{i32, i64, in_range, Value, boolean, integer, double, character, str, bytes, none, some, unit, Items, no_items, item, Entries, no_entries, entry, FieldValues, no_field_values, field_value}
 
 -- a text
 abbrev pub IsText : Value → Type 0

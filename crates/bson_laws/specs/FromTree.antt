@@ -1,15 +1,15 @@
 -- The rows of reading that depend on what a value is read from: bytes, or a tree in memory. Source: serde's data model, over the node that the value is.
 use Rattle.std.specs.Prelude.{Some, None, Option, Ok, Err}
-use Rattle.bson_base.specs.Text.{Utf8}
-use Rattle.bson_base.specs.Outcome.{◌>>=◌}
-use Rattle.bson_base.specs.declared.element_type.ElementType.TheVariants as kinds
+use Rattle.bson_kinds.specs.Text.{Utf8}
+use Rattle.bson_kinds.specs.Outcome.{◌>>=◌}
+use Rattle.bson_kinds.specs.declared.element_type.ElementType.TheVariants as kinds
 use Rattle.bson_rawdoc.specs.Node.{Node, string, document, Nodes, ended, faulty, then_node, kind_of, mended}
 use Rattle.bson_rawdoc.specs.Piece.{Piece, made}
 use Rattle.bson_shape.specs.Form.{dropped, Content, unit_content, Variants}
-use Rattle.bson_datum.specs.Value as value
-use Rattle.bson_datum.specs.Marked.{Marked, MarkedFields}
-use Rattle.bson_datum.specs.Cause.{raw, invalid_type, unknown_variant, unit_in_document, empty_enum, extra_key}
-use Rattle.bson_datum.specs.Refusal.{end_of_stream, here, under}
+use Rattle.bson_values.specs.Value as value
+use Rattle.bson_values.specs.Marked.{Marked, MarkedFields}
+use Rattle.bson_values.specs.Cause.{raw, invalid_type, unknown_variant, unit_in_document, empty_enum, extra_key}
+use Rattle.bson_values.specs.Refusal.{end_of_stream, here, under}
 use Rattle.bson_laws.specs.declared.origin.Origin.{Origin}
 use Rattle.bson_laws.specs.declared.origin.Origin.TheVariants.{Bytes, Tree}
 use Rattle.bson_laws.specs.Variants.{content_of}

@@ -3,7 +3,7 @@ use Rattle.std.specs.Prelude.{◌≡◌, ◌<◌, ◌^◌, true, FitsSigned}
 use Rattle.std.specs.Int.{w32, w64}
 use Rattle.std.specs.Str.{is_utf8}
 use Rattle.bson_base.specs.Sound.{HasBytes}
-use Rattle.bson_base.specs.Text.{AreBytes}
+use Rattle.bson_kinds.specs.Text.{AreBytes}
 use Rattle.bson_base.specs.Tree.{Tree, double, string, document, array, binary, object_id, date_time, regular_expression, db_pointer, javascript_code, symbol, javascript_code_with_scope, int32, timestamp, int64, decimal128, raw, Pairs, no_pairs, pair, Trees, no_trees, tree}
 
 abbrev mutual

@@ -1,13 +1,13 @@
 -- What a shape does first with a value, and how a value is dropped. Source: serde's data model, over the node that the value is, and the limits of this library.
 use Rattle.std.specs.Prelude.{ℕ, suc, Option, Some, None, Result, Ok, Err, codes}
-use Rattle.bson_base.specs.Text.{Utf8}
-use Rattle.bson_base.specs.Outcome.{◌>>=◌}
+use Rattle.bson_kinds.specs.Text.{Utf8}
+use Rattle.bson_kinds.specs.Outcome.{◌>>=◌}
 use Rattle.bson_rawdoc.specs.Node.{Node, document, array, extended, too_deep, Extended, javascript_code_with_scope, Nodes, ended, faulty, then_node, fault}
 use Rattle.bson_rawdoc.specs.Piece.{Piece}
 use Rattle.bson_rawdoc.specs.declared.raw.Error as raw_error
-use Rattle.bson_datum.specs.Cause as causes
-use Rattle.bson_datum.specs.Cause.{Cause, raw}
-use Rattle.bson_datum.specs.Refusal.{Segment, at_key, at_index, ReadFault, unreadable, Refusal, here, inside, under}
+use Rattle.bson_values.specs.Cause as causes
+use Rattle.bson_values.specs.Cause.{Cause, raw}
+use Rattle.bson_values.specs.Refusal.{Segment, at_key, at_index, ReadFault, unreadable, Refusal, here, inside, under}
 
 -- an answer of reading: something, or a refusal with its path
 abbrev pub Reading : Type 0 → Type 0

@@ -1,16 +1,16 @@
 -- Reading a value at a shape. Source: serde's data model, over the node that the value is.
 use Rattle.std.specs.Prelude.{ℕ, Bool, false, Result, Ok, Err}
-use Rattle.bson_base.specs.Text.{Bytes, Utf8}
-use Rattle.bson_base.specs.Outcome.{result_map}
+use Rattle.bson_kinds.specs.Text.{Bytes, Utf8}
+use Rattle.bson_kinds.specs.Outcome.{result_map}
 use Rattle.bson_base.specs.Sound.{max_levels}
-use Rattle.bson_base.specs.declared.element_type.ElementType.TheVariants.{EmbeddedDocument}
+use Rattle.bson_kinds.specs.declared.element_type.ElementType.TheVariants.{EmbeddedDocument}
 use Rattle.bson_rawdoc.specs.Envelope.{envelope}
 use Rattle.bson_rawdoc.specs.Node.{Node, Nodes, node_in}
 use Rattle.bson_shape.specs.Form.{Form, Fields, Parts, Content, Variants}
-use Rattle.bson_datum.specs.Value.{Value}
-use Rattle.bson_datum.specs.Marked.{Marked, MarkedItems, contents}
-use Rattle.bson_datum.specs.Cause.{raw}
-use Rattle.bson_datum.specs.Refusal.{ReadFault, unreadable, Failure, bare, with_path}
+use Rattle.bson_values.specs.Value.{Value}
+use Rattle.bson_values.specs.Marked.{Marked, MarkedItems, contents}
+use Rattle.bson_values.specs.Cause.{raw}
+use Rattle.bson_values.specs.Refusal.{ReadFault, unreadable, Failure, bare, with_path}
 use Rattle.bson_laws.specs.Judged.{Reading}
 use Rattle.bson_laws.specs.Leaves.{LeafKind}
 use Rattle.bson_laws.specs.ReadsLeaf.{read_leaf_with}

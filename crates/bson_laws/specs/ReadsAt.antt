@@ -1,16 +1,16 @@
 -- Reading a value at a shape, in bytes or from a tree, whatever its leaves take. Source: serde's data model, over the node that the value is.
 use Rattle.std.specs.Prelude.{ℕ, suc, Bool, false, [], ◌∷◌, if◌then◌else◌, None, Ok}
 use Rattle.std.specs.Str.{bytes_eq}
-use Rattle.bson_base.specs.Text.{Utf8}
-use Rattle.bson_base.specs.Outcome.{◌>>=◌, result_map}
+use Rattle.bson_kinds.specs.Text.{Utf8}
+use Rattle.bson_kinds.specs.Outcome.{◌>>=◌, result_map}
 use Rattle.bson_rawdoc.specs.Node.{Node, Nodes}
 use Rattle.bson_rawdoc.specs.Piece.{made}
 use Rattle.bson_shape.specs.Form.{Form, leaf, optional, lossy, human_readable, by_mode, sequence, newtype, unit_structure, map, tuple, tuple_structure, structure, enumeration, reference, definitions, Fields, no_fields, field, Parts, no_parts, part, Content, unit_content, newtype_content, tuple_content, struct_content, Variants, no_variants, variant}
-use Rattle.bson_datum.specs.Value as value
-use Rattle.bson_datum.specs.Value.{readable_newtype, no_items, item, no_entries}
-use Rattle.bson_datum.specs.Marked.{Marked, MarkedItems}
-use Rattle.bson_datum.specs.Cause.{unknown_variant, unknown_reference}
-use Rattle.bson_datum.specs.Refusal.{under}
+use Rattle.bson_values.specs.Value as value
+use Rattle.bson_values.specs.Value.{readable_newtype, no_items, item, no_entries}
+use Rattle.bson_values.specs.Marked.{Marked, MarkedItems}
+use Rattle.bson_values.specs.Cause.{unknown_variant, unknown_reference}
+use Rattle.bson_values.specs.Refusal.{under}
 use Rattle.bson_laws.specs.declared.origin.Origin.{Origin}
 use Rattle.bson_laws.specs.Leaves.{LeafKind, extended_values, trees, leaf_kind}
 use Rattle.bson_laws.specs.Judged.{Reading, refused, judged}

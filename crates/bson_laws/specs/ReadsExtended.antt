@@ -1,19 +1,19 @@
 -- Reading a value at an extended leaf. Source: the extended types of MongoDB's crate bson, version 2, over the node that the value is.
 use Rattle.std.specs.Prelude.{ℕ, ◌&&◌, ◌||◌, if◌then◌else◌, Option, Some, None, Ok, length, nat_eq}
 use Rattle.uuid.specs.Text.{parsed}
-use Rattle.bson_base.specs.Kind.{byte}
-use Rattle.bson_base.specs.Outcome.{◌>>=◌, result_map}
-use Rattle.bson_base.specs.Text.{Bytes}
+use Rattle.bson_kinds.specs.Kind.{byte}
+use Rattle.bson_kinds.specs.Outcome.{◌>>=◌, result_map}
+use Rattle.bson_kinds.specs.Text.{Bytes}
 use Rattle.bson_base.specs.Tree as tree
 use Rattle.bson_base.specs.Tree.{Tree, kind}
-use Rattle.bson_base.specs.declared.element_type.ElementType.{ElementType}
-use Rattle.bson_base.specs.declared.element_type.ElementType.TheVariants as kinds
+use Rattle.bson_kinds.specs.declared.element_type.ElementType.{ElementType}
+use Rattle.bson_kinds.specs.declared.element_type.ElementType.TheVariants as kinds
 use Rattle.bson_rawdoc.specs.Node.{Node, string, document, bytes, extended, binary, object_id, kind_of}
 use Rattle.bson_rawdoc.specs.Piece.{made}
-use Rattle.bson_datum.specs.Cause as cause
-use Rattle.bson_datum.specs.Cause.{invalid_type, invalid_length, bad_body, wrong_kind}
-use Rattle.bson_datum.specs.Marked.{Marked}
-use Rattle.bson_datum.specs.declared.wrapper.Wrapper.TheVariants.{Oid, Uuid}
+use Rattle.bson_values.specs.Cause as cause
+use Rattle.bson_values.specs.Cause.{invalid_type, invalid_length, bad_body, wrong_kind}
+use Rattle.bson_values.specs.Marked.{Marked}
+use Rattle.bson_values.specs.declared.wrapper.Wrapper.TheVariants.{Oid, Uuid}
 use Rattle.bson_laws.specs.Datum.{datum, uuid_datum}
 use Rattle.bson_laws.specs.Judged.{Reading, refused}
 use Rattle.bson_laws.specs.Leaves.{ExtendedLeaf, object_ids, uuids, of_kind, trees, documents}

@@ -1,14 +1,14 @@
 -- Reading a value at a shape, in bytes or from a tree. Source: serde's data model, over the node that the value is.
 use Rattle.std.specs.Prelude.{ℕ, Bool, Result, Ok, Err}
 use Rattle.bson_base.specs.Sound.{max_levels}
-use Rattle.bson_base.specs.Text.{Utf8}
+use Rattle.bson_kinds.specs.Text.{Utf8}
 use Rattle.bson_base.specs.Tree as tree
 use Rattle.bson_rawdoc.specs.Node.{Node, Nodes, from_memory, tree_node}
 use Rattle.bson_shape.specs.Form.{Form, Fields, Parts, Content, Variants}
-use Rattle.bson_base.specs.Outcome.{result_map}
-use Rattle.bson_datum.specs.Value.{Value}
-use Rattle.bson_datum.specs.Marked.{Marked, MarkedItems, contents}
-use Rattle.bson_datum.specs.Refusal.{ReadFault, Failure, bare}
+use Rattle.bson_kinds.specs.Outcome.{result_map}
+use Rattle.bson_values.specs.Value.{Value}
+use Rattle.bson_values.specs.Marked.{Marked, MarkedItems, contents}
+use Rattle.bson_values.specs.Refusal.{ReadFault, Failure, bare}
 use Rattle.bson_laws.specs.declared.origin.Origin.{Origin}
 use Rattle.bson_laws.specs.declared.origin.Origin.TheVariants.{Bytes, Tree}
 use Rattle.bson_laws.specs.declared.origin.Reader.{Reader}

@@ -1,16 +1,16 @@
 -- Reading a judged value without a shape, and at a leaf of serde's data model. Source: serde's data model, over the node that the value is.
 use Rattle.std.specs.Prelude.{ℕ, suc, Bool, true, false, if◌then◌else◌, Ok}
-use Rattle.bson_base.specs.Outcome.{◌>>=◌, result_map}
+use Rattle.bson_kinds.specs.Outcome.{◌>>=◌, result_map}
 use Rattle.bson_rawdoc.specs.Node.{Node, double, string, document, array, bytes, boolean, int32, int64, extended, Nodes, ended, faulty, then_node, kind_of}
 use Rattle.bson_rawdoc.specs.Piece.{made}
 use Rattle.bson_shape.specs.declared.leaf.Leaf.{Leaf}
 use Rattle.bson_shape.specs.declared.leaf.Leaf.TheVariants as leaf_words
-use Rattle.bson_datum.specs.Value as value
-use Rattle.bson_datum.specs.Value.{i32, i64, no_items, item, no_entries, entry}
-use Rattle.bson_datum.specs.Marked.{Marked, MarkedItems, MarkedEntries, contents}
-use Rattle.bson_datum.specs.Same.{same}
-use Rattle.bson_datum.specs.Cause.{raw, invalid_type}
-use Rattle.bson_datum.specs.Refusal.{under, under_index}
+use Rattle.bson_values.specs.Value as value
+use Rattle.bson_values.specs.Value.{i32, i64, no_items, item, no_entries, entry}
+use Rattle.bson_values.specs.Marked.{Marked, MarkedItems, MarkedEntries, contents}
+use Rattle.bson_values.specs.Same.{same}
+use Rattle.bson_values.specs.Cause.{raw, invalid_type}
+use Rattle.bson_values.specs.Refusal.{under, under_index}
 use Rattle.bson_laws.specs.Leaves.{LeafKind, anything, ignored, booleans, numbers, doubles, characters, texts, byte_strings, byte_buffers, units, ExtendedLeaf, extended_values, raw_documents, raw_arrays, raw_values}
 use Rattle.bson_laws.specs.Judged.{Reading, refused, judged, passes}
 use Rattle.bson_laws.specs.ReadsRaw.{raw_document_of, raw_array_of, raw_value_of}

@@ -1,15 +1,15 @@
 -- Reading a judged value in its bytes. Source: the raw types and the reserved names of MongoDB's crate bson, version 2, over the node that the value is.
 use Rattle.std.specs.Prelude.{pos, Ok, codes}
 use Rattle.bson_base.specs.Made.{digits}
-use Rattle.bson_base.specs.Outcome.{◌>>=◌, result_map}
+use Rattle.bson_kinds.specs.Outcome.{◌>>=◌, result_map}
 use Rattle.bson_base.specs.Tree as tree
 use Rattle.bson_rawdoc.specs.Node.{of_bytes, Whole, Node, double, string, document, array, bytes, boolean, null, int32, int64, extended, Extended, binary, undefined, object_id, date_time, regular_expression, db_pointer, javascript_code, symbol, javascript_code_with_scope, timestamp, decimal128, max_key, min_key, kind_of}
 use Rattle.bson_rawdoc.specs.Piece.{Piece, borrowed, made}
-use Rattle.bson_datum.specs.Cause.{invalid_type, not_borrowed}
-use Rattle.bson_datum.specs.Marked.{Marked}
-use Rattle.bson_datum.specs.Refusal.{under}
-use Rattle.bson_datum.specs.Value as value
-use Rattle.bson_datum.specs.Value.{i32, i64, u8}
+use Rattle.bson_values.specs.Cause.{invalid_type, not_borrowed}
+use Rattle.bson_values.specs.Marked.{Marked}
+use Rattle.bson_values.specs.Refusal.{under}
+use Rattle.bson_values.specs.Value as value
+use Rattle.bson_values.specs.Value.{i32, i64, u8}
 use Rattle.bson_laws.specs.Datum.{datum, one, two, nameless, wrapped}
 use Rattle.bson_laws.specs.Judged.{Reading, refused, judged, scope_key}
 

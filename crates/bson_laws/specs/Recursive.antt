@@ -5,8 +5,8 @@ use Rattle.bson_rawdoc.specs.Node.{Node}
 use Rattle.bson_shape.specs.Form.{Form, Fields}
 use Rattle.bson_shape.specs.Guarded.{is_guarded}
 use Rattle.bson_shape.specs.Makers.{AreShapes}
-use Rattle.bson_datum.specs.Marked.{Marked}
-use Rattle.bson_datum.specs.Value.{Value}
+use Rattle.bson_values.specs.Marked.{Marked}
+use Rattle.bson_values.specs.Value.{Value}
 use Rattle.bson_laws.specs.declared.origin.Origin.{Origin}
 use Rattle.bson_laws.specs.Depths.{value_depth}
 use Rattle.bson_laws.specs.Fits.{Fits}

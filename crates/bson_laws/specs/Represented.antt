@@ -3,7 +3,7 @@ use Rattle.std.specs.Prelude.{◌≡◌, ◌<◌, ◌^◌, length, FitsSigned}
 use Rattle.std.specs.Int.{w64}
 use Rattle.std.specs.Result.{result_ok}
 use Rattle.bson_base.specs.Sound.{HasBytes}
-use Rattle.bson_base.specs.Text.{AreBytes}
+use Rattle.bson_kinds.specs.Text.{AreBytes}
 use Rattle.bson_rawdoc.specs.Node.{made_document, Extended, binary, object_id, date_time, db_pointer, timestamp, decimal128, opened, opens, mended}
 use Rattle.bson_laws.specs.Trees.{read_tree}
 

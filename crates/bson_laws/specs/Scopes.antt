@@ -1,6 +1,6 @@
 -- What shapes are for a reader, in the definitions around them. Source: the usual unfolding of recursive types.
 use Rattle.std.specs.Prelude.{◌≡◌, ℕ, suc, Option, Some, None}
-use Rattle.bson_base.specs.Text.{Utf8}
+use Rattle.bson_kinds.specs.Text.{Utf8}
 use Rattle.bson_shape.specs.Form.{Form, reference, Fields, Parts, Content, Variants}
 use Rattle.bson_shape.specs.Guarded.{count, definition}
 use Rattle.bson_shape.specs.ShapeView.{fields_of}

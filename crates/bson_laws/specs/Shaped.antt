@@ -1,9 +1,9 @@
 -- Reading a value at a shape in bytes, whatever its extended leaves take. Source: serde's data model, over the node that the value is.
 use Rattle.std.specs.Prelude.{ℕ}
-use Rattle.bson_base.specs.Text.{Utf8}
+use Rattle.bson_kinds.specs.Text.{Utf8}
 use Rattle.bson_rawdoc.specs.Node.{Node, Nodes}
 use Rattle.bson_shape.specs.Form.{Form, Fields, Parts, Content, Variants}
-use Rattle.bson_datum.specs.Marked.{Marked, MarkedItems}
+use Rattle.bson_values.specs.Marked.{Marked, MarkedItems}
 use Rattle.bson_laws.specs.declared.origin.Origin.TheVariants.{Bytes}
 use Rattle.bson_laws.specs.Leaves.{ExtendedLeaf}
 use Rattle.bson_laws.specs.Judged.{Reading}

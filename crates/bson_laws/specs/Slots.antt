@@ -1,16 +1,16 @@
 -- Reading structs. Source: serde's data model, over the node that the value is.
 use Rattle.std.specs.Prelude.{ℕ, suc, List, [], ◌∷◌, if◌then◌else◌, Option, Some, None, Ok}
 use Rattle.std.specs.Str.{bytes_eq}
-use Rattle.bson_base.specs.Text.{Utf8}
-use Rattle.bson_base.specs.Outcome.{◌>>=◌, result_map}
-use Rattle.bson_base.specs.declared.element_type.ElementType.TheVariants.{Array}
+use Rattle.bson_kinds.specs.Text.{Utf8}
+use Rattle.bson_kinds.specs.Outcome.{◌>>=◌, result_map}
+use Rattle.bson_kinds.specs.declared.element_type.ElementType.TheVariants.{Array}
 use Rattle.bson_rawdoc.specs.Node.{Node, array, Nodes, ended, faulty, then_node}
 use Rattle.bson_rawdoc.specs.Piece.{made}
 use Rattle.bson_shape.specs.Form.{UnknownFields, dropped, denied, Form, by_mode}
-use Rattle.bson_datum.specs.Value.{ValueOf, no_field_values, field_value}
-use Rattle.bson_datum.specs.Marked.{Marked, MarkedFields}
-use Rattle.bson_datum.specs.Cause.{raw, invalid_type, missing_field, duplicate_field, unknown_field}
-use Rattle.bson_datum.specs.Refusal.{under}
+use Rattle.bson_values.specs.Value.{ValueOf, no_field_values, field_value}
+use Rattle.bson_values.specs.Marked.{Marked, MarkedFields}
+use Rattle.bson_values.specs.Cause.{raw, invalid_type, missing_field, duplicate_field, unknown_field}
+use Rattle.bson_values.specs.Refusal.{under}
 use Rattle.bson_laws.specs.Views.{absent}
 use Rattle.bson_laws.specs.Judged.{Reading, refused, ignores}
 use Rattle.bson_laws.specs.Taken.{document_of}

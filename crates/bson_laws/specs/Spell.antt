@@ -3,17 +3,17 @@
 use Rattle.std.specs.Prelude.{encode_utf8, ◌<◌, ℕ, ℤ, int_lt, zero, suc, ◌+◌, List, [], ◌∷◌, length, Bool, false, Option, Some, None, if◌then◌else◌, Ok, Err}
 use Rattle.std.specs.Fmt.{decimal}
 use Rattle.std.specs.Str.{bytes_eq}
-use Rattle.bson_base.specs.Text.{Bytes, Utf8, has_zero}
-use Rattle.bson_base.specs.Outcome.{◌>>=◌, result_map}
-use Rattle.bson_base.specs.Reserved.{reserved_kind}
+use Rattle.bson_kinds.specs.Text.{Bytes, Utf8, has_zero}
+use Rattle.bson_kinds.specs.Outcome.{◌>>=◌, result_map}
+use Rattle.bson_kinds.specs.Reserved.{reserved_kind}
 use Rattle.bson_base.specs.Sound.{max_levels, max_binary}
 use Rattle.bson_base.specs.Tree as tree
 use Rattle.bson_base.specs.Tree.{Tree, string, document, array, binary, null, int32, int64, Pairs, no_pairs, pair, Trees, no_trees}
-use Rattle.bson_base.specs.declared.element_type.ElementType.{ElementType}
-use Rattle.bson_base.specs.declared.element_type.ElementType.TheVariants.{EmbeddedDocument, Array, JavaScriptCodeWithScope, Int32}
-use Rattle.bson_datum.specs.Value.{i64, greatest, written_as, Value, boolean, integer, double, character, str, bytes, none, some, unit, unit_structure, newtype, sequence, map, structure, unit_variant, newtype_variant, tuple, tuple_structure, tuple_variant, structure_variant, raw_document, raw_array, mode, Items, no_items, item, Entries, no_entries, entry, FieldValues, no_field_values, field_value, kind_of, uuid_newtype, readable_inside}
-use Rattle.bson_datum.specs.Cause.{too_deep, binary_too_long, top_level}
-use Rattle.bson_datum.specs.Refusal.{WriteFault, unwritable, invalid_document_key, invalid_cstring, unsigned_exceeds, here, under, under_index}
+use Rattle.bson_kinds.specs.declared.element_type.ElementType.{ElementType}
+use Rattle.bson_kinds.specs.declared.element_type.ElementType.TheVariants.{EmbeddedDocument, Array, JavaScriptCodeWithScope, Int32}
+use Rattle.bson_values.specs.Value.{i64, greatest, written_as, Value, boolean, integer, double, character, str, bytes, none, some, unit, unit_structure, newtype, sequence, map, structure, unit_variant, newtype_variant, tuple, tuple_structure, tuple_variant, structure_variant, raw_document, raw_array, mode, Items, no_items, item, Entries, no_entries, entry, FieldValues, no_field_values, field_value, kind_of, uuid_newtype, readable_inside}
+use Rattle.bson_values.specs.Cause.{too_deep, binary_too_long, top_level}
+use Rattle.bson_values.specs.Refusal.{WriteFault, unwritable, invalid_document_key, invalid_cstring, unsigned_exceeds, here, under, under_index}
 use Rattle.bson_laws.specs.Means.{number_of, key_text}
 use Rattle.bson_laws.specs.UuidBytes.{uuid_bytes}
 use Rattle.bson_laws.specs.Unwrap.{Part, a_key, a_value, unwrap, scoped_code}

@@ -1,15 +1,15 @@
 -- What a judged value is taken as. Source: serde's data model, over the node that the value is.
 use Rattle.std.specs.Prelude.{unsigned_abs, ℕ, suc, List, [], ◌∷◌, Bool, true, false, if◌then◌else◌, ℤ, Option, Some, None, Ok}
 use Rattle.std.specs.Str.{is_utf8, chars}
-use Rattle.bson_base.specs.Text.{Bytes}
-use Rattle.bson_base.specs.Outcome.{◌>>=◌, result_map}
+use Rattle.bson_kinds.specs.Text.{Bytes}
+use Rattle.bson_kinds.specs.Outcome.{◌>>=◌, result_map}
 use Rattle.bson_rawdoc.specs.Node.{Node, double, string, document, array, bytes, boolean, null, int32, int64, extended, object_id, Nodes, ended, faulty, then_node, kind_of}
 use Rattle.bson_rawdoc.specs.Piece.{Piece, made}
-use Rattle.bson_datum.specs.Value as value
-use Rattle.bson_datum.specs.Value.{IntegerType, u8, in_range}
-use Rattle.bson_datum.specs.Marked.{Marked}
-use Rattle.bson_datum.specs.Cause.{raw, invalid_type, out_of_range, not_one_char, not_utf8, not_borrowed}
-use Rattle.bson_datum.specs.Refusal.{under_index}
+use Rattle.bson_values.specs.Value as value
+use Rattle.bson_values.specs.Value.{IntegerType, u8, in_range}
+use Rattle.bson_values.specs.Marked.{Marked}
+use Rattle.bson_values.specs.Cause.{raw, invalid_type, out_of_range, not_one_char, not_utf8, not_borrowed}
+use Rattle.bson_values.specs.Refusal.{under_index}
 use Rattle.bson_laws.specs.Views.{one_character}
 use Rattle.bson_laws.specs.Judged.{Reading, refused, judged}
 

@@ -1,11 +1,11 @@
 -- Reading a judged value of a tree in memory at a leaf. Source: serde's data model, and the extended types of MongoDB's crate bson, version 2, over the node that the value is.
 use Rattle.std.specs.Prelude.{Bool, true, false}
-use Rattle.bson_base.specs.Outcome.{result_map}
-use Rattle.bson_base.specs.declared.element_type.ElementType.TheVariants.{EmbeddedDocument, Array}
+use Rattle.bson_kinds.specs.Outcome.{result_map}
+use Rattle.bson_kinds.specs.declared.element_type.ElementType.TheVariants.{EmbeddedDocument, Array}
 use Rattle.bson_rawdoc.specs.Node.{Node}
-use Rattle.bson_datum.specs.Value as value
-use Rattle.bson_datum.specs.Marked.{Marked}
-use Rattle.bson_datum.specs.Cause.{not_borrowed}
+use Rattle.bson_values.specs.Value as value
+use Rattle.bson_values.specs.Marked.{Marked}
+use Rattle.bson_values.specs.Cause.{not_borrowed}
 use Rattle.bson_laws.specs.Leaves.{LeafKind, texts, byte_strings, raw_documents, raw_arrays, raw_values}
 use Rattle.bson_laws.specs.Judged.{Reading, refused}
 use Rattle.bson_laws.specs.ReadsLeaf.{read_leaf_with}

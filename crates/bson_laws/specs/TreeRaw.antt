@@ -1,17 +1,17 @@
 -- Reading a judged value of a tree in memory in its bytes, which the raw builder makes. Source: the raw types of MongoDB's crate bson, version 2, over the node that the value is.
 use Rattle.std.specs.Prelude.{zero, nat_eq, if◌then◌else◌, Option, Some, None, option_and_then, Ok, Err}
-use Rattle.bson_base.specs.Kind.{byte}
-use Rattle.bson_base.specs.Outcome.{◌>>=◌, result_map}
+use Rattle.bson_kinds.specs.Kind.{byte}
+use Rattle.bson_kinds.specs.Outcome.{◌>>=◌, result_map}
 use Rattle.bson_base.specs.Pairs.{put}
 use Rattle.bson_base.specs.Tree as tree
 use Rattle.bson_base.specs.Tree.{Tree, Pairs, no_pairs, kind, enc}
-use Rattle.bson_base.specs.declared.element_type.ElementType.{ElementType}
+use Rattle.bson_kinds.specs.declared.element_type.ElementType.{ElementType}
 use Rattle.bson_rawdoc.specs.Node.{Whole, of_tree, of_opening, Node, string, document, array, bytes, boolean, int32, int64, extended, Nodes, ended, faulty, then_node, javascript_code_with_scope, from_memory, tree_node, kind_of}
 use Rattle.bson_rawdoc.specs.Piece.{Piece, made}
-use Rattle.bson_datum.specs.Cause.{raw, invalid_type, not_borrowed}
-use Rattle.bson_datum.specs.Marked.{Marked}
-use Rattle.bson_datum.specs.Refusal.{under}
-use Rattle.bson_datum.specs.Value as value
+use Rattle.bson_values.specs.Cause.{raw, invalid_type, not_borrowed}
+use Rattle.bson_values.specs.Marked.{Marked}
+use Rattle.bson_values.specs.Refusal.{under}
+use Rattle.bson_values.specs.Value as value
 use Rattle.bson_laws.specs.Judged.{Reading, refused, judged, scope_key}
 use Rattle.bson_laws.specs.ReadsRaw.{scoped_code, raw_value_of}
 use Rattle.bson_laws.specs.Unmarked.{with_document}

@@ -1,16 +1,16 @@
 -- Reading a value as a tree, where a document with a wrapper key is the value that the key stands for. Source: MongoDB's extended JSON, version 2, over the node that the value is.
 use Rattle.std.specs.Prelude.{ℕ, suc, Option, Some, None, if◌then◌else◌, Ok, codes}
 use Rattle.std.specs.Str.{bytes_eq}
-use Rattle.bson_base.specs.Outcome.{◌>>=◌, result_map}
+use Rattle.bson_kinds.specs.Outcome.{◌>>=◌, result_map}
 use Rattle.bson_base.specs.Sorted.{sorted}
-use Rattle.bson_base.specs.Text.{Utf8}
+use Rattle.bson_kinds.specs.Text.{Utf8}
 use Rattle.bson_base.specs.Tree as tree
 use Rattle.bson_base.specs.Tree.{Tree, Pairs, no_pairs, pair, Trees, no_trees, kind}
 use Rattle.bson_rawdoc.specs.Node.{Node, double, string, document, array, bytes, boolean, null, int32, int64, extended, Extended, binary, undefined, object_id, date_time, regular_expression, db_pointer, javascript_code, symbol, javascript_code_with_scope, timestamp, decimal128, max_key, min_key, Nodes, ended, faulty, then_node, kind_of}
-use Rattle.bson_datum.specs.Cause.{raw, invalid_type, unknown_field, missing_field, bad_body}
-use Rattle.bson_datum.specs.Refusal.{under, under_index}
-use Rattle.bson_datum.specs.Wrapper.{of_key}
-use Rattle.bson_datum.specs.declared.wrapper.Wrapper.{Wrapper}
+use Rattle.bson_values.specs.Cause.{raw, invalid_type, unknown_field, missing_field, bad_body}
+use Rattle.bson_values.specs.Refusal.{under, under_index}
+use Rattle.bson_values.specs.Wrapper.{of_key}
+use Rattle.bson_values.specs.declared.wrapper.Wrapper.{Wrapper}
 use Rattle.bson_laws.specs.Judged.{Reading, refused, judged, scope_key}
 use Rattle.bson_laws.specs.Wrapped.{Meaning, body, code, scope, meaning, text_at}
 

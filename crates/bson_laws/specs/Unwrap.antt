@@ -3,13 +3,13 @@
 -- value. A value with two forms is its compact one. Each kind takes one list of keys and values, in one order.
 use Rattle.std.specs.Prelude.{ℕ, ℤ, pos, ◌^◌, nat_lt, nat_eq, ◌||◌, List, [], ◌∷◌, length, if◌then◌else◌, Option, Some, None, option_map, option_and_then, codes}
 use Rattle.std.specs.Str.{bytes_eq}
-use Rattle.bson_base.specs.Text.{Bytes, Utf8}
+use Rattle.bson_kinds.specs.Text.{Bytes, Utf8}
 use Rattle.bson_base.specs.Parsed.{bytes_of_digits, integer_of_text, bytes_of_base64, subtype_of_text}
 use Rattle.bson_base.specs.Tree as tree
 use Rattle.bson_base.specs.Tree.{Tree}
-use Rattle.bson_base.specs.declared.element_type.ElementType.{ElementType}
-use Rattle.bson_base.specs.declared.element_type.ElementType.TheVariants.{Binary, Undefined, ObjectId, DateTime, RegularExpression, DbPointer, JavaScriptCode, Symbol, Timestamp, Decimal128, MaxKey, MinKey}
-use Rattle.bson_datum.specs.Value.{i64, u8, Value, integer, str, bytes, map, structure, raw_document, mode, FieldValues, no_field_values, field_value}
+use Rattle.bson_kinds.specs.declared.element_type.ElementType.{ElementType}
+use Rattle.bson_kinds.specs.declared.element_type.ElementType.TheVariants.{Binary, Undefined, ObjectId, DateTime, RegularExpression, DbPointer, JavaScriptCode, Symbol, Timestamp, Decimal128, MaxKey, MinKey}
+use Rattle.bson_values.specs.Value.{i64, u8, Value, integer, str, bytes, map, structure, raw_document, mode, FieldValues, no_field_values, field_value}
 
 -- a part of the list: a key, or a value, with what this value is written as
 pub data Part (S : Type 0) : Type 0 where

@@ -1,9 +1,9 @@
 -- What the newtype of a UUID holds. Source: the newtype names of MongoDB's crate bson, version 2, and serde's `is_human_readable`.
 use Rattle.std.specs.Prelude.{Bool, Option, Some, None, if◌then◌else◌}
 use Rattle.uuid.specs.Text.{parsed}
-use Rattle.bson_base.specs.Text.{Bytes}
+use Rattle.bson_kinds.specs.Text.{Bytes}
 use Rattle.bson_shape.specs.Makers.{is_reserved_newtype}
-use Rattle.bson_datum.specs.Value.{Value, str, bytes, some, newtype, mode}
+use Rattle.bson_values.specs.Value.{Value, str, bytes, some, newtype, mode}
 
 -- The bytes that the newtype of a UUID holds, where some value, newtypes of no reserved name and values with two forms may be around them: its
 -- bytes, or in the readable form those that its text stands for.

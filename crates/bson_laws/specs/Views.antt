@@ -1,17 +1,17 @@
 -- The value that a tree is at a shape. Source: serde's data model.
 use Rattle.std.specs.Prelude.{ℕ, Bool, true, ◌&&◌, nat_eq, length, [], ◌∷◌, List, zero, if◌then◌else◌, ℤ, Option, Some, None, option_map, option_and_then}
 use Rattle.std.specs.Str.{bytes_eq, chars}
-use Rattle.bson_base.specs.Text.{Utf8}
+use Rattle.bson_kinds.specs.Text.{Utf8}
 use Rattle.bson_base.specs.Pairs.{lookup}
-use Rattle.bson_base.specs.Kind.{byte}
+use Rattle.bson_kinds.specs.Kind.{byte}
 use Rattle.bson_base.specs.Tree.{Tree, kind, object_id, double, string, document, array, binary, boolean, null, int32, int64, Pairs, no_pairs, pair, Trees, no_trees, tree}
 use Rattle.bson_shape.specs.Form.{UnknownFields, dropped, denied, Form, leaf, optional, lossy, sequence, newtype, unit_structure, map, tuple, tuple_structure, structure, enumeration, definitions, Fields, no_fields, field, Parts, no_parts, part, Content, unit_content, newtype_content, tuple_content, struct_content, Variants, no_variants, variant}
 use Rattle.bson_shape.specs.Makers.{has_field}
 use Rattle.bson_laws.specs.Variants.{content_of}
 use Rattle.bson_laws.specs.Leaves.{LeafKind, anything, booleans, numbers, doubles, characters, texts, byte_strings, byte_buffers, units, extended_values, ExtendedLeaf, object_ids, uuids, of_kind, trees, documents, leaf_kind}
 use Rattle.bson_laws.specs.Datum.{datum, uuid_datum, itself, sorted_tree}
-use Rattle.bson_datum.specs.Value as value
-use Rattle.bson_datum.specs.Value.{IntegerType, i32, i64, in_range, ValueOf, Value, integer, Items, no_items, item, Entries, no_entries, entry, FieldValues, no_field_values, field_value}
+use Rattle.bson_values.specs.Value as value
+use Rattle.bson_values.specs.Value.{IntegerType, i32, i64, in_range, ValueOf, Value, integer, Items, no_items, item, Entries, no_entries, entry, FieldValues, no_field_values, field_value}
 
 -- ---- leaves
 

@@ -4,22 +4,22 @@ use Rattle.std.specs.Ordering.{int_eq}
 use Rattle.std.specs.Str.{bytes_eq}
 use Rattle.uuid.specs.Text.{parsed}
 use Rattle.bson_dates.specs.DateText.{date_of_text}
-use Rattle.bson_base.specs.Outcome.{◌>>=◌, result_map}
+use Rattle.bson_kinds.specs.Outcome.{◌>>=◌, result_map}
 use Rattle.bson_base.specs.Parsed.{bytes_of_digits, integer_of_text, bytes_of_base64}
 use Rattle.bson_base.specs.Sorted.{sorted}
-use Rattle.bson_base.specs.Text.{Bytes, Utf8}
+use Rattle.bson_kinds.specs.Text.{Bytes, Utf8}
 use Rattle.bson_base.specs.Tree as tree
 use Rattle.bson_base.specs.Tree.{Tree}
 use Rattle.bson_rawdoc.specs.Node.{Node, string, bytes, kind_of}
 use Rattle.bson_shape.specs.Form.{dropped, Form, leaf, structure, no_fields, field}
 use Rattle.bson_shape.specs.declared.leaf.Leaf.TheVariants.{U8, U32}
 use Rattle.bson_shape.specs.declared.leaf.Leaf.TheVariants as leaves
-use Rattle.bson_datum.specs.Cause.{invalid_type}
-use Rattle.bson_datum.specs.Marked.{contents}
-use Rattle.bson_datum.specs.Value as value
-use Rattle.bson_datum.specs.Value.{i32, in_range, Value, no_field_values, field_value}
-use Rattle.bson_datum.specs.declared.wrapper.Wrapper.{Wrapper}
-use Rattle.bson_datum.specs.declared.wrapper.Wrapper.TheVariants.{Oid, Symbol, NumberInt, NumberLong, NumberDouble, Binary, Uuid, Code, Scope, Timestamp, RegularExpression, DbPointer, Date, MinKey, MaxKey, Undefined, NumberDecimal, NumberDecimalBytes}
+use Rattle.bson_values.specs.Cause.{invalid_type}
+use Rattle.bson_values.specs.Marked.{contents}
+use Rattle.bson_values.specs.Value as value
+use Rattle.bson_values.specs.Value.{i32, in_range, Value, no_field_values, field_value}
+use Rattle.bson_values.specs.declared.wrapper.Wrapper.{Wrapper}
+use Rattle.bson_values.specs.declared.wrapper.Wrapper.TheVariants.{Oid, Symbol, NumberInt, NumberLong, NumberDouble, Binary, Uuid, Code, Scope, Timestamp, RegularExpression, DbPointer, Date, MinKey, MaxKey, Undefined, NumberDecimal, NumberDecimalBytes}
 use Rattle.bson_laws.specs.Judged.{Reading, refused, judged}
 use Rattle.bson_laws.specs.ReadsLeaf.{no_extended}
 use Rattle.bson_laws.specs.Shaped.{reads}

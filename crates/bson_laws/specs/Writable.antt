@@ -1,9 +1,9 @@
 -- The shapes at which each value that is read is written again, unless it is too large. Source: bsonspec.org, version 1.1, `document` and `e_name`.
 use Rattle.std.specs.Prelude.{◌≡◌, false}
-use Rattle.bson_base.specs.Text.{has_zero}
+use Rattle.bson_kinds.specs.Text.{has_zero}
 use Rattle.bson_shape.specs.Form.{Form, leaf, optional, lossy, human_readable, by_mode, sequence, newtype, unit_structure, map, tuple, tuple_structure, structure, enumeration, reference, definitions, Fields, no_fields, field, Parts, no_parts, part, Content, unit_content, newtype_content, tuple_content, struct_content, Variants, no_variants, variant}
-use Rattle.bson_base.specs.declared.element_type.ElementType.TheVariants.{RegularExpression, JavaScriptCodeWithScope, EmbeddedDocument, Array}
-use Rattle.bson_base.specs.declared.element_type.ElementType.{ElementType}
+use Rattle.bson_kinds.specs.declared.element_type.ElementType.TheVariants.{RegularExpression, JavaScriptCodeWithScope, EmbeddedDocument, Array}
+use Rattle.bson_kinds.specs.declared.element_type.ElementType.{ElementType}
 use Rattle.bson_laws.specs.Leaves.{LeafKind, ignored, extended_values, of_kind, trees, documents, leaf_kind}
 use Rattle.bson_laws.specs.Plain.{IsPlainKey}
 use Rattle.bson_laws.specs.Unrolled.{whole}

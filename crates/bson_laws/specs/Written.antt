@@ -1,13 +1,13 @@
 -- What is written of a value that is whole, or why it is not. Source: bsonspec.org, version 1.1, `binary`, `cstring` and the element of a regular expression.
 use Rattle.std.specs.Prelude.{ℕ, ◌++◌, length, nat_lt, codes, Option, Some, None, if◌then◌else◌, Result, Ok, Err}
-use Rattle.bson_base.specs.Outcome.{◌>>=◌, result_map}
+use Rattle.bson_kinds.specs.Outcome.{◌>>=◌, result_map}
 use Rattle.bson_base.specs.Sorted.{sorted}
 use Rattle.bson_base.specs.Sound.{max_binary}
-use Rattle.bson_base.specs.Text.{Bytes, Utf8, has_zero}
+use Rattle.bson_kinds.specs.Text.{Bytes, Utf8, has_zero}
 use Rattle.bson_base.specs.Tree.{Tree, document, binary, regular_expression, javascript_code_with_scope, raw, no_pairs, closed_text, behind_subtype, after_total, enc}
-use Rattle.bson_base.specs.declared.element_type.ElementType.TheVariants.{JavaScriptCodeWithScope}
-use Rattle.bson_datum.specs.Cause.{binary_too_long, bad_step, bad_uuid}
-use Rattle.bson_datum.specs.Refusal.{WriteFault, unwritable, invalid_cstring, Refusal, here, under}
+use Rattle.bson_kinds.specs.declared.element_type.ElementType.TheVariants.{JavaScriptCodeWithScope}
+use Rattle.bson_values.specs.Cause.{binary_too_long, bad_step, bad_uuid}
+use Rattle.bson_values.specs.Refusal.{WriteFault, unwritable, invalid_cstring, Refusal, here, under}
 
 -- an answer of writing: something, or a refusal with its path
 abbrev pub Writing : Type 0 → Type 0

@@ -4,18 +4,18 @@ use Rattle.std.specs.Str.{chars}
 use lib.Utf8.{encodes}
 use Rattle.std.proofs.lemmas.Bool.{false≢true}
 use Rattle.std.proofs.lemmas.Str.{encodes-chars}
-use Rattle.bson_base.specs.Text.{Utf8}
-use Rattle.bson_base.specs.Outcome.{result_map}
+use Rattle.bson_kinds.specs.Text.{Utf8}
+use Rattle.bson_kinds.specs.Outcome.{result_map}
 use Rattle.bson_rawdoc.specs.Piece.{Piece}
 use Rattle.bson_shape.specs.Form.{Form, leaf, enumeration, Content, unit_content}
 use Rattle.bson_shape.specs.Leaf.{is_text}
 use Rattle.bson_shape.specs.Makers.{is_text_key}
 use Rattle.bson_shape.specs.declared.leaf.Leaf.{Leaf}
 use Rattle.bson_shape.specs.declared.leaf.Leaf.TheVariants.{Char, Str, String}
-use Rattle.bson_datum.specs.Cause.{not_borrowed}
-use Rattle.bson_datum.specs.Marked.{Marked, contents}
-use Rattle.bson_datum.specs.Value as value
-use Rattle.bson_datum.specs.Value.{Value, character, unit_variant}
+use Rattle.bson_values.specs.Cause.{not_borrowed}
+use Rattle.bson_values.specs.Marked.{Marked, contents}
+use Rattle.bson_values.specs.Value as value
+use Rattle.bson_values.specs.Value.{Value, character, unit_variant}
 use Rattle.bson_laws.specs.Containers.{reads_key, unit_of}
 use Rattle.bson_laws.specs.Judged.{Reading, refused}
 use Rattle.bson_laws.specs.Taken.{read_character}

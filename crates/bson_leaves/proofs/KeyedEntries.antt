@@ -5,14 +5,14 @@ use Rattle.std.specs.Str.{bytes_eq}
 use Rattle.std.proofs.lemmas.Bool.{false≢true}
 use Rattle.std.proofs.lemmas.List.{length-append, length-set}
 use Rattle.std.proofs.lemmas.Slice.Eq.{bytes_eq-Decides}
-use Rattle.bson_base.specs.Text.{Utf8}
+use Rattle.bson_kinds.specs.Text.{Utf8}
 use Rattle.bson_shape.specs.Form.{Form}
 use Rattle.bson_shape.specs.Makers.{is_text_key}
 use Rattle.bson_shape.specs.ShapeView.{form_view}
-use Rattle.bson_datum.specs.Prover.Decided.{same_decides}
-use Rattle.bson_datum.specs.Same.{same}
-use Rattle.bson_datum.specs.Marked.{Marked, MarkedEntries, contents}
-use Rattle.bson_datum.specs.Value.{Value, entry}
+use Rattle.bson_values.specs.Prover.Decided.{same_decides}
+use Rattle.bson_values.specs.Same.{same}
+use Rattle.bson_values.specs.Marked.{Marked, MarkedEntries, contents}
+use Rattle.bson_values.specs.Value.{Value, entry}
 use Rattle.bson_datum.specs.MarkedView.{marked}
 use Rattle.bson_leaves.specs.KeyValues.{key_value}
 use Rattle.bson_texts.specs.ListsMarked.{entries_marked}

@@ -1,15 +1,15 @@
 -- The leaves that take numbers.
 use Rattle.std.proofs.Common.{◌≡◌, ◌⊎◌, inl, inr, ℤ, Bool, true, false, cond, Some, None, Ok, Err, refl, ap, sym, subst, ◌∙◌}
-use Rattle.bson_base.specs.Outcome.{◌>>=◌}
+use Rattle.bson_kinds.specs.Outcome.{◌>>=◌}
 use Rattle.bson_rawdoc.specs.Node.{Node}
 use Rattle.bson_shape.specs.Form.{leaf}
 use Rattle.bson_shape.specs.declared.leaf.Leaf.{Leaf}
 use Rattle.bson_shape.specs.declared.leaf.Leaf.TheVariants.{I8, I16, I32, I64, U8, U16, U32, U64}
-use Rattle.bson_datum.specs.Value as value
-use Rattle.bson_datum.specs.Cause.{out_of_range}
-use Rattle.bson_datum.specs.Value.{IntegerType, in_range}
+use Rattle.bson_values.specs.Value as value
+use Rattle.bson_values.specs.Cause.{out_of_range}
+use Rattle.bson_values.specs.Value.{IntegerType, in_range}
 use Rattle.bson_laws.specs.Leaves.{LeafKind, numbers, leaf_kind}
-use Rattle.bson_datum.specs.Marked.{Marked}
+use Rattle.bson_values.specs.Marked.{Marked}
 use Rattle.bson_laws.specs.Judged.{Reading, judged, refused}
 use Rattle.bson_laws.specs.ReadsLeaf.{borrows}
 use Rattle.bson_laws.specs.Reads.{reads, read_leaf}

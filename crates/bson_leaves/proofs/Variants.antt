@@ -3,8 +3,8 @@ use Rattle.std.proofs.Common.{◌≡◌, ◌⊎◌, inl, inr, ℕ, suc, List, []
 use Rattle.std.specs.Global.{Vec}
 use Rattle.std.specs.Prelude.{option_map}
 use Rattle.std.specs.Str.{bytes_eq}
-use Rattle.bson_base.specs.Text.{Utf8}
-use Rattle.bson_base.specs.Outcome.{◌>>=◌}
+use Rattle.bson_kinds.specs.Text.{Utf8}
+use Rattle.bson_kinds.specs.Outcome.{◌>>=◌}
 use Rattle.bson_shape.specs.Form.{Content}
 use Rattle.bson_shape.specs.ShapeView as shape_view
 use Rattle.bson_shape.specs.ShapeView.{variants_of}
@@ -13,8 +13,8 @@ use Rattle.bson_shape.specs.declared.shape.Shape.{Shape}
 use Rattle.bson_shape.specs.declared.shape.VariantContent.{VariantContent}
 use Rattle.bson_shape.specs.declared.shape.VariantContent.TheVariants as contents
 use Rattle.bson_shape.specs.declared.shape.VariantShape.{VariantShape}
-use Rattle.bson_datum.specs.Cause.{unknown_variant, contents_wanted}
-use Rattle.bson_datum.specs.Marked.{Marked}
+use Rattle.bson_values.specs.Cause.{unknown_variant, contents_wanted}
+use Rattle.bson_values.specs.Marked.{Marked}
 use Rattle.bson_laws.specs.Containers.{unit_of}
 use Rattle.bson_laws.specs.Judged.{Reading, refused}
 use Rattle.bson_laws.specs.Variants.{content_of}

@@ -1,10 +1,10 @@
 -- What contracts see of values without a shape. Source: serde's data model.
 use Rattle.std.specs.Prelude.{ℕ, zero, Bool, true, false}
-use Rattle.bson_base.specs.Outcome.{◌>>=◌}
+use Rattle.bson_kinds.specs.Outcome.{◌>>=◌}
 use Rattle.bson_rawdoc.specs.Node.{Node, inner_node, value_node}
 use Rattle.bson_rawdoc.specs.RawValue.{RawValue, double, string, document, array, binary, boolean, null, int32, int64}
-use Rattle.bson_datum.specs.Marked.{Marked, MarkedItems, MarkedEntries}
-use Rattle.bson_datum.specs.Value.{no_entries}
+use Rattle.bson_values.specs.Marked.{Marked, MarkedItems, MarkedEntries}
+use Rattle.bson_values.specs.Value.{no_entries}
 use Rattle.bson_laws.specs.Judged.{Reading, judged, with_level}
 use Rattle.bson_laws.specs.ReadsLeaf.{read_any, any_items, any_entries}
 use Rattle.bson_met.specs.MetView.{array_at, document_at}

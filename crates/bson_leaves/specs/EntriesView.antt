@@ -1,13 +1,13 @@
 -- What contracts see of the entries of a map that is read. Source: this library's own types.
 use Rattle.std.specs.Prelude.{◌≡◌, ℕ, suc, List, true, if◌then◌else◌, length, Option, Some, None, Ok, option_map}
 use Rattle.std.specs.Str.{IsUtf8}
-use Rattle.bson_base.specs.Text.{Utf8}
+use Rattle.bson_kinds.specs.Text.{Utf8}
 use Rattle.bson_shape.specs.Makers.{is_text_key}
 use Rattle.bson_shape.specs.ShapeView.{form_view}
 use Rattle.bson_shape.specs.declared.form.Form.{Form as BorrowedForm}
-use Rattle.bson_datum.specs.Same.{same}
-use Rattle.bson_datum.specs.Marked.{MarkedEntries, contents}
-use Rattle.bson_datum.specs.Value.{Value, no_entries, entry}
+use Rattle.bson_values.specs.Same.{same}
+use Rattle.bson_values.specs.Marked.{MarkedEntries, contents}
+use Rattle.bson_values.specs.Value.{Value, no_entries, entry}
 use Rattle.bson_datum.specs.declared.datum.Entry.{Entry}
 use Rattle.bson_leaves.specs.KeyValues.{key_value}
 use Rattle.bson_texts.specs.ListsMarked.{entries_marked}

@@ -1,10 +1,10 @@
 -- The keys that texts are. Source: serde's data model.
-use Rattle.bson_base.specs.Text.{Utf8}
-use Rattle.bson_base.specs.Outcome.{result_map}
+use Rattle.bson_kinds.specs.Text.{Utf8}
+use Rattle.bson_kinds.specs.Outcome.{result_map}
 use Rattle.bson_rawdoc.specs.Piece.{borrowed}
 use Rattle.bson_shape.specs.Form.{Form}
-use Rattle.bson_datum.specs.Marked.{contents}
-use Rattle.bson_datum.specs.Value.{Value}
+use Rattle.bson_values.specs.Marked.{contents}
+use Rattle.bson_values.specs.Value.{Value}
 use Rattle.bson_laws.specs.Containers.{reads_key}
 use Rattle.bson_laws.specs.Judged.{Reading}
 

@@ -1,9 +1,9 @@
 -- What contracts see of the variant that has a name. Source: serde's data model.
 use Rattle.std.specs.Prelude.{List, [], ◌∷◌, if◌then◌else◌, Ok, string_bytes}
 use Rattle.std.specs.Str.{bytes_eq}
-use Rattle.bson_base.specs.Text.{Utf8}
+use Rattle.bson_kinds.specs.Text.{Utf8}
 use Rattle.bson_shape.specs.declared.shape.VariantShape.{VariantShape}
-use Rattle.bson_datum.specs.Cause.{unknown_variant}
+use Rattle.bson_values.specs.Cause.{unknown_variant}
 use Rattle.bson_laws.specs.Judged.{Reading, refused}
 
 -- the variant that has the name

@@ -1,13 +1,13 @@
 // Values without a shape.
 ghost use Rattle.std.specs.Prelude.{◌≡◌, true, Ok};
-ghost use Rattle.bson_base.specs.declared.element_type.ElementType.TheVariants as kinds;
+ghost use Rattle.bson_kinds.specs.declared.element_type.ElementType.TheVariants as kinds;
 ghost use Rattle.bson_rawdoc.specs.DocumentView.{array_bytes, document_bytes};
 ghost use Rattle.bson_rawdoc.specs.Node.{node_in, inner_node};
 ghost use Rattle.bson_rawdoc.specs.RawValue.{value_in};
 ghost use Rattle.bson_rawdoc.specs.ValueView.{raw_value};
 ghost use Rattle.bson_datum.specs.MarkedView.{marked};
-ghost use Rattle.bson_datum.specs.Value as values;
-ghost use Rattle.bson_datum.specs.Value.{no_entries};
+ghost use Rattle.bson_values.specs.Value as values;
+ghost use Rattle.bson_values.specs.Value.{no_entries};
 ghost use Rattle.bson_laws.specs.ReadsLeaf as laws;
 ghost use Rattle.bson_leaves.specs.Any.{any_at, any_within, is_opened, any_items_at, any_entries_at};
 ghost use Rattle.bson_texts.specs.ListsMarked.{items_marked, entries_marked};
@@ -15,10 +15,11 @@ ghost use Rattle.bson_leaves.specs.Next.{IsNextElement};
 ghost use Rattle.bson_met.specs.Gives.{Reaches};
 
 use crate::entries::Entries;
-use bson_datum::{ByteStr, Cause, Datum, Entry, Text};
+use bson_datum::{Datum, Entry};
 use bson_met::{Elements, Items, Met, Reading, Value, refused};
 use bson_rawdoc::{RawArray, RawBsonRef, RawDocument, RawElement, RawIter};
 use bson_shape::{Form, Leaf};
+use bson_values::{ByteStr, Cause, Text};
 use std::alloc::Global;
 
 /// The value at the leaf `any`.

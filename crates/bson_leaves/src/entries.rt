@@ -4,9 +4,9 @@ ghost use Rattle.bson_shape.specs.Leaf.{is_text};
 ghost use Rattle.bson_shape.specs.Makers.{is_text_key};
 ghost use Rattle.bson_shape.specs.ShapeView.{form_view};
 ghost use Rattle.bson_rawdoc.specs.Piece.{made};
-ghost use Rattle.bson_datum.specs.Marked.{contents};
+ghost use Rattle.bson_values.specs.Marked.{contents};
 ghost use Rattle.bson_datum.specs.MarkedView.{marked};
-ghost use Rattle.bson_datum.specs.Value as value;
+ghost use Rattle.bson_values.specs.Value as value;
 ghost use Rattle.bson_laws.specs.Containers.{reads_key};
 ghost use Rattle.bson_laws.specs.ReadsLeaf.{put_entry};
 ghost use Rattle.bson_met.specs.Gives.{Reaches};
@@ -15,11 +15,12 @@ ghost use Rattle.bson_leaves.specs.KeyValues.{key_value};
 ghost use Rattle.bson_texts.specs.ListsMarked.{entries_marked};
 
 use crate::unit::unit_of;
-use bson_datum::{Datum, Entry, Text};
+use bson_datum::{Datum, Entry};
 use bson_keys::Keys;
 use bson_met::{MetStr, Reading};
 use bson_shape::{Form, Leaf};
 use bson_texts::character;
+use bson_values::Text;
 use std::alloc::{AllocError, Global};
 use std::mem;
 

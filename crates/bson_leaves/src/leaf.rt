@@ -9,10 +9,11 @@ ghost use Rattle.bson_leaves.specs.Extended as leaves;
 ghost use Rattle.bson_texts.specs.Leaves.{number_as, reads_number, null_at};
 
 use crate::any::any_leaf;
-use bson_datum::{ByteStr, Cause, Datum, Text};
+use bson_datum::Datum;
 use bson_met::{Met, Reading, Value, refused};
 use bson_shape::Leaf;
 use bson_texts::{borrow_bytes, borrow_text, buffer, character_leaf, ignore, own_text};
+use bson_values::{ByteStr, Cause, Text};
 use std::alloc::Global;
 
 /// Whether serde's data model lacks the values of a leaf.

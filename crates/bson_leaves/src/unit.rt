@@ -6,10 +6,11 @@ ghost use Rattle.bson_laws.specs.Variants.{content_of};
 ghost use Rattle.bson_met.specs.Gives.{Reaches};
 ghost use Rattle.bson_leaves.specs.Named.{variant_named};
 
-use bson_datum::{Cause, Datum, Text};
+use bson_datum::Datum;
 use bson_met::{Reading, refused};
 use bson_shape::{VariantContent, VariantShape};
 use bson_slots::scan;
+use bson_values::{Cause, Text};
 use std::alloc::Global;
 
 /// The unit variant that a text names.

@@ -9,7 +9,7 @@ use Rattle.std.proofs.lemmas.List.{length-append}
 use Rattle.std.proofs.lemmas.Str.{IsUtf8-from_ascii, is_utf8-from_IsUtf8}
 use Rattle.std.proofs.lemmas.Str.Ascii.{IsAscii-nil, IsAscii-cons}
 use Rattle.bson_base.specs.Sound.{IsSound, ArePairsClean, AreTreesClean}
-use Rattle.bson_base.specs.Text.{Utf8, has_zero, begins_with_dollar, IsPlainName}
+use Rattle.bson_kinds.specs.Text.{Utf8, has_zero, begins_with_dollar, IsPlainName}
 use Rattle.bson_base.specs.Tree.{document, array, string, boolean, int32, int64, Pairs, no_pairs, pair, enc, elements, array_elements, pairs_depth, trees_depth}
 use Rattle.bson_base.proofs.Lengths.{length-int32, length-int64, length-text, length-document, length-array}
 use Rattle.bson_made.specs.Made.{row_name, row_fields, rows_from, rows_document, made}

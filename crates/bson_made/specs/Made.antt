@@ -1,7 +1,7 @@
 -- A document of rows.
 use Rattle.std.specs.Prelude.{ℕ, zero, suc, ◌++◌, true, pos, codes}
 use Rattle.std.specs.Fmt.{decimal}
-use Rattle.bson_base.specs.Text.{Utf8}
+use Rattle.bson_kinds.specs.Text.{Utf8}
 use Rattle.bson_base.specs.Tree.{Tree, document, array, string, boolean, int32, Pairs, no_pairs, pair, Trees, no_trees, tree}
 
 -- the name of the row of a number with these digits

@@ -1,6 +1,6 @@
 -- What a row's element is made of: what the proof of the call needs, and no definition.
 use Rattle.std.specs.Prelude.{ℕ, ◌+◌, [], ◌∷◌, ◌++◌}
-use Rattle.bson_base.specs.Text.{Bytes}
+use Rattle.bson_kinds.specs.Text.{Bytes}
 use Rattle.bson_base.specs.Tree.{le32}
 
 -- the bytes between the digits of the index and those of the name, by how many digits there are

@@ -1,13 +1,13 @@
 // A document of rows, made as its bytes.
 ghost use Rattle.std.specs.Prelude.{◌≡◌, ◌≤◌, ◌++◌, ◌∷◌, [], IfOk};
 ghost use Rattle.std.specs.Fmt.{decimal};
-ghost use Rattle.bson_base.specs.Kind.{byte};
+ghost use Rattle.bson_kinds.specs.Kind.{byte};
 ghost use Rattle.bson_base.specs.Tree.{document, le32, enclosed, element, enc, array_elements};
-ghost use Rattle.bson_base.specs.declared.element_type.ElementType.TheVariants.{EmbeddedDocument};
+ghost use Rattle.bson_kinds.specs.declared.element_type.ElementType.TheVariants.{EmbeddedDocument};
 ghost use Rattle.bson_made.specs.Made.{row_fields, rows_from, made};
 ghost use Rattle.bson_made.specs.Pieces.{between_digits};
 
-use bson_base::ElementType;
+use bson_kinds::ElementType;
 use std::alloc::{AllocError, Global};
 
 /// The bytes of a document of so many rows.

@@ -5,12 +5,12 @@ use Rattle.std.specs.Ordering.{int_eq}
 use Rattle.std.specs.Result.{IsErr}
 use Rattle.std.specs.Str.{is_utf8}
 use Rattle.std.proofs.lemmas.Bool.{cond-true}
-use Rattle.bson_base.specs.Outcome.{◌>>=◌, result_map}
-use Rattle.bson_base.specs.Text.{Bytes, Utf8}
+use Rattle.bson_kinds.specs.Outcome.{◌>>=◌, result_map}
+use Rattle.bson_kinds.specs.Text.{Bytes, Utf8}
 use Rattle.bson_base.specs.Tree as tree
 use Rattle.bson_base.specs.Tree.{Tree, Pairs}
-use Rattle.bson_base.specs.declared.element_type.ElementType.{ElementType}
-use Rattle.bson_base.specs.declared.element_type.ElementType.TheVariants as kinds
+use Rattle.bson_kinds.specs.declared.element_type.ElementType.{ElementType}
+use Rattle.bson_kinds.specs.declared.element_type.ElementType.TheVariants as kinds
 use Rattle.bson_rawdoc.specs.Envelope.{is_closed, inside}
 use Rattle.bson_rawdoc.specs.Extent.{two_texts_in}
 use Rattle.bson_rawdoc.specs.Node.{of_tree, of_bytes, Node, string, boolean, broken, too_deep, extended, Extended, regular_expression, db_pointer, javascript_code, symbol, javascript_code_with_scope, or_else, text_fault, fault, from_memory, one_level, tree_node, pair_nodes, extended_fault, opens, binary_node, or_broken, text_bytes, two_bytes, db_pointer_bytes, scoped_bytes, node_with, nodes_with, holding, closed_node, node_in, inner_node, value_node, mended}
@@ -22,11 +22,11 @@ use Rattle.bson_rawdoc.specs.Unjudged.{text_in, regex_of, db_pointer_in, code_an
 use Rattle.bson_rawdoc.specs.Walk.{walk}
 use Rattle.bson_rawdoc.specs.declared.raw.Error.{Error}
 use Rattle.bson_rawdoc.specs.declared.raw.Error.TheVariants.{NotUtf8, TextUnclosed, ScopeTotal, ValueUnclosed}
-use Rattle.bson_datum.specs.Cause as cause
+use Rattle.bson_values.specs.Cause as cause
 use Rattle.bson_laws.specs.Judged.{Reading, judged, with_level, faultless, refused}
 use Rattle.bson_laws.proofs.Mended.{other_fault, mended_fault}
-use Rattle.bson_datum.specs.declared.de.Fault.{Fault}
-use Rattle.bson_datum.specs.declared.stop.Stop.{Stop}
+use Rattle.bson_values.specs.declared.de.Fault.{Fault}
+use Rattle.bson_values.specs.declared.stop.Stop.{Stop}
 use Rattle.bson_met.specs.Gives.{Reaches}
 use Rattle.bson_met.specs.ValueView.{value_view}
 use Rattle.bson_met.specs.Whole.{HasTexts}

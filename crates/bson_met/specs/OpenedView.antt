@@ -4,7 +4,7 @@ use Rattle.std.specs.Prelude.{ℕ, pos, true, false, codes, [], ◌∷◌}
 use Rattle.bson_base.specs.BsonView.{pairs_of}
 use Rattle.bson_base.specs.Instant.{millis}
 use Rattle.bson_base.specs.Tree as trees
-use Rattle.bson_base.specs.declared.element_type.ElementType.TheVariants.{EmbeddedDocument}
+use Rattle.bson_kinds.specs.declared.element_type.ElementType.TheVariants.{EmbeddedDocument}
 use Rattle.bson_rawdoc.specs.DocumentView.{document_bytes}
 use Rattle.bson_base.specs.Made.{digits, number_text, base64_text}
 use Rattle.bson_rawdoc.specs.Node as node

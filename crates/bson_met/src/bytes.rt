@@ -1,13 +1,13 @@
 ghost use Rattle.std.specs.Prelude.{◌≡◌, true, IfOk};
 ghost use Rattle.bson_rawdoc.specs.Node as node;
 ghost use Rattle.bson_rawdoc.specs.Piece.{borrowed};
-ghost use Rattle.bson_datum.specs.MarkedView.{bytes_piece};
+ghost use Rattle.bson_values.specs.Pieces.{bytes_piece};
 ghost use Rattle.bson_laws.specs.Taken.{borrow, owned_under_mark};
 ghost use Rattle.bson_met.specs.Gives.{Reaches};
 ghost use Rattle.bson_met.specs.PieceView.{met_bytes};
 
 use crate::reading::{Reading, refused};
-use bson_datum::{ByteStr, Cause};
+use bson_values::{ByteStr, Cause};
 use std::alloc::{AllocError, Global};
 
 /// A byte string that a reader meets.

@@ -3,7 +3,7 @@ ghost use Rattle.std.specs.Prelude.{◌≡◌};
 ghost use Rattle.std.specs.Option.{option_map};
 ghost use Rattle.bson_base.specs.BsonView.{pairs_of, trees_of};
 ghost use Rattle.bson_base.specs.Tree as trees;
-ghost use Rattle.bson_base.specs.declared.element_type.ElementType.TheVariants as kinds;
+ghost use Rattle.bson_kinds.specs.declared.element_type.ElementType.TheVariants as kinds;
 ghost use Rattle.bson_rawdoc.specs.DocumentView.{array_bytes, document_bytes};
 ghost use Rattle.bson_rawdoc.specs.Node as node;
 ghost use Rattle.bson_rawdoc.specs.Node.{of_tree, from_memory, inner_node, made_document, one_level, pair_nodes, tree_nodes};
@@ -18,8 +18,8 @@ ghost use Rattle.bson_met.specs.OpenedView.{opened_nodes};
 use crate::opened::Opened;
 use crate::reading::{Reading, refused};
 use bson_base::{Bson, Document};
-use bson_datum::Cause;
 use bson_rawdoc::{RawArray, RawDocument};
+use bson_values::Cause;
 use std::alloc::Global;
 
 /// A document that a reader meets.

@@ -13,8 +13,8 @@ use crate::opened::{Extended, First, Made, Opened, Place};
 use crate::reading::{Reading, refused};
 use crate::text::MetStr;
 use bson_base::Iter;
-use bson_datum::Cause;
 use bson_rawdoc::RawIter;
+use bson_values::Cause;
 use std::alloc::Global;
 use std::marker::Model;
 

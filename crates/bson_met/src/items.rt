@@ -11,8 +11,8 @@ use crate::met::Met;
 use crate::opened::Made;
 use crate::reading::{Reading, refused};
 use bson_base::Bson;
-use bson_datum::Cause;
 use bson_rawdoc::RawIter;
+use bson_values::Cause;
 use std::alloc::Global;
 use std::marker::Model;
 

@@ -3,7 +3,7 @@ ghost use Rattle.std.specs.Prelude.{◌≡◌, true, false, Ok, string_bytes};
 ghost use Rattle.std.specs.Str.{is_utf8};
 ghost use Rattle.bson_base.specs.BsonView.{tree_of, pairs_of};
 ghost use Rattle.bson_base.specs.Tree as trees;
-ghost use Rattle.bson_base.specs.declared.element_type.ElementType.TheVariants as kinds;
+ghost use Rattle.bson_kinds.specs.declared.element_type.ElementType.TheVariants as kinds;
 ghost use Rattle.bson_rawdoc.specs.DocumentView.{document_bytes};
 ghost use Rattle.bson_rawdoc.specs.Node.{of_tree, from_memory, node_in, inner_node, value_node, one_level, pair_nodes, tree_node};
 ghost use Rattle.bson_rawdoc.specs.JsonKinds.{is_of_json};
@@ -25,8 +25,8 @@ use crate::reading::{Reading, refused};
 use crate::text::{MetStr, MetText, known};
 use crate::value::Value;
 use bson_base::{Bson, Document};
-use bson_datum::Cause;
 use bson_rawdoc::{RawBsonRef, RawDocument, RawElement};
+use bson_values::Cause;
 use std::alloc::Global;
 
 /// The value of an element.

@@ -17,8 +17,8 @@ use crate::reading::{Reading, refused};
 use crate::text::{MetText, known};
 use crate::value::Value;
 use bson_base::Bson;
-use bson_datum::Cause;
 use bson_rawdoc::{RawElement, Unjudged};
+use bson_values::Cause;
 use std::alloc::Global;
 
 /// A value whose texts are mended, wherever it comes from.

@@ -1,6 +1,6 @@
 ghost use Rattle.std.specs.Prelude.{◌≡◌, false, IfSome};
 ghost use Rattle.bson_base.specs.BsonView.{tree_of};
-ghost use Rattle.bson_base.specs.declared.element_type.ElementType.TheVariants as kinds;
+ghost use Rattle.bson_kinds.specs.declared.element_type.ElementType.TheVariants as kinds;
 ghost use Rattle.bson_rawdoc.specs.DocumentView.{document_bytes};
 ghost use Rattle.bson_rawdoc.specs.Node as node;
 ghost use Rattle.bson_rawdoc.specs.Node.{from_memory, node_in, inner_node, tree_node};
@@ -21,7 +21,8 @@ use crate::opened::{Made, Names, Scope};
 use crate::reading::Reading;
 use crate::scalar::{Scalar, scalar_in};
 use crate::value::Value;
-use bson_base::{Bson, Document, ElementType};
+use bson_base::{Bson, Document};
+use bson_kinds::ElementType;
 use bson_rawdoc::{RawDocument, RawElement};
 use std::alloc::Global;
 use std::marker::Model;

@@ -8,7 +8,8 @@ ghost use Rattle.bson_met.specs.PieceView.{met_text};
 use crate::bytes::MetBytes;
 use crate::met::Met;
 use crate::text::MetText;
-use bson_base::{BinarySubtype, DateTime, Document, ElementType, ObjectId, Timestamp};
+use bson_base::{BinarySubtype, DateTime, Document, ObjectId, Timestamp};
+use bson_kinds::ElementType;
 use bson_rawdoc::RawDocument;
 
 /// A value of a kind that serde's data model lacks.

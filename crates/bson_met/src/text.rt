@@ -2,7 +2,7 @@ ghost use Rattle.std.specs.Prelude.{if◌then◌else◌, ◌≡◌, true, string
 ghost use Rattle.std.specs.Str.{is_utf8};
 ghost use Rattle.bson_rawdoc.specs.Node.{mended_text};
 ghost use Rattle.bson_rawdoc.specs.Piece.{borrowed, made};
-ghost use Rattle.bson_datum.specs.MarkedView.{text_piece};
+ghost use Rattle.bson_values.specs.Pieces.{text_piece};
 ghost use Rattle.bson_laws.specs.Taken.{borrow};
 ghost use Rattle.bson_met.specs.Gives.{Reaches};
 ghost use Rattle.bson_met.specs.PieceView.{str_piece, met_text};
@@ -10,7 +10,7 @@ ghost use Rattle.bson_met.specs.PieceView.{str_piece, met_text};
 use crate::bytes::MetBytes;
 use crate::reading::{Reading, refused};
 use bson_base::{BinarySubtype, DateTime, ObjectId, base64_text, digits, number_text};
-use bson_datum::{Cause, Text};
+use bson_values::{Cause, Text};
 use std::alloc::{AllocError, Global};
 
 /// A text that is whole somewhere, as a key is.

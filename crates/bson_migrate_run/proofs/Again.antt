@@ -6,8 +6,8 @@ use Rattle.std.proofs.lemmas.Bool.{le-ltb, ltb-false}
 use Rattle.std.proofs.lemmas.Bool.Decides.{Decides-int_eq}
 use Rattle.std.proofs.lemmas.List.{length-append}
 use Rattle.std.proofs.lemmas.List.Elements.{All-take, All-drop}
-use Rattle.bson_base.specs.Text.{Bytes, AreBytes}
-use Rattle.bson_base.specs.declared.element_type.ElementType.TheVariants.{EmbeddedDocument}
+use Rattle.bson_kinds.specs.Text.{Bytes, AreBytes}
+use Rattle.bson_kinds.specs.declared.element_type.ElementType.TheVariants.{EmbeddedDocument}
 use Rattle.bson_rawdoc.specs.Cut.{Cut, with_piece, length_within, piece_length, cut_at, cut_within, cut_from, cut}
 use Rattle.bson_rawdoc.specs.Envelope.{envelope, is_closed}
 use Rattle.bson_rawdoc.specs.Extent.{extent}

@@ -3,10 +3,10 @@ use Rattle.std.proofs.Common.{◌≡◌, ℕ, List, [], ◌∷◌, ◌++◌, cod
 use Rattle.std.specs.Prelude.{◌≢◌}
 use Rattle.std.specs.Fmt.{decimal}
 use Rattle.std.proofs.lemmas.List.{append_assoc}
-use Rattle.bson_base.specs.Text.{Bytes, Utf8}
-use Rattle.bson_datum.specs.ErrorView.{read_failure, write_failure}
-use Rattle.bson_datum.specs.Printed.{printed_failure, printed_read_fault, printed_write_fault}
-use Rattle.bson_datum.specs.Refusal.{ReadFault, Failure}
+use Rattle.bson_kinds.specs.Text.{Bytes, Utf8}
+use Rattle.bson_values.specs.ErrorView.{read_failure, write_failure}
+use Rattle.bson_values.specs.Printed.{printed_failure, printed_read_fault, printed_write_fault}
+use Rattle.bson_values.specs.Refusal.{ReadFault, Failure}
 use Rattle.bson_shape.specs.Form.{Form}
 use Rattle.bson_tree_recast.specs.declared.error.RecastError.{RecastError}
 use Rattle.bson_tree_recast.specs.declared.error.RecastError.TheVariants.{Read, Write, NoMemory}

@@ -2,7 +2,7 @@
 use Rattle.std.proofs.Common.{◌≡◌, ℕ, zero, suc, ◌+◌, ◌≤◌, List, [], ◌∷◌, ◌++◌, length, drop, Option, Some, None, Ok, refl, ap, sym, subst, ◌∙◌, arith, append-nil}
 use Rattle.std.proofs.lemmas.List.{append_assoc, length-drop}
 use Rattle.std.specs.Prelude.{◌≢◌}
-use Rattle.bson_base.specs.Text.{Bytes}
+use Rattle.bson_kinds.specs.Text.{Bytes}
 use Rattle.bson_rawdoc.specs.Cut.{Cut, whole, with_piece, piece_length, cut_at, cut_within, cut_from, cut}
 use Rattle.bson_rawdoc.proofs.Pieces.{piece_fits}
 use Rattle.bson_shape.specs.Form.{Form}

@@ -1,6 +1,6 @@
 -- What must be written for a file settles the status.
 use Rattle.std.proofs.Common.{◌≡◌, ap, sym}
-use Rattle.bson_base.specs.Text.{Bytes}
+use Rattle.bson_kinds.specs.Text.{Bytes}
 use Rattle.bson_program.proofs.Answered.{Settles}
 use Rattle.bson_program.proofs.Inputs.{input_settles}
 use Rattle.bson_migrate_run.specs.declared.status.MigrateStatus.{MigrateStatus}

@@ -1,8 +1,8 @@
 -- The lines that are printed. Source: this library's own programs.
 use Rattle.std.specs.Prelude.{◌≡◌, ℕ, List, [], ◌∷◌, ◌++◌, false, codes}
 use Rattle.std.specs.Fmt.{decimal}
-use Rattle.bson_base.specs.Text.{Utf8}
-use Rattle.bson_datum.specs.Refusal.{WriteFault, Failure}
+use Rattle.bson_kinds.specs.Text.{Utf8}
+use Rattle.bson_values.specs.Refusal.{WriteFault, Failure}
 use Rattle.bson_recast_run.specs.Due.{read_refused_line, write_refused_line}
 use Rattle.bson_tree_recast.specs.Printed.{recast_error_text}
 use Rattle.bson_program.specs.OneShape.{Usage}

@@ -1,7 +1,7 @@
 -- The program: the rows of its table of answers for a file that was read whole, and what it shares with every other. Source: this library's own programs.
 use Rattle.std.specs.Prelude.{◌≡◌, ℕ, List, [], ◌∷◌}
 use Rattle.std.specs.Io.KnownBytes.{Appends}
-use Rattle.bson_base.specs.Text.{Bytes, Utf8}
+use Rattle.bson_kinds.specs.Text.{Bytes, Utf8}
 use Rattle.bson_shape.specs.Form.{Form}
 use Rattle.bson_program.specs.Input.{InputEnds, OnInput, input_status}
 use Rattle.bson_program.specs.OneShape.{one_shape}

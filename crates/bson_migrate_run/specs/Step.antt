@@ -1,6 +1,6 @@
 -- A migration under way: what the proof of its loop needs, and no definition. Source: this library's own programs.
 use Rattle.std.specs.Prelude.{◌≡◌, ◌+◌, ℕ, List, [], ◌++◌, length}
-use Rattle.bson_base.specs.Text.{Bytes}
+use Rattle.bson_kinds.specs.Text.{Bytes}
 use Rattle.bson_rawdoc.specs.Cut.{Cut, cut}
 use Rattle.bson_shape.specs.Form.{Form}
 use Rattle.bson_tree_recast.specs.Recast.{Recast}

@@ -1,7 +1,7 @@
 // The run: the words are judged, the input is read to its end, its documents are migrated, and all is written.
 ghost use Rattle.std.specs.Prelude.{◌≡◌, ◌≤◌, ◌⊎◌, List, [], ◌∷◌, length, map, string_bytes, IfOk, Some};
 ghost use Rattle.bson_base.specs.Sound.{max_bytes};
-ghost use Rattle.bson_base.specs.Text.{Bytes};
+ghost use Rattle.bson_kinds.specs.Text.{Bytes};
 ghost use Rattle.bson_shape.specs.Form.{Form};
 ghost use Rattle.bson_shape.specs.Makers.{IsShape};
 ghost use Rattle.bson_shape.specs.Notation.{text};

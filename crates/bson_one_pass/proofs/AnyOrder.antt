@@ -4,10 +4,10 @@ use Rattle.std.specs.Prelude.{IfSome}
 use Rattle.std.specs.Str.{bytes_eq}
 use Rattle.std.proofs.Math.Seq.{drop-cons}
 use Rattle.std.proofs.lemmas.List.{append_assoc, append-nil, drop_all}
-use Rattle.bson_base.specs.Outcome.{◌>>=◌}
-use Rattle.bson_base.specs.Text.{Bytes, Utf8, has_zero}
+use Rattle.bson_kinds.specs.Outcome.{◌>>=◌}
+use Rattle.bson_kinds.specs.Text.{Bytes, Utf8, has_zero}
 use Rattle.bson_base.specs.Tree.{Pairs, null, kind, enc, element}
-use Rattle.bson_base.specs.declared.element_type.ElementType.TheVariants.{Null}
+use Rattle.bson_kinds.specs.declared.element_type.ElementType.TheVariants.{Null}
 use Rattle.bson_rawdoc.specs.Node.{Node, Nodes, node_in, nodes_with}
 use Rattle.bson_rawdoc.specs.Piece.{Piece}
 use Rattle.bson_rawdoc.specs.Walk.{Element, Walk, then_walk}
@@ -16,8 +16,8 @@ use Rattle.bson_shape.specs.Makers.{AreDistinct, has_name, has_repeat}
 use Rattle.bson_shape.specs.ShapeView.{fields_of, fields_nodes}
 use Rattle.bson_shape.specs.declared.shape.FieldShape.{FieldShape}
 use Rattle.bson_shape.proofs.Names.{field_names_are}
-use Rattle.bson_datum.specs.Marked.{Marked, field_contents}
-use Rattle.bson_datum.specs.Value.{none}
+use Rattle.bson_values.specs.Marked.{Marked, field_contents}
+use Rattle.bson_values.specs.Value.{none}
 use Rattle.bson_laws.specs.Judged.{ignores}
 use Rattle.bson_laws.specs.Scopes.{laid, laid_fields}
 use Rattle.bson_laws.specs.declared.origin.Reader.{Reader}

@@ -1,20 +1,20 @@
 -- Documents and arrays that take a level, and what is in them.
 use Rattle.std.proofs.Common.{◌≡◌, ℕ, suc, [], ◌++◌, true, Option, Some, None, Ok, Err, refl, ap, sym, subst, ◌∙◌}
 use Rattle.std.specs.Option.{option_map}
-use Rattle.bson_base.specs.Outcome.{◌>>=◌, result_map}
-use Rattle.bson_base.specs.Reserved.{reserved_kind}
-use Rattle.bson_base.specs.Text.{Bytes, Utf8}
+use Rattle.bson_kinds.specs.Outcome.{◌>>=◌, result_map}
+use Rattle.bson_kinds.specs.Reserved.{reserved_kind}
+use Rattle.bson_kinds.specs.Text.{Bytes, Utf8}
 use Rattle.bson_base.specs.Tree as tree
 use Rattle.bson_base.specs.Tree.{Tree, Trees, Pairs, enc, kind, enclosed, elements, array_elements}
-use Rattle.bson_base.specs.declared.element_type.ElementType.{ElementType}
-use Rattle.bson_base.specs.declared.element_type.ElementType.TheVariants as kinds
+use Rattle.bson_kinds.specs.declared.element_type.ElementType.{ElementType}
+use Rattle.bson_kinds.specs.declared.element_type.ElementType.TheVariants as kinds
 use Rattle.bson_rawdoc.specs.Envelope.{inside, is_closed}
 use Rattle.bson_rawdoc.specs.Piece.{made}
 use Rattle.bson_rawdoc.specs.Node.{inner_node, node_in, nodes_with}
 use Rattle.bson_rawdoc.specs.Walk.{walk}
 use Rattle.bson_shape.specs.Form.{UnknownFields, Form, sequence, structure, Fields}
-use Rattle.bson_datum.specs.Marked.{contents, item_contents, field_contents}
-use Rattle.bson_datum.specs.Value as value
+use Rattle.bson_values.specs.Marked.{contents, item_contents, field_contents}
+use Rattle.bson_values.specs.Value as value
 use Rattle.bson_laws.specs.Containers.{reads_items}
 use Rattle.bson_laws.specs.Judged.{Reading}
 use Rattle.bson_laws.specs.Slots.{fill, finish}

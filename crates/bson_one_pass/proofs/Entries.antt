@@ -2,11 +2,11 @@
 use Rattle.std.proofs.Common.{◌≡◌, ℕ, suc, List, [], ◌∷◌, ◌++◌, true, false, cond, Option, Ok, Bor, refl, ap, sym, subst, ◌∙◌}
 use Rattle.std.specs.Str.{bytes_eq}
 use Rattle.std.proofs.lemmas.List.{append_assoc, append-nil}
-use Rattle.bson_base.specs.Text.{Bytes, Utf8, has_zero}
+use Rattle.bson_kinds.specs.Text.{Bytes, Utf8, has_zero}
 use Rattle.bson_base.specs.Tree as tree
 use Rattle.bson_base.specs.Tree.{Tree, Pairs, no_pairs, pair, enc, kind, element, elements, enclosed}
-use Rattle.bson_base.specs.declared.element_type.ElementType.TheVariants as kinds
-use Rattle.bson_base.proofs.Tests.{not_taken}
+use Rattle.bson_kinds.specs.declared.element_type.ElementType.TheVariants as kinds
+use Rattle.bson_kinds.proofs.Tests.{not_taken}
 use Rattle.bson_rawdoc.specs.Node.{Node, Nodes, ended, then_node, inner_node, node_in, nodes_with}
 use Rattle.bson_rawdoc.specs.Piece.{borrowed, made}
 use Rattle.bson_rawdoc.specs.Walk.{Element, Walk, then_walk, walk}
@@ -14,10 +14,10 @@ use Rattle.bson_shape.specs.Form as form
 use Rattle.bson_shape.specs.Form.{Form, leaf}
 use Rattle.bson_shape.specs.declared.leaf.Leaf.{Leaf}
 use Rattle.bson_shape.specs.declared.leaf.Leaf.TheVariants as leaves
-use Rattle.bson_datum.specs.Marked.{Marked, MarkedEntries, contents, entry_contents}
-use Rattle.bson_datum.specs.Same.{same}
-use Rattle.bson_datum.specs.Value as value
-use Rattle.bson_datum.specs.Value.{str, no_entries, entry}
+use Rattle.bson_values.specs.Marked.{Marked, MarkedEntries, contents, entry_contents}
+use Rattle.bson_values.specs.Same.{same}
+use Rattle.bson_values.specs.Value as value
+use Rattle.bson_values.specs.Value.{str, no_entries, entry}
 use Rattle.bson_laws.specs.Containers.{reads_key, reads_entries}
 use Rattle.bson_laws.specs.ReadsLeaf.{put_entry}
 use Rattle.bson_laws.specs.Spell.{spell, spell_entries}

@@ -2,13 +2,13 @@
 use Rattle.std.proofs.Common.{◌≡◌, ℕ, List, [], ◌∷◌, ◌++◌, true, false, Option, Some, None, Ok, refl, ap, sym, subst, ◌∙◌}
 use Rattle.std.specs.Str.{bytes_eq}
 use Rattle.std.proofs.lemmas.List.{append_assoc, append-nil}
-use Rattle.bson_base.specs.Text.{Bytes, Utf8}
+use Rattle.bson_kinds.specs.Text.{Bytes, Utf8}
 use Rattle.bson_base.specs.Tree.{Pairs, no_pairs, pair, enc, kind, element, elements}
 use Rattle.bson_rawdoc.specs.Node.{Node, Nodes, ended, then_node}
 use Rattle.bson_rawdoc.specs.Piece.{Piece}
 use Rattle.bson_shape.specs.Form.{UnknownFields, dropped}
-use Rattle.bson_datum.specs.Marked.{Marked, MarkedFields, field_contents}
-use Rattle.bson_datum.specs.Value.{no_field_values, field_value}
+use Rattle.bson_values.specs.Marked.{Marked, MarkedFields, field_contents}
+use Rattle.bson_values.specs.Value.{no_field_values, field_value}
 use Rattle.bson_laws.specs.Judged.{ignores}
 use Rattle.bson_laws.specs.Slots.{Slot, Slots, put_at, finish}
 use Rattle.bson_laws.specs.Spell.{spell_fields}

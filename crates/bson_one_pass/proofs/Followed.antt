@@ -1,9 +1,9 @@
 -- Values at references and at definitions: they are recast as at what these mean.
 use Rattle.std.proofs.Common.{◌≡◌, ℕ, [], Option, Some, ap, sym, subst}
 use Rattle.std.specs.Prelude.{IfSome}
-use Rattle.bson_base.specs.Text.{Bytes, Utf8}
+use Rattle.bson_kinds.specs.Text.{Bytes, Utf8}
 use Rattle.bson_base.specs.Tree.{Tree}
-use Rattle.bson_base.specs.declared.element_type.ElementType.{ElementType}
+use Rattle.bson_kinds.specs.declared.element_type.ElementType.{ElementType}
 use Rattle.bson_rawdoc.specs.Node.{Node, node_in}
 use Rattle.bson_shape.specs.Form.{Form, sequence, reference, definitions, Fields}
 use Rattle.bson_shape.specs.ShapeView.{nodes}

@@ -1,8 +1,8 @@
 -- Newtypes, and enums of unit variants.
 use Rattle.std.proofs.Common.{◌≡◌, ℕ, List, [], ◌∷◌, Bool, true, false, cond, Option, Some, Ok, Err, refl, ap, string_bytes}
 use Rattle.std.specs.Str.{bytes_eq, is_utf8}
-use Rattle.bson_base.specs.Outcome.{result_map}
-use Rattle.bson_base.specs.Text.{Utf8}
+use Rattle.bson_kinds.specs.Outcome.{result_map}
+use Rattle.bson_kinds.specs.Text.{Utf8}
 use Rattle.bson_base.specs.Tree as tree
 use Rattle.bson_rawdoc.specs.Node.{Node, string}
 use Rattle.bson_rawdoc.specs.Piece.{borrowed, made}
@@ -11,8 +11,8 @@ use Rattle.bson_shape.specs.Makers.{is_reserved_newtype, is_unit}
 use Rattle.bson_shape.specs.ShapeView as shape_view
 use Rattle.bson_shape.specs.ShapeView.{variants_of}
 use Rattle.bson_shape.specs.declared.shape.VariantShape.{VariantShape}
-use Rattle.bson_datum.specs.Marked.{Marked, contents}
-use Rattle.bson_datum.specs.Value as value
+use Rattle.bson_values.specs.Marked.{Marked, contents}
+use Rattle.bson_values.specs.Value as value
 use Rattle.bson_laws.specs.Judged.{Reading}
 use Rattle.bson_laws.specs.Settled.{settled_variants, settled_content}
 use Rattle.bson_laws.specs.Scopes.{laid_variants, laid_content}

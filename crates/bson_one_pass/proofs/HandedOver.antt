@@ -1,13 +1,13 @@
 -- Values that are read and written by themselves.
 use Rattle.std.proofs.Common.{◌≡◌, ℕ, [], ◌++◌, false, Option, Ok, Err, refl, ap, sym, subst, ◌∙◌}
-use Rattle.bson_base.specs.Text.{Bytes}
+use Rattle.bson_kinds.specs.Text.{Bytes}
 use Rattle.bson_base.specs.Tree.{Tree, enc}
-use Rattle.bson_base.specs.declared.element_type.ElementType.{ElementType}
+use Rattle.bson_kinds.specs.declared.element_type.ElementType.{ElementType}
 use Rattle.bson_rawdoc.specs.Node.{Node}
 use Rattle.bson_shape.specs.Form.{Form}
-use Rattle.bson_datum.specs.Marked.{contents}
+use Rattle.bson_values.specs.Marked.{contents}
 use Rattle.bson_datum.specs.MarkedView.{marked}
-use Rattle.bson_datum.specs.Value.{kind_as}
+use Rattle.bson_values.specs.Value.{kind_as}
 use Rattle.bson_datum.specs.View.{view}
 use Rattle.bson_datum.specs.declared.datum.Datum.{Datum}
 use Rattle.bson_datum.proofs.Marks.{marked-contents}

@@ -3,16 +3,16 @@ use Rattle.std.proofs.Common.{◌≡◌, ℕ, suc, ◌++◌, Option, Some, None,
 use Rattle.std.specs.Fmt.{decimal}
 use Rattle.std.specs.Option.{option_map}
 use Rattle.std.proofs.lemmas.List.{append_assoc, append-nil}
-use Rattle.bson_base.specs.Outcome.{◌>>=◌, result_map}
-use Rattle.bson_base.specs.Text.{Bytes, Utf8}
+use Rattle.bson_kinds.specs.Outcome.{◌>>=◌, result_map}
+use Rattle.bson_kinds.specs.Text.{Bytes, Utf8}
 use Rattle.bson_base.specs.Tree.{Tree, Trees, no_trees, tree, enc, kind, element, array_elements}
 use Rattle.bson_rawdoc.specs.Node.{Node, Nodes, then_node, node_in, nodes_with}
 use Rattle.bson_rawdoc.specs.Piece.{Piece, borrowed}
 use Rattle.bson_rawdoc.specs.Walk.{Element, Walk, then_walk}
 use Rattle.bson_shape.specs.Form.{Form}
-use Rattle.bson_datum.specs.Marked.{Marked, MarkedItems, contents, item_contents}
-use Rattle.bson_datum.specs.Refusal.{under_index}
-use Rattle.bson_datum.specs.Value.{item}
+use Rattle.bson_values.specs.Marked.{Marked, MarkedItems, contents, item_contents}
+use Rattle.bson_values.specs.Refusal.{under_index}
+use Rattle.bson_values.specs.Value.{item}
 use Rattle.bson_laws.specs.Containers.{reads_items}
 use Rattle.bson_laws.specs.Judged.{Reading}
 use Rattle.bson_laws.specs.Spell.{Writing, spell, spell_items}

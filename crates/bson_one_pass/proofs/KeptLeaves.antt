@@ -3,22 +3,22 @@ use Rattle.std.proofs.Common.{◌≡◌, ℕ, ℤ, pos, negsuc, w32, w64, FitsSi
 use Rattle.std.proofs.lemmas.Int.{ints}
 use Rattle.std.proofs.lemmas.List.{length-drop, take-append-drop}
 use Rattle.bson_base.specs.Sound.{IsClean}
-use Rattle.bson_base.specs.Text.{AreBytes, Bytes}
+use Rattle.bson_kinds.specs.Text.{AreBytes, Bytes}
 use Rattle.bson_base.specs.Tree as tree
 use Rattle.bson_base.specs.Tree.{Tree, kind, enc, depth}
-use Rattle.bson_base.specs.declared.element_type.ElementType.{ElementType}
-use Rattle.bson_base.specs.declared.element_type.ElementType.TheVariants as kinds
+use Rattle.bson_kinds.specs.declared.element_type.ElementType.{ElementType}
+use Rattle.bson_kinds.specs.declared.element_type.ElementType.TheVariants as kinds
 use Rattle.bson_rawdoc.specs.Node.{from_input, node_in, tree_node}
 use Rattle.bson_rawdoc.specs.Numbers.{int32_in, int64_in, uint32_in}
 use Rattle.bson_rawdoc.specs.Piece.{borrowed, made}
 use Rattle.bson_shape.specs.Form.{Form, leaf}
 use Rattle.bson_shape.specs.declared.leaf.Leaf.{Leaf}
 use Rattle.bson_shape.specs.declared.leaf.Leaf.TheVariants as leaves
-use Rattle.bson_datum.specs.Marked.{Marked, contents}
-use Rattle.bson_datum.specs.Refusal.{here, unsigned_exceeds}
-use Rattle.bson_datum.specs.Value as value
-use Rattle.bson_datum.specs.Value.{str, i32, i64, in_range}
-use Rattle.bson_datum.specs.Cause.{out_of_range}
+use Rattle.bson_values.specs.Marked.{Marked, contents}
+use Rattle.bson_values.specs.Refusal.{here, unsigned_exceeds}
+use Rattle.bson_values.specs.Value as value
+use Rattle.bson_values.specs.Value.{str, i32, i64, in_range}
+use Rattle.bson_values.specs.Cause.{out_of_range}
 use Rattle.bson_laws.specs.Datum.{datum, sorted_tree, uuid_datum}
 use Rattle.bson_laws.specs.Judged.{refused}
 use Rattle.bson_laws.specs.CompactReads.{reads}

@@ -2,15 +2,15 @@
 use Rattle.std.proofs.Common.{◌≡◌, ℕ, zero, suc, [], Bool, true, false, cond, Option, Some, None, Ok, Err, refl, ap, sym, subst, ◌∙◌}
 use Rattle.std.specs.Prelude.{IfSome}
 use Rattle.std.specs.Str.{bytes_eq}
-use Rattle.bson_base.specs.Text.{Bytes, Utf8}
+use Rattle.bson_kinds.specs.Text.{Bytes, Utf8}
 use Rattle.bson_base.specs.Tree.{Tree}
-use Rattle.bson_base.specs.declared.element_type.ElementType.{ElementType}
+use Rattle.bson_kinds.specs.declared.element_type.ElementType.{ElementType}
 use Rattle.bson_rawdoc.specs.Node.{Node, node_in, inner_node, value_node}
 use Rattle.bson_rawdoc.specs.RawValue.{RawValue}
 use Rattle.bson_shape.specs.Form.{Form, lossy, Fields, no_fields, field}
 use Rattle.bson_shape.specs.Guarded.{count}
 use Rattle.bson_shape.specs.ShapeView.{fields_of}
-use Rattle.bson_datum.specs.Marked.{Marked, contents}
+use Rattle.bson_values.specs.Marked.{Marked, contents}
 use Rattle.bson_laws.specs.Judged.{Reading}
 use Rattle.bson_laws.specs.Owned.{IsOwned, AreFieldsOwned}
 use Rattle.bson_laws.specs.Scopes.{meaning, meanings_of, laid}

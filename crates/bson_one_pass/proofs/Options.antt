@@ -1,11 +1,11 @@
 -- Values at options that are no null.
 use Rattle.std.proofs.Common.{◌≡◌, ℕ, zero, suc, [], Bool, true, false, cond, Option, Result, Ok, Err, refl, sym, subst}
 use Rattle.std.specs.Prelude.{get_or, drop}
-use Rattle.bson_base.specs.Outcome.{result_map}
-use Rattle.bson_base.specs.Text.{Bytes}
+use Rattle.bson_kinds.specs.Outcome.{result_map}
+use Rattle.bson_kinds.specs.Text.{Bytes}
 use Rattle.bson_base.specs.Tree.{Tree}
-use Rattle.bson_base.specs.declared.element_type.ElementType.{ElementType}
-use Rattle.bson_base.specs.declared.element_type.ElementType.TheVariants as kinds
+use Rattle.bson_kinds.specs.declared.element_type.ElementType.{ElementType}
+use Rattle.bson_kinds.specs.declared.element_type.ElementType.TheVariants as kinds
 use Rattle.bson_rawdoc.specs.Envelope.{is_closed}
 use Rattle.bson_rawdoc.specs.Extent.{two_texts_in}
 use Rattle.bson_rawdoc.specs.Node.{of_bytes, Node, null, string, boolean, broken, opens, regular_expression, db_pointer, javascript_code, symbol, javascript_code_with_scope, binary_node, or_broken, text_bytes, two_bytes, db_pointer_bytes, scoped_bytes, node_with, closed_node, holding, nodes_with, too_deep, node_in}
@@ -17,8 +17,8 @@ use Rattle.bson_rawdoc.specs.Walk.{walk}
 use Rattle.bson_rawdoc.specs.declared.raw.Error.{Error}
 use Rattle.bson_rawdoc.specs.declared.raw.Error.TheVariants.{ValueUnclosed}
 use Rattle.bson_shape.specs.Form.{Form, optional}
-use Rattle.bson_datum.specs.Marked.{Marked, contents}
-use Rattle.bson_datum.specs.Value as value
+use Rattle.bson_values.specs.Marked.{Marked, contents}
+use Rattle.bson_values.specs.Value as value
 use Rattle.bson_laws.specs.Judged.{Reading}
 use Rattle.bson_laws.specs.Spell.{spell}
 use Rattle.bson_one_pass.specs.ReadsUnrolled.{reads}

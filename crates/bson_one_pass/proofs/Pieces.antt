@@ -2,12 +2,12 @@
 use Rattle.std.proofs.Common.{◌≡◌, ℕ, ◌+◌, ◌-◌, ◌<◌, ◌≤◌, [], ◌∷◌, ◌++◌, length, take, drop, Option, Some, None, subst, ap, sym, ◌∙◌, arith}
 use Rattle.std.proofs.lemmas.List.{append_assoc, length-append, length-drop, take-append-le, drop-append-le}
 use Rattle.std.proofs.Math.Seq.{take-append_seam, drop-append-add}
-use Rattle.bson_base.specs.Kind.{byte}
-use Rattle.bson_base.specs.Text.{Bytes, Utf8}
+use Rattle.bson_kinds.specs.Kind.{byte}
+use Rattle.bson_kinds.specs.Text.{Bytes, Utf8}
 use Rattle.bson_base.specs.Tree.{Tree, element, enclosed, enc, le32}
 use Rattle.bson_base.proofs.Lengths.{length-le32}
 use Rattle.bson_io.specs.Output.{patched}
-use Rattle.bson_base.specs.declared.element_type.ElementType.{ElementType}
+use Rattle.bson_kinds.specs.declared.element_type.ElementType.{ElementType}
 use Rattle.bson_one_pass.specs.Put.{IsPut, IsElementPut}
 
 -- an element: its front, its value, and its kind in the place

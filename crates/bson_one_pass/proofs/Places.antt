@@ -5,10 +5,10 @@ use Rattle.std.proofs.Math.Seq.{drop-cons}
 use Rattle.std.proofs.lemmas.Bool.{false≢true}
 use Rattle.std.proofs.lemmas.Slice.Eq.{bytes_eq-Decides}
 use Rattle.std.proofs.lemmas.List.{append_assoc, append-nil, map-append, map_more, take-append-drop, drop_all}
-use Rattle.bson_base.specs.Text.{Bytes, Utf8, has_zero}
+use Rattle.bson_kinds.specs.Text.{Bytes, Utf8, has_zero}
 use Rattle.bson_base.specs.Tree.{Tree, Pairs, null, enc, kind, element}
-use Rattle.bson_base.specs.declared.element_type.ElementType.TheVariants.{Null}
-use Rattle.bson_base.proofs.Tests.{not_taken}
+use Rattle.bson_kinds.specs.declared.element_type.ElementType.TheVariants.{Null}
+use Rattle.bson_kinds.proofs.Tests.{not_taken}
 use Rattle.bson_rawdoc.specs.Node.{Nodes, ended, then_node, node_in, nodes_with}
 use Rattle.bson_rawdoc.specs.Piece.{Piece, borrowed}
 use Rattle.bson_rawdoc.specs.Walk.{Element, Walk, then_walk}
@@ -17,8 +17,8 @@ use Rattle.bson_shape.specs.Makers.{AreDistinct, has_name, has_repeat}
 use Rattle.bson_shape.specs.ShapeView.{fields_of}
 use Rattle.bson_shape.specs.declared.shape.FieldShape.{FieldShape}
 use Rattle.bson_shape.proofs.Names.{repeat_found, field_names_are}
-use Rattle.bson_datum.specs.Marked.{Marked, contents}
-use Rattle.bson_datum.specs.Value.{none}
+use Rattle.bson_values.specs.Marked.{Marked, contents}
+use Rattle.bson_values.specs.Value.{none}
 use Rattle.bson_laws.specs.Judged.{Reading, ignores}
 use Rattle.bson_laws.specs.Scopes.{laid, laid_fields}
 use Rattle.bson_laws.specs.declared.origin.Reader.{Reader}

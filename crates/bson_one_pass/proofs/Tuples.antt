@@ -4,19 +4,19 @@ use Rattle.std.specs.Fmt.{decimal}
 use Rattle.std.specs.Option.{option_map}
 use Rattle.std.proofs.Math.Seq.{drop-cons}
 use Rattle.std.proofs.lemmas.List.{drop_all}
-use Rattle.bson_base.specs.Outcome.{result_map}
-use Rattle.bson_base.specs.Text.{Bytes, Utf8}
+use Rattle.bson_kinds.specs.Outcome.{result_map}
+use Rattle.bson_kinds.specs.Text.{Bytes, Utf8}
 use Rattle.bson_base.specs.Tree as tree
 use Rattle.bson_base.specs.Tree.{Tree, Trees, enc, kind, element, enclosed}
-use Rattle.bson_base.specs.declared.element_type.ElementType.TheVariants as kinds
+use Rattle.bson_kinds.specs.declared.element_type.ElementType.TheVariants as kinds
 use Rattle.bson_rawdoc.specs.Envelope.{inside, is_closed}
 use Rattle.bson_rawdoc.specs.Node.{Node, Nodes, then_node, inner_node, node_in, nodes_with}
 use Rattle.bson_rawdoc.specs.Piece.{Piece, borrowed, made}
 use Rattle.bson_rawdoc.specs.Walk.{Element, Walk, then_walk, walk}
 use Rattle.bson_shape.specs.Form.{Form, Parts, part, tuple, tuple_structure}
 use Rattle.bson_shape.specs.ShapeView.{parts_of}
-use Rattle.bson_datum.specs.Marked.{Marked, MarkedItems, contents, item_contents}
-use Rattle.bson_datum.specs.Value as value
+use Rattle.bson_values.specs.Marked.{Marked, MarkedItems, contents, item_contents}
+use Rattle.bson_values.specs.Value as value
 use Rattle.bson_laws.specs.Scopes.{laid, laid_parts}
 use Rattle.bson_laws.specs.declared.origin.Reader.{Reader}
 use Rattle.bson_laws.specs.Spell.{spell, spell_items}

@@ -4,12 +4,12 @@ use Rattle.std.specs.Prelude.{IfSome}
 use Rattle.std.specs.Option.{option_map}
 use Rattle.std.specs.Str.{bytes_eq}
 use Rattle.std.proofs.lemmas.List.{append-nil, take_all}
-use Rattle.bson_base.specs.Outcome.{◌>>=◌, result_map}
-use Rattle.bson_base.specs.Text.{Bytes, Utf8, has_zero}
+use Rattle.bson_kinds.specs.Outcome.{◌>>=◌, result_map}
+use Rattle.bson_kinds.specs.Text.{Bytes, Utf8, has_zero}
 use Rattle.bson_base.specs.Tree as tree
 use Rattle.bson_base.specs.Tree.{Tree, no_pairs, pair, enc, kind, element, enclosed}
-use Rattle.bson_base.specs.declared.element_type.ElementType.{ElementType}
-use Rattle.bson_base.specs.declared.element_type.ElementType.TheVariants as kinds
+use Rattle.bson_kinds.specs.declared.element_type.ElementType.{ElementType}
+use Rattle.bson_kinds.specs.declared.element_type.ElementType.TheVariants as kinds
 use Rattle.bson_rawdoc.specs.Envelope.{inside, is_closed}
 use Rattle.bson_rawdoc.specs.Node as node
 use Rattle.bson_rawdoc.specs.Node.{Whole, of_bytes, Node, Nodes, then_node, inner_node, node_in, nodes_with}
@@ -19,9 +19,9 @@ use Rattle.bson_shape.specs.Form.{dropped, enumeration, Variants, Content, unit_
 use Rattle.bson_shape.specs.Makers.{has_name, has_repeat, variant_names, AreVariants, IsContent}
 use Rattle.bson_shape.specs.ShapeView.{variants_of, content_of, variants_nodes, content_nodes}
 use Rattle.bson_shape.specs.declared.shape.VariantShape.{VariantShape}
-use Rattle.bson_datum.specs.Marked.{Marked, contents}
-use Rattle.bson_datum.specs.Refusal.{under}
-use Rattle.bson_datum.specs.Value as value
+use Rattle.bson_values.specs.Marked.{Marked, contents}
+use Rattle.bson_values.specs.Refusal.{under}
+use Rattle.bson_values.specs.Value as value
 use Rattle.bson_laws.specs.Judged.{Reading, judged}
 use Rattle.bson_laws.specs.Reads as at_settled
 use Rattle.bson_laws.specs.Settled.{settled_variants, settled_content}

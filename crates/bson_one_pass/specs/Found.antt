@@ -2,14 +2,14 @@
 -- Source: this library's own readers and writers.
 use Rattle.std.specs.Prelude.{◌≡◌, ℕ, zero, suc, ◌++◌, List, [], ◌∷◌, map, Option, Some, None, Ok, true, false, string_bytes}
 use Rattle.std.specs.Str.{bytes_eq}
-use Rattle.bson_base.specs.Text.{Bytes, Utf8, has_zero}
+use Rattle.bson_kinds.specs.Text.{Bytes, Utf8, has_zero}
 use Rattle.bson_base.specs.Tree.{Tree, enc, kind, element}
 use Rattle.bson_rawdoc.specs.Node.{Nodes, ended, node_in, nodes_with}
 use Rattle.bson_rawdoc.specs.Walk.{Element, Walk}
 use Rattle.bson_shape.specs.Form.{UnknownFields}
 use Rattle.bson_shape.specs.ShapeView.{fields_of}
 use Rattle.bson_shape.specs.declared.shape.FieldShape.{FieldShape}
-use Rattle.bson_datum.specs.Marked.{Marked, contents}
+use Rattle.bson_values.specs.Marked.{Marked, contents}
 use Rattle.bson_laws.specs.Scopes.{laid, laid_fields}
 use Rattle.bson_laws.specs.declared.origin.Reader.{Reader}
 use Rattle.bson_laws.specs.Slots.{Slot, Slots, fill, put_at, value_or}

@@ -2,7 +2,7 @@
 -- Source: this library's own readers and writers.
 use Rattle.std.specs.Prelude.{◌≡◌, ℕ, Ok, List, [], ◌∷◌, Bool, false, true, if◌then◌else◌, string_bytes}
 use Rattle.std.specs.Str.{bytes_eq}
-use Rattle.bson_base.specs.Text.{Utf8}
+use Rattle.bson_kinds.specs.Text.{Utf8}
 use Rattle.bson_rawdoc.specs.Node.{Nodes}
 use Rattle.bson_rawdoc.specs.Piece.{Piece}
 use Rattle.bson_shape.specs.Makers.{is_unit}
@@ -11,7 +11,7 @@ use Rattle.bson_shape.specs.declared.leaf.Leaf.{Leaf}
 use Rattle.bson_shape.specs.declared.leaf.Leaf.TheVariants as leaves
 use Rattle.bson_shape.specs.declared.shape.FieldShape.{FieldShape}
 use Rattle.bson_shape.specs.declared.shape.VariantShape.{VariantShape}
-use Rattle.bson_datum.specs.Refusal.{Segment}
+use Rattle.bson_values.specs.Refusal.{Segment}
 use Rattle.bson_laws.specs.Judged.{pass_nodes}
 
 -- the key is the name of none of these fields

@@ -1,16 +1,16 @@
 -- What the parts of the pass append: the tree of a node, and the elements of a document or an array. It is for the contracts of these parts; what the pass
 -- promises is in `Recast`. The forms are unrolled ones, but for a reader. Source: this library's own readers and writers.
 use Rattle.std.specs.Prelude.{◌≡◌, ℕ, suc, [], ◌++◌, Option, Some, None, Ok, Err}
-use Rattle.bson_base.specs.Outcome.{◌>>=◌}
-use Rattle.bson_base.specs.Text.{Bytes, Utf8}
+use Rattle.bson_kinds.specs.Outcome.{◌>>=◌}
+use Rattle.bson_kinds.specs.Text.{Bytes, Utf8}
 use Rattle.bson_base.specs.Tree as tree
 use Rattle.bson_base.specs.Tree.{Tree, Trees, Pairs, enc, elements, array_elements, element, kind}
-use Rattle.bson_base.specs.declared.element_type.ElementType.{ElementType}
+use Rattle.bson_kinds.specs.declared.element_type.ElementType.{ElementType}
 use Rattle.bson_rawdoc.specs.Node as node
 use Rattle.bson_rawdoc.specs.Node.{Whole, Node, Nodes}
 use Rattle.bson_shape.specs.Form.{UnknownFields, dropped, Form, leaf, tuple, structure, Parts, Content, unit_content, newtype_content, tuple_content, struct_content}
 use Rattle.bson_shape.specs.declared.leaf.Leaf.{Leaf}
-use Rattle.bson_datum.specs.Marked.{MarkedEntries, contents, item_contents, entry_contents, field_contents}
+use Rattle.bson_values.specs.Marked.{MarkedEntries, contents, item_contents, entry_contents, field_contents}
 use Rattle.bson_laws.specs.Containers.{reads_items, reads_key, reads_entries}
 use Rattle.bson_laws.specs.Judged.{Reading}
 use Rattle.bson_laws.specs.Scopes.{laid}

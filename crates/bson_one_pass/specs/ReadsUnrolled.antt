@@ -2,8 +2,8 @@
 use Rattle.std.specs.Prelude.{ℕ, false, Option}
 use Rattle.bson_rawdoc.specs.Node.{Node, Nodes}
 use Rattle.bson_shape.specs.Form.{Form, Fields, Parts}
-use Rattle.bson_datum.specs.Value.{ValueOf}
-use Rattle.bson_datum.specs.Marked.{Marked, MarkedItems}
+use Rattle.bson_values.specs.Value.{ValueOf}
+use Rattle.bson_values.specs.Marked.{Marked, MarkedItems}
 use Rattle.bson_laws.specs.CompactReads.{reads_at}
 use Rattle.bson_laws.specs.Judged.{Reading}
 use Rattle.bson_laws.specs.Reads as at_settled

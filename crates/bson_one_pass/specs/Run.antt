@@ -2,9 +2,9 @@
 -- Source: this library's own readers and writers.
 use Rattle.std.specs.Prelude.{◌≡◌, ℕ, ◌+◌, ◌-◌, ◌<◌, ◌≤◌, List, [], length, get_or, take, drop, false, string_bytes}
 use Rattle.bson_base.specs.Sound.{HasBytes}
-use Rattle.bson_base.specs.Text.{Bytes, Utf8, has_zero}
+use Rattle.bson_kinds.specs.Text.{Bytes, Utf8, has_zero}
 use Rattle.bson_base.specs.Tree.{element, after_length}
-use Rattle.bson_base.specs.declared.element_type.ElementType.{ElementType}
+use Rattle.bson_kinds.specs.declared.element_type.ElementType.{ElementType}
 use Rattle.bson_rawdoc.specs.Node.{node_in}
 use Rattle.bson_rawdoc.specs.Walk.{Element, Walk, then_walk, walk_elements}
 use Rattle.bson_shape.specs.Form.{Form}

@@ -4,9 +4,9 @@ ghost use Rattle.bson_rawdoc.specs.Node.{node_in};
 ghost use Rattle.bson_one_pass.specs.Put.{recast_for, IsPut};
 
 use crate::bytes::put;
-use bson_base::ElementType;
 use bson_de::read_for;
 use bson_io::{Out, Steps, Tally};
+use bson_kinds::ElementType;
 use bson_laws::{Origin, Reader};
 use bson_met::Met;
 use bson_rawdoc::RawElement;

@@ -1,7 +1,7 @@
 // Arrays at a shape of their items.
 ghost use Rattle.std.specs.Prelude.{◌≡◌, ◌≤◌, ◌+◌, ◌++◌, ◌∷◌, [], length, drop, IfSome};
-ghost use Rattle.bson_base.specs.Kind.{byte};
-ghost use Rattle.bson_base.specs.declared.element_type.ElementType.TheVariants as kinds;
+ghost use Rattle.bson_kinds.specs.Kind.{byte};
+ghost use Rattle.bson_kinds.specs.declared.element_type.ElementType.TheVariants as kinds;
 ghost use Rattle.bson_rawdoc.specs.Node.{inner_node, node_in, nodes_with, value_node};
 ghost use Rattle.bson_rawdoc.specs.ValueView.{raw_value};
 ghost use Rattle.bson_rawdoc.specs.Walk.{Element, walk_elements};
@@ -20,7 +20,7 @@ use crate::run::{element_len, put_element, put_run};
 use crate::structure::recast_struct;
 use crate::taken::{is_integer, is_taken, names_taken};
 use crate::value::recast_value;
-use bson_base::ElementType;
+use bson_kinds::ElementType;
 use bson_laws::Reader;
 use bson_rawdoc::reading::{inside, is_closed};
 use bson_rawdoc::{RawBsonRef, RawElement, next_element};

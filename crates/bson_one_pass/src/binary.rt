@@ -8,7 +8,8 @@ ghost use Rattle.bson_shape.specs.Form as form;
 ghost use Rattle.bson_one_pass.specs.Put.{recast_node, IsPut};
 
 use crate::bytes::put;
-use bson_base::{BinarySubtype, ElementType, MAX_BINARY};
+use bson_base::{BinarySubtype, MAX_BINARY};
+use bson_kinds::ElementType;
 use bson_rawdoc::reading::known_bytes;
 use bson_shape::Leaf;
 

@@ -1,11 +1,11 @@
 // The bytes that are made: pieces that are appended, and places that are written over.
 ghost use Rattle.std.specs.Prelude.{◌≡◌, ◌≤◌, ◌<◌, ◌+◌, ◌++◌, ◌∷◌, [], length, take, drop, IfSome};
-ghost use Rattle.bson_base.specs.Kind.{byte};
+ghost use Rattle.bson_kinds.specs.Kind.{byte};
 ghost use Rattle.bson_base.specs.Tree.{enclosed, le32};
 ghost use Rattle.bson_io.specs.Output.{patched};
 
-use bson_base::ElementType;
 use bson_io::MOST;
+use bson_kinds::ElementType;
 
 /// Appends bytes; `None` where memory runs out.
 #[inline(always)]

@@ -9,7 +9,8 @@ ghost use Rattle.bson_one_pass.specs.Free.{ArePassed};
 
 use crate::array::value_of;
 use crate::kept::is_boolean;
-use bson_base::{BinarySubtype, ElementType};
+use bson_base::BinarySubtype;
+use bson_kinds::ElementType;
 use bson_rawdoc::{RawBsonRef, RawElement, RawIter};
 
 /// Whether nothing in a value is at fault, with so many levels left.

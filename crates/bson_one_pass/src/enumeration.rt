@@ -1,6 +1,6 @@
 // Documents at enums: one pair, whose key names a variant, and whose value is its contents.
 ghost use Rattle.std.specs.Prelude.{◌≡◌, false, IfSome};
-ghost use Rattle.bson_base.specs.declared.element_type.ElementType.TheVariants as kinds;
+ghost use Rattle.bson_kinds.specs.declared.element_type.ElementType.TheVariants as kinds;
 ghost use Rattle.bson_rawdoc.specs.Node.{inner_node, node_in, nodes_with};
 ghost use Rattle.bson_rawdoc.specs.Walk.{walk_elements};
 ghost use Rattle.bson_shape.specs.Form as form;
@@ -17,7 +17,7 @@ use crate::named::{named_front, named_len, named_variant};
 use crate::run::put_run;
 use crate::structure::recast_struct;
 use crate::tuple::recast_tuple;
-use bson_base::ElementType;
+use bson_kinds::ElementType;
 use bson_laws::Reader;
 use bson_rawdoc::reading::{inside, is_closed};
 use bson_shape::{VariantContent, VariantShape};

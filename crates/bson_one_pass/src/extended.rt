@@ -10,7 +10,8 @@ ghost use Rattle.bson_one_pass.specs.Put.{recast_node, IsPut};
 
 use crate::bytes::put;
 use crate::leaf::put_eight;
-use bson_base::{Decimal128, ElementType, ObjectId, Timestamp};
+use bson_base::{Decimal128, ObjectId, Timestamp};
+use bson_kinds::ElementType;
 use bson_rawdoc::reading::known_bytes;
 use bson_shape::Leaf;
 

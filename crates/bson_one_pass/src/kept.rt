@@ -1,9 +1,9 @@
 // Values that are written at a shape as they were read: they are looked at once, and a caller copies their bytes.
 ghost use Rattle.std.specs.Prelude.{◌≡◌, ◌≤◌, [], false, true, None, length, IsTrue};
-ghost use Rattle.bson_base.specs.Reserved.{reserved_kind};
+ghost use Rattle.bson_kinds.specs.Reserved.{reserved_kind};
 ghost use Rattle.bson_base.specs.Sound.{max_bytes};
-ghost use Rattle.bson_base.specs.Text.{AreBytes};
-ghost use Rattle.bson_base.specs.declared.element_type.ElementType.TheVariants as kinds;
+ghost use Rattle.bson_kinds.specs.Text.{AreBytes};
+ghost use Rattle.bson_kinds.specs.declared.element_type.ElementType.TheVariants as kinds;
 ghost use Rattle.bson_rawdoc.specs.Envelope.{is_closed};
 ghost use Rattle.bson_rawdoc.specs.Node.{node_in, nodes_with};
 ghost use Rattle.bson_rawdoc.specs.Walk.{walk_elements};
@@ -20,9 +20,9 @@ ghost use Rattle.bson_one_pass.specs.Run.{IsKept, IsUuid};
 
 use crate::named::{named_len, named_variant, value_under};
 use crate::owned::borrows_nothing_in;
-use bson_base::ElementType;
 use bson_io::MOST;
 use bson_itself::{UntypedLeaf, boolean_len, frame_len, is_itself, text_len};
+use bson_kinds::ElementType;
 use bson_laws::Reader;
 use bson_rawdoc::reading::{inside, is_closed, known_bytes, uint32_in};
 use bson_shape::{FieldShape, Form, Leaf, Shape, VariantContent, VariantShape};

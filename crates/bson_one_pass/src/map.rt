@@ -1,11 +1,11 @@
 // Documents at maps whose keys are texts.
 ghost use Rattle.std.specs.Prelude.{◌≡◌, true, IfSome};
-ghost use Rattle.bson_base.specs.declared.element_type.ElementType.TheVariants as kinds;
+ghost use Rattle.bson_kinds.specs.declared.element_type.ElementType.TheVariants as kinds;
 ghost use Rattle.bson_rawdoc.specs.DocumentView.{document_bytes};
 ghost use Rattle.bson_rawdoc.specs.Node.{inner_node, node_in, nodes_with};
 ghost use Rattle.bson_rawdoc.specs.Walk.{walk_elements};
 ghost use Rattle.bson_shape.specs.Form as form;
-ghost use Rattle.bson_datum.specs.Value.{no_entries};
+ghost use Rattle.bson_values.specs.Value.{no_entries};
 ghost use Rattle.bson_laws.specs.Scopes.{laid};
 ghost use Rattle.bson_one_pass.specs.Free.{takes_keys};
 ghost use Rattle.bson_one_pass.specs.Put.{recast_for, recast_entries, IsPut, ArePairsPut};
@@ -14,8 +14,8 @@ use crate::array::recast_next;
 use crate::bytes::{close, put};
 use crate::kept::MOST_NESTED;
 use crate::run::{element_len, put_run};
-use bson_base::ElementType;
 use bson_keys::MetKeys;
+use bson_kinds::ElementType;
 use bson_laws::Reader;
 use bson_rawdoc::reading::inside;
 use bson_rawdoc::{RawDocument, next_element};

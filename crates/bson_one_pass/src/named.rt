@@ -1,11 +1,11 @@
 // Elements whose keys are known before they are read: their bytes are compared with the name, and no key is looked for.
 ghost use Rattle.std.specs.Prelude.{◌≡◌, ◌+◌, ◌<◌, ◌++◌, ◌∷◌, [], Some, true, length, drop, IsTrue, IfSome};
 ghost use Rattle.std.specs.Str.{is_utf8};
-ghost use Rattle.bson_base.specs.Kind.{byte};
+ghost use Rattle.bson_kinds.specs.Kind.{byte};
 ghost use Rattle.bson_rawdoc.specs.Extent.{cut_at_zero};
 ghost use Rattle.bson_one_pass.specs.Run.{IsHead, NamesVariant, element_of, size};
 
-use bson_base::ElementType;
+use bson_kinds::ElementType;
 use bson_rawdoc::extent::extent;
 use bson_shape::VariantShape;
 

@@ -4,7 +4,7 @@ ghost use Rattle.bson_base.specs.Tree.{element};
 ghost use Rattle.bson_one_pass.specs.Run.{IsFirst, IsHead, run, size};
 
 use crate::bytes::put;
-use bson_base::ElementType;
+use bson_kinds::ElementType;
 use bson_rawdoc::RawElement;
 
 /// How many bytes the element takes that begins these bytes: its kind, its key, a zero, its value.

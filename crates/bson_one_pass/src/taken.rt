@@ -2,7 +2,8 @@
 use crate::map::takes_keys;
 use crate::named::named_variant;
 use crate::owned::borrows_nothing_in;
-use bson_base::{BinarySubtype, ElementType};
+use bson_base::BinarySubtype;
+use bson_kinds::ElementType;
 use bson_laws::Reader;
 use bson_rawdoc::RawBsonRef;
 use bson_rawdoc::reading::inside;

@@ -1,7 +1,7 @@
 // Arrays at tuples and tuple structs.
 ghost use Rattle.std.specs.Prelude.{IfSome};
-ghost use Rattle.bson_base.specs.Text.{Utf8};
-ghost use Rattle.bson_base.specs.declared.element_type.ElementType.TheVariants as kinds;
+ghost use Rattle.bson_kinds.specs.Text.{Utf8};
+ghost use Rattle.bson_kinds.specs.declared.element_type.ElementType.TheVariants as kinds;
 ghost use Rattle.bson_rawdoc.specs.Node.{inner_node, node_in, nodes_with};
 ghost use Rattle.bson_rawdoc.specs.Walk.{walk_elements};
 ghost use Rattle.bson_shape.specs.Form.{tuple, tuple_structure};
@@ -14,7 +14,7 @@ use crate::bytes::{close, put};
 use crate::kept::MOST_NESTED;
 use crate::named::{named_len, value_under};
 use crate::run::put_run;
-use bson_base::ElementType;
+use bson_kinds::ElementType;
 use bson_laws::Reader;
 use bson_rawdoc::reading::{inside, is_closed};
 use bson_shape::Shape;

@@ -1,6 +1,6 @@
 // A value at a shape.
 ghost use Rattle.std.specs.Prelude.{◌≡◌, false, None, IfSome};
-ghost use Rattle.bson_base.specs.Reserved.{reserved_kind};
+ghost use Rattle.bson_kinds.specs.Reserved.{reserved_kind};
 ghost use Rattle.bson_rawdoc.specs.Node.{value_node, inner_node};
 ghost use Rattle.bson_rawdoc.specs.ValueView.{raw_value};
 ghost use Rattle.bson_shape.specs.Form.{optional, lossy, newtype, structure, reference, definitions};
@@ -17,7 +17,7 @@ use crate::owned::borrows_nothing_in;
 use crate::structure::recast_struct;
 use crate::tuple::recast_tuple;
 use crate::variant::recast_variant;
-use bson_base::ElementType;
+use bson_kinds::ElementType;
 use bson_laws::Reader;
 use bson_rawdoc::RawBsonRef;
 use bson_shape::{FieldShape, Form, Shape};

@@ -9,7 +9,7 @@ ghost use Rattle.bson_one_pass.specs.Free.{names_unit};
 ghost use Rattle.bson_one_pass.specs.Put.{recast_for, IsPut};
 
 use crate::leaf::put_text;
-use bson_base::ElementType;
+use bson_kinds::ElementType;
 use bson_shape::{VariantContent, VariantShape};
 
 /// A text at an enum: the name of a unit variant.

@@ -2,9 +2,10 @@
 use crate::printing::print_text;
 use crate::writing::one_field;
 use bson_base::MAX_BINARY;
-use bson_datum::{ByteStr, Datum, Entry, Field, RawArr, Text};
+use bson_datum::{Datum, Entry, Field, RawArr};
 use bson_rawdoc::{RawArrayBuf, RawDocumentBuf};
 use bson_ser_stream::to_vec_at;
+use bson_values::{ByteStr, Text};
 use std::alloc::{AllocError, Global};
 use std::io::Print;
 use std::test::Fail;

@@ -1,10 +1,11 @@
 // Documents that are read from sources: what is taken, and what is left behind it.
 use crate::printing::{print_bytes, print_debug, print_text};
-use bson_datum::{Datum, de};
+use bson_datum::Datum;
 use bson_de_source::{from_reader_at, from_reader_utf8_lossy_at};
 use bson_io::{MemorySource, Source};
 use bson_shape::Shape;
 use bson_source::{take_document, take_up_to};
+use bson_values::de;
 use std::alloc::{AllocError, Global};
 use std::io::Print;
 use std::test::Fail;

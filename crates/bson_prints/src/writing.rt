@@ -1,9 +1,10 @@
 // What is written where there is memory, by each call.
 use crate::printing::{print_bytes, print_text};
-use bson_datum::{Datum, Field, RawDoc, Text, ser};
+use bson_datum::{Datum, Field, RawDoc};
 use bson_io::{Out, Steps, Tally};
 use bson_rawdoc::RawDocument;
 use bson_ser_stream::{to_buf, to_vec_at, to_vec_counted};
+use bson_values::{Text, ser};
 use std::alloc::{AllocError, Global};
 use std::io::Print;
 use std::test::Fail;

@@ -3,7 +3,7 @@ use Rattle.std.proofs.Common.{◌≡◌, ◌≤◌, ◌<◌, length, List, Optio
 use Rattle.std.specs.Prelude.{◌⊎◌, ℕ, IfSome, IfOk}
 use Rattle.std.specs.declared.alloc.AllocError.{AllocError}
 use Rattle.bson_base.specs.Sound.{max_bytes}
-use Rattle.bson_base.specs.Text.{Bytes, Utf8}
+use Rattle.bson_kinds.specs.Text.{Bytes, Utf8}
 use Rattle.bson_io.specs.Ends.{last_count, RoseOrLast}
 use Rattle.bson_program.proofs.Inputs.{read_whole}
 use Rattle.bson_program.specs.Ends.{SourceChange}

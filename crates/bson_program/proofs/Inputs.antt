@@ -5,7 +5,7 @@ use Rattle.std.proofs.lemmas.List.{length-append}
 use Rattle.std.specs.Prelude.{ℕ, nat_lt}
 use Rattle.std.specs.Io.KnownBytes.{Consumes, IsAtEnd}
 use Rattle.bson_base.specs.Sound.{max_bytes}
-use Rattle.bson_base.specs.Text.{Bytes}
+use Rattle.bson_kinds.specs.Text.{Bytes}
 use Rattle.bson_io.specs.Ends.{TakesExactly}
 use Rattle.bson_program.specs.Ends.{SourceChange}
 use Rattle.bson_program.specs.Input.{InputEnds, WholeRow, OnInput, input_status}

@@ -2,7 +2,7 @@
 use Rattle.std.proofs.Common.{◌≡◌, Some, Result, Ok, Err, ap, sym, ◌∙◌, inl, inr}
 use Rattle.std.specs.Prelude.{ℕ, String, string_bytes}
 use Rattle.std.specs.declared.alloc.Global.{Global}
-use Rattle.bson_base.specs.Text.{Utf8}
+use Rattle.bson_kinds.specs.Text.{Utf8}
 use Rattle.bson_shape.specs.Answers.{Fails, error_of}
 use Rattle.bson_shape.specs.Form.{Form}
 use Rattle.bson_shape.specs.Fronts.{IsNotNotationAt, IsRefusedAt}

@@ -1,7 +1,7 @@
 -- What the words of a command line ask for. Source: this library's own programs.
 use Rattle.std.specs.Prelude.{◌≡◌, List, Result, Ok, Err, string_bytes, String}
 use Rattle.std.specs.declared.alloc.Global.{Global}
-use Rattle.bson_base.specs.Text.{Utf8}
+use Rattle.bson_kinds.specs.Text.{Utf8}
 
 -- the words that ask for a job, and those that ask for none
 pub record Command (Job : Type 0) : Type 1 where

@@ -4,7 +4,7 @@ use Rattle.std.specs.declared.option.Option.{Option}
 use Rattle.std.specs.Io.KnownBytes.{Consumes, IsAtEnd}
 use Rattle.std.specs.Prelude.{◌≤◌, length}
 use Rattle.bson_base.specs.Sound.{max_bytes}
-use Rattle.bson_base.specs.Text.{Bytes}
+use Rattle.bson_kinds.specs.Text.{Bytes}
 
 -- a source: the bytes that were left, where it tells them, and how often it failed
 pub record SourceChange : Type 0 where

@@ -1,7 +1,7 @@
 -- What must be written for an input, of a program that reads one to its end. Source: this library's own programs.
 use Rattle.std.specs.Prelude.{◌≡◌, ◌+◌, ◌⊎◌, nat_lt, if◌then◌else◌, [], length, codes}
 use Rattle.bson_base.specs.Sound.{max_bytes}
-use Rattle.bson_base.specs.Text.{Bytes, Utf8}
+use Rattle.bson_kinds.specs.Text.{Bytes, Utf8}
 use Rattle.bson_io.specs.Ends.{Rose, TakesAtMost, TakesExactly}
 use Rattle.bson_program.specs.Ends.{SourceChange, ReadAs}
 use Rattle.bson_program.specs.Run.{Due}

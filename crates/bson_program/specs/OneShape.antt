@@ -1,6 +1,6 @@
 -- What the words ask for of a program that takes one shape. Source: this library's own programs.
 use Rattle.std.specs.Prelude.{◌≡◌, ◌⊎◌, List, [], ◌∷◌, Bool, IsTrue, if◌then◌else◌, Result, Err}
-use Rattle.bson_base.specs.Text.{Utf8}
+use Rattle.bson_kinds.specs.Text.{Utf8}
 use Rattle.bson_shape.specs.Form.{Form}
 use Rattle.bson_shape.specs.Makers.{IsShape}
 use Rattle.bson_shape.specs.Notation.{text}

@@ -2,7 +2,7 @@
 -- Source: this library's own programs.
 use Rattle.std.specs.Prelude.{◌≡◌, ◌≤◌, ◌⊎◌, List, [], Result, Ok, Err, IfSome}
 use Rattle.std.specs.Io.KnownBytes.{Keeps}
-use Rattle.bson_base.specs.Text.{Bytes, Utf8}
+use Rattle.bson_kinds.specs.Text.{Bytes, Utf8}
 use Rattle.bson_program.specs.Command.{Command, IsAskedFor, IsRefused}
 use Rattle.bson_program.specs.Ends.{SourceChange}
 use Rattle.bson_program.specs.Run.{Run, Due, AllQuiet, AreKept, Told, CutShort}

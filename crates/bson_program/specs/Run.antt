@@ -1,7 +1,7 @@
 -- A run of a program: what it was given, what became of its ends, and how it ended. Source: this library's own programs.
 use Rattle.std.specs.Prelude.{◌≡◌, ◌<◌, ◌⊎◌, List}
 use Rattle.std.specs.Io.KnownBytes.{Keeps, Appends}
-use Rattle.bson_base.specs.Text.{Bytes, Utf8}
+use Rattle.bson_kinds.specs.Text.{Bytes, Utf8}
 use Rattle.bson_io.specs.Ends.{last_count, RoseOrLast, AppendsPrefix, FitsIn}
 use Rattle.bson_program.specs.Ends.{SourceChange, SinkChange}
 

@@ -4,23 +4,23 @@ use Rattle.std.specs.Prelude.{codes, pos}
 use Rattle.std.specs.Str.{bytes_eq}
 use Rattle.std.proofs.lemmas.List.{length-append, drop_at}
 use Rattle.bson_base.specs.Folded.{text_of}
-use Rattle.bson_base.specs.Outcome.{◌>>=◌}
+use Rattle.bson_kinds.specs.Outcome.{◌>>=◌}
 use Rattle.bson_base.specs.Sound.{max_bytes}
-use Rattle.bson_base.specs.Text.{Bytes, Utf8}
+use Rattle.bson_kinds.specs.Text.{Bytes, Utf8}
 use Rattle.bson_base.specs.Tree.{Tree, document, array, raw, binary, javascript_code, javascript_code_with_scope, Pairs, no_pairs, pair, le32, closed_text, enclosed, enc, kind, elements, array_elements}
-use Rattle.bson_base.specs.declared.element_type.ElementType.TheVariants.{JavaScriptCode, JavaScriptCodeWithScope}
+use Rattle.bson_kinds.specs.declared.element_type.ElementType.TheVariants.{JavaScriptCode, JavaScriptCodeWithScope}
 use Rattle.bson_base.proofs.Lengths.{length-le32}
-use Rattle.bson_base.proofs.Outcomes.{ok_is, map_ok}
+use Rattle.bson_kinds.proofs.Outcomes.{ok_is, map_ok}
 use Rattle.bson_rawdoc.specs.Piece.{made}
-use Rattle.bson_datum.specs.Cause.{unknown_field}
-use Rattle.bson_datum.specs.Marked.{Marked}
+use Rattle.bson_values.specs.Cause.{unknown_field}
+use Rattle.bson_values.specs.Marked.{Marked}
 use Rattle.bson_datum.specs.MarkedView.{marked}
-use Rattle.bson_datum.specs.Refusal.{ReadFault, Refusal}
-use Rattle.bson_datum.specs.Value as value
-use Rattle.bson_datum.specs.Value.{u8}
+use Rattle.bson_values.specs.Refusal.{ReadFault, Refusal}
+use Rattle.bson_values.specs.Value as value
+use Rattle.bson_values.specs.Value.{u8}
 use Rattle.bson_datum.specs.declared.datum.Datum.{Datum}
-use Rattle.bson_datum.specs.declared.wrapper.Wrapper.{Wrapper}
-use Rattle.bson_datum.specs.declared.wrapper.Wrapper.TheVariants.{Code}
+use Rattle.bson_values.specs.declared.wrapper.Wrapper.{Wrapper}
+use Rattle.bson_values.specs.declared.wrapper.Wrapper.TheVariants.{Code}
 use Rattle.bson_laws.specs.Assembled.{Building, or_bad, plain, Looked, scope_of, with_scope, after_code, scope_in}
 use Rattle.bson_laws.specs.Datum.{two, wrapped, nameless}
 use Rattle.bson_laws.specs.Judged.{Reading, scope_key}

@@ -1,10 +1,10 @@
 -- What a document is looked at as, by its first key.
 use Rattle.std.proofs.Common.{◌≡◌, ℕ, true, Option, Some, None, refl, ap, sym, subst, ◌∙◌}
-use Rattle.bson_base.specs.Outcome.{result_map}
-use Rattle.bson_base.specs.Text.{Utf8}
+use Rattle.bson_kinds.specs.Outcome.{result_map}
+use Rattle.bson_kinds.specs.Text.{Utf8}
 use Rattle.bson_base.specs.Tree.{Tree, Pairs, pair}
-use Rattle.bson_datum.specs.Wrapper.{of_key}
-use Rattle.bson_datum.specs.declared.wrapper.Wrapper.{Wrapper}
+use Rattle.bson_values.specs.Wrapper.{of_key}
+use Rattle.bson_values.specs.declared.wrapper.Wrapper.{Wrapper}
 use Rattle.bson_laws.specs.FirstKeys as keys
 use Rattle.bson_laws.specs.FirstKeys.{first_key}
 use Rattle.bson_laws.specs.Assembled.{stays, becomes, of_body, by_first_key, by_key, looked_at, built_pairs, after_code}

@@ -1,12 +1,12 @@
 -- A document that opening makes, as it is built up pair by pair.
 use Rattle.std.proofs.Common.{◌≡◌, Bool, true, false, Ok, Err, refl, ap, sym, subst, ◌∙◌}
-use Rattle.bson_base.specs.Outcome.{◌>>=◌}
+use Rattle.bson_kinds.specs.Outcome.{◌>>=◌}
 use Rattle.bson_base.specs.Pairs.{put}
 use Rattle.bson_base.specs.Tree.{Tree, Pairs}
 use Rattle.bson_rawdoc.specs.Node.{Node, Nodes, ended, then_node}
 use Rattle.bson_rawdoc.specs.Piece.{Piece}
-use Rattle.bson_datum.specs.declared.de.Fault.{Fault}
-use Rattle.bson_datum.specs.declared.stop.Stop.{Stop}
+use Rattle.bson_values.specs.declared.de.Fault.{Fault}
+use Rattle.bson_values.specs.declared.stop.Stop.{Stop}
 use Rattle.bson_laws.specs.Judged.{Reading, judged}
 use Rattle.bson_laws.specs.TreeRaw.{opened_pairs, opened_tree}
 use Rattle.bson_laws.proofs.Tame.{judged_is}

@@ -5,17 +5,17 @@ use Rattle.std.specs.Fmt.{decimal}
 use Rattle.std.proofs.lemmas.List.{append-nil, length-append, take_at, drop_at, drop_more}
 use Rattle.bson_base.specs.BsonView.{tree_of, trees_of}
 use Rattle.bson_base.specs.Encoded.{key_zero}
-use Rattle.bson_base.specs.Kind.{byte}
-use Rattle.bson_base.specs.Outcome.{◌>>=◌, result_map}
-use Rattle.bson_base.specs.Text.{Bytes, Utf8, has_zero}
+use Rattle.bson_kinds.specs.Kind.{byte}
+use Rattle.bson_kinds.specs.Outcome.{◌>>=◌, result_map}
+use Rattle.bson_kinds.specs.Text.{Bytes, Utf8, has_zero}
 use Rattle.bson_base.specs.Tree.{Tree, document, array, Pairs, no_pairs, pair, Trees, no_trees, tree, kind, le32, closed_text, enclosed, element, enc, elements, array_elements}
 use Rattle.bson_base.specs.declared.bson.Bson.{Bson}
-use Rattle.bson_base.specs.declared.element_type.ElementType.{ElementType}
-use Rattle.bson_base.specs.declared.element_type.ElementType.TheVariants.{EmbeddedDocument, Array, JavaScriptCodeWithScope}
-use Rattle.bson_base.proofs.Outcomes.{map_ok, ok_is}
-use Rattle.bson_datum.specs.Cause.{Cause, bad_body, zero_byte}
-use Rattle.bson_datum.specs.Refusal.{ReadFault, unreadable, Failure, no_memory, bare}
-use Rattle.bson_datum.specs.declared.wrapper.Wrapper.TheVariants.{Code}
+use Rattle.bson_kinds.specs.declared.element_type.ElementType.{ElementType}
+use Rattle.bson_kinds.specs.declared.element_type.ElementType.TheVariants.{EmbeddedDocument, Array, JavaScriptCodeWithScope}
+use Rattle.bson_kinds.proofs.Outcomes.{map_ok, ok_is}
+use Rattle.bson_values.specs.Cause.{Cause, bad_body, zero_byte}
+use Rattle.bson_values.specs.Refusal.{ReadFault, unreadable, Failure, no_memory, bare}
+use Rattle.bson_values.specs.declared.wrapper.Wrapper.TheVariants.{Code}
 use Rattle.bson_laws.specs.Assembled.{Building, unless, one_level, Looked, stays, becomes, looked_tree, under_key, with_pair, with_scope, within_limit}
 use Rattle.bson_raw_builder.specs.Putting.{RefusesFor, with_value, looked_kind, with_looked, whole_of}
 

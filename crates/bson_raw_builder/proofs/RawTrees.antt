@@ -3,17 +3,17 @@ use Rattle.std.proofs.Common.{◌≡◌, ℕ, ◌≤◌, length, Bool, true, fal
 use Rattle.std.specs.Prelude.{nat_lt}
 use Rattle.std.proofs.lemmas.Bool.Decides.{nat_tests}
 use Rattle.bson_base.specs.BsonView.{trees_of}
-use Rattle.bson_base.specs.Outcome.{◌>>=◌, result_map}
+use Rattle.bson_kinds.specs.Outcome.{◌>>=◌, result_map}
 use Rattle.bson_base.specs.Sound.{max_levels, max_bytes}
-use Rattle.bson_base.specs.Text.{Utf8}
+use Rattle.bson_kinds.specs.Text.{Utf8}
 use Rattle.bson_base.specs.Tree.{Tree, document, array, raw, Pairs, no_pairs, pair, Trees, kind, enc}
-use Rattle.bson_base.proofs.Outcomes.{ok_is, map_ok, bind_ok}
+use Rattle.bson_kinds.proofs.Outcomes.{ok_is, map_ok, bind_ok}
 use Rattle.bson_rawdoc.specs.Node as node
 use Rattle.bson_rawdoc.specs.Node.{Whole, of_bytes, of_tree, of_opening, Nodes}
 use Rattle.bson_rawdoc.specs.Piece.{made}
-use Rattle.bson_datum.specs.Cause.{Cause, too_long}
-use Rattle.bson_datum.specs.Wrapper.{of_key}
-use Rattle.bson_datum.specs.declared.wrapper.Wrapper.{Wrapper}
+use Rattle.bson_values.specs.Cause.{Cause, too_long}
+use Rattle.bson_values.specs.Wrapper.{of_key}
+use Rattle.bson_values.specs.declared.wrapper.Wrapper.{Wrapper}
 use Rattle.bson_laws.specs.Assembled.{Building, RawBytes, raw_bytes, stays, becomes, looked_tree, one_level, built, looked_at, built_pairs, built_trees, within_limit, assembled, assembled_tree}
 use Rattle.bson_laws.specs.TreeRaw.{held_whole, opened_pairs, as_reading, built_of, read_built, built_value}
 use Rattle.bson_met.specs.ContainerView.{is_opening, array_whole_at}

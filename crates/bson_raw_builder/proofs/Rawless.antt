@@ -4,14 +4,14 @@ use Rattle.std.specs.Prelude.{option_map, codes}
 use Rattle.std.specs.Str.{bytes_eq}
 use Rattle.bson_base.specs.Encoded.{EncodeFault, encode_fault}
 use Rattle.bson_base.specs.Folded.{text_of, pairs_in, at, plain_bytes}
-use Rattle.bson_base.specs.Outcome.{◌>>=◌, result_map}
-use Rattle.bson_base.specs.Text.{Utf8}
+use Rattle.bson_kinds.specs.Outcome.{◌>>=◌, result_map}
+use Rattle.bson_kinds.specs.Text.{Utf8}
 use Rattle.bson_base.specs.Tree.{Tree, document, array, raw, object_id, symbol, decimal128, regular_expression, undefined, binary, date_time, timestamp, min_key, max_key, db_pointer, javascript_code, javascript_code_with_scope, Pairs, no_pairs, pair}
-use Rattle.bson_base.proofs.Outcomes.{some_is, ok_is, some_map, some_then, map_ok, bind_ok}
-use Rattle.bson_datum.specs.Cause.{unknown_field}
-use Rattle.bson_datum.specs.Wrapper.{of_key}
-use Rattle.bson_datum.specs.declared.wrapper.Wrapper.{Wrapper}
-use Rattle.bson_datum.specs.declared.wrapper.Wrapper.TheVariants as wrappers
+use Rattle.bson_kinds.proofs.Outcomes.{some_is, ok_is, some_map, some_then, map_ok, bind_ok}
+use Rattle.bson_values.specs.Cause.{unknown_field}
+use Rattle.bson_values.specs.Wrapper.{of_key}
+use Rattle.bson_values.specs.declared.wrapper.Wrapper.{Wrapper}
+use Rattle.bson_values.specs.declared.wrapper.Wrapper.TheVariants as wrappers
 use Rattle.bson_laws.specs.FirstKeys as keys
 use Rattle.bson_laws.specs.FirstKeys.{number_in, byte_in, uint32_in, bytes_in, id_given, id_in, is_boolean, is_in_int32, regular_expression_of, binary_of, timestamp_of, db_pointer_of, first_key}
 use Rattle.bson_laws.specs.Judged.{scope_key}

@@ -1,6 +1,6 @@
 -- What contracts see of a first key in code. Source: this library's own types.
 use Rattle.std.specs.Prelude.{Option, Some, None}
-use Rattle.bson_datum.specs.declared.wrapper.Wrapper.{Wrapper}
+use Rattle.bson_values.specs.declared.wrapper.Wrapper.{Wrapper}
 use Rattle.bson_laws.specs.FirstKeys as keys
 use Rattle.bson_laws.specs.FirstKeys.{first_key}
 use Rattle.bson_raw_builder.specs.declared.first_key.FirstKey.{FirstKey}

@@ -2,17 +2,17 @@
 use Rattle.std.specs.Prelude.{◌≡◌, ℕ, ◌++◌, length, nat_lt, if◌then◌else◌, Bool, true, false, Option, Some, None, Result, Ok, Err}
 use Rattle.bson_base.specs.Encoded.{zero_fault}
 use Rattle.bson_base.specs.Folded.{text_of}
-use Rattle.bson_base.specs.Outcome.{◌>>=◌, result_map}
+use Rattle.bson_kinds.specs.Outcome.{◌>>=◌, result_map}
 use Rattle.bson_base.specs.Sound.{max_bytes}
-use Rattle.bson_base.specs.Text.{Bytes, Utf8}
+use Rattle.bson_kinds.specs.Text.{Bytes, Utf8}
 use Rattle.bson_base.specs.Tree.{Tree, Pairs, kind, enc}
-use Rattle.bson_base.specs.declared.element_type.ElementType.{ElementType}
-use Rattle.bson_datum.specs.Cause.{too_long}
-use Rattle.bson_datum.specs.ErrorView.{read_failure}
-use Rattle.bson_datum.specs.Refusal.{ReadFault, unreadable, Failure, no_memory, bare}
-use Rattle.bson_datum.specs.declared.de.Error.{Error}
-use Rattle.bson_datum.specs.declared.wrapper.Wrapper.{Wrapper}
-use Rattle.bson_datum.specs.declared.wrapper.Wrapper.TheVariants.{Code}
+use Rattle.bson_kinds.specs.declared.element_type.ElementType.{ElementType}
+use Rattle.bson_values.specs.Cause.{too_long}
+use Rattle.bson_values.specs.ErrorView.{read_failure}
+use Rattle.bson_values.specs.Refusal.{ReadFault, unreadable, Failure, no_memory, bare}
+use Rattle.bson_values.specs.declared.de.Error.{Error}
+use Rattle.bson_values.specs.declared.wrapper.Wrapper.{Wrapper}
+use Rattle.bson_values.specs.declared.wrapper.Wrapper.TheVariants.{Code}
 use Rattle.bson_laws.specs.Assembled.{Building, RawBytes, unless, Looked, stays, becomes, looked_tree, or_bad, of_body, after_code}
 use Rattle.bson_laws.specs.FirstKeys.{FirstKey, body, first_key}
 

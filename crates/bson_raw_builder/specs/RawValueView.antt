@@ -1,9 +1,9 @@
 -- What contracts see of a raw value: its kind and its bytes, whoever owns them. Source: this library's own types.
 use Rattle.std.specs.Prelude.{◌≡◌}
-use Rattle.bson_base.specs.Text.{Bytes}
-use Rattle.bson_datum.specs.ByteStrView.{bytes_view}
-use Rattle.bson_datum.specs.declared.byte_str.ByteStr.{ByteStr}
-use Rattle.bson_datum.specs.declared.byte_str.ByteStr.TheVariants.{Borrowed, Owned}
+use Rattle.bson_kinds.specs.Text.{Bytes}
+use Rattle.bson_values.specs.ByteStrView.{bytes_view}
+use Rattle.bson_values.specs.declared.byte_str.ByteStr.{ByteStr}
+use Rattle.bson_values.specs.declared.byte_str.ByteStr.TheVariants.{Borrowed, Owned}
 use Rattle.bson_laws.specs.Assembled.{RawBytes}
 use Rattle.bson_raw_builder.specs.declared.raw_value.RawValue.{RawValue}
 

@@ -17,9 +17,10 @@ use crate::scalars::{
     put_binary, put_date_time, put_db_pointer, put_decimal128, put_object_id,
     put_regular_expression, put_symbol, put_timestamp,
 };
-use bson_base::{Bson, DateTime, Decimal128, Document, ElementType, ObjectId, Timestamp};
-use bson_datum::Wrapper;
-use bson_datum::de::Result;
+use bson_base::{Bson, DateTime, Decimal128, Document, ObjectId, Timestamp};
+use bson_kinds::ElementType;
+use bson_values::Wrapper;
+use bson_values::de::Result;
 use std::alloc::{AllocError, Global};
 
 /// What the value of a document's first key stands for. Texts and bytes are those of the value.

@@ -18,10 +18,11 @@ use crate::scalars::{
     put_db_pointer, put_decimal128, put_double, put_int32, put_int64, put_object_id,
     put_regular_expression, put_string, put_symbol, put_timestamp, set_kind, set_length,
 };
-use bson_base::{Bson, Document, ElementType, Iter, MAX_NESTING_LEVEL, has_zero};
-use bson_datum::de::Result;
-use bson_datum::{ByteStr, Cause, Wrapper};
+use bson_base::{Bson, Document, Iter, MAX_NESTING_LEVEL, has_zero};
 use bson_io::MOST;
+use bson_kinds::ElementType;
+use bson_values::de::Result;
+use bson_values::{ByteStr, Cause, Wrapper};
 use std::alloc::{AllocError, Global};
 
 /// The key of the scope of a code, behind the code itself.

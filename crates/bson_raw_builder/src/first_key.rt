@@ -1,9 +1,9 @@
 ghost use Rattle.std.specs.Prelude.{◌≡◌};
-ghost use Rattle.bson_base.specs.Text.{begins_with_dollar};
-ghost use Rattle.bson_datum.specs.Wrapper.{of_key};
+ghost use Rattle.bson_kinds.specs.Text.{begins_with_dollar};
+ghost use Rattle.bson_values.specs.Wrapper.{of_key};
 ghost use Rattle.bson_raw_builder.specs.FirstKeyView.{said, said_of};
 
-use bson_datum::Wrapper;
+use bson_values::Wrapper;
 
 /// What the first key of a document says of it.
 #[derive(Clone, Copy, Debug, PartialEq, Eq)]

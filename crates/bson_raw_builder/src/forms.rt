@@ -8,10 +8,10 @@ ghost use Rattle.bson_base.specs.Tree as trees;
 ghost use Rattle.bson_laws.specs.FirstKeys.{number_in, byte_in, uint32_in, bytes_in, is_boolean, is_in_int32, id_given, id_in};
 
 use bson_base::{Binary, Bson, Decimal128, Document, MAX_NESTING_LEVEL, ObjectId};
-use bson_datum::Stop;
 use bson_met::Met;
 use bson_shape::Leaf;
 use bson_trees::read_extended;
+use bson_values::Stop;
 use std::alloc::{AllocError, Global};
 
 /// The text that a value is.

@@ -1,9 +1,9 @@
 ghost use Rattle.std.specs.Prelude.{◌≡◌};
 ghost use Rattle.bson_raw_builder.specs.RawValueView.{IsBorrowed};
 
-use bson_base::ElementType;
-use bson_datum::ByteStr;
+use bson_kinds::ElementType;
 use bson_rawdoc::RawElement;
+use bson_values::ByteStr;
 
 /// A value as its kind and its bytes, as they stand behind the key of an element.
 ///

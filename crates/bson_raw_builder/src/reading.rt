@@ -7,7 +7,7 @@ ghost use Rattle.bson_base.specs.Tree.{Tree, Pairs, no_pairs};
 ghost use Rattle.bson_rawdoc.specs.Node.{opens};
 ghost use Rattle.bson_shape.specs.Form as form;
 ghost use Rattle.bson_datum.specs.MarkedView.{marked};
-ghost use Rattle.bson_datum.specs.Refusal.{under};
+ghost use Rattle.bson_values.specs.Refusal.{under};
 ghost use Rattle.bson_laws.specs.Assembled.{assembled, assembled_tree, raw_bytes};
 ghost use Rattle.bson_laws.specs.FirstKeys.{first_key};
 ghost use Rattle.bson_laws.specs.Judged.{judged, scope_key};
@@ -29,13 +29,15 @@ use crate::first_key::{FirstKey, first_key};
 use crate::forms::text_of;
 use crate::raw_value::RawValue;
 use crate::values::{body_value, code_value, container_value, scoped_value};
-use bson_base::{Binary, BinarySubtype, Bson, Document, ElementType};
-use bson_datum::{Cause, Datum, Stop, Wrapper, de};
+use bson_base::{Binary, BinarySubtype, Bson, Document};
+use bson_datum::Datum;
+use bson_kinds::ElementType;
 use bson_met::{
     Elements, Extended, Met, MetArray, MetDocument, MetText, Reading, Scope, Value, refused,
 };
 use bson_shape::Leaf;
 use bson_trees::read_extended;
+use bson_values::{Cause, Stop, Wrapper, de};
 use std::alloc::Global;
 
 /// The key of a refusal that comes from a scope.

@@ -1,10 +1,10 @@
 ghost use Rattle.std.specs.Prelude.{◌≡◌};
-ghost use Rattle.bson_datum.specs.Cause.{bad_body};
-ghost use Rattle.bson_datum.specs.ErrorView.{cause_view, read_failure};
-ghost use Rattle.bson_datum.specs.Refusal.{unreadable, bare};
+ghost use Rattle.bson_values.specs.Cause.{bad_body};
+ghost use Rattle.bson_values.specs.ErrorView.{cause_view, read_failure};
+ghost use Rattle.bson_values.specs.Refusal.{unreadable, bare};
 
-use bson_datum::de::Error;
-use bson_datum::{Cause, Wrapper};
+use bson_values::de::Error;
+use bson_values::{Cause, Wrapper};
 
 /// A value is refused for this cause; no path is said.
 #[cold]

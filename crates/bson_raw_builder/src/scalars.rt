@@ -1,18 +1,17 @@
 // Values without others in them, appended by their bytes. Each function answers the kind of its value.
 ghost use Rattle.std.specs.Prelude.{◌≡◌, ◌+◌, ◌-◌, ◌≤◌, ◌<◌, ◌++◌, ◌∷◌, [], length, take, drop, Ok, OnOk};
 ghost use Rattle.bson_base.specs.Instant.{millis};
-ghost use Rattle.bson_base.specs.Kind.{byte};
+ghost use Rattle.bson_kinds.specs.Kind.{byte};
 ghost use Rattle.bson_base.specs.Tree as trees;
 ghost use Rattle.bson_base.specs.Tree.{closed_text, le32};
 ghost use Rattle.bson_laws.specs.Assembled.{plain};
 ghost use Rattle.bson_raw_builder.specs.Putting.{Puts, PutsPart, part_due};
 
 use crate::refused::refused;
-use bson_base::{
-    DateTime, Decimal128, Double, ElementType, MAX_BINARY, ObjectId, Timestamp, has_zero,
-};
-use bson_datum::Cause;
-use bson_datum::de::Result;
+use bson_base::{DateTime, Decimal128, Double, MAX_BINARY, ObjectId, Timestamp, has_zero};
+use bson_kinds::ElementType;
+use bson_values::Cause;
+use bson_values::de::Result;
 use std::alloc::AllocError;
 
 /// The old subtype of bytes without a further meaning, in which a second length is before them.

@@ -5,9 +5,9 @@ ghost use Rattle.bson_base.specs.Tree as trees;
 ghost use Rattle.bson_base.specs.Tree.{Tree, Pairs, enc, kind};
 ghost use Rattle.bson_rawdoc.specs.Envelope.{envelope};
 ghost use Rattle.bson_rawdoc.specs.Piece.{made};
-ghost use Rattle.bson_datum.specs.ByteStrView.{bytes_view};
+ghost use Rattle.bson_values.specs.ByteStrView.{bytes_view};
 ghost use Rattle.bson_datum.specs.MarkedView.{marked};
-ghost use Rattle.bson_datum.specs.Value as values;
+ghost use Rattle.bson_values.specs.Value as values;
 ghost use Rattle.bson_laws.specs.Assembled.{raw_bytes};
 ghost use Rattle.bson_laws.specs.ReadsRaw.{scoped_code};
 ghost use Rattle.bson_laws.specs.TreeRaw.{built_value};
@@ -18,10 +18,11 @@ ghost use Rattle.bson_raw_builder.specs.RawValueView.{raw_view};
 
 use crate::bodies::Body;
 use crate::raw_value::RawValue;
-use bson_base::ElementType;
-use bson_datum::{ByteStr, Cause, Datum, RawArr, RawDoc, Text};
+use bson_datum::{Datum, RawArr, RawDoc};
+use bson_kinds::ElementType;
 use bson_met::{Reading, refused};
 use bson_rawdoc::{RawArrayBuf, RawDocumentBuf};
+use bson_values::{ByteStr, Cause, Text};
 use bson_wrapped::data;
 use std::alloc::{AllocError, Global};
 

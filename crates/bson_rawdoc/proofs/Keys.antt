@@ -4,8 +4,8 @@ use Rattle.std.specs.Prelude.{Result, MatchResult, is_ok}
 use Rattle.std.specs.Borrow.{Bor}
 use Rattle.std.specs.Str.{IsUtf8, is_utf8}
 use Rattle.std.proofs.lemmas.Str.{IsUtf8-from_is_utf8, is_utf8-from_IsUtf8}
-use Rattle.bson_base.specs.Text.{Bytes}
-use Rattle.bson_base.specs.Kind.{of_byte}
+use Rattle.bson_kinds.specs.Text.{Bytes}
+use Rattle.bson_kinds.specs.Kind.{of_byte}
 use Rattle.bson_rawdoc.specs.Extent.{cut_at_zero}
 use Rattle.bson_rawdoc.specs.declared.raw.Error.TheVariants.{KeyUnclosed, KeyNotUtf8}
 use Rattle.bson_rawdoc.specs.Walk.{of_kind, with_key, element_at}

@@ -3,10 +3,10 @@ use Rattle.std.proofs.Common.{◌≡◌, ℕ, zero, suc, ◌<◌, ◌≤◌, [],
 use Rattle.std.specs.Prelude.{nat_lt}
 use Rattle.std.specs.Str.{is_utf8}
 use Rattle.std.proofs.lemmas.List.{length-drop}
-use Rattle.bson_base.specs.Text.{Bytes, Utf8}
-use Rattle.bson_base.specs.Kind.{of_byte}
-use Rattle.bson_base.specs.declared.element_type.ElementType.{ElementType}
-use Rattle.bson_base.proofs.Outcomes.{bind_ok}
+use Rattle.bson_kinds.specs.Text.{Bytes, Utf8}
+use Rattle.bson_kinds.specs.Kind.{of_byte}
+use Rattle.bson_kinds.specs.declared.element_type.ElementType.{ElementType}
+use Rattle.bson_kinds.proofs.Outcomes.{bind_ok}
 use Rattle.bson_rawdoc.proofs.Cuts.{cut_parts}
 use Rattle.bson_rawdoc.specs.declared.raw.Error.{Error}
 use Rattle.bson_rawdoc.specs.declared.raw.Error.TheVariants.{KeyNotUtf8, BadExtent}

@@ -1,5 +1,5 @@
 -- What contracts see of a `RawDocument` and of a `RawArray`. Source: this library's own types.
-use Rattle.bson_base.specs.Text.{Bytes}
+use Rattle.bson_kinds.specs.Text.{Bytes}
 use Rattle.bson_rawdoc.specs.declared.document.RawDocument.{RawDocument}
 use Rattle.bson_rawdoc.specs.declared.array.RawArray.{RawArray}
 

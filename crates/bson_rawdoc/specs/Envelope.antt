@@ -1,7 +1,7 @@
 -- The frame of a document in its bytes. Source: bsonspec.org, version 1.1, `document`.
 use Rattle.std.specs.Prelude.{◌-◌, length, take, drop, get_or, Bool, not, eqb, if◌then◌else◌, nat_lt, pos, Result, Ok, Err}
 use Rattle.std.specs.Ordering.{int_eq}
-use Rattle.bson_base.specs.Text.{Bytes}
+use Rattle.bson_kinds.specs.Text.{Bytes}
 use Rattle.bson_rawdoc.specs.Numbers.{int32_in}
 use Rattle.bson_rawdoc.specs.declared.raw.Error.{Error}
 use Rattle.bson_rawdoc.specs.declared.raw.Error.TheVariants.{TooShort, LengthDiffers, NoTerminator}

@@ -1,8 +1,8 @@
 -- The value at a key of a document in its bytes. Source: MongoDB's crate bson, version 2, `RawDocument::get`.
 use Rattle.std.specs.Prelude.{if◌then◌else◌, Option, None, Some, Result, Ok, Err}
 use Rattle.std.specs.Str.{bytes_eq}
-use Rattle.bson_base.specs.Text.{Utf8}
-use Rattle.bson_base.specs.Outcome.{result_map}
+use Rattle.bson_kinds.specs.Text.{Utf8}
+use Rattle.bson_kinds.specs.Outcome.{result_map}
 use Rattle.bson_rawdoc.specs.RawValue.{RawValue, value_in}
 use Rattle.bson_rawdoc.specs.Walk.{Walk, ended, faulty, then_walk}
 use Rattle.bson_rawdoc.specs.declared.raw.Error.{Error}

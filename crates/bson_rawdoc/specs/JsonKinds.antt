@@ -1,7 +1,7 @@
 -- The kinds whose values JSON has too. Source: JSON (RFC 8259).
 use Rattle.std.specs.Prelude.{Bool, true, false}
-use Rattle.bson_base.specs.declared.element_type.ElementType.{ElementType}
-use Rattle.bson_base.specs.declared.element_type.ElementType.TheVariants.{Double, String, EmbeddedDocument, Array, Boolean, Null, Int32, Int64}
+use Rattle.bson_kinds.specs.declared.element_type.ElementType.{ElementType}
+use Rattle.bson_kinds.specs.declared.element_type.ElementType.TheVariants.{Double, String, EmbeddedDocument, Array, Boolean, Null, Int32, Int64}
 
 -- whether values of the kind are numbers, texts, documents, arrays, booleans or null
 abbrev pub is_of_json : ElementType → Bool

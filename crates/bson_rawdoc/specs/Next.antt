@@ -1,7 +1,7 @@
 -- A step of an iterator over a walk. Source: std's `Iterator`.
 use Rattle.std.specs.Prelude.{◌≡◌, ℕ, suc, Option, Some, None, Result, Ok, Err}
 use Rattle.std.specs.Borrow.{Bor}
-use Rattle.bson_base.specs.Text.{Bytes}
+use Rattle.bson_kinds.specs.Text.{Bytes}
 use Rattle.bson_rawdoc.specs.Walk.{Element, Walk, ended, faulty, then_walk, walk_elements}
 use Rattle.bson_rawdoc.specs.declared.raw.Error.{Error}
 

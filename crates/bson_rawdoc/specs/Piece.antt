@@ -1,6 +1,6 @@
 -- Texts and byte strings, and whether they are borrowed from the input. Source: serde's data model, borrowed and owned strings.
 use Rattle.std.specs.Prelude.{Bool, true, false}
-use Rattle.bson_base.specs.Text.{Bytes}
+use Rattle.bson_kinds.specs.Text.{Bytes}
 
 -- a text or a byte string, and whether it is borrowed from the input; in a node, whether it is a part of the input, so that it can be borrowed
 pub record Piece : Type 0 where

@@ -1,7 +1,7 @@
 -- What is printed of a fault. Source: this library's own errors.
 use Rattle.std.specs.Prelude.{◌++◌, codes}
 use Rattle.std.specs.Fmt.{decimal}
-use Rattle.bson_base.specs.Text.{Utf8}
+use Rattle.bson_kinds.specs.Text.{Utf8}
 use Rattle.bson_rawdoc.specs.declared.raw.Error.{Error}
 use Rattle.bson_rawdoc.specs.declared.raw.Error.TheVariants.{TooShort, LengthDiffers, NoTerminator, KeyUnclosed, KeyNotUtf8, UnknownKind, BadExtent, NotUtf8, BadBoolean, TextUnclosed, InnerLength, ScopeTotal, ValueUnclosed, TooDeep, NoMemory}
 

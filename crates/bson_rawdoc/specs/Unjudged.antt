@@ -1,9 +1,9 @@
 -- The values that have texts, before their texts are judged: a text is any bytes here. Source: bsonspec.org, version 1.1, `string`, `cstring` and `code_w_s`.
 use Rattle.std.specs.Prelude.{◌-◌, length, take, drop, if◌then◌else◌, Option, Some, None, Result, Ok, Err}
-use Rattle.bson_base.specs.Text.{Bytes}
-use Rattle.bson_base.specs.Outcome.{◌>>=◌, result_map}
-use Rattle.bson_base.specs.declared.element_type.ElementType.TheVariants as kinds
-use Rattle.bson_base.specs.declared.element_type.ElementType.{ElementType}
+use Rattle.bson_kinds.specs.Text.{Bytes}
+use Rattle.bson_kinds.specs.Outcome.{◌>>=◌, result_map}
+use Rattle.bson_kinds.specs.declared.element_type.ElementType.TheVariants as kinds
+use Rattle.bson_kinds.specs.declared.element_type.ElementType.{ElementType}
 use Rattle.bson_rawdoc.specs.Envelope.{is_closed, inside}
 use Rattle.bson_rawdoc.specs.Extent.{two_texts_in}
 use Rattle.bson_rawdoc.specs.Numbers.{int32_in}

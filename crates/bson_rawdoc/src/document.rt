@@ -1,5 +1,5 @@
 ghost use Rattle.std.specs.Prelude.{◌≡◌, ◌<◌, ◌^◌, Ok};
-ghost use Rattle.bson_base.specs.Outcome.{result_map};
+ghost use Rattle.bson_kinds.specs.Outcome.{result_map};
 ghost use Rattle.bson_rawdoc.specs.Envelope.{envelope};
 ghost use Rattle.bson_rawdoc.specs.Next.{count};
 ghost use Rattle.bson_rawdoc.specs.Walk.{walk};

@@ -3,7 +3,7 @@ ghost use Rattle.std.specs.Iterator.{at_most};
 ghost use Rattle.bson_rawdoc.specs.Cut as cuts;
 
 use crate::extent::extent;
-use bson_base::ElementType;
+use bson_kinds::ElementType;
 use std::marker::Model;
 
 /// The documents of a file that has them one behind another, as `mongodump` writes them. Contracts see it as what is left of the file, cut into documents.

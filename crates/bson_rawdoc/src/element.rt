@@ -1,6 +1,6 @@
 ghost use Rattle.std.specs.Prelude.{◌≡◌, false, Ok, length, option_map};
-ghost use Rattle.bson_base.specs.Kind.{of_byte};
-ghost use Rattle.bson_base.specs.Outcome.{result_map};
+ghost use Rattle.bson_kinds.specs.Kind.{of_byte};
+ghost use Rattle.bson_kinds.specs.Outcome.{result_map};
 ghost use Rattle.bson_rawdoc.specs.DocumentView.{document_bytes};
 ghost use Rattle.bson_rawdoc.specs.Extent.{extent};
 ghost use Rattle.bson_rawdoc.specs.JsonKinds.{is_of_json};
@@ -22,7 +22,8 @@ use crate::reading::{fixed, int32_in, int64_in};
 use crate::unjudged::{Unjudged, scope_of, unjudged_in};
 use crate::utf8::key_len;
 use crate::value::RawBsonRef;
-use bson_base::{Bson, DateTime, Decimal128, Double, ElementType, ObjectId};
+use bson_base::{Bson, DateTime, Decimal128, Double, ObjectId};
+use bson_kinds::ElementType;
 use std::alloc::Global;
 use std::marker::Model;
 

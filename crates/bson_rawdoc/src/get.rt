@@ -1,6 +1,6 @@
 ghost use Rattle.std.specs.Prelude.{◌≡◌};
 ghost use Rattle.std.specs.Option.{option_map};
-ghost use Rattle.bson_base.specs.Outcome.{result_map};
+ghost use Rattle.bson_kinds.specs.Outcome.{result_map};
 ghost use Rattle.bson_rawdoc.specs.DocumentView.{document_bytes};
 ghost use Rattle.bson_rawdoc.specs.Get.{get};
 ghost use Rattle.bson_rawdoc.specs.ValueView.{raw_value};

@@ -1,6 +1,6 @@
 // Documents and arrays that own their bytes.
 ghost use Rattle.std.specs.Prelude.{◌≡◌};
-ghost use Rattle.bson_base.specs.Outcome.{result_map};
+ghost use Rattle.bson_kinds.specs.Outcome.{result_map};
 ghost use Rattle.bson_rawdoc.specs.DocumentView.{document_bytes, array_bytes};
 ghost use Rattle.bson_rawdoc.specs.Envelope.{envelope};
 
@@ -18,7 +18,7 @@ pub struct RawDocumentBuf {
 impl Model for RawDocumentBuf {
     ghost use Rattle.std.specs.Prelude.{◌≡◌, Ok};
     ghost use Rattle.std.specs.Coded.{coded_list, coded_ℕ};
-    ghost use Rattle.bson_base.specs.Text.{Bytes};
+    ghost use Rattle.bson_kinds.specs.Text.{Bytes};
     ghost use Rattle.bson_rawdoc.specs.Envelope.{envelope};
 
     ghost Value = { Bytes };

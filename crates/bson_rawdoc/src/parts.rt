@@ -1,6 +1,6 @@
 // The parts of a value in its bytes, or its first fault.
 ghost use Rattle.std.specs.Prelude.{◌≡◌, ◌≤◌, pos, length, drop, IfOk};
-ghost use Rattle.bson_base.specs.Outcome.{result_map};
+ghost use Rattle.bson_kinds.specs.Outcome.{result_map};
 ghost use Rattle.bson_rawdoc.specs.DocumentView.{document_bytes, array_bytes};
 ghost use Rattle.bson_rawdoc.specs.Extent as extents;
 ghost use Rattle.bson_rawdoc.specs.Numbers as numbers;
@@ -15,7 +15,8 @@ use crate::raw::Error;
 use crate::reading::{fixed, inside, int32_in, is_closed, uint32_in};
 use crate::utf8::is_utf8;
 use crate::value::RawBsonRef;
-use bson_base::{BinarySubtype, ElementType, ObjectId, Timestamp};
+use bson_base::{BinarySubtype, ObjectId, Timestamp};
+use bson_kinds::ElementType;
 
 // These bytes as a text.
 #[inline(always)]

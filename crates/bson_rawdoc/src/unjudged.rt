@@ -1,6 +1,6 @@
 ghost use Rattle.std.specs.Prelude.{◌≡◌, ◌≤◌, Some, Ok, IfOk, length, option_map};
 ghost use Rattle.bson_base.specs.BsonView.{tree_of};
-ghost use Rattle.bson_base.specs.Outcome.{result_map};
+ghost use Rattle.bson_kinds.specs.Outcome.{result_map};
 ghost use Rattle.bson_rawdoc.specs.DocumentView.{document_bytes};
 ghost use Rattle.bson_rawdoc.specs.Extent.{extent, two_texts_in};
 ghost use Rattle.bson_rawdoc.specs.Lossy.{lossy_tree};
@@ -12,7 +12,8 @@ use crate::extent::two_texts_in;
 use crate::parts::{closed_text, document_in, scoped_parts};
 use crate::raw::Error;
 use crate::reading::fixed;
-use bson_base::{Bson, DbPointer, Document, ElementType, JavaScriptCodeWithScope, ObjectId, Regex};
+use bson_base::{Bson, DbPointer, Document, JavaScriptCodeWithScope, ObjectId, Regex};
+use bson_kinds::ElementType;
 use std::alloc::{AllocError, Global};
 
 /// A value with texts as it is in the bytes of its document. Its texts may be no UTF-8.

@@ -4,7 +4,8 @@ ghost use Rattle.bson_rawdoc.specs.ValueView.{raw_value};
 
 use crate::array::RawArray;
 use crate::document::RawDocument;
-use bson_base::{BinarySubtype, DateTime, Decimal128, Double, ElementType, ObjectId, Timestamp};
+use bson_base::{BinarySubtype, DateTime, Decimal128, Double, ObjectId, Timestamp};
+use bson_kinds::ElementType;
 
 /// A value as it is in the bytes of its document.
 #[derive(Clone, Copy, Debug)]

@@ -3,10 +3,10 @@ use Rattle.std.proofs.Common.{◌≡◌, List, [], ◌∷◌, ◌++◌, Bool, tr
 use Rattle.std.specs.Prelude.{◌&&◌, not, if◌then◌else◌}
 use Rattle.std.specs.Str.{bytes_eq}
 use Rattle.std.proofs.lemmas.Slice.Eq.{bytes_eq-Decides}
-use Rattle.bson_base.specs.Text.{Utf8}
+use Rattle.bson_kinds.specs.Text.{Utf8}
 use Rattle.bson_recast_run.specs.declared.options.Options.{Options}
 use Rattle.bson_recast_run.specs.Due.{recast_usage}
-use Rattle.bson_base.proofs.Outcomes.{some_is}
+use Rattle.bson_kinds.proofs.Outcomes.{some_is}
 use Rattle.bson_recast_run.specs.declared.options.Way.{Way}
 use Rattle.bson_recast_run.specs.declared.options.Way.TheVariants as ways
 use Rattle.bson_recast_run.specs.Options.{lossy_option, tree_option, hex_option, way_option, is_plain, no_options, with_option, options_of, AreGiven, AreOptions}

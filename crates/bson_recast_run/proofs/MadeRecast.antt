@@ -9,7 +9,7 @@ use Rattle.std.proofs.lemmas.Str.{IsUtf8-from_ascii, is_utf8-from_IsUtf8}
 use Rattle.std.proofs.lemmas.Str.Ascii.{IsAscii-nil}
 use Rattle.std.proofs.lemmas.Bool.{le-ltb}
 use Rattle.bson_base.specs.Sound.{IsSound, max_bytes}
-use Rattle.bson_base.specs.Text.{Bytes, IsFreeName}
+use Rattle.bson_kinds.specs.Text.{Bytes, IsFreeName}
 use Rattle.bson_base.specs.Tree.{Tree, document, array, string, int64, no_pairs, pair, tree, enc}
 use Rattle.bson_shape.specs.Answers.{Fails}
 use Rattle.bson_shape.specs.declared.error.ParseError.{ParseError}
@@ -17,7 +17,7 @@ use Rattle.bson_shape.specs.declared.error.ParseError.TheVariants as errors
 use Rattle.bson_shape.specs.Form.{Form, leaf, structure, dropped, no_fields, field}
 use Rattle.bson_shape.specs.Makers.{IsShape}
 use Rattle.bson_shape.specs.declared.leaf.Leaf.TheVariants.{U32, String}
-use Rattle.bson_datum.specs.Value.{Value, integer, u32, str, in_range, structure as struct_value, sequence as sequence_value, Items, no_items, item, no_field_values, field_value}
+use Rattle.bson_values.specs.Value.{Value, integer, u32, str, in_range, structure as struct_value, sequence as sequence_value, Items, no_items, item, no_field_values, field_value}
 use Rattle.bson_laws.specs.Means.{means, means_items}
 use Rattle.bson_laws.specs.Plain.{IsPlain}
 use Rattle.bson_laws.specs.Recursive.{view}
@@ -39,9 +39,10 @@ no_text = is_utf8-from_IsUtf8 [] (IsUtf8-from_ascii [] IsAscii-nil)
 
 pub rows_are_shape : IsShape rows_shape
 rows_are_shape =
-    let names = (made_sound 1 (omega arith)).clean in
-    (record { text = no_text; free = refl; distinct = refl; few = omega arith },
-        (names.0.text, (omega arith, (record { text = no_text; free = refl; distinct = refl; few = omega arith }, (names.2.0.0.text, tt, (names.2.0.3.0.text, tt, tt)))), tt))
+    let names = (made_sound 1 (omega arith)).clean in (
+      record { text = no_text; free = refl; distinct = refl; few = omega arith },
+      (names.0.text, (omega arith, (record { text = no_text; free = refl; distinct = refl; few = omega arith }, (names.2.0.0.text, tt, (names.2.0.3.0.text, tt, tt)))), tt),
+    )
 
 free_name : IsFreeName (codes "name")
 free_name = record { no_zero = refl; no_dollar = refl }

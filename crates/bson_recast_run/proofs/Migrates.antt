@@ -3,15 +3,15 @@ use Rattle.std.proofs.Common.{◌≡◌, Bool, true, false, Result, Ok, Err, ref
 use Rattle.std.specs.Prelude.{◌⊎◌, ◌<◌, ◌≤◌, ℕ, nat_lt, Some}
 use Rattle.std.specs.Global.{Vec}
 use Rattle.std.proofs.lemmas.Bool.{le-ltb, ltb-true}
-use Rattle.bson_base.specs.Text.{Bytes, AreBytes}
+use Rattle.bson_kinds.specs.Text.{Bytes, AreBytes}
 use Rattle.bson_base.specs.Sound.{IsSound, max_bytes}
 use Rattle.bson_base.specs.Tree.{Tree, enc}
 use Rattle.bson_shape.specs.Form.{Form, lossy, no_fields}
 use Rattle.bson_shape.specs.Makers.{IsShape}
-use Rattle.bson_datum.specs.Value.{Value}
-use Rattle.bson_datum.specs.Cause.{too_long}
-use Rattle.bson_datum.specs.Refusal.{ReadFault, WriteFault, unwritable, here, Failure, bare, placed}
-use Rattle.bson_datum.specs.ErrorView.{read_failure, write_failure}
+use Rattle.bson_values.specs.Value.{Value}
+use Rattle.bson_values.specs.Cause.{too_long}
+use Rattle.bson_values.specs.Refusal.{ReadFault, WriteFault, unwritable, here, Failure, bare, placed}
+use Rattle.bson_values.specs.ErrorView.{read_failure, write_failure}
 use Rattle.bson_laws.specs.Means.{means}
 use Rattle.bson_laws.specs.Plain.{OwnsTexts, IsPlain}
 use Rattle.bson_laws.specs.Reads.{reads_document}

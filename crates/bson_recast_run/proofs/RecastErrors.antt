@@ -2,14 +2,14 @@
 use Rattle.std.proofs.Common.{◌≡◌, Bool, true, false, Ok, Err, ap, sym, subst, inl, inr}
 use Rattle.std.specs.Prelude.{◌≢◌, ◌⊎◌, nat_lt}
 use Rattle.std.proofs.lemmas.Bool.{lt-ltb}
-use Rattle.bson_base.specs.Text.{Bytes}
-use Rattle.bson_base.specs.Outcome.{result_map}
+use Rattle.bson_kinds.specs.Text.{Bytes}
+use Rattle.bson_kinds.specs.Outcome.{result_map}
 use Rattle.bson_base.specs.Sound.{max_bytes}
 use Rattle.bson_base.specs.Tree.{Tree, enc}
-use Rattle.bson_datum.specs.Value.{Value}
-use Rattle.bson_datum.specs.Refusal.{WriteFault, Failure, no_memory}
-use Rattle.bson_datum.specs.ErrorView.{write_failure}
-use Rattle.bson_datum.specs.declared.ser.Error as ser
+use Rattle.bson_values.specs.Value.{Value}
+use Rattle.bson_values.specs.Refusal.{WriteFault, Failure, no_memory}
+use Rattle.bson_values.specs.ErrorView.{write_failure}
+use Rattle.bson_values.specs.declared.ser.Error as ser
 use Rattle.bson_laws.specs.Spell.{Writing, spell_document, size}
 use Rattle.bson_ser_stream.specs.Writing.{Fails, IsDue, too_long_failure}
 use Rattle.bson_tree_recast.specs.declared.error.RecastError.{RecastError}

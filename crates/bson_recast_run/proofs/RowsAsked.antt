@@ -8,9 +8,9 @@ use Rattle.std.specs.Str.Parse.{digits_value, ParsesUnsigned}
 use Rattle.std.proofs.lemmas.Bool.{leb-true, le-leb}
 use Rattle.std.proofs.lemmas.Fmt.{decimal_is_IsNumeral, parse-decimal}
 use Rattle.std.proofs.lemmas.Slice.Eq.{bytes_eq-Decides}
-use Rattle.bson_base.proofs.Outcomes.{some_is, ok_is}
-use Rattle.bson_base.specs.Outcome.{result_map}
-use Rattle.bson_base.specs.Text.{Utf8}
+use Rattle.bson_kinds.proofs.Outcomes.{some_is, ok_is}
+use Rattle.bson_kinds.specs.Outcome.{result_map}
+use Rattle.bson_kinds.specs.Text.{Utf8}
 use Rattle.bson_program.specs.Command.{IsAskedFor, Asked}
 use Rattle.bson_recast_run.specs.declared.options.Job.{Job}
 use Rattle.bson_recast_run.specs.declared.options.Request.TheVariants as requests

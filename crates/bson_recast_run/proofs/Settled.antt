@@ -1,7 +1,7 @@
 -- What must be written for a document settles the status.
 use Rattle.std.proofs.Common.{◌≡◌, ℕ, Bool, Option, Some, None, ap, refl, sym}
-use Rattle.bson_base.specs.Text.{Bytes}
-use Rattle.bson_datum.specs.Refusal.{WriteFault, Failure}
+use Rattle.bson_kinds.specs.Text.{Bytes}
+use Rattle.bson_values.specs.Refusal.{WriteFault, Failure}
 use Rattle.bson_program.proofs.Answered.{Settles}
 use Rattle.bson_program.proofs.Inputs.{input_settles}
 use Rattle.bson_program.specs.Ends.{SourceChange}

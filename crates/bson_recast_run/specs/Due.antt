@@ -1,9 +1,9 @@
 -- The lines that are printed of an input. Source: this library's own programs.
 use Rattle.std.specs.Prelude.{◌++◌, nat_eq, codes}
 use Rattle.std.specs.List.{starts_with}
-use Rattle.bson_base.specs.Text.{Utf8}
-use Rattle.bson_datum.specs.Refusal.{ReadFault, WriteFault, Failure}
-use Rattle.bson_datum.specs.Printed.{printed_failure, printed_read_fault, printed_write_fault}
+use Rattle.bson_kinds.specs.Text.{Utf8}
+use Rattle.bson_values.specs.Refusal.{ReadFault, WriteFault, Failure}
+use Rattle.bson_values.specs.Printed.{printed_failure, printed_read_fault, printed_write_fault}
 use Rattle.bson_program.specs.OneShape.{Usage}
 use Rattle.bson_program.specs.ShapeWord.{newline}
 

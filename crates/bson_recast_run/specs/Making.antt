@@ -3,7 +3,7 @@ use Rattle.std.specs.Prelude.{◌≡◌, ℕ, ◌≤◌, nat_le, ◌&&◌, List,
 use Rattle.std.specs.Fmt.{decimal}
 use Rattle.std.specs.Str.{bytes_eq}
 use Rattle.std.specs.Str.Parse.{digits_value}
-use Rattle.bson_base.specs.Text.{Bytes, Utf8}
+use Rattle.bson_kinds.specs.Text.{Bytes, Utf8}
 use Rattle.bson_base.specs.Tree.{enc}
 use Rattle.bson_made.specs.Made.{made}
 use Rattle.bson_shape.specs.Form.{Form, leaf, sequence, structure, dropped, no_fields, field}

@@ -1,12 +1,12 @@
 -- What the calls and the program give of a recast. Source: this library's own readers and writers.
 use Rattle.std.specs.Prelude.{◌≡◌, ◌⊎◌, ◌++◌, ℕ, ◌<◌, Result, Ok, Err}
 use Rattle.std.specs.Global.{Vec}
-use Rattle.bson_base.specs.Text.{Bytes}
+use Rattle.bson_kinds.specs.Text.{Bytes}
 use Rattle.bson_base.specs.Sound.{max_bytes}
 use Rattle.bson_shape.specs.Form.{Form}
-use Rattle.bson_datum.specs.Value.{Value}
-use Rattle.bson_datum.specs.Refusal.{Path, WriteFault, Failure, bare, placed}
-use Rattle.bson_datum.specs.ErrorView.{write_failure}
+use Rattle.bson_values.specs.Value.{Value}
+use Rattle.bson_values.specs.Refusal.{Path, WriteFault, Failure, bare, placed}
+use Rattle.bson_values.specs.ErrorView.{write_failure}
 use Rattle.bson_de_raw.specs.ReadsLossy.{reads_lossy}
 use Rattle.bson_laws.specs.Reads.{reads_document}
 use Rattle.bson_laws.specs.Spell.{size, IsTooLarge, IsNumber}

@@ -1,8 +1,8 @@
 -- The program: the rows of its table of answers for an input that was read whole, and what it shares with every other. Source: this library's own programs.
 use Rattle.std.specs.Prelude.{◌≡◌, ◌⊎◌, ℕ, [], Bool, Option, Some, None}
 use Rattle.std.specs.Io.KnownBytes.{Appends, Keeps}
-use Rattle.bson_base.specs.Text.{Bytes, AreBytes}
-use Rattle.bson_datum.specs.Refusal.{ReadFault, WriteFault, Failure}
+use Rattle.bson_kinds.specs.Text.{Bytes, AreBytes}
+use Rattle.bson_values.specs.Refusal.{ReadFault, WriteFault, Failure}
 use Rattle.bson_program.specs.Ends.{SourceChange}
 use Rattle.bson_program.specs.Input.{InputEnds, OnInput, input_status}
 use Rattle.bson_program.specs.Program.{Program}

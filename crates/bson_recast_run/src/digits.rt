@@ -1,6 +1,6 @@
 // Bytes as hexadecimal digits.
 ghost use Rattle.std.specs.Prelude.{◌≡◌, IfOk, option_map};
-ghost use Rattle.bson_base.specs.Text.{AreBytes};
+ghost use Rattle.bson_kinds.specs.Text.{AreBytes};
 ghost use Rattle.bson_recast_run.specs.Digits.{bytes_of_digits, digits_line, is_blank, shown};
 
 use hex::FromHexError;

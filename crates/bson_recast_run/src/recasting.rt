@@ -1,7 +1,7 @@
 ghost use Rattle.std.specs.Prelude.{◌≡◌, Some, IfOk};
 ghost use Rattle.bson_base.specs.Sound.{IsSound};
 ghost use Rattle.bson_base.specs.Tree.{Tree, enc};
-ghost use Rattle.bson_datum.specs.Value.{Value};
+ghost use Rattle.bson_values.specs.Value.{Value};
 ghost use Rattle.bson_datum.specs.View.{view as value_of};
 ghost use Rattle.bson_laws.specs.Recursive.{view};
 ghost use Rattle.bson_laws.specs.Means.{means};
@@ -15,13 +15,14 @@ ghost use Rattle.bson_de_raw.specs.ReadsLossy.{reads_lossy};
 ghost use Rattle.bson_recast_run.specs.Recasting.{lossy_recast_of, IsAppended, GivesBytes, IsForSize, IsForNoNumber, IfUnwritten};
 ghost use Rattle.bson_tree_recast.specs.Recast.{recast_of, recast_read, writes, IsRecast};
 
-use bson_datum::{Datum, de, ser};
+use bson_datum::Datum;
 use bson_de_raw::{from_slice_at, from_slice_utf8_lossy_at};
 use bson_io::{Out, Steps, Tally};
 use bson_one_pass::{recast_at_once, recast_at_once_utf8_lossy};
 use bson_ser_stream::to_buf;
 use bson_shape::Shape;
 use bson_tree_recast::RecastError;
+use bson_values::{de, ser};
 use std::alloc::Global;
 
 /// Reads the bytes of a document at a shape, and gives the bytes of what was read.

@@ -1,12 +1,12 @@
 // The run: the words are judged, the input is read to its end, the recast runs, and all is written.
 ghost use Rattle.std.specs.Prelude.{◌≡◌, ◌≤◌, [], ◌∷◌, length, map, string_bytes, IfOk, Some, Ok};
 ghost use Rattle.bson_base.specs.Sound.{IsSound, max_bytes};
-ghost use Rattle.bson_base.specs.Text.{Bytes, AreBytes};
+ghost use Rattle.bson_kinds.specs.Text.{Bytes, AreBytes};
 ghost use Rattle.bson_base.specs.Tree.{Tree, enc};
 ghost use Rattle.bson_shape.specs.Form.{Form, no_fields};
 ghost use Rattle.bson_shape.specs.Makers.{IsShape};
 ghost use Rattle.bson_shape.specs.Notation.{text};
-ghost use Rattle.bson_datum.specs.Value.{Value};
+ghost use Rattle.bson_values.specs.Value.{Value};
 ghost use Rattle.bson_laws.specs.Recursive.{view};
 ghost use Rattle.bson_laws.specs.Means.{means};
 ghost use Rattle.bson_laws.specs.Plain.{IsPlain};

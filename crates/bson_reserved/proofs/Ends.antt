@@ -1,7 +1,7 @@
 -- The end of a list, and what it is accepted as.
 use Rattle.std.proofs.Common.{◌≡◌, List, [], ◌∷◌, refl}
 use Rattle.std.specs.Prelude.{option_map, IfSome}
-use Rattle.bson_datum.specs.Value.{Value}
+use Rattle.bson_values.specs.Value.{Value}
 use Rattle.bson_laws.specs.Unwrap.{Part, end_as}
 
 pub map_ends : {A B : Type 0} (view : A → B) (a : A) (list : List (Part Value)) → option_map view (end_as a list) ≡ end_as (view a) list

@@ -1,7 +1,7 @@
 -- Listing one thing after another.
 use Rattle.std.proofs.Common.{◌≡◌, ◌<◌, List, ◌++◌, length, subst, sym, ◌∙◌}
 use Rattle.std.specs.Prelude.{Result, Ok, Err}
-use Rattle.bson_datum.specs.Value.{Value}
+use Rattle.bson_values.specs.Value.{Value}
 use Rattle.bson_laws.specs.Unwrap as unwrap
 use Rattle.bson_reserved.specs.ListView.{parts_view}
 use Rattle.bson_reserved.specs.Listed.{Lists, max_parts}

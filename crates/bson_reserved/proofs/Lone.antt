@@ -1,7 +1,7 @@
 -- A field that is not alone.
 use Rattle.std.proofs.Common.{◌≡◌, [], ◌∷◌, List, length, false, ◌==◌, refl, ◌∙◌}
 use Rattle.std.specs.Prelude.{is_some}
-use Rattle.bson_base.specs.Text.{Utf8}
+use Rattle.bson_kinds.specs.Text.{Utf8}
 use Rattle.bson_datum.specs.View.{fields_view}
 use Rattle.bson_datum.specs.declared.datum.Field.{Field}
 use Rattle.bson_laws.specs.Unwrap.{lone_field}

@@ -1,7 +1,7 @@
 -- A struct is no smaller than its fields.
 use Rattle.std.proofs.Common.{◌≤◌, arith}
 use Rattle.std.specs.Global.{Vec}
-use Rattle.bson_datum.specs.declared.text.Text.{Text}
+use Rattle.bson_values.specs.declared.text.Text.{Text}
 use Rattle.bson_datum.specs.declared.datum.Field.{Field}
 use Rattle.bson_datum.specs.declared.datum.Datum.{Struct}
 use Rattle.bson_datum.specs.declared.datum.Datum.TheViews.{size-Datum, sized-Struct}

@@ -1,13 +1,13 @@
 -- What contracts see of what is accepted. Source: this library's own types.
 use Rattle.std.specs.Prelude.{ℕ, Bool, true, false, Option, Some, None, option_map}
-use Rattle.bson_base.specs.Text.{Bytes, Utf8}
+use Rattle.bson_kinds.specs.Text.{Bytes, Utf8}
 use Rattle.bson_base.specs.Instant.{millis}
 use Rattle.bson_base.specs.Parsed.{bytes_of_base64}
 use Rattle.bson_base.specs.Tree as tree
 use Rattle.bson_base.specs.Tree.{Tree}
-use Rattle.bson_base.specs.declared.element_type.ElementType.{ElementType}
-use Rattle.bson_base.specs.declared.element_type.ElementType.TheVariants as kinds
-use Rattle.bson_datum.specs.Value.{Value, map, raw_document}
+use Rattle.bson_kinds.specs.declared.element_type.ElementType.{ElementType}
+use Rattle.bson_kinds.specs.declared.element_type.ElementType.TheVariants as kinds
+use Rattle.bson_values.specs.Value.{Value, map, raw_document}
 use Rattle.bson_reserved.specs.declared.accepted.Accepted.{Accepted}
 use Rattle.bson_reserved.specs.declared.accepted.Accepted.TheVariants.{ObjectId, DateTime, Base64, Binary, Timestamp, JavaScriptCode, Symbol, RegularExpression, DbPointer, Decimal128, MinKey, MaxKey, Undefined}
 use Rattle.bson_reserved.specs.declared.unique_id.UuidBytes.{UuidBytes}

@@ -1,6 +1,6 @@
 -- What contracts see of a list of keys and values. Source: this library's own types.
 use Rattle.std.specs.Prelude.{List, map}
-use Rattle.bson_datum.specs.Value.{Value}
+use Rattle.bson_values.specs.Value.{Value}
 use Rattle.bson_datum.specs.View.{view}
 use Rattle.bson_laws.specs.Unwrap as unwrap
 use Rattle.bson_laws.specs.Unwrap.{a_key, a_value}

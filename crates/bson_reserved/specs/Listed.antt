@@ -2,9 +2,9 @@
 use Rattle.std.specs.Prelude.{◌≡◌, ℕ, ◌<◌, List, ◌++◌, length, Option, None, option_map, codes, Result, Ok, Err}
 use Rattle.bson_base.specs.Tree as tree
 use Rattle.bson_base.specs.Tree.{Tree}
-use Rattle.bson_base.specs.declared.element_type.ElementType.{ElementType}
-use Rattle.bson_base.specs.declared.element_type.ElementType.TheVariants.{Binary, ObjectId, DateTime, RegularExpression, DbPointer, JavaScriptCode, Symbol, Timestamp, Decimal128}
-use Rattle.bson_datum.specs.Value.{Value}
+use Rattle.bson_kinds.specs.declared.element_type.ElementType.{ElementType}
+use Rattle.bson_kinds.specs.declared.element_type.ElementType.TheVariants.{Binary, ObjectId, DateTime, RegularExpression, DbPointer, JavaScriptCode, Symbol, Timestamp, Decimal128}
+use Rattle.bson_values.specs.Value.{Value}
 use Rattle.bson_laws.specs.Unwrap as unwrap
 use Rattle.bson_laws.specs.Unwrap.{object_id_list, date_time_list, binary_list, timestamp_list, text_list, regular_expression_list, db_pointer_list, decimal128_list}
 use Rattle.bson_reserved.specs.ListView.{parts_view}

@@ -1,5 +1,5 @@
 ghost use Rattle.std.specs.Prelude.{◌≡◌, ◌<◌, ◌≤◌, [], ◌∷◌, length, max, MatchOption, IfSome};
-ghost use Rattle.bson_datum.specs.TextView.{text_view};
+ghost use Rattle.bson_values.specs.TextView.{text_view};
 ghost use Rattle.bson_datum.specs.View.{view, fields_view};
 ghost use Rattle.bson_datum.specs.declared.datum.Datum.TheViews.{size-Datum, size-Field};
 ghost use Rattle.bson_laws.specs.Unwrap.{a_key, listed, listed_part};

@@ -12,9 +12,9 @@ use crate::parts::{
     end_as, next_byte, next_bytes, next_key, next_key_of, next_text, next_unsigned,
 };
 use bson_base::{
-    BinarySubtype, DateTime, Decimal128, ElementType, ObjectId, Timestamp, integer_of_text,
-    subtype_of_text,
+    BinarySubtype, DateTime, Decimal128, ObjectId, Timestamp, integer_of_text, subtype_of_text,
 };
+use bson_kinds::ElementType;
 
 // 24 hexadecimal digits.
 pub(crate) fn object_id_list(list: &[Part<'_, '_>]) -> Option<ObjectId>

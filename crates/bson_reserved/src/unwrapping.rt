@@ -12,8 +12,8 @@ use crate::lists::{
     binary_list, date_time_list, db_pointer_list, decimal128_list, object_id_list,
     regular_expression_list, text_list, timestamp_list,
 };
-use bson_base::ElementType;
 use bson_datum::Field;
+use bson_kinds::ElementType;
 
 /// What the fields of a struct are accepted as whose name is reserved for this kind: each kind takes one list of keys and values, in one order, where a
 /// struct that is a field's value gives its own fields to the list, and a value with two forms its compact one. `None` where they are not that list, for

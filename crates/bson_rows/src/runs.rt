@@ -2,7 +2,7 @@
 use crate::row::{Program, Row};
 use crate::trees::{read_tree, tree_in, write_tree};
 use bson_base::Document;
-use bson_datum::{Datum, Text, ser};
+use bson_datum::Datum;
 use bson_de_raw::from_slice_at;
 use bson_infer_run::run_infer;
 use bson_io::{MemorySink, MemorySource};
@@ -10,6 +10,7 @@ use bson_migrate_run::run_migrate;
 use bson_recast_run::{Status, run};
 use bson_ser_stream::to_vec_at;
 use bson_shape::Shape;
+use bson_values::{Text, ser};
 use std::alloc::{AllocError, Global};
 use std::fmt;
 

@@ -1,10 +1,11 @@
 // Documents in memory that are read at shapes, and values that are written as such.
 use bson_base::Document;
-use bson_datum::{Datum, de, ser};
+use bson_datum::Datum;
 use bson_de_tree::{DeserializerOptions, from_document_at, from_document_with_options_at};
 use bson_rawdoc::RawDocument;
 use bson_ser_tree::{SerializerOptions, to_document_at, to_document_with_options_at};
 use bson_shape::Shape;
+use bson_values::{de, ser};
 use std::alloc::Global;
 
 /// The word for a reader and a writer who are not human.

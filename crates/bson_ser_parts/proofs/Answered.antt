@@ -2,10 +2,10 @@
 use Rattle.std.proofs.Common.{Bool, ◌≡◌, ℕ, ◌+◌, ◌-◌, ◌≤◌, inl, inr, length, Result, Err, sym, subst, arith}
 use Rattle.std.specs.Prelude.{Some, IfErr, OnErr}
 use Rattle.bson_base.specs.Sound.{max_bytes, max_levels}
-use Rattle.bson_datum.specs.Refusal.{Refusal, WriteFault, here, Failure, no_memory}
-use Rattle.bson_datum.specs.Stop.{IsPlaced}
-use Rattle.bson_datum.specs.Value.{Value}
-use Rattle.bson_datum.specs.declared.stop.Stop.TheVariants.{Refused, NoMemory}
+use Rattle.bson_values.specs.Refusal.{Refusal, WriteFault, here, Failure, no_memory}
+use Rattle.bson_values.specs.Stop.{IsPlaced}
+use Rattle.bson_values.specs.Value.{Value}
+use Rattle.bson_values.specs.declared.stop.Stop.TheVariants.{Refused, NoMemory}
 use Rattle.bson_io.specs.Output.{Output}
 use Rattle.bson_laws.specs.Spell.{Writing, spell_as}
 use Rattle.bson_writing.specs.Halting.{Halts, halt_view, IsHereOrMemory}

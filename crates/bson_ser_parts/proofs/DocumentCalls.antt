@@ -2,14 +2,14 @@
 use Rattle.std.proofs.Common.{Bool, true, false, ◌≡◌, ℕ, ◌+◌, ◌≤◌, ◌^◌, ◌++◌, length, take, Result, Ok, Err, refl, ap, sym, subst, ◌∙◌, arith}
 use Rattle.std.specs.Fmt.{decimal}
 use Rattle.bson_base.specs.Sound.{max_levels}
-use Rattle.bson_base.specs.Text.{Bytes}
+use Rattle.bson_kinds.specs.Text.{Bytes}
 use Rattle.bson_base.specs.Tree.{elements, array_elements}
-use Rattle.bson_datum.specs.Cause.{bad_step}
-use Rattle.bson_datum.specs.Refusal.{unwritable, under_index}
-use Rattle.bson_datum.specs.Stop.{IsPlaced}
-use Rattle.bson_datum.specs.ErrorView.{write_failure}
-use Rattle.bson_datum.specs.Value.{Value, sequence, map, Items, item, Entries, entry}
-use Rattle.bson_datum.specs.declared.ser.Error.{Error}
+use Rattle.bson_values.specs.Cause.{bad_step}
+use Rattle.bson_values.specs.Refusal.{unwritable, under_index}
+use Rattle.bson_values.specs.Stop.{IsPlaced}
+use Rattle.bson_values.specs.ErrorView.{write_failure}
+use Rattle.bson_values.specs.Value.{Value, sequence, map, Items, item, Entries, entry}
+use Rattle.bson_values.specs.declared.ser.Error.{Error}
 use Rattle.bson_io.specs.Output.{Output}
 use Rattle.bson_laws.specs.Means.{key_text}
 use Rattle.bson_laws.specs.Spell.{spell_as, spell_items_as, spell_key, spell_entries_as, key_size, size_as}

@@ -2,13 +2,13 @@
 use Rattle.std.proofs.Common.{Bool, ◌≡◌, ℕ, ◌+◌, ◌-◌, ◌≤◌, [], ◌∷◌, ◌++◌, length, Ok, refl, ap, sym, subst, ◌∙◌, arith}
 use Rattle.std.specs.Fmt.{decimal}
 use Rattle.std.proofs.lemmas.List.{length-append}
-use Rattle.bson_base.specs.Outcome.{result_map}
+use Rattle.bson_kinds.specs.Outcome.{result_map}
 use Rattle.bson_base.specs.Sound.{max_bytes, max_levels}
-use Rattle.bson_base.specs.Text.{Bytes}
+use Rattle.bson_kinds.specs.Text.{Bytes}
 use Rattle.bson_base.specs.Tree.{document, array, elements, array_elements, le32}
-use Rattle.bson_datum.specs.Refusal.{WriteFault, Failure, under_index}
-use Rattle.bson_datum.specs.Stop.{IsPlaced}
-use Rattle.bson_datum.specs.Value.{Value, sequence, map, Items, item, Entries, entry}
+use Rattle.bson_values.specs.Refusal.{WriteFault, Failure, under_index}
+use Rattle.bson_values.specs.Stop.{IsPlaced}
+use Rattle.bson_values.specs.Value.{Value, sequence, map, Items, item, Entries, entry}
 use Rattle.bson_io.specs.Output.{Output, patched}
 use Rattle.bson_laws.specs.Means.{key_text}
 use Rattle.bson_laws.specs.Spell.{spell_as, spell_items_as, spell_key, spell_entries_as, key_size, size_as}

@@ -1,10 +1,10 @@
 -- What parts behind others are written as, where the others were written.
 use Rattle.std.proofs.Common.{Bool, ◌≡◌, ℕ, suc, ◌+◌, ◌≤◌, [], ◌++◌, length, Ok, Err, refl, ap, sym, ◌∙◌, append-nil, arith}
 use Rattle.std.specs.Fmt.{decimal}
-use Rattle.bson_base.specs.Text.{Bytes, Utf8}
+use Rattle.bson_kinds.specs.Text.{Bytes, Utf8}
 use Rattle.bson_base.specs.Tree.{tree, pair, elements, array_elements}
-use Rattle.bson_datum.specs.Refusal.{Refusal, WriteFault, under_index}
-use Rattle.bson_datum.specs.Value.{Value, Items, no_items, item, Entries, no_entries, entry, FieldValues, no_field_values, field_value}
+use Rattle.bson_values.specs.Refusal.{Refusal, WriteFault, under_index}
+use Rattle.bson_values.specs.Value.{Value, Items, no_items, item, Entries, no_entries, entry, FieldValues, no_field_values, field_value}
 use Rattle.bson_laws.specs.Means.{key_text}
 use Rattle.bson_laws.specs.Spell.{Writing, named, spell_as, spell_items_as, spell_key, spell_entries_as, spell_fields_as, key_size, size_as, size_items_as, size_entries_as, size_fields_as}
 use Rattle.bson_laws.proofs.Sizes.{ok_is}

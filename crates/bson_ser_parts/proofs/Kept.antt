@@ -1,8 +1,8 @@
 -- What the output held when the writer began is at its front.
 use Rattle.std.proofs.Common.{◌≡◌, ℕ, ◌++◌, length, take, Ok, refl, ap, sym, ◌∙◌, append_assoc}
 use Rattle.std.proofs.lemmas.List.{take_at}
-use Rattle.bson_base.specs.Text.{Bytes}
-use Rattle.bson_base.proofs.Outcomes.{map_ok}
+use Rattle.bson_kinds.specs.Text.{Bytes}
+use Rattle.bson_kinds.proofs.Outcomes.{map_ok}
 use Rattle.bson_laws.specs.Spell.{Writing}
 use Rattle.bson_ser_stream.specs.Writing.{with_bytes}
 use Rattle.bson_ser_stream.specs.Halting.{Grows}

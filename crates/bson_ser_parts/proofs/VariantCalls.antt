@@ -4,16 +4,16 @@ use Rattle.std.specs.Prelude.{string_bytes}
 use Rattle.std.specs.Fmt.{decimal}
 use Rattle.std.proofs.lemmas.List.{length-append}
 use Rattle.bson_base.specs.Sound.{max_levels}
-use Rattle.bson_base.specs.Text.{Bytes, Utf8}
+use Rattle.bson_kinds.specs.Text.{Bytes, Utf8}
 use Rattle.bson_base.specs.Tree.{elements, array_elements}
-use Rattle.bson_base.proofs.Outcomes.{map_ok}
-use Rattle.bson_datum.specs.Cause.{bad_step}
-use Rattle.bson_datum.specs.Refusal.{unwritable, at_key, under_index}
-use Rattle.bson_datum.specs.Stop.{IsPlaced}
-use Rattle.bson_datum.specs.ErrorView.{write_failure}
-use Rattle.bson_datum.specs.Value.{Value, tuple_variant, structure_variant, Items, item, FieldValues, field_value}
-use Rattle.bson_datum.specs.declared.ser.Error.{Error}
-use Rattle.bson_datum.specs.declared.stop.Stop.TheVariants.{Refused, NoMemory}
+use Rattle.bson_kinds.proofs.Outcomes.{map_ok}
+use Rattle.bson_values.specs.Cause.{bad_step}
+use Rattle.bson_values.specs.Refusal.{unwritable, at_key, under_index}
+use Rattle.bson_values.specs.Stop.{IsPlaced}
+use Rattle.bson_values.specs.ErrorView.{write_failure}
+use Rattle.bson_values.specs.Value.{Value, tuple_variant, structure_variant, Items, item, FieldValues, field_value}
+use Rattle.bson_values.specs.declared.ser.Error.{Error}
+use Rattle.bson_values.specs.declared.stop.Stop.TheVariants.{Refused, NoMemory}
 use Rattle.bson_io.specs.Output.{Output}
 use Rattle.bson_laws.specs.Spell.{Writing, named, spell_as, spell_items_as, spell_fields_as, size_as}
 use Rattle.bson_writing.specs.Halting.{Halts, halt_view, IsHereOrMemory, IsUnder}

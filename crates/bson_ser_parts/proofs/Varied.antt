@@ -3,17 +3,17 @@ use Rattle.std.proofs.Common.{Bool, false, ◌≡◌, ℕ, ◌+◌, ◌-◌, ◌
 use Rattle.std.specs.Prelude.{if◌then◌else◌}
 use Rattle.std.specs.Fmt.{decimal}
 use Rattle.std.proofs.lemmas.List.{length-append}
-use Rattle.bson_base.specs.Kind.{byte}
-use Rattle.bson_base.specs.Outcome.{◌>>=◌, result_map}
+use Rattle.bson_kinds.specs.Kind.{byte}
+use Rattle.bson_kinds.specs.Outcome.{◌>>=◌, result_map}
 use Rattle.bson_base.specs.Sound.{max_bytes, max_levels}
-use Rattle.bson_base.specs.Text.{Bytes, Utf8, has_zero}
+use Rattle.bson_kinds.specs.Text.{Bytes, Utf8, has_zero}
 use Rattle.bson_base.specs.Tree.{Tree, document, array, no_pairs, pair, kind, enc, element, elements, array_elements, enclosed}
-use Rattle.bson_base.specs.declared.element_type.ElementType.{ElementType}
-use Rattle.bson_base.specs.declared.element_type.ElementType.TheVariants.{Array, EmbeddedDocument}
-use Rattle.bson_base.proofs.Outcomes.{map_ok}
-use Rattle.bson_datum.specs.Refusal.{Refusal, WriteFault, Failure, Segment, at_key, in_segment, inside, under, under_index, here, invalid_cstring}
-use Rattle.bson_datum.specs.Stop.{IsPlaced}
-use Rattle.bson_datum.specs.Value.{Value, tuple_variant, structure_variant, Items, item, FieldValues, field_value}
+use Rattle.bson_kinds.specs.declared.element_type.ElementType.{ElementType}
+use Rattle.bson_kinds.specs.declared.element_type.ElementType.TheVariants.{Array, EmbeddedDocument}
+use Rattle.bson_kinds.proofs.Outcomes.{map_ok}
+use Rattle.bson_values.specs.Refusal.{Refusal, WriteFault, Failure, Segment, at_key, in_segment, inside, under, under_index, here, invalid_cstring}
+use Rattle.bson_values.specs.Stop.{IsPlaced}
+use Rattle.bson_values.specs.Value.{Value, tuple_variant, structure_variant, Items, item, FieldValues, field_value}
 use Rattle.bson_io.specs.Output.{patched}
 use Rattle.bson_laws.specs.Spell.{Writing, named, variant_at, enclosed_at, spell_as, spell_items_as, spell_fields_as, size_as}
 use Rattle.bson_laws.proofs.Sizes.{ok_is, length-spell}

@@ -1,9 +1,9 @@
 -- The writer of a document or an array, part by part. Source: this library's own readers and writers.
 use Rattle.std.specs.Prelude.{◌≡◌, Bool, true, false, ◌++◌, length, Result, Ok}
 use Rattle.bson_base.specs.Sound.{max_levels}
-use Rattle.bson_base.specs.Text.{Bytes}
-use Rattle.bson_datum.specs.Value.{Value, sequence, map, Items, no_items, item, Entries, no_entries, entry}
-use Rattle.bson_datum.specs.declared.ser.Error.{Error}
+use Rattle.bson_kinds.specs.Text.{Bytes}
+use Rattle.bson_values.specs.Value.{Value, sequence, map, Items, no_items, item, Entries, no_entries, entry}
+use Rattle.bson_values.specs.declared.ser.Error.{Error}
 use Rattle.bson_laws.specs.Spell.{spell_as, spell_items_as, spell_entries_as, size_as}
 use Rattle.bson_writing.specs.Joined.{items_joined, entries_joined, with_item, with_entry, index_after}
 use Rattle.bson_writing.specs.Levels.{in_whole}

@@ -1,13 +1,13 @@
 -- A document of one pair that is begun before what is under its key is known. Source: bsonspec.org, version 1.1, `document`.
 use Rattle.std.specs.Prelude.{◌≡◌, ℕ, ◌+◌, ◌-◌, ◌<◌, ◌≤◌, Bool, true, if◌then◌else◌, [], ◌∷◌, ◌++◌, ◌⊎◌, length}
-use Rattle.bson_base.specs.Kind.{byte}
+use Rattle.bson_kinds.specs.Kind.{byte}
 use Rattle.bson_base.specs.Sound.{max_bytes}
-use Rattle.bson_base.specs.Text.{Bytes, Utf8, has_zero}
+use Rattle.bson_kinds.specs.Text.{Bytes, Utf8, has_zero}
 use Rattle.bson_base.specs.Tree.{le32}
-use Rattle.bson_base.specs.declared.element_type.ElementType.{ElementType}
-use Rattle.bson_base.specs.declared.element_type.ElementType.TheVariants.{Array, EmbeddedDocument}
-use Rattle.bson_datum.specs.Refusal.{WriteFault, Failure, no_memory, with_path, here, invalid_cstring}
-use Rattle.bson_datum.specs.declared.stop.Stop.TheVariants.{Refused, NoMemory}
+use Rattle.bson_kinds.specs.declared.element_type.ElementType.{ElementType}
+use Rattle.bson_kinds.specs.declared.element_type.ElementType.TheVariants.{Array, EmbeddedDocument}
+use Rattle.bson_values.specs.Refusal.{WriteFault, Failure, no_memory, with_path, here, invalid_cstring}
+use Rattle.bson_values.specs.declared.stop.Stop.TheVariants.{Refused, NoMemory}
 use Rattle.bson_io.specs.Output.{Output, patched}
 use Rattle.bson_writing.specs.Halting.{refusal}
 use Rattle.bson_writing.specs.declared.halt.Halt.{Halt}

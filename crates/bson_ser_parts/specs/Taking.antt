@@ -1,14 +1,14 @@
 -- What the calls of a writer answer that takes a value part by part, by what the whole value is written as. Source: this library's own readers and writers.
 use Rattle.std.specs.Prelude.{◌≡◌, ℕ, ◌<◌, ◌≤◌, Bool, true, Some, Result, Ok, Err, IsErrAnd}
 use Rattle.bson_base.specs.Sound.{max_bytes}
-use Rattle.bson_base.specs.Text.{Bytes}
+use Rattle.bson_kinds.specs.Text.{Bytes}
 use Rattle.bson_base.specs.Tree.{Tree}
-use Rattle.bson_datum.specs.Cause as cause
-use Rattle.bson_datum.specs.Cause.{Cause}
-use Rattle.bson_datum.specs.Refusal.{WriteFault, Failure, unwritable, here}
-use Rattle.bson_datum.specs.Stop.{IsPlaced}
-use Rattle.bson_datum.specs.ErrorView.{write_failure}
-use Rattle.bson_datum.specs.declared.ser.Error.{Error}
+use Rattle.bson_values.specs.Cause as cause
+use Rattle.bson_values.specs.Cause.{Cause}
+use Rattle.bson_values.specs.Refusal.{WriteFault, Failure, unwritable, here}
+use Rattle.bson_values.specs.Stop.{IsPlaced}
+use Rattle.bson_values.specs.ErrorView.{write_failure}
+use Rattle.bson_values.specs.declared.ser.Error.{Error}
 use Rattle.bson_laws.specs.Spell.{Writing}
 use Rattle.bson_ser_stream.specs.Writing.{with_tree, Fails, too_long_failure}
 

@@ -2,9 +2,9 @@
 use Rattle.std.specs.Prelude.{◌≡◌, Bool, true, false, ◌++◌, length, String, string_bytes, Result, Ok}
 use Rattle.std.specs.Global.{Global}
 use Rattle.bson_base.specs.Sound.{max_levels}
-use Rattle.bson_base.specs.Text.{Bytes, Utf8, has_zero}
-use Rattle.bson_datum.specs.Value.{Value, tuple_variant, structure_variant, Items, no_items, item, FieldValues, no_field_values, field_value}
-use Rattle.bson_datum.specs.declared.ser.Error.{Error}
+use Rattle.bson_kinds.specs.Text.{Bytes, Utf8, has_zero}
+use Rattle.bson_values.specs.Value.{Value, tuple_variant, structure_variant, Items, no_items, item, FieldValues, no_field_values, field_value}
+use Rattle.bson_values.specs.declared.ser.Error.{Error}
 use Rattle.bson_laws.specs.Spell.{spell_as, spell_items_as, spell_fields_as, size_as}
 use Rattle.bson_writing.specs.Joined.{items_joined, fields_joined, with_item, with_field, index_after}
 use Rattle.bson_writing.specs.Levels.{in_variant}

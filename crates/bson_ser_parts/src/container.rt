@@ -1,16 +1,17 @@
 // The beginning and the end of a document or an array that is written part by part.
 ghost use Rattle.std.specs.Prelude.{◌≡◌, ◌≤◌, ◌+◌, ◌++◌, length, IfOk, OnOk, IfErr, OnErr};
-ghost use Rattle.bson_datum.specs.ErrorView.{write_failure};
-ghost use Rattle.bson_datum.specs.Refusal.{no_memory};
+ghost use Rattle.bson_values.specs.ErrorView.{write_failure};
+ghost use Rattle.bson_values.specs.Refusal.{no_memory};
 ghost use Rattle.bson_writing.specs.Levels.{in_whole};
 ghost use Rattle.bson_ser_stream.specs.Writing.{length_place};
 ghost use Rattle.bson_ser_stream.specs.Halting.{Grows, Ends, EndHalts};
 
 use crate::refusal::take_back;
-use bson_datum::ser::Result;
-use bson_datum::{Cause, MAX_NESTING_LEVEL};
+use bson_datum::MAX_NESTING_LEVEL;
 use bson_io::{Ledger, Out, Steps};
 use bson_ser_stream::Container;
+use bson_values::Cause;
+use bson_values::ser::Result;
 use bson_writing::Halt;
 
 // The bytes of a length.

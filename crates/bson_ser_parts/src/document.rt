@@ -1,9 +1,9 @@
 // The writer of a document or an array, part by part.
 ghost use Rattle.std.specs.Prelude.{◌≡◌, take, true, IfOk, IfErr};
 ghost use Rattle.std.specs.Borrow.{sem, RestsIfErr};
-ghost use Rattle.bson_datum.specs.ErrorView.{write_failure};
-ghost use Rattle.bson_datum.specs.Refusal.{no_memory};
-ghost use Rattle.bson_datum.specs.Stop.{IsPlaced};
+ghost use Rattle.bson_values.specs.ErrorView.{write_failure};
+ghost use Rattle.bson_values.specs.Refusal.{no_memory};
+ghost use Rattle.bson_values.specs.Stop.{IsPlaced};
 ghost use Rattle.bson_datum.specs.View.{view};
 ghost use Rattle.bson_io.specs.contracts.out.Out.{the_row};
 ghost use Rattle.bson_writing.specs.Halting.{halt_view};
@@ -11,10 +11,11 @@ ghost use Rattle.bson_ser_parts.specs.Taking.{AnswersFailed, AnswersBadStep};
 
 use crate::container::{begin_whole, end_begun};
 use crate::refusal::{failed_before, take_back};
-use bson_datum::ser::{Error, Result};
-use bson_datum::{Cause, Datum};
+use bson_datum::Datum;
 use bson_io::{Ledger, Out, Steps};
 use bson_ser_stream::{Container, put_item, put_map_entry};
+use bson_values::Cause;
+use bson_values::ser::{Error, Result};
 use bson_writing::Halt;
 
 /// A writer of a document or an array, part by part.

@@ -1,7 +1,7 @@
 // A document of one pair that is begun before what is under its key is known.
 ghost use Rattle.std.specs.Prelude.{◌≡◌, ◌++◌, length, take, false, IfOk, OnOk, IfErr, OnErr};
-ghost use Rattle.bson_base.specs.Text.{has_zero};
-ghost use Rattle.bson_datum.specs.ErrorView.{write_failure};
+ghost use Rattle.bson_kinds.specs.Text.{has_zero};
+ghost use Rattle.bson_values.specs.ErrorView.{write_failure};
 ghost use Rattle.bson_writing.specs.Levels.{in_variant};
 ghost use Rattle.bson_ser_stream.specs.Writing.{length_place};
 ghost use Rattle.bson_ser_stream.specs.Halting.{Grows};
@@ -9,10 +9,12 @@ ghost use Rattle.bson_ser_parts.specs.Pairs.{behind_name, contents_kind, NameHal
 
 use crate::container::end_begun;
 use crate::refusal::take_back;
-use bson_base::{ElementType, has_zero};
-use bson_datum::{Cause, MAX_NESTING_LEVEL, ser};
+use bson_base::has_zero;
+use bson_datum::MAX_NESTING_LEVEL;
 use bson_io::{Ledger, Out, Steps};
+use bson_kinds::ElementType;
 use bson_ser_stream::{Container, begin_element};
+use bson_values::{Cause, ser};
 use bson_writing::{Halt, zero_in};
 
 /// A document of one pair that was begun, and the array or the document under its key.

@@ -1,14 +1,14 @@
 // What a writer answers where it is refused.
 ghost use Rattle.std.specs.Prelude.{◌≡◌, take, Some};
-ghost use Rattle.bson_datum.specs.Cause.{failed};
-ghost use Rattle.bson_datum.specs.ErrorView.{cause_view, write_failure};
-ghost use Rattle.bson_datum.specs.Refusal.{here, unwritable};
-ghost use Rattle.bson_datum.specs.Stop.{IsPlaced};
+ghost use Rattle.bson_values.specs.Cause.{failed};
+ghost use Rattle.bson_values.specs.ErrorView.{cause_view, write_failure};
+ghost use Rattle.bson_values.specs.Refusal.{here, unwritable};
+ghost use Rattle.bson_values.specs.Stop.{IsPlaced};
 ghost use Rattle.bson_writing.specs.Halting.{halt_view};
 
-use bson_datum::Cause;
-use bson_datum::ser::Error;
 use bson_io::Out;
+use bson_values::Cause;
+use bson_values::ser::Error;
 use bson_writing::Halt;
 use std::alloc::Global;
 

@@ -1,8 +1,8 @@
 // The writer of a variant with contents, part by part.
 ghost use Rattle.std.specs.Prelude.{◌≡◌, take, true, IfOk, IfErr};
 ghost use Rattle.std.specs.Borrow.{sem, RestsIfErr};
-ghost use Rattle.bson_datum.specs.ErrorView.{write_failure};
-ghost use Rattle.bson_datum.specs.Stop.{IsPlaced};
+ghost use Rattle.bson_values.specs.ErrorView.{write_failure};
+ghost use Rattle.bson_values.specs.Stop.{IsPlaced};
 ghost use Rattle.bson_datum.specs.View.{view};
 ghost use Rattle.bson_io.specs.contracts.out.Out.{the_row};
 ghost use Rattle.bson_writing.specs.Halting.{halt_view};
@@ -11,10 +11,11 @@ ghost use Rattle.bson_ser_parts.specs.Taking.{AnswersFailed, AnswersBadStep};
 
 use crate::pair::{OnePair, begin_variant, contents_kind};
 use crate::refusal::{failed_before, take_back};
-use bson_datum::ser::{Error, Result};
-use bson_datum::{Cause, Datum};
+use bson_datum::Datum;
 use bson_io::{Ledger, Out, Steps};
 use bson_ser_stream::{put_item, put_struct_field};
+use bson_values::Cause;
+use bson_values::ser::{Error, Result};
 use bson_writing::Halt;
 
 /// A writer of a variant with contents, part by part: of a document of one pair, whose key is the name of the variant, and under which is an array or a document.

@@ -1,6 +1,6 @@
 -- What the fields of a reserved struct are accepted as, written.
 use Rattle.std.proofs.Common.{◌≡◌, ℕ, Result, sym, subst}
-use Rattle.bson_base.specs.declared.element_type.ElementType.{ElementType}
+use Rattle.bson_kinds.specs.declared.element_type.ElementType.{ElementType}
 use Rattle.bson_io.specs.Output.{Output}
 use Rattle.bson_reserved.specs.AcceptedView.{accepted_view, accepted_kind}
 use Rattle.bson_laws.specs.Written.{spell_unwrapped, written_size}

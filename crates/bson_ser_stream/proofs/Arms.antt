@@ -1,16 +1,16 @@
 -- A datum whose values, entries or fields are in a `Vec` is written as the value that it is.
 use Rattle.std.proofs.Common.{◌≡◌, ℕ, ◌+◌, ◌⊎◌, inl, inr, List, [], Bool, Option, Some, None, Result, ap, sym, subst, ◌∙◌}
 use Rattle.std.specs.Global.{Vec}
-use Rattle.bson_base.specs.Text.{Utf8}
-use Rattle.bson_base.specs.Reserved.{reserved_kind}
+use Rattle.bson_kinds.specs.Text.{Utf8}
+use Rattle.bson_kinds.specs.Reserved.{reserved_kind}
 use Rattle.bson_base.specs.Tree.{document}
-use Rattle.bson_base.specs.declared.element_type.ElementType.{ElementType}
-use Rattle.bson_base.specs.declared.element_type.ElementType.TheVariants.{EmbeddedDocument}
-use Rattle.bson_datum.specs.TextView.{text_view}
-use Rattle.bson_datum.specs.Value.{Value, FieldValues, sequence, tuple, tuple_structure, structure, kind_as, reserved_or_document}
+use Rattle.bson_kinds.specs.declared.element_type.ElementType.{ElementType}
+use Rattle.bson_kinds.specs.declared.element_type.ElementType.TheVariants.{EmbeddedDocument}
+use Rattle.bson_values.specs.TextView.{text_view}
+use Rattle.bson_values.specs.Value.{Value, FieldValues, sequence, tuple, tuple_structure, structure, kind_as, reserved_or_document}
 use Rattle.bson_datum.specs.View.{view, items_view}
 use Rattle.bson_datum.proofs.Views.{view-Seq, view-Tuple, view-TupleStruct}
-use Rattle.bson_datum.specs.declared.text.Text.{Text}
+use Rattle.bson_values.specs.declared.text.Text.{Text}
 use Rattle.bson_datum.specs.declared.datum.Datum.{Datum, Seq, Tuple, TupleStruct}
 use Rattle.bson_io.specs.Output.{Output}
 use Rattle.bson_laws.specs.Unwrap.{unwrap, scoped_code}

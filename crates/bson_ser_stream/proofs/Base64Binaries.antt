@@ -5,11 +5,11 @@ use Rattle.std.specs.Result.{IsErrAnd}
 use Rattle.base64.specs.GeneralPurpose.{IsBytes}
 use Rattle.bson_base.specs.Parsed.{bytes_of_base64}
 use Rattle.bson_base.specs.Sound.{max_binary}
-use Rattle.bson_base.specs.Text.{Bytes, Utf8}
+use Rattle.bson_kinds.specs.Text.{Bytes, Utf8}
 use Rattle.bson_base.specs.Tree.{Tree, binary, enc}
-use Rattle.bson_base.specs.declared.element_type.ElementType.{ElementType}
+use Rattle.bson_kinds.specs.declared.element_type.ElementType.{ElementType}
 use Rattle.bson_base.proofs.Base64Texts.{base64_ok, length-text}
-use Rattle.bson_datum.specs.Refusal.{Refusal, WriteFault}
+use Rattle.bson_values.specs.Refusal.{Refusal, WriteFault}
 use Rattle.bson_io.specs.Output.{Output, Appended}
 use Rattle.bson_laws.specs.Written.{Writing, spell_unwrapped, written_size}
 use Rattle.bson_ser_stream.specs.Binary.{binary_front}

@@ -4,7 +4,7 @@ use Rattle.std.proofs.lemmas.Bool.{cases_lt}
 use Rattle.std.proofs.lemmas.Bool.Decides.{eqb_tells}
 use Rattle.base64.specs.GeneralPurpose.{IsBytes}
 use Rattle.bson_base.specs.Parsed.{bytes_of_base64}
-use Rattle.bson_base.specs.Text.{Bytes}
+use Rattle.bson_kinds.specs.Text.{Bytes}
 use Rattle.bson_base.proofs.Base64Texts.{after_group, base64_cut, bytes_back}
 use Rattle.bson_io.specs.Output.{Output, Appended}
 use Rattle.bson_ser_stream.specs.Halting.{Grows}

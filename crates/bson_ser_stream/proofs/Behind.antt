@@ -1,11 +1,11 @@
 -- A field, an entry or a value that was appended, and those behind it.
 use Rattle.std.proofs.Common.{Bool, ◌≡◌, ℕ, suc, ◌+◌, length, Ok, Err, refl, arith}
 use Rattle.std.specs.Fmt.{decimal}
-use Rattle.bson_base.specs.Outcome.{◌>>=◌}
-use Rattle.bson_base.specs.Text.{Bytes, Utf8}
+use Rattle.bson_kinds.specs.Outcome.{◌>>=◌}
+use Rattle.bson_kinds.specs.Text.{Bytes, Utf8}
 use Rattle.bson_base.specs.Tree.{Tree, Pairs, pair, tree, elements, array_elements}
-use Rattle.bson_datum.specs.Refusal.{under, under_index}
-use Rattle.bson_datum.specs.Value.{Value, Items, item, Entries, entry, FieldValues, field_value, no_field_values}
+use Rattle.bson_values.specs.Refusal.{under, under_index}
+use Rattle.bson_values.specs.Value.{Value, Items, item, Entries, entry, FieldValues, field_value, no_field_values}
 use Rattle.bson_io.specs.Output.{Output}
 use Rattle.bson_laws.specs.Spell.{Writing, named, spell_as, spell_items_as, spell_key, spell_entries_as, spell_fields_as, size_as, size_fields_as}
 use Rattle.bson_ser_stream.specs.Writing.{with_element, with_entry, with_elements, with_array_elements}

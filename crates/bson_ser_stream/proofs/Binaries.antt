@@ -3,12 +3,12 @@ use Rattle.std.proofs.Common.{◌≡◌, ◌≢◌, ℕ, ◌+◌, ◌<◌, ◌�
 use Rattle.std.specs.Int.{w32, to_le_bytes, cast_unsigned, cast_signed}
 use Rattle.std.proofs.lemmas.Bool.Decides.{nat_tests}
 use Rattle.std.proofs.lemmas.List.{length-append}
-use Rattle.bson_base.specs.Text.{Bytes}
+use Rattle.bson_kinds.specs.Text.{Bytes}
 use Rattle.bson_base.specs.Sound.{max_binary, max_bytes}
 use Rattle.bson_base.specs.Tree.{Tree, le32, binary, behind_subtype, enc}
 use Rattle.bson_base.proofs.Lengths.{length-le32, length-binary}
-use Rattle.bson_datum.specs.Cause.{binary_too_long}
-use Rattle.bson_datum.specs.Refusal.{Refusal, WriteFault, unwritable, here}
+use Rattle.bson_values.specs.Cause.{binary_too_long}
+use Rattle.bson_values.specs.Refusal.{Refusal, WriteFault, unwritable, here}
 use Rattle.bson_io.specs.Output.{Output, Appended}
 use Rattle.bson_laws.specs.Written.{Writing, spell_binary}
 use Rattle.bson_ser_stream.specs.Binary.{behind_length, second_length, binary_front}

@@ -2,14 +2,14 @@
 use Rattle.std.proofs.Common.{Bool, ◌≡◌, ℕ, zero, suc, ◌+◌, ◌-◌, ◌≤◌, [], ◌∷◌, ◌++◌, length, take, drop, Result, Ok, Err, refl, ap, sym, subst, ◌∙◌, append_assoc, arith}
 use Rattle.std.proofs.lemmas.List.{length-append, take_at, drop_at}
 use Rattle.std.specs.Prelude.{IsOk}
-use Rattle.bson_base.specs.Text.{Bytes}
-use Rattle.bson_base.specs.Outcome.{result_map}
+use Rattle.bson_kinds.specs.Text.{Bytes}
+use Rattle.bson_kinds.specs.Outcome.{result_map}
 use Rattle.bson_base.specs.Sound.{max_bytes}
 use Rattle.bson_base.specs.Tree.{Tree, document, array, le32, enc, elements, array_elements, enclosed}
-use Rattle.bson_base.specs.declared.element_type.ElementType.{ElementType}
+use Rattle.bson_kinds.specs.declared.element_type.ElementType.{ElementType}
 use Rattle.bson_base.proofs.Lengths.{length-le32}
-use Rattle.bson_datum.specs.Value.{Items, Entries, FieldValues}
-use Rattle.bson_datum.specs.Refusal.{Refusal, WriteFault}
+use Rattle.bson_values.specs.Value.{Items, Entries, FieldValues}
+use Rattle.bson_values.specs.Refusal.{Refusal, WriteFault}
 use Rattle.bson_io.specs.Output.{Output, Appended, patched}
 use Rattle.bson_laws.specs.Spell.{Writing, spell_items_as, spell_entries_as, spell_fields_as, enclosed_at, size_items_as, size_entries_as, size_fields_as}
 use Rattle.bson_laws.proofs.Sizes.{ok_is, length-spell_items, length-spell_entries, length-spell_fields}
@@ -21,7 +21,7 @@ use Rattle.bson_ser_stream.proofs.Written.{length-with_bytes}
 use Rattle.bson_ser_stream.proofs.Halted.{unended}
 use Rattle.bson_ser_stream.proofs.Ended.{Grows-container}
 use Rattle.bson_writing.specs.declared.halt.Halt.{Halt}
-use Rattle.bson_datum.specs.declared.stop.Stop.TheVariants.{Refused, NoMemory}
+use Rattle.bson_values.specs.declared.stop.Stop.TheVariants.{Refused, NoMemory}
 use Rattle.bson_writing.specs.declared.halt.Halt.TheVariants.{Stopped, TooLong}
 
 -- the parts of a document or an array: their bytes are what it encloses, and as many as their size says

@@ -1,12 +1,12 @@
 -- An element whose kind is written over its place behind its value.
 use Rattle.std.proofs.Common.{Bool, ◌≡◌, ℕ, ◌+◌, [], ◌∷◌, ◌++◌, length, take, drop, Ok, refl, ap, sym, ◌∙◌, append_assoc, arith}
 use Rattle.std.proofs.lemmas.List.{length-append, take_at, drop_at}
-use Rattle.bson_base.specs.Text.{Bytes, Utf8}
-use Rattle.bson_base.specs.Kind.{byte}
+use Rattle.bson_kinds.specs.Text.{Bytes, Utf8}
+use Rattle.bson_kinds.specs.Kind.{byte}
 use Rattle.bson_base.specs.Tree.{enc, kind, element}
-use Rattle.bson_base.specs.declared.element_type.ElementType.{ElementType}
-use Rattle.bson_base.proofs.Outcomes.{map_ok}
-use Rattle.bson_datum.specs.Value.{Value, kind_as}
+use Rattle.bson_kinds.specs.declared.element_type.ElementType.{ElementType}
+use Rattle.bson_kinds.proofs.Outcomes.{map_ok}
+use Rattle.bson_values.specs.Value.{Value, kind_as}
 use Rattle.bson_io.specs.Output.{Output, Appended, Patched, patched}
 use Rattle.bson_laws.specs.Spell.{spell_as}
 use Rattle.bson_laws.proofs.Sizes.{spell_kind}

@@ -5,11 +5,11 @@ use Rattle.std.specs.Str.{chars, IsUtf8}
 use Rattle.std.proofs.lemmas.List.{length-append}
 use Rattle.std.proofs.lemmas.Str.{encodes-chars}
 use Rattle.bson_base.specs.Sorted.{insert, ascending, sorted}
-use Rattle.bson_base.specs.Text.{Utf8, has_zero}
+use Rattle.bson_kinds.specs.Text.{Utf8, has_zero}
 use Rattle.bson_base.specs.Tree.{regular_expression, enc}
-use Rattle.bson_datum.specs.Refusal.{invalid_cstring, here}
+use Rattle.bson_values.specs.Refusal.{invalid_cstring, here}
 use Rattle.bson_laws.specs.Written.{zero_free, spell_whole}
-use Rattle.bson_base.specs.Outcome.{◌>>=◌}
+use Rattle.bson_kinds.specs.Outcome.{◌>>=◌}
 use Rattle.bson_io.specs.Output.{Output, Appended}
 use Rattle.bson_ser_stream.proofs.Repeated.{appended_both}
 

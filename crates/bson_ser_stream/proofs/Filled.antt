@@ -2,7 +2,7 @@
 use Rattle.std.proofs.Common.{◌≡◌, ◌≢◌, ℕ, ◌+◌, ◌≤◌, [], ◌∷◌, ◌++◌, length, take, drop, refl, ap, sym, ◌∙◌, append_assoc, arith}
 use Rattle.std.specs.Int.{w32, to_le_bytes, cast_unsigned, cast_signed}
 use Rattle.std.proofs.lemmas.List.{length-append, take_at, drop_at}
-use Rattle.bson_base.specs.Text.{Bytes}
+use Rattle.bson_kinds.specs.Text.{Bytes}
 use Rattle.bson_base.specs.Tree.{le32}
 use Rattle.bson_base.proofs.Lengths.{length-le32}
 use Rattle.bson_io.specs.Output.{Output, Appended, Patched, patched}

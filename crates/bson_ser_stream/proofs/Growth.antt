@@ -1,7 +1,7 @@
 -- Bytes appended behind bytes appended.
 use Rattle.std.proofs.Common.{◌≡◌, ℕ, ◌≤◌, [], ◌∷◌, length, take, refl, ap, ◌∙◌, arith}
 use Rattle.std.proofs.lemmas.List.{length-append, take_at}
-use Rattle.bson_base.specs.Text.{Bytes}
+use Rattle.bson_kinds.specs.Text.{Bytes}
 use Rattle.bson_io.specs.Output.{Output, Appended}
 use Rattle.bson_ser_stream.specs.Halting.{Grows}
 

@@ -2,12 +2,12 @@
 use Rattle.std.proofs.Common.{Bool, ◌≡◌, ℕ, suc, ◌+◌, ◌≤◌, length, Result, Ok, Err, refl, ap, sym, subst, ◌∙◌, arith}
 use Rattle.std.specs.Prelude.{Some, IsOk, is_ok}
 use Rattle.std.specs.Fmt.{decimal}
-use Rattle.bson_base.specs.Text.{Bytes, Utf8}
-use Rattle.bson_base.specs.Outcome.{◌>>=◌}
+use Rattle.bson_kinds.specs.Text.{Bytes, Utf8}
+use Rattle.bson_kinds.specs.Outcome.{◌>>=◌}
 use Rattle.bson_base.specs.Sound.{IsSound}
 use Rattle.bson_base.specs.Tree.{Tree, Pairs, pair, tree, elements, array_elements}
-use Rattle.bson_datum.specs.Value.{Value, Items, item, Entries, entry, FieldValues, field_value}
-use Rattle.bson_datum.specs.Refusal.{Refusal, WriteFault, under, under_index}
+use Rattle.bson_values.specs.Value.{Value, Items, item, Entries, entry, FieldValues, field_value}
+use Rattle.bson_values.specs.Refusal.{Refusal, WriteFault, under, under_index}
 use Rattle.bson_io.specs.Output.{Output}
 use Rattle.bson_laws.specs.Means.{means, key_text}
 use Rattle.bson_laws.specs.Spell.{Writing, named, spell_as, spell_items_as, spell_key, spell_entries_as, spell_fields_as, spell_document, key_size, size, size_as, size_items_as, size_entries_as, size_fields_as}
@@ -17,7 +17,7 @@ use Rattle.bson_writing.specs.Halting.{Halts, Gives}
 use Rattle.bson_ser_stream.specs.Halting.{Grows, EndHalts}
 use Rattle.bson_ser_stream.proofs.Written.{length-with_elements, length-with_entries, length-with_array_elements}
 use Rattle.bson_writing.specs.declared.halt.Halt.{Halt}
-use Rattle.bson_datum.specs.declared.stop.Stop.TheVariants.{Refused, NoMemory}
+use Rattle.bson_values.specs.declared.stop.Stop.TheVariants.{Refused, NoMemory}
 use Rattle.bson_writing.specs.declared.halt.Halt.TheVariants.{Stopped, TooLong}
 
 pub gives_err : {X Y : Type 0} (size spare : ℕ) (view : X → Y) (result : Result X Halt) (h : Halt) (due : Writing Y) → result ≡ Err h → Halts size spare due h → Gives size spare view result due

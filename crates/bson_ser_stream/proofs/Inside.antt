@@ -2,15 +2,15 @@
 use Rattle.std.proofs.Common.{◌≡◌, ℕ, ◌+◌, [], ◌∷◌, ◌++◌, length, reverse, Ok, Err, refl, ap, sym, subst, ◌∙◌, append_assoc, arith}
 use Rattle.std.specs.Prelude.{IsOk}
 use Rattle.std.proofs.lemmas.List.{length-append, reverse-append}
-use Rattle.bson_base.specs.Text.{Bytes, Utf8}
-use Rattle.bson_base.specs.Outcome.{◌>>=◌}
+use Rattle.bson_kinds.specs.Text.{Bytes, Utf8}
+use Rattle.bson_kinds.specs.Outcome.{◌>>=◌}
 use Rattle.bson_base.specs.Tree.{Tree, enc, kind, element}
-use Rattle.bson_datum.specs.Refusal.{Segment, in_segment, inside}
-use Rattle.bson_datum.specs.Stop.{segments_out}
-use Rattle.bson_datum.specs.ErrorView.{write_fault}
-use Rattle.bson_datum.specs.declared.ser.Fault.{Fault}
-use Rattle.bson_datum.specs.declared.stop.Refused as code
-use Rattle.bson_datum.specs.declared.stop.Stop.TheVariants.{Refused, NoMemory}
+use Rattle.bson_values.specs.Refusal.{Segment, in_segment, inside}
+use Rattle.bson_values.specs.Stop.{segments_out}
+use Rattle.bson_values.specs.ErrorView.{write_fault}
+use Rattle.bson_values.specs.declared.ser.Fault.{Fault}
+use Rattle.bson_values.specs.declared.stop.Refused as code
+use Rattle.bson_values.specs.declared.stop.Stop.TheVariants.{Refused, NoMemory}
 use Rattle.bson_io.specs.Output.{Output, Appended}
 use Rattle.bson_laws.specs.Spell.{Writing}
 use Rattle.bson_laws.proofs.Sizes.{ok_is}

@@ -2,28 +2,28 @@
 use Rattle.std.proofs.Common.{◌≡◌, ℕ, ℤ, zero, suc, ◌<◌, List, [], length, Bool, true, false, cond, ◌⊎◌, inl, inr, Option, Some, None, Ok, Err, ap, sym, subst, refl, ◌∙◌}
 use Rattle.std.specs.Prelude.{int_lt, nat_lt, codes}
 use Rattle.std.specs.Str.{bytes_eq}
-use Rattle.bson_base.specs.Text.{Bytes, Utf8, has_zero}
-use Rattle.bson_base.specs.Outcome.{◌>>=◌, result_map}
-use Rattle.bson_base.specs.Reserved.{reserved_kind}
+use Rattle.bson_kinds.specs.Text.{Bytes, Utf8, has_zero}
+use Rattle.bson_kinds.specs.Outcome.{◌>>=◌, result_map}
+use Rattle.bson_kinds.specs.Reserved.{reserved_kind}
 use Rattle.bson_base.specs.Sound.{max_bytes, max_levels, max_binary}
 use Rattle.bson_base.specs.Sorted.{sorted}
 use Rattle.bson_base.specs.Tree.{Tree, int64, document, array, binary, regular_expression, raw, Pairs, no_pairs, pair, tree, behind_subtype}
-use Rattle.bson_base.specs.declared.element_type.ElementType.{ElementType}
-use Rattle.bson_base.specs.declared.element_type.ElementType.TheVariants.{EmbeddedDocument, Array, JavaScriptCodeWithScope, Int32}
-use Rattle.bson_datum.specs.Cause.{Cause, binary_too_long, too_long}
-use Rattle.bson_datum.specs.Refusal.{WriteFault, unwritable, invalid_document_key, invalid_cstring, unsigned_exceeds, Refusal, Segment, at_key, at_index, here, inside, under_index, under, Failure, no_memory, bare, placed, with_path}
-use Rattle.bson_datum.specs.Value.{i64, greatest, written_as, Value, boolean, integer, double, character, str, bytes, none, some, unit, unit_structure, newtype, sequence, map, structure, unit_variant, newtype_variant, tuple, tuple_structure, tuple_variant, structure_variant, raw_document, raw_array, mode, Items, no_items, item, Entries, no_entries, entry, FieldValues, no_field_values, field_value, kind_of, uuid_newtype, readable_inside}
+use Rattle.bson_kinds.specs.declared.element_type.ElementType.{ElementType}
+use Rattle.bson_kinds.specs.declared.element_type.ElementType.TheVariants.{EmbeddedDocument, Array, JavaScriptCodeWithScope, Int32}
+use Rattle.bson_values.specs.Cause.{Cause, binary_too_long, too_long}
+use Rattle.bson_values.specs.Refusal.{WriteFault, unwritable, invalid_document_key, invalid_cstring, unsigned_exceeds, Refusal, Segment, at_key, at_index, here, inside, under_index, under, Failure, no_memory, bare, placed, with_path}
+use Rattle.bson_values.specs.Value.{i64, greatest, written_as, Value, boolean, integer, double, character, str, bytes, none, some, unit, unit_structure, newtype, sequence, map, structure, unit_variant, newtype_variant, tuple, tuple_structure, tuple_variant, structure_variant, raw_document, raw_array, mode, Items, no_items, item, Entries, no_entries, entry, FieldValues, no_field_values, field_value, kind_of, uuid_newtype, readable_inside}
 use Rattle.bson_laws.specs.Means.{key_text}
 use Rattle.bson_laws.specs.Unwrap.{Part, unwrap, scoped_code}
 use Rattle.bson_laws.specs.UuidBytes.{uuid_bytes}
 use Rattle.bson_laws.specs.Written.{with_scope}
 use Rattle.bson_laws.specs.Spell.{Writing, spell_number, spell_binary, spell_whole, spell_unwrapped, spell_scoped, spell_uuid, enclosed_at, struct_at, reserved_at, named, variant_at, written_key, spell_key, spell_as, spell_items_as, spell_entries_as, spell_fields_as, spell_list, spell_part, spell, at_top, spell_document, size}
 use Rattle.bson_laws.proofs.Alike.{AreAlike, Both, SameScope, scopes_alike}
-use Rattle.bson_datum.specs.Stop.{IsPlaced}
+use Rattle.bson_values.specs.Stop.{IsPlaced}
 use Rattle.bson_ser_stream.specs.Writing.{with_tree, IsDue, Fails, too_long_failure}
 use Rattle.bson_writing.specs.Halting.{halt_view, Halts}
 use Rattle.bson_writing.specs.declared.halt.Halt.{Halt}
-use Rattle.bson_datum.specs.declared.stop.Stop.TheVariants.{Refused, NoMemory}
+use Rattle.bson_values.specs.declared.stop.Stop.TheVariants.{Refused, NoMemory}
 use Rattle.bson_writing.specs.declared.halt.Halt.TheVariants.{Stopped, TooLong}
 
 abbrev IsLength : Cause → Type 0

@@ -1,11 +1,11 @@
 -- What means a sound document is written as it, and fails only where memory runs out.
 use Rattle.std.proofs.Common.{◌≡◌, [], inl, inr, Some, Ok, ap, sym, subst, ◌∙◌, arith}
-use Rattle.bson_base.specs.Text.{Bytes}
-use Rattle.bson_base.specs.Outcome.{result_map}
+use Rattle.bson_kinds.specs.Text.{Bytes}
+use Rattle.bson_kinds.specs.Outcome.{result_map}
 use Rattle.bson_base.specs.Sound.{IsSound}
 use Rattle.bson_base.specs.Tree.{Tree, enc}
-use Rattle.bson_datum.specs.Refusal.{WriteFault, Failure, no_memory}
-use Rattle.bson_datum.specs.Value.{Value}
+use Rattle.bson_values.specs.Refusal.{WriteFault, Failure, no_memory}
+use Rattle.bson_values.specs.Value.{Value}
 use Rattle.bson_laws.specs.Means.{means}
 use Rattle.bson_laws.specs.Spell.{Writing, spell_document, size}
 use Rattle.bson_laws.proofs.Spelled.{spell_means}

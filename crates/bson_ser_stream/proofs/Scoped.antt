@@ -2,17 +2,17 @@
 use Rattle.std.proofs.Common.{Bool, ◌≡◌, ℕ, zero, suc, ◌+◌, ◌-◌, [], ◌++◌, length, take, drop, Some, Result, Ok, Err, refl, ap, sym, subst, ◌∙◌, append_assoc, arith}
 use Rattle.std.specs.Prelude.{codes, IsOk}
 use Rattle.std.proofs.lemmas.List.{length-append, take_at, drop_at}
-use Rattle.bson_base.specs.Outcome.{result_map}
-use Rattle.bson_base.specs.Text.{Bytes, Utf8}
+use Rattle.bson_kinds.specs.Outcome.{result_map}
+use Rattle.bson_kinds.specs.Text.{Bytes, Utf8}
 use Rattle.bson_base.specs.Tree.{Tree, string, document, raw, le32, closed_text, after_total, enc}
-use Rattle.bson_base.specs.declared.element_type.ElementType.{ElementType}
-use Rattle.bson_base.specs.declared.element_type.ElementType.TheVariants.{EmbeddedDocument, JavaScriptCodeWithScope}
+use Rattle.bson_kinds.specs.declared.element_type.ElementType.{ElementType}
+use Rattle.bson_kinds.specs.declared.element_type.ElementType.TheVariants.{EmbeddedDocument, JavaScriptCodeWithScope}
 use Rattle.bson_base.proofs.Lengths.{length-le32, length-text}
-use Rattle.bson_base.proofs.Outcomes.{map_ok}
-use Rattle.bson_datum.specs.Refusal.{Refusal, WriteFault, under}
+use Rattle.bson_kinds.proofs.Outcomes.{map_ok}
+use Rattle.bson_values.specs.Refusal.{Refusal, WriteFault, under}
 use Rattle.bson_io.specs.Output.{Output, Appended, patched}
 use Rattle.bson_laws.specs.Written.{with_scope}
-use Rattle.bson_datum.specs.Value.{Value, map, raw_document, FieldValues}
+use Rattle.bson_values.specs.Value.{Value, map, raw_document, FieldValues}
 use Rattle.bson_reserved.specs.AcceptedView.{IsScope}
 use Rattle.bson_laws.specs.Unwrap.{listed, scoped_code}
 use Rattle.bson_laws.specs.Spell.{Writing, spell_scoped, scoped_size, enclosed_at, spell_as, spell_entries_as, spell_list, size_as, size_list}
@@ -24,7 +24,7 @@ use Rattle.bson_ser_stream.specs.Halting.{Grows, Puts, Totals, TotalHalts}
 use Rattle.bson_ser_stream.proofs.Ended.{before_patch, length-patched}
 use Rattle.bson_ser_stream.proofs.Growth.{Grows-trans, Grows-appended}
 use Rattle.bson_writing.specs.declared.halt.Halt.{Halt}
-use Rattle.bson_datum.specs.declared.stop.Stop.TheVariants.{Refused, NoMemory}
+use Rattle.bson_values.specs.declared.stop.Stop.TheVariants.{Refused, NoMemory}
 use Rattle.bson_writing.specs.declared.halt.Halt.TheVariants.{Stopped, TooLong}
 
 -- bytes behind a place of four, and the length of all written over the place

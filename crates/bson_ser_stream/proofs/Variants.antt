@@ -1,11 +1,11 @@
 -- A variant with contents is written as a document of one pair: what it holds, under its name.
 use Rattle.std.proofs.Common.{Bool, ◌≡◌, ℕ, ◌+◌, ◌++◌, Result, Ok, Err, ap, subst, ◌∙◌, arith, append-nil}
-use Rattle.bson_base.specs.Text.{Bytes, Utf8}
-use Rattle.bson_base.specs.Outcome.{◌>>=◌}
+use Rattle.bson_kinds.specs.Text.{Bytes, Utf8}
+use Rattle.bson_kinds.specs.Outcome.{◌>>=◌}
 use Rattle.bson_base.specs.Tree.{Tree, no_pairs, pair, enc, kind, element}
-use Rattle.bson_base.specs.declared.element_type.ElementType.{ElementType}
-use Rattle.bson_base.specs.declared.element_type.ElementType.TheVariants.{EmbeddedDocument}
-use Rattle.bson_datum.specs.Value.{Value, FieldValues, no_field_values, field_value}
+use Rattle.bson_kinds.specs.declared.element_type.ElementType.{ElementType}
+use Rattle.bson_kinds.specs.declared.element_type.ElementType.TheVariants.{EmbeddedDocument}
+use Rattle.bson_values.specs.Value.{Value, FieldValues, no_field_values, field_value}
 use Rattle.bson_io.specs.Output.{Output}
 use Rattle.bson_laws.specs.Spell.{Writing, named, variant_at, variant_size, spell_as, spell_fields_as, size_as, size_fields_as}
 use Rattle.bson_ser_stream.specs.Writing.{with_element, with_elements}

@@ -1,10 +1,10 @@
 -- What was appended is as long as its size.
 use Rattle.std.proofs.Common.{Bool, ◌≡◌, ℕ, ◌+◌, ◌++◌, length, Ok, ap, arith}
 use Rattle.std.proofs.lemmas.List.{length-append}
-use Rattle.bson_base.specs.Text.{Bytes}
+use Rattle.bson_kinds.specs.Text.{Bytes}
 use Rattle.bson_base.specs.Tree.{elements, array_elements}
-use Rattle.bson_base.proofs.Outcomes.{map_ok}
-use Rattle.bson_datum.specs.Value.{Items, Entries, FieldValues}
+use Rattle.bson_kinds.proofs.Outcomes.{map_ok}
+use Rattle.bson_values.specs.Value.{Items, Entries, FieldValues}
 use Rattle.bson_laws.specs.Spell.{Writing, spell_items_as, spell_entries_as, spell_fields_as, size_items_as, size_entries_as, size_fields_as}
 use Rattle.bson_laws.proofs.Sizes.{length-spell_items, length-spell_entries, length-spell_fields}
 use Rattle.bson_ser_stream.specs.Writing.{with_bytes, with_elements, with_array_elements}

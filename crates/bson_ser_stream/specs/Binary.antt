@@ -1,6 +1,6 @@
 -- The parts of a binary before its bytes. Source: bsonspec.org, version 1.1, `binary`.
 use Rattle.std.specs.Prelude.{◌≡◌, ℕ, ◌+◌, ◌≤◌, [], ◌∷◌, ◌++◌, length, if◌then◌else◌, nat_eq}
-use Rattle.bson_base.specs.Text.{Bytes}
+use Rattle.bson_kinds.specs.Text.{Bytes}
 use Rattle.bson_base.specs.Tree.{le32}
 use Rattle.bson_io.specs.Output.{Output}
 

@@ -1,6 +1,6 @@
 -- The value that is under a key. Source: serde's data model.
 use Rattle.std.specs.Prelude.{[]}
-use Rattle.bson_datum.specs.Value.{Value, tuple, structure}
+use Rattle.bson_values.specs.Value.{Value, tuple, structure}
 use Rattle.bson_datum.specs.View.{view, items_view, fields_view}
 use Rattle.bson_ser_stream.specs.declared.value.Contents.{Contents}
 use Rattle.bson_ser_stream.specs.declared.value.Contents.TheVariants as contents

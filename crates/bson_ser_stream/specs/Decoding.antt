@@ -1,9 +1,9 @@
 -- What decoding a base64 text into a buffer leaves. Source: RFC 4648, section 4.
 use Rattle.std.specs.Prelude.{◌≡◌, ℕ, ◌<◌, length, Option, Some, None, Result, Ok, Err}
-use Rattle.bson_base.specs.Text.{Bytes}
+use Rattle.bson_kinds.specs.Text.{Bytes}
 use Rattle.bson_io.specs.Output.{Output, Appended}
-use Rattle.bson_datum.specs.Cause.{bad_step}
-use Rattle.bson_datum.specs.Refusal.{unwritable}
+use Rattle.bson_values.specs.Cause.{bad_step}
+use Rattle.bson_values.specs.Refusal.{unwritable}
 use Rattle.bson_writing.specs.Halting.{IsOutOfMemory, IsHereOrMemory}
 use Rattle.bson_writing.specs.declared.halt.Halt.{Halt}
 use Rattle.bson_ser_stream.specs.declared.base64_text.Base64Fault.{Base64Fault}

@@ -1,10 +1,10 @@
 -- What a writer of bytes leaves, whether it comes to its end or halts. Source: this library's own readers and writers.
 use Rattle.std.specs.Prelude.{◌≡◌, ℕ, ◌+◌, ◌-◌, ◌*◌, ◌<◌, ◌≤◌, [], ◌∷◌, ◌++◌, length, take, Result, IfOk, OnOk}
 use Rattle.bson_base.specs.Sound.{max_bytes}
-use Rattle.bson_base.specs.Text.{Bytes}
+use Rattle.bson_kinds.specs.Text.{Bytes}
 use Rattle.bson_base.specs.Tree.{Tree, le32}
-use Rattle.bson_base.specs.declared.element_type.ElementType.{ElementType}
-use Rattle.bson_datum.specs.declared.stop.Stop.TheVariants.{Refused, NoMemory}
+use Rattle.bson_kinds.specs.declared.element_type.ElementType.{ElementType}
+use Rattle.bson_values.specs.declared.stop.Stop.TheVariants.{Refused, NoMemory}
 use Rattle.bson_io.specs.Output.{Output, patched}
 use Rattle.bson_laws.specs.Spell.{Writing}
 use Rattle.bson_writing.specs.Halting.{Gives}

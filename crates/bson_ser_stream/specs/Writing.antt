@@ -1,14 +1,14 @@
 -- What a writer answers. Source: bsonspec.org, version 1.1, `document` and `element`.
 use Rattle.std.specs.Prelude.{◌≡◌, ℕ, zero, suc, ◌<◌, [], ◌∷◌, ◌++◌, ◌⊎◌, Result, Ok, Err}
 use Rattle.std.specs.Global.{Vec}
-use Rattle.bson_base.specs.Text.{Bytes, Utf8}
-use Rattle.bson_base.specs.Outcome.{◌>>=◌, result_map}
+use Rattle.bson_kinds.specs.Text.{Bytes, Utf8}
+use Rattle.bson_kinds.specs.Outcome.{◌>>=◌, result_map}
 use Rattle.bson_base.specs.Sound.{max_bytes}
 use Rattle.bson_base.specs.Tree.{Tree, Pairs, Trees, enc, elements, array_elements, element, kind}
-use Rattle.bson_datum.specs.Cause.{too_deep, too_long}
-use Rattle.bson_datum.specs.Refusal.{WriteFault, unwritable, here, under, Failure, no_memory, with_path}
-use Rattle.bson_datum.specs.ErrorView.{write_failure}
-use Rattle.bson_datum.specs.declared.ser.Error.{Error}
+use Rattle.bson_values.specs.Cause.{too_deep, too_long}
+use Rattle.bson_values.specs.Refusal.{WriteFault, unwritable, here, under, Failure, no_memory, with_path}
+use Rattle.bson_values.specs.ErrorView.{write_failure}
+use Rattle.bson_values.specs.declared.ser.Error.{Error}
 use Rattle.bson_laws.specs.Spell.{Writing}
 
 -- the bytes so far, with those of what is written behind them

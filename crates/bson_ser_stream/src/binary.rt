@@ -9,9 +9,10 @@ ghost use Rattle.bson_ser_stream.specs.Halting.{Puts, Grows};
 ghost use Rattle.bson_ser_stream.specs.Decoding.{IsFault};
 
 use crate::base64_text::{Base64Fault, push_base64};
-use bson_base::{BinarySubtype, ElementType, MAX_BINARY};
-use bson_datum::{Cause, Stop};
+use bson_base::{BinarySubtype, MAX_BINARY};
 use bson_io::{Ledger, Out, Steps};
+use bson_kinds::ElementType;
+use bson_values::{Cause, Stop};
 use bson_writing::Halt;
 use std::alloc::{AllocError, Global};
 

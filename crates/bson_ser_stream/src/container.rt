@@ -5,8 +5,8 @@ ghost use Rattle.bson_ser_stream.specs.Writing.{length_place, level_inside};
 ghost use Rattle.bson_writing.specs.Halting.{Gives};
 ghost use Rattle.bson_ser_stream.specs.Halting.{Grows, Ends, EndHalts, Totals, TotalHalts};
 
-use bson_datum::Cause;
 use bson_io::{Ledger, MOST, Out, Steps};
+use bson_values::Cause;
 use bson_writing::Halt;
 
 /// A document or an array that was begun.

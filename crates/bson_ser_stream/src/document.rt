@@ -1,10 +1,10 @@
 // Whole documents: into an output buffer, and into a vector.
 ghost use Rattle.std.specs.Prelude.{◌≡◌, ◌<◌, ◌≤◌, ◌+◌, ◌-◌, ◌*◌, length, vec_len, Some, Ok, IsOk, OnOk, OnErr, IfOk, IfErr};
-ghost use Rattle.bson_base.specs.Outcome.{result_map};
+ghost use Rattle.bson_kinds.specs.Outcome.{result_map};
 ghost use Rattle.bson_base.specs.Sound.{max_bytes, IsSound};
 ghost use Rattle.bson_base.specs.Tree.{Tree, enc};
 ghost use Rattle.bson_datum.specs.View.{view};
-ghost use Rattle.bson_datum.specs.ErrorView.{write_failure};
+ghost use Rattle.bson_values.specs.ErrorView.{write_failure};
 ghost use Rattle.bson_laws.specs.Means.{means};
 ghost use Rattle.bson_laws.specs.Spell.{spell_document, size};
 ghost use Rattle.bson_ser_stream.specs.Writing.{with_tree, Fails, too_long_failure, GivesBytes};
@@ -12,10 +12,11 @@ ghost use Rattle.bson_writing.specs.Halting.{Gives};
 ghost use Rattle.bson_ser_stream.specs.Halting.{Grows};
 
 use crate::value::put_value;
-use bson_base::ElementType;
-use bson_datum::ser::Result;
-use bson_datum::{Cause, Datum, MAX_NESTING_LEVEL};
+use bson_datum::{Datum, MAX_NESTING_LEVEL};
 use bson_io::{Ledger, Out, Steps, Tally};
+use bson_kinds::ElementType;
+use bson_values::Cause;
+use bson_values::ser::Result;
 use bson_writing::Halt;
 use std::alloc::Global;
 

@@ -7,8 +7,9 @@ ghost use Rattle.bson_ser_stream.specs.Halting.{Puts};
 
 use crate::scalar::{push_text, put_closed};
 use crate::sorting::push_sorted;
-use bson_base::{DateTime, Decimal128, ElementType, ObjectId, Timestamp, has_zero};
+use bson_base::{DateTime, Decimal128, ObjectId, Timestamp, has_zero};
 use bson_io::{Ledger, MOST, Out, Steps};
+use bson_kinds::ElementType;
 use bson_writing::{Halt, zero_in};
 
 /// Appends an ObjectId, by its twelve bytes.

@@ -7,8 +7,9 @@ ghost use Rattle.bson_ser_stream.specs.Writing.{with_entry, with_element};
 ghost use Rattle.bson_ser_stream.specs.Halting.{PutsParts};
 
 use crate::value::{Contents, put_named, put_under_key};
-use bson_datum::{Datum, Text};
+use bson_datum::Datum;
 use bson_io::{Ledger, Out, Steps};
+use bson_values::Text;
 use bson_writing::{Halt, written_key};
 
 /// Appends the element of an entry of a map, with so many levels of documents and arrays left for its value. The key is judged before the value.

@@ -4,9 +4,9 @@ ghost use Rattle.bson_rawdoc.specs.Envelope.{envelope};
 ghost use Rattle.bson_laws.specs.Spell.{in_bytes};
 ghost use Rattle.bson_ser_stream.specs.Halting.{Puts};
 
-use bson_base::ElementType;
-use bson_datum::Cause;
 use bson_io::{Ledger, Out, Steps};
+use bson_kinds::ElementType;
+use bson_values::Cause;
 use bson_writing::Halt;
 
 /// Appends a document or an array as its bytes, with so many levels left.

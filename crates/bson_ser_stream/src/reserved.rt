@@ -13,10 +13,12 @@ use crate::extended::{
     put_code, put_date_time, put_db_pointer, put_decimal128, put_object_id, put_regular_expression,
     put_symbol, put_timestamp,
 };
-use bson_base::{BinarySubtype, ElementType};
-use bson_datum::{Cause, Datum, Field};
+use bson_base::BinarySubtype;
+use bson_datum::{Datum, Field};
 use bson_io::{Ledger, Out, Steps};
+use bson_kinds::ElementType;
 use bson_reserved::{Accepted, UuidBytes, unwrap, uuid_bytes};
+use bson_values::Cause;
 use bson_writing::Halt;
 
 // The subtype of UUIDs.

@@ -9,9 +9,10 @@ ghost use Rattle.bson_writing.specs.Halting.{Gives};
 ghost use Rattle.bson_ser_stream.specs.Halting.{Puts, Grows};
 
 use crate::binary::put_binary;
-use bson_base::{BinarySubtype, Double, ElementType};
-use bson_datum::ser::Fault;
+use bson_base::{BinarySubtype, Double};
 use bson_io::{Ledger, MOST, Out, Steps};
+use bson_kinds::ElementType;
+use bson_values::ser::Fault;
 use bson_writing::Halt;
 use std::alloc::AllocError;
 

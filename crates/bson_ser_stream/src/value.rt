@@ -4,9 +4,9 @@ ghost use Rattle.std.specs.Prelude.{◌≡◌, ◌+◌, [], length, codes};
 ghost use Rattle.std.specs.Str.{bytes_eq};
 ghost use Rattle.std.specs.Fmt.{decimal};
 ghost use Rattle.bson_base.specs.Tree.{document, array};
-ghost use Rattle.bson_datum.specs.Refusal.{under, under_index};
-ghost use Rattle.bson_datum.specs.TextView.{text_view};
-ghost use Rattle.bson_datum.specs.Value.{newtype_kind, uuid_newtype, readable_inside, kind_as};
+ghost use Rattle.bson_values.specs.Refusal.{under, under_index};
+ghost use Rattle.bson_values.specs.TextView.{text_view};
+ghost use Rattle.bson_values.specs.Value.{newtype_kind, uuid_newtype, readable_inside, kind_as};
 ghost use Rattle.bson_datum.specs.View.{view, items_view, entries_view, fields_view};
 ghost use Rattle.bson_laws.specs.Means.{key_text};
 ghost use Rattle.bson_laws.specs.Unwrap.{unwrap, scoped_code};
@@ -23,10 +23,12 @@ use crate::reserved::{put_unwrapped, put_uuid};
 use crate::scalar::{
     put_bool, put_bytes, put_char, put_double, put_i32, put_i64, put_text, put_u64,
 };
-use bson_base::{ElementType, has_zero, reserved_kind};
-use bson_datum::{Cause, Datum, Entry, Field, Text};
+use bson_base::has_zero;
+use bson_datum::{Datum, Entry, Field};
 use bson_io::{Ledger, Out, Steps};
+use bson_kinds::{ElementType, reserved_kind};
 use bson_reserved::scoped_code;
+use bson_values::{Cause, Text};
 use bson_writing::{Halt, written_key, zero_in};
 
 // What is under a key: a value, or what a variant holds that is no datum of its own.

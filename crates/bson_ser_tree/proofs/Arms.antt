@@ -2,17 +2,17 @@
 use Rattle.std.proofs.Common.{◌≡◌, ℕ, ◌⊎◌, inl, inr, List, Bool, false, Result, ap, sym, subst, ◌∙◌}
 use Rattle.std.specs.Global.{Vec}
 use Rattle.bson_base.specs.BsonView.{tree_of}
-use Rattle.bson_base.specs.Text.{Utf8}
+use Rattle.bson_kinds.specs.Text.{Utf8}
 use Rattle.bson_base.specs.Tree.{no_pairs}
 use Rattle.bson_base.specs.declared.bson.Bson.{Bson}
-use Rattle.bson_datum.specs.TextView.{text_view}
-use Rattle.bson_datum.specs.Value.{Value, FieldValues, sequence, tuple, tuple_structure, structure}
+use Rattle.bson_values.specs.TextView.{text_view}
+use Rattle.bson_values.specs.Value.{Value, FieldValues, sequence, tuple, tuple_structure, structure}
 use Rattle.bson_datum.specs.View.{view, items_view}
 use Rattle.bson_datum.proofs.Views.{view-Seq, view-Tuple, view-TupleStruct}
 use Rattle.bson_datum.specs.declared.datum.Datum.{Datum, Seq, Tuple, TupleStruct}
-use Rattle.bson_datum.specs.declared.ser.Fault.{Fault}
-use Rattle.bson_datum.specs.declared.stop.Stop.{Stop}
-use Rattle.bson_datum.specs.declared.text.Text.{Text}
+use Rattle.bson_values.specs.declared.ser.Fault.{Fault}
+use Rattle.bson_values.specs.declared.stop.Stop.{Stop}
+use Rattle.bson_values.specs.declared.text.Text.{Text}
 use Rattle.bson_tree_laws.specs.TreeSpell.{is_levelless, tree_struct, tree_spell, tree_fields}
 use Rattle.bson_ser_tree.specs.Gives.{Reaches}
 

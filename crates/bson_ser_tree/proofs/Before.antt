@@ -1,11 +1,11 @@
 -- Trees that were made, before those that are to come.
 use Rattle.std.proofs.Common.{◌≡◌, ℕ, suc, Bool, false, List, [], ◌∷◌, ◌++◌, Ok, Err, refl, ap, sym, ◌∙◌}
 use Rattle.bson_base.specs.BsonView.{tree_of, trees_of}
-use Rattle.bson_base.specs.Outcome.{◌>>=◌, result_map}
+use Rattle.bson_kinds.specs.Outcome.{◌>>=◌, result_map}
 use Rattle.bson_base.specs.Tree.{Tree, Trees, no_trees, tree}
 use Rattle.bson_base.specs.declared.bson.Bson.{Bson}
-use Rattle.bson_datum.specs.Refusal.{under_index}
-use Rattle.bson_datum.specs.Value.{Value, Items, no_items, item}
+use Rattle.bson_values.specs.Refusal.{under_index}
+use Rattle.bson_values.specs.Value.{Value, Items, no_items, item}
 use Rattle.bson_laws.specs.Spell.{Writing}
 use Rattle.bson_tree_laws.specs.TreeSpell.{tree_spell, tree_items}
 

@@ -1,12 +1,12 @@
 -- What parts behind others are made into, where the others were made.
 use Rattle.std.proofs.Common.{◌≡◌, ℕ, suc, Bool, false, Ok, Err, refl, ap, sym, ◌∙◌}
-use Rattle.bson_base.specs.Outcome.{◌>>=◌, result_map}
+use Rattle.bson_kinds.specs.Outcome.{◌>>=◌, result_map}
 use Rattle.bson_base.specs.Pairs.{put}
-use Rattle.bson_base.specs.Text.{Utf8}
+use Rattle.bson_kinds.specs.Text.{Utf8}
 use Rattle.bson_base.specs.Tree.{Tree, Pairs, Trees, no_trees, tree}
-use Rattle.bson_base.proofs.Outcomes.{bind_ok}
-use Rattle.bson_datum.specs.Refusal.{under, under_index}
-use Rattle.bson_datum.specs.Value.{Value, Items, no_items, item, Entries, no_entries, entry, FieldValues, no_field_values, field_value}
+use Rattle.bson_kinds.proofs.Outcomes.{bind_ok}
+use Rattle.bson_values.specs.Refusal.{under, under_index}
+use Rattle.bson_values.specs.Value.{Value, Items, no_items, item, Entries, no_entries, entry, FieldValues, no_field_values, field_value}
 use Rattle.bson_laws.specs.Spell.{Writing}
 use Rattle.bson_laws.proofs.Sizes.{ok_is}
 use Rattle.bson_tree_laws.specs.TreeSpell.{tree_spell, tree_items, tree_entries, tree_fields, tree_key}

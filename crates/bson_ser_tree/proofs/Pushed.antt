@@ -3,10 +3,10 @@ use Rattle.std.proofs.Common.{◌≡◌, ℕ, Bool, false, List, [], ◌∷◌, 
 use Rattle.std.specs.Global.{Vec}
 use Rattle.std.specs.Prelude.{option_map}
 use Rattle.bson_base.specs.BsonView.{tree_of, trees_of}
-use Rattle.bson_base.specs.Outcome.{◌>>=◌}
+use Rattle.bson_kinds.specs.Outcome.{◌>>=◌}
 use Rattle.bson_base.specs.Tree.{tree}
 use Rattle.bson_base.specs.declared.bson.Bson.{Bson}
-use Rattle.bson_datum.specs.Value.{Value}
+use Rattle.bson_values.specs.Value.{Value}
 use Rattle.bson_tree_laws.specs.TreeSpell.{tree_spell}
 use Rattle.bson_ser_tree.specs.Steps.{StepsFrom, with_tree, item_step}
 

@@ -2,16 +2,16 @@
 use Rattle.std.proofs.Common.{◌≡◌, ℕ, suc, Bool, false, [], Option, Some, None, Result, Ok, Err, refl, ap, sym, subst, ◌∙◌}
 use Rattle.bson_base.specs.BsonView.{tree_of}
 use Rattle.bson_base.specs.Folded.{fold}
-use Rattle.bson_base.specs.Outcome.{◌>>=◌, result_map}
+use Rattle.bson_kinds.specs.Outcome.{◌>>=◌, result_map}
 use Rattle.bson_base.specs.Pairs.{put}
-use Rattle.bson_base.specs.Text.{Utf8}
+use Rattle.bson_kinds.specs.Text.{Utf8}
 use Rattle.bson_base.specs.Tree.{Tree, document, array, Pairs, no_pairs, pair, Trees, no_trees, tree}
 use Rattle.bson_base.specs.declared.bson.Bson.{Bson}
-use Rattle.bson_base.proofs.Outcomes.{bind_ok}
-use Rattle.bson_datum.specs.Refusal.{Refusal, WriteFault, Failure, no_memory, bare, placed, under, under_index}
-use Rattle.bson_datum.specs.ErrorView.{write_failure}
-use Rattle.bson_datum.specs.Value.{Value, str, sequence, tuple, tuple_structure, tuple_variant, map, structure, structure_variant, Items, item, no_items, Entries, entry, no_entries, FieldValues, field_value, no_field_values}
-use Rattle.bson_datum.specs.declared.ser.Error.{Error}
+use Rattle.bson_kinds.proofs.Outcomes.{bind_ok}
+use Rattle.bson_values.specs.Refusal.{Refusal, WriteFault, Failure, no_memory, bare, placed, under, under_index}
+use Rattle.bson_values.specs.ErrorView.{write_failure}
+use Rattle.bson_values.specs.Value.{Value, str, sequence, tuple, tuple_structure, tuple_variant, map, structure, structure_variant, Items, item, no_items, Entries, entry, no_entries, FieldValues, field_value, no_field_values}
+use Rattle.bson_values.specs.declared.ser.Error.{Error}
 use Rattle.bson_laws.specs.Spell.{Writing}
 use Rattle.bson_tree_laws.specs.TreeSpell.{tree_spell, tree_items, tree_entries, tree_fields, tree_key_text, tree_whole}
 use Rattle.bson_ser_tree.specs.Answers.{FailsAs, without_paths}

@@ -1,12 +1,12 @@
 -- A variant whose contents are refused.
 use Rattle.std.proofs.Common.{◌≡◌, ℕ, zero, suc, ◌-◌, Ok, refl, subst, arith}
-use Rattle.bson_base.specs.Outcome.{◌>>=◌, result_map}
-use Rattle.bson_base.specs.Text.{Utf8}
+use Rattle.bson_kinds.specs.Outcome.{◌>>=◌, result_map}
+use Rattle.bson_kinds.specs.Text.{Utf8}
 use Rattle.bson_base.specs.Tree.{Tree, document, no_pairs, pair}
-use Rattle.bson_datum.specs.Refusal.{at_key, under}
-use Rattle.bson_datum.specs.Stop.{IsUnder}
-use Rattle.bson_datum.specs.declared.ser.Fault.{Fault}
-use Rattle.bson_datum.specs.declared.stop.Stop.{Stop}
+use Rattle.bson_values.specs.Refusal.{at_key, under}
+use Rattle.bson_values.specs.Stop.{IsUnder}
+use Rattle.bson_values.specs.declared.ser.Fault.{Fault}
+use Rattle.bson_values.specs.declared.stop.Stop.{Stop}
 use Rattle.bson_laws.specs.Spell.{Writing}
 use Rattle.bson_tree_laws.specs.TreeSpell.{tree_variant}
 use Rattle.bson_ser_tree.proofs.Refusals.{StopsAs, stops_bind, stops_map, stops_inside}

@@ -1,12 +1,12 @@
 -- What a call that writes a whole value answers. Source: this library's own errors.
 use Rattle.std.specs.Prelude.{◌≡◌, Bool, Result, Ok, Err}
-use Rattle.bson_base.specs.Outcome.{◌>>=◌}
+use Rattle.bson_kinds.specs.Outcome.{◌>>=◌}
 use Rattle.bson_base.specs.Tree.{Tree, document, kind, Pairs}
-use Rattle.bson_datum.specs.Cause.{not_document}
-use Rattle.bson_datum.specs.Refusal.{WriteFault, unwritable, Refusal, here, Failure, no_memory, bare, placed, with_path}
-use Rattle.bson_datum.specs.ErrorView.{write_failure}
-use Rattle.bson_datum.specs.declared.ser.Error.{Error}
-use Rattle.bson_datum.specs.Value.{Value}
+use Rattle.bson_values.specs.Cause.{not_document}
+use Rattle.bson_values.specs.Refusal.{WriteFault, unwritable, Refusal, here, Failure, no_memory, bare, placed, with_path}
+use Rattle.bson_values.specs.ErrorView.{write_failure}
+use Rattle.bson_values.specs.declared.ser.Error.{Error}
+use Rattle.bson_values.specs.Value.{Value}
 use Rattle.bson_laws.specs.Spell.{Writing}
 use Rattle.bson_tree_laws.specs.TreeSpell.{tree_whole}
 

@@ -2,12 +2,12 @@
 use Rattle.std.specs.Prelude.{◌≡◌, Option, Some, None, Result, Ok, Err}
 use Rattle.bson_rawdoc.specs.declared.raw.Error.{Error}
 use Rattle.bson_rawdoc.specs.declared.raw.Error.TheVariants.{NoMemory}
-use Rattle.bson_datum.specs.Cause.{raw}
-use Rattle.bson_datum.specs.Refusal.{WriteFault, unwritable, Refusal, here, Failure, no_memory, bare}
-use Rattle.bson_datum.specs.Stop.{stop_view}
-use Rattle.bson_datum.specs.ErrorView.{write_fault}
-use Rattle.bson_datum.specs.declared.ser.Fault.{Fault}
-use Rattle.bson_datum.specs.declared.stop.Stop.{Stop}
+use Rattle.bson_values.specs.Cause.{raw}
+use Rattle.bson_values.specs.Refusal.{WriteFault, unwritable, Refusal, here, Failure, no_memory, bare}
+use Rattle.bson_values.specs.Stop.{stop_view}
+use Rattle.bson_values.specs.ErrorView.{write_fault}
+use Rattle.bson_values.specs.declared.ser.Fault.{Fault}
+use Rattle.bson_values.specs.declared.stop.Stop.{Stop}
 use Rattle.bson_laws.specs.Spell.{Writing}
 
 -- what the definition gives is this refusal; nothing is said where memory ran out

@@ -1,6 +1,6 @@
 -- What a writer has made of the parts that it was given so far. It has nothing any more once it has failed. Source: this library's own readers and writers.
 use Rattle.std.specs.Prelude.{Bool, Option}
-use Rattle.bson_base.specs.Text.{Utf8}
+use Rattle.bson_kinds.specs.Text.{Utf8}
 use Rattle.bson_base.specs.Tree.{Trees, Pairs}
 
 -- the trees of values, and whether values with two forms are made in their readable form

@@ -1,13 +1,13 @@
 -- What one more part makes of those that were made before. Source: this library's own readers and writers.
 use Rattle.std.specs.Prelude.{◌≡◌, ℕ, Bool, false, Option, Some, None, Result, Ok, Err}
-use Rattle.bson_base.specs.Outcome.{◌>>=◌}
+use Rattle.bson_kinds.specs.Outcome.{◌>>=◌}
 use Rattle.bson_base.specs.Pairs.{put}
-use Rattle.bson_base.specs.Text.{Utf8}
+use Rattle.bson_kinds.specs.Text.{Utf8}
 use Rattle.bson_base.specs.Tree.{Tree, Trees, no_trees, tree, Pairs}
-use Rattle.bson_datum.specs.Refusal.{no_memory}
-use Rattle.bson_datum.specs.ErrorView.{write_failure}
-use Rattle.bson_datum.specs.Value.{Value}
-use Rattle.bson_datum.specs.declared.ser.Error.{Error}
+use Rattle.bson_values.specs.Refusal.{no_memory}
+use Rattle.bson_values.specs.ErrorView.{write_failure}
+use Rattle.bson_values.specs.Value.{Value}
+use Rattle.bson_values.specs.declared.ser.Error.{Error}
 use Rattle.bson_laws.specs.Spell.{Writing}
 use Rattle.bson_tree_laws.specs.TreeSpell.{tree_spell}
 use Rattle.bson_ser_tree.specs.Answers.{FailsAs, without_paths}

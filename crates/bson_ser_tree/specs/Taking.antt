@@ -1,14 +1,14 @@
 -- What the calls of a writer that takes a value part by part answer, by what the whole value is made into. Source: this library's own readers and writers.
 use Rattle.std.specs.Prelude.{◌≡◌, ℕ, Bool, false, [], Option, Some, None, Result, Ok, Err, IsErrAnd}
 use Rattle.bson_base.specs.BsonView.{tree_of}
-use Rattle.bson_base.specs.Text.{Utf8}
+use Rattle.bson_kinds.specs.Text.{Utf8}
 use Rattle.bson_base.specs.Tree.{Tree, no_pairs}
 use Rattle.bson_base.specs.declared.bson.Bson.{Bson}
-use Rattle.bson_datum.specs.Cause as cause
-use Rattle.bson_datum.specs.Refusal.{unwritable, no_memory, bare}
-use Rattle.bson_datum.specs.ErrorView.{write_failure}
-use Rattle.bson_datum.specs.Value.{Value, str, map, Items, item, Entries, entry, FieldValues, field_value}
-use Rattle.bson_datum.specs.declared.ser.Error.{Error}
+use Rattle.bson_values.specs.Cause as cause
+use Rattle.bson_values.specs.Refusal.{unwritable, no_memory, bare}
+use Rattle.bson_values.specs.ErrorView.{write_failure}
+use Rattle.bson_values.specs.Value.{Value, str, map, Items, item, Entries, entry, FieldValues, field_value}
+use Rattle.bson_values.specs.declared.ser.Error.{Error}
 use Rattle.bson_laws.specs.Spell.{Writing}
 use Rattle.bson_tree_laws.specs.TreeSpell.{tree_items, tree_entries, tree_fields, tree_key_text, tree_whole}
 use Rattle.bson_ser_tree.specs.Answers.{FailsAs, without_paths}

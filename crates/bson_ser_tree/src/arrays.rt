@@ -1,7 +1,7 @@
 // Writers of sequences, tuples and tuple structs, value by value.
 ghost use Rattle.std.specs.Prelude.{◌≡◌};
-ghost use Rattle.bson_base.specs.Text.{Utf8};
-ghost use Rattle.bson_datum.specs.Value.{no_items, sequence, tuple, tuple_structure};
+ghost use Rattle.bson_kinds.specs.Text.{Utf8};
+ghost use Rattle.bson_values.specs.Value.{no_items, sequence, tuple, tuple_structure};
 ghost use Rattle.bson_datum.specs.View.{view};
 ghost use Rattle.bson_writing.specs.Levels.{in_whole};
 ghost use Rattle.bson_ser_tree.specs.Taking.{HasFailed, HasItems, TakesItem, EndsItems, AnswersFailed};
@@ -10,7 +10,7 @@ use crate::items::ItemsWriter;
 use crate::levels::IN_WHOLE;
 use bson_base::Bson;
 use bson_datum::Datum;
-use bson_datum::ser::Result;
+use bson_values::ser::Result;
 use std::alloc::Global;
 use std::marker::Model;
 

@@ -10,8 +10,9 @@ use crate::options::SerializerOptions;
 use crate::stopping::{Writing, refused_for, without_path};
 use crate::value::tree_value;
 use bson_base::{Bson, Document};
-use bson_datum::ser::{Error, Result};
-use bson_datum::{Cause, Datum, MAX_NESTING_LEVEL};
+use bson_datum::{Datum, MAX_NESTING_LEVEL};
+use bson_values::Cause;
+use bson_values::ser::{Error, Result};
 use std::alloc::Global;
 
 /// The tree of a whole value, in its readable form or in its compact one.

@@ -10,7 +10,7 @@ use crate::stopping::{failed, without_path};
 use crate::value::tree_value;
 use bson_base::Bson;
 use bson_datum::Datum;
-use bson_datum::ser::{Error, Result};
+use bson_values::ser::{Error, Result};
 use std::alloc::Global;
 
 /// The trees of values, until one is refused.

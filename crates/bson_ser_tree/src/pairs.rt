@@ -13,7 +13,7 @@ use crate::stopping::{failed, without_path};
 use crate::value::{key_text, tree_value};
 use bson_base::{Bson, Document};
 use bson_datum::Datum;
-use bson_datum::ser::{Error, Result};
+use bson_values::ser::{Error, Result};
 use std::alloc::Global;
 
 /// The pairs of a document, until a key or a value is refused.

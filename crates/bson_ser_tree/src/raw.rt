@@ -1,21 +1,21 @@
 // Documents and arrays that are given by their bytes.
 ghost use Rattle.bson_base.specs.BsonView.{tree_of};
-ghost use Rattle.bson_base.specs.Outcome.{result_map};
+ghost use Rattle.bson_kinds.specs.Outcome.{result_map};
 ghost use Rattle.bson_base.specs.Tree as tree;
 ghost use Rattle.bson_rawdoc.specs.DocumentTree.{document_pairs, array_trees};
 ghost use Rattle.bson_rawdoc.specs.DocumentView.{document_bytes, array_bytes};
-ghost use Rattle.bson_datum.specs.Cause.{raw};
-ghost use Rattle.bson_datum.specs.ErrorView.{write_fault};
-ghost use Rattle.bson_datum.specs.Refusal.{unwritable};
-ghost use Rattle.bson_datum.specs.Stop.{stop_view};
+ghost use Rattle.bson_values.specs.Cause.{raw};
+ghost use Rattle.bson_values.specs.ErrorView.{write_fault};
+ghost use Rattle.bson_values.specs.Refusal.{unwritable};
+ghost use Rattle.bson_values.specs.Stop.{stop_view};
 ghost use Rattle.bson_tree_laws.specs.TreeSpell.{tree_read};
 ghost use Rattle.bson_ser_tree.specs.Gives.{Reaches, IsFaultOrMemory};
 
 use crate::stopping::{Writing, refused_for};
 use bson_base::Bson;
-use bson_datum::ser::Fault;
-use bson_datum::{Cause, Stop};
 use bson_rawdoc::{RawArray, RawDocument, raw};
+use bson_values::ser::Fault;
+use bson_values::{Cause, Stop};
 use std::alloc::Global;
 
 /// The tree of a document in its bytes.

@@ -2,7 +2,7 @@
 ghost use Rattle.std.specs.Prelude.{◌≡◌, encode_utf8, pos, IfOk};
 ghost use Rattle.bson_base.specs.BsonView.{tree_of};
 ghost use Rattle.bson_base.specs.Tree.{string, binary};
-ghost use Rattle.bson_base.specs.declared.element_type.ElementType.TheVariants.{Int64};
+ghost use Rattle.bson_kinds.specs.declared.element_type.ElementType.TheVariants.{Int64};
 ghost use Rattle.bson_datum.specs.View.{view};
 ghost use Rattle.bson_laws.specs.Spell.{spell_number};
 ghost use Rattle.bson_laws.specs.UuidBytes.{uuid_bytes};
@@ -11,9 +11,10 @@ ghost use Rattle.bson_ser_tree.specs.Gives.{Reaches};
 
 use crate::stopping::{Writing, refused, refused_for};
 use bson_base::{Binary, BinarySubtype, Bson};
-use bson_datum::ser::Fault;
-use bson_datum::{Cause, Datum};
+use bson_datum::Datum;
 use bson_reserved::{UuidBytes, uuid_bytes};
+use bson_values::Cause;
+use bson_values::ser::Fault;
 use std::alloc::{AllocError, Global};
 
 /// The subtype of bytes without a further meaning.

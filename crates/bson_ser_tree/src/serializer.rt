@@ -1,8 +1,8 @@
 ghost use Rattle.std.specs.Prelude.{◌≡◌, true, [], unwrap_or, IfOk, IfErr};
 ghost use Rattle.bson_base.specs.BsonView.{tree_of};
-ghost use Rattle.bson_datum.specs.Value.{str, no_items, no_entries, no_field_values};
+ghost use Rattle.bson_values.specs.Value.{str, no_items, no_entries, no_field_values};
 ghost use Rattle.bson_datum.specs.View.{view};
-ghost use Rattle.bson_datum.specs.declared.ser.Error.TheVariants.{NoMemory};
+ghost use Rattle.bson_values.specs.declared.ser.Error.TheVariants.{NoMemory};
 ghost use Rattle.bson_tree_laws.specs.TreeSpell.{tree_whole};
 ghost use Rattle.bson_ser_tree.specs.Answers.{Gives, without_paths};
 ghost use Rattle.bson_writing.specs.Levels.{in_whole, in_variant};
@@ -17,7 +17,7 @@ use crate::structs::StructSerializer;
 use crate::variants::{StructVariantSerializer, TupleVariantSerializer};
 use bson_base::Bson;
 use bson_datum::Datum;
-use bson_datum::ser::Result;
+use bson_values::ser::Result;
 use std::alloc::Global;
 use std::marker::Model;
 

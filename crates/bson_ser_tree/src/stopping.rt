@@ -1,13 +1,13 @@
 // Why a writer of values stops before its end.
 ghost use Rattle.std.specs.Prelude.{◌≡◌};
-ghost use Rattle.bson_datum.specs.Refusal.{unwritable, bare};
-ghost use Rattle.bson_datum.specs.Cause.{failed};
-ghost use Rattle.bson_datum.specs.Stop.{stop_view};
-ghost use Rattle.bson_datum.specs.ErrorView.{cause_view, write_fault, write_failure};
+ghost use Rattle.bson_values.specs.Refusal.{unwritable, bare};
+ghost use Rattle.bson_values.specs.Cause.{failed};
+ghost use Rattle.bson_values.specs.Stop.{stop_view};
+ghost use Rattle.bson_values.specs.ErrorView.{cause_view, write_fault, write_failure};
 ghost use Rattle.bson_ser_tree.specs.Gives.{IsHereOrMemory, IsBare};
 
-use bson_datum::ser::{Error, Fault};
-use bson_datum::{Cause, Refused, Stop};
+use bson_values::ser::{Error, Fault};
+use bson_values::{Cause, Refused, Stop};
 use std::alloc::Global;
 
 /// What a writer inside a value returns: something, or why it stopped.

@@ -1,6 +1,6 @@
 // The writer of a struct, field by field.
 ghost use Rattle.std.specs.Prelude.{◌≡◌, []};
-ghost use Rattle.bson_datum.specs.Value.{no_field_values, structure};
+ghost use Rattle.bson_values.specs.Value.{no_field_values, structure};
 ghost use Rattle.bson_datum.specs.View.{view};
 ghost use Rattle.bson_writing.specs.Levels.{in_whole};
 ghost use Rattle.bson_ser_tree.specs.Taking.{HasFailed, HasFields, TakesField, EndsFields, AnswersFailed};
@@ -9,7 +9,7 @@ use crate::levels::IN_WHOLE;
 use crate::pairs::PairsWriter;
 use bson_base::Bson;
 use bson_datum::Datum;
-use bson_datum::ser::Result;
+use bson_values::ser::Result;
 use std::alloc::Global;
 use std::marker::Model;
 

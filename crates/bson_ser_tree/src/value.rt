@@ -3,10 +3,10 @@ ghost use Rattle.std.specs.Prelude.{◌≡◌, false, string_bytes, IfOk};
 ghost use Rattle.std.specs.Str.{bytes_eq};
 ghost use Rattle.bson_base.specs.BsonView.{tree_of, trees_of, pairs_of};
 ghost use Rattle.bson_base.specs.Folded.{fold};
-ghost use Rattle.bson_base.specs.Outcome.{result_map};
+ghost use Rattle.bson_kinds.specs.Outcome.{result_map};
 ghost use Rattle.bson_base.specs.Tree.{document, array, no_pairs, pair};
-ghost use Rattle.bson_datum.specs.Refusal.{under, under_index};
-ghost use Rattle.bson_datum.specs.Value.{uuid_newtype, readable_inside};
+ghost use Rattle.bson_values.specs.Refusal.{under, under_index};
+ghost use Rattle.bson_values.specs.Value.{uuid_newtype, readable_inside};
 ghost use Rattle.bson_datum.specs.View.{view, items_view, entries_view, fields_view};
 ghost use Rattle.bson_laws.specs.Spell.{enclosed_at, newtype_at};
 ghost use Rattle.bson_laws.specs.UuidBytes.{uuid_bytes};
@@ -17,9 +17,11 @@ ghost use Rattle.bson_ser_tree.specs.Gives.{Reaches};
 use crate::raw::{raw_array, raw_document};
 use crate::scalar::{byte_string, character, text, unique_id, unsigned};
 use crate::stopping::{Writing, refused, refused_for};
-use bson_base::{Bson, Document, reserved_kind};
-use bson_datum::ser::Fault;
-use bson_datum::{Cause, Datum, Entry, Field};
+use bson_base::{Bson, Document};
+use bson_datum::{Datum, Entry, Field};
+use bson_kinds::reserved_kind;
+use bson_values::Cause;
+use bson_values::ser::Fault;
 use std::alloc::{AllocError, Global};
 
 // Whether a newtype of this name is that of a UUID.

@@ -1,8 +1,8 @@
 // Writers of variants with contents, part by part.
 ghost use Rattle.std.specs.Prelude.{◌≡◌, IfOk, IfErr};
-ghost use Rattle.bson_datum.specs.Value.{no_items, tuple_variant, no_field_values, structure_variant};
+ghost use Rattle.bson_values.specs.Value.{no_items, tuple_variant, no_field_values, structure_variant};
 ghost use Rattle.bson_datum.specs.View.{view};
-ghost use Rattle.bson_datum.specs.declared.ser.Error.TheVariants.{NoMemory};
+ghost use Rattle.bson_values.specs.declared.ser.Error.TheVariants.{NoMemory};
 ghost use Rattle.bson_writing.specs.Levels.{in_variant};
 ghost use Rattle.bson_ser_tree.specs.Taking.{HasFailed, HasItems, HasFields, TakesItem, TakesField, EndsItems, EndsFields, AnswersFailed};
 
@@ -12,7 +12,7 @@ use crate::pairs::PairsWriter;
 use crate::value::variant;
 use bson_base::Bson;
 use bson_datum::Datum;
-use bson_datum::ser::Result;
+use bson_values::ser::Result;
 use std::alloc::Global;
 use std::marker::Model;
 

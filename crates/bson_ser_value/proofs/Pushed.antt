@@ -1,8 +1,8 @@
 -- One more field behind those of a list.
 use Rattle.std.proofs.Common.{◌≡◌, List, [], ◌∷◌, ◌++◌, refl, ap}
-use Rattle.bson_datum.specs.TextView.{text_view}
+use Rattle.bson_values.specs.TextView.{text_view}
 use Rattle.bson_datum.specs.View.{view, fields_view}
-use Rattle.bson_datum.specs.Value.{field_value}
+use Rattle.bson_values.specs.Value.{field_value}
 use Rattle.bson_datum.specs.declared.datum.Field.{Field}
 use Rattle.bson_writing.specs.Joined.{with_field}
 

@@ -1,16 +1,16 @@
 -- What each call of the writer of a struct of a reserved name answers.
 use Rattle.std.proofs.Common.{Bool, true, false, ◌≡◌, ◌⊎◌, inl, inr, ℕ, [], length, take, Result, Ok, Err, refl, ap, sym, subst, ◌∙◌}
 use Rattle.std.specs.Prelude.{Some, OnOk, is_err}
-use Rattle.bson_base.specs.Reserved.{reserved_kind}
-use Rattle.bson_base.specs.Text.{Bytes, Utf8}
-use Rattle.bson_base.specs.declared.element_type.ElementType.{ElementType}
-use Rattle.bson_datum.specs.Cause.{bad_step}
-use Rattle.bson_datum.specs.Refusal.{Failure, WriteFault, unwritable, here, no_memory, with_path}
-use Rattle.bson_datum.specs.Stop.{IsPlaced}
-use Rattle.bson_datum.specs.ErrorView.{write_failure}
-use Rattle.bson_datum.specs.Value.{Value, structure, FieldValues}
+use Rattle.bson_kinds.specs.Reserved.{reserved_kind}
+use Rattle.bson_kinds.specs.Text.{Bytes, Utf8}
+use Rattle.bson_kinds.specs.declared.element_type.ElementType.{ElementType}
+use Rattle.bson_values.specs.Cause.{bad_step}
+use Rattle.bson_values.specs.Refusal.{Failure, WriteFault, unwritable, here, no_memory, with_path}
+use Rattle.bson_values.specs.Stop.{IsPlaced}
+use Rattle.bson_values.specs.ErrorView.{write_failure}
+use Rattle.bson_values.specs.Value.{Value, structure, FieldValues}
 use Rattle.bson_datum.specs.View.{fields_view}
-use Rattle.bson_datum.specs.declared.ser.Error.{Error}
+use Rattle.bson_values.specs.declared.ser.Error.{Error}
 use Rattle.bson_io.specs.Output.{Output}
 use Rattle.bson_laws.specs.Unwrap.{unwrap, scoped_code}
 use Rattle.bson_laws.specs.Spell.{struct_at, struct_size, reserved_at, reserved_size, spell_fields_as, spell_list, size_fields_as, size_list, spell, size}

@@ -1,15 +1,15 @@
 -- The writer of a value that serde's data model lacks, field by field of the struct of its reserved name. Source: this library's own readers and writers.
 use Rattle.std.specs.Prelude.{◌≡◌, false, Some, ◌⊎◌, Result, Ok, Err}
 use Rattle.std.specs.Global.{Vec}
-use Rattle.bson_base.specs.Reserved.{reserved_kind}
-use Rattle.bson_base.specs.Text.{Bytes, Utf8}
-use Rattle.bson_datum.specs.Cause.{bad_step}
-use Rattle.bson_datum.specs.Refusal.{unwritable, no_memory, with_path, here}
-use Rattle.bson_datum.specs.ErrorView.{write_failure}
-use Rattle.bson_datum.specs.Value.{Value, structure, FieldValues}
+use Rattle.bson_kinds.specs.Reserved.{reserved_kind}
+use Rattle.bson_kinds.specs.Text.{Bytes, Utf8}
+use Rattle.bson_values.specs.Cause.{bad_step}
+use Rattle.bson_values.specs.Refusal.{unwritable, no_memory, with_path, here}
+use Rattle.bson_values.specs.ErrorView.{write_failure}
+use Rattle.bson_values.specs.Value.{Value, structure, FieldValues}
 use Rattle.bson_datum.specs.View.{fields_view}
 use Rattle.bson_datum.specs.declared.datum.Field.{Field}
-use Rattle.bson_datum.specs.declared.ser.Error.{Error}
+use Rattle.bson_values.specs.declared.ser.Error.{Error}
 use Rattle.bson_laws.specs.Spell.{spell, size}
 use Rattle.bson_writing.specs.Joined.{with_field}
 use Rattle.bson_writing.specs.Levels.{in_whole}

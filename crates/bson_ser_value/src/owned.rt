@@ -3,7 +3,8 @@ ghost use Rattle.std.specs.Prelude.{◌≡◌, OnOk};
 ghost use Rattle.bson_datum.specs.View.{view, fields_view};
 ghost use Rattle.bson_writing.specs.Joined.{with_field};
 
-use bson_datum::{Datum, Field, Text};
+use bson_datum::{Datum, Field};
+use bson_values::Text;
 use std::alloc::{AllocError, Global};
 
 /// Puts a field with its own copy of its name and its value behind others.

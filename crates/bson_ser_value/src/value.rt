@@ -1,20 +1,21 @@
 // The writer of a value that serde's data model lacks, field by field of the struct of its reserved name.
 ghost use Rattle.std.specs.Prelude.{◌≡◌, true, Some, None, IfOk, OnErr};
 ghost use Rattle.std.specs.Borrow.{sem, RestsIfErr};
-ghost use Rattle.bson_base.specs.Reserved.{reserved_kind};
-ghost use Rattle.bson_datum.specs.Value.{no_field_values};
+ghost use Rattle.bson_kinds.specs.Reserved.{reserved_kind};
+ghost use Rattle.bson_values.specs.Value.{no_field_values};
 ghost use Rattle.bson_datum.specs.View.{view};
 ghost use Rattle.bson_io.specs.contracts.out.Out.{the_row};
 ghost use Rattle.bson_ser_parts.specs.Taking.{AnswersFailed, AnswersBadStep};
 
 use crate::owned::push_owned;
-use bson_base::{ElementType, reserved_kind};
-use bson_datum::ser::{Error, Result};
-use bson_datum::{Cause, Datum, Field, MAX_NESTING_LEVEL};
+use bson_datum::{Datum, Field, MAX_NESTING_LEVEL};
 use bson_fronts::begins;
 use bson_io::{Ledger, Out, Steps};
+use bson_kinds::{ElementType, reserved_kind};
 use bson_ser_parts::{failed_before, refused_for, take_back};
 use bson_ser_stream::put_reserved;
+use bson_values::Cause;
+use bson_values::ser::{Error, Result};
 use std::alloc::Global;
 
 // How many levels of documents and arrays are left for what is in the value, which is at level 1.

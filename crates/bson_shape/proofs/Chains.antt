@@ -5,7 +5,7 @@ use Rattle.std.specs.Str.{bytes_eq}
 use Rattle.std.proofs.lemmas.Bool.{cond-true, cond-false}
 use Rattle.std.proofs.lemmas.List.{take-append-drop}
 use Rattle.std.proofs.lemmas.Slice.Eq.{bytes_eq-Decides}
-use Rattle.bson_base.specs.Text.{Utf8}
+use Rattle.bson_kinds.specs.Text.{Utf8}
 use Rattle.bson_shape.specs.Form.{Form, optional, lossy, human_readable, by_mode, newtype, reference, Fields, no_fields, field, joined}
 use Rattle.bson_shape.specs.Guarded.{count, definition, LeadsTo, FoundLeadsTo, NameLeadsTo, LeadsIn, LeadsBack, Leads, FoundLeads, Ends, IsGuarded, leading, found_leading, ends, all_end, is_guarded}
 use Rattle.bson_shape.specs.ShapeView.{fields_of, nodes, fields_nodes}

@@ -3,9 +3,9 @@ use Rattle.std.proofs.Common.{◌≡◌, ℕ, ◌+◌, ◌/◌, ◌%◌, ◌≤�
 use lib.Utf8.{encode}
 use lib.Dec.{ltb}
 use Rattle.std.proofs.lemmas.Str.{encode_ascii, length-encode, len_utf8_bounds}
-use Rattle.bson_base.specs.Text.{Utf8}
+use Rattle.bson_kinds.specs.Text.{Utf8}
 use Rattle.bson_shape.specs.Notation.{begins_bare, in_bare, names_form, is_escaped}
-use Rattle.bson_base.specs.Outcome.{◌>>=◌}
+use Rattle.bson_kinds.specs.Outcome.{◌>>=◌}
 use Rattle.bson_shape.specs.Machine.{Refusal, Not_notation, Group, Braces, Closed_braces, Parens, Angles, Table, Level, In_prefix, In_brackets, In_pair, In_compact, In_map, In_item, Owner, Form_at, Item_of, Reference_at, Mode, Form_due, Percent, Ampersand, At, Behind_sign, Item_due, Bare, Quoted, Escape, Named, Item_done, Done, State, grown, closing, item_ended, wrapped, enclosed, form_ended, begins_name, begins_form, form_due, name_due, field_due, item_begun, item_due, named, word_ended, leaf_ended, bare_name, quoted_name, escape, step, no_more, no_more_behind, other_character, run}
 use Rattle.bson_shape.proofs.NameRuns.{run_step, run_refused}
 use Rattle.std.proofs.lemmas.Bool.Decides.{nat_tests}

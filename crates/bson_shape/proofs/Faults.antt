@@ -3,8 +3,8 @@ use Rattle.std.proofs.Common.{◌≡◌, ℕ, ◌+◌, ◌≤◌, Bool, true, fa
 use Rattle.std.specs.Prelude.{◌⊎◌, nat_le, is_some, Contains}
 use Rattle.std.proofs.lemmas.Bool.Decides.{nat_tests}
 use Rattle.std.proofs.lemmas.List.Elements.{Contains-append_left, Contains-append_right}
-use Rattle.bson_base.specs.Text.{Utf8}
-use Rattle.bson_base.specs.Reserved.{reserved_kind}
+use Rattle.bson_kinds.specs.Text.{Utf8}
+use Rattle.bson_kinds.specs.Reserved.{reserved_kind}
 use Rattle.bson_shape.specs.Form.{UnknownFields, Form, leaf, optional, lossy, human_readable, by_mode, sequence, map, tuple, tuple_structure, newtype, unit_structure, structure, enumeration, reference, definitions, Fields, no_fields, field, Parts, no_parts, part, Variants, no_variants, variant, Content, unit_content, newtype_content, tuple_content, struct_content}
 use Rattle.bson_shape.specs.Guarded.{is_guarded}
 use Rattle.bson_shape.proofs.Chains.{unguarded_back}

@@ -1,10 +1,10 @@
 -- A name is read to its end.
 use Rattle.std.proofs.Common.{◌≡◌, ℕ, ◌+◌, Bool, true, false, cond, eqb, ◌||◌, List, [], ◌∷◌, ◌++◌, length, Result, Ok, Err, refl, sym, ap, ◌∙◌, arith, append_assoc, append-nil, length-append}
 use Rattle.std.specs.List.{list_all}
-use Rattle.bson_base.specs.Text.{Utf8}
+use Rattle.bson_kinds.specs.Text.{Utf8}
 use Rattle.bson_shape.specs.Form.{reference}
 use Rattle.bson_shape.specs.Notation.{begins_bare, in_bare, bare, names_form, is_escaped, escaped, quoted, name_text}
-use Rattle.bson_base.specs.Outcome.{◌>>=◌}
+use Rattle.bson_kinds.specs.Outcome.{◌>>=◌}
 use Rattle.bson_shape.specs.Machine.{Refusal, Level, Owner, Form_at, Item_of, Reference_at, Mode, Bare, Quoted, Escape, Named, State, begins_name, name_begun, form_ended, form_named, item_named, named, word_ended, bare_name, name_closed, quoted_name, escape, step, run}
 use Rattle.bson_shape.proofs.Words.{and_true, or_false, differs}
 

@@ -8,7 +8,7 @@ use Rattle.std.proofs.lemmas.Bool.Decides.{same_from_decides}
 use Rattle.std.proofs.lemmas.List.{take-append-drop, map_more}
 use Rattle.std.proofs.lemmas.List.Folds.{list_any-append}
 use Rattle.std.proofs.lemmas.Slice.Eq.{bytes_eq-Decides}
-use Rattle.bson_base.specs.Text.{Utf8}
+use Rattle.bson_kinds.specs.Text.{Utf8}
 use Rattle.bson_shape.specs.Form.{Form, Fields, field}
 use Rattle.bson_shape.specs.Makers.{has_name, has_repeat, field_names, variant_names, has_field, AreDistinct}
 use Rattle.bson_shape.specs.ShapeView.{fields_of, variants_of}

@@ -2,13 +2,13 @@
 use Rattle.std.proofs.Common.{◌≡◌, ℕ, ◌+◌, ◌<◌, Bool, true, false, List, [], ◌∷◌, ◌++◌, length, take, drop, Option, Some, None, Result, Ok, Err, refl, sym, ap, subst, ◌∙◌, append_assoc, append-nil, length-append, length-take, take_all, arith, inl, inr}
 use Rattle.std.specs.Str.{IsUtf8}
 use Rattle.std.proofs.lemmas.List.{take-append-drop}
-use Rattle.bson_base.specs.Text.{Utf8}
+use Rattle.bson_kinds.specs.Text.{Utf8}
 use Rattle.bson_shape.specs.Form.{Form, leaf, reference}
 use Rattle.bson_shape.specs.Leaf.{of_word}
 use Rattle.bson_shape.specs.declared.leaf.Leaf.{Leaf}
 use Rattle.bson_shape.specs.Notation.{in_bare, names_form, text}
 use Rattle.bson_shape.specs.FirstRefusal.{MakerRefusal, first_refusal}
-use Rattle.bson_base.specs.Outcome.{◌>>=◌}
+use Rattle.bson_kinds.specs.Outcome.{◌>>=◌}
 use Rattle.bson_shape.specs.Machine.{Refusal, Not_notation, Refused, Level, Form_at, Reference_at, Mode, Form_due, Bare, Named, Done, State, wrapped, enclosed, form_ended, named, word_ended, bare_name, alone, last, last_leaf, step, run, finish, parsed}
 use Rattle.bson_shape.specs.Fronts.{ends_in_word, goes_on, word_goes_on, BeginsNotation, IsLongestFront, IsMet, IsNotNotationAt}
 use Rattle.bson_shape.proofs.Words.{or_false}

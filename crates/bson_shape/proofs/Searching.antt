@@ -10,7 +10,7 @@ use Rattle.std.specs.Ordering.{nat_cmp, is_eq}
 use Rattle.std.specs.Str.{bytes_eq}
 use Rattle.std.proofs.lemmas.Map.Text.{is_eq-slice_cmp}
 use Rattle.std.proofs.lemmas.List.{map-append, reverse-append, nil_from_length, length-map, length-reverse}
-use Rattle.bson_base.specs.Text.{Utf8}
+use Rattle.bson_kinds.specs.Text.{Utf8}
 use Rattle.bson_shape.specs.Form.{Form}
 use Rattle.bson_shape.specs.Guarded.{definition}
 use Rattle.bson_shape.specs.ShapeView.{fields_of}

@@ -1,6 +1,6 @@
 -- What a state of the machine has read.
 use Rattle.std.proofs.Common.{◌≡◌, ℕ, true, false, List, [], ◌∷◌, ◌++◌, refl, sym, ap, ◌∙◌, append_assoc, append-nil}
-use Rattle.bson_base.specs.Text.{Utf8}
+use Rattle.bson_kinds.specs.Text.{Utf8}
 use Rattle.bson_shape.specs.Form.{dropped, Form, by_mode, sequence, map, structure, Fields, no_fields, field, push_field, Parts, no_parts, part, push_part, Variants, no_variants, variant, push_variant, Content, newtype_content, tuple_content, struct_content}
 use Rattle.bson_shape.specs.Notation.{in_bare, names_form, bare, escaped, quoted, name_text, struct_name_text, after_commas, listed, text, in_parens, named_texts, field_texts, definition_texts, part_texts, variant_texts, content_text}
 use Rattle.bson_shape.specs.Fronts.{goes_on}

@@ -5,11 +5,11 @@ use Rattle.std.specs.Char.{IsScalar}
 use lib.Utf8.{scalar, scalars, encode, encodes}
 use Rattle.std.proofs.lemmas.Bool.Decides.{nat_tests}
 use Rattle.std.proofs.lemmas.Str.{encode_ascii, length-encode, len_utf8_bounds}
-use Rattle.bson_base.specs.Text.{Utf8}
+use Rattle.bson_kinds.specs.Text.{Utf8}
 use Rattle.bson_shape.specs.Form.{leaf, reference}
 use Rattle.bson_shape.specs.Leaf.{of_word}
 use Rattle.bson_shape.specs.declared.leaf.Leaf.{Leaf}
-use Rattle.bson_base.specs.Outcome.{◌>>=◌}
+use Rattle.bson_kinds.specs.Outcome.{◌>>=◌}
 use Rattle.bson_shape.specs.Machine.{Refusal, Not_notation, Level, Form_at, Reference_at, Mode, Bare, Quoted, Named, Done, State, wrapped, step, no_more_behind, other_character, run}
 use Rattle.bson_shape.proofs.Words.{and_true}
 use Rattle.bson_shape.proofs.TextStates.{TextState, text-append, text-encode}

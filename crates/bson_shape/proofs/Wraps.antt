@@ -1,7 +1,7 @@
 -- A form that ends, with the options and newtypes around it that end with it.
 use Rattle.std.proofs.Common.{◌≡◌, ℕ, Bool, true, false, List, [], ◌∷◌, ◌++◌, Some, Result, Ok, Err, refl, sym, ap, subst, ◌∙◌}
 use Rattle.std.specs.Prelude.{IfOk}
-use Rattle.bson_base.specs.Text.{Utf8}
+use Rattle.bson_kinds.specs.Text.{Utf8}
 use Rattle.bson_shape.specs.Form.{Form, leaf, reference}
 use Rattle.bson_shape.specs.Leaf.{of_word}
 use Rattle.bson_shape.specs.declared.leaf.Leaf.{Leaf}
@@ -10,7 +10,7 @@ use Rattle.bson_shape.specs.Notation.{bare, text}
 use Rattle.bson_shape.specs.Fronts.{HasTextNames, is_longer, goes_on}
 use Rattle.bson_shape.specs.FirstRefusal.{MakerRefusal}
 use Rattle.bson_shape.specs.declared.error.ShapeError.{ShapeError}
-use Rattle.bson_base.specs.Outcome.{◌>>=◌}
+use Rattle.bson_kinds.specs.Outcome.{◌>>=◌}
 use Rattle.bson_shape.specs.Machine.{Refusal, Not_notation, Refused, Level, In_prefix, In_brackets, In_pair, In_compact, In_map, In_item, Form_at, Reference_at, Mode, Bare, Named, Done, State, made, Ended, prefixed, wrapped}
 use Rattle.bson_shape.proofs.Made.{made_form-made}
 use Rattle.bson_shape.proofs.Words.{of_word-is}

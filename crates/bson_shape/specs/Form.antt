@@ -1,5 +1,5 @@
 -- The form of a shape. Source: serde's data model.
-use Rattle.bson_base.specs.Text.{Utf8}
+use Rattle.bson_kinds.specs.Text.{Utf8}
 use Rattle.bson_shape.specs.declared.leaf.Leaf.{Leaf}
 
 -- What is done with the fields of a document that a struct does not name.

@@ -1,7 +1,7 @@
 -- The leaf words of the notation. Source: this library's own notation.
 use Rattle.std.specs.Prelude.{Bool as Test, true, false, List, [], ◌∷◌, if◌then◌else◌, Option, Some, None, codes}
 use Rattle.std.specs.Str.{bytes_eq}
-use Rattle.bson_base.specs.Text.{Utf8}
+use Rattle.bson_kinds.specs.Text.{Utf8}
 use Rattle.bson_shape.specs.declared.leaf.Leaf.{Leaf}
 use Rattle.bson_shape.specs.declared.leaf.Leaf.TheVariants.{Any, Ignored, Bool, I8, I16, I32, I64, U8, U16, U32, U64, Double, Char, Str, String, Bytes, ByteBuf, Unit, ObjectId, DateTime, Binary, Timestamp, Regex, CodeWithScope, Decimal128, DbPointer, Uuid, Bson, Document, RawDocument, RawArray, RawBson}
 

@@ -1,6 +1,6 @@
 -- What the refusals of a shape print. Source: this library's own texts.
 use Rattle.std.specs.Prelude.{codes, ℕ, Option, Some, None}
-use Rattle.bson_base.specs.Text.{Utf8}
+use Rattle.bson_kinds.specs.Text.{Utf8}
 use Rattle.bson_shape.specs.declared.error.ShapeError.{ShapeError}
 use Rattle.bson_shape.specs.declared.error.ShapeError.TheVariants as causes
 use Rattle.bson_shape.specs.declared.error.ParseError.{ParseError}

@@ -1,6 +1,6 @@
 // Whether a name of definitions leads back to itself.
 ghost use Rattle.std.specs.Prelude.{◌≡◌, true, false, option_copied};
-ghost use Rattle.bson_base.specs.Text.{Utf8};
+ghost use Rattle.bson_kinds.specs.Text.{Utf8};
 ghost use Rattle.bson_shape.specs.Form as form;
 ghost use Rattle.bson_shape.specs.Guarded as guarded;
 ghost use Rattle.bson_shape.specs.ShapeView.{fields_of};

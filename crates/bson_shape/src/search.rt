@@ -1,7 +1,7 @@
 // A search for a name of definitions that leads back to itself. Each definition is entered once, so it takes as many steps as the definitions have parts,
 // and a look-up at each reference.
 ghost use Rattle.std.specs.Prelude.{◌≡◌, IfOk, OnOk};
-ghost use Rattle.bson_base.specs.Text.{Utf8};
+ghost use Rattle.bson_kinds.specs.Text.{Utf8};
 ghost use Rattle.bson_shape.specs.Guarded as guarded;
 ghost use Rattle.bson_shape.specs.ShapeView.{fields_of};
 ghost use Rattle.bson_shape.specs.Form as form;

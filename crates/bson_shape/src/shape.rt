@@ -8,7 +8,7 @@ use crate::distinct::{has_repeated_field, has_repeated_variant};
 use crate::guarded::is_guarded;
 use crate::name::is_reserved_newtype;
 use crate::{Form, Leaf, ShapeError};
-use bson_base::reserved_kind;
+use bson_kinds::reserved_kind;
 use std::alloc::Global;
 use std::marker::Model;
 

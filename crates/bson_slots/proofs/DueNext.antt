@@ -1,9 +1,9 @@
 -- The next element of an array.
 use Rattle.std.proofs.Common.{◌≡◌, ℕ, Ok, refl, ap}
-use Rattle.bson_base.specs.Outcome.{◌>>=◌}
+use Rattle.bson_kinds.specs.Outcome.{◌>>=◌}
 use Rattle.bson_rawdoc.specs.Node.{Node, Nodes, ended, faulty, then_node}
-use Rattle.bson_datum.specs.Marked.{Marked}
-use Rattle.bson_datum.specs.Refusal.{under_index}
+use Rattle.bson_values.specs.Marked.{Marked}
+use Rattle.bson_values.specs.Refusal.{under_index}
 use Rattle.bson_laws.specs.Containers.{reads_next}
 use Rattle.bson_laws.specs.Judged.{Reading}
 use Rattle.bson_slots.specs.NextValue.{next_value, next_node, behind_first}

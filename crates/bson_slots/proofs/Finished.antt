@@ -1,17 +1,18 @@
 -- The slots of the fields of a struct: which have a value, how one more is kept, and what all give.
 use Rattle.std.proofs.Common.{◌≡◌, ℕ, zero, suc, ◌+◌, ◌<◌, ◌≤◌, List, [], ◌∷◌, ◌++◌, length, get_or, set, true, false, Option, Some, None, Result, Ok, Err, IfOk, refl, ap, sym, ◌∙◌, subst, string_bytes, arith}
 use Rattle.std.specs.Prelude.{option_map, is_some}
-use Rattle.bson_base.specs.Outcome.{◌>>=◌, result_map}
+use Rattle.bson_kinds.specs.Outcome.{◌>>=◌, result_map}
 use Rattle.bson_rawdoc.specs.Piece.{Piece, made}
 use Rattle.bson_shape.specs.ShapeView.{fields_of}
 use Rattle.bson_shape.specs.declared.shape.FieldShape.{FieldShape}
-use Rattle.bson_datum.specs.Marked.{Marked}
-use Rattle.bson_datum.specs.MarkedView.{marked, text_piece}
-use Rattle.bson_datum.specs.Value.{field_value}
+use Rattle.bson_values.specs.Marked.{Marked}
+use Rattle.bson_values.specs.Pieces.{text_piece}
+use Rattle.bson_datum.specs.MarkedView.{marked}
+use Rattle.bson_values.specs.Value.{field_value}
 use Rattle.bson_datum.specs.declared.datum.Datum.{Datum}
 use Rattle.bson_datum.specs.declared.datum.Field.{Field}
-use Rattle.bson_datum.specs.declared.de.Fault.{Fault}
-use Rattle.bson_datum.specs.declared.stop.Stop.{Stop}
+use Rattle.bson_values.specs.declared.de.Fault.{Fault}
+use Rattle.bson_values.specs.declared.stop.Stop.{Stop}
 use Rattle.bson_laws.specs.declared.origin.Reader.{Reader}
 use Rattle.bson_laws.specs.ReadsFrom.{reads_for, slots_for}
 use Rattle.bson_laws.specs.Scopes.{meanings_of}

@@ -1,9 +1,10 @@
 -- The fields of a datum, which are in a `Vec`.
 use Rattle.std.proofs.Common.{◌≡◌, refl, ap, ◌∙◌}
 use Rattle.std.specs.Global.{Vec}
-use Rattle.bson_datum.specs.MarkedView.{marked, marked_fields, text_piece}
-use Rattle.bson_datum.specs.Value.{structure, structure_variant, field_value}
-use Rattle.bson_datum.specs.declared.text.Text.{Text}
+use Rattle.bson_values.specs.Pieces.{text_piece}
+use Rattle.bson_datum.specs.MarkedView.{marked, marked_fields}
+use Rattle.bson_values.specs.Value.{structure, structure_variant, field_value}
+use Rattle.bson_values.specs.declared.text.Text.{Text}
 use Rattle.bson_datum.specs.declared.datum.Field.{Field}
 use Rattle.bson_datum.specs.declared.datum.Datum.TheBlock.{hidden-the_row-Field-2}
 use Rattle.bson_datum.specs.declared.datum.Datum.{Struct, StructVariant, Row_of-Field, end_of-Field, more_of-Field, items-the_row-Field, items_hidden-the_row-Field-2}

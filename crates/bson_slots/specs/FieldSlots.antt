@@ -2,11 +2,12 @@
 use Rattle.std.specs.Prelude.{◌≡◌, ℕ, zero, suc, List, [], ◌∷◌, Option, Some, None, false, option_map, string_bytes}
 use Rattle.std.specs.Coded.{Coded-set, coded_ℕ, coded_bool, coded_list, ×_prop, Unit-prop}
 use Rattle.bson_shape.specs.declared.shape.FieldShape.{FieldShape}
-use Rattle.bson_datum.specs.Borrowed.{text_borrowed}
-use Rattle.bson_datum.specs.Marked.{Marked, MarkedFields}
-use Rattle.bson_datum.specs.MarkedView.{marked, text_piece}
-use Rattle.bson_datum.specs.TextView.{text_view}
-use Rattle.bson_datum.specs.Value.{no_field_values, field_value}
+use Rattle.bson_values.specs.Pieces.{text_borrowed}
+use Rattle.bson_values.specs.Marked.{Marked, MarkedFields}
+use Rattle.bson_values.specs.Pieces.{text_piece}
+use Rattle.bson_datum.specs.MarkedView.{marked}
+use Rattle.bson_values.specs.TextView.{text_view}
+use Rattle.bson_values.specs.Value.{no_field_values, field_value}
 use Rattle.bson_datum.specs.declared.datum.Datum.{Datum}
 use Rattle.bson_datum.specs.declared.datum.Field.{Field}
 use Rattle.bson_laws.specs.declared.origin.Reader.{Reader}

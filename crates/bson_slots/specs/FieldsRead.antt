@@ -1,9 +1,9 @@
 -- What contracts see of the fields of a struct that are read, each into its slot. Source: serde's data model.
 use Rattle.std.specs.Prelude.{Bool, if◌then◌else◌}
-use Rattle.bson_base.specs.Outcome.{◌>>=◌}
+use Rattle.bson_kinds.specs.Outcome.{◌>>=◌}
 use Rattle.bson_rawdoc.specs.Node.{Node, Nodes}
 use Rattle.bson_shape.specs.Form.{UnknownFields, dropped, denied}
-use Rattle.bson_datum.specs.Marked.{MarkedFields}
+use Rattle.bson_values.specs.Marked.{MarkedFields}
 use Rattle.bson_laws.specs.Judged.{Reading, judged}
 use Rattle.bson_laws.specs.Slots.{Slots, fill, finish, read_structure}
 

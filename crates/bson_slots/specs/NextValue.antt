@@ -1,13 +1,13 @@
 -- What contracts see of the next element of an array. Source: serde's data model.
 use Rattle.std.specs.Prelude.{◌≡◌, ℕ, Result, Ok, Err}
 use Rattle.bson_rawdoc.specs.Node.{Node, Nodes, ended, faulty, then_node}
-use Rattle.bson_datum.specs.Cause.{raw, invalid_length}
-use Rattle.bson_datum.specs.ErrorView.{read_fault}
-use Rattle.bson_datum.specs.Marked.{Marked}
-use Rattle.bson_datum.specs.Refusal.{under_index}
-use Rattle.bson_datum.specs.Stop.{stop_view}
-use Rattle.bson_datum.specs.declared.de.Fault.{Fault}
-use Rattle.bson_datum.specs.declared.stop.Stop.{Stop}
+use Rattle.bson_values.specs.Cause.{raw, invalid_length}
+use Rattle.bson_values.specs.ErrorView.{read_fault}
+use Rattle.bson_values.specs.Marked.{Marked}
+use Rattle.bson_values.specs.Refusal.{under_index}
+use Rattle.bson_values.specs.Stop.{stop_view}
+use Rattle.bson_values.specs.declared.de.Fault.{Fault}
+use Rattle.bson_values.specs.declared.stop.Stop.{Stop}
 use Rattle.bson_laws.specs.Judged.{Reading, refused}
 use Rattle.bson_met.specs.Gives.{RefusesAs}
 

@@ -1,11 +1,13 @@
 // Fields, structs and struct variants under owned names.
 ghost use Rattle.std.specs.Prelude.{◌≡◌, IfOk};
 ghost use Rattle.bson_rawdoc.specs.Piece.{made};
-ghost use Rattle.bson_datum.specs.MarkedView.{marked, text_piece};
-ghost use Rattle.bson_datum.specs.Value as value;
+ghost use Rattle.bson_values.specs.Pieces.{text_piece};
+ghost use Rattle.bson_datum.specs.MarkedView.{marked};
+ghost use Rattle.bson_values.specs.Value as value;
 ghost use Rattle.bson_slots.specs.FieldSlots.{fields_marked};
 
-use bson_datum::{Datum, Field, Text};
+use bson_datum::{Datum, Field};
+use bson_values::Text;
 use std::alloc::{AllocError, Global};
 
 /// The field of this name with this value. The name is copied.

@@ -1,8 +1,8 @@
 // The element of an array for the next part of a tuple or the next field of a struct.
 ghost use Rattle.bson_slots.specs.NextValue.{IsDue};
 
-use bson_datum::Cause;
 use bson_met::{Items, Met, Reading, refused};
+use bson_values::Cause;
 use std::alloc::Global;
 
 /// The next element of an array, which is at this index. Where none is left, the fault that ends their list is the refusal, and

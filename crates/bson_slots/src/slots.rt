@@ -3,7 +3,7 @@ ghost use Rattle.std.specs.Bool.{OnTrue};
 ghost use Rattle.bson_shape.specs.ShapeView.{fields_of};
 ghost use Rattle.bson_rawdoc.specs.Piece.{Piece};
 ghost use Rattle.bson_datum.specs.MarkedView.{marked};
-ghost use Rattle.bson_datum.specs.Value.{none};
+ghost use Rattle.bson_values.specs.Value.{none};
 ghost use Rattle.bson_datum.specs.declared.datum.Datum.{Datum};
 ghost use Rattle.bson_laws.specs.ReadsFrom.{slots_for};
 ghost use Rattle.bson_laws.specs.Settled.{settled};
@@ -15,10 +15,11 @@ ghost use Rattle.bson_met.specs.Gives.{Reaches};
 
 use crate::mode::due_shape;
 use crate::named::named_field;
-use bson_datum::{Cause, Datum, Field};
+use bson_datum::{Datum, Field};
 use bson_laws::Reader;
 use bson_met::{Reading, refused};
 use bson_shape::{FieldShape, Form, Shape};
+use bson_values::Cause;
 use std::alloc::{AllocError, Global};
 use std::mem;
 

@@ -6,14 +6,14 @@ use Rattle.std.specs.Io.KnownBytes.{IsAtEnd}
 use Rattle.std.proofs.KnownBytes.{Consumes-trans}
 use Rattle.std.proofs.lemmas.Bool.{le-ltb, lt-ltb, ltb-false}
 use lib.Seq.{take_all, take_at}
-use Rattle.bson_base.specs.Text.{Bytes}
+use Rattle.bson_kinds.specs.Text.{Bytes}
 use Rattle.bson_io.specs.Ends.{Rose}
 use Rattle.bson_rawdoc.specs.Numbers.{int32_in}
 use Rattle.bson_rawdoc.proofs.Extents.{number_within}
-use Rattle.bson_datum.specs.Cause.{too_small}
-use Rattle.bson_datum.specs.ErrorView.{read_failure}
-use Rattle.bson_datum.specs.Refusal.{ReadFault, Failure, no_memory, bare, placed, io, end_of_stream, unreadable}
-use Rattle.bson_datum.specs.declared.de.Error.{Error}
+use Rattle.bson_values.specs.Cause.{too_small}
+use Rattle.bson_values.specs.ErrorView.{read_failure}
+use Rattle.bson_values.specs.Refusal.{ReadFault, Failure, no_memory, bare, placed, io, end_of_stream, unreadable}
+use Rattle.bson_values.specs.declared.de.Error.{Error}
 use Rattle.bson_source.specs.Taken.{TakesSome, TakesAll}
 use Rattle.bson_source.specs.FirstDocument.{announced, document_length, due, first_document, of_length, or_four}
 use Rattle.bson_source.specs.FromSource.{IsAll, IsTakeError, ReadsOne, Stops}

@@ -1,8 +1,8 @@
 -- The first document of bytes, by the length that it announces. Source: bsonspec.org, version 1.1, `document`.
 use Rattle.std.specs.Prelude.{ℕ, ℤ, pos, length, take, nat_lt, if◌then◌else◌, Option, Some, None, Result, Ok, Err}
-use Rattle.bson_base.specs.Text.{Bytes}
-use Rattle.bson_datum.specs.Cause.{too_small}
-use Rattle.bson_datum.specs.Refusal.{ReadFault, Failure, bare, end_of_stream, unreadable}
+use Rattle.bson_kinds.specs.Text.{Bytes}
+use Rattle.bson_values.specs.Cause.{too_small}
+use Rattle.bson_values.specs.Refusal.{ReadFault, Failure, bare, end_of_stream, unreadable}
 use Rattle.bson_rawdoc.specs.Numbers.{int32_in}
 
 -- the number of bytes of a document that an int32 announces, which is at least five

@@ -1,11 +1,11 @@
 -- What is read of a source: the first document of what it has left, and nothing behind it. Source: MongoDB's crate bson, version 2, `from_reader`.
 use Rattle.std.specs.Prelude.{◌≡◌, ℕ, ◌≤◌, ◌⊎◌, length, Option, Result, Ok, Err}
 use Rattle.std.specs.Io.KnownBytes.{Consumes, IsAtEnd}
-use Rattle.bson_base.specs.Outcome.{◌>>=◌}
-use Rattle.bson_base.specs.Text.{Bytes}
-use Rattle.bson_datum.specs.ErrorView.{read_failure}
-use Rattle.bson_datum.specs.Refusal.{ReadFault, Failure, no_memory, bare, placed, io}
-use Rattle.bson_datum.specs.declared.de.Error.{Error}
+use Rattle.bson_kinds.specs.Outcome.{◌>>=◌}
+use Rattle.bson_kinds.specs.Text.{Bytes}
+use Rattle.bson_values.specs.ErrorView.{read_failure}
+use Rattle.bson_values.specs.Refusal.{ReadFault, Failure, no_memory, bare, placed, io}
+use Rattle.bson_values.specs.declared.de.Error.{Error}
 use Rattle.bson_io.specs.Ends.{Rose}
 use Rattle.bson_source.specs.FirstDocument.{due, first_document}
 

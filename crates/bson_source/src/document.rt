@@ -1,17 +1,17 @@
 ghost use Rattle.std.specs.Prelude.{◌≡◌, ◌≤◌, ◌-◌, ◌++◌, IfErr, IfOk, IfSome, length};
-ghost use Rattle.bson_base.specs.Text.{Bytes};
-ghost use Rattle.bson_datum.specs.Cause.{too_small};
+ghost use Rattle.bson_kinds.specs.Text.{Bytes};
+ghost use Rattle.bson_values.specs.Cause.{too_small};
 ghost use Rattle.bson_io.specs.Ends.{Rose};
-ghost use Rattle.bson_datum.specs.ErrorView.{read_failure};
-ghost use Rattle.bson_datum.specs.Refusal.{bare, unreadable};
+ghost use Rattle.bson_values.specs.ErrorView.{read_failure};
+ghost use Rattle.bson_values.specs.Refusal.{bare, unreadable};
 ghost use Rattle.bson_source.specs.Taken.{TakesAll, TakesSome};
 ghost use Rattle.bson_source.specs.FirstDocument.{announced, first_document};
 ghost use Rattle.bson_source.specs.FromSource.{ReadsOne, IsTakeError};
 
 use crate::taking::{TakeFault, take_up_to};
-use bson_datum::{Cause, de};
 use bson_io::Source;
 use bson_rawdoc::reading::int32_in;
+use bson_values::{Cause, de};
 use std::alloc::Global;
 
 /// The bytes of the first document of what a source has left: as many as its first four bytes announce, or all where the source ends before.

@@ -2,9 +2,9 @@
 use Rattle.std.proofs.Common.{◌≡◌, Bool, true, false, List, [], ◌∷◌, ◌++◌, nat_lt, Option, Some, None, refl, ap, ◌∙◌, subst, sym}
 use Rattle.std.specs.Global.{Global}
 use Rattle.std.specs.Prelude.{String, string_bytes, cond, is_some, Result, Ok, Err}
-use Rattle.bson_base.specs.Reserved.{reserved_kind}
-use Rattle.bson_base.specs.Text.{Utf8}
-use Rattle.bson_base.specs.declared.element_type.ElementType.{ElementType}
+use Rattle.bson_kinds.specs.Reserved.{reserved_kind}
+use Rattle.bson_kinds.specs.Text.{Utf8}
+use Rattle.bson_kinds.specs.declared.element_type.ElementType.{ElementType}
 use Rattle.bson_shape.specs.Form.{dropped, Form, structure, enumeration, Fields, field, push_field, Variants, variant, push_variant}
 use Rattle.bson_shape.specs.Levels.{levels, max_shape_levels}
 use Rattle.bson_shape.specs.Makers.{Makes, repeats, variants_repeat, within_levels, made_structure, made_enumeration}
@@ -13,8 +13,8 @@ use Rattle.bson_shape.specs.declared.error.ShapeError.{ShapeError}
 use Rattle.bson_shape.specs.declared.error.ShapeError.TheVariants.{ReservedName, RepeatedName, KeyNotText, Unguarded, TooDeep, NoMemory}
 use Rattle.bson_shape.specs.declared.shape.FieldShape.{FieldShape}
 use Rattle.bson_shape.specs.declared.shape.VariantShape.{VariantShape}
-use Rattle.bson_datum.specs.TextView.{text_view}
-use Rattle.bson_datum.specs.Value.{field_value}
+use Rattle.bson_values.specs.TextView.{text_view}
+use Rattle.bson_values.specs.Value.{field_value}
 use Rattle.bson_datum.specs.View.{view, fields_view}
 use Rattle.bson_datum.specs.declared.datum.Field.{Field}
 use Rattle.bson_traits.specs.ShapeOf.{IsShapeOf}

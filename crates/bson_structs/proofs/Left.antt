@@ -1,8 +1,8 @@
 -- The fields that are left, in a vector that has the last first.
 use Rattle.std.proofs.Common.{◌≡◌, List, [], ◌∷◌, ◌++◌, reverse, refl, ap, ◌∙◌}
 use mathlib.Core.List.{reverse_aux}
-use Rattle.bson_datum.specs.TextView.{text_view}
-use Rattle.bson_datum.specs.Value.{FieldValues, no_field_values, field_value}
+use Rattle.bson_values.specs.TextView.{text_view}
+use Rattle.bson_values.specs.Value.{FieldValues, no_field_values, field_value}
 use Rattle.bson_datum.specs.View.{view, fields_view}
 use Rattle.bson_datum.specs.declared.datum.Field.{Field}
 use Rattle.bson_structs.specs.FieldsLeft.{before}

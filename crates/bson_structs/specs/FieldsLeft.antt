@@ -1,7 +1,7 @@
 -- What contracts see of the fields of a struct that is read: those that are left. Source: this library's own types.
 use Rattle.std.specs.Prelude.{◌≡◌, List, [], ◌∷◌, Option, Some, None}
-use Rattle.bson_datum.specs.TextView.{text_view}
-use Rattle.bson_datum.specs.Value.{FieldValues, no_field_values, field_value}
+use Rattle.bson_values.specs.TextView.{text_view}
+use Rattle.bson_values.specs.Value.{FieldValues, no_field_values, field_value}
 use Rattle.bson_datum.specs.View.{view}
 use Rattle.bson_datum.specs.declared.datum.Field.{Field}
 use Rattle.bson_structs.specs.declared.reading.StructFields.{StructFields}

@@ -1,12 +1,13 @@
 ghost use Rattle.std.specs.Prelude.{◌≡◌};
-ghost use Rattle.bson_datum.specs.Value.{no_field_values};
+ghost use Rattle.bson_values.specs.Value.{no_field_values};
 ghost use Rattle.bson_datum.specs.View.{view, fields_view};
 ghost use Rattle.bson_traits.specs.Answers.{Reads};
 ghost use Rattle.bson_traits.specs.Structs.{struct_fields, next_field, no_field_left};
 ghost use Rattle.bson_structs.specs.FieldsLeft.{before, left, IsNext};
 
-use bson_datum::{Datum, Field, de};
+use bson_datum::{Datum, Field};
 use bson_traits::{Deserialize, not_fitting};
+use bson_values::de;
 use std::alloc::Global;
 
 /// The fields of a struct that is read, taken one after another.

@@ -1,12 +1,12 @@
 ghost use Rattle.std.specs.Prelude.{◌≡◌, false, None, OnOk};
-ghost use Rattle.bson_base.specs.Reserved.{reserved_kind};
+ghost use Rattle.bson_kinds.specs.Reserved.{reserved_kind};
 ghost use Rattle.bson_shape.specs.Form as forms;
 ghost use Rattle.bson_shape.specs.Makers.{repeats, variants_repeat};
 ghost use Rattle.bson_shape.specs.ShapeView.{fields_of, variants_of};
 ghost use Rattle.bson_traits.specs.ShapeOf.{IsShapeOf};
 
 use crate::fields::push;
-use bson_datum::{FieldShape, Shape, ShapeError, VariantContent, VariantShape};
+use bson_shape::{FieldShape, Shape, ShapeError, VariantContent, VariantShape};
 use std::alloc::{AllocError, Global};
 use std::marker::Model;
 

@@ -1,11 +1,12 @@
 ghost use Rattle.std.specs.Prelude.{◌≡◌, IfOk, OnOk};
-ghost use Rattle.bson_datum.specs.TextView.{text_view};
-ghost use Rattle.bson_datum.specs.Value as value;
+ghost use Rattle.bson_values.specs.TextView.{text_view};
+ghost use Rattle.bson_values.specs.Value as value;
 ghost use Rattle.bson_datum.specs.View.{view, fields_view};
 ghost use Rattle.bson_structs.specs.FieldsAdded.{with_field};
 
 use crate::fields::push;
-use bson_datum::{Datum, Field, Text};
+use bson_datum::{Datum, Field};
+use bson_values::Text;
 use std::alloc::{AllocError, Global};
 
 /// Puts a field of this name and value behind the others.

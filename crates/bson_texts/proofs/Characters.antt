@@ -3,7 +3,7 @@ use Rattle.std.proofs.Common.{◌≡◌, ℕ, [], ◌∷◌, ◌++◌, length, S
 use Rattle.std.specs.Str.{chars}
 use Rattle.std.proofs.lemmas.List.{nil_from_length}
 use Rattle.std.proofs.lemmas.Str.{chars_past_char, chars-nil, IsUtf8-past_char}
-use Rattle.bson_base.specs.Text.{Utf8}
+use Rattle.bson_kinds.specs.Text.{Utf8}
 use Rattle.bson_laws.specs.Views.{one_character}
 
 empty : (t : Utf8) → length t ≡ 0 → chars t ≡ []

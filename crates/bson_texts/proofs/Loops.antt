@@ -1,16 +1,16 @@
 -- The loops of the reader, by what is done with each element.
 use Rattle.std.proofs.Common.{◌≡◌, ℕ, suc, List, [], ◌∷◌, ◌++◌, Ok, Err, refl, ap, sym, subst, ◌∙◌, append_assoc, append-nil}
-use Rattle.bson_base.specs.Text.{Bytes}
-use Rattle.bson_base.specs.Outcome.{◌>>=◌, result_map}
+use Rattle.bson_kinds.specs.Text.{Bytes}
+use Rattle.bson_kinds.specs.Outcome.{◌>>=◌, result_map}
 use Rattle.bson_rawdoc.specs.Node.{Node, too_deep, fault, Nodes, ended, faulty, then_node}
 use Rattle.bson_rawdoc.specs.Piece.{Piece}
 use Rattle.bson_rawdoc.specs.declared.raw.Error.{Error}
-use Rattle.bson_datum.specs.Marked.{Marked, MarkedItems, MarkedEntries}
+use Rattle.bson_values.specs.Marked.{Marked, MarkedItems, MarkedEntries}
 use Rattle.bson_datum.specs.MarkedView.{marked}
-use Rattle.bson_datum.specs.Refusal.{Segment, inside, under, under_index}
-use Rattle.bson_datum.specs.Value.{no_items, item}
-use Rattle.bson_datum.specs.declared.de.Fault.{Fault}
-use Rattle.bson_datum.specs.declared.stop.Stop.{Stop}
+use Rattle.bson_values.specs.Refusal.{Segment, inside, under, under_index}
+use Rattle.bson_values.specs.Value.{no_items, item}
+use Rattle.bson_values.specs.declared.de.Fault.{Fault}
+use Rattle.bson_values.specs.declared.stop.Stop.{Stop}
 use Rattle.bson_datum.specs.declared.datum.Datum.{Datum}
 use Rattle.bson_laws.specs.Containers.{reads_items, reads_entries}
 use Rattle.bson_laws.specs.Judged.{Reading, judged, faultless, with_level, ignores, passes, pass_nodes}

@@ -1,9 +1,10 @@
 -- Data whose values or entries are in a `Vec`.
 use Rattle.std.proofs.Common.{◌≡◌, refl, ap, ◌∙◌}
 use Rattle.std.specs.Global.{Vec}
-use Rattle.bson_datum.specs.MarkedView.{marked, marked_items, marked_entries, text_piece}
-use Rattle.bson_datum.specs.Value.{sequence, tuple, tuple_structure, tuple_variant, item, map, entry}
-use Rattle.bson_datum.specs.declared.text.Text.{Text}
+use Rattle.bson_values.specs.Pieces.{text_piece}
+use Rattle.bson_datum.specs.MarkedView.{marked, marked_items, marked_entries}
+use Rattle.bson_values.specs.Value.{sequence, tuple, tuple_structure, tuple_variant, item, map, entry}
+use Rattle.bson_values.specs.declared.text.Text.{Text}
 use Rattle.bson_datum.specs.declared.datum.Entry.{Entry}
 use Rattle.bson_datum.specs.declared.datum.Datum.TheBlock.{hidden-the_row-Datum-0, hidden-the_row-Entry-1}
 use Rattle.bson_datum.specs.declared.datum.Datum.{Datum, Seq, Tuple, TupleStruct, TupleVariant, Map, Row_of-Datum, end_of-Datum, more_of-Datum, items-the_row-Datum, items_hidden-the_row-Datum-0, Row_of-Entry, end_of-Entry, more_of-Entry, items-the_row-Entry, items_hidden-the_row-Entry-1}

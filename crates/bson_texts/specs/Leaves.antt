@@ -1,12 +1,12 @@
 -- What contracts see of leaves. Source: serde's data model.
 use Rattle.std.specs.Prelude.{ℕ, ℤ, Bool, if◌then◌else◌, Option, Some, None}
-use Rattle.bson_base.specs.Text.{Bytes}
-use Rattle.bson_base.specs.Outcome.{◌>>=◌}
+use Rattle.bson_kinds.specs.Text.{Bytes}
+use Rattle.bson_kinds.specs.Outcome.{◌>>=◌}
 use Rattle.bson_rawdoc.specs.Node.{Node}
 use Rattle.bson_rawdoc.specs.Piece.{Piece, made}
-use Rattle.bson_datum.specs.Cause.{out_of_range}
-use Rattle.bson_datum.specs.Marked.{Marked}
-use Rattle.bson_datum.specs.Value.{in_range, integer}
+use Rattle.bson_values.specs.Cause.{out_of_range}
+use Rattle.bson_values.specs.Marked.{Marked}
+use Rattle.bson_values.specs.Value.{in_range, integer}
 use Rattle.bson_laws.specs.Judged.{Reading, refused, judged}
 use Rattle.bson_laws.specs.Leaves.{LeafKind, numbers}
 use Rattle.bson_laws.specs.Taken.{null_of, text_of, bytes_of, character_of, buffer_of, borrow, as_text, as_byte, read_integer}

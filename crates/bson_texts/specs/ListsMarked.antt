@@ -1,8 +1,8 @@
 -- What contracts see, with its marks, of a list of data and of a list of entries. Source: this library's own types.
 use Rattle.std.specs.Prelude.{List, [], ◌∷◌}
-use Rattle.bson_datum.specs.Marked.{MarkedItems, MarkedEntries}
+use Rattle.bson_values.specs.Marked.{MarkedItems, MarkedEntries}
 use Rattle.bson_datum.specs.MarkedView.{marked}
-use Rattle.bson_datum.specs.Value.{no_items, item, no_entries, entry}
+use Rattle.bson_values.specs.Value.{no_items, item, no_entries, entry}
 use Rattle.bson_datum.specs.declared.datum.Datum.{Datum}
 use Rattle.bson_datum.specs.declared.datum.Entry.{Entry}
 

@@ -1,5 +1,5 @@
 -- What contracts see of a value that is dropped. Source: serde's data model.
-use Rattle.bson_base.specs.Outcome.{◌>>=◌}
+use Rattle.bson_kinds.specs.Outcome.{◌>>=◌}
 use Rattle.bson_rawdoc.specs.Node.{Node}
 use Rattle.bson_laws.specs.Judged.{Reading, judged, passes}
 

@@ -6,8 +6,8 @@ ghost use Rattle.bson_met.specs.Gives.{Reaches};
 ghost use Rattle.bson_met.specs.OpenedView.{extended_view};
 ghost use Rattle.bson_texts.specs.Leaves.{bytes_at, buffer_at, byte_at};
 
-use bson_datum::Cause;
 use bson_met::{Extended, Items, Met, Reading, Value, refused};
+use bson_values::Cause;
 use std::alloc::Global;
 
 /// The bytes that a value is, borrowed.

@@ -9,8 +9,9 @@ ghost use Rattle.bson_met.specs.Gives.{Reaches};
 ghost use Rattle.bson_met.specs.PieceView.{met_bytes};
 ghost use Rattle.bson_texts.specs.Leaves.{text_at, borrowed_text, owned_text, character_at};
 
-use bson_datum::{Cause, Datum};
+use bson_datum::Datum;
 use bson_met::{Met, MetBytes, Reading, Scalar, Value, refused};
+use bson_values::Cause;
 use std::alloc::Global;
 
 /// The text that a value is, borrowed.

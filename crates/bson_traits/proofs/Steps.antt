@@ -1,8 +1,8 @@
 -- One step of a loop over the items of a sequence.
 use Rattle.std.proofs.Common.{◌≡◌, ℕ, ◌+◌, ◌<◌, ◌≤◌, List, [], ◌∷◌, ◌++◌, length, map, get_or, drop, refl, ap, ◌∙◌, sym, subst, arith, Result, Ok, Err}
 use Rattle.std.proofs.lemmas.List.{at_drop_more, at_drop_all}
-use Rattle.bson_base.specs.Outcome.{◌>>=◌, result_map}
-use Rattle.bson_datum.specs.Value.{Value, sequence, Items, no_items, item}
+use Rattle.bson_kinds.specs.Outcome.{◌>>=◌, result_map}
+use Rattle.bson_values.specs.Value.{Value, sequence, Items, no_items, item}
 use Rattle.bson_datum.specs.View.{view, items_view}
 use Rattle.bson_datum.specs.declared.datum.Datum.{Datum}
 use Rattle.bson_traits.specs.Answers.{Reading, Writing}

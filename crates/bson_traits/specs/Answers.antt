@@ -1,10 +1,10 @@
 -- What calls that write and read values of a type answer: what the meaning of the type says, or out of memory. Source: this library's own errors.
 use Rattle.std.specs.Prelude.{◌≡◌, Result, Ok, Err}
-use Rattle.bson_datum.specs.Cause as cause
-use Rattle.bson_datum.specs.Refusal.{ReadFault, WriteFault, unreadable, Failure, no_memory, bare, placed}
-use Rattle.bson_datum.specs.ErrorView.{read_failure, write_failure}
-use Rattle.bson_datum.specs.declared.de.Error.{Error as ReadError}
-use Rattle.bson_datum.specs.declared.ser.Error.{Error as WriteError}
+use Rattle.bson_values.specs.Cause as cause
+use Rattle.bson_values.specs.Refusal.{ReadFault, WriteFault, unreadable, Failure, no_memory, bare, placed}
+use Rattle.bson_values.specs.ErrorView.{read_failure, write_failure}
+use Rattle.bson_values.specs.declared.de.Error.{Error as ReadError}
+use Rattle.bson_values.specs.declared.ser.Error.{Error as WriteError}
 
 -- what is read, or the failure
 abbrev pub Reading : Type 0 → Type 0

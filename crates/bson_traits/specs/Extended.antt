@@ -1,14 +1,14 @@
 -- Extended values: each is written as the struct of its reserved name, and what is that struct gives the value again.
 -- Source: the extended types of MongoDB's crate bson, version 2.
 use Rattle.std.specs.Prelude.{ℕ, ℤ, nat_eq, length, if◌then◌else◌, Option, Some, None, option_map, option_and_then, Ok, Err, codes}
-use Rattle.bson_base.specs.Outcome.{result_map}
+use Rattle.bson_kinds.specs.Outcome.{result_map}
 use Rattle.bson_base.specs.Parsed.{bytes_of_base64, bytes_of_digits, integer_of_text, subtype_of_text}
 use Rattle.bson_base.specs.Sorted.{sorted}
-use Rattle.bson_base.specs.Text.{Bytes, Utf8}
+use Rattle.bson_kinds.specs.Text.{Bytes, Utf8}
 use Rattle.bson_base.specs.Tree as tree
 use Rattle.bson_datum.specs.Access.{field, as_str, as_i64, as_bytes}
-use Rattle.bson_datum.specs.Same.{same}
-use Rattle.bson_datum.specs.Value.{Value, bytes, integer, i64, u32, in_range, newtype, mode}
+use Rattle.bson_values.specs.Same.{same}
+use Rattle.bson_values.specs.Value.{Value, bytes, integer, i64, u32, in_range, newtype, mode}
 use Rattle.bson_laws.specs.Datum.{datum, uuid_datum, itself, wrapped, nameless, two}
 use Rattle.bson_traits.specs.Answers.{Reading, not_fitting}
 

@@ -2,7 +2,7 @@
 use Rattle.std.specs.Prelude.{◌≡◌, Ok, Err, Some}
 use Rattle.bson_base.specs.Tree.{null}
 use Rattle.bson_shape.specs.Form.{Form}
-use Rattle.bson_datum.specs.Value.{Value}
+use Rattle.bson_values.specs.Value.{Value}
 use Rattle.bson_laws.specs.Fits.{Fits}
 use Rattle.bson_laws.specs.Means.{means, norm}
 use Rattle.bson_traits.specs.Answers.{Reading, Writing}

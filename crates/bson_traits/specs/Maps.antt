@@ -7,9 +7,9 @@ use Rattle.std.specs.Cmp.Lexicographic.{slice_cmp}
 use Rattle.std.specs.String.{string_cmp}
 use Rattle.std.specs.Str.{is_utf8}
 use Rattle.std.specs.BTreeMap.{BTreeMap, IsOrdered, insert_entry}
-use Rattle.bson_base.specs.Outcome.{◌>>=◌, result_map}
-use Rattle.bson_base.specs.Text.{Utf8}
-use Rattle.bson_datum.specs.Value.{Value, str, map, Entries, no_entries, entry}
+use Rattle.bson_kinds.specs.Outcome.{◌>>=◌, result_map}
+use Rattle.bson_kinds.specs.Text.{Utf8}
+use Rattle.bson_values.specs.Value.{Value, str, map, Entries, no_entries, entry}
 use Rattle.bson_traits.specs.Answers.{Reading, Writing, not_fitting}
 
 -- a key, as a map holds it

@@ -1,9 +1,9 @@
 -- What a value gives at the types without parts. Source: serde's data model.
 use Rattle.std.specs.Prelude.{ℕ, ℤ, pos, Bool, if◌then◌else◌, Ok, Err}
-use Rattle.bson_base.specs.Outcome.{◌>>=◌}
-use Rattle.bson_base.specs.Text.{Bytes, Utf8}
-use Rattle.bson_datum.specs.Same.{same_type}
-use Rattle.bson_datum.specs.Value.{IntegerType, Value, boolean, integer, i8, i16, i32, i64, u8, u16, u32, u64, double, character, str, unit}
+use Rattle.bson_kinds.specs.Outcome.{◌>>=◌}
+use Rattle.bson_kinds.specs.Text.{Bytes, Utf8}
+use Rattle.bson_values.specs.Same.{same_type}
+use Rattle.bson_values.specs.Value.{IntegerType, Value, boolean, integer, i8, i16, i32, i64, u8, u16, u32, u64, double, character, str, unit}
 use Rattle.bson_traits.specs.Answers.{Reading, not_fitting}
 
 abbrev pub taken_bool : Value → Reading Bool

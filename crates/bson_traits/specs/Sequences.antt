@@ -1,7 +1,7 @@
 -- Sequences of values of a type. Source: serde's data model.
 use Rattle.std.specs.Prelude.{List, [], ◌∷◌, Ok, Err}
-use Rattle.bson_base.specs.Outcome.{◌>>=◌, result_map}
-use Rattle.bson_datum.specs.Value.{Value, sequence, Items, no_items, item}
+use Rattle.bson_kinds.specs.Outcome.{◌>>=◌, result_map}
+use Rattle.bson_values.specs.Value.{Value, sequence, Items, no_items, item}
 use Rattle.bson_traits.specs.Answers.{Reading, Writing, not_fitting}
 
 -- what a list of values is written as, or the first failure

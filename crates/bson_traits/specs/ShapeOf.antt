@@ -1,11 +1,11 @@
 -- What a call that makes the shape of a type answers. Source: the limit of a shape's levels.
 use Rattle.std.specs.Prelude.{◌≡◌, ◌<◌, ◌≤◌, nat_lt, if◌then◌else◌, Result, Ok, Err}
-use Rattle.bson_base.specs.Outcome.{◌>>=◌}
+use Rattle.bson_kinds.specs.Outcome.{◌>>=◌}
 use Rattle.bson_shape.specs.Form.{Form}
 use Rattle.bson_shape.specs.Levels.{levels, max_shape_levels}
 use Rattle.bson_shape.specs.declared.error.ShapeError.{ShapeError}
 use Rattle.bson_shape.specs.declared.error.ShapeError.TheVariants.{TooDeep, NoMemory}
-use Rattle.bson_datum.specs.Value.{Value}
+use Rattle.bson_values.specs.Value.{Value}
 use Rattle.bson_traits.specs.Answers.{Reading, not_fitting}
 
 -- The shape of the form, where it has few enough levels; `TooDeep` where it has more, or out of memory.

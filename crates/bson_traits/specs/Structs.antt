@@ -1,9 +1,9 @@
 -- Structs whose fields are values of types: a type of one's own is written and read by these, field by field. Source: serde's data model.
 use Rattle.std.specs.Prelude.{if◌then◌else◌, Ok, Err}
 use Rattle.std.specs.Str.{bytes_eq}
-use Rattle.bson_base.specs.Outcome.{◌>>=◌, result_map}
-use Rattle.bson_base.specs.Text.{Utf8}
-use Rattle.bson_datum.specs.Value.{Value, structure, FieldValues, no_field_values, field_value}
+use Rattle.bson_kinds.specs.Outcome.{◌>>=◌, result_map}
+use Rattle.bson_kinds.specs.Text.{Utf8}
+use Rattle.bson_values.specs.Value.{Value, structure, FieldValues, no_field_values, field_value}
 use Rattle.bson_traits.specs.Answers.{Reading, Writing, not_fitting}
 
 -- ---- written

@@ -4,10 +4,10 @@ ghost use Rattle.std.specs.Prelude.{option_and_then};
 ghost use Rattle.bson_datum.specs.Access.{as_str, field};
 ghost use Rattle.bson_base.specs.Made.{digits};
 ghost use Rattle.bson_base.specs.Parsed.{bytes_of_base64};
-ghost use Rattle.bson_base.specs.Text.{AreBytes};
+ghost use Rattle.bson_kinds.specs.Text.{AreBytes};
 ghost use Rattle.bson_datum.specs.View.{view};
 ghost use Rattle.bson_laws.specs.Datum.{itself, nameless, two};
-ghost use Rattle.bson_datum.specs.Value.{str};
+ghost use Rattle.bson_values.specs.Value.{str};
 ghost use Rattle.bson_traits.specs.Answers.{Reads};
 ghost use Rattle.bson_traits.specs.Extended.{base64_in, binary_datum, binary_in, binary_said, taken_binary, subtype_in};
 
@@ -17,8 +17,10 @@ use crate::traits::{Deserialize, NeverNull, RoundTrip, Serialize};
 use base64::DecodeAllocError;
 use base64::engine::general_purpose::STANDARD;
 use bson_base::{Binary, BinarySubtype, base64_text, digits, subtype_of_text};
-use bson_datum::{ByteStr, Datum, Shape, ShapeError, Text, de, ser};
+use bson_datum::Datum;
 use bson_rawdoc::reading::known_bytes;
+use bson_shape::{Shape, ShapeError};
+use bson_values::{ByteStr, Text, de, ser};
 use std::alloc::{AllocError, Global};
 
 impl Serialize for Binary {
@@ -38,7 +40,7 @@ impl Serialize for Binary {
 
 impl<'de> Deserialize<'de> for Binary {
     ghost use Rattle.std.specs.Prelude.{ℕ};
-    ghost use Rattle.bson_base.specs.Text.{Bytes};
+    ghost use Rattle.bson_kinds.specs.Text.{Bytes};
     ghost use Rattle.bson_shape.specs.Form.{leaf};
     ghost use Rattle.bson_shape.specs.declared.leaf.Leaf.TheVariants as leaves;
     ghost use Rattle.bson_traits.specs.Extended.{taken_binary};
@@ -62,7 +64,7 @@ impl<'de> Deserialize<'de> for Binary {
 
 impl<'de> RoundTrip<'de> for Binary {
     ghost use Rattle.std.specs.Prelude.{◌<◌};
-    ghost use Rattle.bson_base.specs.Text.{AreBytes};
+    ghost use Rattle.bson_kinds.specs.Text.{AreBytes};
     ghost use Rattle.bson_traits.specs.Prover.ExtendedBack.{binary_returns};
 
     ghost is_value = { λ b. (b.subtype.0 < 256) × AreBytes b.bytes.items };

@@ -1,11 +1,12 @@
 // Structs of reserved names, as data.
 ghost use Rattle.std.specs.Prelude.{◌≡◌, IfOk};
-ghost use Rattle.bson_datum.specs.TextView.{text_view};
-ghost use Rattle.bson_datum.specs.Value.{structure, no_field_values, field_value};
+ghost use Rattle.bson_values.specs.TextView.{text_view};
+ghost use Rattle.bson_values.specs.Value.{structure, no_field_values, field_value};
 ghost use Rattle.bson_datum.specs.View.{view};
 
 use crate::memory::push;
-use bson_datum::{Datum, Field, Text};
+use bson_datum::{Datum, Field};
+use bson_values::Text;
 use std::alloc::{AllocError, Global};
 
 // A struct of one field.

@@ -10,7 +10,9 @@ use crate::known::known_twelve;
 use crate::refusal::not_fitting;
 use crate::traits::{Deserialize, NeverNull, RoundTrip, Serialize};
 use bson_base::{DateTime, ObjectId, Timestamp, integer_of_text, number_text};
-use bson_datum::{Datum, Shape, ShapeError, Text, de, ser};
+use bson_datum::Datum;
+use bson_shape::{Shape, ShapeError};
+use bson_values::{Text, de, ser};
 use std::alloc::{AllocError, Global};
 
 impl Serialize for ObjectId {
@@ -25,7 +27,7 @@ impl Serialize for ObjectId {
 }
 
 impl<'de> Deserialize<'de> for ObjectId {
-    ghost use Rattle.bson_base.specs.Text.{Bytes};
+    ghost use Rattle.bson_kinds.specs.Text.{Bytes};
     ghost use Rattle.bson_shape.specs.Form.{leaf};
     ghost use Rattle.bson_shape.specs.declared.leaf.Leaf.TheVariants as leaves;
     ghost use Rattle.bson_traits.specs.Extended.{taken_id};

@@ -5,7 +5,8 @@ ghost use Rattle.bson_traits.specs.Scalars.{taken_bool, taken_i8, taken_i16, tak
 
 use crate::refusal::not_fitting;
 use bson_base::Double;
-use bson_datum::{Datum, de};
+use bson_datum::Datum;
+use bson_values::de;
 
 pub(crate) fn bool_in(datum: &Datum<'_>) -> de::Result<bool>
     ensures { Reads (λ x. x) result (taken_bool (view datum.now)) }

@@ -9,7 +9,9 @@ use crate::refusal::not_fitting;
 use crate::shapes::map_shape;
 use crate::texts::string_of;
 use crate::traits::{Deserialize, NeverNull, RoundTrip, Serialize};
-use bson_datum::{Datum, Entry, Shape, ShapeError, Text, de, ser};
+use bson_datum::{Datum, Entry};
+use bson_shape::{Shape, ShapeError};
+use bson_values::{Text, de, ser};
 use std::alloc::{AllocError, Global};
 use std::collections::BTreeMap;
 
@@ -36,7 +38,7 @@ impl<T: Serialize> Serialize for BTreeMap<String, T> {
 
 impl<'de, T: Deserialize<'de> + Drop> Deserialize<'de> for BTreeMap<String, T> {
     ghost use Rattle.std.specs.Prelude.{List};
-    ghost use Rattle.bson_base.specs.Text.{Utf8};
+    ghost use Rattle.bson_kinds.specs.Text.{Utf8};
     ghost use Rattle.bson_shape.specs.Form as forms;
     ghost use Rattle.bson_shape.specs.Form.{leaf};
     ghost use Rattle.bson_shape.specs.declared.leaf.Leaf.TheVariants as leaves;

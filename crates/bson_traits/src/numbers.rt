@@ -1,11 +1,13 @@
 use crate::inside::{i8_in, i16_in, i32_in, i64_in, u8_in, u16_in, u32_in, u64_in};
 use crate::traits::{Deserialize, NeverNull, RoundTrip, Serialize};
-use bson_datum::{Datum, Shape, ShapeError, de, ser};
+use bson_datum::Datum;
+use bson_shape::{Shape, ShapeError};
+use bson_values::{de, ser};
 use std::alloc::Global;
 
 impl Serialize for i8 {
     ghost use Rattle.std.specs.Prelude.{Ok};
-    ghost use Rattle.bson_datum.specs.Value.{integer, i8};
+    ghost use Rattle.bson_values.specs.Value.{integer, i8};
 
     ghost written = { λ n. Ok (integer i8 n) };
 
@@ -59,7 +61,7 @@ impl<'de> NeverNull<'de> for i8 {
 
 impl Serialize for i16 {
     ghost use Rattle.std.specs.Prelude.{Ok};
-    ghost use Rattle.bson_datum.specs.Value.{integer, i16};
+    ghost use Rattle.bson_values.specs.Value.{integer, i16};
 
     ghost written = { λ n. Ok (integer i16 n) };
 
@@ -113,7 +115,7 @@ impl<'de> NeverNull<'de> for i16 {
 
 impl Serialize for i32 {
     ghost use Rattle.std.specs.Prelude.{Ok};
-    ghost use Rattle.bson_datum.specs.Value.{integer, i32};
+    ghost use Rattle.bson_values.specs.Value.{integer, i32};
 
     ghost written = { λ n. Ok (integer i32 n) };
 
@@ -167,7 +169,7 @@ impl<'de> NeverNull<'de> for i32 {
 
 impl Serialize for i64 {
     ghost use Rattle.std.specs.Prelude.{Ok};
-    ghost use Rattle.bson_datum.specs.Value.{integer, i64};
+    ghost use Rattle.bson_values.specs.Value.{integer, i64};
 
     ghost written = { λ n. Ok (integer i64 n) };
 
@@ -221,7 +223,7 @@ impl<'de> NeverNull<'de> for i64 {
 
 impl Serialize for u8 {
     ghost use Rattle.std.specs.Prelude.{Ok, pos};
-    ghost use Rattle.bson_datum.specs.Value.{integer, u8};
+    ghost use Rattle.bson_values.specs.Value.{integer, u8};
 
     ghost written = { λ n. Ok (integer u8 (pos n)) };
 
@@ -274,7 +276,7 @@ impl<'de> NeverNull<'de> for u8 {
 
 impl Serialize for u16 {
     ghost use Rattle.std.specs.Prelude.{Ok, pos};
-    ghost use Rattle.bson_datum.specs.Value.{integer, u16};
+    ghost use Rattle.bson_values.specs.Value.{integer, u16};
 
     ghost written = { λ n. Ok (integer u16 (pos n)) };
 
@@ -327,7 +329,7 @@ impl<'de> NeverNull<'de> for u16 {
 
 impl Serialize for u32 {
     ghost use Rattle.std.specs.Prelude.{Ok, pos};
-    ghost use Rattle.bson_datum.specs.Value.{integer, u32};
+    ghost use Rattle.bson_values.specs.Value.{integer, u32};
 
     ghost written = { λ n. Ok (integer u32 (pos n)) };
 
@@ -380,7 +382,7 @@ impl<'de> NeverNull<'de> for u32 {
 
 impl Serialize for u64 {
     ghost use Rattle.std.specs.Prelude.{Ok, pos};
-    ghost use Rattle.bson_datum.specs.Value.{integer, u64};
+    ghost use Rattle.bson_values.specs.Value.{integer, u64};
 
     ghost written = { λ n. Ok (integer u64 (pos n)) };
 

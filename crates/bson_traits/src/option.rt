@@ -2,7 +2,9 @@ use crate::memory::boxed;
 use crate::refusal::not_fitting;
 use crate::shapes::optional_shape;
 use crate::traits::{Deserialize, NeverNull, RoundTrip, Serialize};
-use bson_datum::{Datum, Shape, ShapeError, de, ser};
+use bson_datum::Datum;
+use bson_shape::{Shape, ShapeError};
+use bson_values::{de, ser};
 use std::alloc::Global;
 
 impl<T: Serialize> Serialize for Option<T> {

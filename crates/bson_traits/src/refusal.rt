@@ -1,8 +1,8 @@
 ghost use Rattle.std.specs.Prelude.{◌≡◌};
-ghost use Rattle.bson_datum.specs.ErrorView.{read_failure};
+ghost use Rattle.bson_values.specs.ErrorView.{read_failure};
 ghost use Rattle.bson_traits.specs.Answers.{not_fitting};
 
-use bson_datum::{Cause, de};
+use bson_values::{Cause, de};
 
 /// The error of a datum that no value of a type has. It takes no memory.
 pub fn not_fitting() -> de::Error

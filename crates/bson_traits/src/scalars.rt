@@ -3,12 +3,14 @@ use crate::known::known_eight;
 use crate::refusal::not_fitting;
 use crate::traits::{Deserialize, NeverNull, RoundTrip, Serialize};
 use bson_base::Double;
-use bson_datum::{Datum, Shape, ShapeError, de, ser};
+use bson_datum::Datum;
+use bson_shape::{Shape, ShapeError};
+use bson_values::{de, ser};
 use std::alloc::Global;
 
 impl Serialize for bool {
     ghost use Rattle.std.specs.Prelude.{Ok};
-    ghost use Rattle.bson_datum.specs.Value.{boolean};
+    ghost use Rattle.bson_values.specs.Value.{boolean};
 
     ghost written = { λ b. Ok (boolean b) };
 
@@ -58,7 +60,7 @@ impl<'de> NeverNull<'de> for bool {
 
 impl Serialize for char {
     ghost use Rattle.std.specs.Prelude.{Ok};
-    ghost use Rattle.bson_datum.specs.Value.{character};
+    ghost use Rattle.bson_values.specs.Value.{character};
 
     ghost written = { λ c. Ok (character c) };
 
@@ -111,7 +113,7 @@ impl<'de> NeverNull<'de> for char {
 
 impl Serialize for Double {
     ghost use Rattle.std.specs.Prelude.{Ok};
-    ghost use Rattle.bson_datum.specs.Value.{double};
+    ghost use Rattle.bson_values.specs.Value.{double};
 
     ghost written = { λ d. Ok (double d.0) };
 
@@ -121,7 +123,7 @@ impl Serialize for Double {
 }
 
 impl<'de> Deserialize<'de> for Double {
-    ghost use Rattle.bson_base.specs.Text.{Bytes};
+    ghost use Rattle.bson_kinds.specs.Text.{Bytes};
     ghost use Rattle.bson_shape.specs.Form.{leaf};
     ghost use Rattle.bson_shape.specs.declared.leaf.Leaf.TheVariants as leaves;
     ghost use Rattle.bson_traits.specs.Scalars.{taken_double};
@@ -164,7 +166,7 @@ impl<'de> NeverNull<'de> for Double {
 
 impl Serialize for () {
     ghost use Rattle.std.specs.Prelude.{Ok};
-    ghost use Rattle.bson_datum.specs.Value.{unit};
+    ghost use Rattle.bson_values.specs.Value.{unit};
 
     ghost written = { λ _. Ok unit };
 

@@ -7,7 +7,8 @@ ghost use Rattle.bson_traits.specs.ShapeOf.{IsShapeOf, due_shape};
 
 use crate::refusal::not_fitting;
 use crate::traits::Deserialize;
-use bson_datum::{Shape, ShapeError, de};
+use bson_shape::{Shape, ShapeError};
+use bson_values::de;
 use std::alloc::Global;
 
 /// The shape of a type, where it has one.

@@ -10,7 +10,9 @@ use crate::memory::boxed;
 use crate::refusal::not_fitting;
 use crate::traits::{Deserialize, NeverNull, RoundTrip, Serialize};
 use bson_base::{Decimal128, Uuid};
-use bson_datum::{ByteStr, Datum, Shape, ShapeError, Text, de, ser};
+use bson_datum::Datum;
+use bson_shape::{Shape, ShapeError};
+use bson_values::{ByteStr, Text, de, ser};
 use std::alloc::{AllocError, Global};
 
 impl Serialize for Decimal128 {
@@ -25,7 +27,7 @@ impl Serialize for Decimal128 {
 }
 
 impl<'de> Deserialize<'de> for Decimal128 {
-    ghost use Rattle.bson_base.specs.Text.{Bytes};
+    ghost use Rattle.bson_kinds.specs.Text.{Bytes};
     ghost use Rattle.bson_shape.specs.Form.{leaf};
     ghost use Rattle.bson_shape.specs.declared.leaf.Leaf.TheVariants as leaves;
     ghost use Rattle.bson_traits.specs.Extended.{taken_decimal};
@@ -78,7 +80,7 @@ impl Serialize for Uuid {
 }
 
 impl<'de> Deserialize<'de> for Uuid {
-    ghost use Rattle.bson_base.specs.Text.{Bytes};
+    ghost use Rattle.bson_kinds.specs.Text.{Bytes};
     ghost use Rattle.bson_shape.specs.Form.{leaf};
     ghost use Rattle.bson_shape.specs.declared.leaf.Leaf.TheVariants as leaves;
     ghost use Rattle.bson_traits.specs.Extended.{taken_uuid};

@@ -1,6 +1,6 @@
 ghost use Rattle.std.specs.Prelude.{◌≡◌, string_bytes, IfOk};
 ghost use Rattle.std.specs.Option.{option_map};
-ghost use Rattle.bson_datum.specs.Value.{str};
+ghost use Rattle.bson_values.specs.Value.{str};
 ghost use Rattle.bson_datum.specs.View.{view};
 ghost use Rattle.bson_traits.specs.Answers.{Reads};
 ghost use Rattle.bson_traits.specs.Extended.{pointer_datum, pointer_in, pointer_said, taken_pointer, regex_datum, regex_in, regex_said, taken_regex};
@@ -11,7 +11,9 @@ use crate::known::{known_text, known_twelve};
 use crate::refusal::not_fitting;
 use crate::traits::{Deserialize, NeverNull, RoundTrip, Serialize};
 use bson_base::{DbPointer, ObjectId, Regex};
-use bson_datum::{Datum, Shape, ShapeError, Text, de, ser};
+use bson_datum::Datum;
+use bson_shape::{Shape, ShapeError};
+use bson_values::{Text, de, ser};
 use std::alloc::{AllocError, Global};
 
 impl Serialize for DbPointer {
@@ -28,7 +30,7 @@ impl Serialize for DbPointer {
 
 impl<'de> Deserialize<'de> for DbPointer {
     ghost use Rattle.std.specs.Prelude.{string_bytes};
-    ghost use Rattle.bson_base.specs.Text.{Bytes, Utf8};
+    ghost use Rattle.bson_kinds.specs.Text.{Bytes, Utf8};
     ghost use Rattle.bson_shape.specs.Form.{leaf};
     ghost use Rattle.bson_shape.specs.declared.leaf.Leaf.TheVariants as leaves;
     ghost use Rattle.bson_traits.specs.Extended.{taken_pointer};
@@ -85,7 +87,7 @@ impl Serialize for Regex {
 }
 
 impl<'de> Deserialize<'de> for Regex {
-    ghost use Rattle.bson_base.specs.Text.{Utf8};
+    ghost use Rattle.bson_kinds.specs.Text.{Utf8};
     ghost use Rattle.bson_shape.specs.Form.{leaf};
     ghost use Rattle.bson_shape.specs.declared.leaf.Leaf.TheVariants as leaves;
     ghost use Rattle.bson_traits.specs.Extended.{taken_regex};

@@ -1,5 +1,5 @@
 ghost use Rattle.std.specs.Prelude.{◌≡◌, IfOk, string_bytes};
-ghost use Rattle.bson_datum.specs.TextView.{text_view};
+ghost use Rattle.bson_values.specs.TextView.{text_view};
 ghost use Rattle.bson_shape.specs.Form.{leaf};
 ghost use Rattle.bson_shape.specs.declared.leaf.Leaf.TheVariants as leaves;
 ghost use Rattle.bson_traits.specs.ShapeOf.{IsShapeOf};
@@ -7,12 +7,14 @@ ghost use Rattle.bson_traits.specs.ShapeOf.{IsShapeOf};
 use crate::known::known_text;
 use crate::refusal::not_fitting;
 use crate::traits::{Deserialize, NeverNull, RoundTrip, Serialize};
-use bson_datum::{Datum, Shape, ShapeError, Text, de, ser};
+use bson_datum::Datum;
+use bson_shape::{Shape, ShapeError};
+use bson_values::{Text, de, ser};
 use std::alloc::{AllocError, Global};
 
 impl Serialize for String {
     ghost use Rattle.std.specs.Prelude.{Ok, string_bytes};
-    ghost use Rattle.bson_datum.specs.Value.{str};
+    ghost use Rattle.bson_values.specs.Value.{str};
 
     ghost written = { λ s. Ok (str (string_bytes s)) };
 
@@ -23,7 +25,7 @@ impl Serialize for String {
 
 impl<'de> Deserialize<'de> for String {
     ghost use Rattle.std.specs.Prelude.{string_bytes};
-    ghost use Rattle.bson_base.specs.Text.{Utf8};
+    ghost use Rattle.bson_kinds.specs.Text.{Utf8};
     ghost use Rattle.bson_shape.specs.Form.{leaf};
     ghost use Rattle.bson_shape.specs.declared.leaf.Leaf.TheVariants as leaves;
     ghost use Rattle.bson_traits.specs.Scalars.{taken_text};
@@ -71,8 +73,8 @@ impl<'de> NeverNull<'de> for String {
 
 impl<'a> Serialize for Text<'a> {
     ghost use Rattle.std.specs.Prelude.{Ok};
-    ghost use Rattle.bson_datum.specs.TextView.{text_view};
-    ghost use Rattle.bson_datum.specs.Value.{str};
+    ghost use Rattle.bson_values.specs.TextView.{text_view};
+    ghost use Rattle.bson_values.specs.Value.{str};
 
     ghost written = { λ t. Ok (str (text_view t)) };
 
@@ -82,8 +84,8 @@ impl<'a> Serialize for Text<'a> {
 }
 
 impl<'de> Deserialize<'de> for Text<'de> {
-    ghost use Rattle.bson_base.specs.Text.{Utf8};
-    ghost use Rattle.bson_datum.specs.TextView.{text_view};
+    ghost use Rattle.bson_kinds.specs.Text.{Utf8};
+    ghost use Rattle.bson_values.specs.TextView.{text_view};
     ghost use Rattle.bson_shape.specs.Form.{leaf};
     ghost use Rattle.bson_shape.specs.declared.leaf.Leaf.TheVariants as leaves;
     ghost use Rattle.bson_traits.specs.Scalars.{taken_text};
@@ -113,7 +115,7 @@ impl<'de> Deserialize<'de> for Text<'de> {
 impl<'de> RoundTrip<'de> for Text<'de> {
     ghost use Rattle.std.specs.Prelude.{◌≡◌, true};
     ghost use Rattle.std.specs.Str.{is_utf8};
-    ghost use Rattle.bson_datum.specs.TextView.{text_view};
+    ghost use Rattle.bson_values.specs.TextView.{text_view};
     ghost use Rattle.bson_traits.specs.Prover.ScalarsBack.{str_returns};
 
     ghost is_value = { λ t. is_utf8 (text_view t) ≡ true };
@@ -126,7 +128,7 @@ impl<'de> RoundTrip<'de> for Text<'de> {
 }
 
 impl<'de> NeverNull<'de> for Text<'de> {
-    ghost use Rattle.bson_datum.specs.TextView.{text_view};
+    ghost use Rattle.bson_values.specs.TextView.{text_view};
     ghost use Rattle.bson_traits.specs.Prover.ScalarsBack.{string_not_null};
 
     ghost not_null = { λ t _. string_not_null (text_view t) };

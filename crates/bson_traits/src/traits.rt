@@ -1,11 +1,13 @@
 ghost use Rattle.bson_shape.specs.Form.{Form};
-ghost use Rattle.bson_datum.specs.Value.{Value};
+ghost use Rattle.bson_values.specs.Value.{Value};
 ghost use Rattle.bson_datum.specs.View.{view};
 ghost use Rattle.bson_traits.specs.Answers.{Reading, Writing, Reads, Writes};
 ghost use Rattle.bson_traits.specs.Laws.{Returns, IsNeverNull};
 ghost use Rattle.bson_traits.specs.ShapeOf.{IsShapeOf};
 
-use bson_datum::{Datum, Shape, ShapeError, de, ser};
+use bson_datum::Datum;
+use bson_shape::{Shape, ShapeError};
+use bson_values::{de, ser};
 use std::alloc::Global;
 
 /// A type whose values are written.

@@ -2,16 +2,16 @@
 use Rattle.std.proofs.Common.{◌≡◌, ℕ, zero, suc, [], ◌∷◌, Bool, true, false, cond, None, Ok, refl, ap, sym, ◌∙◌, subst}
 use Rattle.std.specs.Prelude.{◌||◌, codes}
 use Rattle.std.specs.Str.{bytes_eq}
-use Rattle.bson_base.specs.Outcome.{◌>>=◌}
-use Rattle.bson_base.specs.Reserved.{reserved_kind}
-use Rattle.bson_base.specs.Text.{Utf8}
+use Rattle.bson_kinds.specs.Outcome.{◌>>=◌}
+use Rattle.bson_kinds.specs.Reserved.{reserved_kind}
+use Rattle.bson_kinds.specs.Text.{Utf8}
 use Rattle.bson_base.specs.Tree as tree
 use Rattle.bson_base.specs.Tree.{Tree, document, array, Pairs, no_pairs, pair, Trees, no_trees}
 use Rattle.bson_shape.specs.Form.{Form, leaf, optional, lossy, sequence, newtype, unit_structure, map, tuple, tuple_structure, structure, enumeration, definitions, Fields, no_fields, field, Parts, no_parts, part, newtype_content, tuple_content, struct_content}
 use Rattle.bson_shape.specs.Makers.{is_reserved_newtype}
-use Rattle.bson_datum.specs.Refusal.{under, under_index}
-use Rattle.bson_datum.specs.Value as value
-use Rattle.bson_datum.specs.Value.{Value, uuid_newtype, Items, no_items, item, Entries, no_entries, entry, FieldValues, no_field_values, field_value}
+use Rattle.bson_values.specs.Refusal.{under, under_index}
+use Rattle.bson_values.specs.Value as value
+use Rattle.bson_values.specs.Value.{Value, uuid_newtype, Items, no_items, item, Entries, no_entries, entry, FieldValues, no_field_values, field_value}
 use Rattle.bson_laws.specs.Datum.{datum, itself, pair_data, tree_data}
 use Rattle.bson_laws.specs.Fits.{IsText, IsAny, AreAnyItems, AreAnyEntries, IsTreeValue, FitsExtended, FitsLeaf, Fits, ItemsFit, PartsFit, EntriesFit, FieldsFit}
 use Rattle.bson_laws.specs.Leaves.{LeafKind, anything, booleans, numbers, doubles, characters, texts, byte_strings, byte_buffers, units, extended_values, ExtendedLeaf, object_ids, uuids, of_kind, trees, documents, leaf_kind}

@@ -5,7 +5,7 @@ use Rattle.std.specs.Str.{bytes_eq}
 use Rattle.std.proofs.lemmas.Slice.Eq.{bytes_eq-Decides}
 use Rattle.bson_base.specs.Pairs.{put}
 use Rattle.bson_base.specs.Sound.{Lacks}
-use Rattle.bson_base.specs.Text.{Utf8, begins_with_dollar}
+use Rattle.bson_kinds.specs.Text.{Utf8, begins_with_dollar}
 use Rattle.bson_base.specs.Tree.{Tree, document, Pairs, no_pairs, pair}
 use Rattle.bson_base.specs.Folded.{Form, forms, value_of_key, code_with_scope, or_document, or_alone, fold}
 use Rattle.bson_base.proofs.Folds.{IsOther, no_form}

@@ -4,19 +4,19 @@ use Rattle.std.specs.Prelude.{nat_lt, nat_eq, option_map, option_and_then, codes
 use Rattle.std.proofs.lemmas.Bool.Decides.{nat_tests}
 use Rattle.std.proofs.lemmas.List.Elements.{All-cons, All-nil}
 use Rattle.bson_base.specs.Made.{digits, number_text, base64_text}
-use Rattle.bson_base.specs.Outcome.{◌>>=◌, result_map}
+use Rattle.bson_kinds.specs.Outcome.{◌>>=◌, result_map}
 use Rattle.bson_base.specs.Parsed.{first_byte, bytes_of_digits, integer_of_text, bytes_of_base64}
 use Rattle.bson_base.specs.Pairs.{put}
-use Rattle.bson_base.specs.declared.element_type.ElementType.TheVariants.{Int64}
+use Rattle.bson_kinds.specs.declared.element_type.ElementType.TheVariants.{Int64}
 use Rattle.bson_base.specs.Sorted.{sorted}
-use Rattle.bson_base.specs.Text.{Bytes, Utf8}
+use Rattle.bson_kinds.specs.Text.{Bytes, Utf8}
 use Rattle.bson_base.specs.Tree as tree
 use Rattle.bson_base.specs.Tree.{Tree, string, document, Pairs, no_pairs, pair}
-use Rattle.bson_base.proofs.Outcomes.{map_ok, bind_ok}
+use Rattle.bson_kinds.proofs.Outcomes.{map_ok, bind_ok}
 use Rattle.bson_base.proofs.WrittenTexts.{digits_read, subtype_read}
-use Rattle.bson_datum.specs.Value as value
-use Rattle.bson_datum.specs.Value.{Value, Entries, FieldValues, i64}
-use Rattle.bson_datum.specs.Refusal.{Refusal, WriteFault, unsigned_exceeds, here, under}
+use Rattle.bson_values.specs.Value as value
+use Rattle.bson_values.specs.Value.{Value, Entries, FieldValues, i64}
+use Rattle.bson_values.specs.Refusal.{Refusal, WriteFault, unsigned_exceeds, here, under}
 use Rattle.bson_laws.specs.Datum.{itself, datum, pair_data}
 use Rattle.bson_laws.specs.Spell.{Writing, spell_whole, spell_unwrapped, spell_number, spell_as, spell_entries_as}
 use Rattle.bson_laws.proofs.Sizes.{ok_is, enclosed_ok, under_ok}

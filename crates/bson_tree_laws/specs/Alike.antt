@@ -1,12 +1,12 @@
 -- The values that both writers write alike. Source: serde's data model, and the reserved names of MongoDB's crate bson, version 2.
 use Rattle.std.specs.Prelude.{◌≡◌, ◌<◌, false, Option, Some, None}
-use Rattle.bson_base.specs.Reserved.{reserved_kind}
+use Rattle.bson_kinds.specs.Reserved.{reserved_kind}
 use Rattle.bson_base.specs.Sound.{Lacks}
-use Rattle.bson_base.specs.Text.{Utf8, begins_with_dollar}
+use Rattle.bson_kinds.specs.Text.{Utf8, begins_with_dollar}
 use Rattle.bson_base.specs.Tree as tree
 use Rattle.bson_base.specs.Tree.{Tree, document, array, javascript_code_with_scope, Pairs, no_pairs, pair, Trees, no_trees}
-use Rattle.bson_base.specs.declared.element_type.ElementType.{ElementType}
-use Rattle.bson_datum.specs.Value.{Value, str, some, newtype, sequence, map, structure, unit_variant, newtype_variant, tuple, tuple_structure, tuple_variant, structure_variant, raw_document, raw_array, mode, Items, no_items, item, Entries, no_entries, entry, FieldValues, no_field_values, field_value}
+use Rattle.bson_kinds.specs.declared.element_type.ElementType.{ElementType}
+use Rattle.bson_values.specs.Value.{Value, str, some, newtype, sequence, map, structure, unit_variant, newtype_variant, tuple, tuple_structure, tuple_variant, structure_variant, raw_document, raw_array, mode, Items, no_items, item, Entries, no_entries, entry, FieldValues, no_field_values, field_value}
 use Rattle.bson_laws.specs.Datum.{itself, datum}
 
 abbrev mutual

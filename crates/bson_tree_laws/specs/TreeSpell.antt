@@ -1,18 +1,18 @@
 -- The tree that a value is made into, or why it is not made into one. Source: serde's data model, and MongoDB's extended JSON, version 2.
 use Rattle.std.specs.Prelude.{encode_utf8, ℕ, zero, suc, Bool, true, false, ◌||◌, is_some, Option, Some, None, if◌then◌else◌, Result, Ok, Err}
 use Rattle.bson_base.specs.Folded.{fold}
-use Rattle.bson_base.specs.Outcome.{◌>>=◌, result_map}
+use Rattle.bson_kinds.specs.Outcome.{◌>>=◌, result_map}
 use Rattle.bson_base.specs.Pairs.{put}
-use Rattle.bson_base.specs.Reserved.{reserved_kind}
+use Rattle.bson_kinds.specs.Reserved.{reserved_kind}
 use Rattle.bson_base.specs.Sound.{max_levels}
-use Rattle.bson_base.specs.Text.{Bytes, Utf8}
+use Rattle.bson_kinds.specs.Text.{Bytes, Utf8}
 use Rattle.bson_base.specs.Tree as tree
 use Rattle.bson_base.specs.Tree.{Tree, string, document, array, binary, null, Pairs, no_pairs, pair, Trees, no_trees}
-use Rattle.bson_datum.specs.Value.{written_as, Value, boolean, integer, double, character, str, bytes, none, some, unit, unit_structure, newtype, sequence, map, structure, unit_variant, newtype_variant, tuple, tuple_structure, tuple_variant, structure_variant, raw_document, raw_array, mode, Items, no_items, item, Entries, no_entries, entry, FieldValues, no_field_values, field_value, readable_inside}
+use Rattle.bson_values.specs.Value.{written_as, Value, boolean, integer, double, character, str, bytes, none, some, unit, unit_structure, newtype, sequence, map, structure, unit_variant, newtype_variant, tuple, tuple_structure, tuple_variant, structure_variant, raw_document, raw_array, mode, Items, no_items, item, Entries, no_entries, entry, FieldValues, no_field_values, field_value, readable_inside}
 use Rattle.bson_rawdoc.specs.DocumentTree.{document_pairs, array_trees}
 use Rattle.bson_rawdoc.specs.declared.raw.Error.{Error}
-use Rattle.bson_datum.specs.Cause.{raw, too_deep, bad_uuid}
-use Rattle.bson_datum.specs.Refusal.{unwritable, invalid_document_key, here, under, under_index}
+use Rattle.bson_values.specs.Cause.{raw, too_deep, bad_uuid}
+use Rattle.bson_values.specs.Refusal.{unwritable, invalid_document_key, here, under, under_index}
 use Rattle.bson_laws.specs.Spell.{Writing, enclosed_at, newtype_at, spell_number}
 use Rattle.bson_laws.specs.UuidBytes.{uuid_bytes}
 

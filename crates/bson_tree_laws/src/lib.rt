@@ -6,7 +6,7 @@ ghost use Rattle.bson_base.specs.Sound.{IsClean, max_levels};
 ghost use Rattle.bson_base.specs.Tree.{Tree, depth};
 ghost use Rattle.bson_shape.specs.Form.{Form, no_fields};
 ghost use Rattle.bson_shape.specs.Makers.{IsShape};
-ghost use Rattle.bson_datum.specs.Value.{Value};
+ghost use Rattle.bson_values.specs.Value.{Value};
 ghost use Rattle.bson_laws.specs.Means.{means};
 ghost use Rattle.bson_laws.specs.Plain.{IsPlain};
 ghost use Rattle.bson_laws.specs.Recursive.{view, FitsIn};

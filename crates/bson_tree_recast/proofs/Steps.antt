@@ -3,16 +3,16 @@ use Rattle.std.proofs.Common.{◌≡◌, ℕ, Option, Some, None, Result, Ok, Er
 use Rattle.std.specs.Prelude.{◌≢◌, ◌⊎◌, option_map}
 use Rattle.std.specs.Global.{Vec}
 use Rattle.bson_base.specs.Encoded.{EncodeFault, IsRefusedFor}
-use Rattle.bson_base.specs.Outcome.{◌>>=◌}
-use Rattle.bson_base.specs.Text.{Bytes}
+use Rattle.bson_kinds.specs.Outcome.{◌>>=◌}
+use Rattle.bson_kinds.specs.Text.{Bytes}
 use Rattle.bson_base.specs.Tree.{Pairs}
 use Rattle.bson_rawdoc.specs.declared.raw.Error.{Error}
 use Rattle.bson_rawdoc.specs.declared.raw.Error.TheVariants.{NoMemory}
-use Rattle.bson_datum.specs.ErrorView.{read_failure, write_failure}
-use Rattle.bson_datum.specs.Refusal.{ReadFault, WriteFault, Failure, no_memory, bare, placed}
-use Rattle.bson_datum.specs.Value.{Value}
-use Rattle.bson_datum.specs.declared.de.Error as de
-use Rattle.bson_datum.specs.declared.ser.Error as ser
+use Rattle.bson_values.specs.ErrorView.{read_failure, write_failure}
+use Rattle.bson_values.specs.Refusal.{ReadFault, WriteFault, Failure, no_memory, bare, placed}
+use Rattle.bson_values.specs.Value.{Value}
+use Rattle.bson_values.specs.declared.de.Error as de
+use Rattle.bson_values.specs.declared.ser.Error as ser
 use Rattle.bson_de_raw.specs.Gives as reading
 use Rattle.bson_ser_tree.specs.Answers as writing
 use Rattle.bson_rawdoc.specs.DocumentTree.{document_pairs, Gives}

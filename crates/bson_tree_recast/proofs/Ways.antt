@@ -4,17 +4,17 @@ use Rattle.std.specs.Prelude.{nat_lt}
 use Rattle.std.specs.Global.{Vec}
 use Rattle.std.proofs.lemmas.Bool.{le-ltb, ltb-false}
 use Rattle.bson_base.specs.Encoded.{EncodeFault, too_long, encode_fault, pairs_encode_fault, within_limit, encoded}
-use Rattle.bson_base.specs.Outcome.{◌>>=◌}
+use Rattle.bson_kinds.specs.Outcome.{◌>>=◌}
 use Rattle.bson_base.specs.Sound.{IsDocument, max_bytes}
-use Rattle.bson_base.specs.Text.{Bytes, AreBytes}
+use Rattle.bson_kinds.specs.Text.{Bytes, AreBytes}
 use Rattle.bson_base.specs.Tree.{Tree, document, Pairs, enc}
-use Rattle.bson_base.proofs.Outcomes.{ok_is, bind_ok}
+use Rattle.bson_kinds.proofs.Outcomes.{ok_is, bind_ok}
 use Rattle.bson_rawdoc.specs.DocumentTree.{document_pairs}
 use Rattle.bson_rawdoc.specs.Envelope.{envelope}
 use Rattle.bson_shape.specs.Form.{Form}
 use Rattle.bson_shape.specs.Makers.{IsShape}
-use Rattle.bson_datum.specs.ErrorView.{read_failure, write_failure}
-use Rattle.bson_datum.specs.Value.{Value}
+use Rattle.bson_values.specs.ErrorView.{read_failure, write_failure}
+use Rattle.bson_values.specs.Value.{Value}
 use Rattle.bson_laws.specs.Judged.{Reading}
 use Rattle.bson_laws.specs.Reads.{reads_document}
 use Rattle.bson_laws.specs.ReadsFrom.{answered_bare, reads_tree_value}

@@ -3,10 +3,10 @@ use Rattle.std.proofs.Common.{◌≡◌, ◌≤◌, ◌<◌, ℕ, zero, suc, [],
 use Rattle.std.specs.Prelude.{nat_lt}
 use Rattle.std.proofs.lemmas.Bool.{le-ltb, ltb-false}
 use Rattle.bson_base.specs.Sound.{max_bytes}
-use Rattle.bson_base.specs.Text.{Bytes}
+use Rattle.bson_kinds.specs.Text.{Bytes}
 use Rattle.bson_base.specs.Tree.{Tree, enc}
-use Rattle.bson_datum.specs.Refusal.{ReadFault, Failure}
-use Rattle.bson_datum.specs.Value.{Value}
+use Rattle.bson_values.specs.Refusal.{ReadFault, Failure}
+use Rattle.bson_values.specs.Value.{Value}
 use Rattle.bson_laws.specs.Spell.{Writing, spell_document, size}
 use Rattle.bson_laws.proofs.ReadAgain.{document_size}
 use Rattle.bson_tree_recast.specs.Recast.{writes, written, recast_read}

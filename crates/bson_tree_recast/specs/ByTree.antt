@@ -1,17 +1,17 @@
 -- What recasting a document's bytes by way of trees comes to. No refusal has a path. Source: this library's own readers and writers.
 use Rattle.std.specs.Prelude.{false, Option, Some, None, Result, Ok, Err}
 use Rattle.bson_base.specs.Encoded.{EncodeFault, key_zero, binary_too_long, too_long, encoded}
-use Rattle.bson_base.specs.Outcome.{◌>>=◌}
-use Rattle.bson_base.specs.Text.{Bytes}
+use Rattle.bson_kinds.specs.Outcome.{◌>>=◌}
+use Rattle.bson_kinds.specs.Text.{Bytes}
 use Rattle.bson_base.specs.Tree.{document, Pairs}
 use Rattle.bson_rawdoc.specs.DocumentTree.{document_pairs}
 use Rattle.bson_rawdoc.specs.Envelope.{envelope}
 use Rattle.bson_rawdoc.specs.declared.raw.Error.{Error}
 use Rattle.bson_rawdoc.specs.declared.raw.Error.TheVariants.{NoMemory}
 use Rattle.bson_shape.specs.Form.{Form}
-use Rattle.bson_datum.specs.Cause as causes
-use Rattle.bson_datum.specs.Refusal.{unreadable, WriteFault, unwritable, invalid_cstring, bare}
-use Rattle.bson_datum.specs.Value.{Value}
+use Rattle.bson_values.specs.Cause as causes
+use Rattle.bson_values.specs.Refusal.{unreadable, WriteFault, unwritable, invalid_cstring, bare}
+use Rattle.bson_values.specs.Value.{Value}
 use Rattle.bson_laws.specs.ReadsFrom.{answered_bare, reads_tree_value}
 use Rattle.bson_ser_tree.specs.Answers.{without_paths, document_whole}
 use Rattle.bson_tree_recast.specs.Recast.{Recast, Ending, in_reading, in_writing, ended}

@@ -1,8 +1,8 @@
 -- The text of an error of a recast. Source: this library's own texts.
 use Rattle.std.specs.Prelude.{◌++◌, codes}
-use Rattle.bson_base.specs.Text.{Utf8}
-use Rattle.bson_datum.specs.ErrorView.{read_failure, write_failure}
-use Rattle.bson_datum.specs.Printed.{printed_failure, printed_read_fault, printed_write_fault}
+use Rattle.bson_kinds.specs.Text.{Utf8}
+use Rattle.bson_values.specs.ErrorView.{read_failure, write_failure}
+use Rattle.bson_values.specs.Printed.{printed_failure, printed_read_fault, printed_write_fault}
 use Rattle.bson_tree_recast.specs.declared.error.RecastError.{RecastError}
 use Rattle.bson_tree_recast.specs.declared.error.RecastError.TheVariants.{Read, Write, NoMemory}
 

@@ -1,15 +1,15 @@
 -- What recasting a document's bytes at a shape comes to. Source: this library's own readers and writers.
 use Rattle.std.specs.Prelude.{◌≡◌, ◌≢◌, ◌⊎◌, ℕ, Bool, true, false, nat_lt, Option, Some, None, Result, Ok, Err}
 use Rattle.std.specs.Global.{Vec}
-use Rattle.bson_base.specs.Text.{Bytes}
+use Rattle.bson_kinds.specs.Text.{Bytes}
 use Rattle.bson_base.specs.Sound.{max_bytes}
 use Rattle.bson_base.specs.Tree.{Tree, enc}
 use Rattle.bson_shape.specs.Form.{Form}
-use Rattle.bson_datum.specs.Value.{Value}
-use Rattle.bson_datum.specs.Refusal.{ReadFault, WriteFault, Failure, no_memory, with_path}
-use Rattle.bson_datum.specs.declared.de.Error as de
-use Rattle.bson_datum.specs.declared.ser.Error as ser
-use Rattle.bson_datum.specs.ErrorView.{read_failure, write_failure}
+use Rattle.bson_values.specs.Value.{Value}
+use Rattle.bson_values.specs.Refusal.{ReadFault, WriteFault, Failure, no_memory, with_path}
+use Rattle.bson_values.specs.declared.de.Error as de
+use Rattle.bson_values.specs.declared.ser.Error as ser
+use Rattle.bson_values.specs.ErrorView.{read_failure, write_failure}
 use Rattle.bson_laws.specs.Reads.{reads_document}
 use Rattle.bson_laws.specs.Spell.{Writing, spell_document, size}
 use Rattle.bson_ser_stream.specs.Writing.{too_long_failure}

@@ -1,6 +1,6 @@
 // A document read at a shape and written anew by way of trees.
 ghost use Rattle.bson_base.specs.BsonView.{pairs_of};
-ghost use Rattle.bson_base.specs.Outcome.{◌>>=◌ as and_then};
+ghost use Rattle.bson_kinds.specs.Outcome.{◌>>=◌ as and_then};
 ghost use Rattle.bson_datum.specs.View.{view};
 ghost use Rattle.bson_rawdoc.specs.DocumentTree.{document_pairs, Gives};
 ghost use Rattle.bson_rawdoc.specs.Envelope.{envelope};

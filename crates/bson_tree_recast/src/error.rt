@@ -1,14 +1,14 @@
 // Why a document is not recast.
 ghost use Rattle.std.specs.Prelude.{◌≡◌, Some, option_map};
 ghost use Rattle.bson_base.specs.Encoded.{fault_told};
-ghost use Rattle.bson_datum.specs.ErrorView.{cause_view};
-ghost use Rattle.bson_datum.specs.Refusal.{bare, unwritable as for_cause};
+ghost use Rattle.bson_values.specs.ErrorView.{cause_view};
+ghost use Rattle.bson_values.specs.Refusal.{bare, unwritable as for_cause};
 ghost use Rattle.bson_tree_recast.specs.ByTree.{raw_told, unread_for, unencoded_for};
 ghost use Rattle.bson_tree_recast.specs.Recast.{in_writing, stopped};
 
 use bson_base::EncodeError;
-use bson_datum::{Cause, de, ser};
 use bson_rawdoc::raw;
+use bson_values::{Cause, de, ser};
 use std::alloc::AllocError;
 use std::error::Error;
 use std::fmt;

@@ -1,19 +1,19 @@
 -- Values at the leaves of extended kinds, by the trees that are read.
 use Rattle.std.proofs.Common.{◌≡◌, Bool, true, false, cond, Ok, Err, refl, ap, sym, subst, ◌∙◌}
 use Rattle.std.specs.Prelude.{nat_eq}
-use Rattle.bson_base.specs.Kind.{byte}
-use Rattle.bson_base.specs.Outcome.{◌>>=◌, result_map}
+use Rattle.bson_kinds.specs.Kind.{byte}
+use Rattle.bson_kinds.specs.Outcome.{◌>>=◌, result_map}
 use Rattle.bson_base.specs.Tree as tree
 use Rattle.bson_base.specs.Tree.{Tree, Pairs, kind}
-use Rattle.bson_base.specs.declared.element_type.ElementType.{ElementType}
-use Rattle.bson_base.proofs.Outcomes.{map_ok}
+use Rattle.bson_kinds.specs.declared.element_type.ElementType.{ElementType}
+use Rattle.bson_kinds.proofs.Outcomes.{map_ok}
 use Rattle.bson_rawdoc.specs.Node.{Node}
 use Rattle.bson_rawdoc.specs.Piece.{made}
-use Rattle.bson_datum.specs.Cause.{wrong_kind}
-use Rattle.bson_datum.specs.Marked.{Marked, MarkedEntries}
-use Rattle.bson_datum.specs.Value as value
-use Rattle.bson_datum.specs.declared.de.Fault.{Fault}
-use Rattle.bson_datum.specs.declared.stop.Stop.{Stop}
+use Rattle.bson_values.specs.Cause.{wrong_kind}
+use Rattle.bson_values.specs.Marked.{Marked, MarkedEntries}
+use Rattle.bson_values.specs.Value as value
+use Rattle.bson_values.specs.declared.de.Fault.{Fault}
+use Rattle.bson_values.specs.declared.stop.Stop.{Stop}
 use Rattle.bson_laws.specs.Datum.{datum, pair_data}
 use Rattle.bson_laws.specs.Judged.{Reading, refused, judged}
 use Rattle.bson_laws.specs.ReadsExtended.{tree_of_kind}

@@ -2,22 +2,22 @@
 use Rattle.std.proofs.Common.{◌≡◌, ℕ, Bool, true, false, Option, Some, None, Ok, refl, ap, sym, ◌∙◌}
 use Rattle.std.specs.Prelude.{option_map, option_and_then, codes}
 use Rattle.uuid.specs.Text.{parsed}
-use Rattle.bson_base.specs.Outcome.{◌>>=◌, result_map}
+use Rattle.bson_kinds.specs.Outcome.{◌>>=◌, result_map}
 use Rattle.bson_base.specs.Parsed.{bytes_of_digits, bytes_of_base64}
 use Rattle.bson_base.specs.Sorted.{sorted}
-use Rattle.bson_base.specs.Text.{Bytes, Utf8}
+use Rattle.bson_kinds.specs.Text.{Bytes, Utf8}
 use Rattle.bson_base.specs.Tree as tree
 use Rattle.bson_base.specs.Tree.{Tree, Pairs, no_pairs}
-use Rattle.bson_base.proofs.Outcomes.{some_map, some_then, map_ok, bind_ok, ok_is}
+use Rattle.bson_kinds.proofs.Outcomes.{some_map, some_then, map_ok, bind_ok, ok_is}
 use Rattle.bson_rawdoc.specs.Node as node
 use Rattle.bson_rawdoc.specs.Node.{Node, Extended, Nodes, ended, faulty, then_node}
-use Rattle.bson_datum.specs.Marked.{contents}
-use Rattle.bson_datum.specs.Refusal.{under}
-use Rattle.bson_datum.specs.Value as value
-use Rattle.bson_datum.specs.Value.{Value, no_field_values, field_value}
-use Rattle.bson_datum.specs.Wrapper.{of_key}
-use Rattle.bson_datum.specs.declared.wrapper.Wrapper.{Wrapper}
-use Rattle.bson_datum.specs.declared.wrapper.Wrapper.TheVariants.{Binary, Uuid}
+use Rattle.bson_values.specs.Marked.{contents}
+use Rattle.bson_values.specs.Refusal.{under}
+use Rattle.bson_values.specs.Value as value
+use Rattle.bson_values.specs.Value.{Value, no_field_values, field_value}
+use Rattle.bson_values.specs.Wrapper.{of_key}
+use Rattle.bson_values.specs.declared.wrapper.Wrapper.{Wrapper}
+use Rattle.bson_values.specs.declared.wrapper.Wrapper.TheVariants.{Binary, Uuid}
 use Rattle.bson_laws.specs.Judged.{Reading, judged, scope_key}
 use Rattle.bson_laws.specs.ReadsLeaf.{no_extended}
 use Rattle.bson_laws.specs.Shaped.{reads}

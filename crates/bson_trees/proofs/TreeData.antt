@@ -1,29 +1,29 @@
 -- Values that are read as trees, by the data that are made of them.
 use Rattle.std.proofs.Common.{◌≡◌, ℕ, zero, suc, Bool, true, false, cond, Option, Some, None, Ok, Err, refl, ap, sym, subst, ◌∙◌}
 use Rattle.std.specs.Str.{bytes_eq}
-use Rattle.bson_base.specs.Text.{Utf8}
-use Rattle.bson_base.specs.Outcome.{◌>>=◌, result_map}
+use Rattle.bson_kinds.specs.Text.{Utf8}
+use Rattle.bson_kinds.specs.Outcome.{◌>>=◌, result_map}
 use Rattle.bson_base.specs.Tree as tree
 use Rattle.bson_base.specs.Tree.{Tree, Pairs, no_pairs, pair, Trees, kind}
-use Rattle.bson_base.proofs.Outcomes.{map_ok}
+use Rattle.bson_kinds.proofs.Outcomes.{map_ok}
 use Rattle.bson_rawdoc.specs.Node as node
 use Rattle.bson_rawdoc.specs.Node.{Node, Nodes, ended, faulty, then_node}
 use Rattle.bson_rawdoc.specs.Piece.{Piece, made}
-use Rattle.bson_datum.specs.Cause.{invalid_type, unknown_field}
-use Rattle.bson_datum.specs.Marked.{Marked, MarkedItems, MarkedEntries, contents}
+use Rattle.bson_values.specs.Cause.{invalid_type, unknown_field}
+use Rattle.bson_values.specs.Marked.{Marked, MarkedItems, MarkedEntries, contents}
 use Rattle.bson_datum.specs.MarkedView.{marked}
-use Rattle.bson_datum.specs.ErrorView.{read_fault}
-use Rattle.bson_datum.specs.Refusal.{ReadFault, Refusal, under, under_index}
-use Rattle.bson_datum.specs.Stop.{stop_view}
-use Rattle.bson_datum.specs.Value as value
-use Rattle.bson_datum.specs.Value.{item, entry, kind_of}
-use Rattle.bson_datum.specs.Wrapper.{of_key}
+use Rattle.bson_values.specs.ErrorView.{read_fault}
+use Rattle.bson_values.specs.Refusal.{ReadFault, Refusal, under, under_index}
+use Rattle.bson_values.specs.Stop.{stop_view}
+use Rattle.bson_values.specs.Value as value
+use Rattle.bson_values.specs.Value.{item, entry, kind_of}
+use Rattle.bson_values.specs.Wrapper.{of_key}
 use Rattle.bson_datum.specs.View.{view}
 use Rattle.bson_datum.proofs.Marks.{marked-contents}
 use Rattle.bson_datum.specs.declared.datum.Datum.{Datum}
-use Rattle.bson_datum.specs.declared.de.Fault.{Fault}
-use Rattle.bson_datum.specs.declared.stop.Stop.{Stop}
-use Rattle.bson_datum.specs.declared.wrapper.Wrapper.{Wrapper}
+use Rattle.bson_values.specs.declared.de.Fault.{Fault}
+use Rattle.bson_values.specs.declared.stop.Stop.{Stop}
+use Rattle.bson_values.specs.declared.wrapper.Wrapper.{Wrapper}
 use Rattle.bson_laws.specs.Containers.{reads_items}
 use Rattle.bson_laws.specs.Datum.{datum, itself, pair_data, tree_data}
 use Rattle.bson_laws.specs.Judged.{Reading, refused, judged, scope_key}

@@ -4,24 +4,24 @@ use Rattle.std.specs.Prelude.{option_map, option_and_then, nat_eq, length, codes
 use Rattle.std.specs.Ordering.{int_eq}
 use Rattle.std.specs.Str.{bytes_eq}
 use Rattle.bson_dates.specs.DateText.{date_of_text}
-use Rattle.bson_base.specs.Outcome.{◌>>=◌, result_map}
+use Rattle.bson_kinds.specs.Outcome.{◌>>=◌, result_map}
 use Rattle.bson_base.specs.Parsed.{bytes_of_digits, integer_of_text}
 use Rattle.bson_base.specs.Sorted.{sorted}
-use Rattle.bson_base.specs.Text.{Bytes, Utf8}
+use Rattle.bson_kinds.specs.Text.{Bytes, Utf8}
 use Rattle.bson_base.specs.Tree as tree
 use Rattle.bson_base.specs.Tree.{Tree, Pairs, kind}
-use Rattle.bson_base.proofs.Outcomes.{some_is, some_map, some_then, map_ok, bind_ok, ok_is}
+use Rattle.bson_kinds.proofs.Outcomes.{some_is, some_map, some_then, map_ok, bind_ok, ok_is}
 use Rattle.bson_rawdoc.specs.Node.{Node, string, bytes, Nodes, ended, faulty, then_node}
 use Rattle.bson_shape.specs.Form.{Form, leaf}
 use Rattle.bson_shape.specs.declared.leaf.Leaf.TheVariants as leaves
 use Rattle.bson_shape.specs.declared.leaf.Leaf.TheVariants.{U8, U32, ByteBuf}
-use Rattle.bson_datum.specs.Cause.{Cause, unknown_field, wrong_kind}
-use Rattle.bson_datum.specs.Marked.{contents}
-use Rattle.bson_datum.specs.Refusal.{under}
-use Rattle.bson_datum.specs.Value as value
-use Rattle.bson_datum.specs.Value.{Value, no_field_values, field_value, in_range, i32}
-use Rattle.bson_datum.specs.declared.wrapper.Wrapper.{Wrapper}
-use Rattle.bson_datum.specs.declared.wrapper.Wrapper.TheVariants.{Oid, Symbol, NumberInt, NumberLong, NumberDouble, Binary, Uuid, Code, Scope, Timestamp, RegularExpression, DbPointer, Date, MinKey, MaxKey, Undefined, NumberDecimal, NumberDecimalBytes}
+use Rattle.bson_values.specs.Cause.{Cause, unknown_field, wrong_kind}
+use Rattle.bson_values.specs.Marked.{contents}
+use Rattle.bson_values.specs.Refusal.{under}
+use Rattle.bson_values.specs.Value as value
+use Rattle.bson_values.specs.Value.{Value, no_field_values, field_value, in_range, i32}
+use Rattle.bson_values.specs.declared.wrapper.Wrapper.{Wrapper}
+use Rattle.bson_values.specs.declared.wrapper.Wrapper.TheVariants.{Oid, Symbol, NumberInt, NumberLong, NumberDouble, Binary, Uuid, Code, Scope, Timestamp, RegularExpression, DbPointer, Date, MinKey, MaxKey, Undefined, NumberDecimal, NumberDecimalBytes}
 use Rattle.bson_laws.specs.Judged.{Reading, refused, judged, scope_key}
 use Rattle.bson_laws.specs.ReadsLeaf.{no_extended}
 use Rattle.bson_laws.specs.ReadsExtended.{uuid_in}

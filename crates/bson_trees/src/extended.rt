@@ -15,10 +15,11 @@ ghost use Rattle.bson_trees.specs.Leaves.{object_id_from, id_of_digits, id_of_by
 use crate::raw::{raw_array, raw_document, raw_value};
 use crate::trees::{read_elements, read_entries, read_tree};
 use crate::unique_id::uuid;
-use bson_base::ElementType;
-use bson_datum::{Cause, Datum, Wrapper};
+use bson_datum::Datum;
+use bson_kinds::ElementType;
 use bson_met::{Elements, Extended, Met, MetText, Reading, Value, refused};
 use bson_shape::Leaf;
+use bson_values::{Cause, Wrapper};
 use bson_wrapped::{data, id_of_text};
 use std::alloc::Global;
 

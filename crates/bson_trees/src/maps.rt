@@ -1,18 +1,19 @@
 // Data that are maps.
 ghost use Rattle.std.specs.Prelude.{◌≡◌, true, false};
-ghost use Rattle.bson_base.specs.Outcome.{result_map};
+ghost use Rattle.bson_kinds.specs.Outcome.{result_map};
 ghost use Rattle.bson_base.specs.Tree.{Tree};
 ghost use Rattle.bson_rawdoc.specs.Piece.{made};
 ghost use Rattle.bson_datum.specs.MarkedView.{marked};
-ghost use Rattle.bson_datum.specs.Value as values;
+ghost use Rattle.bson_values.specs.Value as values;
 ghost use Rattle.bson_laws.specs.Datum.{datum, pair_data};
 ghost use Rattle.bson_laws.specs.Trees.{pairs_in};
 ghost use Rattle.bson_met.specs.Gives.{Reaches};
 ghost use Rattle.bson_texts.specs.ListsMarked.{entries_marked};
 ghost use Rattle.bson_trees.specs.Trees.{is_map, is_raw};
 
-use bson_datum::{Cause, Datum, Entry};
+use bson_datum::{Datum, Entry};
 use bson_met::{Reading, refused};
+use bson_values::Cause;
 use std::alloc::Global;
 
 /// The entries of a value that was read as a tree, where it is a document.

@@ -5,7 +5,7 @@ ghost use Rattle.bson_rawdoc.specs.Node as node;
 ghost use Rattle.bson_rawdoc.specs.Piece.{borrowed};
 ghost use Rattle.bson_shape.specs.Form as form;
 ghost use Rattle.bson_datum.specs.MarkedView.{marked};
-ghost use Rattle.bson_datum.specs.Value as values;
+ghost use Rattle.bson_values.specs.Value as values;
 ghost use Rattle.bson_laws.specs.ReadsRaw as laws;
 ghost use Rattle.bson_laws.specs.Reads.{reads};
 ghost use Rattle.bson_met.specs.Gives.{Reaches};
@@ -15,10 +15,11 @@ ghost use Rattle.bson_trees.specs.Raw.{raw_array_at, raw_document_at, raw_scope_
 ghost use Rattle.bson_trees.specs.Trees.{is_scalar};
 
 use bson_base::{BinarySubtype, ObjectId};
-use bson_datum::{Cause, Datum, RawArr, RawDoc};
+use bson_datum::{Datum, RawArr, RawDoc};
 use bson_met::{Extended, Met, MetBytes, MetText, Reading, Scope, Value, refused};
 use bson_rawdoc::{RawArray, RawDocument};
 use bson_shape::Leaf;
+use bson_values::Cause;
 use bson_wrapped::data;
 use std::alloc::{AllocError, Global};
 

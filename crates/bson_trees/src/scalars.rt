@@ -1,7 +1,7 @@
 // Extended values without values in them, and texts at keys.
 ghost use Rattle.std.specs.Prelude.{◌≡◌, string_bytes, true, IfOk};
 ghost use Rattle.bson_datum.specs.MarkedView.{marked};
-ghost use Rattle.bson_datum.specs.Refusal.{under};
+ghost use Rattle.bson_values.specs.Refusal.{under};
 ghost use Rattle.bson_laws.specs.Wrapped.{text_at};
 ghost use Rattle.bson_met.specs.Gives.{Reaches};
 ghost use Rattle.bson_met.specs.OpenedView.{extended_view};

@@ -12,10 +12,11 @@ ghost use Rattle.bson_trees.specs.Trees.{tree_at, tree_under, items_from, elemen
 
 use crate::maps::entries_of;
 use crate::scalars::{extended_scalar, text_under};
-use bson_datum::{Cause, Datum, Entry, Text, Wrapper};
+use bson_datum::{Datum, Entry};
 use bson_leaves::Entries;
 use bson_met::{Elements, Extended, Items, Met, Reading, Step, Value, refused};
 use bson_shape::{Form, Leaf};
+use bson_values::{Cause, Text, Wrapper};
 use bson_wrapped::{data, read_body};
 use std::alloc::Global;
 

@@ -1,10 +1,10 @@
 -- What a value is made into, by its datum.
 use Rattle.std.proofs.Common.{◌≡◌, Result, Ok, Err, ap, ◌∙◌}
-use Rattle.bson_base.specs.Outcome.{◌>>=◌}
-use Rattle.bson_datum.specs.ErrorView.{write_failure}
-use Rattle.bson_datum.specs.Refusal.{WriteFault, Failure, no_memory, bare, placed}
-use Rattle.bson_datum.specs.Value.{Value}
-use Rattle.bson_datum.specs.declared.ser.Error.{Error}
+use Rattle.bson_kinds.specs.Outcome.{◌>>=◌}
+use Rattle.bson_values.specs.ErrorView.{write_failure}
+use Rattle.bson_values.specs.Refusal.{WriteFault, Failure, no_memory, bare, placed}
+use Rattle.bson_values.specs.Value.{Value}
+use Rattle.bson_values.specs.declared.ser.Error.{Error}
 use Rattle.bson_ser_tree.specs.Answers as tree
 use Rattle.bson_traits.specs.Answers.{Writing, FailsAs, Writes}
 

@@ -9,9 +9,11 @@ ghost use Rattle.bson_traits.specs.Answers.{Reads};
 ghost use Rattle.bson_traits.specs.ShapeOf.{read_typed};
 
 use bson_base::{Bson, Document};
-use bson_datum::{Datum, Shape, de};
+use bson_datum::Datum;
 use bson_de_tree::{DeserializerOptions, from_bson_at, from_bson_with_options_at};
+use bson_shape::Shape;
 use bson_traits::{Deserialize, shape_of};
+use bson_values::de;
 use std::alloc::Global;
 
 /// The value of a type that a BSON value is: what the type makes of the datum that is read at its shape, for a reader who is human.

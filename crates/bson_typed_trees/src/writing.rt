@@ -1,17 +1,17 @@
 ghost use Rattle.std.specs.Prelude.{true, unwrap_or};
 ghost use Rattle.bson_base.specs.BsonView.{tree_of, pairs_of};
-ghost use Rattle.bson_base.specs.Outcome.{◌>>=◌ as and_then};
+ghost use Rattle.bson_kinds.specs.Outcome.{◌>>=◌ as and_then};
 ghost use Rattle.bson_tree_laws.specs.TreeSpell.{tree_whole};
 ghost use Rattle.bson_ser_tree.specs.Answers.{with_paths, without_paths, document_whole};
 ghost use Rattle.bson_traits.specs.Answers.{Writes};
 
 use bson_base::{Bson, Document};
-use bson_datum::ser;
 use bson_ser_tree::{
     SerializerOptions, to_bson_at, to_bson_with_options_at, to_document_at,
     to_document_with_options_at,
 };
 use bson_traits::Serialize;
+use bson_values::ser;
 use std::alloc::Global;
 
 /// The BSON value that a value is: that of its datum, in its readable form.

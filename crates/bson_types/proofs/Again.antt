@@ -1,10 +1,10 @@
 -- What was written of a value is read back.
 use Rattle.std.proofs.Common.{◌≡◌, Ok, ap, ◌∙◌, subst}
-use Rattle.bson_base.specs.Outcome.{◌>>=◌}
+use Rattle.bson_kinds.specs.Outcome.{◌>>=◌}
 use Rattle.bson_base.specs.Tree.{Tree, enc}
 use Rattle.bson_shape.specs.Form.{Form}
 use Rattle.bson_shape.specs.Makers.{IsShape}
-use Rattle.bson_datum.specs.Value.{Value}
+use Rattle.bson_values.specs.Value.{Value}
 use Rattle.bson_laws.specs.Means.{norm}
 use Rattle.bson_laws.specs.Reads.{reads_document}
 use Rattle.bson_traits.specs.Answers.{Reading, Writing}

@@ -1,16 +1,16 @@
 -- The bytes that a datum is written as pass the test of their envelope.
 use Rattle.std.proofs.Common.{◌≡◌, ◌≤◌, ℕ, [], length, Bool, true, false, Option, None, Some, Ok, refl, sym, subst, ◌∙◌, arith}
 use Rattle.std.specs.Str.{bytes_eq}
-use Rattle.bson_base.specs.Outcome.{result_map}
-use Rattle.bson_base.specs.Reserved.{reserved_kind}
+use Rattle.bson_kinds.specs.Outcome.{result_map}
+use Rattle.bson_kinds.specs.Reserved.{reserved_kind}
 use Rattle.bson_base.specs.Sound.{max_bytes, max_levels}
-use Rattle.bson_base.specs.Text.{Bytes, Utf8}
+use Rattle.bson_kinds.specs.Text.{Bytes, Utf8}
 use Rattle.bson_base.specs.Tree.{Tree, array, document, raw, Pairs, kind, enc}
-use Rattle.bson_base.specs.declared.element_type.ElementType.{ElementType}
-use Rattle.bson_base.specs.declared.element_type.ElementType.TheVariants.{EmbeddedDocument}
-use Rattle.bson_base.proofs.Outcomes.{map_ok}
+use Rattle.bson_kinds.specs.declared.element_type.ElementType.{ElementType}
+use Rattle.bson_kinds.specs.declared.element_type.ElementType.TheVariants.{EmbeddedDocument}
+use Rattle.bson_kinds.proofs.Outcomes.{map_ok}
 use Rattle.bson_rawdoc.specs.Envelope.{envelope}
-use Rattle.bson_datum.specs.Value.{IntegerType, i8, written_as, Value, integer, some, newtype, map, structure, newtype_variant, tuple_variant, structure_variant, raw_document, mode, FieldValues, kind_as, kind_of, readable_inside, reserved_or_document, uuid_newtype}
+use Rattle.bson_values.specs.Value.{IntegerType, i8, written_as, Value, integer, some, newtype, map, structure, newtype_variant, tuple_variant, structure_variant, raw_document, mode, FieldValues, kind_as, kind_of, readable_inside, reserved_or_document, uuid_newtype}
 use Rattle.bson_laws.specs.Unwrap.{unwrap, scoped_code}
 use Rattle.bson_laws.specs.UuidBytes.{uuid_bytes}
 use Rattle.bson_laws.specs.Spell.{Writing, at_top, enclosed_at, in_bytes, reserved_at, spell_uuid, struct_at, spell, spell_as, spell_items_as, spell_entries_as, spell_fields_as, spell_list, spell_document, size}

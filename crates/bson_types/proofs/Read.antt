@@ -1,8 +1,8 @@
 -- The answers of readers of data, without marks.
 use Rattle.std.specs.Prelude.{Result, Ok, Err}
-use Rattle.bson_datum.specs.ErrorView.{read_failure}
-use Rattle.bson_datum.specs.Refusal.{ReadFault, Failure, no_memory, bare, placed}
-use Rattle.bson_datum.specs.declared.de.Error.{Error}
+use Rattle.bson_values.specs.ErrorView.{read_failure}
+use Rattle.bson_values.specs.Refusal.{ReadFault, Failure, no_memory, bare, placed}
+use Rattle.bson_values.specs.declared.de.Error.{Error}
 use Rattle.bson_de_raw.specs.Gives as raw
 use Rattle.bson_de_raw.specs.Gives.{Gives}
 use Rattle.bson_traits.specs.Answers.{Reading, FailsAs, Reads}

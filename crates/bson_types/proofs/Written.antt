@@ -2,14 +2,14 @@
 use Rattle.std.proofs.Common.{◌≡◌, ◌<◌, ◌≤◌, inl, inr, refl, sym, subst}
 use Rattle.std.specs.Global.{Vec}
 use Rattle.std.specs.Prelude.{ℕ, Some, Result, Ok, Err, OnOk, IfOk, IfErr}
-use Rattle.bson_base.specs.Outcome.{result_map}
+use Rattle.bson_kinds.specs.Outcome.{result_map}
 use Rattle.bson_base.specs.Sound.{max_bytes, IsSound}
-use Rattle.bson_base.specs.Text.{Bytes}
+use Rattle.bson_kinds.specs.Text.{Bytes}
 use Rattle.bson_base.specs.Tree.{Tree, enc}
-use Rattle.bson_datum.specs.Refusal.{WriteFault, Failure, no_memory, bare, placed}
-use Rattle.bson_datum.specs.Value.{Value}
-use Rattle.bson_datum.specs.declared.ser.Error.{Error}
-use Rattle.bson_datum.specs.ErrorView.{write_failure}
+use Rattle.bson_values.specs.Refusal.{WriteFault, Failure, no_memory, bare, placed}
+use Rattle.bson_values.specs.Value.{Value}
+use Rattle.bson_values.specs.declared.ser.Error.{Error}
+use Rattle.bson_values.specs.ErrorView.{write_failure}
 use Rattle.bson_laws.specs.Means.{means}
 use Rattle.bson_laws.specs.Spell.{spell_document, size}
 use Rattle.bson_ser_stream.specs.Writing as stream

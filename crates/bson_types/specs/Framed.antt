@@ -1,7 +1,7 @@
 -- Values that are given by the bytes of a whole document, where they are given by the bytes of one.
 use Rattle.std.specs.Prelude.{◌≡◌, Ok}
 use Rattle.bson_rawdoc.specs.Envelope.{envelope}
-use Rattle.bson_datum.specs.Value.{Value, some, newtype, raw_document, mode}
+use Rattle.bson_values.specs.Value.{Value, some, newtype, raw_document, mode}
 
 -- the bytes pass the test of their envelope, in each form that the value has
 abbrev pub IsFramed : Value → Type 0

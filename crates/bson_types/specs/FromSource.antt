@@ -1,12 +1,12 @@
 -- What is read of a source at the shape of a type. Source: MongoDB's crate bson, version 2, `from_reader`.
 use Rattle.std.specs.Prelude.{◌≡◌, ℕ, ◌⊎◌, Option, Result, Ok, Err}
 use Rattle.std.specs.Io.KnownBytes.{Keeps}
-use Rattle.bson_base.specs.Outcome.{◌>>=◌}
-use Rattle.bson_base.specs.Text.{Bytes}
-use Rattle.bson_datum.specs.ErrorView.{read_failure}
-use Rattle.bson_datum.specs.Refusal.{ReadFault, Failure, no_memory}
-use Rattle.bson_datum.specs.Value.{Value}
-use Rattle.bson_datum.specs.declared.de.Error.{Error}
+use Rattle.bson_kinds.specs.Outcome.{◌>>=◌}
+use Rattle.bson_kinds.specs.Text.{Bytes}
+use Rattle.bson_values.specs.ErrorView.{read_failure}
+use Rattle.bson_values.specs.Refusal.{ReadFault, Failure, no_memory}
+use Rattle.bson_values.specs.Value.{Value}
+use Rattle.bson_values.specs.declared.de.Error.{Error}
 use Rattle.bson_shape.specs.Form.{Form}
 use Rattle.bson_source.specs.FromSource.{ReadsOne, read_first}
 use Rattle.bson_traits.specs.Answers.{Reading}

@@ -1,14 +1,14 @@
 -- The calls on the values of a type, by the calls on data. Source: MongoDB's crate bson, version 2, `to_vec` and `from_slice`.
 use Rattle.std.specs.Prelude.{◌≡◌, ◌<◌, ◌≤◌, ◌⊎◌, Some, Result, Ok, Err, OnOk, IfOk, IfErr}
-use Rattle.bson_base.specs.Outcome.{result_map}
+use Rattle.bson_kinds.specs.Outcome.{result_map}
 use Rattle.bson_base.specs.Sound.{max_bytes, IsSound}
-use Rattle.bson_base.specs.Text.{Bytes}
+use Rattle.bson_kinds.specs.Text.{Bytes}
 use Rattle.bson_base.specs.Tree.{Tree, enc}
 use Rattle.bson_shape.specs.Form.{Form}
-use Rattle.bson_datum.specs.Refusal.{WriteFault, Failure, no_memory}
-use Rattle.bson_datum.specs.ErrorView.{write_failure}
-use Rattle.bson_datum.specs.Value.{Value}
-use Rattle.bson_datum.specs.declared.ser.Error.{Error as WriteError}
+use Rattle.bson_values.specs.Refusal.{WriteFault, Failure, no_memory}
+use Rattle.bson_values.specs.ErrorView.{write_failure}
+use Rattle.bson_values.specs.Value.{Value}
+use Rattle.bson_values.specs.declared.ser.Error.{Error as WriteError}
 use Rattle.bson_laws.specs.Means.{means, norm}
 use Rattle.bson_laws.specs.Reads.{reads_document}
 use Rattle.bson_laws.specs.Spell.{spell_document, size}

@@ -4,9 +4,11 @@ ghost use Rattle.bson_de_raw.specs.ReadsLossy.{reads_lossy};
 ghost use Rattle.bson_traits.specs.Answers.{Reads};
 ghost use Rattle.bson_traits.specs.ShapeOf.{read_typed};
 
-use bson_datum::{Datum, Shape, de};
+use bson_datum::Datum;
 use bson_de_raw::{from_slice_at, from_slice_utf8_lossy_at};
+use bson_shape::Shape;
 use bson_traits::{Deserialize, shape_of};
+use bson_values::de;
 use std::alloc::Global;
 
 /// The value of a type that the bytes of a document are: what the type makes of the datum that is read at its shape.

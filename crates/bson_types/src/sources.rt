@@ -3,10 +3,10 @@ ghost use Rattle.bson_laws.specs.Reads.{reads_document};
 ghost use Rattle.bson_de_raw.specs.ReadsLossy.{reads_lossy};
 ghost use Rattle.bson_types.specs.FromSource.{ReadsTyped};
 
-use bson_datum::de;
 use bson_de_source::{from_reader_at, from_reader_utf8_lossy_at};
 use bson_io::Source;
 use bson_traits::{Deserialize, shape_of};
+use bson_values::de;
 use std::alloc::Global;
 
 /// The value of a type that the first document of what a source has left is: what the type makes of the datum that is read at its shape.

@@ -5,10 +5,11 @@ ghost use Rattle.bson_datum.specs.View.{view};
 ghost use Rattle.bson_types.specs.Framed.{IsFramed};
 ghost use Rattle.bson_types.specs.Typed.{WritesBytes, WritesDocument};
 
-use bson_datum::{Datum, RawDoc, ser};
+use bson_datum::{Datum, RawDoc};
 use bson_rawdoc::RawDocumentBuf;
 use bson_ser_stream::to_vec_at;
 use bson_traits::Serialize;
+use bson_values::ser;
 use std::alloc::Global;
 
 /// The bytes of the document that a value is: those of its datum.

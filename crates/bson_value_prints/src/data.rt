@@ -1,7 +1,8 @@
 // Data are copied, and errors are made, where there is memory.
 use crate::printing::{print_debug, print_text, print_whether};
-use bson_datum::{ByteStr, Cause, Datum, Entry, Field, RawArr, RawDoc, Stop, Text, de, ser};
+use bson_datum::{Datum, Entry, Field, RawArr, RawDoc};
 use bson_rawdoc::{RawArrayBuf, RawDocument, RawDocumentBuf};
+use bson_values::{ByteStr, Cause, Stop, Text, de, ser};
 use std::alloc::{AllocError, Global};
 use std::fmt::Debug;
 use std::io::Print;

@@ -2,9 +2,10 @@
 use crate::data::{fields, option};
 use crate::printing::print_debug;
 use bson_base::{Binary, BinarySubtype, Bson, Double};
-use bson_datum::{Datum, Text};
+use bson_datum::Datum;
 use bson_rawdoc::RawDocument;
 use bson_shape::{ParseError, Shape};
+use bson_values::Text;
 use std::alloc::{AllocError, Global};
 use std::io::Print;
 use std::test::Fail;

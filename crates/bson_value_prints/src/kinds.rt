@@ -1,6 +1,7 @@
 // What the raw layer reads where there is memory: an element of every kind, and a text that is mended.
 use crate::printing::print_hex;
-use bson_base::{Bson, ElementType};
+use bson_base::Bson;
+use bson_kinds::ElementType;
 use bson_rawdoc::{RawDocument, RawElement};
 use std::alloc::Global;
 use std::io::Print;

@@ -1,16 +1,16 @@
 -- Two readings whose answers, where both give one, are related. Source: serde's data model, over the node that the value is.
 use Rattle.std.proofs.Common.{◌≡◌, Bool, true, false, cond, Option, Some, None, Ok, refl, ap, sym, subst, ◌∙◌}
 use Rattle.std.specs.Str.{bytes_eq}
-use Rattle.bson_base.specs.Outcome.{◌>>=◌, result_map}
-use Rattle.bson_base.specs.Reserved.{reserved_kind}
-use Rattle.bson_base.specs.Text.{Utf8, begins_with_dollar}
-use Rattle.bson_base.specs.declared.element_type.ElementType.{ElementType}
-use Rattle.bson_base.proofs.Outcomes.{ok_is, map_ok, bind_ok}
+use Rattle.bson_kinds.specs.Outcome.{◌>>=◌, result_map}
+use Rattle.bson_kinds.specs.Reserved.{reserved_kind}
+use Rattle.bson_kinds.specs.Text.{Utf8, begins_with_dollar}
+use Rattle.bson_kinds.specs.declared.element_type.ElementType.{ElementType}
+use Rattle.bson_kinds.proofs.Outcomes.{ok_is, map_ok, bind_ok}
 use Rattle.bson_rawdoc.specs.Node.{Node}
-use Rattle.bson_datum.specs.Marked.{Marked, MarkedItems, MarkedFields, contents, item_contents, field_contents}
-use Rattle.bson_datum.specs.Refusal.{Segment, inside}
-use Rattle.bson_datum.specs.Value as value
-use Rattle.bson_datum.specs.Value.{Value, Items, Entries, FieldValues, uuid_newtype}
+use Rattle.bson_values.specs.Marked.{Marked, MarkedItems, MarkedFields, contents, item_contents, field_contents}
+use Rattle.bson_values.specs.Refusal.{Segment, inside}
+use Rattle.bson_values.specs.Value as value
+use Rattle.bson_values.specs.Value.{Value, Items, Entries, FieldValues, uuid_newtype}
 use Rattle.bson_laws.specs.Means.{key_text}
 use Rattle.bson_laws.specs.Judged.{Reading, judged}
 use Rattle.bson_laws.proofs.Sizes.{inside_ok}

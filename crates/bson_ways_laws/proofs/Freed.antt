@@ -1,15 +1,15 @@
 -- A value that is spelled as a tree without keys that begin with `$` has none itself.
 use Rattle.std.proofs.Common.{◌≡◌, ℕ, suc, [], Bool, true, false, cond, Option, Some, None, Ok, sym, subst}
 use Rattle.std.specs.Str.{bytes_eq}
-use Rattle.bson_base.specs.Outcome.{◌>>=◌}
-use Rattle.bson_base.specs.Reserved.{reserved_kind}
+use Rattle.bson_kinds.specs.Outcome.{◌>>=◌}
+use Rattle.bson_kinds.specs.Reserved.{reserved_kind}
 use Rattle.bson_base.specs.Tree as tree
 use Rattle.bson_base.specs.Tree.{Tree, document, array, Pairs, pair, Trees}
-use Rattle.bson_base.specs.declared.element_type.ElementType.{ElementType}
-use Rattle.bson_base.proofs.Outcomes.{bind_ok}
-use Rattle.bson_datum.specs.Refusal.{at_index, under, under_index}
-use Rattle.bson_datum.specs.Value as value
-use Rattle.bson_datum.specs.Value.{Value, Items, Entries, FieldValues, uuid_newtype, readable_inside}
+use Rattle.bson_kinds.specs.declared.element_type.ElementType.{ElementType}
+use Rattle.bson_kinds.proofs.Outcomes.{bind_ok}
+use Rattle.bson_values.specs.Refusal.{at_index, under, under_index}
+use Rattle.bson_values.specs.Value as value
+use Rattle.bson_values.specs.Value.{Value, Items, Entries, FieldValues, uuid_newtype, readable_inside}
 use Rattle.bson_laws.specs.Unwrap.{unwrap, scoped_code}
 use Rattle.bson_laws.specs.UuidBytes.{uuid_bytes}
 use Rattle.bson_laws.specs.Spell.{Writing, spell_uuid, spell_key, named, enclosed_at, struct_at, reserved_at, spell_as, spell_items_as, spell_entries_as, spell_fields_as, spell_list}

@@ -2,21 +2,21 @@
 use Rattle.std.proofs.Common.{◌≡◌, ℕ, ℤ, zero, suc, Bool, true, false, cond, Option, Some, Ok, refl, ap, sym, subst, ◌∙◌}
 use Rattle.std.specs.Prelude.{encode_utf8, ◌||◌}
 use Rattle.std.specs.Str.{bytes_eq}
-use Rattle.bson_base.specs.Outcome.{◌>>=◌}
-use Rattle.bson_base.specs.Reserved.{reserved_kind}
+use Rattle.bson_kinds.specs.Outcome.{◌>>=◌}
+use Rattle.bson_kinds.specs.Reserved.{reserved_kind}
 use Rattle.bson_base.specs.Sound.{Lacks}
-use Rattle.bson_base.specs.Text.{Bytes, Utf8}
+use Rattle.bson_kinds.specs.Text.{Bytes, Utf8}
 use Rattle.bson_base.specs.Tree as tree
 use Rattle.bson_base.specs.Tree.{Tree, document, array, Pairs, no_pairs, pair, Trees, no_trees}
-use Rattle.bson_base.specs.declared.element_type.ElementType.{ElementType}
-use Rattle.bson_base.specs.declared.element_type.ElementType.TheVariants.{Int32, Int64}
-use Rattle.bson_base.proofs.Outcomes.{some_is, bind_ok}
+use Rattle.bson_kinds.specs.declared.element_type.ElementType.{ElementType}
+use Rattle.bson_kinds.specs.declared.element_type.ElementType.TheVariants.{Int32, Int64}
+use Rattle.bson_kinds.proofs.Outcomes.{some_is, bind_ok}
 use Rattle.bson_shape.specs.Form.{Form, leaf, optional, lossy, human_readable, by_mode, sequence, newtype, unit_structure, map, tuple, tuple_structure, structure, enumeration, definitions, Fields, no_fields, field, Parts, no_parts, part, Content, newtype_content, tuple_content, struct_content, Variants, no_variants, variant}
 use Rattle.bson_shape.specs.Makers.{has_name, field_names, repeats, is_reserved_newtype}
-use Rattle.bson_datum.specs.Same.{same}
-use Rattle.bson_datum.specs.Refusal.{at_index, under, under_index}
-use Rattle.bson_datum.specs.Value as value
-use Rattle.bson_datum.specs.Value.{Value, Items, Entries, FieldValues, i32, i64, written_as}
+use Rattle.bson_values.specs.Same.{same}
+use Rattle.bson_values.specs.Refusal.{at_index, under, under_index}
+use Rattle.bson_values.specs.Value as value
+use Rattle.bson_values.specs.Value.{Value, Items, Entries, FieldValues, i32, i64, written_as}
 use Rattle.bson_laws.specs.Datum.{itself, datum, uuid_datum, pair_data, tree_data}
 use Rattle.bson_laws.specs.Leaves.{LeafKind, anything, ignored, booleans, numbers, doubles, characters, texts, byte_strings, byte_buffers, units, ExtendedLeaf, object_ids, uuids, of_kind, trees, documents, extended_values, raw_documents, raw_arrays, raw_values, leaf_kind}
 use Rattle.bson_laws.specs.Means.{key_text}

@@ -3,19 +3,19 @@ use Rattle.std.proofs.Common.{◌≡◌, ℕ, suc, [], ◌∷◌, Bool, true, fa
 use Rattle.std.specs.Prelude.{◌&&◌, List}
 use Rattle.std.specs.Str.{bytes_eq, chars}
 use Rattle.std.proofs.lemmas.Slice.Eq.{bytes_eq-Decides}
-use Rattle.bson_base.specs.Outcome.{◌>>=◌, result_map}
-use Rattle.bson_base.specs.Reserved.{Reserved, reserved_names, kind_in, reserved_kind}
-use Rattle.bson_base.specs.Text.{Utf8, begins_with_dollar}
-use Rattle.bson_base.proofs.Outcomes.{some_is, ok_is}
+use Rattle.bson_kinds.specs.Outcome.{◌>>=◌, result_map}
+use Rattle.bson_kinds.specs.Reserved.{Reserved, reserved_names, kind_in, reserved_kind}
+use Rattle.bson_kinds.specs.Text.{Utf8, begins_with_dollar}
+use Rattle.bson_kinds.proofs.Outcomes.{some_is, ok_is}
 use Rattle.bson_rawdoc.specs.Node.{Node, double, string, document, array, bytes, boolean, null, int32, int64, extended, too_deep, Nodes, ended, faulty, then_node, mended}
 use Rattle.bson_rawdoc.specs.Piece.{Piece, made}
 use Rattle.bson_shape.specs.Form.{UnknownFields, dropped, denied, Form, leaf, optional, lossy, human_readable, by_mode, sequence, newtype, unit_structure, map, tuple, tuple_structure, structure, enumeration, reference, definitions, Fields, no_fields, field, Parts, no_parts, part, Content, unit_content, newtype_content, tuple_content, struct_content, Variants, no_variants, variant}
-use Rattle.bson_datum.specs.Value as value
-use Rattle.bson_datum.specs.Value.{Value, uuid_newtype, i32, i64}
-use Rattle.bson_datum.specs.Marked.{Marked, MarkedEntries, MarkedFields, contents, entry_contents, field_contents}
-use Rattle.bson_datum.specs.Same.{same}
-use Rattle.bson_datum.specs.Cause.{not_borrowed, unknown_reference}
-use Rattle.bson_datum.specs.Refusal.{at_key, at_index, under, under_index}
+use Rattle.bson_values.specs.Value as value
+use Rattle.bson_values.specs.Value.{Value, uuid_newtype, i32, i64}
+use Rattle.bson_values.specs.Marked.{Marked, MarkedEntries, MarkedFields, contents, entry_contents, field_contents}
+use Rattle.bson_values.specs.Same.{same}
+use Rattle.bson_values.specs.Cause.{not_borrowed, unknown_reference}
+use Rattle.bson_values.specs.Refusal.{at_key, at_index, under, under_index}
 use Rattle.bson_laws.specs.Leaves.{LeafKind, anything, ignored, booleans, numbers, doubles, characters, texts, byte_strings, byte_buffers, units, extended_values, raw_documents, raw_arrays, raw_values, leaf_kind}
 use Rattle.bson_laws.specs.Means.{key_text}
 use Rattle.bson_laws.specs.Variants.{content_of}

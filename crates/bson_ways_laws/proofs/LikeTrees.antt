@@ -1,16 +1,16 @@
 -- Values that are alike are the same trees.
 use Rattle.std.proofs.Common.{◌≡◌, ℕ, suc, Ok, refl, ap, sym, subst, ◌∙◌}
 use Rattle.uuid.specs.Text.{parsed}
-use Rattle.bson_base.specs.Outcome.{◌>>=◌, result_map}
+use Rattle.bson_kinds.specs.Outcome.{◌>>=◌, result_map}
 use Rattle.bson_base.specs.Sorted.{sorted}
 use Rattle.bson_base.specs.Tree as tree
 use Rattle.bson_base.specs.Tree.{Tree, Pairs, no_pairs, no_trees}
-use Rattle.bson_base.specs.declared.element_type.ElementType.TheVariants as kinds
+use Rattle.bson_kinds.specs.declared.element_type.ElementType.TheVariants as kinds
 use Rattle.bson_rawdoc.specs.Node.{Node, double, string, document, array, bytes, boolean, null, int32, int64, extended, too_deep, Extended, binary, undefined, object_id, date_time, regular_expression, db_pointer, javascript_code, symbol, javascript_code_with_scope, timestamp, decimal128, max_key, min_key, Nodes, ended, then_node}
 use Rattle.bson_rawdoc.specs.Piece.{Piece, made}
-use Rattle.bson_datum.specs.Marked.{contents}
-use Rattle.bson_datum.specs.Refusal.{at_key, at_index, under, under_index}
-use Rattle.bson_datum.specs.declared.wrapper.Wrapper.TheVariants.{Oid}
+use Rattle.bson_values.specs.Marked.{contents}
+use Rattle.bson_values.specs.Refusal.{at_key, at_index, under, under_index}
+use Rattle.bson_values.specs.declared.wrapper.Wrapper.TheVariants.{Oid}
 use Rattle.bson_laws.specs.Datum.{datum, uuid_datum}
 use Rattle.bson_laws.specs.Judged.{judged, scope_key}
 use Rattle.bson_laws.specs.Leaves.{ExtendedLeaf, object_ids, uuids, of_kind, trees, documents}

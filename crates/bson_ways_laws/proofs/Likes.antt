@@ -2,13 +2,13 @@
 -- of the first is UTF-8, so that it stays as it is where texts are mended.
 use Rattle.std.proofs.Common.{◌≡◌, ℕ, suc, [], ◌∷◌, Bool, true, false, cond, Ok, refl, ap, sym, subst, ◌∙◌}
 use Rattle.std.specs.Str.{is_utf8}
-use Rattle.bson_base.specs.Outcome.{◌>>=◌, result_map}
+use Rattle.bson_kinds.specs.Outcome.{◌>>=◌, result_map}
 use Rattle.bson_base.specs.Sorted.{sorted}
-use Rattle.bson_base.proofs.Outcomes.{ok_is}
+use Rattle.bson_kinds.proofs.Outcomes.{ok_is}
 use Rattle.bson_rawdoc.specs.Node.{Node, double, string, document, array, bytes, boolean, null, int32, int64, extended, too_deep, Extended, binary, undefined, object_id, date_time, regular_expression, db_pointer, javascript_code, symbol, javascript_code_with_scope, timestamp, decimal128, max_key, min_key, Nodes, ended, then_node, opened, mended, mended_text, mended_value, mended_nodes}
 use Rattle.bson_rawdoc.specs.Piece.{Piece, made}
-use Rattle.bson_datum.specs.Cause.{not_borrowed, not_utf8}
-use Rattle.bson_datum.specs.Refusal.{at_index, under_index}
+use Rattle.bson_values.specs.Cause.{not_borrowed, not_utf8}
+use Rattle.bson_values.specs.Refusal.{at_index, under_index}
 use Rattle.bson_laws.specs.Judged.{refused, judged}
 use Rattle.bson_laws.specs.Taken.{boolean_of, integer_of, double_of, document_of, array_of, owned_under_mark, text_of, borrow, borrow_or_own, as_text, as_byte, reads_bytes, buffer_of}
 use Rattle.bson_laws.proofs.MendedTexts.{mended_whole, whole_mended}

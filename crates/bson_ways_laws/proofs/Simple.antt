@@ -1,20 +1,20 @@
 -- At shapes of structs, sequences, integers, booleans and strings one way takes a document exactly where the other does.
 use Rattle.std.proofs.Common.{◌≡◌, false, None, Result, Ok, Err, refl, ap, sym, ◌∙◌}
 use Rattle.bson_base.specs.Encoded.{encode_fault}
-use Rattle.bson_base.specs.Outcome.{result_map}
+use Rattle.bson_kinds.specs.Outcome.{result_map}
 use Rattle.bson_base.specs.Sound.{IsDocument, max_levels}
-use Rattle.bson_base.specs.Text.{Bytes, AreBytes}
+use Rattle.bson_kinds.specs.Text.{Bytes, AreBytes}
 use Rattle.bson_base.specs.Tree as tree
 use Rattle.bson_base.specs.Tree.{Tree, document, Pairs, kind}
-use Rattle.bson_base.specs.declared.element_type.ElementType.TheVariants.{EmbeddedDocument}
+use Rattle.bson_kinds.specs.declared.element_type.ElementType.TheVariants.{EmbeddedDocument}
 use Rattle.bson_rawdoc.specs.DocumentTree.{document_pairs}
 use Rattle.bson_rawdoc.specs.Envelope.{envelope}
 use Rattle.bson_rawdoc.specs.Node.{from_input}
 use Rattle.bson_shape.specs.Form.{Form, leaf, sequence, structure, reference, definitions, Fields, no_fields, field}
 use Rattle.bson_shape.specs.Makers.{IsShape}
 use Rattle.bson_rawdoc.specs.declared.raw.Error.{Error}
-use Rattle.bson_datum.specs.Marked.{Marked, contents}
-use Rattle.bson_datum.specs.Value.{Value, kind_of}
+use Rattle.bson_values.specs.Marked.{Marked, contents}
+use Rattle.bson_values.specs.Value.{Value, kind_of}
 use Rattle.bson_laws.specs.declared.origin.Origin.TheVariants as origins
 use Rattle.bson_laws.specs.Judged.{Reading}
 use Rattle.bson_laws.specs.Leaves.{LeafKind, booleans, numbers, texts, leaf_kind}
@@ -32,7 +32,7 @@ use Rattle.bson_laws.proofs.Sizes.{spell_kind}
 use Rattle.bson_laws.proofs.Tame.{IsTame}
 use Rattle.bson_laws.proofs.TameBytes.{seen_tame}
 use Rattle.bson_tree_laws.specs.TreeSpell.{tree_spell, tree_whole}
-use Rattle.bson_base.proofs.Outcomes.{ok_is}
+use Rattle.bson_kinds.proofs.Outcomes.{ok_is}
 use Rattle.bson_ways_laws.specs.Simple.{IsSimpleLeaf, IsSimple, AreSimple, AreDefinitionsSimple}
 use Rattle.bson_ways_laws.specs.Ways.{IsBuilt, SuitsBothWays, FieldsSuitBothWays, DefinitionsSuitBothWays, HasFreeInput}
 use Rattle.bson_ways_laws.proofs.QuietBytes.{bytes_quiet}

@@ -3,23 +3,23 @@ use Rattle.std.proofs.Common.{◌≡◌, ℕ, ℤ, suc, Bool, true, false, cond,
 use Rattle.std.specs.Prelude.{◌||◌, is_some}
 use Rattle.std.specs.Str.{bytes_eq}
 use Rattle.bson_base.specs.Encoded.{EncodeFault, key_zero, or_else, zero_fault, encode_fault, pairs_encode_fault, trees_encode_fault}
-use Rattle.bson_base.specs.Outcome.{◌>>=◌, result_map}
+use Rattle.bson_kinds.specs.Outcome.{◌>>=◌, result_map}
 use Rattle.bson_base.specs.Pairs.{put}
-use Rattle.bson_base.specs.Reserved.{reserved_kind}
+use Rattle.bson_kinds.specs.Reserved.{reserved_kind}
 use Rattle.bson_base.specs.Sound.{Lacks}
-use Rattle.bson_base.specs.Text.{Utf8, has_zero}
+use Rattle.bson_kinds.specs.Text.{Utf8, has_zero}
 use Rattle.bson_base.specs.Tree as tree
 use Rattle.bson_base.specs.Tree.{Tree, document, array, Pairs, no_pairs, pair, Trees, no_trees}
-use Rattle.bson_base.specs.declared.element_type.ElementType.{ElementType}
-use Rattle.bson_base.specs.declared.element_type.ElementType.TheVariants.{Int32}
-use Rattle.bson_base.proofs.Outcomes.{bind_ok}
+use Rattle.bson_kinds.specs.declared.element_type.ElementType.{ElementType}
+use Rattle.bson_kinds.specs.declared.element_type.ElementType.TheVariants.{Int32}
+use Rattle.bson_kinds.proofs.Outcomes.{bind_ok}
 use Rattle.bson_rawdoc.specs.Node.{Sight}
 use Rattle.bson_tree_laws.proofs.Wraps.{kept}
 use Rattle.bson_shape.specs.Form.{Form, leaf, sequence, structure, reference, definitions, Fields, no_fields, field}
 use Rattle.bson_shape.specs.Makers.{has_name, field_names, repeats}
-use Rattle.bson_datum.specs.Refusal.{here, invalid_cstring, at_index, under, under_index}
-use Rattle.bson_datum.specs.Value as value
-use Rattle.bson_datum.specs.Value.{Value, Items, FieldValues, written_as}
+use Rattle.bson_values.specs.Refusal.{here, invalid_cstring, at_index, under, under_index}
+use Rattle.bson_values.specs.Value as value
+use Rattle.bson_values.specs.Value.{Value, Items, FieldValues, written_as}
 use Rattle.bson_laws.specs.Leaves.{LeafKind, booleans, numbers, texts, leaf_kind}
 use Rattle.bson_laws.specs.Spell.{spell_number, named, enclosed_at, spell, spell_items, spell_fields}
 use Rattle.bson_laws.proofs.Free.{free_struct}

@@ -2,16 +2,16 @@
 use Rattle.std.proofs.Common.{◌≡◌, ℕ, suc, [], ◌∷◌, Bool, true, false, cond, Option, Some, None, Ok, Err, refl, ap, sym, subst, ◌∙◌}
 use Rattle.std.specs.Str.{bytes_eq, is_utf8}
 use Rattle.std.proofs.lemmas.Slice.Eq.{bytes_eq-Decides}
-use Rattle.bson_base.specs.Outcome.{◌>>=◌, result_map}
-use Rattle.bson_base.specs.Text.{Utf8}
+use Rattle.bson_kinds.specs.Outcome.{◌>>=◌, result_map}
+use Rattle.bson_kinds.specs.Text.{Utf8}
 use Rattle.bson_rawdoc.specs.Node.{Node, double, string, document, array, bytes, boolean, null, int32, int64, extended, broken, too_deep, Extended, javascript_code_with_scope, Nodes, ended, faulty, then_node, extended_fault}
 use Rattle.bson_rawdoc.specs.Piece.{Piece, made}
 use Rattle.bson_rawdoc.specs.declared.raw.Error.TheVariants.{NotUtf8}
 use Rattle.bson_shape.specs.Form.{UnknownFields, dropped, denied, Form, leaf, sequence, structure, reference, definitions, Fields, no_fields, field}
-use Rattle.bson_datum.specs.Value as value
-use Rattle.bson_datum.specs.Marked.{Marked, MarkedItems, MarkedFields, contents, item_contents, field_contents}
-use Rattle.bson_datum.specs.Cause.{not_utf8, unknown_reference}
-use Rattle.bson_datum.specs.Refusal.{Segment, at_key, at_index, inside, under, under_index}
+use Rattle.bson_values.specs.Value as value
+use Rattle.bson_values.specs.Marked.{Marked, MarkedItems, MarkedFields, contents, item_contents, field_contents}
+use Rattle.bson_values.specs.Cause.{not_utf8, unknown_reference}
+use Rattle.bson_values.specs.Refusal.{Segment, at_key, at_index, inside, under, under_index}
 use Rattle.bson_laws.specs.Leaves.{LeafKind, booleans, numbers, texts, leaf_kind}
 use Rattle.bson_laws.specs.Judged.{Reading, refused, scope_key, faultless, judged, at_its_key, at_its_index, passes, pass_scope, pass_nodes, ignores}
 use Rattle.bson_laws.specs.Taken.{boolean_of, integer_of, array_of, owned_under_mark, text_of, as_text, read_integer}

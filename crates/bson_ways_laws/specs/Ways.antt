@@ -1,10 +1,10 @@
 -- What the laws of two ways ask of a shape, of the document that is read, and of the one that is written. Source: MongoDB's extended JSON, version 2, whose keys begin with `$`.
 use Rattle.std.specs.Prelude.{◌≡◌, false, Some}
 use Rattle.bson_base.specs.Sound.{max_levels}
-use Rattle.bson_base.specs.Text.{Bytes, Utf8, begins_with_dollar}
+use Rattle.bson_kinds.specs.Text.{Bytes, Utf8, begins_with_dollar}
 use Rattle.bson_base.specs.Tree as tree
 use Rattle.bson_base.specs.Tree.{Tree, document, array, javascript_code_with_scope, Pairs, no_pairs, pair, Trees, no_trees}
-use Rattle.bson_base.specs.declared.element_type.ElementType.TheVariants.{EmbeddedDocument}
+use Rattle.bson_kinds.specs.declared.element_type.ElementType.TheVariants.{EmbeddedDocument}
 use Rattle.bson_rawdoc.specs.Node.{node_in}
 use Rattle.bson_shape.specs.Form.{Form, leaf, optional, lossy, human_readable, by_mode, sequence, newtype, unit_structure, map, tuple, tuple_structure, structure, enumeration, reference, definitions, Fields, no_fields, field, Parts, no_parts, part, Content, unit_content, newtype_content, tuple_content, struct_content, Variants, no_variants, variant}
 use Rattle.bson_laws.specs.Leaves.{LeafKind, raw_documents, raw_arrays, raw_values, leaf_kind}

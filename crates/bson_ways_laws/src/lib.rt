@@ -7,13 +7,13 @@
 ghost use Rattle.std.specs.Prelude.{◌≡◌, false, None, Ok};
 ghost use Rattle.bson_base.specs.Encoded.{encode_fault};
 ghost use Rattle.bson_base.specs.Sound.{IsDocument};
-ghost use Rattle.bson_base.specs.Text.{Bytes, AreBytes};
+ghost use Rattle.bson_kinds.specs.Text.{Bytes, AreBytes};
 ghost use Rattle.bson_base.specs.Tree.{Tree, document, Pairs};
 ghost use Rattle.bson_rawdoc.specs.DocumentTree.{document_pairs};
 ghost use Rattle.bson_rawdoc.specs.Envelope.{envelope};
 ghost use Rattle.bson_shape.specs.Form.{Form};
 ghost use Rattle.bson_shape.specs.Makers.{IsShape};
-ghost use Rattle.bson_datum.specs.Value.{Value};
+ghost use Rattle.bson_values.specs.Value.{Value};
 ghost use Rattle.bson_laws.specs.Reads.{reads_document};
 ghost use Rattle.bson_laws.specs.ReadsFrom.{reads_tree_value};
 ghost use Rattle.bson_laws.specs.Spell.{spell_document};

@@ -1,11 +1,11 @@
 -- A date that is no text.
 use Rattle.std.proofs.Common.{◌≡◌, Option, Ok, refl, ap, sym, ◌∙◌}
 use Rattle.std.specs.Prelude.{codes, option_map}
-use Rattle.bson_base.specs.Outcome.{◌>>=◌, result_map}
+use Rattle.bson_kinds.specs.Outcome.{◌>>=◌, result_map}
 use Rattle.bson_base.specs.Parsed.{integer_of_text}
 use Rattle.bson_base.specs.Tree as tree
 use Rattle.bson_rawdoc.specs.Node.{Node}
-use Rattle.bson_datum.specs.Value.{Value}
+use Rattle.bson_values.specs.Value.{Value}
 use Rattle.bson_laws.specs.Judged.{judged}
 use Rattle.bson_laws.specs.Wrapped.{Body, judging, date_body, at, with_field, text, a_field, a_text}
 use Rattle.bson_laws.proofs.Tame.{judged_is}

@@ -1,8 +1,8 @@
 -- What an element does to the slots of a struct of one field or of two.
 use Rattle.std.proofs.Common.{◌≡◌, [], ◌∷◌, true, false, cond, Ok, ap, ◌∙◌}
 use Rattle.std.specs.Str.{bytes_eq}
-use Rattle.bson_base.specs.Outcome.{◌>>=◌, result_map}
-use Rattle.bson_base.specs.Text.{Utf8}
+use Rattle.bson_kinds.specs.Outcome.{◌>>=◌, result_map}
+use Rattle.bson_kinds.specs.Text.{Utf8}
 use Rattle.bson_rawdoc.specs.Node.{Node}
 use Rattle.bson_shape.specs.Form.{dropped}
 use Rattle.bson_laws.specs.Judged.{Reading}

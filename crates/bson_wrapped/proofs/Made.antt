@@ -2,26 +2,26 @@
 use Rattle.std.proofs.Common.{◌≡◌, ℕ, zero, suc, ◌<◌, [], ◌∷◌, true, Option, Some, None, Ok, Err, refl, ap, sym, subst, ◌∙◌, arith}
 use Rattle.std.specs.Prelude.{codes}
 use Rattle.bson_base.specs.Made.{digits, base64_text}
-use Rattle.bson_base.specs.Outcome.{◌>>=◌, result_map}
-use Rattle.bson_base.specs.Text.{Bytes, Utf8}
+use Rattle.bson_kinds.specs.Outcome.{◌>>=◌, result_map}
+use Rattle.bson_kinds.specs.Text.{Bytes, Utf8}
 use Rattle.bson_base.specs.Tree as tree
 use Rattle.bson_base.specs.Tree.{Tree}
-use Rattle.bson_base.proofs.Outcomes.{some_map, map_ok}
+use Rattle.bson_kinds.proofs.Outcomes.{some_map, map_ok}
 use Rattle.bson_rawdoc.specs.Node.{Node}
 use Rattle.bson_rawdoc.specs.Piece.{made}
 use Rattle.bson_shape.specs.Form.{dropped, Form, leaf, structure, Fields}
 use Rattle.bson_shape.specs.declared.leaf.Leaf.TheVariants.{ByteBuf}
-use Rattle.bson_datum.specs.Cause.{bad_body}
-use Rattle.bson_datum.specs.ErrorView.{read_fault}
-use Rattle.bson_datum.specs.Marked.{Marked, MarkedFields, contents}
-use Rattle.bson_datum.specs.Refusal.{ReadFault, Refusal, under}
-use Rattle.bson_datum.specs.Stop.{stop_view}
-use Rattle.bson_datum.specs.Value as value
-use Rattle.bson_datum.specs.Value.{Value}
-use Rattle.bson_datum.specs.declared.de.Fault.{Fault}
-use Rattle.bson_datum.specs.declared.stop.Stop.{Stop}
-use Rattle.bson_datum.specs.declared.wrapper.Wrapper.{Wrapper}
-use Rattle.bson_datum.specs.declared.wrapper.Wrapper.TheVariants.{Symbol, NumberInt, NumberLong, NumberDouble, Uuid, NumberDecimal}
+use Rattle.bson_values.specs.Cause.{bad_body}
+use Rattle.bson_values.specs.ErrorView.{read_fault}
+use Rattle.bson_values.specs.Marked.{Marked, MarkedFields, contents}
+use Rattle.bson_values.specs.Refusal.{ReadFault, Refusal, under}
+use Rattle.bson_values.specs.Stop.{stop_view}
+use Rattle.bson_values.specs.Value as value
+use Rattle.bson_values.specs.Value.{Value}
+use Rattle.bson_values.specs.declared.de.Fault.{Fault}
+use Rattle.bson_values.specs.declared.stop.Stop.{Stop}
+use Rattle.bson_values.specs.declared.wrapper.Wrapper.{Wrapper}
+use Rattle.bson_values.specs.declared.wrapper.Wrapper.TheVariants.{Symbol, NumberInt, NumberLong, NumberDouble, Uuid, NumberDecimal}
 use Rattle.bson_laws.specs.Datum.{datum, two, wrapped, nameless}
 use Rattle.bson_laws.specs.Judged.{Reading, refused, judged}
 use Rattle.bson_laws.specs.ReadsLeaf.{no_extended}

@@ -1,12 +1,12 @@
 -- Numbers of an integer type, where they are fields.
 use Rattle.std.proofs.Common.{◌≡◌, ℤ, Bool, true, false, cond, Option, Some, None, Ok, Err, refl, ap, sym, subst, ◌∙◌}
-use Rattle.bson_base.specs.Outcome.{◌>>=◌}
+use Rattle.bson_kinds.specs.Outcome.{◌>>=◌}
 use Rattle.bson_rawdoc.specs.Node.{Node}
-use Rattle.bson_datum.specs.Cause.{out_of_range}
-use Rattle.bson_datum.specs.Marked.{Marked}
-use Rattle.bson_datum.specs.Value.{IntegerType, in_range, integer}
-use Rattle.bson_datum.specs.declared.de.Fault.{Fault}
-use Rattle.bson_datum.specs.declared.stop.Stop.{Stop}
+use Rattle.bson_values.specs.Cause.{out_of_range}
+use Rattle.bson_values.specs.Marked.{Marked}
+use Rattle.bson_values.specs.Value.{IntegerType, in_range, integer}
+use Rattle.bson_values.specs.declared.de.Fault.{Fault}
+use Rattle.bson_values.specs.declared.stop.Stop.{Stop}
 use Rattle.bson_laws.specs.Judged.{Reading, judged, refused}
 use Rattle.bson_laws.specs.Leaves.{numbers}
 use Rattle.bson_laws.specs.Taken.{integer_of, read_integer}

@@ -1,11 +1,11 @@
 -- The values of a struct's two fields, from the elements of an array by their places.
 use Rattle.std.proofs.Common.{◌≡◌, [], ◌∷◌, Option, Some, None, Ok, Err, ap, ◌∙◌}
-use Rattle.bson_base.specs.Outcome.{◌>>=◌, result_map}
+use Rattle.bson_kinds.specs.Outcome.{◌>>=◌, result_map}
 use Rattle.bson_rawdoc.specs.Node.{Nodes}
 use Rattle.bson_rawdoc.specs.Piece.{made}
-use Rattle.bson_datum.specs.Marked.{Marked, MarkedFields}
-use Rattle.bson_datum.specs.Refusal.{ReadFault, Refusal}
-use Rattle.bson_datum.specs.Value.{no_field_values, field_value}
+use Rattle.bson_values.specs.Marked.{Marked, MarkedFields}
+use Rattle.bson_values.specs.Refusal.{ReadFault, Refusal}
+use Rattle.bson_values.specs.Value.{no_field_values, field_value}
 use Rattle.bson_laws.specs.Judged.{Reading}
 use Rattle.bson_laws.specs.Slots.{Slot, reads_places}
 use Rattle.bson_met.specs.Gives.{RefusesAs}

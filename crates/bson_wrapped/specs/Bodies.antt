@@ -1,19 +1,19 @@
 -- What contracts see of the values of wrapper keys. Source: MongoDB's extended JSON, version 2.
 use Rattle.std.specs.Prelude.{Bool, true, false, Option, Some, None, option_map, option_and_then, Ok}
 use Rattle.uuid.specs.Text.{parsed}
-use Rattle.bson_base.specs.Outcome.{◌>>=◌, result_map}
+use Rattle.bson_kinds.specs.Outcome.{◌>>=◌, result_map}
 use Rattle.bson_base.specs.Parsed.{bytes_of_digits, integer_of_text}
-use Rattle.bson_base.specs.Text.{Utf8}
+use Rattle.bson_kinds.specs.Text.{Utf8}
 use Rattle.bson_base.specs.Tree as tree
 use Rattle.bson_base.specs.Tree.{Tree}
 use Rattle.bson_rawdoc.specs.Node.{Node}
 use Rattle.bson_rawdoc.specs.Piece.{made}
-use Rattle.bson_datum.specs.Marked.{Marked}
+use Rattle.bson_values.specs.Marked.{Marked}
 use Rattle.bson_datum.specs.MarkedView.{marked}
-use Rattle.bson_datum.specs.Refusal.{under}
+use Rattle.bson_values.specs.Refusal.{under}
 use Rattle.bson_datum.specs.declared.datum.Datum.{Datum}
-use Rattle.bson_datum.specs.declared.wrapper.Wrapper.{Wrapper}
-use Rattle.bson_datum.specs.declared.wrapper.Wrapper.TheVariants.{Symbol, NumberInt, NumberLong, NumberDouble, Uuid, NumberDecimal}
+use Rattle.bson_values.specs.declared.wrapper.Wrapper.{Wrapper}
+use Rattle.bson_values.specs.declared.wrapper.Wrapper.TheVariants.{Symbol, NumberInt, NumberLong, NumberDouble, Uuid, NumberDecimal}
 use Rattle.bson_laws.specs.Datum.{datum}
 use Rattle.bson_laws.specs.Judged.{Reading}
 use Rattle.bson_laws.specs.Trees.{or_bad}

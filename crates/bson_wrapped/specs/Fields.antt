@@ -1,10 +1,10 @@
 -- What contracts see of the fields of a struct that are read. Source: MongoDB's extended JSON, version 2.
 use Rattle.std.specs.Prelude.{[], ◌∷◌, Option, None}
-use Rattle.bson_base.specs.Text.{Utf8}
+use Rattle.bson_kinds.specs.Text.{Utf8}
 use Rattle.bson_rawdoc.specs.Node.{Node}
 use Rattle.bson_shape.specs.Form.{Form}
-use Rattle.bson_datum.specs.Marked.{Marked}
-use Rattle.bson_datum.specs.Refusal.{under}
+use Rattle.bson_values.specs.Marked.{Marked}
+use Rattle.bson_values.specs.Refusal.{under}
 use Rattle.bson_laws.specs.Judged.{Reading, ignores}
 use Rattle.bson_laws.specs.ReadsLeaf.{no_extended}
 use Rattle.bson_laws.specs.Shaped.{reads}

@@ -1,7 +1,7 @@
 // Binaries that documents with a wrapper key stand for.
 ghost use Rattle.std.specs.Prelude.{option_map};
 ghost use Rattle.bson_base.specs.Tree as tree;
-ghost use Rattle.bson_datum.specs.Refusal.{under};
+ghost use Rattle.bson_values.specs.Refusal.{under};
 ghost use Rattle.bson_laws.specs.Wrapped.{meaning};
 ghost use Rattle.bson_met.specs.Gives.{Reaches};
 ghost use Rattle.bson_met.specs.PieceView.{str_piece};
@@ -10,9 +10,9 @@ ghost use Rattle.bson_wrapped.specs.Bodies.{body_of, valid_tree};
 use crate::fields::two_fields;
 use crate::values::binary_of_texts;
 use bson_base::{BinarySubtype, Uuid};
-use bson_datum::{Cause, Wrapper};
 use bson_met::{Met, Reading, Step, refused};
 use bson_texts::own_text;
+use bson_values::{Cause, Wrapper};
 use std::alloc::Global;
 
 /// The binary that a document with the key `$binary` stands for, read from the value at the key.

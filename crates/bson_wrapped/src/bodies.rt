@@ -13,9 +13,10 @@ use crate::values::{
 };
 use crate::{binaries, data};
 use bson_base::Timestamp;
-use bson_datum::{Cause, Datum, Wrapper};
+use bson_datum::Datum;
 use bson_met::{Met, Reading, Step, Value, refused};
 use bson_texts::{buffer, own_text};
+use bson_values::{Cause, Wrapper};
 use std::alloc::Global;
 
 /// The value of a document whose first wrapper key is this one, read from the value at the key.

@@ -5,8 +5,9 @@ ghost use Rattle.bson_base.specs.Instant.{millis};
 ghost use Rattle.bson_base.specs.Sorted.{sorted};
 ghost use Rattle.bson_base.specs.Tree as tree;
 ghost use Rattle.bson_rawdoc.specs.Piece.{made};
-ghost use Rattle.bson_datum.specs.MarkedView.{marked, text_piece};
-ghost use Rattle.bson_datum.specs.Value as values;
+ghost use Rattle.bson_values.specs.Pieces.{text_piece};
+ghost use Rattle.bson_datum.specs.MarkedView.{marked};
+ghost use Rattle.bson_values.specs.Value as values;
 ghost use Rattle.bson_laws.specs.Datum.{datum, uuid_datum, one, two, wrapped};
 ghost use Rattle.bson_met.specs.PieceView.{met_text};
 ghost use Rattle.bson_slots.specs.FieldSlots.{fields_marked};
@@ -14,9 +15,10 @@ ghost use Rattle.bson_texts.specs.ListsMarked.{entries_marked};
 ghost use Rattle.bson_wrapped.specs.Data.{scoped_datum};
 
 use bson_base::{BinarySubtype, DateTime, Decimal128, ObjectId, Regex, Timestamp, Uuid};
-use bson_datum::{ByteStr, Datum, Entry, Field, Text};
+use bson_datum::{Datum, Entry, Field};
 use bson_met::{MetBytes, MetText};
 use bson_slots::{named_field, named_struct};
+use bson_values::{ByteStr, Text};
 use std::alloc::{AllocError, Global};
 
 /// A text.

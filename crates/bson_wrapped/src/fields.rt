@@ -1,12 +1,12 @@
 // Structs of one field and of two, whose values are not kept as data.
 ghost use Rattle.std.specs.Prelude.{◌≡◌, [], None, option_map, pos, string_bytes, codes, IfOk};
-ghost use Rattle.bson_base.specs.Text.{Utf8};
+ghost use Rattle.bson_kinds.specs.Text.{Utf8};
 ghost use Rattle.bson_rawdoc.specs.Piece.{Piece, made};
 ghost use Rattle.bson_shape.specs.Form as forms;
 ghost use Rattle.bson_shape.specs.Form.{Form};
 ghost use Rattle.bson_shape.specs.declared.leaf.Leaf.TheVariants as leaves;
-ghost use Rattle.bson_datum.specs.Marked.{Marked};
-ghost use Rattle.bson_datum.specs.Value as values;
+ghost use Rattle.bson_values.specs.Marked.{Marked};
+ghost use Rattle.bson_values.specs.Value as values;
 ghost use Rattle.bson_laws.specs.Datum.{one, two};
 ghost use Rattle.bson_laws.specs.Leaves.{numbers};
 ghost use Rattle.bson_laws.specs.ReadsLeaf.{no_extended};
@@ -21,10 +21,10 @@ ghost use Rattle.bson_slots.specs.FieldsRead.{fields_read, fields_by_key};
 ghost use Rattle.bson_slots.specs.NextValue.{next_value, behind_first};
 ghost use Rattle.bson_wrapped.specs.Fields.{field_slot, one_slot, two_slots, drop_at};
 
-use bson_datum::Cause;
 use bson_met::{Elements, Items, Met, Reading, Step, Value, refused};
 use bson_slots::due;
 use bson_texts::{ignore, own_text};
+use bson_values::Cause;
 use std::alloc::Global;
 
 /// A value that a field has.

@@ -10,7 +10,8 @@ use crate::data;
 use base64::DecodeAllocError;
 use base64::engine::general_purpose::STANDARD;
 use bson_base::{BinarySubtype, DateTime, Double, ObjectId, Uuid, integer_of_text};
-use bson_datum::{Datum, Wrapper};
+use bson_datum::Datum;
+use bson_values::Wrapper;
 use hex::FromHex;
 use std::alloc::{AllocError, Global};
 

@@ -1,14 +1,14 @@
 -- Why a writer stops before its end. Source: this library's own errors.
 use Rattle.std.specs.Prelude.{◌≡◌, ℕ, ◌<◌, reverse, Option, Some, Result, Ok, Err, IsOk}
 use Rattle.bson_base.specs.Sound.{max_bytes}
-use Rattle.bson_datum.specs.Cause.{too_long}
-use Rattle.bson_datum.specs.Refusal.{WriteFault, unwritable, Refusal, here, Segment}
-use Rattle.bson_datum.specs.Stop as stops
-use Rattle.bson_datum.specs.Stop.{segments_out, stop_view}
-use Rattle.bson_datum.specs.ErrorView.{write_fault}
-use Rattle.bson_datum.specs.declared.stop.Refused as code
-use Rattle.bson_datum.specs.declared.stop.Stop.TheVariants.{Refused, NoMemory}
-use Rattle.bson_datum.specs.declared.ser.Fault.{Fault}
+use Rattle.bson_values.specs.Cause.{too_long}
+use Rattle.bson_values.specs.Refusal.{WriteFault, unwritable, Refusal, here, Segment}
+use Rattle.bson_values.specs.Stop as stops
+use Rattle.bson_values.specs.Stop.{segments_out, stop_view}
+use Rattle.bson_values.specs.ErrorView.{write_fault}
+use Rattle.bson_values.specs.declared.stop.Refused as code
+use Rattle.bson_values.specs.declared.stop.Stop.TheVariants.{Refused, NoMemory}
+use Rattle.bson_values.specs.declared.ser.Fault.{Fault}
 use Rattle.bson_laws.specs.Spell.{Writing}
 use Rattle.bson_writing.specs.declared.halt.Halt.{Halt}
 use Rattle.bson_writing.specs.declared.halt.Halt.TheVariants.{Stopped, TooLong}

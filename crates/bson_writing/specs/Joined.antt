@@ -1,7 +1,7 @@
 -- Parts, and others behind them. Source: serde's data model.
 use Rattle.std.specs.Prelude.{ℕ, suc}
-use Rattle.bson_base.specs.Text.{Utf8}
-use Rattle.bson_datum.specs.Value.{Value, Items, no_items, item, Entries, no_entries, entry, FieldValues, no_field_values, field_value}
+use Rattle.bson_kinds.specs.Text.{Utf8}
+use Rattle.bson_values.specs.Value.{Value, Items, no_items, item, Entries, no_entries, entry, FieldValues, no_field_values, field_value}
 
 abbrev pub items_joined : (before after : Items) → Items
 items_joined no_items ws = ws

@@ -1,12 +1,12 @@
 // Why writing stopped before its end.
 ghost use Rattle.std.specs.Prelude.{◌≡◌};
-ghost use Rattle.bson_datum.specs.Refusal.{unwritable, at_key, at_index};
-ghost use Rattle.bson_datum.specs.Stop.{IsPlaced};
-ghost use Rattle.bson_datum.specs.ErrorView.{cause_view, write_fault, write_failure};
+ghost use Rattle.bson_values.specs.Refusal.{unwritable, at_key, at_index};
+ghost use Rattle.bson_values.specs.Stop.{IsPlaced};
+ghost use Rattle.bson_values.specs.ErrorView.{cause_view, write_fault, write_failure};
 ghost use Rattle.bson_writing.specs.Halting.{halt_view, IsHereOrMemory, IsUnder};
 
-use bson_datum::ser::{Error, Fault};
-use bson_datum::{Cause, Stop};
+use bson_values::ser::{Error, Fault};
+use bson_values::{Cause, Stop};
 use std::alloc::{AllocError, Global};
 
 /// Why writing stopped before its end.

@@ -3,16 +3,17 @@ ghost use Rattle.std.specs.Prelude.{◌≡◌, encode_utf8, pos, IfOk};
 ghost use Rattle.std.specs.Option.{option_map};
 ghost use Rattle.bson_base.specs.BsonView.{tree_of};
 ghost use Rattle.bson_base.specs.Tree.{string, binary};
-ghost use Rattle.bson_datum.specs.Refusal.{invalid_cstring, invalid_document_key};
+ghost use Rattle.bson_values.specs.Refusal.{invalid_cstring, invalid_document_key};
 ghost use Rattle.bson_datum.specs.View.{view};
 ghost use Rattle.bson_laws.specs.Means.{number_of, key_text};
 ghost use Rattle.bson_laws.specs.Spell.{or_null, carried, spell_key};
 ghost use Rattle.bson_writing.specs.Halting.{Gives, IsHereOrMemory};
 
 use crate::halt::Halt;
-use bson_base::{Binary, BinarySubtype, Bson, Document, ElementType, has_zero};
+use bson_base::{Binary, BinarySubtype, Bson, Document, has_zero};
 use bson_datum::Datum;
-use bson_datum::ser::Fault;
+use bson_kinds::ElementType;
+use bson_values::ser::Fault;
 use std::alloc::{AllocError, Global};
 
 /// The text of a key of a map, borrowed by the key: it takes no memory.

@@ -3,10 +3,10 @@ use Rattle.std.specs.Prelude.{◌≡◌, refl}
 use Rattle.std.specs.Coded.{Coded, coded_ℕ, coded_ℤ, coded_bool, coded_list}
 use Rattle.std.proofs.Common.{ap, arith}
 use base.Stored.{Gv, gnil, gnum, gcons}
-use Rattle.bson_base.specs.Prover.Stored.{head, tail, num}
-use Rattle.bson_base.specs.Text.{Bytes}
-use Rattle.bson_base.specs.Kind.{byte}
-use Rattle.bson_base.specs.Prover.KindBytes.{same_byte}
+use Rattle.bson_kinds.specs.Prover.Stored.{head, tail, num}
+use Rattle.bson_kinds.specs.Text.{Bytes}
+use Rattle.bson_kinds.specs.Kind.{byte}
+use Rattle.bson_kinds.specs.Prover.KindBytes.{same_byte}
 use Rattle.bson_base.specs.Tree.{Tree, double, string, document, array, binary, undefined, object_id, boolean, date_time, null, regular_expression, db_pointer, javascript_code, symbol, javascript_code_with_scope, int32, timestamp, int64, decimal128, max_key, min_key, raw, Pairs, no_pairs, pair, Trees, no_trees, tree}
 
 abbrev coded_bytes : Coded Bytes

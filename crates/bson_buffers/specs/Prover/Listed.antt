@@ -1,8 +1,8 @@
 -- What must be written for a call that lists the refused documents.
 use Rattle.std.specs.Prelude.{◌≡◌, ◌+◌, ℕ, List, [], ◌∷◌, ◌++◌, length, take, drop, codes, string_bytes}
 use Rattle.std.specs.List.{sum_by}
-use Rattle.bson_base.specs.Text.{Bytes, Utf8}
-use Rattle.bson_datum.specs.ErrorView.{read_failure, write_failure}
+use Rattle.bson_kinds.specs.Text.{Bytes, Utf8}
+use Rattle.bson_values.specs.ErrorView.{read_failure, write_failure}
 use Rattle.bson_shape.specs.Form.{Form}
 use Rattle.bson_tree_recast.specs.declared.error.RecastError.{RecastError}
 use Rattle.bson_tree_recast.specs.declared.error.RecastError.TheVariants.{Read, Write, NoMemory}

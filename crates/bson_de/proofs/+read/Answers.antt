@@ -1,19 +1,19 @@
 use Rattle.std.proofs.Common.{rules, ◌≡◌, Ok, None, List, refl, string_bytes, ◌+◌, ◌*◌, ◌<◌, ap, sym, subst, ◌∙◌, get_or, map, arith}
 use Rattle.std.specs.Borrow.{Bor}
-use Rattle.bson_base.specs.Outcome.{◌>>=◌, result_map}
+use Rattle.bson_kinds.specs.Outcome.{◌>>=◌, result_map}
 use Rattle.bson_rawdoc.specs.Piece.{Piece, made}
 use Rattle.bson_shape.specs.Form.{dropped, denied, tuple_content, struct_content}
 use Rattle.bson_shape.specs.Makers.{has_repeat}
 use Rattle.bson_shape.specs.ShapeView.{form_view, fields_of, parts_of, variants_of, content_of, nodes, fields_nodes, parts_nodes, variants_nodes, content_nodes}
 use Rattle.bson_shape.specs.declared.shape.FieldShape.{FieldShape}
 use Rattle.bson_shape.proofs.Names.{field_names_are}
-use Rattle.bson_datum.specs.Cause.{duplicate_field}
-use Rattle.bson_datum.specs.Marked.{Marked, MarkedFields}
+use Rattle.bson_values.specs.Cause.{duplicate_field}
+use Rattle.bson_values.specs.Marked.{Marked, MarkedFields}
 use Rattle.bson_datum.specs.MarkedView.{marked}
-use Rattle.bson_datum.specs.Refusal.{at_key, under}
-use Rattle.bson_datum.specs.Value as value
-use Rattle.bson_datum.specs.declared.text.Text.TheVariants.{Owned}
-use Rattle.bson_datum.specs.Value.{no_entries}
+use Rattle.bson_values.specs.Refusal.{at_key, under}
+use Rattle.bson_values.specs.Value as value
+use Rattle.bson_values.specs.declared.text.Text.TheVariants.{Owned}
+use Rattle.bson_values.specs.Value.{no_entries}
 use Rattle.bson_laws.specs.Containers.{reads_items, reads_entries, reads_key}
 use Rattle.bson_laws.specs.FromTree.{mended_at, struct_content_at}
 use Rattle.bson_laws.specs.Judged.{Reading, judged, refused}

@@ -1,7 +1,7 @@
 use Rattle.std.proofs.Common.{◌≡◌, ◌+◌, ◌*◌, ◌<◌, ◌^◌, drop}
-use Rattle.bson_base.specs.Outcome.{result_map}
+use Rattle.bson_kinds.specs.Outcome.{result_map}
 use Rattle.bson_shape.specs.ShapeView.{form_view, content_of, fields_of, parts_of, variants_of, nodes, fields_nodes, parts_nodes, variants_nodes, content_nodes}
-use Rattle.bson_datum.specs.Value.{no_entries}
+use Rattle.bson_values.specs.Value.{no_entries}
 use Rattle.bson_laws.specs.Containers.{reads_items, reads_entries, reads_key}
 use Rattle.bson_laws.specs.ReadsFrom.{reads_for, parts_for, slots_for}
 use Rattle.bson_laws.specs.Scopes.{meanings_of, laid, laid_fields, laid_parts, laid_variants, laid_content}

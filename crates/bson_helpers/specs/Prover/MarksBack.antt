@@ -2,7 +2,7 @@
 use Rattle.std.specs.Prelude.{Ok, Err}
 use Rattle.bson_shape.specs.Form as form
 use Rattle.bson_shape.specs.Form.{Form}
-use Rattle.bson_datum.specs.Value.{Value}
+use Rattle.bson_values.specs.Value.{Value}
 use Rattle.bson_laws.proofs.Fitting.{lossy_fits}
 use Rattle.bson_traits.specs.Answers.{Reading, Writing}
 use Rattle.bson_traits.specs.Laws.{Returns}

@@ -3,20 +3,20 @@ use Rattle.std.specs.Fmt.{decimal}
 use Rattle.std.specs.Prelude.{IfSome, Option}
 use Rattle.std.proofs.lemmas.List.{take-append-drop, take_rest}
 use Rattle.bson_keys.proofs.Distinct.{distinct_last}
-use Rattle.bson_base.specs.Kind.{byte}
-use Rattle.bson_base.specs.Text.{Bytes}
+use Rattle.bson_kinds.specs.Kind.{byte}
+use Rattle.bson_kinds.specs.Text.{Bytes}
 use Rattle.bson_base.specs.Tree.{Tree, enclosed}
 use Rattle.bson_rawdoc.specs.DocumentView.{document_bytes}
 use Rattle.bson_rawdoc.specs.Envelope.{inside}
 use Rattle.bson_rawdoc.specs.Node.{inner_node, node_in, nodes_with, value_node}
 use Rattle.bson_rawdoc.specs.ValueView.{raw_value}
 use Rattle.bson_rawdoc.specs.Walk.{ended, walk_elements}
-use Rattle.bson_base.specs.declared.element_type.ElementType.TheVariants as kinds
+use Rattle.bson_kinds.specs.declared.element_type.ElementType.TheVariants as kinds
 use Rattle.bson_shape.specs.Form.{Form, sequence, structure, tuple, enumeration}
 use Rattle.bson_shape.specs.Makers.{AreDistinct}
 use Rattle.bson_shape.specs.ShapeView.{fields_of, parts_of, variants_of, content_of, nodes, fields_nodes}
 use Rattle.bson_shape.specs.declared.shape.FieldShape.{FieldShape}
-use Rattle.bson_datum.specs.Value.{no_entries}
+use Rattle.bson_values.specs.Value.{no_entries}
 use Rattle.bson_laws.specs.Scopes.{meanings_of, laid, laid_content, laid_fields, laid_parts, laid_variants}
 use Rattle.bson_laws.specs.Unrolled.{in_table, max_steps}
 use Rattle.bson_laws.proofs.Scoped.{field_fewer, part_fewer}

@@ -1,12 +1,12 @@
 use Rattle.std.proofs.Common.{◌≡◌, ◌+◌, ◌*◌, ◌-◌, ◌≤◌, ◌++◌, length, drop, List}
 use Rattle.std.specs.List.{IsDistinct}
 use Rattle.std.specs.Str.{bytes_eq}
-use Rattle.bson_base.specs.Text.{Utf8}
+use Rattle.bson_kinds.specs.Text.{Utf8}
 use Rattle.bson_keys.specs.Met.{HasKeys}
 use Rattle.bson_rawdoc.specs.Node.{ended, node_in, nodes_with}
 use Rattle.bson_rawdoc.specs.Walk.{walk_elements}
 use Rattle.bson_shape.specs.ShapeView.{fields_of, parts_of, variants_of, content_of, nodes, fields_nodes, parts_nodes, variants_nodes, content_nodes}
-use Rattle.bson_datum.specs.Value.{no_entries}
+use Rattle.bson_values.specs.Value.{no_entries}
 use Rattle.bson_laws.specs.Scopes.{meanings_of, laid, laid_content, laid_fields, laid_parts, laid_variants}
 use Rattle.bson_laws.specs.Unrolled.{in_table, max_steps}
 use Rattle.bson_slots.specs.FieldsRead.{unknown_of}

@@ -3,9 +3,9 @@ use Rattle.std.specs.Prelude.{◌≡◌, ℕ, List, Option, refl}
 use Rattle.std.specs.Coded.{Coded, coded_ℕ, coded_list, coded_option, coded×, code_by}
 use Rattle.std.proofs.Common.{ap, arith}
 use base.Stored.{Gv, gnil, gnum, gcons}
-use Rattle.bson_base.specs.Prover.Stored.{head, tail, num}
-use Rattle.bson_base.specs.declared.element_type.ElementType.{ElementType}
-use Rattle.bson_base.specs.contracts.element_type.ElementType as kinds
+use Rattle.bson_kinds.specs.Prover.Stored.{head, tail, num}
+use Rattle.bson_kinds.specs.declared.element_type.ElementType.{ElementType}
+use Rattle.bson_kinds.specs.contracts.element_type.ElementType as kinds
 use Rattle.bson_rawdoc.specs.contracts.raw.Error as faults
 use Rattle.bson_rawdoc.specs.Cut.{Cut}
 use Rattle.bson_rawdoc.specs.Walk.{Element, Walk, ended, faulty, then_walk}

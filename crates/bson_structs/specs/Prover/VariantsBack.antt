@@ -1,9 +1,9 @@
 -- The laws of the variants of an enum.
 use Rattle.std.specs.Prelude.{◌≡◌, Option, Some, None, option_map, Ok, Err}
-use Rattle.bson_base.specs.Text.{Utf8}
+use Rattle.bson_kinds.specs.Text.{Utf8}
 use Rattle.bson_base.specs.Tree.{Tree, null}
 use Rattle.bson_shape.specs.Form.{Form, enumeration, Variants, unit_content, newtype_content}
-use Rattle.bson_datum.specs.Value.{Value, unit_variant, newtype_variant}
+use Rattle.bson_values.specs.Value.{Value, unit_variant, newtype_variant}
 use Rattle.bson_laws.specs.Means.{means, under_name, norm}
 use Rattle.bson_laws.specs.Variants.{content_of}
 use Rattle.bson_traits.specs.Answers.{Reading, Writing}

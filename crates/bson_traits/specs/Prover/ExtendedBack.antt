@@ -5,16 +5,16 @@ use Rattle.std.specs.Str.{is_utf8}
 use Rattle.std.proofs.Common.{ap, ◌∙◌, arith}
 use Rattle.std.proofs.lemmas.Int.{ints}
 use Rattle.bson_base.specs.Sound.{HasBytes}
-use Rattle.bson_base.specs.Outcome.{result_map}
+use Rattle.bson_kinds.specs.Outcome.{result_map}
 use Rattle.bson_base.specs.Sorted.{sorted}
-use Rattle.bson_base.specs.Text.{AreBytes, Bytes, Utf8}
+use Rattle.bson_kinds.specs.Text.{AreBytes, Bytes, Utf8}
 use Rattle.bson_base.specs.Tree as tree
 use Rattle.bson_base.specs.Tree.{Tree, kind, null}
 use Rattle.bson_base.proofs.WrittenTexts.{base64_read, digits_read, integer_read, subtype_read}
 use Rattle.bson_shape.specs.Form.{leaf}
 use Rattle.bson_shape.specs.declared.leaf.Leaf.TheVariants as leaves
-use Rattle.bson_datum.specs.Prover.Decided.{same_decides}
-use Rattle.bson_datum.specs.Value.{Value, u32, i64, in_range}
+use Rattle.bson_values.specs.Prover.Decided.{same_decides}
+use Rattle.bson_values.specs.Value.{Value, u32, i64, in_range}
 use Rattle.bson_laws.specs.Datum.{datum, itself, sorted_tree}
 use Rattle.bson_laws.specs.Fits.{IsValueOfKind}
 use Rattle.bson_laws.specs.InRange.{IsInRange}

@@ -13,14 +13,14 @@ use Rattle.std.proofs.Common.{ap, ◌∙◌, sym, subst}
 use Rattle.std.proofs.lemmas.List.{append_assoc}
 use Rattle.std.proofs.lemmas.List.Elements.{All-head, All-tail}
 use Rattle.std.proofs.lemmas.Map.Keys.{sorted_head, sorted_tail}
-use Rattle.bson_base.specs.Outcome.{◌>>=◌, result_map}
-use Rattle.bson_base.specs.Text.{Utf8}
+use Rattle.bson_kinds.specs.Outcome.{◌>>=◌, result_map}
+use Rattle.bson_kinds.specs.Text.{Utf8}
 use Rattle.bson_base.specs.Tree as tree
 use Rattle.bson_base.specs.Tree.{Pairs, null}
 use Rattle.bson_shape.specs.Form as form
 use Rattle.bson_shape.specs.Form.{Form, leaf}
 use Rattle.bson_shape.specs.declared.leaf.Leaf.TheVariants as leaves
-use Rattle.bson_datum.specs.Value.{Value, str, map, Entries, entry}
+use Rattle.bson_values.specs.Value.{Value, str, map, Entries, entry}
 use Rattle.bson_laws.specs.Fits.{EntriesFit}
 use Rattle.bson_laws.specs.Means.{means_entries, norm_entries}
 use Rattle.bson_traits.specs.Answers.{Reading, Writing}

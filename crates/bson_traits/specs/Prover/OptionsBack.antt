@@ -1,10 +1,10 @@
 -- The laws of optional values, from those of their type.
 use Rattle.std.specs.Prelude.{◌≡◌, Option, Some, None, Ok, Err, refl, option_map}
-use Rattle.bson_base.specs.Outcome.{result_map}
+use Rattle.bson_kinds.specs.Outcome.{result_map}
 use Rattle.bson_base.specs.Tree.{Tree, null}
 use Rattle.bson_shape.specs.Form as form
 use Rattle.bson_shape.specs.Form.{Form}
-use Rattle.bson_datum.specs.Value.{Value, some}
+use Rattle.bson_values.specs.Value.{Value, some}
 use Rattle.bson_laws.specs.Means.{means, norm, some_or_none}
 use Rattle.bson_traits.specs.Answers.{Reading, Writing}
 use Rattle.bson_traits.specs.Laws.{Returns, IsNeverNull}

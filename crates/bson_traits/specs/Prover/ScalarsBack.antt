@@ -6,11 +6,11 @@ use Rattle.std.specs.Str.{is_utf8}
 use Rattle.std.proofs.Common.{arith}
 use Rattle.std.proofs.lemmas.Int.{ints}
 use Rattle.bson_base.specs.Sound.{HasBytes}
-use Rattle.bson_base.specs.Text.{Bytes, Utf8}
+use Rattle.bson_kinds.specs.Text.{Bytes, Utf8}
 use Rattle.bson_base.specs.Tree.{null, int64}
 use Rattle.bson_shape.specs.Form.{leaf}
 use Rattle.bson_shape.specs.declared.leaf.Leaf.TheVariants as leaves
-use Rattle.bson_datum.specs.Value.{i8, i16, i32, i64, u8, u16, u32, u64, in_range, greatest, boolean, integer, double, character, str, unit}
+use Rattle.bson_values.specs.Value.{i8, i16, i32, i64, u8, u16, u32, u64, in_range, greatest, boolean, integer, double, character, str, unit}
 use Rattle.bson_traits.specs.Laws.{Returns, IsNeverNull}
 use Rattle.bson_traits.specs.Scalars.{taken_bool, taken_i8, taken_i16, taken_i32, taken_i64, taken_u8, taken_u16, taken_u32, taken_u64, taken_double, taken_char, taken_text, taken_unit}
 

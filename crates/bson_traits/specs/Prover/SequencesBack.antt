@@ -2,12 +2,12 @@
 use Rattle.std.specs.Prelude.{◌≡◌, List, [], ◌∷◌, map, Option, Some, None, Ok, Err, refl, option_map}
 use Rattle.std.specs.List.{All}
 use Rattle.std.proofs.lemmas.List.Elements.{All-head, All-tail}
-use Rattle.bson_base.specs.Outcome.{◌>>=◌, result_map}
+use Rattle.bson_kinds.specs.Outcome.{◌>>=◌, result_map}
 use Rattle.bson_base.specs.Tree as tree
 use Rattle.bson_base.specs.Tree.{Trees, null}
 use Rattle.bson_shape.specs.Form as form
 use Rattle.bson_shape.specs.Form.{Form}
-use Rattle.bson_datum.specs.Value.{Value, sequence, Items, item}
+use Rattle.bson_values.specs.Value.{Value, sequence, Items, item}
 use Rattle.bson_laws.specs.Fits.{ItemsFit}
 use Rattle.bson_laws.specs.Means.{means_items, norm_items}
 use Rattle.bson_traits.specs.Answers.{Reading, Writing}

@@ -3,14 +3,14 @@ use Rattle.std.specs.Prelude.{◌≡◌, true, Option, Some, None, Ok, Err, refl
 use Rattle.std.specs.Str.{bytes_eq}
 use Rattle.std.proofs.Common.{ap, ◌∙◌}
 use Rattle.std.proofs.lemmas.Slice.Eq.{bytes_eq-Decides}
-use Rattle.bson_base.specs.Outcome.{◌>>=◌}
-use Rattle.bson_base.specs.Reserved.{reserved_kind}
-use Rattle.bson_base.specs.Text.{Utf8}
+use Rattle.bson_kinds.specs.Outcome.{◌>>=◌}
+use Rattle.bson_kinds.specs.Reserved.{reserved_kind}
+use Rattle.bson_kinds.specs.Text.{Utf8}
 use Rattle.bson_base.specs.Tree.{Tree, Pairs, null}
-use Rattle.bson_base.specs.declared.element_type.ElementType.{ElementType}
+use Rattle.bson_kinds.specs.declared.element_type.ElementType.{ElementType}
 use Rattle.bson_shape.specs.Form as form
 use Rattle.bson_shape.specs.Form.{Form, Fields}
-use Rattle.bson_datum.specs.Value.{Value, structure, FieldValues, no_field_values, field_value}
+use Rattle.bson_values.specs.Value.{Value, structure, FieldValues, no_field_values, field_value}
 use Rattle.bson_laws.specs.Fits.{FieldsFit}
 use Rattle.bson_laws.specs.Means.{means_fields, norm, norm_fields, norm_struct, struct_means}
 use Rattle.bson_traits.specs.Answers.{Reading, Writing}

@@ -1,5 +1,5 @@
 use Rattle.std.proofs.Common.{◌≡◌, length}
-use Rattle.bson_base.specs.Text.{has_zero}
+use Rattle.bson_kinds.specs.Text.{has_zero}
 use Rattle.bson_base.proofs.texts.has_zero.Given as goal
 
 abbrev pub invariant-loop-rest : goal.invariant-loop-rest

@@ -1,8 +1,9 @@
 use Rattle.std.proofs.Common.{◌∷◌, ap}
-use Rattle.bson_datum.specs.TextView.{text_view}
-use Rattle.bson_datum.specs.Value.{tuple_structure, tuple_variant, structure, structure_variant}
+use Rattle.bson_values.specs.TextView.{text_view}
+use Rattle.bson_values.specs.Value.{tuple_structure, tuple_variant, structure, structure_variant}
 use Rattle.bson_datum.specs.View.{view, items_view, entry_view, field_view, fields_view}
-use Rattle.bson_datum.specs.Borrowed.{text_borrowed, borrowed_parts, items_borrowed, entry_borrowed, field_borrowed, fields_borrowed}
+use Rattle.bson_values.specs.Pieces.{text_borrowed}
+use Rattle.bson_datum.specs.Borrowed.{borrowed_parts, items_borrowed, entry_borrowed, field_borrowed, fields_borrowed}
 use Rattle.bson_datum.proofs.Views.{view-TupleStruct, view-TupleVariant, view-Struct, view-StructVariant}
 use Rattle.bson_datum.proofs.BorrowedRows.{item_rows_are_borrowed, rows_are_borrowed}
 use Rattle.bson_datum.proofs.Copies.{same_items_view, same_entries_view, same_fields_view, same_parts, seen_all, told_of}

@@ -1,6 +1,6 @@
 use Rattle.std.proofs.Common.{sym, ◌∙◌}
-use Rattle.bson_datum.specs.TextView.{text_view}
-use Rattle.bson_datum.specs.Value.{tuple_structure, tuple_variant, structure, structure_variant}
+use Rattle.bson_values.specs.TextView.{text_view}
+use Rattle.bson_values.specs.Value.{tuple_structure, tuple_variant, structure, structure_variant}
 use Rattle.bson_datum.specs.View.{items_view, fields_view}
 use Rattle.bson_datum.proofs.Sames.{same_items-lengths, same_entries-lengths, same_fields-lengths, same_of_borrowed, same_with_borrowed, same_of_one_name}
 use Rattle.bson_datum.proofs.Views.{view-TupleStruct, view-TupleVariant, view-Struct, view-StructVariant}

@@ -1,8 +1,8 @@
 use Rattle.std.proofs.Common.{sym, subst}
 use Rattle.bson_shape.specs.Form.{leaf}
 use Rattle.bson_shape.specs.declared.leaf.Leaf.TheVariants.{Bson}
-use Rattle.bson_datum.specs.Cause.{unit_in_document}
-use Rattle.bson_datum.specs.Marked.{Marked}
+use Rattle.bson_values.specs.Cause.{unit_in_document}
+use Rattle.bson_values.specs.Marked.{Marked}
 use Rattle.bson_datum.specs.MarkedView.{marked}
 use Rattle.bson_laws.specs.FromTree.{unit_content_at}
 use Rattle.bson_laws.specs.ReadsFrom.{reads_from}

@@ -1,5 +1,5 @@
 use Rattle.std.proofs.Common.{sym, subst, rules}
-use Rattle.bson_datum.specs.Cause.{extra_key}
+use Rattle.bson_values.specs.Cause.{extra_key}
 use Rattle.bson_laws.specs.Judged.{Reading, refused}
 use Rattle.bson_met.specs.PieceView.{str_piece}
 use Rattle.bson_met.proofs.Refusals.{StopsAs}

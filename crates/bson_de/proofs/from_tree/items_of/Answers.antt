@@ -1,7 +1,7 @@
 use Rattle.std.proofs.Common.{Ok, ap, sym, subst, rules, ◌∙◌}
-use Rattle.bson_base.specs.declared.element_type.ElementType.TheVariants.{Null}
+use Rattle.bson_kinds.specs.declared.element_type.ElementType.TheVariants.{Null}
 use Rattle.bson_rawdoc.specs.Node.{Nodes}
-use Rattle.bson_datum.specs.Cause.{invalid_type}
+use Rattle.bson_values.specs.Cause.{invalid_type}
 use Rattle.bson_laws.specs.Judged.{Reading}
 use Rattle.bson_met.proofs.Refusals.{StopsAs, refused_stops}
 use Rattle.bson_de.specs.TreeContents.{not_ended}

@@ -1,6 +1,6 @@
 use Rattle.std.proofs.Common.{Ok, ap, sym, subst, rules, ◌∙◌}
-use Rattle.bson_base.specs.Outcome.{◌>>=◌}
-use Rattle.bson_datum.specs.Cause.{empty_enum}
+use Rattle.bson_kinds.specs.Outcome.{◌>>=◌}
+use Rattle.bson_values.specs.Cause.{empty_enum}
 use Rattle.bson_laws.specs.Judged.{Reading}
 use Rattle.bson_met.proofs.Refusals.{StopsAs, stops_bind, refused_stops}
 use Rattle.bson_de.specs.Enums.{Pair, pair_of, end_at}

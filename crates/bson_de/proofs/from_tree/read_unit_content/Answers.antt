@@ -1,11 +1,11 @@
 use Rattle.std.proofs.Common.{Ok, Err, ap, sym, rules, ◌∙◌}
-use Rattle.bson_base.specs.Outcome.{◌>>=◌}
+use Rattle.bson_kinds.specs.Outcome.{◌>>=◌}
 use Rattle.bson_rawdoc.specs.Piece.{made}
 use Rattle.bson_shape.specs.Form.{leaf}
 use Rattle.bson_shape.specs.declared.leaf.Leaf.TheVariants.{Bson}
 use Rattle.bson_datum.specs.MarkedView.{marked}
-use Rattle.bson_datum.specs.Refusal.{under}
-use Rattle.bson_datum.specs.Value.{unit_variant}
+use Rattle.bson_values.specs.Refusal.{under}
+use Rattle.bson_values.specs.Value.{unit_variant}
 use Rattle.bson_laws.specs.ReadsFrom.{reads_from}
 use Rattle.bson_laws.specs.declared.origin.Origin.TheVariants as origins
 use Rattle.bson_met.proofs.Refusals.{stops_bind}

@@ -1,11 +1,11 @@
 use Rattle.std.proofs.Common.{rules, Some, Ok, Err, ap, sym, subst, ◌∙◌}
-use Rattle.bson_base.specs.Outcome.{◌>>=◌}
+use Rattle.bson_kinds.specs.Outcome.{◌>>=◌}
 use Rattle.bson_rawdoc.specs.Piece.{made}
 use Rattle.bson_shape.specs.ShapeView as shape_view
-use Rattle.bson_datum.specs.Marked.{Marked}
+use Rattle.bson_values.specs.Marked.{Marked}
 use Rattle.bson_datum.specs.MarkedView.{marked}
-use Rattle.bson_datum.specs.Refusal.{here, end_of_stream}
-use Rattle.bson_datum.specs.Value.{unit_variant}
+use Rattle.bson_values.specs.Refusal.{here, end_of_stream}
+use Rattle.bson_values.specs.Value.{unit_variant}
 use Rattle.bson_laws.specs.FromTree.{tree_unit_of}
 use Rattle.bson_laws.specs.Judged.{Reading}
 use Rattle.bson_met.specs.Gives.{Reaches}

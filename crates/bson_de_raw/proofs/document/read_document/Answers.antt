@@ -1,6 +1,6 @@
 use Rattle.std.proofs.Common.{ap, sym, subst, ◌∙◌}
-use Rattle.bson_datum.specs.ErrorView.{read_fault, read_failure}
-use Rattle.bson_datum.specs.Stop.{stop_view}
+use Rattle.bson_values.specs.ErrorView.{read_fault, read_failure}
+use Rattle.bson_values.specs.Stop.{stop_view}
 use Rattle.bson_laws.specs.CompactReads.{reads}
 use Rattle.bson_laws.specs.Reads.{answered}
 use Rattle.bson_laws.specs.Unrolled.{whole}

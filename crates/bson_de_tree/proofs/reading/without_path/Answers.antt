@@ -1,7 +1,7 @@
 use Rattle.std.proofs.Common.{IfOk, ap, subst}
 use Rattle.bson_datum.specs.Borrowed.{IsOwned}
-use Rattle.bson_datum.specs.ErrorView.{read_fault, read_failure}
-use Rattle.bson_datum.specs.Stop.{stop_view}
+use Rattle.bson_values.specs.ErrorView.{read_fault, read_failure}
+use Rattle.bson_values.specs.Stop.{stop_view}
 use Rattle.bson_datum.specs.View.{view}
 use Rattle.bson_laws.specs.ReadsFrom.{answered_bare}
 use Rattle.bson_met.specs.Gives.{Reaches}

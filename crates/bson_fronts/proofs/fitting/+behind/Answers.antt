@@ -1,6 +1,6 @@
 use Rattle.std.proofs.Common.{sym, subst, ap, ◌∙◌}
 use Rattle.std.specs.Prelude.{Some, option_map}
-use Rattle.bson_datum.specs.TextView.{text_view}
+use Rattle.bson_values.specs.TextView.{text_view}
 use Rattle.bson_datum.specs.View.{view, fields_view}
 use Rattle.bson_datum.proofs.Views.{view-Struct}
 use Rattle.bson_laws.specs.Unwrap.{listed, listed_part}

@@ -1,6 +1,6 @@
 -- What the fields so far left of the places is what all fields leave of them, by the fields that are left.
 use Rattle.std.proofs.Common.{◌≡◌, List, drop}
-use Rattle.bson_datum.specs.Value.{Value}
+use Rattle.bson_values.specs.Value.{Value}
 use Rattle.bson_datum.specs.View.{fields_view}
 use Rattle.bson_laws.specs.Unwrap.{Part, listed}
 use Rattle.bson_fronts.specs.Places.{agrees}

@@ -1,7 +1,7 @@
 use Rattle.std.proofs.Common.{◌≡◌, Some, cond, ap, sym, subst, ◌∙◌, string_bytes, take, length}
 use Rattle.std.specs.Str.{bytes_eq}
 use Rattle.std.specs.BTreeMap.{get_by_text}
-use Rattle.bson_base.specs.Text.{Utf8}
+use Rattle.bson_kinds.specs.Text.{Utf8}
 use Rattle.bson_infer_run.specs.NamesView.{FindsAll}
 use Rattle.bson_infer_run.proofs.NamePlaces.{texts_of, texts_more, texts_long, finds_more}
 use Rattle.bson_infer_run.proofs.names.places_of.Goals as goal

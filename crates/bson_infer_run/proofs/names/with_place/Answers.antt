@@ -2,7 +2,7 @@ use Rattle.std.proofs.Common.{◌≡◌, Some, cond, ap, ◌∙◌, string_bytes
 use Rattle.std.specs.Str.{bytes_eq}
 use Rattle.std.specs.BTreeMap.{get_by_text}
 use Rattle.std.proofs.lemmas.List.{length-map}
-use Rattle.bson_base.specs.Text.{Utf8}
+use Rattle.bson_kinds.specs.Text.{Utf8}
 use Rattle.bson_infer_run.proofs.NamePlaces.{texts_of, finds_more}
 use Rattle.bson_infer_run.proofs.names.with_place.Goals as goal
 

@@ -1,5 +1,5 @@
 use Rattle.std.proofs.Common.{◌∙◌, ap, inl, inr, arith, rules, length, subst}
-use Rattle.bson_base.specs.Text.{AreBytes}
+use Rattle.bson_kinds.specs.Text.{AreBytes}
 use Rattle.bson_infer_run.proofs.Fitting.{binary_answers}
 use Rattle.bson_infer_run.proofs.sound.size_of_binary.Goals as goal
 use Rattle.bson_infer_run.proofs.sound.size_of_binary.Goals.{then-binary-eq2, else-binary-eq2}

@@ -1,9 +1,9 @@
 use Rattle.std.proofs.Common.{◌≡◌, suc, ◌-◌, ◌∷◌, ◌++◌, [], take, drop, ap, sym, subst, ◌∙◌, refl, arith}
 use Rattle.std.specs.Fmt.{decimal}
 use Rattle.std.proofs.lemmas.List.{nil_from_length}
-use Rattle.bson_base.specs.Kind.{byte}
-use Rattle.bson_base.specs.Text.{Bytes}
-use Rattle.bson_base.specs.declared.element_type.ElementType.TheVariants as kinds
+use Rattle.bson_kinds.specs.Kind.{byte}
+use Rattle.bson_kinds.specs.Text.{Bytes}
+use Rattle.bson_kinds.specs.declared.element_type.ElementType.TheVariants as kinds
 use Rattle.bson_itself.specs.Encoded.{EncodesItself, IsTextValue, IsBinaryValue, IsTrueOrFalse, ArePairs, AreTrees}
 use Rattle.bson_itself.proofs.Left.{PairsLeft, pairs_first, pairs_end, pairs_step, TreesLeft, trees_end, trees_step, element_first, same_bytes}
 use Rattle.bson_itself.proofs.Parts.{fixed_one, made_one, text_one, binary_one, boolean_one, null_one, double_one, int32_one, int64_one, document_one, array_one}

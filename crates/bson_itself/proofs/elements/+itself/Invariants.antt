@@ -1,5 +1,5 @@
 use Rattle.std.proofs.Common.{List, ◌+◌, ◌*◌, length}
-use Rattle.bson_base.specs.Text.{Utf8}
+use Rattle.bson_kinds.specs.Text.{Utf8}
 use Rattle.bson_keys.specs.Met.{HasKeys}
 use Rattle.bson_itself.proofs.Left.{PairsLeft, TreesLeft}
 use Rattle.bson_itself.proofs.elements.+itself.Given as goal

@@ -1,4 +1,4 @@
-use Rattle.bson_base.specs.declared.element_type.ElementType.TheVariants as kinds
+use Rattle.bson_kinds.specs.declared.element_type.ElementType.TheVariants as kinds
 use Rattle.bson_itself.specs.Encoded.{IsTextValue, IsExpression, IsPointer}
 use Rattle.bson_itself.specs.declared.untyped.UntypedLeaf.TheVariants.{Bson}
 use Rattle.bson_itself.proofs.Parts.{fixed_one, made_one, id_one, date_one, timestamp_one, decimal_one, code_one, symbol_one, expression_one, pointer_one, undefined_one, min_key_one, max_key_one}

@@ -1,6 +1,6 @@
 use Rattle.std.proofs.Common.{◌≡◌, take, subst, arith}
 use Rattle.std.proofs.lemmas.List.{take_all}
-use Rattle.bson_base.specs.Text.{Bytes}
+use Rattle.bson_kinds.specs.Text.{Bytes}
 use Rattle.bson_itself.specs.Encoded.{EncodesItself}
 use Rattle.bson_itself.proofs.Kept.{itself_kept}
 use Rattle.bson_itself.proofs.elements.is_itself.Goals as goal

@@ -1,19 +1,19 @@
 use Rattle.std.proofs.Common.{◌≡◌, rules, suc, Ok, refl, ap, sym, subst, ◌∙◌, ◌+◌, ◌*◌, ◌-◌, ◌<◌, arith}
-use Rattle.bson_base.specs.Outcome.{◌>>=◌, result_map}
-use Rattle.bson_base.specs.declared.element_type.ElementType.TheVariants.{EmbeddedDocument, Array}
+use Rattle.bson_kinds.specs.Outcome.{◌>>=◌, result_map}
+use Rattle.bson_kinds.specs.declared.element_type.ElementType.TheVariants.{EmbeddedDocument, Array}
 use Rattle.bson_rawdoc.specs.DocumentView.{array_bytes, document_bytes}
 use Rattle.bson_rawdoc.specs.Next as walks
 use Rattle.bson_rawdoc.specs.Node.{node_in, inner_node, value_node, nodes_with, opened}
 use Rattle.bson_rawdoc.specs.Piece.{borrowed}
 use Rattle.bson_rawdoc.specs.Walk.{Element, walk, then_walk}
 use Rattle.bson_rawdoc.specs.ValueView.{raw_value}
-use Rattle.bson_datum.specs.Cause.{raw}
-use Rattle.bson_datum.specs.Marked.{Marked}
+use Rattle.bson_values.specs.Cause.{raw}
+use Rattle.bson_values.specs.Marked.{Marked}
 use Rattle.bson_datum.specs.MarkedView.{marked}
-use Rattle.bson_datum.specs.Refusal.{at_key, at_index, under, under_index}
-use Rattle.bson_datum.specs.Stop.{IsUnderKey}
-use Rattle.bson_datum.specs.Value as value
-use Rattle.bson_datum.specs.Value.{no_entries}
+use Rattle.bson_values.specs.Refusal.{at_key, at_index, under, under_index}
+use Rattle.bson_values.specs.Stop.{IsUnderKey}
+use Rattle.bson_values.specs.Value as value
+use Rattle.bson_values.specs.Value.{no_entries}
 use Rattle.bson_shape.specs.ShapeView.{form_view}
 use Rattle.bson_laws.specs.Judged.{Reading}
 use Rattle.bson_laws.specs.ReadsLeaf.{read_any, any_items, any_entries}

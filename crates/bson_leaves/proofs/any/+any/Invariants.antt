@@ -1,12 +1,12 @@
 use Rattle.std.proofs.Common.{◌≡◌, ◌+◌, ◌*◌, ◌-◌, ◌<◌, ◌≤◌, ◌^◌}
-use Rattle.bson_base.specs.declared.element_type.ElementType.TheVariants.{EmbeddedDocument, Array}
+use Rattle.bson_kinds.specs.declared.element_type.ElementType.TheVariants.{EmbeddedDocument, Array}
 use Rattle.bson_rawdoc.specs.DocumentView.{array_bytes, document_bytes}
 use Rattle.bson_rawdoc.specs.Next as walks
 use Rattle.bson_rawdoc.specs.Node.{node_in, inner_node, nodes_with}
 use Rattle.bson_shape.specs.Form.{leaf}
 use Rattle.bson_shape.specs.ShapeView.{form_view}
 use Rattle.bson_shape.specs.declared.leaf.Leaf.TheVariants.{Str}
-use Rattle.bson_datum.specs.Value.{no_entries}
+use Rattle.bson_values.specs.Value.{no_entries}
 use Rattle.bson_laws.specs.ReadsLeaf.{any_items, any_entries}
 use Rattle.bson_met.specs.Sizes.{size, sizes, count}
 use Rattle.bson_leaves.specs.Any.{any_at, any_items_at, any_entries_at}

@@ -1,4 +1,4 @@
-use Rattle.bson_datum.specs.Value as value
+use Rattle.bson_values.specs.Value as value
 use Rattle.bson_laws.specs.Judged.{judged, passes}
 use Rattle.bson_texts.proofs.Mapped.{taken, not_taken}
 use Rattle.bson_leaves.proofs.leaf.ignored.Goals as goal

@@ -1,5 +1,5 @@
 use Rattle.std.proofs.Common.{false, rules}
-use Rattle.bson_datum.specs.Value as value
+use Rattle.bson_values.specs.Value as value
 use Rattle.bson_laws.specs.Judged.{judged}
 use Rattle.bson_laws.specs.Taken.{text_of}
 use Rattle.bson_texts.proofs.Mapped.{taken, not_taken}

@@ -1,4 +1,4 @@
-use Rattle.bson_datum.specs.Value as value
+use Rattle.bson_values.specs.Value as value
 use Rattle.bson_laws.specs.Judged.{judged}
 use Rattle.bson_laws.specs.Taken.{null_of}
 use Rattle.bson_texts.proofs.Mapped.{taken, not_taken}

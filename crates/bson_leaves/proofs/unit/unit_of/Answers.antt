@@ -1,11 +1,11 @@
 use Rattle.std.proofs.Common.{rules, Some, Ok, ap, sym, subst, ◌∙◌}
-use Rattle.bson_base.specs.Outcome.{◌>>=◌}
+use Rattle.bson_kinds.specs.Outcome.{◌>>=◌}
 use Rattle.bson_rawdoc.specs.Piece.{made}
 use Rattle.bson_shape.specs.ShapeView as shape_view
-use Rattle.bson_datum.specs.Cause.{contents_wanted}
-use Rattle.bson_datum.specs.Marked.{Marked}
+use Rattle.bson_values.specs.Cause.{contents_wanted}
+use Rattle.bson_values.specs.Marked.{Marked}
 use Rattle.bson_datum.specs.MarkedView.{marked}
-use Rattle.bson_datum.specs.Value.{unit_variant}
+use Rattle.bson_values.specs.Value.{unit_variant}
 use Rattle.bson_laws.specs.Containers.{unit_of as reads_unit}
 use Rattle.bson_laws.specs.Judged.{Reading, refused}
 use Rattle.bson_met.specs.Gives.{Reaches}

@@ -1,6 +1,6 @@
 use Rattle.std.proofs.Common.{rules, Ok, ap, sym, subst, ◌∙◌}
 use Rattle.bson_shape.specs.declared.shape.VariantShape.{VariantShape}
-use Rattle.bson_datum.specs.Cause.{unknown_variant}
+use Rattle.bson_values.specs.Cause.{unknown_variant}
 use Rattle.bson_laws.specs.Judged.{Reading, refused}
 use Rattle.bson_met.proofs.Refusals.{StopsAs}
 use Rattle.bson_leaves.proofs.Variants.{named_at, named_none}

@@ -1,5 +1,5 @@
 use Rattle.std.proofs.Common.{◌++◌, ap, ◌∙◌}
-use Rattle.bson_base.specs.Text.{Bytes}
+use Rattle.bson_kinds.specs.Text.{Bytes}
 use Rattle.bson_made.proofs.RowBytes.{row_put}
 use Rattle.bson_made.proofs.making.put_row.Goals as goal
 

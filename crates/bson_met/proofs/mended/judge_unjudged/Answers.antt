@@ -1,12 +1,12 @@
 use Rattle.std.proofs.Common.{rules, Option, Result, Ok, ap, sym, subst, ◌∙◌}
 use Rattle.std.specs.Prelude.{option_map}
-use Rattle.bson_base.specs.Outcome.{result_map}
+use Rattle.bson_kinds.specs.Outcome.{result_map}
 use Rattle.bson_rawdoc.specs.Node.{Node, mended, node_in}
 use Rattle.bson_rawdoc.specs.RawValue.{RawValue}
 use Rattle.bson_rawdoc.specs.declared.raw.Error.{Error}
 use Rattle.bson_rawdoc.specs.UnjudgedView.{unjudged_value}
 use Rattle.bson_rawdoc.specs.declared.unjudged.Unjudged.{Unjudged}
-use Rattle.bson_datum.specs.Cause.{raw}
+use Rattle.bson_values.specs.Cause.{raw}
 use Rattle.bson_laws.specs.Judged.{Reading, judged}
 use Rattle.bson_met.specs.Gives.{Reaches}
 use Rattle.bson_met.specs.ValueView.{value_view}

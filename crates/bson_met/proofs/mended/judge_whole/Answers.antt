@@ -1,5 +1,5 @@
 use Rattle.std.proofs.Common.{Ok, ap, sym, ◌∙◌}
-use Rattle.bson_base.specs.Outcome.{result_map}
+use Rattle.bson_kinds.specs.Outcome.{result_map}
 use Rattle.bson_rawdoc.specs.Node.{mended}
 use Rattle.bson_met.specs.MetView.{what_node}
 use Rattle.bson_met.proofs.Mending.{whole_alike}

@@ -1,7 +1,7 @@
 use Rattle.std.proofs.Common.{◌≡◌, length, Ok, ap, sym, subst, refl, ◌∙◌, arith}
 use Rattle.std.specs.Option.{IfSome}
 use Rattle.bson_base.specs.Sound.{max_levels}
-use Rattle.bson_base.specs.declared.element_type.ElementType.TheVariants.{EmbeddedDocument}
+use Rattle.bson_kinds.specs.declared.element_type.ElementType.TheVariants.{EmbeddedDocument}
 use Rattle.bson_rawdoc.specs.DocumentView.{document_bytes}
 use Rattle.bson_rawdoc.specs.Envelope.{envelope}
 use Rattle.bson_shape.specs.Form.{leaf}

@@ -1,6 +1,6 @@
 use Rattle.std.proofs.Common.{arith}
 use Rattle.bson_shape.specs.declared.leaf.Leaf.TheVariants as leaves
-use Rattle.bson_base.specs.declared.element_type.ElementType.TheVariants as kinds
+use Rattle.bson_kinds.specs.declared.element_type.ElementType.TheVariants as kinds
 use Rattle.bson_itself.proofs.Kept.{raw_bson_document_kept, raw_bson_array_kept, raw_value_kept}
 use Rattle.bson_one_pass.proofs.KeptLeaves.{kept_as_read}
 use Rattle.bson_one_pass.proofs.kept.is_raw_kept.Goals as goal

@@ -3,14 +3,14 @@ use Rattle.std.specs.Fmt.{decimal}
 use Rattle.std.specs.Prelude.{is_some}
 use Rattle.std.proofs.lemmas.List.{length-append, drop_all}
 use Rattle.bson_base.specs.BsonView.{tree_of, trees_of, pairs_of}
-use Rattle.bson_base.specs.Outcome.{result_map}
+use Rattle.bson_kinds.specs.Outcome.{result_map}
 use Rattle.bson_base.specs.Tree.{document, array, pair, kind, element, enc, closed_text, elements, array_elements}
-use Rattle.bson_base.specs.declared.element_type.ElementType.TheVariants.{EmbeddedDocument, JavaScriptCodeWithScope}
+use Rattle.bson_kinds.specs.declared.element_type.ElementType.TheVariants.{EmbeddedDocument, JavaScriptCodeWithScope}
 use Rattle.bson_base.proofs.Nodes.{nodes, pairs_nodes, trees_nodes, tree_nodes}
-use Rattle.bson_datum.specs.Cause.{bad_body}
-use Rattle.bson_datum.specs.ErrorView.{read_failure}
-use Rattle.bson_datum.specs.Wrapper.{of_key}
-use Rattle.bson_datum.specs.declared.wrapper.Wrapper.TheVariants as wrappers
+use Rattle.bson_values.specs.Cause.{bad_body}
+use Rattle.bson_values.specs.ErrorView.{read_failure}
+use Rattle.bson_values.specs.Wrapper.{of_key}
+use Rattle.bson_values.specs.declared.wrapper.Wrapper.TheVariants as wrappers
 use Rattle.bson_laws.specs.Assembled.{stays, becomes, looked_tree, one_level, with_scope, built, built_pairs, built_trees, looked_at}
 use Rattle.bson_raw_builder.specs.Putting.{with_value, with_looked, looked_kind, PutsLooked, body_built, code_built}
 use Rattle.bson_raw_builder.proofs.FirstKeys.{looked_body, looked_code, looked_ordinary}

@@ -1,6 +1,6 @@
 use Rattle.std.proofs.Common.{◌≡◌, ◌≤◌, ◌+◌, ◌*◌, ◌++◌, ◌∷◌, [], drop}
 use Rattle.bson_base.specs.BsonView.{tree_of, trees_of, pairs_of}
-use Rattle.bson_base.specs.Outcome.{result_map}
+use Rattle.bson_kinds.specs.Outcome.{result_map}
 use Rattle.bson_base.specs.Tree.{elements, array_elements}
 use Rattle.bson_base.proofs.Nodes.{nodes, trees_nodes, pairs_nodes}
 use Rattle.bson_laws.specs.Assembled.{built_pairs, built_trees}

@@ -1,9 +1,9 @@
 use Rattle.std.proofs.Common.{rules, ◌++◌, ap, sym, subst, ◌∙◌}
 use Rattle.bson_base.specs.BsonView.{tree_of}
-use Rattle.bson_base.specs.Outcome.{◌>>=◌}
+use Rattle.bson_kinds.specs.Outcome.{◌>>=◌}
 use Rattle.bson_base.specs.Sound.{max_levels}
 use Rattle.bson_base.specs.Tree.{kind, enc}
-use Rattle.bson_datum.specs.ErrorView.{read_failure}
+use Rattle.bson_values.specs.ErrorView.{read_failure}
 use Rattle.bson_laws.specs.Assembled.{Building, RawBytes, built, within_limit, assembled}
 use Rattle.bson_raw_builder.specs.Putting.{Gives, with_value}
 use Rattle.bson_raw_builder.specs.RawValueView.{raw_view}

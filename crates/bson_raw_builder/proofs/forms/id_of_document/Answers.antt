@@ -5,9 +5,9 @@ use Rattle.bson_base.specs.Tree.{document, no_pairs}
 use Rattle.bson_rawdoc.specs.Node.{from_memory, tree_node, pair_nodes}
 use Rattle.bson_shape.specs.Form.{leaf}
 use Rattle.bson_shape.specs.declared.leaf.Leaf.TheVariants.{ObjectId}
-use Rattle.bson_datum.specs.ErrorView.{read_fault}
+use Rattle.bson_values.specs.ErrorView.{read_fault}
 use Rattle.bson_datum.specs.MarkedView.{marked}
-use Rattle.bson_datum.specs.Stop.{stop_view}
+use Rattle.bson_values.specs.Stop.{stop_view}
 use Rattle.bson_laws.specs.Reads.{reads}
 use Rattle.bson_laws.specs.Trees.{document_tree}
 use Rattle.bson_met.specs.Gives.{RefusesAs}

@@ -1,7 +1,7 @@
 use Rattle.std.proofs.Common.{Some, ap, sym, subst, ◌∙◌}
 use Rattle.bson_base.specs.BsonView.{trees_of}
 use Rattle.bson_base.specs.Tree.{Tree, array}
-use Rattle.bson_datum.specs.Cause.{not_borrowed}
+use Rattle.bson_values.specs.Cause.{not_borrowed}
 use Rattle.bson_laws.specs.Judged.{Reading}
 use Rattle.bson_laws.specs.TreeRaw.{built_of}
 use Rattle.bson_met.proofs.Refusals.{StopsAs, refused_stops}

@@ -1,8 +1,8 @@
 use Rattle.std.proofs.Common.{Some, None, ap, sym, subst, ◌∙◌}
 use Rattle.bson_base.specs.BsonView.{pairs_of}
-use Rattle.bson_base.specs.Outcome.{◌>>=◌}
+use Rattle.bson_kinds.specs.Outcome.{◌>>=◌}
 use Rattle.bson_base.specs.Tree.{Tree, document}
-use Rattle.bson_datum.specs.Cause.{not_borrowed}
+use Rattle.bson_values.specs.Cause.{not_borrowed}
 use Rattle.bson_laws.specs.Assembled.{assembled_tree}
 use Rattle.bson_laws.specs.Judged.{Reading}
 use Rattle.bson_laws.specs.TreeRaw.{as_reading}

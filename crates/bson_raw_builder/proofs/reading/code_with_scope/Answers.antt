@@ -1,9 +1,9 @@
 use Rattle.std.proofs.Common.{◌≤◌, length, ap, sym, subst, rules, ◌∙◌}
 use Rattle.bson_base.specs.BsonView.{pairs_of}
-use Rattle.bson_base.specs.Outcome.{◌>>=◌}
+use Rattle.bson_kinds.specs.Outcome.{◌>>=◌}
 use Rattle.bson_base.specs.Sound.{max_bytes}
 use Rattle.bson_base.specs.Tree.{javascript_code_with_scope, enc}
-use Rattle.bson_datum.specs.Marked.{Marked}
+use Rattle.bson_values.specs.Marked.{Marked}
 use Rattle.bson_datum.specs.MarkedView.{marked}
 use Rattle.bson_laws.specs.Assembled.{RawBytes, assembled_tree}
 use Rattle.bson_laws.specs.Judged.{Reading}

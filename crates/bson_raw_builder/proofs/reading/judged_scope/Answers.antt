@@ -1,6 +1,6 @@
 use Rattle.std.proofs.Common.{ap, sym, subst, ◌∙◌}
 use Rattle.bson_rawdoc.specs.Node.{Node}
-use Rattle.bson_datum.specs.Refusal.{at_key, under}
+use Rattle.bson_values.specs.Refusal.{at_key, under}
 use Rattle.bson_laws.specs.Judged.{Reading, judged, scope_key}
 use Rattle.bson_met.specs.OpenedView.{scope_node}
 use Rattle.bson_met.proofs.Refusals.{StopsAs, stops_inside}

@@ -1,10 +1,10 @@
 use Rattle.std.proofs.Common.{◌≡◌, refl, ap, sym, subst, rules, ◌∙◌}
 use Rattle.bson_base.specs.BsonView.{pairs_of, tree_of}
-use Rattle.bson_base.specs.Outcome.{◌>>=◌}
+use Rattle.bson_kinds.specs.Outcome.{◌>>=◌}
 use Rattle.bson_base.specs.Tree.{document, pair}
-use Rattle.bson_datum.specs.Marked.{Marked}
+use Rattle.bson_values.specs.Marked.{Marked}
 use Rattle.bson_datum.specs.MarkedView.{marked}
-use Rattle.bson_datum.specs.Wrapper.{of_key}
+use Rattle.bson_values.specs.Wrapper.{of_key}
 use Rattle.bson_laws.specs.Assembled.{assembled_tree}
 use Rattle.bson_laws.specs.Judged.{Reading}
 use Rattle.bson_laws.specs.TreeRaw.{as_reading, built_value}

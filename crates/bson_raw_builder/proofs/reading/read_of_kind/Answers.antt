@@ -1,7 +1,7 @@
 use Rattle.std.proofs.Common.{◌≡◌, rules, ap, sym, subst, ◌∙◌}
-use Rattle.bson_base.specs.Outcome.{◌>>=◌}
-use Rattle.bson_datum.specs.Cause.{invalid_type}
-use Rattle.bson_datum.specs.Marked.{Marked}
+use Rattle.bson_kinds.specs.Outcome.{◌>>=◌}
+use Rattle.bson_values.specs.Cause.{invalid_type}
+use Rattle.bson_values.specs.Marked.{Marked}
 use Rattle.bson_datum.specs.MarkedView.{marked}
 use Rattle.bson_laws.specs.Assembled.{RawBytes}
 use Rattle.bson_laws.specs.Judged.{Reading, refused, judged}

@@ -1,6 +1,6 @@
 use Rattle.std.proofs.Common.{Err, ap, sym, subst, ◌∙◌}
 use Rattle.bson_base.specs.Tree.{Tree}
-use Rattle.bson_datum.specs.ErrorView.{cause_view}
+use Rattle.bson_values.specs.ErrorView.{cause_view}
 use Rattle.bson_laws.specs.Assembled.{assembled}
 use Rattle.bson_laws.specs.Judged.{Reading}
 use Rattle.bson_laws.specs.TreeRaw.{as_reading}

@@ -1,8 +1,8 @@
 use Rattle.std.proofs.Common.{ap, sym, subst, rules, ◌∙◌}
-use Rattle.bson_base.specs.Outcome.{◌>>=◌}
+use Rattle.bson_kinds.specs.Outcome.{◌>>=◌}
 use Rattle.bson_base.specs.Tree.{Tree}
-use Rattle.bson_datum.specs.Cause.{not_borrowed}
-use Rattle.bson_datum.specs.Refusal.{under}
+use Rattle.bson_values.specs.Cause.{not_borrowed}
+use Rattle.bson_values.specs.Refusal.{under}
 use Rattle.bson_laws.specs.Judged.{Reading, judged, scope_key}
 use Rattle.bson_laws.specs.TreeRaw.{held_scope}
 use Rattle.bson_met.specs.OpenedView.{scope_node}

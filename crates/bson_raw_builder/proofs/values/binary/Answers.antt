@@ -1,6 +1,6 @@
 use Rattle.std.proofs.Common.{◌<◌, ◌∙◌, Ok, ap, sym, arith, pos, codes}
-use Rattle.bson_datum.specs.Value as values
-use Rattle.bson_datum.specs.Value.{u8}
+use Rattle.bson_values.specs.Value as values
+use Rattle.bson_values.specs.Value.{u8}
 use Rattle.bson_laws.specs.Datum.{two, wrapped, nameless}
 use Rattle.bson_laws.specs.TreeRaw.{built_value}
 use Rattle.bson_base.specs.Tree as trees

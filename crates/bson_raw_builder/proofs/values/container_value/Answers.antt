@@ -1,9 +1,9 @@
 use Rattle.std.proofs.Common.{Ok, ap, sym, subst, rules, ◌∙◌}
 use Rattle.bson_base.specs.Tree.{kind, enc}
-use Rattle.bson_base.proofs.Outcomes.{ok_is}
+use Rattle.bson_kinds.proofs.Outcomes.{ok_is}
 use Rattle.bson_rawdoc.specs.Piece.{made}
-use Rattle.bson_datum.specs.ErrorView.{read_fault}
-use Rattle.bson_datum.specs.Stop.{stop_view}
+use Rattle.bson_values.specs.ErrorView.{read_fault}
+use Rattle.bson_values.specs.Stop.{stop_view}
 use Rattle.bson_laws.specs.Assembled.{RawBytes}
 use Rattle.bson_laws.proofs.Framed.{IsFramed}
 use Rattle.bson_raw_builder.specs.RawTreeView.{raw_made}

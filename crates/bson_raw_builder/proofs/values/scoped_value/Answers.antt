@@ -1,10 +1,10 @@
 use Rattle.std.proofs.Common.{◌+◌, ◌≤◌, length, drop, Ok, ap, sym, subst, rules, ◌∙◌}
 use Rattle.bson_base.specs.Sound.{max_bytes}
 use Rattle.bson_base.specs.Tree.{document, enc}
-use Rattle.bson_base.proofs.Outcomes.{ok_is}
+use Rattle.bson_kinds.proofs.Outcomes.{ok_is}
 use Rattle.bson_rawdoc.specs.Piece.{made}
-use Rattle.bson_datum.specs.ErrorView.{read_fault}
-use Rattle.bson_datum.specs.Stop.{stop_view}
+use Rattle.bson_values.specs.ErrorView.{read_fault}
+use Rattle.bson_values.specs.Stop.{stop_view}
 use Rattle.bson_laws.specs.ReadsRaw.{scoped_code}
 use Rattle.bson_laws.proofs.Framed.{IsFramed}
 use Rattle.bson_raw_builder.proofs.BuiltValues.{scope_begins, scope_bytes, scope_framed, never_refused}

@@ -1,6 +1,6 @@
 use Rattle.std.proofs.Common.{◌+◌, ◌-◌, take, drop, length, ap, sym, ◌∙◌, arith}
 use Rattle.std.proofs.lemmas.List.{take_all, length-drop}
-use Rattle.bson_base.specs.Kind.{of_byte}
+use Rattle.bson_kinds.specs.Kind.{of_byte}
 use Rattle.bson_rawdoc.specs.Walk.{of_kind}
 use Rattle.bson_rawdoc.proofs.Keys.{key_good}
 use Rattle.bson_rawdoc.proofs.element.element_at.Goals as goal

@@ -1,5 +1,5 @@
 use Rattle.std.proofs.Common.{refl, sym, ◌∙◌, inl, inr}
-use Rattle.bson_base.proofs.Outcomes.{ok_is}
+use Rattle.bson_kinds.proofs.Outcomes.{ok_is}
 use Rattle.bson_recast_run.specs.Making.{rows_shape}
 use Rattle.bson_recast_run.proofs.MadeRecast.{rows_are_shape, shape_fails}
 use Rattle.bson_recast_run.proofs.making.rows_shape.Goals as goal

@@ -12,6 +12,6 @@ returns-then-eq c = sym (rows_same c.args.word.now c.format.result.now c.in-Ok.r
 pub returns-else-rows-le-MAX_ROWS : goal.returns-else-rows-le-MAX_ROWS
 returns-else-rows-le-MAX_ROWS c = elim c.else-rows-le-MAX_ROWS.branch [
   | else-rows-le-MAX_ROWS-via-then-rows-le-MAX_ROWS+else-eq w ↦
-    sym (rows_unlike c.args.word.now w.format.result.now c.parse.result c.in-Ok.rows c.parse.ensures.value.0 c.in-Ok.is w.format.ensures.text (sym w.eq.ensures ∙ w.if-eq.false))
+      sym (rows_unlike c.args.word.now w.format.result.now c.parse.result c.in-Ok.rows c.parse.ensures.value.0 c.in-Ok.is w.format.ensures.text (sym w.eq.ensures ∙ w.if-eq.false))
   | else-rows-le-MAX_ROWS-via-else-rows-le-MAX_ROWS w ↦ sym (rows_over c.args.word.now c.parse.result c.in-Ok.rows c.parse.ensures.value.0 c.in-Ok.is (omega (arith, w.if-rows-le-MAX_ROWS.false)))
 ]

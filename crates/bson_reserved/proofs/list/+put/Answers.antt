@@ -1,5 +1,5 @@
 use Rattle.std.proofs.Common.{◌∷◌, ◌++◌, ap, sym, subst, ◌∙◌, arith}
-use Rattle.bson_datum.specs.TextView.{text_view}
+use Rattle.bson_values.specs.TextView.{text_view}
 use Rattle.bson_datum.specs.View.{view, fields_view}
 use Rattle.bson_datum.specs.declared.datum.Datum.TheViews.{size-Datum}
 use Rattle.bson_datum.proofs.Views.{view-Struct}

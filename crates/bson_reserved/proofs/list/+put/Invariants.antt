@@ -1,6 +1,6 @@
 -- What the list holds before a field leaves to come what was to come from the fields that are left.
 use Rattle.std.proofs.Common.{◌≡◌, ◌≤◌, ◌++◌, List, drop, max}
-use Rattle.bson_datum.specs.Value.{Value}
+use Rattle.bson_values.specs.Value.{Value}
 use Rattle.bson_datum.specs.View.{fields_view}
 use Rattle.bson_laws.specs.Unwrap.{Part, listed}
 use Rattle.bson_reserved.specs.ListView.{parts_view}

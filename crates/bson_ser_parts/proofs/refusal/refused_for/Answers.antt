@@ -1,5 +1,5 @@
-use Rattle.bson_datum.specs.Refusal.{unwritable}
-use Rattle.bson_datum.specs.ErrorView.{cause_view}
+use Rattle.bson_values.specs.Refusal.{unwritable}
+use Rattle.bson_values.specs.ErrorView.{cause_view}
 use Rattle.bson_ser_parts.proofs.Answered.{placed_here}
 use Rattle.bson_ser_parts.proofs.refusal.refused_for.Goals as goal
 

@@ -1,10 +1,10 @@
 use Rattle.std.proofs.Common.{◌≡◌, suc, ◌+◌, ◌<◌, [], ◌∷◌, length, drop, Err, arith, ap, sym, subst, ◌∙◌, drop-cons}
 use Rattle.std.proofs.lemmas.Grind.{common_steps}
 use Rattle.std.proofs.lemmas.Result.{err_from_is_err_and}
-use Rattle.bson_base.specs.Reserved.{reserved_kind}
-use Rattle.bson_base.specs.declared.element_type.ElementType.TheVariants.{Array, EmbeddedDocument}
-use Rattle.bson_datum.specs.TextView.{text_view}
-use Rattle.bson_datum.specs.Value.{map, tuple_variant, structure, structure_variant}
+use Rattle.bson_kinds.specs.Reserved.{reserved_kind}
+use Rattle.bson_kinds.specs.declared.element_type.ElementType.TheVariants.{Array, EmbeddedDocument}
+use Rattle.bson_values.specs.TextView.{text_view}
+use Rattle.bson_values.specs.Value.{map, tuple_variant, structure, structure_variant}
 use Rattle.bson_datum.specs.View.{view, items_view, entries_view, fields_view}
 use Rattle.bson_datum.proofs.Views.{view-TupleVariant, view-Map, view-Struct, view-StructVariant}
 use Rattle.bson_io.specs.Output.{Patched}
@@ -24,9 +24,9 @@ use Rattle.std.specs.Fmt.{decimal}
 use Rattle.bson_ser_stream.specs.Writing.{with_element, with_elements, with_array_elements}
 use Rattle.bson_writing.specs.Halting.{Halts}
 use Rattle.bson_laws.proofs.Listed.{no_scope_spelled}
-use Rattle.bson_base.specs.declared.element_type.ElementType.TheVariants.{JavaScriptCodeWithScope}
-use Rattle.bson_datum.specs.Cause.{bad_step}
-use Rattle.bson_datum.specs.Refusal.{unwritable, at_key, at_index}
+use Rattle.bson_kinds.specs.declared.element_type.ElementType.TheVariants.{JavaScriptCodeWithScope}
+use Rattle.bson_values.specs.Cause.{bad_step}
+use Rattle.bson_values.specs.Refusal.{unwritable, at_key, at_index}
 use Rattle.bson_ser_stream.proofs.Puts.{Grows-none, puts_refusal}
 use Rattle.bson_ser_stream.proofs.Scoped.{halts_begin, halts_code, halts_scope, halts_total, puts_total}
 use Rattle.bson_ser_stream.proofs.value.+put.Goals as goal

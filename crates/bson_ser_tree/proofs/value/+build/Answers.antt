@@ -2,8 +2,8 @@ use Rattle.std.proofs.Common.{◌≡◌, suc, ◌+◌, ◌<◌, ◌≤◌, ◌�
 use Rattle.std.proofs.lemmas.List.{drop_all}
 use Rattle.bson_base.specs.Folded.{fold}
 use Rattle.bson_base.specs.Tree.{array, no_pairs}
-use Rattle.bson_datum.specs.TextView.{text_view}
-use Rattle.bson_datum.specs.Value.{item, tuple_variant, structure, structure_variant}
+use Rattle.bson_values.specs.TextView.{text_view}
+use Rattle.bson_values.specs.Value.{item, tuple_variant, structure, structure_variant}
 use Rattle.bson_datum.specs.View.{view, items_view, fields_view}
 use Rattle.bson_datum.proofs.Views.{view-TupleVariant, view-Struct, view-StructVariant}
 use Rattle.bson_laws.specs.Spell.{enclosed_at}

@@ -1,7 +1,7 @@
 -- What was made so far leaves to come what was to come from the fields, the entries or the values that are left.
 use Rattle.std.proofs.Common.{◌≡◌, drop}
 use Rattle.bson_base.specs.BsonView.{pairs_of}
-use Rattle.bson_base.specs.Outcome.{result_map}
+use Rattle.bson_kinds.specs.Outcome.{result_map}
 use Rattle.bson_base.specs.Tree.{no_pairs}
 use Rattle.bson_datum.specs.View.{items_view, entries_view, fields_view}
 use Rattle.bson_tree_laws.specs.TreeSpell.{tree_items, tree_entries, tree_fields}

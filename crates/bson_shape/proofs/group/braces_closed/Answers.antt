@@ -1,5 +1,5 @@
 use Rattle.std.proofs.Common.{subst}
-use Rattle.bson_base.specs.Text.{Utf8}
+use Rattle.bson_kinds.specs.Text.{Utf8}
 use Rattle.bson_shape.specs.Answers.{Gives}
 use Rattle.bson_shape.specs.Machine.{form_closed}
 use Rattle.bson_shape.specs.Form.{dropped}

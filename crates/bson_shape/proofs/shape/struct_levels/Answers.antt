@@ -1,6 +1,6 @@
 use Rattle.std.proofs.Common.{◌≡◌, ◌∙◌, sym, ap, subst, arith, false, is_some, string_bytes}
 use Rattle.std.proofs.lemmas.Str.{is_utf8-from_IsUtf8, IsUtf8-had}
-use Rattle.bson_base.specs.Reserved.{reserved_kind}
+use Rattle.bson_kinds.specs.Reserved.{reserved_kind}
 use Rattle.bson_shape.specs.Levels.{deepest}
 use Rattle.bson_shape.specs.Makers.{AreShapes}
 use Rattle.bson_shape.specs.ShapeView.{fields_of}

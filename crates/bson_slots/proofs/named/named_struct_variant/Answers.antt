@@ -1,7 +1,7 @@
 use Rattle.std.proofs.Common.{ap, ◌∙◌}
 use Rattle.bson_rawdoc.specs.Piece.{made}
-use Rattle.bson_datum.specs.Value.{structure_variant}
-use Rattle.bson_datum.specs.declared.text.Text.TheVariants.{Owned}
+use Rattle.bson_values.specs.Value.{structure_variant}
+use Rattle.bson_values.specs.declared.text.Text.TheVariants.{Owned}
 use Rattle.bson_slots.specs.FieldSlots.{fields_marked}
 use Rattle.bson_slots.proofs.MarkedFields.{marked-StructVariant}
 use Rattle.bson_slots.proofs.named.named_struct_variant.Goals as goal

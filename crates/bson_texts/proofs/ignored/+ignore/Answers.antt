@@ -1,5 +1,5 @@
 use Rattle.std.proofs.Common.{rules, refl, ◌≡◌, suc, ◌+◌, ◌*◌, ◌<◌, ap, sym, subst, ◌∙◌, arith}
-use Rattle.bson_datum.specs.Refusal.{at_key, under}
+use Rattle.bson_values.specs.Refusal.{at_key, under}
 use Rattle.bson_rawdoc.specs.Node.{opened}
 use Rattle.bson_laws.specs.Judged.{Reading, at_its_key, at_its_index, scope_key, pass_scope}
 use Rattle.bson_laws.proofs.Tame.{judged_is}

@@ -1,6 +1,6 @@
 use Rattle.std.proofs.Common.{◌≡◌, ◌++◌, length, map}
 use Rattle.std.specs.Vec.Iter.{into_iter_items, into_iter_len}
-use Rattle.bson_base.specs.Outcome.{result_map}
+use Rattle.bson_kinds.specs.Outcome.{result_map}
 use Rattle.bson_datum.specs.View.{items_view}
 use Rattle.bson_traits.specs.Sequences.{taken_items}
 use Rattle.bson_traits.proofs.sequence.values_of.Given as goal

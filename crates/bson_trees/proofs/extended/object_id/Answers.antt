@@ -1,10 +1,10 @@
 use Rattle.std.proofs.Common.{Ok, ap, sym, subst, ◌∙◌}
-use Rattle.bson_base.specs.Outcome.{◌>>=◌, result_map}
+use Rattle.bson_kinds.specs.Outcome.{◌>>=◌, result_map}
 use Rattle.bson_base.specs.Tree.{no_pairs}
-use Rattle.bson_base.specs.declared.element_type.ElementType.TheVariants as kinds
-use Rattle.bson_base.proofs.Outcomes.{map_ok}
+use Rattle.bson_kinds.specs.declared.element_type.ElementType.TheVariants as kinds
+use Rattle.bson_kinds.proofs.Outcomes.{map_ok}
 use Rattle.bson_rawdoc.specs.Piece.{made}
-use Rattle.bson_datum.specs.Marked.{Marked}
+use Rattle.bson_values.specs.Marked.{Marked}
 use Rattle.bson_datum.specs.MarkedView.{marked}
 use Rattle.bson_laws.specs.Datum.{datum}
 use Rattle.bson_laws.specs.Judged.{Reading}

@@ -1,10 +1,10 @@
 use Rattle.std.proofs.Common.{◌≡◌, rules, sym, subst, ◌∙◌}
 use Rattle.bson_base.specs.Tree.{kind}
-use Rattle.bson_datum.specs.Cause.{wrong_kind}
-use Rattle.bson_datum.specs.ErrorView.{read_fault}
-use Rattle.bson_datum.specs.Marked.{Marked}
+use Rattle.bson_values.specs.Cause.{wrong_kind}
+use Rattle.bson_values.specs.ErrorView.{read_fault}
+use Rattle.bson_values.specs.Marked.{Marked}
 use Rattle.bson_datum.specs.MarkedView.{marked}
-use Rattle.bson_datum.specs.Stop.{stop_view}
+use Rattle.bson_values.specs.Stop.{stop_view}
 use Rattle.bson_laws.specs.Judged.{Reading}
 use Rattle.bson_met.specs.Gives.{IsRefusedOrNoMemory}
 use Rattle.bson_met.proofs.Refusals.{StopsAs, refused_stops}

@@ -1,17 +1,17 @@
 use Rattle.std.proofs.Common.{◌≡◌, true, rules, suc, Ok, refl, ap, sym, subst, ◌∙◌, ◌+◌, ◌*◌, ◌<◌, arith}
-use Rattle.bson_base.specs.Outcome.{◌>>=◌, result_map}
+use Rattle.bson_kinds.specs.Outcome.{◌>>=◌, result_map}
 use Rattle.std.specs.Prelude.{string_bytes}
 use Rattle.bson_base.specs.Tree as tree
 use Rattle.bson_base.specs.Tree.{Tree, no_pairs}
-use Rattle.bson_base.proofs.Outcomes.{map_ok}
+use Rattle.bson_kinds.proofs.Outcomes.{map_ok}
 use Rattle.bson_rawdoc.specs.Node as node
 use Rattle.bson_rawdoc.specs.Node.{opened}
 use Rattle.bson_rawdoc.specs.Piece.{made}
 use Rattle.bson_shape.specs.ShapeView.{form_view}
-use Rattle.bson_datum.specs.Marked.{Marked}
+use Rattle.bson_values.specs.Marked.{Marked}
 use Rattle.bson_datum.specs.MarkedView.{marked}
-use Rattle.bson_datum.specs.Refusal.{at_index, under_index}
-use Rattle.bson_datum.specs.Value as value
+use Rattle.bson_values.specs.Refusal.{at_index, under_index}
+use Rattle.bson_values.specs.Value as value
 use Rattle.bson_laws.specs.Datum.{datum, pair_data}
 use Rattle.bson_laws.specs.Judged.{Reading, scope_key}
 use Rattle.bson_laws.specs.ReadsLeaf.{put_entry}

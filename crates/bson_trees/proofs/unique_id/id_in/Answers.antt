@@ -1,10 +1,10 @@
 use Rattle.std.proofs.Common.{refl, ap, sym, subst, ◌∙◌, rules}
-use Rattle.bson_base.specs.Outcome.{◌>>=◌}
-use Rattle.bson_base.specs.Text.{Bytes}
+use Rattle.bson_kinds.specs.Outcome.{◌>>=◌}
+use Rattle.bson_kinds.specs.Text.{Bytes}
 use Rattle.bson_base.specs.Tree.{Tree, no_pairs}
-use Rattle.bson_base.proofs.Outcomes.{map_ok}
-use Rattle.bson_base.specs.declared.element_type.ElementType.TheVariants.{EmbeddedDocument}
-use Rattle.bson_datum.specs.Cause.{wrong_kind}
+use Rattle.bson_kinds.proofs.Outcomes.{map_ok}
+use Rattle.bson_kinds.specs.declared.element_type.ElementType.TheVariants.{EmbeddedDocument}
+use Rattle.bson_values.specs.Cause.{wrong_kind}
 use Rattle.bson_laws.specs.Judged.{Reading}
 use Rattle.bson_laws.specs.ReadsExtended.{uuid_in}
 use Rattle.bson_met.specs.Gives.{Reaches}

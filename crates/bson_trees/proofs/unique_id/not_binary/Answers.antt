@@ -1,13 +1,13 @@
 use Rattle.std.proofs.Common.{ap, sym, subst, ◌∙◌, rules}
-use Rattle.bson_base.specs.Outcome.{◌>>=◌}
-use Rattle.bson_base.specs.Text.{Bytes}
+use Rattle.bson_kinds.specs.Outcome.{◌>>=◌}
+use Rattle.bson_kinds.specs.Text.{Bytes}
 use Rattle.bson_base.specs.Tree.{Tree, kind}
-use Rattle.bson_base.proofs.Outcomes.{map_ok}
+use Rattle.bson_kinds.proofs.Outcomes.{map_ok}
 use Rattle.bson_rawdoc.specs.Piece.{made}
-use Rattle.bson_datum.specs.Cause.{wrong_kind}
-use Rattle.bson_datum.specs.ErrorView.{read_fault}
+use Rattle.bson_values.specs.Cause.{wrong_kind}
+use Rattle.bson_values.specs.ErrorView.{read_fault}
 use Rattle.bson_datum.specs.MarkedView.{marked}
-use Rattle.bson_datum.specs.Stop.{stop_view}
+use Rattle.bson_values.specs.Stop.{stop_view}
 use Rattle.bson_laws.specs.Datum.{datum}
 use Rattle.bson_laws.specs.Judged.{Reading}
 use Rattle.bson_laws.specs.ReadsExtended.{uuid_in}

@@ -1,6 +1,6 @@
 use Rattle.std.proofs.Common.{ap, rules}
-use Rattle.bson_base.specs.Outcome.{result_map}
-use Rattle.bson_datum.specs.Marked.{Marked}
+use Rattle.bson_kinds.specs.Outcome.{result_map}
+use Rattle.bson_values.specs.Marked.{Marked}
 use Rattle.bson_laws.specs.Judged.{Reading}
 use Rattle.bson_met.specs.PieceView.{str_piece}
 use Rattle.bson_met.proofs.Refusals.{stops_map}

@@ -1,10 +1,10 @@
 use Rattle.std.proofs.Common.{◌≡◌, ap, sym, subst, ◌∙◌, rules}
-use Rattle.bson_base.specs.Outcome.{◌>>=◌}
-use Rattle.bson_base.specs.Text.{Bytes}
+use Rattle.bson_kinds.specs.Outcome.{◌>>=◌}
+use Rattle.bson_kinds.specs.Text.{Bytes}
 use Rattle.bson_base.specs.Tree as tree
 use Rattle.bson_base.specs.Tree.{Tree}
-use Rattle.bson_datum.specs.Refusal.{under}
-use Rattle.bson_datum.specs.declared.wrapper.Wrapper.TheVariants.{Binary, Uuid}
+use Rattle.bson_values.specs.Refusal.{under}
+use Rattle.bson_values.specs.declared.wrapper.Wrapper.TheVariants.{Binary, Uuid}
 use Rattle.bson_laws.specs.Judged.{Reading}
 use Rattle.bson_laws.specs.ReadsExtended.{uuid_in}
 use Rattle.bson_laws.specs.Wrapped.{meaning}

@@ -2,7 +2,7 @@ use Rattle.std.proofs.Common.{Ok, ap, sym, ◌∙◌, rules}
 use Rattle.std.specs.Prelude.{codes, string_bytes}
 use Rattle.bson_rawdoc.specs.Piece.{made}
 use Rattle.bson_shape.specs.Form.{field, no_fields, Fields}
-use Rattle.bson_datum.specs.Value.{str}
+use Rattle.bson_values.specs.Value.{str}
 use Rattle.bson_laws.specs.Datum.{two}
 use Rattle.bson_laws.specs.Wrapped.{text, two_texts, binary_of_texts}
 use Rattle.bson_wrapped.proofs.Made.{fields_read_done, fields_read_stop}

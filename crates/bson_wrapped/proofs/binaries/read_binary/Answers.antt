@@ -1,6 +1,6 @@
 use Rattle.std.proofs.Common.{ap}
-use Rattle.bson_datum.specs.Refusal.{at_key, under}
-use Rattle.bson_datum.specs.declared.wrapper.Wrapper.TheVariants.{Binary}
+use Rattle.bson_values.specs.Refusal.{at_key, under}
+use Rattle.bson_values.specs.declared.wrapper.Wrapper.TheVariants.{Binary}
 use Rattle.bson_laws.specs.Wrapped.{meaning}
 use Rattle.bson_met.specs.PieceView.{str_piece}
 use Rattle.bson_met.proofs.Refusals.{stops_inside}

@@ -1,10 +1,10 @@
 use Rattle.std.proofs.Common.{Ok, ap, sym, subst, ◌∙◌, rules}
 use Rattle.std.specs.Prelude.{option_map}
-use Rattle.bson_base.specs.Outcome.{◌>>=◌}
+use Rattle.bson_kinds.specs.Outcome.{◌>>=◌}
 use Rattle.bson_base.specs.Tree as tree
 use Rattle.bson_base.specs.Tree.{Tree}
-use Rattle.bson_datum.specs.Cause.{bad_body}
-use Rattle.bson_datum.specs.declared.wrapper.Wrapper.TheVariants.{Binary}
+use Rattle.bson_values.specs.Cause.{bad_body}
+use Rattle.bson_values.specs.declared.wrapper.Wrapper.TheVariants.{Binary}
 use Rattle.bson_laws.specs.Judged.{Reading}
 use Rattle.bson_laws.specs.Trees.{or_bad}
 use Rattle.bson_laws.specs.Wrapped.{meaning}

@@ -1,12 +1,12 @@
 use Rattle.std.proofs.Common.{false, Ok, Option, ap, sym, ◌∙◌, rules}
 use Rattle.std.specs.Prelude.{option_map}
 use Rattle.uuid.specs.Text.{parsed}
-use Rattle.bson_base.specs.Outcome.{◌>>=◌, result_map}
-use Rattle.bson_base.specs.Text.{Bytes, Utf8}
+use Rattle.bson_kinds.specs.Outcome.{◌>>=◌, result_map}
+use Rattle.bson_kinds.specs.Text.{Bytes, Utf8}
 use Rattle.bson_base.specs.Tree as tree
 use Rattle.bson_base.specs.Tree.{Tree}
 use Rattle.bson_rawdoc.specs.Piece.{Piece}
-use Rattle.bson_datum.specs.declared.wrapper.Wrapper.TheVariants.{Uuid}
+use Rattle.bson_values.specs.declared.wrapper.Wrapper.TheVariants.{Uuid}
 use Rattle.bson_laws.specs.Judged.{Reading}
 use Rattle.bson_laws.specs.Trees.{or_bad}
 use Rattle.bson_met.proofs.Refusals.{stops_bind, stops_map}

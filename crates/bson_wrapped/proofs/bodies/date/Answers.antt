@@ -4,8 +4,8 @@ use Rattle.bson_base.specs.Parsed.{integer_of_text}
 use Rattle.bson_base.specs.Tree as tree
 use Rattle.bson_rawdoc.specs.Piece.{made}
 use Rattle.bson_shape.specs.Form.{field, no_fields, Fields}
-use Rattle.bson_datum.specs.Marked.{Marked}
-use Rattle.bson_datum.specs.Value.{str}
+use Rattle.bson_values.specs.Marked.{Marked}
+use Rattle.bson_values.specs.Value.{str}
 use Rattle.bson_laws.specs.Datum.{one}
 use Rattle.bson_laws.specs.Judged.{Reading}
 use Rattle.bson_laws.specs.Wrapped.{text}

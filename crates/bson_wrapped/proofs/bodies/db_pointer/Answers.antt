@@ -4,7 +4,7 @@ use Rattle.bson_base.specs.Parsed.{bytes_of_digits}
 use Rattle.bson_base.specs.Tree as tree
 use Rattle.bson_rawdoc.specs.Piece.{made}
 use Rattle.bson_shape.specs.Form.{field, no_fields, Fields}
-use Rattle.bson_datum.specs.Value.{Value, str, structure}
+use Rattle.bson_values.specs.Value.{Value, str, structure}
 use Rattle.bson_laws.specs.Datum.{one, two}
 use Rattle.bson_laws.specs.Wrapped.{text, with_field, two_fields, a_text, a_field}
 use Rattle.bson_wrapped.specs.Bodies.{as_datum, pointer_of}

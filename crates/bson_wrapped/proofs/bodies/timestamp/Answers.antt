@@ -4,7 +4,7 @@ use Rattle.bson_base.specs.Tree as tree
 use Rattle.bson_rawdoc.specs.Piece.{made}
 use Rattle.bson_shape.specs.Form.{leaf, field, no_fields, Fields}
 use Rattle.bson_shape.specs.declared.leaf.Leaf.TheVariants.{U32}
-use Rattle.bson_datum.specs.Value.{integer, u32}
+use Rattle.bson_values.specs.Value.{integer, u32}
 use Rattle.bson_laws.specs.Datum.{two}
 use Rattle.bson_laws.specs.Wrapped.{two_numbers}
 use Rattle.bson_wrapped.proofs.Made.{fields_done, fields_stop}

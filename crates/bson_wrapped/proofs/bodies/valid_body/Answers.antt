@@ -1,6 +1,6 @@
 use Rattle.std.proofs.Common.{Ok, rules, ap, subst, sym, ◌∙◌}
-use Rattle.bson_datum.specs.Cause.{bad_body}
-use Rattle.bson_datum.specs.Marked.{Marked}
+use Rattle.bson_values.specs.Cause.{bad_body}
+use Rattle.bson_values.specs.Marked.{Marked}
 use Rattle.bson_datum.specs.MarkedView.{marked}
 use Rattle.bson_laws.specs.Judged.{Reading}
 use Rattle.bson_laws.specs.Wrapped.{meaning}

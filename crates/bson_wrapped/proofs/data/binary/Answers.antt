@@ -2,7 +2,7 @@ use Rattle.std.proofs.Common.{◌≡◌, ◌<◌, [], ◌∷◌, ap, subst, ◌�
 use Rattle.bson_base.specs.Made.{digits, base64_text}
 use Rattle.bson_rawdoc.specs.Piece.{made}
 use Rattle.bson_datum.specs.MarkedView.{marked}
-use Rattle.bson_datum.specs.Value as values
+use Rattle.bson_values.specs.Value as values
 use Rattle.bson_laws.specs.Datum.{two, wrapped, nameless}
 use Rattle.bson_wrapped.proofs.Made.{binary_made}
 use Rattle.bson_wrapped.proofs.data.binary.Goals as goal

@@ -1,5 +1,5 @@
 use Rattle.std.proofs.Common.{sym, subst, ap, ◌∙◌}
-use Rattle.bson_datum.specs.Refusal.{at_key, under}
+use Rattle.bson_values.specs.Refusal.{at_key, under}
 use Rattle.bson_laws.specs.Judged.{Reading, ignores}
 use Rattle.bson_met.specs.PieceView.{str_piece}
 use Rattle.bson_met.proofs.Refusals.{StopsAs, stops_inside}

@@ -1,6 +1,6 @@
 use Rattle.std.proofs.Common.{rules, None, subst}
-use Rattle.bson_datum.specs.ErrorView.{read_fault}
-use Rattle.bson_datum.specs.Stop.{stop_view}
+use Rattle.bson_values.specs.ErrorView.{read_fault}
+use Rattle.bson_values.specs.Stop.{stop_view}
 use Rattle.bson_laws.specs.ReadsLeaf.{no_extended}
 use Rattle.bson_laws.specs.Shaped.{reads}
 use Rattle.bson_met.specs.Gives.{RefusesAs}

@@ -1,6 +1,6 @@
 use Rattle.bson_base.specs.BsonView.{tree_of}
 use Rattle.bson_base.specs.Prover.Decided.{same_decides}
-use Rattle.bson_base.proofs.Sames.{exactly}
+use Rattle.bson_kinds.proofs.Decisions.{exactly}
 use Rattle.bson_base.proofs.equality.BsonPartialEq.eq.Goals as goal
 
 pub returns-clause-equal : goal.returns-clause-equal

@@ -1,6 +1,6 @@
 use Rattle.bson_base.specs.BsonView.{pairs_of}
 use Rattle.bson_base.specs.Prover.Decided.{same_pairs_decides}
-use Rattle.bson_base.proofs.Sames.{exactly}
+use Rattle.bson_kinds.proofs.Decisions.{exactly}
 use Rattle.bson_base.proofs.equality.DocumentPartialEq.eq.Goals as goal
 
 pub returns-clause-equal : goal.returns-clause-equal

@@ -3,7 +3,7 @@ use Rattle.std.specs.Prelude.{◌&&◌}
 use Rattle.bson_base.specs.BsonView.{scoped_of, pairs_of}
 use Rattle.bson_base.specs.Prover.Decided.{same_decides}
 use Rattle.bson_base.specs.Same.{same_pairs}
-use Rattle.bson_base.proofs.Sames.{exactly}
+use Rattle.bson_kinds.proofs.Decisions.{exactly}
 use Rattle.bson_base.proofs.equality.JavaScriptCodeWithScopePartialEq.eq.Goals as goal
 
 pub returns-then-eq-clause-equal : goal.returns-then-eq-clause-equal

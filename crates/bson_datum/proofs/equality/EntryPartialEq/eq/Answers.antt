@@ -1,6 +1,6 @@
 use Rattle.bson_datum.specs.View.{entry_view}
-use Rattle.bson_datum.specs.Prover.Decided.{same_entry_decides}
-use Rattle.bson_base.proofs.Sames.{exactly}
+use Rattle.bson_values.specs.Prover.Decided.{same_entry_decides}
+use Rattle.bson_kinds.proofs.Decisions.{exactly}
 use Rattle.bson_datum.proofs.equality.EntryPartialEq.eq.Goals as goal
 
 pub returns-clause-equal : goal.returns-clause-equal

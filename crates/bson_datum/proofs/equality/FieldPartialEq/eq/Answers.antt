@@ -1,6 +1,6 @@
 use Rattle.bson_datum.specs.View.{field_view}
-use Rattle.bson_datum.specs.Prover.Decided.{same_field_decides}
-use Rattle.bson_base.proofs.Sames.{exactly}
+use Rattle.bson_values.specs.Prover.Decided.{same_field_decides}
+use Rattle.bson_kinds.proofs.Decisions.{exactly}
 use Rattle.bson_datum.proofs.equality.FieldPartialEq.eq.Goals as goal
 
 pub returns-clause-equal : goal.returns-clause-equal

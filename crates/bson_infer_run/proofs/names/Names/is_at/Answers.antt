@@ -1,7 +1,7 @@
 use Rattle.std.proofs.Common.{◌≡◌, ◌<◌, length, get_or, ap, sym, subst, ◌∙◌, string_bytes, map, arith}
 use Rattle.std.proofs.lemmas.List.{length-map}
 use Rattle.std.specs.Str.{bytes_eq}
-use Rattle.bson_base.specs.Text.{Utf8}
+use Rattle.bson_kinds.specs.Text.{Utf8}
 use Rattle.bson_infer_run.specs.SummaryView.{IsAt}
 use Rattle.bson_infer_run.proofs.NamePlaces.{texts_of, text_at}
 use Rattle.bson_infer_run.proofs.Places.{at_distinct}

@@ -2,7 +2,7 @@ use Rattle.std.proofs.Common.{◌≡◌, ◌+◌, ◌<◌, ◌++◌, ◌∷◌, 
 use Rattle.std.specs.List.{list_any}
 use Rattle.std.specs.Str.{bytes_eq}
 use Rattle.std.proofs.lemmas.List.{length-map, length-append, map-append}
-use Rattle.bson_base.specs.Text.{Utf8}
+use Rattle.bson_kinds.specs.Text.{Utf8}
 use Rattle.bson_infer_run.specs.NamesView.{FindsAll}
 use Rattle.bson_infer_run.proofs.NamePlaces.{texts_of, indexed_more}
 use Rattle.bson_infer_run.proofs.names.Names.with.Goals as goal

@@ -1,5 +1,5 @@
 use Rattle.std.proofs.Common.{true, false, refl, subst, arith}
-use Rattle.bson_datum.specs.Refusal.{at_key}
+use Rattle.bson_values.specs.Refusal.{at_key}
 use Rattle.bson_datum.specs.View.{view}
 use Rattle.bson_writing.specs.Halting.{IsUnder}
 use Rattle.bson_ser_stream.proofs.Puts.{Grows-none}

@@ -1,7 +1,7 @@
 use Rattle.std.proofs.Common.{[], subst}
 use Rattle.bson_base.specs.Folded.{fold}
-use Rattle.bson_base.specs.Outcome.{result_map}
-use Rattle.bson_datum.specs.Value.{structure}
+use Rattle.bson_kinds.specs.Outcome.{result_map}
+use Rattle.bson_values.specs.Value.{structure}
 use Rattle.bson_datum.specs.View.{view}
 use Rattle.bson_writing.specs.Levels.{in_whole}
 use Rattle.bson_ser_tree.specs.MadeView.{pairs_made}

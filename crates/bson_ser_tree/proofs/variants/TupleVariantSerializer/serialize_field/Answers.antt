@@ -1,6 +1,6 @@
 use Rattle.std.proofs.Common.{string_bytes, subst}
 use Rattle.bson_base.specs.Tree.{array}
-use Rattle.bson_datum.specs.Value.{tuple_variant}
+use Rattle.bson_values.specs.Value.{tuple_variant}
 use Rattle.bson_datum.specs.View.{view}
 use Rattle.bson_writing.specs.Levels.{in_variant}
 use Rattle.bson_ser_tree.specs.MadeView.{items_made}

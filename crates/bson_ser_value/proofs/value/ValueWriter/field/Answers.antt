@@ -1,5 +1,5 @@
 use Rattle.std.proofs.Common.{◌≡◌, refl, sym, subst, ap, ◌∙◌}
-use Rattle.bson_datum.specs.ErrorView.{write_failure}
+use Rattle.bson_values.specs.ErrorView.{write_failure}
 use Rattle.bson_datum.specs.View.{view, fields_view}
 use Rattle.bson_writing.specs.Joined.{with_field}
 use Rattle.bson_fronts.specs.Fronts.{AreFirst}

@@ -1,4 +1,4 @@
-use Rattle.bson_base.proofs.Sames.{exactly}
+use Rattle.bson_kinds.proofs.Decisions.{exactly}
 use Rattle.bson_shape.specs.Prover.Decided.{same_decides}
 use Rattle.bson_shape.proofs.equality.ShapePartialEq.eq.Goals as goal
 

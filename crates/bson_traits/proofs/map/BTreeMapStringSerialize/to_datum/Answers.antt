@@ -1,5 +1,5 @@
 use Rattle.std.proofs.Common.{ap, sym, ◌∙◌, Ok}
-use Rattle.bson_datum.specs.Value.{str}
+use Rattle.bson_values.specs.Value.{str}
 use Rattle.bson_datum.proofs.Views.{view-Map}
 use Rattle.bson_traits.proofs.MapSteps.{write_pair_more, write_pairs_end}
 use Rattle.bson_traits.proofs.map.BTreeMapStringSerialize.to_datum.Goals as goal

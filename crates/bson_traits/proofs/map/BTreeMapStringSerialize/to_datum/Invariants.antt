@@ -1,5 +1,5 @@
 use Rattle.std.proofs.Common.{◌≡◌}
-use Rattle.bson_base.specs.Outcome.{result_map}
+use Rattle.bson_kinds.specs.Outcome.{result_map}
 use Rattle.bson_datum.specs.View.{entries_view}
 use Rattle.bson_traits.specs.Maps.{written_entries}
 use Rattle.bson_traits.proofs.MapSteps.{joined}

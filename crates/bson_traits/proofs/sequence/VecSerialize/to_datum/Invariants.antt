@@ -1,5 +1,5 @@
 use Rattle.std.proofs.Common.{◌≡◌, drop}
-use Rattle.bson_base.specs.Outcome.{result_map}
+use Rattle.bson_kinds.specs.Outcome.{result_map}
 use Rattle.bson_datum.specs.View.{items_view}
 use Rattle.bson_traits.specs.Sequences.{written_items}
 use Rattle.bson_traits.proofs.Steps.{joined}

@@ -1,10 +1,10 @@
 use Rattle.std.proofs.Common.{[], ap, sym, subst, ◌∙◌, rules}
 use Rattle.std.specs.Prelude.{codes}
-use Rattle.bson_base.specs.Outcome.{result_map}
+use Rattle.bson_kinds.specs.Outcome.{result_map}
 use Rattle.bson_rawdoc.specs.Piece.{made}
 use Rattle.bson_shape.specs.Form.{dropped, field, no_fields}
-use Rattle.bson_datum.specs.Marked.{Marked, MarkedFields}
-use Rattle.bson_datum.specs.Value.{structure}
+use Rattle.bson_values.specs.Marked.{Marked, MarkedFields}
+use Rattle.bson_values.specs.Value.{structure}
 use Rattle.bson_laws.specs.Judged.{Reading, judged}
 use Rattle.bson_laws.specs.ReadsLeaf.{no_extended}
 use Rattle.bson_laws.specs.Shaped.{slots_of}

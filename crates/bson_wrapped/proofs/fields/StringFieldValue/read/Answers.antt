@@ -1,6 +1,6 @@
 use Rattle.std.proofs.Common.{false, sym, subst}
-use Rattle.bson_datum.specs.Marked.{Marked}
-use Rattle.bson_datum.specs.Value as value
+use Rattle.bson_values.specs.Marked.{Marked}
+use Rattle.bson_values.specs.Value as value
 use Rattle.bson_rawdoc.specs.Piece.{made}
 use Rattle.std.specs.Prelude.{string_bytes}
 use Rattle.bson_laws.specs.Judged.{Reading, judged}

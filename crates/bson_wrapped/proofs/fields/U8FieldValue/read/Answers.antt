@@ -1,12 +1,12 @@
 use Rattle.std.proofs.Common.{◌≡◌, Some, None, SFits, rules, subst, w64}
 use Rattle.std.proofs.lemmas.Int.{to_z-of_z}
 use Rattle.std.specs.Prelude.{pos}
-use Rattle.bson_datum.specs.Cause.{out_of_range}
-use Rattle.bson_datum.specs.Marked.{Marked}
-use Rattle.bson_datum.specs.Value.{integer, u8}
+use Rattle.bson_values.specs.Cause.{out_of_range}
+use Rattle.bson_values.specs.Marked.{Marked}
+use Rattle.bson_values.specs.Value.{integer, u8}
 use Rattle.bson_laws.specs.Leaves.{numbers}
-use Rattle.bson_datum.specs.ErrorView.{read_fault}
-use Rattle.bson_datum.specs.Stop.{stop_view}
+use Rattle.bson_values.specs.ErrorView.{read_fault}
+use Rattle.bson_values.specs.Stop.{stop_view}
 use Rattle.bson_met.specs.Gives.{IsRefusedOrNoMemory}
 use Rattle.bson_met.proofs.Refusals.{refused_stops}
 use Rattle.bson_texts.specs.Leaves.{number_as}

@@ -1,0 +1,5 @@
+pub mod Text
+pub mod Kind
+pub mod Reserved
+pub mod Outcome
+pub mod Prover

@@ -1,0 +1,14 @@
+pub mod Value
+pub mod TextView
+pub mod ByteStrView
+pub mod Marked
+pub mod Pieces
+pub mod Wrapper
+pub mod Cause
+pub mod Refusal
+pub mod PathView
+pub mod Stop
+pub mod ErrorView
+pub mod Printed
+pub mod Same
+pub mod Prover
