@@ -262,8 +262,7 @@ def uses(lines, crate, module, name, names, is_enum):
 
 def struct_code(name, fields):
     """The bodies of the calls of a struct: of `to_datum`, `shape`, `from_datum` and `known`."""
-    to = [f"let {field} = self.{field}.to_datum(alloc)?;" for field, _ in fields]
-    to += ["let mut fields = Vec::new(alloc);"] + [f'add_field(&mut fields, "{field}", {field})?;' for field, _ in fields] + [f'Ok(struct_datum("{name}", fields))']
+    to = ["let mut fields = Vec::new(alloc);"] + [f'add_field(&mut fields, "{field}", self.{field}.to_datum(alloc)?)?;' for field, _ in fields] + [f'Ok(struct_datum("{name}", fields))']
     shape = ["let mut fields = FieldShapes::new(alloc);"] + [f'fields.add(alloc, "{field}", <{text} as Deserialize<\'de>>::shape(alloc)?)?;' for field, text in fields] + [f'fields.into_struct(alloc, "{name}")']
     of = [f'let mut fields = StructFields::of("{name}", datum)?;'] + [f'let {field} = fields.next(alloc, "{field}")?;' for field, _ in fields]
     of += ["fields.end()?;", f"Ok({name} {{ " + ", ".join(field for field, _ in fields) + " })"]

@@ -19,11 +19,9 @@ impl Serialize for Cat {
     ghost written = { written_cat };
 
     fn to_datum(&self, alloc: Global) -> ser::Result<Datum<'_>> {
-        let name = self.name.to_datum(alloc)?;
-        let age = self.age.to_datum(alloc)?;
         let mut fields = Vec::new(alloc);
-        add_field(&mut fields, "name", name)?;
-        add_field(&mut fields, "age", age)?;
+        add_field(&mut fields, "name", self.name.to_datum(alloc)?)?;
+        add_field(&mut fields, "age", self.age.to_datum(alloc)?)?;
         Ok(struct_datum("Cat", fields))
     }
 }
