@@ -9,8 +9,9 @@ cd "$(dirname "$0")/.."
 (cd crates/bson_recast && rt run -- '{i:i32}' < stdin > /dev/null)
 (cd crates/bson_migrate && rt run -- '{n:u32}' < stdin > /dev/null)
 (cd crates/bson_infer && rt run < stdin > /dev/null)
+(cd crates/bson_evolve && rt run -- '{n:u8}' '{n:u32,m:?string}' > /dev/null)
 mkdir -p "$prefix/bin" "$prefix/share/man/man1"
-for name in bson_recast bson_migrate bson_infer
+for name in bson_recast bson_migrate bson_infer bson_evolve
 do
     install -m 755 "crates/$name/out/$name" "$prefix/bin"
     install -m 644 "docs/$name.1" "$prefix/share/man/man1"

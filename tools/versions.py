@@ -14,6 +14,7 @@ PROJECT = [
     ("docs/bson_recast.1", r"^\.Os Vaqischu (\S+)$"),
     ("docs/bson_migrate.1", r"^\.Os Vaqischu (\S+)$"),
     ("docs/bson_infer.1", r"^\.Os Vaqischu (\S+)$"),
+    ("docs/bson_evolve.1", r"^\.Os Vaqischu (\S+)$"),
 ]
 INTERFACE = [
     ("crates/bson_c/src/version.rt", r"^pub const VERSION: u32 = (\d+);$"),

@@ -100,6 +100,16 @@ pub use Rattle.bson_laws.specs.Writable
 pub use Rattle.bson_laws.specs.Assembled
 pub use Rattle.bson_laws.specs.FirstKeys
 pub use Rattle.bson_assembled.specs.FreeKeys
+pub use Rattle.bson_evolve_check.specs.Checks
+pub use Rattle.bson_evolve_laws.specs.Compatible
+pub use Rattle.bson_evolve_laws.specs.First
+pub use Rattle.bson_evolve_laws.specs.Placed
+pub use Rattle.bson_evolve_laws.specs.PlainTest
+pub use Rattle.bson_evolve_laws.specs.Rows as EvolveRows
+pub use Rattle.bson_evolve_run.specs.Lines as EvolveLines
+pub use Rattle.bson_evolve_run.specs.Number as EvolveNumber
+pub use Rattle.bson_evolve_run.specs.Rows as CheckRows
+pub use Rattle.bson_evolve_run.specs.TwoShapes
 pub use Rattle.bson_infer_laws.specs.Above
 pub use Rattle.bson_infer_laws.specs.Inferred
 pub use Rattle.bson_infer_laws.specs.Join

@@ -14,13 +14,14 @@
 //! | types of one's own | `Serialize`, `Deserialize`, `RoundTrip`, `NeverNull`; `to_vec`, `to_raw_document_buf`, `to_bson`, `to_document`, `from_bson`, `from_document`, and with options; `from_slice`, `from_reader`, and lossy; `FieldShapes`, `StructFields`, `add_field`, `struct_datum`, `VariantShapes`, `unit_variant`, `newtype_variant`, `is_unit_variant`, `newtype_value` and `not_fitting` for their impls; `HumanReadable`, `Utf8LossyDeserialization` and the modules of `bson_helpers` |
 //! | both at once | `recast`, `recast_utf8_lossy`, `recast_to_buf` |
 //! | the shape of documents | `infer` |
+//! | whether what is written at one shape is read at another | `check` and `Verdict` |
 //! | trees | `Bson`, `Document` with `Iter` and `IntoIter`, and the types of values, such as `ObjectId`, `DateTime` and `Binary`; `read_value` and `Met` to read from one |
 //! | documents in their bytes | `RawDocument`, `RawArray`, `RawElement`, `RawIter`, `RawBsonRef`, `Unjudged`; `RawDocumentBuf`, `RawArrayBuf` to own the bytes; `RawValue`, a value by its kind and bytes, of `raw_from_element` and `raw_from_bson` |
 //! | files of documents | `RawDocuments`; `migrate`, `Migration`, `Refused`, `lines_of` |
 //! | values of kinds that serde's data model lacks | `data` to make them, `reserved` to look at them, `reserved_kind` |
-//! | errors | `ParseError`, `ShapeError`, `de::Error`, `ser::Error`, `raw::Error`, `EncodeError`, `InferError`, `RecastError`, `MigrateError`; `Cause`, `MAX_NESTING_LEVEL`, `Path`, `Segment`, `Wrapper`, and `Stop` of `read_value` |
+//! | errors | `ParseError`, `ShapeError`, `de::Error`, `ser::Error`, `raw::Error`, `EncodeError`, `InferError`, `CheckError`, `RecastError`, `MigrateError`; `Cause`, `MAX_NESTING_LEVEL`, `Path`, `Segment`, `Wrapper`, and `Stop` of `read_value` |
 //! | input and output | `Source`, `Sink`, their ends `ReadAdapter`, `WriteAdapter`, `MemorySource`, `MemorySink`, `SteadySource`, `SteadySink`; `read_to_end`, `write_due`, `ReadFault`, `Failed`, `MOST`; `Out`, `Steps`, `Ledger`, `Tally` |
-//! | whole programs | `run` and `Status`, `run_migrate` and `MigrateStatus`, `run_infer` and `InferStatus`; what they share: `shape_of_word`, `read_input`, `Answer`, `finish` |
+//! | whole programs | `run` and `Status`, `run_migrate` and `MigrateStatus`, `run_infer` and `InferStatus`, `run_check` and `CheckStatus`; what they share: `shape_of_word`, `read_input`, `Answer`, `finish` |
 //! | texts | `date_text`, `date_of_text`, `integer_of_text`, `subtype_of_text`; `DateError`, `NotDate`, `NotHex`, `NotUuid` |
 //! | contracts | `laws`; the definitions that contracts name, as `Rattle.bson.specs.Tree` |
 //!
@@ -504,6 +505,11 @@ pub use bson_de_tree::from_bson_at;
 pub use bson_de_tree::from_bson_with_options_at;
 pub use bson_de_tree::from_document_at;
 pub use bson_de_tree::from_document_with_options_at;
+pub use bson_evolve_check::CheckError;
+pub use bson_evolve_check::Verdict;
+pub use bson_evolve_check::check;
+pub use bson_evolve_run::CheckStatus;
+pub use bson_evolve_run::run_check;
 pub use bson_helpers::HumanReadable;
 pub use bson_helpers::Utf8LossyDeserialization;
 pub use bson_helpers::bson_datetime_as_rfc3339_string;

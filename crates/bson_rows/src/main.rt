@@ -1,5 +1,5 @@
-//! Runs the recast, the migration and the inference of a shape, and the reader and the writer of trees, at each row of a table on standard input, and prints the rows that do not
-//! hold and how many do.
+//! Runs the recast, the migration, the inference of a shape and the comparison of two, and the reader and the writer of trees, at each row of a table on standard input, and prints
+//! the rows that do not hold and how many do.
 //!
 //! A row is a line of cells with ` | ` between them. An empty line, and one that begins with `#`, is no row.
 #![tactic(auto)]

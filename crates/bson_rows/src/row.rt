@@ -12,6 +12,8 @@ pub enum Program {
     Migrate,
     /// `bson_infer`, with the words as its command line.
     Infer,
+    /// `bson_evolve`, with the words as its command line.
+    Evolve,
     /// The document is read at the first word, and written after the struct under its first key was given the second word as its name.
     Write,
     /// The document, as a tree in memory, is read at the first word, and what is read is written as a tree again: for a human, or at the second word `compact` not.
@@ -119,6 +121,7 @@ fn program_of(cell: &str) -> Option<(Program, u8)> {
         "recast" => Program::Recast,
         "migrate" => Program::Migrate,
         "infer" => Program::Infer,
+        "evolve" => Program::Evolve,
         "write" => Program::Write,
         "tree" => Program::Tree,
         _ => return None,

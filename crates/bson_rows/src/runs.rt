@@ -4,6 +4,7 @@ use crate::trees::{read_tree, tree_in, write_tree};
 use bson_base::Document;
 use bson_datum::Datum;
 use bson_de_raw::from_slice_at;
+use bson_evolve_run::run_check;
 use bson_infer_run::run_infer;
 use bson_io::{MemorySink, MemorySource};
 use bson_migrate_run::run_migrate;
@@ -75,6 +76,7 @@ pub fn run_row(alloc: Global, row: &Row) -> Result<Run, AllocError> {
         Program::Recast => run_recast(alloc, row),
         Program::Migrate => run_migration(alloc, row),
         Program::Infer => run_inference(alloc, row),
+        Program::Evolve => run_comparison(alloc, row),
         Program::Write => write_row(alloc, row),
         Program::Tree => tree_row(alloc, row),
     }
@@ -107,6 +109,13 @@ fn run_inference(alloc: Global, row: &Row) -> Result<Run, AllocError> {
     let mut input = input_of(alloc, row)?;
     let mut ends = Sinks::new(alloc)?;
     let status = run_infer(alloc, &row.words, &mut input, &mut ends.out, &mut ends.err);
+    ends.ended(alloc, status.number())
+}
+
+/// Runs the comparison of two shapes.
+fn run_comparison(alloc: Global, row: &Row) -> Result<Run, AllocError> {
+    let mut ends = Sinks::new(alloc)?;
+    let status = run_check(alloc, &row.words, &mut ends.out, &mut ends.err);
     ends.ended(alloc, status.number())
 }
 

@@ -1,0 +1,9 @@
+pub mod Found
+pub mod RowLists
+pub mod Placings
+pub mod Numbers
+pub mod Peeling
+pub mod Meets
+pub mod Pushes
+pub mod Going
+pub mod Few

@@ -1,0 +1,12 @@
+use Rattle.std.proofs.Common.{Some, ap, sym, ◌∙◌}
+use Rattle.bson_shape.specs.declared.shape.FieldShape.{FieldShape}
+use Rattle.bson_evolve_check.proofs.Found.{form_lacking, form_placed}
+use Rattle.bson_evolve_check.proofs.content.shape_of.Goals as goal
+
+pub returns-in-Some-clause-found : goal.returns-in-Some-clause-found
+returns-in-Some-clause-found c =
+    ap (λ (f : FieldShape). Some f.shape) (sym c.index-items-place.is)
+    ∙ sym (form_placed c.args.index.now.items.now c.args.name.now c.in-Some.place c.index-items-place.result (sym c.in-Some.ensures.place) c.index-items-place.is)
+
+pub returns-in-None-clause-found : goal.returns-in-None-clause-found
+returns-in-None-clause-found c = sym (form_lacking c.args.index.now.items.now c.args.name.now (sym c.in-None.ensures.place))

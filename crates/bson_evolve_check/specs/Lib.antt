@@ -1,0 +1,7 @@
+pub mod Steps
+pub mod Placing
+pub mod Peels
+pub mod Numbering
+pub mod Meeting
+pub mod Searching
+pub mod Checks

@@ -1,0 +1,4 @@
+pub mod Number
+pub mod Lines
+pub mod TwoShapes
+pub mod Rows
