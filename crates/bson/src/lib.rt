@@ -9,7 +9,7 @@
 //! | reading and writing | `from_slice_at`, `from_slice_utf8_lossy_at`; `to_vec_at`, `to_buf`, `to_vec_counted`; `Datum` and its parts `Field`, `Entry`, `Text`, `ByteStr`, `RawDoc`, `RawArr`, `Double` |
 //! | reading from sources | `from_reader_at`, `from_reader_utf8_lossy_at`; `take_document`, `take_up_to` and `TakeFault` for the bytes alone |
 //! | reading from trees | `from_bson_at`, `from_document_at`, and with options; `Deserializer`, `DeserializerOptions` |
-//! | writing to trees | `to_bson_at`, `to_document_at`, and with options; `Serializer`, with a writer for each form of value that is handed in part by part; `SerializerOptions` |
+//! | writing to trees | `to_bson_at`, `to_document_at`, and with options; `Serializer`, with a writer for each form of value that is given part by part; `SerializerOptions` |
 //! | writing part by part | `DocumentWriter`, `VariantWriter`, `ValueWriter`, over an `Out` |
 //! | types of one's own | `Serialize`, `Deserialize`, `RoundTrip`, `NeverNull`; `to_vec`, `to_raw_document_buf`, `to_bson`, `to_document`, `from_bson`, `from_document`, and with options; `from_slice`, `from_reader`, and lossy; `FieldShapes`, `StructFields`, `add_field`, `struct_datum`, `VariantShapes`, `unit_variant`, `newtype_variant`, `is_unit_variant`, `newtype_value` and `not_fitting` for their impls; `HumanReadable`, `Utf8LossyDeserialization` and the modules of `bson_helpers` |
 //! | both at once | `recast`, `recast_utf8_lossy`, `recast_to_buf` |
@@ -194,7 +194,7 @@
 //!
 //! # Writing part by part
 //!
-//! A document or an array is written without a `Datum` of the whole: `DocumentWriter` appends its parts to an `Out` as they are handed in, `VariantWriter` those of a
+//! A document or an array is written without a `Datum` of the whole: `DocumentWriter` appends its parts to an `Out` as they are given, `VariantWriter` those of a
 //! variant, and `ValueWriter` a value that serde's data model lacks, by the fields of its struct. `Serializer` makes trees so. Each part is refused as it would be in the
 //! whole value; behind a refusal the `Out` holds what it held before.
 //!

@@ -18,6 +18,7 @@ pub record Call : Type 0 where
   pub buffer : Buffer
   pub text : Buffer
 
+-- what a call did, by its report and the bytes of both buffers before and after it
 abbrev pub call_of : Report → (buffer_before buffer_after text_before text_after : Bytes) → Call
 call_of a buffer_before buffer_after text_before text_after = record {
   place = a.place;

@@ -23,6 +23,7 @@ IsEnd file place = left_at file place ≡ whole
 abbrev pub IsBroken : (file : Bytes) → (place : ℕ) → Type 0
 IsBroken file place = left_at file place ≡ broken_at place
 
+-- This is what is at the place.
 abbrev pub IsFound : (file : Bytes) → (place : ℕ) → Found → Type 0
 IsFound file place (Document size) = IsDocument file place size
 IsFound file place End = IsEnd file place

@@ -70,6 +70,7 @@ pub record Records : Type 0 where
   pub written : ℕ
   pub needed : ℕ
 
+-- the array by its records before and after a call, and the call's report
 abbrev pub records_by : MigrationReport → (before after : List Refusal) → Records
 records_by a before after = record { before = before; after = after; written = a.refusals_written; needed = a.refusals_needed }
 

@@ -24,7 +24,7 @@ pub record MigratedRow (shape file : Bytes) (c : Call) : Type 0 where
   pub no_text : Tells c []
   pub no_place : c.place ≡ 0
 
--- Some documents are not recast, and what is said tells of them so; the buffer holds what the others' recasts write, and migrated again that is given back, where the
+-- Some documents are not recast, and the text has a line, or the array a record, for each; the buffer holds what the others' recasts write, and migrated again that is given back, where the
 -- shape does not depend on whether the reader is human.
 pub record RefusedRow (TellsOf : List NotRecast → Utf8 → Type 0) (shape file : Bytes) (c : Call) : Type 0 where
   pub form : Form
@@ -40,7 +40,7 @@ pub record RefusedRow (TellsOf : List NotRecast → Utf8 → Type 0) (shape file
   pub says : Tells c said
   pub no_place : c.place ≡ 0
 
--- The buffer is too small for what the recasts write, and what is said tells so of the documents that are not recast.
+-- The buffer is too small for what the recasts write, and the text has a line, or the array a record, for each document that is not recast.
 pub record UnfittedRow (TellsOf : List NotRecast → Utf8 → Type 0) (shape file : Bytes) (c : Call) : Type 0 where
   pub form : Form
   pub notation : DenotesShape shape form

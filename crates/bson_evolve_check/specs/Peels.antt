@@ -31,7 +31,7 @@ abbrev pub sees : ℕ → Placed → Placed
 sees n p = seen (names_to n p.around) p.around p.form
 
 abbrev mutual
-  -- how many steps of seeing through a form may take, but for references out of it
+  -- the most steps that it takes to see through a form, without those behind references out of it
   pub weight : Form → ℕ
   weight (newtype name s) = suc (weight s)
   weight (lossy s) = suc (weight s)

@@ -37,7 +37,7 @@ due_at level old new s = record { level = level; way = s.way; old = record { tab
 abbrev pub dues : List Waiting → List Due
 dues ws = map (λ (w : Waiting). w.due) ws
 
--- Each of the pairs that are still to be entered, the first one first, begins on the route no further out than so many ways, and no further out than those before it.
+-- The pairs that are still to be entered, the first one first: it begins at most so many ways along the route, and each other one no farther along it than the one before.
 abbrev pub AreWithin : ℕ → List Due → Type 0
 AreWithin n [] = Unit {0}
 AreWithin n (d ∷ ds) = (d.level ≤ n) × AreWithin d.level ds

@@ -122,7 +122,7 @@ fn next_unmet<'s>(
     Ok(None)
 }
 
-// The pair of the two shapes, which stand in no definitions.
+// The pair of the two shapes, without definitions around them.
 fn start<'s>(table: Table<'s>, old: &'s Shape, new: &'s Shape) -> Waiting<'s>
     ensures way { way_path result.due.way ≡ [] }
     ensures level { result.due.level ≡ 0 }

@@ -1,4 +1,4 @@
--- Compatibility of two shapes: each pair of parts that is reached from theirs passes. Source: serde's data model.
+-- Compatibility of two shapes: each pair of parts that is reached from theirs passes. Source: this library's own comparison of shapes.
 use Rattle.std.specs.Prelude.{ℕ, zero, suc, List, [], ◌∷◌, Some, None}
 use Rattle.bson_shape.specs.Form.{Form, no_fields}
 use Rattle.bson_evolve_laws.specs.Placed.{Placed, placed, peel}

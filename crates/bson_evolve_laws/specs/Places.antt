@@ -1,4 +1,4 @@
--- The parts of a shape, each with the definitions around it. Source: serde's data model.
+-- The parts of a shape, each with the definitions around it. Source: this library's own comparison of shapes.
 use Rattle.std.specs.Prelude.{List, [], ◌∷◌, ◌++◌}
 use Rattle.bson_shape.specs.Form.{Form, leaf, optional, lossy, human_readable, by_mode, sequence, newtype, unit_structure, map, tuple, tuple_structure, structure, enumeration, reference, definitions, Fields, no_fields, field, Parts, no_parts, part, Content, unit_content, newtype_content, tuple_content, struct_content, Variants, no_variants, variant}
 use Rattle.bson_shape.specs.declared.leaf.Leaf.TheVariants.{Bson}
@@ -42,6 +42,6 @@ abbrev mutual
   content_places h (tuple_content ps) = part_places h ps
   content_places h (struct_content fs) = field_places h fs
 
--- the parts of a shape, which stands in no definitions, and `bson`
+-- the parts of a shape, around which there are no definitions, and `bson`
 abbrev pub all_places : Form → List Placed
 all_places s = placed no_fields (leaf Bson) ∷ places no_fields s

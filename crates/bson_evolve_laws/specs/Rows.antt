@@ -1,5 +1,5 @@
 -- The rows of compatibility: which pair of an old and a new form passes, and which pairs of their parts must pass then. The forms are seen through (`Placed`); the
--- numbers are those of the table in docs/DEFINITIONS.md. Source: serde's data model.
+-- numbers are those of the table in docs/DEFINITIONS.md. Source: this library's own comparison of shapes, over serde's data model.
 use Rattle.std.specs.Prelude.{ℕ, suc, Bool, true, false, ◌&&◌, int_le, if◌then◌else◌, List, [], ◌∷◌, ◌++◌, Option, Some, None, option_map, option_and_then, codes, nat_eq}
 use Rattle.bson_kinds.specs.Kind.{byte}
 use Rattle.bson_kinds.specs.Text.{Utf8}
@@ -45,15 +45,16 @@ and_also o p = option_and_then (λ ss. option_map (λ rest. ss ++ rest) p) o
 
 -- ---- leaves
 
--- the greatest number of a type that a document holds
+-- the type by whose greatest number a type counts: a document holds no number of `u64` above the greatest of `i64`
 abbrev pub top : IntegerType → IntegerType
 top u64 = i64
 top type = type
 
+-- each number of the first type, as far as a document holds it, is one of the second: row 5
 abbrev pub lies_in : IntegerType → IntegerType → Bool
 lies_in t u = int_le (least u) (least t) && int_le (greatest (top t)) (greatest (top u))
 
--- a value of the leaf is one without a shape
+-- what is read at the leaf is read at `any` too: rows 3 and 6
 abbrev pub is_free : LeafKind → Bool
 is_free ignored = false
 is_free (extended_values k) = false
@@ -62,6 +63,7 @@ is_free raw_arrays = false
 is_free raw_values = false
 is_free k = true
 
+-- each value of the first extended leaf is one of the second: rows 1, 11, 12 and 22
 abbrev pub extended_in : ExtendedLeaf → ExtendedLeaf → Bool
 extended_in k trees = true
 extended_in object_ids object_ids = true
@@ -71,6 +73,7 @@ extended_in (of_kind k) (of_kind l) = nat_eq (byte k) (byte l)
 extended_in documents documents = true
 extended_in k l = false
 
+-- each value of the first leaf is one of the second: rows 1, 3 and 5 to 12
 abbrev pub leaf_in : LeafKind → LeafKind → Bool
 leaf_in (extended_values k) (extended_values l) = extended_in k l
 leaf_in k (extended_values trees) = true
@@ -92,28 +95,29 @@ leaf_in k l = false
 
 -- ---- parts
 
--- the fields of the new struct in order, each with that of its name in the old one; one that the old one lacks is an option
+-- rows 18 and 19: a field of the new struct with that of its name in the old one; where the old one lacks it, its form has to be an option itself
 abbrev pub field_row : Path → Utf8 → Option Form → Form → List Step → Answer
 field_row path name (Some x) y rest = Some (step (path ++ (at_key name ∷ [])) x y ∷ rest)
 field_row path name None (optional y) rest = Some rest
 field_row path name None y rest = None
 
+-- the fields of the new struct, in its order
 abbrev pub struct_row : Path → Fields → Fields → Answer
 struct_row path fs no_fields = passes
 struct_row path fs (field name y gs) = option_and_then (field_row path name (form_of fs name) y) (struct_row path fs gs)
 
--- each field of the old struct has its name in the new one
+-- each field of the old struct has its name in the new one: row 19
 abbrev pub are_known : Fields → Fields → Bool
 are_known no_fields gs = true
 are_known (field name x fs) gs = has gs name && are_known fs gs
 
--- item by item
+-- item by item, where there are as many: row 14
 abbrev pub parts_row : Path → ℕ → Parts → Parts → Answer
 parts_row path i no_parts no_parts = passes
 parts_row path i (part x ps) (part y qs) = option_map (λ rest. step (path ++ (at_index i ∷ [])) x y ∷ rest) (parts_row path (suc i) ps qs)
 parts_row path i ps qs = fails
 
--- each item, and each field, with one form
+-- each item, and each field, with one form: rows 15, 16, 20, 21 and 26
 abbrev pub each_part : Path → ℕ → Parts → Form → List Step
 each_part path i no_parts y = []
 each_part path i (part x ps) y = step (path ++ (at_index i ∷ [])) x y ∷ each_part path (suc i) ps y
@@ -122,7 +126,7 @@ abbrev pub each_field : Path → Fields → Form → List Step
 each_field path no_fields y = []
 each_field path (field name x fs) y = step (path ++ (at_key name ∷ [])) x y ∷ each_field path fs y
 
--- the values of a map
+-- the values of a map, and the items of a sequence
 abbrev pub each_value : Form → Form → Answer
 each_value x y = Some (step (at_key (codes "*") ∷ []) x y ∷ [])
 
@@ -135,11 +139,12 @@ abbrev pub is_texts : LeafKind → Bool
 is_texts texts = true
 is_texts k = false
 
--- a unit variant
+-- there is a variant of the name, and it is a unit variant
 abbrev pub is_unit_name : Option Content → Bool
 is_unit_name (Some unit_content) = true
 is_unit_name o = false
 
+-- each name of the first enum, or of a field, is that of a unit variant of the second
 abbrev pub names_in : Variants → Variants → Bool
 names_in no_variants ws = true
 names_in (variant name c vs) ws = is_unit_name (content_of ws name) && names_in vs ws
@@ -148,11 +153,13 @@ abbrev pub fields_in : Fields → Variants → Bool
 fields_in no_fields ws = true
 fields_in (field name x fs) ws = is_unit_name (content_of ws name) && fields_in fs ws
 
+-- the keys of a map: row 17; and of the `document` of row 23, whose keys are texts
 abbrev pub keys_pass : Form → Form → Bool
 keys_pass k (leaf l) = is_texts (leaf_kind l)
 keys_pass (enumeration vs) (enumeration ws) = names_in vs ws
 keys_pass k l = false
 
+-- the names of fields as the keys of a map: row 20
 abbrev pub names_pass : Fields → Form → Bool
 names_pass fs (leaf l) = is_texts (leaf_kind l)
 names_pass fs (enumeration ws) = fields_in fs ws
@@ -160,6 +167,7 @@ names_pass fs l = false
 
 -- ---- enums
 
+-- row 24: the contents of an old variant with those of the new variant of its name, which are of the same class
 abbrev pub content_row : Utf8 → Content → Option Content → Answer
 content_row name unit_content (Some unit_content) = passes
 content_row name (newtype_content x) (Some (newtype_content y)) = Some (step (at_key name ∷ []) x y ∷ [])
@@ -171,6 +179,7 @@ abbrev pub enum_row : Variants → Variants → Answer
 enum_row no_variants ws = passes
 enum_row (variant name c vs) ws = and_also (content_row name c (content_of ws name)) (enum_row vs ws)
 
+-- row 26: each part of what a variant holds, with one form
 abbrev pub each_in_content : Utf8 → Content → Form → List Step
 each_in_content name unit_content y = []
 each_in_content name (newtype_content x) y = step (at_key name ∷ []) x y ∷ []
@@ -285,7 +294,7 @@ abbrev pub to_enum : Form → Variants → Answer
 to_enum (enumeration vs) ws = enum_row vs ws
 to_enum a ws = fails
 
--- The answer for a pair, each of which was seen through. Where the old form is an option, a row that asks for another form is no row for it.
+-- The answer for a pair of forms that were seen through, by the first row that names them. An option passes at an option, `any`, `unit`, a unit struct and `bson` alone.
 abbrev pub row : Form → Form → Answer
 row a (leaf m) = to_leaf a (leaf m) (leaf_kind m)
 row a (optional y) = to_optional a y

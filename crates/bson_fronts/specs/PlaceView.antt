@@ -24,7 +24,7 @@ place_view places.Scope = scope
 abbrev pub places_view : List code.Place → List Place
 places_view ps = map place_view ps
 
--- what stands in front of some parts, as a function of them
+-- what is before some parts, as a function of them
 abbrev pub Front : Type 0
 Front = List (Part Value) → List (Part Value)
 
@@ -40,7 +40,7 @@ plain_front v rest = a_value v v ∷ rest
 abbrev pub field_front : Utf8 → Value → Front
 field_front name v rest = a_key name ∷ listed_part v rest
 
--- What stands in front is what the places say, and these places are left for what comes behind it; or there is none, where a part is not what its place says.
+-- What is before them is what the places say, and these places are left for what comes behind it; or there is none, where a part is not what its place says.
 abbrev pub Behind : Option (List code.Place) → (places : List code.Place) → Front → Type 0
 Behind (Some left) ps front = (rest : List (Part Value)) → agrees (places_view ps) (front rest) ≡ agrees (places_view left) rest
 Behind None ps front = (rest : List (Part Value)) → agrees (places_view ps) (front rest) ≡ false

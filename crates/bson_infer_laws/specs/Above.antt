@@ -1,4 +1,4 @@
--- A form is above another where their join is that form: it has each value that the other has. Source: serde's data model.
+-- A form is above another where their join is that form: it has each value that the other has. Source: this library's own join of shapes.
 use Rattle.std.specs.Prelude.{◌≡◌, true, false, ◌⊎◌, Option, Some, None, []}
 use Rattle.bson_shape.specs.Form.{dropped, Form, leaf, optional, sequence, structure, enumeration, Fields, no_fields, field, no_variants}
 use Rattle.bson_shape.specs.declared.leaf.Leaf.{Leaf}
@@ -55,8 +55,8 @@ abbrev mutual
   FieldsAbove (field name x fs) gs = FieldAbove (Above x) x (form_of gs name) × FieldsAbove fs gs
 
 abbrev mutual
-  -- The forms that joins are of: an option is of what is no option and not nothing, a struct drops unknown fields and has no name, and the names of its fields
-  -- are distinct.
+  -- The forms that inference and joins give: an option holds neither an option nor nothing, a struct drops unknown fields and has no name, and the names of its
+  -- fields are distinct.
   pub IsJoined : Form → Type 0
   IsJoined (leaf l) = Unit {0}
   IsJoined (optional s) = IsBare s × (is_nothing s ≡ false) × IsJoined s

@@ -1,4 +1,4 @@
--- The form that is inferred from values. Source: bsonspec.org, version 1.1, and serde's data model.
+-- The form that is inferred from values. Source: this library's own join of shapes, over the kinds of bsonspec.org, version 1.1.
 use Rattle.std.specs.Prelude.{zero, suc, []}
 use Rattle.bson_base.specs.Tree as tree
 use Rattle.bson_base.specs.Tree.{Tree, Pairs, no_pairs, pair, Trees, no_trees}

@@ -1,4 +1,4 @@
--- The join of two inferred forms. Source: serde's data model.
+-- The join of two inferred forms. Source: this library's own join of shapes.
 use Rattle.std.specs.Prelude.{Bool, true, false, ◌||◌, if◌then◌else◌, Option, Some, None, []}
 use denote.Enum.Bare.{sameb}
 use Rattle.bson_shape.specs.Form.{dropped, Form, leaf, optional, sequence, structure, enumeration, Fields, no_fields, field, no_variants, joined}
@@ -60,7 +60,7 @@ new_fields fs no_fields = no_fields
 new_fields fs (field name y gs) = if has fs name then new_fields fs gs else field name (opt y) (new_fields fs gs)
 
 abbrev mutual
-  -- The least form of those that are inferred that has what both have. Equal forms are theirs. An inferred struct drops unknown fields.
+  -- The least of the inferred forms that has each value that one of the two has: of two equal forms that form. The structs that are inferred drop unknown fields.
   pub join : Form → Form → Form
   join (optional x) (optional y) = opt (join x y)
   join (optional x) b = if is_nothing b || is_unit b then optional x else opt (join x b)

@@ -6,7 +6,7 @@ use Rattle.std.specs.Str.{bytes_eq}
 use Rattle.bson_base.specs.BsonView.{Key}
 use Rattle.bson_kinds.specs.Text.{Utf8}
 
--- one place further, or the first place where there is none further on
+-- the place in the rest, one more, or else the place at the front
 abbrev pub further_or_first : Option ℕ → Option ℕ → Option ℕ
 further_or_first (Some i) first = Some (suc i)
 further_or_first None first = first

@@ -1,4 +1,4 @@
--- Reading arrays, maps, enums and options, whose parts are read by what is passed for them. Source: serde's data model, over the node that the value is.
+-- Reading arrays, maps, enums and options, whose parts are read by what is passed for them. Source: serde's data model.
 use Rattle.std.specs.Prelude.{ℕ, suc, Option, Some, None, Ok, Err}
 use Rattle.bson_kinds.specs.Text.{Utf8}
 use Rattle.bson_kinds.specs.Outcome.{◌>>=◌, result_map}

@@ -1,4 +1,4 @@
--- The rows of reading that depend on what a value is read from: bytes, or a tree in memory. Source: serde's data model, over the node that the value is.
+-- The rows of reading that depend on what a value is read from: bytes, or a tree in memory. Source: serde's data model.
 use Rattle.std.specs.Prelude.{Some, None, Option, Ok, Err}
 use Rattle.bson_kinds.specs.Text.{Utf8}
 use Rattle.bson_kinds.specs.Outcome.{◌>>=◌}
@@ -45,7 +45,7 @@ abbrev pub unit_at : Origin → Variants → Piece → Reading Marked
 unit_at Bytes = reads_unit
 unit_at Tree = reads_tree_unit
 
--- the one element of a document of a tree at the variant that its key names; that there is none, or a second one, is seen before the name
+-- the one element of a document of a tree at the variant that its key names; that there is none, or a second one, is seen before the name (the list of a tree has no fault)
 abbrev pub read_only : (Utf8 → Node → Reading Marked) → Nodes → Reading Marked
 read_only contents ended = refused empty_enum
 read_only contents (faulty e) = refused (raw e)

@@ -1,4 +1,4 @@
--- What a shape does first with a value, and how a value is dropped. Source: serde's data model, over the node that the value is, and the limits of this library.
+-- What a shape does first with a value, and how a value is dropped. Source: serde's data model, and the limits of this library.
 use Rattle.std.specs.Prelude.{ℕ, suc, Option, Some, None, Result, Ok, Err, codes}
 use Rattle.bson_kinds.specs.Text.{Utf8}
 use Rattle.bson_kinds.specs.Outcome.{◌>>=◌}
@@ -25,7 +25,8 @@ abbrev pub faultless : Option raw_error.Error → Node → Reading Node
 faultless None n = with_level n
 faultless (Some e) n = refused (raw e)
 
--- A value, as each shape but an option and a newtype judges it first: its own fault, then a document or an array where no level is left.
+-- A value, as a shape that looks at it judges it first: its own fault, then a document or an array where no level is left. An option (which looks at the kind alone), a
+-- newtype, a mark, two forms and definitions leave this to their inner shape.
 abbrev pub judged : Node → Reading Node
 judged n = faultless (fault n) n
 

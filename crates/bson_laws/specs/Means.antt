@@ -54,7 +54,7 @@ abbrev pub reserved_means : ElementType → Option Tree → Option (Utf8 × Opti
 reserved_means JavaScriptCodeWithScope unwrapped scoped = scoped_means scoped
 reserved_means k unwrapped scoped = unwrapped_means unwrapped
 
--- the fields of a regular expression, of the form that `datum` gives, with its options sorted by character
+-- the fields of a regular expression, of the form that `datum` gives, with its options sorted by character; fields of another form as they are
 abbrev pub with_sorted_options : FieldValues → FieldValues
 with_sorted_options (field_value key (structure name (field_value p pattern (field_value o (str options) rest))) others) =
     field_value key (structure name (field_value p pattern (field_value o (str (sorted options)) rest))) others

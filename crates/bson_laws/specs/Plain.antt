@@ -21,8 +21,8 @@ OwnsTextLeaf Str = ⊥
 OwnsTextLeaf l = Unit {0}
 
 abbrev mutual
-  -- No text and no key is borrowed: `str` stands nowhere in the form, its definitions included. Where the form refers to the definitions around it, it
-  -- stands nowhere in these either.
+  -- No text and no key is borrowed: `str` is nowhere in the form, its definitions included. Where the form refers to the definitions around it, it is
+  -- nowhere in these either.
   pub OwnsTextsIn : (around : Type 0) → Form → Type 0
   OwnsTextsIn around (leaf l) = OwnsTextLeaf l
   OwnsTextsIn around (optional s) = OwnsTextsIn around s
@@ -58,7 +58,7 @@ abbrev mutual
   ContentOwnsTextsIn around (tuple_content ps) = PartsOwnTextsIn around ps
   ContentOwnsTextsIn around (struct_content fs) = FieldsOwnTextsIn around fs
 
--- no text and no key is borrowed: `str` stands nowhere in the form, its definitions included
+-- no text and no key is borrowed: `str` is nowhere in the form, its definitions included
 abbrev pub OwnsTexts : Form → Type 0
 OwnsTexts = OwnsTextsIn (Unit {0})
 
@@ -73,9 +73,9 @@ IsPlainKey (enumeration vs) = are_units vs ≡ true
 IsPlainKey s = ⊥
 
 abbrev mutual
-  -- Each name of a newtype, a struct, a field and a variant is free, each map has texts or unit variants as its keys, and nothing is ignored. Where texts are
-  -- mended none is borrowed, also not by a definition around the mark that stands in one table with what is referred to there. Each reference has a definition
-  -- in the innermost table around it, and nothing depends on whether the reader is human. The names of tuple structs and unit structs may be any: none of
+  -- Each name of a newtype, a struct, a field and a variant is free, each map has texts or unit variants as its keys, and nothing is ignored or kept in its
+  -- bytes. Where texts are mended none is borrowed, nor by any definition of a table to which a reference there refers. Each reference has a definition in the
+  -- innermost table around it, and nothing depends on whether the reader is human. The names of tuple structs and unit structs may be any: none of
   -- them is reserved; and so may those of definitions, which are never written.
   pub IsPlainIn : (around : Fields) → Form → Type 0
   IsPlainIn around (leaf l) = IsKept (leaf_kind l)

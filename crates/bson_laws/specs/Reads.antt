@@ -1,4 +1,4 @@
--- Reading a value at a shape. Source: serde's data model, over the node that the value is.
+-- Reading a value at a shape. Source: serde's data model.
 use Rattle.std.specs.Prelude.{ℕ, Bool, false, Result, Ok, Err}
 use Rattle.bson_kinds.specs.Text.{Bytes, Utf8}
 use Rattle.bson_kinds.specs.Outcome.{result_map}

@@ -1,4 +1,4 @@
--- Reading a value at a shape, in bytes or from a tree, whatever its leaves take. Source: serde's data model, over the node that the value is.
+-- Reading a value at a shape, in bytes or from a tree, whatever its leaves take. Source: serde's data model.
 use Rattle.std.specs.Prelude.{ℕ, suc, Bool, false, [], ◌∷◌, if◌then◌else◌, None, Ok}
 use Rattle.std.specs.Str.{bytes_eq}
 use Rattle.bson_kinds.specs.Text.{Utf8}

@@ -1,4 +1,4 @@
--- Reading a value at an extended leaf. Source: the extended types of MongoDB's crate bson, version 2, over the node that the value is.
+-- Reading a value at an extended leaf. Source: the extended types of MongoDB's crate bson, version 2.
 use Rattle.std.specs.Prelude.{ℕ, ◌&&◌, ◌||◌, if◌then◌else◌, Option, Some, None, Ok, length, nat_eq}
 use Rattle.uuid.specs.Text.{parsed}
 use Rattle.bson_kinds.specs.Kind.{byte}

@@ -1,4 +1,4 @@
--- Reading a value at a shape, in bytes or from a tree. Source: serde's data model, over the node that the value is.
+-- Reading a value at a shape, in bytes or from a tree. Source: serde's data model.
 use Rattle.std.specs.Prelude.{ℕ, Bool, Result, Ok, Err}
 use Rattle.bson_base.specs.Sound.{max_levels}
 use Rattle.bson_kinds.specs.Text.{Utf8}

@@ -1,4 +1,4 @@
--- Reading a judged value without a shape, and at a leaf of serde's data model. Source: serde's data model, over the node that the value is.
+-- Reading a judged value without a shape, and at a leaf of serde's data model. Source: serde's data model.
 use Rattle.std.specs.Prelude.{ℕ, suc, Bool, true, false, if◌then◌else◌, Ok}
 use Rattle.bson_kinds.specs.Outcome.{◌>>=◌, result_map}
 use Rattle.bson_rawdoc.specs.Node.{Node, double, string, document, array, bytes, boolean, int32, int64, extended, Nodes, ended, faulty, then_node, kind_of}
@@ -23,7 +23,7 @@ put_entry k v (entry key old es) = if same (contents k) (contents key) then entr
 
 abbrev mutual
   -- A judged value without a shape: an array as a sequence, a document and an extended value as a map whose keys are texts. Texts and byte
-  -- strings are borrowed where they are in the input and texts are not mended.
+  -- strings are borrowed where they are in the input and texts are not mended. The last row is for null: what is broken or too deep was refused when it was judged.
   pub read_any : Node → Reading Marked
   read_any (boolean b) = Ok (value.boolean b)
   read_any (int32 n) = Ok (value.integer i32 n)

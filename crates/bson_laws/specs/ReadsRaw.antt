@@ -1,4 +1,4 @@
--- Reading a judged value in its bytes. Source: the raw types and the reserved names of MongoDB's crate bson, version 2, over the node that the value is.
+-- Reading a judged value in its bytes. Source: the raw types and the reserved names of MongoDB's crate bson, version 2.
 use Rattle.std.specs.Prelude.{pos, Ok, codes}
 use Rattle.bson_base.specs.Made.{digits}
 use Rattle.bson_kinds.specs.Outcome.{◌>>=◌, result_map}
@@ -33,7 +33,7 @@ abbrev pub scoped_code : Piece → Piece → Marked
 scoped_code code scope = value.structure (made (codes "$codeWithScope")) (two made (codes "$code") (value.str code) (codes "$scope") (value.raw_document scope))
 
 -- An extended value as the struct of a reserved name. Its texts and the bytes of a binary are borrowed where they are in the input, and the options of a regular
--- expression stay as they are; a scope is a document in its bytes.
+-- expression stay as they are; a scope is a document in its bytes. The digits of ids and the bytes of a decimal are owned.
 abbrev pub raw_extended : Extended → Reading Marked
 raw_extended (binary subtype b) = Ok (wrapped made (codes "$binary") (nameless made (two made (codes "bytes") (value.bytes b) (codes "subType") (value.integer u8 (pos subtype)))))
 raw_extended (regular_expression pattern options) = Ok (wrapped made (codes "$regularExpression") (nameless made (two made (codes "pattern") (value.str pattern) (codes "options") (value.str options))))

@@ -1,4 +1,4 @@
--- What the document that an extended value is opened to represents. Source: MongoDB's extended JSON, version 2, over the node that the value is.
+-- What the document that an extended value is opened to represents. Source: MongoDB's extended JSON, version 2.
 use Rattle.std.specs.Prelude.{◌≡◌, ◌<◌, ◌^◌, length, FitsSigned}
 use Rattle.std.specs.Int.{w64}
 use Rattle.std.specs.Result.{result_ok}

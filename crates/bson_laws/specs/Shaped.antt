@@ -1,4 +1,4 @@
--- Reading a value at a shape in bytes, whatever its extended leaves take. Source: serde's data model, over the node that the value is.
+-- Reading a value at a shape in bytes, whatever its extended leaves take. Source: serde's data model.
 use Rattle.std.specs.Prelude.{ℕ}
 use Rattle.bson_kinds.specs.Text.{Utf8}
 use Rattle.bson_rawdoc.specs.Node.{Node, Nodes}

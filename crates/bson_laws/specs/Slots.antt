@@ -1,4 +1,4 @@
--- Reading structs. Source: serde's data model, over the node that the value is.
+-- Reading structs. Source: serde's data model.
 use Rattle.std.specs.Prelude.{ℕ, suc, List, [], ◌∷◌, if◌then◌else◌, Option, Some, None, Ok}
 use Rattle.std.specs.Str.{bytes_eq}
 use Rattle.bson_kinds.specs.Text.{Utf8}

@@ -193,7 +193,7 @@ abbrev pub struct_size : Option ElementType → ℕ → (ElementType → ℕ) �
 struct_size None fields reserved = fields + 5
 struct_size (Some k) fields reserved = reserved k
 
--- how many bytes a reserved struct takes: those of its value, or its code, a length and its scope; none where it is not accepted
+-- how many bytes a reserved struct takes: those of its value, or its code, a length and its scope; 0 where it is not accepted, or its value is refused
 abbrev pub scoped_size : Option (Utf8 × ℕ) → ℕ
 scoped_size None = 0
 scoped_size (Some p) = length p.0 + 9 + p.1

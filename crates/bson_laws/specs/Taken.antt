@@ -1,4 +1,4 @@
--- What a judged value is taken as. Source: serde's data model, over the node that the value is.
+-- What a judged value is taken as. Source: serde's data model.
 use Rattle.std.specs.Prelude.{unsigned_abs, ℕ, suc, List, [], ◌∷◌, Bool, true, false, if◌then◌else◌, ℤ, Option, Some, None, Ok}
 use Rattle.std.specs.Str.{is_utf8, chars}
 use Rattle.bson_kinds.specs.Text.{Bytes}

@@ -1,4 +1,4 @@
--- Reading a judged value of a tree in memory at a leaf. Source: serde's data model, and the extended types of MongoDB's crate bson, version 2, over the node that the value is.
+-- Reading a judged value of a tree in memory at a leaf. Source: serde's data model, and the extended types of MongoDB's crate bson, version 2.
 use Rattle.std.specs.Prelude.{Bool, true, false}
 use Rattle.bson_kinds.specs.Outcome.{result_map}
 use Rattle.bson_kinds.specs.declared.element_type.ElementType.TheVariants.{EmbeddedDocument, Array}

@@ -1,4 +1,4 @@
--- Reading a judged value of a tree in memory in its bytes, which the raw builder makes. Source: the raw types of MongoDB's crate bson, version 2, over the node that the value is.
+-- Reading a judged value of a tree in memory in its bytes, which the raw builder makes. Source: the raw types of MongoDB's crate bson, version 2.
 use Rattle.std.specs.Prelude.{zero, nat_eq, if◌then◌else◌, Option, Some, None, option_and_then, Ok, Err}
 use Rattle.bson_kinds.specs.Kind.{byte}
 use Rattle.bson_kinds.specs.Outcome.{◌>>=◌, result_map}

@@ -1,4 +1,4 @@
--- Reading a value as a tree, where a document with a wrapper key is the value that the key stands for. Source: MongoDB's extended JSON, version 2, over the node that the value is.
+-- Reading a value as a tree, where a document with a wrapper key is the value that the key stands for. Source: MongoDB's extended JSON, version 2.
 use Rattle.std.specs.Prelude.{ℕ, suc, Option, Some, None, if◌then◌else◌, Ok, codes}
 use Rattle.std.specs.Str.{bytes_eq}
 use Rattle.bson_kinds.specs.Outcome.{◌>>=◌, result_map}
@@ -59,7 +59,7 @@ after_scope ps (then_node key n ns) =
 -- ---- values
 
 abbrev mutual
-  -- a judged value as a tree
+  -- a judged value as a tree; the last row is for values that are broken or without a level, which were refused when they were judged
   pub as_tree : Node → Reading Tree
   as_tree (double bits) = Ok (tree.double bits)
   as_tree (string t) = Ok (tree.string t.bytes)

@@ -1,4 +1,4 @@
--- What a reader meets, as a tree: without the marks of what is in the input, and an extended value as itself. Source: bsonspec.org, version 1.1, over the node that the value is.
+-- What a reader meets, as a tree: without the marks of what is in the input, and an extended value as itself. Source: bsonspec.org, version 1.1.
 use Rattle.std.specs.Prelude.{◌≡◌, Option, Some, None, option_map, option_and_then}
 use Rattle.bson_base.specs.Opened as for_trees
 use Rattle.bson_base.specs.Opened.{IsExtended}

@@ -9,7 +9,7 @@ use Rattle.bson_shape.specs.Guarded.{count}
 abbrev pub Meanings : Type 0
 Meanings = Utf8 → Form
 
--- what a reference means that finds no definition, and what is not unrolled any more: itself, at which every value is refused
+-- A reference without a definition, and one that the rounds do not reach, means itself: every value is refused at it.
 abbrev pub undefined : Meanings
 undefined name = reference name
 

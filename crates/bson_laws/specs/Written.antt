@@ -27,7 +27,8 @@ spell_whole (regular_expression pattern options) = zero_free pattern >>= λ p. z
 spell_whole (binary subtype bs) = spell_binary subtype bs
 spell_whole t = Ok t
 
--- code with the document that its scope is; with one that is given by its bytes, it is given by its bytes
+-- Code with the document that its scope is; with one that is given by its bytes, it is given by its bytes. A scope is one of the two, since it is written of a map or
+-- of a document in its bytes.
 abbrev pub with_scope : Utf8 → Tree → Tree
 with_scope code (document ps) = javascript_code_with_scope code ps
 with_scope code (raw k bytes) = raw JavaScriptCodeWithScope (after_total (closed_text code ++ bytes))

@@ -174,7 +174,7 @@ pub fn law_fixed_point()
 /// What is read at a shape that borrows nothing is read where texts are mended, too, as the same value: where every text is UTF-8 a mark changes no more than
 /// what is borrowed.
 ///
-/// Neither `str` nor `bytes` stands in the shape (`IsOwned`): under a mark no text is in the input, so that `str` takes none, and `bytes` takes no text. The
+/// The shape has neither `str` nor `bytes` (`IsOwned`): under a mark no text is in the input, so that `str` takes none, and `bytes` takes no text. The
 /// call does nothing.
 pub fn law_reads_mended()
     ensures same { (s : Form) (bytes : Bytes) (d : Value) → IsOwned s → reads_document s bytes ≡ Ok d

@@ -48,7 +48,7 @@ pub struct Definition<'s> {
 }
 
 impl<'s> Reader<'s> {
-    /// For a shape that stands in no definitions.
+    /// For a shape without definitions around it.
     pub fn new(readable: bool, origin: Origin) -> Reader<'s>
         ensures readable { result.readable ≡ readable }
         ensures origin { result.origin ≡ origin }
@@ -63,7 +63,7 @@ impl<'s> Reader<'s> {
         }
     }
 
-    /// The same for a shape that stands in these definitions.
+    /// The same for a shape with these definitions around it.
     pub fn inside<'t>(&self, table: &'t [FieldShape]) -> Reader<'t>
         ensures readable { result.readable ≡ self.now.readable }
         ensures origin { result.origin ≡ self.now.origin }

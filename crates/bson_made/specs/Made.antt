@@ -1,4 +1,4 @@
--- A document of rows.
+-- A document of rows. Source: this library's own programs.
 use Rattle.std.specs.Prelude.{ℕ, zero, suc, ◌++◌, true, pos, codes}
 use Rattle.std.specs.Fmt.{decimal}
 use Rattle.bson_kinds.specs.Text.{Utf8}

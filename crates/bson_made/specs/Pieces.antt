@@ -1,4 +1,4 @@
--- What a row's element is made of: what the proof of the call needs, and no definition.
+-- What a row's element is made of: what the proof of the call needs, and no definition. Source: bsonspec.org, version 1.1, `element`.
 use Rattle.std.specs.Prelude.{ℕ, ◌+◌, [], ◌∷◌, ◌++◌}
 use Rattle.bson_kinds.specs.Text.{Bytes}
 use Rattle.bson_base.specs.Tree.{le32}

@@ -1,4 +1,4 @@
--- Reading a value at an unrolled form, for a reader who is not human: a value with two forms is read in its compact one.
+-- Reading a value at an unrolled form, for a reader who is not human: a value with two forms is read in its compact one. Source: serde's `is_human_readable`.
 use Rattle.std.specs.Prelude.{ℕ, false, Option}
 use Rattle.bson_rawdoc.specs.Node.{Node, Nodes}
 use Rattle.bson_shape.specs.Form.{Form, Fields, Parts}

@@ -49,7 +49,7 @@ pub fn recast_at_once(alloc: Global, shape: &Shape, bytes: &[u8]) -> Option<Vec<
 
 /// The same where the texts of the document are mended.
 ///
-/// It takes the shapes that borrow nothing, in which neither `str` nor `bytes` stands, and documents whose texts are UTF-8.
+/// It takes the shapes that borrow nothing, those without `str` and `bytes`, and documents whose texts are UTF-8.
 pub fn recast_at_once_utf8_lossy(alloc: Global, shape: &Shape, bytes: &[u8]) -> Option<Vec<u8>>
     ensures recast { IfSome result (λ v. IsRecastAs (form.lossy shape.now) bytes.now v.items) }
 {

@@ -14,7 +14,7 @@ pub(crate) fn borrows_nothing_in(table: &[FieldShape], shape: &Shape) -> bool
     fields_borrow_nothing(table) && borrows_nothing(shape)
 }
 
-/// Whether a shape borrows nothing: neither `str` nor `bytes` stands in it.
+/// Whether a shape borrows nothing: it has neither `str` nor `bytes`.
 #[cycle(owned)]
 pub(crate) fn borrows_nothing(shape: &Shape) -> bool
     ensures { IsTrue result → IsOwned shape.now }

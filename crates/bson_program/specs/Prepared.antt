@@ -1,4 +1,4 @@
--- What a run has in hand before it writes, and what becomes of it. Source: this library's own programs.
+-- The answer of a run before it is written, and whether it was. Source: this library's own programs.
 use Rattle.std.specs.Prelude.{◌≡◌, ◌⊎◌, ℕ, Result, Ok, Err, string_bytes}
 use Rattle.std.specs.Global.{Vec}
 use Rattle.std.specs.declared.alloc.AllocError.{AllocError}

@@ -1,4 +1,4 @@
--- `--make`: a document of rows is made and recast, and a line tells how long both are.
+-- `--make`: a document of rows is made and recast, and a line tells how long both are. Source: this library's own programs.
 use Rattle.std.specs.Prelude.{◌≡◌, ℕ, ◌≤◌, nat_le, ◌&&◌, List, [], ◌∷◌, ◌++◌, length, sum, if◌then◌else◌, Option, Some, None, codes}
 use Rattle.std.specs.Fmt.{decimal}
 use Rattle.std.specs.Str.{bytes_eq}

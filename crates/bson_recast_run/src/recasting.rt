@@ -61,7 +61,7 @@ pub fn recast(alloc: Global, shape: &Shape, bytes: &[u8]) -> Result<Vec<u8>, Rec
 
 /// Reads the bytes of a document at a shape, where its texts are mended, and gives the bytes of what was read.
 ///
-/// It is as fast as [`recast`] where every text is UTF-8, at a shape in which neither `str` nor `bytes` stands.
+/// It is as fast as [`recast`] where every text is UTF-8, at a shape without `str` and `bytes`.
 ///
 /// # Errors
 ///

@@ -1,4 +1,4 @@
-// What comes of a row: runs of the programs over ends in memory, and documents that are written.
+// What a row gives: runs of the programs over ends in memory, and documents that are written.
 use crate::row::{Program, Row};
 use crate::trees::{read_tree, tree_in, write_tree};
 use bson_base::Document;
@@ -141,7 +141,7 @@ fn write_at(alloc: Global, shape: &Shape, bytes: &[u8], name: &str) -> Result<Ru
     }
 }
 
-/// What comes of writing a document.
+/// What writing a document gives.
 fn written(alloc: Global, document: &Datum<'_>) -> Result<Run, AllocError> {
     match to_vec_at(alloc, document) {
         Ok(output) => done(alloc, output),
@@ -175,7 +175,7 @@ fn tree_row(alloc: Global, row: &Row) -> Result<Run, AllocError> {
     }
 }
 
-/// What comes of writing a value as a tree.
+/// What writing a value as a tree gives.
 fn tree_written(alloc: Global, value: &Datum<'_>, mode: &str) -> Result<Run, AllocError> {
     match write_tree(alloc, value, mode) {
         Ok(document) => encoded(alloc, &document),

@@ -40,14 +40,14 @@ HasBegun false begun readable w = HasEntries begun readable w no_entries
 abbrev pub DocumentFailed : (begun : Bytes) → DocumentWriter → Type 0
 DocumentFailed begun w = HasFailed begun w.failed w.out.now.bytes
 
--- A value is handed in. What refuses it is the refusal of each array that begins with the values so far and this one.
+-- A value is given. What refuses it is the refusal of each array that begins with the values so far and this one.
 abbrev pub TakesItem : (old new : DocumentWriter) → Value → Result (Unit {0}) Error → Type 0
 TakesItem old new v result =
     (begun : Bytes) (readable : Bool) (before after : Items) → HasItems begun readable old before
     → Takes (HasItems begun readable new (with_item before v)) (DocumentFailed begun new) (size_as readable (sequence (with_item before v)))
     (spell_as readable (sequence (items_joined before (item v after))) max_levels) result
 
--- An entry is handed in. What refuses it is the refusal of each map that begins with the entries so far and this one.
+-- An entry is given. What refuses it is the refusal of each map that begins with the entries so far and this one.
 abbrev pub TakesEntry : (old new : DocumentWriter) → (key value : Value) → Result (Unit {0}) Error → Type 0
 TakesEntry old new k v result =
     (begun : Bytes) (readable : Bool) (before after : Entries) → HasEntries begun readable old before

@@ -49,14 +49,14 @@ HasBegun false begun readable name w = HasFields begun readable name w no_field_
 abbrev pub VariantFailed : (begun : Bytes) → VariantWriter → Type 0
 VariantFailed begun w = HasFailed begun w.failed w.out.now.bytes
 
--- A value is handed in. What refuses it is the refusal of each variant of the name that begins with the values so far and this one.
+-- A value is given. What refuses it is the refusal of each variant of the name that begins with the values so far and this one.
 abbrev pub TakesItem : (old new : VariantWriter) → Value → Result (Unit {0}) Error → Type 0
 TakesItem old new v result =
     (begun : Bytes) (readable : Bool) (name : Utf8) (before after : Items) → HasItems begun readable name old before
     → Takes (HasItems begun readable name new (with_item before v)) (VariantFailed begun new) (size_as readable (tuple_variant name (with_item before v)))
     (spell_as readable (tuple_variant name (items_joined before (item v after))) max_levels) result
 
--- A field is handed in.
+-- A field is given.
 abbrev pub TakesField : (old new : VariantWriter) → (key : Utf8) → Value → Result (Unit {0}) Error → Type 0
 TakesField old new key v result =
     (begun : Bytes) (readable : Bool) (name : Utf8) (before after : FieldValues) → HasFields begun readable name old before

@@ -67,7 +67,7 @@ impl<'o> DocumentWriter<'o> {
     ///
     /// # Errors
     ///
-    /// As `WithPath`, or `NoMemory`: the refusal of the value as a part of the array; `SerializationError` with `TooLong`, where all that was handed in would have
+    /// As `WithPath`, or `NoMemory`: the refusal of the value as a part of the array; `SerializationError` with `TooLong`, where all that was given would have
     /// more than 2147483647 bytes; with `BadStep` where a document was begun; with `Failed` after a refusal.
     pub fn element<L: Ledger>(&mut self, value: &Datum<'_>, steps: &mut Steps<L>) -> Result<()>
         ensures same_reference { self.new.out.ghost_name ≡ self.old.out.ghost_name }
@@ -101,7 +101,7 @@ impl<'o> DocumentWriter<'o> {
     ///
     /// # Errors
     ///
-    /// As `WithPath`, or `NoMemory`: the refusal of the key or of the value as a part of the map; `SerializationError` with `TooLong`, where all that was handed in
+    /// As `WithPath`, or `NoMemory`: the refusal of the key or of the value as a part of the map; `SerializationError` with `TooLong`, where all that was given
     /// would have more than 2147483647 bytes; with `BadStep` where an array was begun; with `Failed` after a refusal.
     pub fn entry<L: Ledger>(
         &mut self,

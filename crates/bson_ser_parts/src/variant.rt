@@ -73,7 +73,7 @@ impl<'o> VariantWriter<'o> {
     ///
     /// # Errors
     ///
-    /// As `WithPath`, or `NoMemory`: the refusal of the value as a part of the variant; `SerializationError` with `TooLong`, where all that was handed in would have
+    /// As `WithPath`, or `NoMemory`: the refusal of the value as a part of the variant; `SerializationError` with `TooLong`, where all that was given would have
     /// more than 2147483647 bytes; with `BadStep` where a struct variant was begun; with `Failed` after a refusal.
     pub fn element<L: Ledger>(&mut self, value: &Datum<'_>, steps: &mut Steps<L>) -> Result<()>
         ensures same_reference { self.new.out.ghost_name ≡ self.old.out.ghost_name }

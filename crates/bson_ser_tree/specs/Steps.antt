@@ -18,7 +18,7 @@ abbrev pub Steps : {A : Type 0} → Writing A → (new : Option A) → Result (U
 Steps due new (Ok x) = (a : _) × (due ≡ Ok a) × (new ≡ Some a)
 Steps due new (Err e) = HasFailed new × FailsAs (write_failure e) (without_paths due)
 
--- a step from what was made before; nothing comes of a writer that failed
+-- a step from what was made before; a writer that failed answers that it did
 abbrev pub StepsFrom : {A : Type 0} → (old : Option A) → (A → Writing A) → (new : Option A) → Result (Unit {0}) Error → Type 0
 StepsFrom None step new result = HasFailed new × AnswersFailed result
 StepsFrom (Some a) step new result = Steps (step a) new result
@@ -45,12 +45,12 @@ abbrev pub Keeps : {A X Y : Type 0} → (see : X → Y) → A → Writing Y → 
 Keeps see a due new (Ok x) = (due ≡ Ok (see x)) × (new ≡ Some a)
 Keeps see a due new (Err e) = HasFailed new × FailsAs (write_failure e) (without_paths due)
 
--- the same from what was made before; nothing comes of a writer that failed
+-- the same from what was made before; a writer that failed answers that it did
 abbrev pub KeepsFrom : {A X Y : Type 0} → (see : X → Y) → (old : Option A) → Writing Y → (new : Option A) → Result X Error → Type 0
 KeepsFrom see None due new result = HasFailed new × AnswersFailed result
 KeepsFrom see (Some a) due new result = Keeps see a due new result
 
--- what everything together becomes is given, or memory ran out; nothing comes of a writer that failed
+-- what everything together becomes is given, or memory ran out; a writer that failed answers that it did
 abbrev pub Finishes : {X A B : Type 0} → (become : A → B) → (see : X → B) → Option A → Result X Error → Type 0
 Finishes become see None result = AnswersFailed result
 Finishes become see (Some a) (Ok x) = become a ≡ see x

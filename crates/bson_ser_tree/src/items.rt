@@ -1,4 +1,4 @@
-// The values of an array that are handed in one after another.
+// The values of an array that are given one after another.
 ghost use Rattle.std.specs.Prelude.{◌≡◌, Some};
 ghost use Rattle.bson_base.specs.BsonView.{tree_of};
 ghost use Rattle.bson_base.specs.Tree.{array, no_trees};

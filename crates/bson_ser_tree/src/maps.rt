@@ -16,7 +16,7 @@ use std::mem;
 
 /// A writer of a map, key by key and value by value.
 ///
-/// A value takes the key that was handed in last, or the empty text where none was since the last value. A key without a value behind it is dropped.
+/// A value takes the key that was given last, or the empty text where none was since the last value. A key without a value behind it is dropped.
 #[derive(Debug, Drop)]
 pub struct MapSerializer {
     pairs: PairsWriter,
@@ -62,7 +62,7 @@ impl MapSerializer {
         Ok(())
     }
 
-    /// Takes the next value, at the key that was handed in last.
+    /// Takes the next value, at the key that was given last.
     ///
     /// # Errors
     ///

@@ -1,4 +1,4 @@
-// The pairs of a document that are handed in one after another.
+// The pairs of a document that are given one after another.
 ghost use Rattle.std.specs.Prelude.{◌≡◌, false, Some, string_bytes, OnOk};
 ghost use Rattle.bson_base.specs.BsonView.{tree_of, pairs_of};
 ghost use Rattle.bson_base.specs.Folded.{fold};

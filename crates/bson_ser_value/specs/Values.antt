@@ -37,7 +37,7 @@ abbrev pub Steps : (taken fails : Type 0) → (first : Type 0) → Result (Unit 
 Steps taken fails first (Ok x) = taken × first
 Steps taken fails first (Err e) = fails × ((write_failure e ≡ no_memory) ⊎ ((first → ⊥) × (write_failure e ≡ with_path (here (unwritable bad_step)))))
 
--- a field is handed in
+-- a field is given
 abbrev pub TakesField : (old new : ValueWriter) → (key : Utf8) → Value → Result (Unit {0}) Error → Type 0
 TakesField old new key v result =
     (begun : Bytes) (name : Utf8) (before : FieldValues) → HasFields begun name old before

@@ -65,7 +65,7 @@ abbrev pub Ends : Fields → ℕ → Utf8 → Type 0
 Ends h zero name = ⊥
 Ends h (suc n) name = FoundLeads (Ends h n) (definition h name)
 
--- No name leads back to itself: a chain of references has no more names than there are definitions, and one that there is none for.
+-- No name leads back to itself: a chain of references has at most one name more than there are definitions: the last may have none.
 abbrev pub IsGuarded : Fields → Type 0
 IsGuarded h = (name : Utf8) → Ends h (suc (count h)) name
 

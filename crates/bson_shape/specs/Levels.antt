@@ -1,4 +1,4 @@
--- How many forms are inside one another in a shape. Source: serde's data model.
+-- How many forms are inside one another in a shape. Source: the limits of this library.
 use Rattle.std.specs.Prelude.{ℕ, suc, max}
 use Rattle.bson_shape.specs.Form.{Form, leaf, optional, lossy, human_readable, by_mode, sequence, map, tuple, tuple_structure, newtype, unit_structure, structure, enumeration, reference, definitions, Fields, no_fields, field, Parts, no_parts, part, Variants, no_variants, variant, Content, unit_content, newtype_content, tuple_content, struct_content}
 

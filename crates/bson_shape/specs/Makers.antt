@@ -1,4 +1,4 @@
--- What the makers of shapes ask for, and what they answer. Source: serde's data model.
+-- What the makers of shapes ask for, and what they answer. Source: serde's data model, and the limits of this library.
 use Rattle.std.specs.Prelude.{ℕ, suc, ◌≡◌, ◌≤◌, Bool, true, false, ◌&&◌, ◌||◌, if◌then◌else◌, nat_lt, List, [], ◌∷◌, codes, None, is_some, Result, Ok, Err, IsOk}
 use Rattle.std.specs.List.{list_any}
 use Rattle.std.specs.Str.{bytes_eq, is_utf8}

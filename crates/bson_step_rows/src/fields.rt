@@ -1,4 +1,4 @@
-// A struct that is handed in field by field.
+// A struct that is given field by field.
 use crate::refusals::{are_digits, is_behind, is_failed, is_in_struct};
 use crate::row::Row;
 use crate::ways::begin;
@@ -8,7 +8,7 @@ use bson_ser_value::ValueWriter;
 use bson_values::ser;
 use std::alloc::{AllocError, Global};
 
-/// Whether a row holds where the struct under `x` in a document is handed in field by field: a writer of its name refuses the call that the row says, and each call
+/// Whether a row holds where the struct under `x` in a document is given field by field: a writer of its name refuses the call that the row says, and each call
 /// behind it, and the output holds the value, or what it held.
 pub fn by_fields(alloc: Global, row: Row<'_>, document: &Datum<'_>) -> Result<bool, AllocError> {
     match document.field("x") {

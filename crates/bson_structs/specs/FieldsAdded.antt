@@ -1,4 +1,4 @@
--- The fields of a struct, with one more behind them.
+-- The fields of a struct, with one more behind them. Source: serde's data model.
 use Rattle.bson_kinds.specs.Text.{Utf8}
 use Rattle.bson_values.specs.Value.{Value, FieldValues, no_field_values, field_value}
 

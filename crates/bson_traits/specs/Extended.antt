@@ -12,12 +12,12 @@ use Rattle.bson_values.specs.Value.{Value, bytes, integer, i64, u32, in_range, n
 use Rattle.bson_laws.specs.Datum.{datum, uuid_datum, itself, wrapped, nameless, two}
 use Rattle.bson_traits.specs.Answers.{Reading, not_fitting}
 
--- contents that a value may be the datum of, where it is their datum
+-- contents that were found in a value, where the value is their datum
 abbrev pub taken_where : {C : Type 0} → (datum_of : C → Value) → Value → Option C → Reading C
 taken_where datum_of v None = Err not_fitting
 taken_where datum_of v (Some c) = if same (datum_of c) v then Ok c else Err not_fitting
 
--- the contents whose datum a value is, where it says which ones they would be
+-- the contents whose datum a value is: those that are found in it, where it is their datum, and nothing else
 abbrev pub taken_as : {C : Type 0} → (datum_of : C → Value) → (said : Value → Option C) → Value → Reading C
 taken_as datum_of said v = taken_where datum_of v (said v)
 
@@ -26,6 +26,7 @@ taken_as datum_of said v = taken_where datum_of v (said v)
 abbrev pub id_datum : Bytes → Value
 id_datum id = datum itself (tree.object_id id)
 
+-- the bytes that the digits under `$oid` give
 abbrev pub id_said : Value → Option Bytes
 id_said v = option_and_then (bytes_of_digits 12) (option_and_then as_str (field (codes "$oid") v))
 
@@ -37,6 +38,7 @@ taken_id = taken_as id_datum id_said
 abbrev pub date_datum : ℤ → Value
 date_datum n = datum itself (tree.date_time n)
 
+-- the number that the text under `$numberLong` gives
 abbrev pub date_said : Value → Option ℤ
 date_said v = option_and_then integer_of_text (option_and_then as_str (option_and_then (field (codes "$numberLong")) (field (codes "$date") v)))
 
@@ -49,10 +51,11 @@ taken_date = taken_as date_datum date_said
 abbrev pub unsigned : ℤ → Option ℤ
 unsigned n = if in_range u32 n then Some n else None
 
+-- such a number under this key
 abbrev pub unsigned_said : (key : Utf8) → Value → Option ℤ
 unsigned_said key v = option_and_then unsigned (option_and_then as_i64 (field key v))
 
--- two that are both there
+-- two values, where both are there
 abbrev pub both : {A B : Type 0} → Option A → Option B → Option (A × B)
 both a b = option_and_then (λ x. option_map (λ y. (x, y)) b) a
 
@@ -77,6 +80,7 @@ sized n b = if nat_eq (length b) n then Some b else None
 abbrev pub decimal_datum : Bytes → Value
 decimal_datum b = datum itself (tree.decimal128 b)
 
+-- the sixteen bytes under `$numberDecimalBytes`
 abbrev pub decimal_said : Value → Option Bytes
 decimal_said v = option_and_then (sized 16) (option_and_then as_bytes (field (codes "$numberDecimalBytes") v))
 
@@ -99,6 +103,7 @@ base64_in body = option_and_then bytes_of_base64 (option_and_then as_str (field 
 abbrev pub binary_in : Value → Option (ℕ × Bytes)
 binary_in body = both (subtype_in body) (base64_in body)
 
+-- a byte string with subtype 0, or what is under `$binary`
 abbrev pub binary_said : Value → Option (ℕ × Bytes)
 binary_said (bytes b) = Some (0, b)
 binary_said v = option_and_then binary_in (field (codes "$binary") v)
@@ -116,6 +121,7 @@ abbrev pub compact_in : Value → Option Value
 compact_in (newtype name (mode r c)) = Some c
 compact_in v = None
 
+-- the sixteen bytes of the compact form
 abbrev pub uuid_said : Value → Option Bytes
 uuid_said v = option_and_then (sized 16) (option_and_then as_bytes (compact_in v))
 

@@ -1,4 +1,4 @@
--- What a call that makes the shape of a type answers. Source: the limit of a shape's levels.
+-- What a call that makes the shape of a type answers. Source: the limits of this library.
 use Rattle.std.specs.Prelude.{◌≡◌, ◌<◌, ◌≤◌, nat_lt, if◌then◌else◌, Result, Ok, Err}
 use Rattle.bson_kinds.specs.Outcome.{◌>>=◌}
 use Rattle.bson_shape.specs.Form.{Form}

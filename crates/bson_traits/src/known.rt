@@ -1,4 +1,4 @@
-// What is known of a value in hand.
+// What is known of a value of a type.
 ghost use Rattle.std.specs.Prelude.{◌≡◌, true};
 ghost use Rattle.std.specs.Str.{is_utf8};
 ghost use Rattle.bson_base.specs.Sound.{HasBytes};

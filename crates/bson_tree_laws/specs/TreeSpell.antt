@@ -78,8 +78,8 @@ abbrev mutual
   tree_items readable i no_items levels = Ok no_trees
   tree_items readable i (item v vs) levels = under_index i (tree_spell readable false v levels) >>= λ t. tree_items readable (suc i) vs levels >>= λ ts. Ok (tree.tree t ts)
 
-  -- The pairs of a map after those before them: a repeated key replaces the value in its place. A key is made into a tree as every value is, and its refusal
-  -- is that of the map.
+  -- The pairs of a map after those before them: a repeated key replaces the value in its place. A key is made into a tree as every value is: the refusal of the key
+  -- itself has the path of the map, and that of a value inside the key its way from there.
   pub tree_entries : (readable : Bool) → Entries → Pairs → (levels : ℕ) → Writing Pairs
   tree_entries readable no_entries ps levels = Ok ps
   tree_entries readable (entry k v es) ps levels =

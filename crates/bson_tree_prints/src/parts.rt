@@ -51,7 +51,7 @@ pub const VARIANTS: [Call; 2] = [
     Call::Parts(Part::StructVariant),
 ];
 
-/// The datum where a key is due.
+/// The datum where a key has to come.
 pub const REFUSED: [Call; 2] = [Call::Parts(Part::Key), Call::Parts(Part::EndOfMap)];
 
 impl Part {

@@ -1,4 +1,4 @@
--- Values that are given by the bytes of a whole document, where they are given by the bytes of one.
+-- Values that are given by the bytes of a document: these bytes pass the test of the envelope. Source: bsonspec.org, version 1.1, `document`.
 use Rattle.std.specs.Prelude.{◌≡◌, Ok}
 use Rattle.bson_rawdoc.specs.Envelope.{envelope}
 use Rattle.bson_values.specs.Value.{Value, some, newtype, raw_document, mode}

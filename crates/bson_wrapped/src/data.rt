@@ -1,4 +1,4 @@
-// Extended values as data: the structs of their reserved names. All texts, names and byte strings in them are owned, but those in data that are handed in.
+// Extended values as data: the structs of their reserved names. All texts, names and byte strings in them are owned, but those in data that are given.
 ghost use Rattle.std.specs.Prelude.{◌≡◌, [], ◌∷◌, true, codes, string_bytes, IfOk};
 ghost use Rattle.bson_base.specs.Made.{digits};
 ghost use Rattle.bson_base.specs.Instant.{millis};

@@ -135,14 +135,14 @@ pub fn print_taken(rt: &impl Print, alloc: Global) -> io::Result<()> {
     )
 }
 
-/// Each writer refuses a value, and then what is due.
+/// Each writer refuses a value, and then what it has to take.
 pub fn print_refused(rt: &impl Print, alloc: Global) -> io::Result<()> {
     let entries = [Part::Entry("i"), Part::Entry("j")];
     let elements = [Part::Element, Part::Element];
     print_writers(rt, alloc, &entries, &elements, &Datum::U64(u64::MAX))
 }
 
-/// Each writer takes its part, refuses one of the wrong form, and then what is due.
+/// Each writer takes its part, refuses one of the wrong form, and then what it has to take.
 pub fn print_wrong(rt: &impl Print, alloc: Global) -> io::Result<()> {
     let entries = [Part::Entry("i"), Part::Element, Part::Entry("j")];
     let elements = [Part::Element, Part::Entry("i"), Part::Element];
