@@ -27,6 +27,8 @@ fn read_front(alloc: Global, error: &de::Error) -> Result<String, AllocError>
     match error {
         de::Error::WithPath { path, .. } => format!(in alloc; "error at {path}: "),
         de::Error::Io
+        | de::Error::InvalidUtf8String
+        | de::Error::UnrecognizedDocumentElementType { .. }
         | de::Error::EndOfStream
         | de::Error::DeserializationError { .. }
         | de::Error::NoMemory => Ok(String::new(alloc)),
@@ -39,7 +41,8 @@ fn write_front(alloc: Global, error: &ser::Error) -> Result<String, AllocError>
 {
     match error {
         ser::Error::WithPath { path, .. } => format!(in alloc; "error at {path}: "),
-        ser::Error::InvalidDocumentKey(_)
+        ser::Error::Io
+        | ser::Error::InvalidDocumentKey(_)
         | ser::Error::InvalidCString(_)
         | ser::Error::UnsignedIntegerExceededRange(_)
         | ser::Error::SerializationError { .. }

@@ -4,7 +4,7 @@ use Rattle.bson_kinds.specs.Outcome.{◌>>=◌}
 use Rattle.bson_kinds.specs.Text.{Bytes}
 use Rattle.bson_io.specs.Ends.{Rose}
 use Rattle.bson_values.specs.ErrorView.{read_failure}
-use Rattle.bson_values.specs.Refusal.{ReadFault, Failure, no_memory, bare, placed, io, end_of_stream, unreadable}
+use Rattle.bson_values.specs.Refusal.{ReadFault, Failure, no_memory, bare, placed, io, invalid_utf8_string, unrecognized_element_type, end_of_stream, unreadable}
 use Rattle.bson_values.specs.declared.de.Error.{Error}
 use Rattle.bson_de_raw.specs.Gives.{FailsAs, Gives}
 use Rattle.bson_source.specs.FirstDocument.{first_document}
@@ -15,6 +15,8 @@ pub stops_then : {X Y : Type 0} (all failed : Type 0) (f : Failure ReadFault) (f
 stops_then all failed no_memory first read h = tt
 stops_then all failed (bare io) first read (inl h) = inl h
 stops_then all failed (bare io) first read (inr h) = inr (h.0, ap (λ r. r >>= read) h.1)
+stops_then all failed (bare invalid_utf8_string) first read h = (h.0, ap (λ r. r >>= read) h.1)
+stops_then all failed (bare (unrecognized_element_type key byte)) first read h = (h.0, ap (λ r. r >>= read) h.1)
 stops_then all failed (bare end_of_stream) first read h = (h.0, ap (λ r. r >>= read) h.1)
 stops_then all failed (bare (unreadable c)) first read h = (h.0, ap (λ r. r >>= read) h.1)
 stops_then all failed (placed path f) first read h = (h.0, ap (λ r. r >>= read) h.1)
@@ -22,6 +24,8 @@ stops_then all failed (placed path f) first read h = (h.0, ap (λ r. r >>= read)
 stops_as : {Y : Type 0} (all failed : Type 0) (f : Failure ReadFault) (answer : Result Y (Failure ReadFault)) → all → FailsAs f answer → Stops all failed f answer
 stops_as all failed no_memory answer a h = tt
 stops_as all failed (bare io) answer a h = inr (a, h)
+stops_as all failed (bare invalid_utf8_string) answer a h = (a, h)
+stops_as all failed (bare (unrecognized_element_type key byte)) answer a h = (a, h)
 stops_as all failed (bare end_of_stream) answer a h = (a, h)
 stops_as all failed (bare (unreadable c)) answer a h = (a, h)
 stops_as all failed (placed path f) answer a h = (a, h)

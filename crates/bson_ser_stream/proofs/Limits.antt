@@ -11,7 +11,7 @@ use Rattle.bson_base.specs.Tree.{Tree, int64, document, array, binary, regular_e
 use Rattle.bson_kinds.specs.declared.element_type.ElementType.{ElementType}
 use Rattle.bson_kinds.specs.declared.element_type.ElementType.TheVariants.{EmbeddedDocument, Array, JavaScriptCodeWithScope, Int32}
 use Rattle.bson_values.specs.Cause.{Cause, binary_too_long, too_long}
-use Rattle.bson_values.specs.Refusal.{WriteFault, unwritable, invalid_document_key, invalid_cstring, unsigned_exceeds, Refusal, Segment, at_key, at_index, here, inside, under_index, under, Failure, no_memory, bare, placed, with_path}
+use Rattle.bson_values.specs.Refusal.{WriteFault, sink_failed, unwritable, invalid_document_key, invalid_cstring, unsigned_exceeds, Refusal, Segment, at_key, at_index, here, inside, under_index, under, Failure, no_memory, bare, placed, with_path}
 use Rattle.bson_values.specs.Value.{i64, greatest, written_as, Value, boolean, integer, double, character, str, bytes, none, some, unit, unit_structure, newtype, sequence, map, structure, unit_variant, newtype_variant, tuple, tuple_structure, tuple_variant, structure_variant, raw_document, raw_array, mode, Items, no_items, item, Entries, no_entries, entry, FieldValues, no_field_values, field_value, kind_of, uuid_newtype, readable_inside}
 use Rattle.bson_laws.specs.Means.{key_text}
 use Rattle.bson_laws.specs.Unwrap.{Part, unwrap, scoped_code}
@@ -31,6 +31,7 @@ IsLength too_long = Unit {0}
 IsLength c = ⊥
 
 abbrev IsLengthFault : WriteFault → Type 0
+IsLengthFault sink_failed = ⊥
 IsLengthFault (unwritable c) = IsLength c
 IsLengthFault (invalid_document_key t) = ⊥
 IsLengthFault (invalid_cstring t) = ⊥

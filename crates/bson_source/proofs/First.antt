@@ -12,7 +12,7 @@ use Rattle.bson_rawdoc.specs.Numbers.{int32_in}
 use Rattle.bson_rawdoc.proofs.Extents.{number_within}
 use Rattle.bson_values.specs.Cause.{too_small}
 use Rattle.bson_values.specs.ErrorView.{read_failure}
-use Rattle.bson_values.specs.Refusal.{ReadFault, Failure, no_memory, bare, placed, io, end_of_stream, unreadable}
+use Rattle.bson_values.specs.Refusal.{ReadFault, Failure, no_memory, bare, placed, io, invalid_utf8_string, unrecognized_element_type, end_of_stream, unreadable}
 use Rattle.bson_values.specs.declared.de.Error.{Error}
 use Rattle.bson_source.specs.Taken.{TakesSome, TakesAll}
 use Rattle.bson_source.specs.FirstDocument.{announced, document_length, due, first_document, of_length, or_four}
@@ -50,6 +50,8 @@ within_four b h = omega (arith, h, due_of b (nat_lt (length b) 4))
 stops : {Y : Type 0} (all : Type 0) (before mid now : ℕ) (f : Failure ReadFault) (answer : Result Y (Failure ReadFault)) → before ≤ mid → IsTakeError (Rose mid now) f → Stops all (Rose before now) f answer
 stops all before mid now no_memory answer le h = tt
 stops all before mid now (bare io) answer le h = inl (omega (arith, le, h))
+stops all before mid now (bare invalid_utf8_string) answer le h = absurd h
+stops all before mid now (bare (unrecognized_element_type key byte)) answer le h = absurd h
 stops all before mid now (bare end_of_stream) answer le h = absurd h
 stops all before mid now (bare (unreadable c)) answer le h = absurd h
 stops all before mid now (placed path f) answer le h = absurd h

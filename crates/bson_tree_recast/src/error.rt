@@ -60,6 +60,8 @@ impl From<de::Error> for RecastError {
         match error {
             de::Error::NoMemory => RecastError::NoMemory,
             e @ (de::Error::Io
+            | de::Error::InvalidUtf8String
+            | de::Error::UnrecognizedDocumentElementType { .. }
             | de::Error::EndOfStream
             | de::Error::DeserializationError { .. }
             | de::Error::WithPath { .. }) => RecastError::Read(e),
@@ -75,7 +77,8 @@ impl From<ser::Error> for RecastError {
     fn from(error: ser::Error) -> RecastError {
         match error {
             ser::Error::NoMemory => RecastError::NoMemory,
-            e @ (ser::Error::InvalidDocumentKey(_)
+            e @ (ser::Error::Io
+            | ser::Error::InvalidDocumentKey(_)
             | ser::Error::InvalidCString(_)
             | ser::Error::UnsignedIntegerExceededRange(_)
             | ser::Error::SerializationError { .. }

@@ -2,7 +2,7 @@
 use Rattle.std.specs.Prelude.{pos, string_bytes}
 use Rattle.bson_base.specs.BsonView.{tree_of}
 use Rattle.bson_values.specs.Cause as cause
-use Rattle.bson_values.specs.Refusal.{ReadFault, io, end_of_stream, unreadable, WriteFault, unwritable, invalid_document_key, invalid_cstring, unsigned_exceeds, Failure, no_memory, bare, placed}
+use Rattle.bson_values.specs.Refusal.{ReadFault, io, invalid_utf8_string, unrecognized_element_type, end_of_stream, unreadable, WriteFault, sink_failed, unwritable, invalid_document_key, invalid_cstring, unsigned_exceeds, Failure, no_memory, bare, placed}
 use Rattle.bson_values.specs.PathView.{path_view}
 use Rattle.bson_values.specs.declared.cause.Cause.{Cause}
 use Rattle.bson_values.specs.declared.cause.Cause.TheVariants.{Raw, TooDeep, InvalidType, OutOfRange, NotOneChar, NotUtf8, NotBorrowed, InvalidLength, MissingField, DuplicateField, UnknownVariant, UnknownField, UnknownReference, BadBody, WrongKind, Subtype, ContentsWanted, UnitInDocument, EmptyEnum, ExtraKey, ZeroByte, TopLevel, BinaryTooLong, BadUuid, BadStep, TooLong, NotDocument, Failed, TooSmall, NotFitting, NotI32, NotI64, Increment, NotDate, NotObjectId, NoRfc3339}
@@ -66,6 +66,8 @@ write_fault (ser_faults.Cause c) = unwritable (cause_view c)
 -- the failure that a reader's error is
 abbrev pub read_failure : de.Error → Failure ReadFault
 read_failure de.Io = bare io
+read_failure de.InvalidUtf8String = bare invalid_utf8_string
+read_failure (de.UnrecognizedDocumentElementType key element_type) = bare (unrecognized_element_type (string_bytes key) element_type)
 read_failure de.EndOfStream = bare end_of_stream
 read_failure (de.DeserializationError c) = bare (unreadable (cause_view c))
 read_failure (de.WithPath' path p source) = placed (path_view path) (read_failure source)
@@ -73,6 +75,7 @@ read_failure de.NoMemory = no_memory
 
 -- the failure that a writer's error is
 abbrev pub write_failure : ser.Error → Failure WriteFault
+write_failure ser.Io = bare sink_failed
 write_failure (ser.InvalidDocumentKey b) = bare (invalid_document_key (tree_of b))
 write_failure (ser.InvalidCString t) = bare (invalid_cstring (string_bytes t))
 write_failure (ser.UnsignedIntegerExceededRange n) = bare (unsigned_exceeds (pos n))

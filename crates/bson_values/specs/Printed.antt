@@ -9,7 +9,7 @@ use Rattle.bson_values.specs.Cause.{Cause, raw, too_deep, invalid_type, out_of_r
 use Rattle.bson_values.specs.Wrapper.{key}
 use Rattle.bson_values.specs.declared.wrapper.Wrapper.{Wrapper}
 use Rattle.bson_values.specs.declared.wrapper.Wrapper.TheVariants.{NumberDouble}
-use Rattle.bson_values.specs.Refusal.{Segment, Path, at_key, at_index, ReadFault, io, end_of_stream, unreadable, WriteFault, unwritable, invalid_document_key, invalid_cstring, unsigned_exceeds, Failure, no_memory, bare, placed}
+use Rattle.bson_values.specs.Refusal.{Segment, Path, at_key, at_index, ReadFault, io, invalid_utf8_string, unrecognized_element_type, end_of_stream, unreadable, WriteFault, sink_failed, unwritable, invalid_document_key, invalid_cstring, unsigned_exceeds, Failure, no_memory, bare, placed}
 
 -- the segment at a place of a path: a key has a point before it unless it comes first, an index is in brackets
 abbrev pub point_before : ℕ → Utf8
@@ -74,10 +74,13 @@ printed_cause (no_rfc3339 n) = codes "cannot format " ++ signed_decimal n ++ cod
 
 abbrev pub printed_read_fault : ReadFault → Utf8
 printed_read_fault io = codes "i/o fault"
+printed_read_fault invalid_utf8_string = codes "invalid UTF-8"
+printed_read_fault (unrecognized_element_type t b) = codes "unrecognized element type " ++ decimal b ++ codes " for key " ++ t
 printed_read_fault end_of_stream = codes "end of stream"
 printed_read_fault (unreadable c) = printed_cause c
 
 abbrev pub printed_write_fault : WriteFault → Utf8
+printed_write_fault sink_failed = codes "i/o fault"
 printed_write_fault (unwritable c) = printed_cause c
 printed_write_fault (invalid_document_key t) = codes "invalid map key type: " ++ name (kind t)
 printed_write_fault (invalid_cstring t) = codes "cstrings cannot contain null bytes"

@@ -17,12 +17,17 @@ Path = List Segment
 pub data ReadFault : Type 0 where
   -- a call of the source failed
   io : ReadFault
+  -- no reader refuses for these two, which are there for the names of their errors: a text that is not UTF-8, and a byte that is no element type, with the key that it is for
+  invalid_utf8_string : ReadFault
+  unrecognized_element_type : (key : Utf8) → (byte : ℕ) → ReadFault
   -- an empty document, where the name of a variant is expected; a text in a tree, where the contents of a variant are expected; or the source ended before the length of a document
   end_of_stream : ReadFault
   unreadable : Cause → ReadFault
 
 -- what writing refuses for
 pub data WriteFault : Type 0 where
+  -- a call of the sink failed; no writer refuses for it, it is there for the name of its error
+  sink_failed : WriteFault
   unwritable : Cause → WriteFault
   -- a key of a map that has no text; the refusal carries this tree
   invalid_document_key : Tree → WriteFault

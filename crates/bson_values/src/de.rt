@@ -26,6 +26,15 @@ pub enum Fault {
 pub enum Error {
     /// A call of the source failed.
     Io,
+    /// A text is not UTF-8. Nothing returns this variant, which is there for its name: such a text is a `DeserializationError`.
+    InvalidUtf8String,
+    /// No value has this element type. Nothing returns this variant, which is there for its name: such an element is a `DeserializationError`.
+    UnrecognizedDocumentElementType {
+        /// The key of the element.
+        key: String,
+        /// The byte that its element type would be.
+        element_type: u8,
+    },
     /// An empty document, where the name of a variant is expected; a text in a tree in memory, where the contents of a variant are expected; or the source ended before the length
     /// of a document.
     EndOfStream,
@@ -114,6 +123,10 @@ impl fmt::Display for Error {
     fn fmt<W: fmt::Write>(&self, f: &mut fmt::Formatter<W>) -> fmt::Result {
         match self {
             Error::Io => f.write_str("i/o fault"),
+            Error::InvalidUtf8String => f.write_str("invalid UTF-8"),
+            Error::UnrecognizedDocumentElementType { key, element_type } => {
+                write!(f, "unrecognized element type {element_type} for key {key}")
+            }
             Error::EndOfStream => f.write_str("end of stream"),
             Error::DeserializationError { cause } => write!(f, "{cause}"),
             Error::WithPath { path, source } => {

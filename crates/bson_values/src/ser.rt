@@ -29,6 +29,8 @@ pub enum Fault {
 /// Why a datum is not written.
 #[derive(Debug, Drop)]
 pub enum Error {
+    /// A call of the sink failed. Nothing returns this variant, which is there for its name.
+    Io,
     /// A map has a key that is no text. This is what is told of the key: a scalar itself, an empty array or document for
     /// what holds values.
     InvalidDocumentKey(Bson),
@@ -109,6 +111,7 @@ impl fmt::Display for Error {
 
     fn fmt<W: fmt::Write>(&self, f: &mut fmt::Formatter<W>) -> fmt::Result {
         match self {
+            Error::Io => f.write_str("i/o fault"),
             Error::InvalidDocumentKey(key) => {
                 let kind = key.element_type();
                 write!(f, "invalid map key type: {kind}")
