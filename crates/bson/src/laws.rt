@@ -7,7 +7,7 @@ pub use bson_infer_laws::{
     law_encoded_documents, law_inferred_again, law_inferred_recasts, law_inferred_shape,
     law_inferred_views, law_join,
 };
-pub use bson_infer_run::law_infer_files;
+pub use bson_infer_run::{law_infer_files, law_sound};
 pub use bson_laws::{
     law_datum_spells, law_fixed_point, law_opened_agrees, law_opened_represents, law_read_back,
     law_reads_mended, law_reads_numbers, law_reads_spell, law_reads_tree, law_references_read,

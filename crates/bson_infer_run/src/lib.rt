@@ -19,6 +19,6 @@ mod summary;
 
 pub use error::InferError;
 pub use inferring::infer;
-pub use laws::law_infer_files;
+pub use laws::{law_infer_files, law_sound};
 pub use running::run_infer;
 pub use status::InferStatus;
