@@ -73,7 +73,7 @@ extended_in (of_kind k) (of_kind l) = nat_eq (byte k) (byte l)
 extended_in documents documents = true
 extended_in k l = false
 
--- each value of the first leaf is one of the second: rows 1, 3 and 5 to 12
+-- Each value of the first leaf is one of the second: rows 1, 3 and 5 to 12. `to_leaf` does not ask it of `trees`, `anything` and the units, whose rows are here so that it is whole.
 abbrev pub leaf_in : LeafKind → LeafKind → Bool
 leaf_in (extended_values k) (extended_values l) = extended_in k l
 leaf_in k (extended_values trees) = true

@@ -98,9 +98,3 @@ whole_fields fs = unrolled_fields max_steps fs (names_in max_steps no_fields)
 
 abbrev pub whole_parts : Parts → Parts
 whole_parts ps = unrolled_parts max_steps ps (names_in max_steps no_fields)
-
-abbrev pub whole_variants : Variants → Variants
-whole_variants vs = unrolled_variants max_steps vs (names_in max_steps no_fields)
-
-abbrev pub whole_content : Content → Content
-whole_content c = unrolled_content max_steps c (names_in max_steps no_fields)
