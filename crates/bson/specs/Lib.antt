@@ -183,7 +183,7 @@ pub use Rattle.bson_program.specs.Program
 pub use Rattle.bson_program.specs.Run
 pub use Rattle.bson_program.specs.ShapeWord
 pub use Rattle.bson_recast_run.specs.Digits
-pub use Rattle.bson_recast_run.specs.Due as RunDue
+pub use Rattle.bson_recast_run.specs.PrintedLines as RunLines
 pub use Rattle.bson_recast_run.specs.Making as RunMaking
 pub use Rattle.bson_recast_run.specs.Number as RunNumber
 pub use Rattle.bson_recast_run.specs.Options as RunOptions

@@ -10,11 +10,11 @@ use Rattle.bson_migrate_run.specs.declared.migrating.Refused.{Refused}
 use Rattle.bson_migrate_run.specs.Migrating.{NotRecast, Migrating, broken, migrated, migration_of, AreListed, IsMigration}
 use Rattle.bson_buffers.specs.Asked.{shape_of_bytes, DenotesShape}
 use Rattle.bson_buffers.specs.Buffers.{Call, Tells}
-use Rattle.bson_buffers.specs.Due.{IsDelivered, listed_status}
+use Rattle.bson_buffers.specs.Expected.{IsDelivered, listed_status}
 use Rattle.bson_buffers.specs.Lists.{Records, ListsRecords, IsListedMigration}
 use Rattle.bson_buffers.specs.Migrates.{migration_status, migration_status_at}
 use Rattle.bson_buffers.specs.Prover.Listed.{texts_of, records_from, IsListingOf, IsForListing, IsListingRow}
-use Rattle.bson_buffers.specs.declared.listed.DueList.{DueList}
+use Rattle.bson_buffers.specs.declared.listed.ExpectedList.{ExpectedList}
 use Rattle.bson_buffers.specs.declared.refusal.Refusal.{Refusal}
 use Rattle.bson_buffers.specs.declared.status.Status.{Status}
 use Rattle.bson_buffers.specs.declared.status.Status.TheVariants as statuses
@@ -37,13 +37,13 @@ by_answer shape file s m (broken place) n is h again = absurd h
 by_answer shape file s m (migrated out ds) n is h again = by_list shape file m.output.items s ds m.refused.items n (is ∙ ap (λ o. migrated o ds) (sym h.0)) again h.1
 
 -- the same of what is in hand
-pub due_for_file : (shape file : Bytes) (s : Form) (m : Migration) (r : Result DueList AllocError) → DenotesShape shape s → IsMigration (migration_of s file) (Ok m) → (IsSettled s → migration_of s m.output.items ≡ migrated m.output.items [])
-    → IfOk r (λ d. IsListingOf file m d) → IfOk r (λ d. IsForListing shape file d.due.status d.due.place d.due.output.items (string_bytes d.due.text) d.refusals.items)
-due_for_file shape file s m (Err e) n h again is = tt
-due_for_file shape file s m (Ok d) n h again is =
-    subst (λ x. IsForListing shape file x d.due.place d.due.output.items (string_bytes d.due.text) d.refusals.items) (sym is.status)
-    (subst (λ x. IsForListing shape file (listed_status m.refused.items) x d.due.output.items (string_bytes d.due.text) d.refusals.items) (sym is.place)
-    (subst (λ x. IsForListing shape file (listed_status m.refused.items) 0 x (string_bytes d.due.text) d.refusals.items) (sym is.output)
+pub expected_for_file : (shape file : Bytes) (s : Form) (m : Migration) (r : Result ExpectedList AllocError) → DenotesShape shape s → IsMigration (migration_of s file) (Ok m) → (IsSettled s → migration_of s m.output.items ≡ migrated m.output.items [])
+    → IfOk r (λ d. IsListingOf file m d) → IfOk r (λ d. IsForListing shape file d.expected.status d.expected.place d.expected.output.items (string_bytes d.expected.text) d.refusals.items)
+expected_for_file shape file s m (Err e) n h again is = tt
+expected_for_file shape file s m (Ok d) n h again is =
+    subst (λ x. IsForListing shape file x d.expected.place d.expected.output.items (string_bytes d.expected.text) d.refusals.items) (sym is.status)
+    (subst (λ x. IsForListing shape file (listed_status m.refused.items) x d.expected.output.items (string_bytes d.expected.text) d.refusals.items) (sym is.place)
+    (subst (λ x. IsForListing shape file (listed_status m.refused.items) 0 x (string_bytes d.expected.text) d.refusals.items) (sym is.output)
     (subst (λ x. IsForListing shape file (listed_status m.refused.items) 0 m.output.items x d.refusals.items) (sym is.texts)
     (subst (λ x. IsForListing shape file (listed_status m.refused.items) 0 m.output.items (texts_of m.refused.items) x) (sym is.records)
     (by_answer shape file s m (migration_of s file) n refl h again)))))
@@ -130,7 +130,7 @@ module _ (shape file : Bytes) (place : ℕ) (output : Bytes) (said : Utf8) (reco
         w.0 ∙ sym (status_named shape file (length c.buffer.before) h.0 (migrated output (h.1 ∷ h.2)) h.3 h.4 ∙ lacks (length c.buffer.before) output statuses.SomeRefused above),
       )
 
-  listing_row : (due : Status) → IsForListing shape file due place output said records → IsDelivered due place output said status c → IsInTable shape file status c a
+  listing_row : (expected : Status) → IsForListing shape file expected place output said records → IsDelivered expected place output said status c → IsInTable shape file status c a
   listing_row statuses.Done h d = done_row h d (within_or_above (length output) (length c.buffer.before))
   listing_row statuses.SomeRefused h d = some_row h d (within_or_above (length output) (length c.buffer.before))
   listing_row statuses.ShapeRefused h d =
@@ -164,6 +164,6 @@ by_row shape file status c a row complete = record {
   complete = complete;
 }
 
-pub is_listed : (shape file : Bytes) (due : Status) (place : ℕ) (output : Bytes) (said : Utf8) (records : List Refusal) (status : Status) (c : Call) (a : Records) → IsForListing shape file due place output said records
-    → IsDelivered due place output said status c → ListsRecords a records → IsListedMigration shape file status c a
-is_listed shape file due place output said records status c a h d listed = let r = listing_row shape file place output said records status c a listed due h d in by_row shape file status c a r.0 (inl r.1)
+pub is_listed : (shape file : Bytes) (expected : Status) (place : ℕ) (output : Bytes) (said : Utf8) (records : List Refusal) (status : Status) (c : Call) (a : Records) → IsForListing shape file expected place output said records
+    → IsDelivered expected place output said status c → ListsRecords a records → IsListedMigration shape file status c a
+is_listed shape file expected place output said records status c a h d listed = let r = listing_row shape file place output said records status c a listed expected h d in by_row shape file status c a r.0 (inl r.1)

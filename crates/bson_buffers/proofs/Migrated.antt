@@ -10,12 +10,12 @@ use Rattle.bson_migrate_run.specs.declared.migrating.Refused.{Refused}
 use Rattle.bson_migrate_run.specs.Lines.{refused_lines}
 use Rattle.bson_migrate_run.specs.Migrating.{Migrating, broken, migrated, migration_of, IsMigration}
 use Rattle.bson_migrate_run.specs.Rows as rows
-use Rattle.bson_migrate_run.proofs.LinesDue.{answers_of}
+use Rattle.bson_migrate_run.proofs.LinesExpected.{answers_of}
 use Rattle.bson_buffers.specs.Asked.{shape_of_bytes, DenotesShape}
-use Rattle.bson_buffers.specs.Due.{IsDelivered, IsForMigration, IsMigrationRow, IsOfMigration, listed_status}
+use Rattle.bson_buffers.specs.Expected.{IsDelivered, IsForMigration, IsMigrationRow, IsOfMigration, listed_status}
 use Rattle.bson_buffers.specs.Migrates.{migration_status, migration_status_at, IsMigrated}
 use Rattle.bson_buffers.specs.Buffers.{Call, Tells}
-use Rattle.bson_buffers.specs.declared.due.Due.{Due}
+use Rattle.bson_buffers.specs.declared.expected.Expected.{Expected}
 use Rattle.bson_buffers.specs.declared.status.Status.{Status}
 use Rattle.bson_buffers.specs.declared.status.Status.TheVariants as statuses
 use Rattle.bson_buffers.proofs.Checked.{nothing_written, no_shape_row}
@@ -28,19 +28,19 @@ by_list : (shape file output : Bytes) (s : Form) (xs : List Refused) → Denotes
 by_list shape file output s [] n h again = (s, n, h.answer, again, refl, h.no_line)
 by_list shape file output s (x ∷ xs) n h again = (s, h.first, h.others, n, h.answer, again, h.say, refl)
 
-due_for_migrated : (shape file : Bytes) (s : Form) (m : Migration) → DenotesShape shape s → IsMigration (migration_of s file) (Ok m) → (IsSettled s → migration_of s m.output.items ≡ migrated m.output.items [])
+expected_for_migrated : (shape file : Bytes) (s : Form) (m : Migration) → DenotesShape shape s → IsMigration (migration_of s file) (Ok m) → (IsSettled s → migration_of s m.output.items ≡ migrated m.output.items [])
     → IsForMigration shape file (listed_status m.refused.items) 0 m.output.items (refused_lines m.refused.items)
-due_for_migrated shape file s m n h again = by_list shape file m.output.items s m.refused.items n (answers_of s file m h) again
+expected_for_migrated shape file s m n h again = by_list shape file m.output.items s m.refused.items n (answers_of s file m h) again
 
 -- the same of what is in hand
-pub due_for_file : (shape file : Bytes) (s : Form) (m : Migration) (r : Result Due AllocError) → DenotesShape shape s → IsMigration (migration_of s file) (Ok m) → (IsSettled s → migration_of s m.output.items ≡ migrated m.output.items [])
+pub expected_for_file : (shape file : Bytes) (s : Form) (m : Migration) (r : Result Expected AllocError) → DenotesShape shape s → IsMigration (migration_of s file) (Ok m) → (IsSettled s → migration_of s m.output.items ≡ migrated m.output.items [])
     → IfOk r (λ d. IsOfMigration m d) → IfOk r (λ d. IsForMigration shape file d.status d.place d.output.items (string_bytes d.text))
-due_for_file shape file s m (Err e) n h again is = tt
-due_for_file shape file s m (Ok d) n h again is =
+expected_for_file shape file s m (Err e) n h again is = tt
+expected_for_file shape file s m (Ok d) n h again is =
     subst (λ x. IsForMigration shape file x d.place d.output.items (string_bytes d.text)) (sym is.status)
     (subst (λ x. IsForMigration shape file (listed_status m.refused.items) x d.output.items (string_bytes d.text)) (sym is.place)
     (subst (λ x. IsForMigration shape file (listed_status m.refused.items) 0 x (string_bytes d.text)) (sym is.output)
-    (subst (λ x. IsForMigration shape file (listed_status m.refused.items) 0 m.output.items x) (sym is.lines) (due_for_migrated shape file s m n h again))))
+    (subst (λ x. IsForMigration shape file (listed_status m.refused.items) 0 m.output.items x) (sym is.lines) (expected_for_migrated shape file s m n h again))))
 
 -- ---- the table of statuses
 
@@ -120,7 +120,7 @@ some_row shape file place output said status c h d (inr above) =
       w.0 ∙ sym (status_named shape file (length c.buffer.before) h.0 (migrated output (h.1 ∷ h.2)) h.3 h.4 ∙ lacks (length c.buffer.before) output statuses.SomeRefused above),
     )
 
-migration_row : (shape file : Bytes) (due : Status) (place : ℕ) (output : Bytes) (said : Utf8) (status : Status) (c : Call) → IsForMigration shape file due place output said → IsDelivered due place output said status c
+migration_row : (shape file : Bytes) (expected : Status) (place : ℕ) (output : Bytes) (said : Utf8) (status : Status) (c : Call) → IsForMigration shape file expected place output said → IsDelivered expected place output said status c
     → IsInTable shape file status c
 migration_row shape file statuses.Done place output said status c h d = done_row shape file place output said status c h d (within_or_above (length output) (length c.buffer.before))
 migration_row shape file statuses.SomeRefused place output said status c h d = some_row shape file place output said status c h d (within_or_above (length output) (length c.buffer.before))
@@ -158,6 +158,6 @@ by_row shape file status c row complete = record {
   complete = complete;
 }
 
-pub is_migrated : (shape file : Bytes) (due : Status) (place : ℕ) (output : Bytes) (said : Utf8) (status : Status) (c : Call) → IsForMigration shape file due place output said → IsDelivered due place output said status c
+pub is_migrated : (shape file : Bytes) (expected : Status) (place : ℕ) (output : Bytes) (said : Utf8) (status : Status) (c : Call) → IsForMigration shape file expected place output said → IsDelivered expected place output said status c
     → IsMigrated shape file status c
-is_migrated shape file due place output said status c h d = let r = migration_row shape file due place output said status c h d in by_row shape file status c r.0 (inl r.1)
+is_migrated shape file expected place output said status c h d = let r = migration_row shape file expected place output said status c h d in by_row shape file status c r.0 (inl r.1)

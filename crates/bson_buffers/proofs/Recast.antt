@@ -6,7 +6,7 @@ use Rattle.bson_values.specs.Refusal.{WriteFault, Failure}
 use Rattle.bson_shape.specs.Form.{Form}
 use Rattle.bson_tree_recast.specs.Recast.{Recast, writes, unread, unwritten, recast_of, Unwritten}
 use Rattle.bson_buffers.specs.Asked.{shape_of_bytes, DenotesShape}
-use Rattle.bson_buffers.specs.Due.{IsDelivered, IsForRecast, IsRecastRow}
+use Rattle.bson_buffers.specs.Expected.{IsDelivered, IsForRecast, IsRecastRow}
 use Rattle.bson_buffers.specs.Recasts.{recast_status, recast_status_at, IsRecast}
 use Rattle.bson_buffers.specs.Buffers.{Call, Tells}
 use Rattle.bson_buffers.specs.declared.status.Status.{Status}
@@ -21,7 +21,7 @@ status_named shape bytes places s r n is = ap (recast_status_at places bytes) n.
 unwritten_status : (places : ℕ) (r : Recast) (f : Failure WriteFault) → Unwritten r f → recast_status places r ≡ statuses.WriteRefused
 unwritten_status places (writes bytes) f h = absurd h
 unwritten_status places (unread e) f h = absurd h
-unwritten_status places (unwritten due long) f h = refl
+unwritten_status places (unwritten expected long) f h = refl
 
 abbrev IsInTable : (shape bytes : Bytes) → Status → Call → Type 0
 IsInTable shape bytes status c = IsRecastRow shape bytes status c × (status ≡ recast_status_at (length c.buffer.before) bytes (shape_of_bytes shape))
@@ -56,7 +56,7 @@ written_row shape bytes place output said status c h d (inr above) =
       w.0 ∙ sym (status_named shape bytes (length c.buffer.before) h.0 (writes output) h.1 h.2 ∙ lacks (length c.buffer.before) output statuses.Done above),
     )
 
-recast_row : (shape bytes : Bytes) (due : Status) (place : ℕ) (output : Bytes) (said : Utf8) (status : Status) (c : Call) → IsForRecast shape bytes due place output said → IsDelivered due place output said status c
+recast_row : (shape bytes : Bytes) (expected : Status) (place : ℕ) (output : Bytes) (said : Utf8) (status : Status) (c : Call) → IsForRecast shape bytes expected place output said → IsDelivered expected place output said status c
     → IsInTable shape bytes status c
 recast_row shape bytes statuses.Done place output said status c h d = written_row shape bytes place output said status c h d (within_or_above (length output) (length c.buffer.before))
 recast_row shape bytes statuses.ShapeRefused place output said status c h d =
@@ -108,6 +108,6 @@ by_row shape bytes status c row complete = record {
   complete = complete;
 }
 
-pub recast : (shape bytes : Bytes) (due : Status) (place : ℕ) (output : Bytes) (said : Utf8) (status : Status) (c : Call) → IsForRecast shape bytes due place output said → IsDelivered due place output said status c
+pub recast : (shape bytes : Bytes) (expected : Status) (place : ℕ) (output : Bytes) (said : Utf8) (status : Status) (c : Call) → IsForRecast shape bytes expected place output said → IsDelivered expected place output said status c
     → IsRecast shape bytes status c
-recast shape bytes due place output said status c h d = let r = recast_row shape bytes due place output said status c h d in by_row shape bytes status c r.0 (inl r.1)
+recast shape bytes expected place output said status c h d = let r = recast_row shape bytes expected place output said status c h d in by_row shape bytes status c r.0 (inl r.1)

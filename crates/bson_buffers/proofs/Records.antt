@@ -9,7 +9,7 @@ use Rattle.bson_tree_recast.specs.declared.error.RecastError.TheVariants.{Read, 
 use Rattle.bson_tree_recast.specs.Recast.{Recast, writes, unread, unwritten, IsRefusal}
 use Rattle.bson_migrate_run.specs.declared.migrating.Refused.{Refused}
 use Rattle.bson_migrate_run.specs.Migrating.{NotRecast, AreListed}
-use Rattle.bson_migrate_run.proofs.LinesDue.{same_failure}
+use Rattle.bson_migrate_run.proofs.LinesExpected.{same_failure}
 use Rattle.bson_migrate_run.proofs.Listing.{no_refusal}
 use Rattle.bson_buffers.specs.Lists.{offset_in, Reason, unread_for, IsReasonOf, record_of, AreRecords}
 use Rattle.bson_buffers.specs.Prover.Listed.{reason_for, texts_of, records_from}
@@ -20,9 +20,9 @@ reason_is (writes b) e h some = absurd (no_refusal b e h some)
 reason_is (unread f) (Read e) h some = ap unread_for (same_failure f (read_failure e) h)
 reason_is (unread f) (Write e) h some = absurd h
 reason_is (unread f) NoMemory h some = absurd (some refl)
-reason_is (unwritten due long) (Read e) h some = absurd cc
-reason_is (unwritten due long) (Write e) h some = (write_failure e, h, refl)
-reason_is (unwritten due long) NoMemory h some = absurd (some refl)
+reason_is (unwritten expected long) (Read e) h some = absurd cc
+reason_is (unwritten expected long) (Write e) h some = (write_failure e, h, refl)
+reason_is (unwritten expected long) NoMemory h some = absurd (some refl)
 
 -- the records of the refused documents are those that must be written
 pub are_records : (file : Bytes) (start : ℕ) (ds : List NotRecast) (xs : List Refused) → AreListed ds xs → AreRecords file start ds (records_from file start xs) (texts_of xs)

@@ -6,6 +6,6 @@ pub mod Checks
 pub mod Recasts
 pub mod Migrates
 pub mod Finding
-pub mod Due
+pub mod Expected
 pub mod Lists
 pub mod Prover

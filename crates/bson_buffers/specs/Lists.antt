@@ -44,7 +44,7 @@ unwritten_for f = record { status = number_of statuses.WriteRefused; text = prin
 abbrev pub IsReasonOf : Recast → Reason → Type 0
 IsReasonOf (writes bytes) r = ⊥
 IsReasonOf (unread f) r = r ≡ unread_for f
-IsReasonOf (unwritten due too_long) r = (f : Failure WriteFault) × Unwritten (unwritten due too_long) f × (r ≡ unwritten_for f)
+IsReasonOf (unwritten expected too_long) r = (f : Failure WriteFault) × Unwritten (unwritten expected too_long) f × (r ≡ unwritten_for f)
 
 -- the record of the document of a number, whose text begins here
 abbrev pub record_of : (file : Bytes) → (text_start number : ℕ) → Reason → Refusal

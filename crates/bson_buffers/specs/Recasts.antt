@@ -62,7 +62,7 @@ fitted places output status = if nat_lt places (length output) then statuses.Buf
 abbrev pub recast_status : (places : ℕ) → Recast → Status
 recast_status places (writes output) = fitted places output statuses.Done
 recast_status places (unread f) = statuses.ReadRefused
-recast_status places (unwritten due too_long) = statuses.WriteRefused
+recast_status places (unwritten expected too_long) = statuses.WriteRefused
 
 -- the status for a document at what may be a shape
 abbrev pub recast_status_at : (places : ℕ) → (bytes : Bytes) → Result Form NoShape → Status

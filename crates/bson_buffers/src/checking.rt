@@ -2,23 +2,23 @@
 ghost use Rattle.std.specs.Prelude.{◌≡◌, ◌⊎◌, [], IfOk, string_bytes};
 ghost use Rattle.bson_buffers.specs.Asked.{shape_of_bytes};
 ghost use Rattle.bson_buffers.specs.Checks.{IsShapeRow, NoShapeRow, judged, IsChecked};
-ghost use Rattle.bson_buffers.specs.Due.{IsForCheck};
+ghost use Rattle.bson_buffers.specs.Expected.{IsForCheck};
 ghost use Rattle.bson_buffers.specs.Buffers.{call_of, IsSilent};
 ghost use Rattle.bson_buffers.specs.declared.status.Status.TheVariants as statuses;
 
 use crate::asking::asked;
-use crate::due::{Due, deliver};
+use crate::expected::{Expected, deliver};
 use crate::report::Report;
 use crate::status::Status;
 use std::alloc::{AllocError, Global};
 
 // What must be written for a shape. An error means out of memory.
-fn due_for(alloc: Global, shape: &[u8]) -> Result<Due, AllocError>
+fn expected_for(alloc: Global, shape: &[u8]) -> Result<Expected, AllocError>
     ensures { IfOk result (λ d. IsForCheck shape.now d.status d.place d.output.items (string_bytes d.text)) }
 {
     match asked(alloc, shape)? {
-        Ok(_) => Ok(Due::refusal(alloc, Status::Done, String::new(alloc))),
-        Err(refusal) => Ok(Due::no_shape(alloc, refusal)),
+        Ok(_) => Ok(Expected::refusal(alloc, Status::Done, String::new(alloc))),
+        Err(refusal) => Ok(Expected::no_shape(alloc, refusal)),
     }
 }
 
@@ -26,8 +26,8 @@ fn due_for(alloc: Global, shape: &[u8]) -> Result<Due, AllocError>
 fn check(alloc: Global, shape: &[u8], text: &mut [u8]) -> Report
     ensures { IsChecked shape.now result.status (call_of result [] [] text.old text.new) }
 {
-    match due_for(alloc, shape) {
-        Ok(due) => deliver(&due, &mut [], text),
+    match expected_for(alloc, shape) {
+        Ok(expected) => deliver(&expected, &mut [], text),
         Err(_) => Report::no_memory(),
     }
 }

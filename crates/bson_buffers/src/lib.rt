@@ -4,7 +4,7 @@
 mod asking;
 mod buffer;
 mod checking;
-mod due;
+mod expected;
 mod finding;
 mod listed;
 mod listing;

@@ -10,7 +10,7 @@ ghost use Rattle.bson_buffers.specs.declared.status.Status.TheVariants as status
 
 use crate::asking::asked;
 use crate::buffer::put_front;
-use crate::due::{Due, deliver};
+use crate::expected::{Expected, deliver};
 use crate::listing::list;
 use crate::refusal::Refusal;
 use crate::report::{MigrationReport, Report};
@@ -20,17 +20,17 @@ use std::alloc::{AllocError, Global};
 
 // What must be written for a file: to the two buffers, and to the array of records.
 #[derive(Drop)]
-struct DueList {
-    due: Due,
+struct ExpectedList {
+    expected: Expected,
     refusals: Vec<Refusal>,
 }
 
 // What must be written for a file that was migrated. An error means out of memory.
-fn due_for_migration(
+fn expected_for_migration(
     alloc: Global,
     file: &[u8],
     migration: Migration,
-) -> Result<DueList, AllocError>
+) -> Result<ExpectedList, AllocError>
     ensures { IfOk result (λ d. IsListingOf file.now migration d) }
 {
     let listing = list(alloc, file, &migration.refused)?;
@@ -38,8 +38,8 @@ fn due_for_migration(
         [] => Status::Done,
         [..] => Status::SomeRefused,
     };
-    Ok(DueList {
-        due: Due {
+    Ok(ExpectedList {
+        expected: Expected {
             status,
             place: 0,
             output: migration.output,
@@ -50,22 +50,22 @@ fn due_for_migration(
 }
 
 // What must be written for a file at a shape. An error means out of memory.
-fn due_for(alloc: Global, shape: &[u8], file: &[u8]) -> Result<DueList, AllocError>
-    ensures { IfOk result (λ d. IsForListing shape.now file.now d.due.status d.due.place d.due.output.items (string_bytes d.due.text) d.refusals.items) }
+fn expected_for(alloc: Global, shape: &[u8], file: &[u8]) -> Result<ExpectedList, AllocError>
+    ensures { IfOk result (λ d. IsForListing shape.now file.now d.expected.status d.expected.place d.expected.output.items (string_bytes d.expected.text) d.refusals.items) }
 {
     let shape = match asked(alloc, shape)? {
         Ok(shape) => shape,
         Err(refusal) => {
-            return Ok(DueList {
-                due: Due::no_shape(alloc, refusal),
+            return Ok(ExpectedList {
+                expected: Expected::no_shape(alloc, refusal),
                 refusals: Vec::new(alloc),
             });
         }
     };
     match migrate(alloc, &shape, file) {
-        Ok(migration) => due_for_migration(alloc, file, migration),
-        Err(MigrateError::Broken(place)) => Ok(DueList {
-            due: Due {
+        Ok(migration) => expected_for_migration(alloc, file, migration),
+        Err(MigrateError::Broken(place)) => Ok(ExpectedList {
+            expected: Expected {
                 status: Status::Broken,
                 place,
                 output: Vec::new(alloc),
@@ -89,9 +89,9 @@ fn migrate_whole(
     ensures { IsListedMigration shape.now file.now result.report.status (call_of result.report output.old output.new text.old text.new)
         (records_by result refusals.old refusals.new) }
 {
-    match due_for(alloc, shape, file) {
+    match expected_for(alloc, shape, file) {
         Ok(listed) => MigrationReport {
-            report: deliver(&listed.due, output, text),
+            report: deliver(&listed.expected, output, text),
             refusals_written: put_front(&listed.refusals, refusals),
             refusals_needed: listed.refusals.len(),
         },

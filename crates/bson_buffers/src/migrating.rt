@@ -2,20 +2,20 @@
 ghost use Rattle.std.specs.Prelude.{◌≡◌, ◌⊎◌, [], IfOk, length, string_bytes};
 ghost use Rattle.bson_buffers.specs.Asked.{shape_of_bytes};
 ghost use Rattle.bson_buffers.specs.Checks.{NoShapeRow};
-ghost use Rattle.bson_buffers.specs.Due.{IsForMigration, IsOfMigration};
+ghost use Rattle.bson_buffers.specs.Expected.{IsForMigration, IsOfMigration};
 ghost use Rattle.bson_buffers.specs.Migrates.{MigratedRow, SomeRefusedRow, LargerRow, BrokenRow, migration_status_at, IsMigrated};
 ghost use Rattle.bson_buffers.specs.Buffers.{call_of, IsSilent};
 ghost use Rattle.bson_buffers.specs.declared.status.Status.TheVariants as statuses;
 
 use crate::asking::asked;
-use crate::due::{Due, deliver};
+use crate::expected::{Expected, deliver};
 use crate::report::Report;
 use crate::status::Status;
 use bson_migrate_run::{MigrateError, Migration, lines_of, migrate};
 use std::alloc::{AllocError, Global};
 
 // What must be written for a file that was migrated. An error means out of memory.
-fn due_for_migration(alloc: Global, migration: Migration) -> Result<Due, AllocError>
+fn expected_for_migration(alloc: Global, migration: Migration) -> Result<Expected, AllocError>
     ensures { IfOk result (λ d. IsOfMigration migration d) }
 {
     let text = lines_of(alloc, &migration.refused)?;
@@ -23,7 +23,7 @@ fn due_for_migration(alloc: Global, migration: Migration) -> Result<Due, AllocEr
         [] => Status::Done,
         [..] => Status::SomeRefused,
     };
-    Ok(Due {
+    Ok(Expected {
         status,
         place: 0,
         output: migration.output,
@@ -32,16 +32,16 @@ fn due_for_migration(alloc: Global, migration: Migration) -> Result<Due, AllocEr
 }
 
 // What must be written for a file at a shape. An error means out of memory.
-fn due_for(alloc: Global, shape: &[u8], file: &[u8]) -> Result<Due, AllocError>
+fn expected_for(alloc: Global, shape: &[u8], file: &[u8]) -> Result<Expected, AllocError>
     ensures { IfOk result (λ d. IsForMigration shape.now file.now d.status d.place d.output.items (string_bytes d.text)) }
 {
     let shape = match asked(alloc, shape)? {
         Ok(shape) => shape,
-        Err(refusal) => return Ok(Due::no_shape(alloc, refusal)),
+        Err(refusal) => return Ok(Expected::no_shape(alloc, refusal)),
     };
     match migrate(alloc, &shape, file) {
-        Ok(migration) => due_for_migration(alloc, migration),
-        Err(MigrateError::Broken(place)) => Ok(Due {
+        Ok(migration) => expected_for_migration(alloc, migration),
+        Err(MigrateError::Broken(place)) => Ok(Expected {
             status: Status::Broken,
             place,
             output: Vec::new(alloc),
@@ -61,8 +61,8 @@ fn migrate_whole(
 ) -> Report
     ensures { IsMigrated shape.now file.now result.status (call_of result output.old output.new text.old text.new) }
 {
-    match due_for(alloc, shape, file) {
-        Ok(due) => deliver(&due, output, text),
+    match expected_for(alloc, shape, file) {
+        Ok(expected) => deliver(&expected, output, text),
         Err(_) => Report::no_memory(),
     }
 }

@@ -2,28 +2,28 @@
 ghost use Rattle.std.specs.Prelude.{◌≡◌, ◌⊎◌, IfOk, length, string_bytes};
 ghost use Rattle.bson_buffers.specs.Asked.{shape_of_bytes};
 ghost use Rattle.bson_buffers.specs.Checks.{NoShapeRow};
-ghost use Rattle.bson_buffers.specs.Due.{IsForRecast};
+ghost use Rattle.bson_buffers.specs.Expected.{IsForRecast};
 ghost use Rattle.bson_buffers.specs.Recasts.{RecastRow, LargerRow, UnreadRow, UnwrittenRow, recast_status_at, IsRecast};
 ghost use Rattle.bson_buffers.specs.Buffers.{call_of, IsSilent};
 ghost use Rattle.bson_buffers.specs.declared.status.Status.TheVariants as statuses;
 
 use crate::asking::asked;
-use crate::due::{Due, deliver};
+use crate::expected::{Expected, deliver};
 use crate::report::Report;
 use crate::status::Status;
 use bson_recast_run::{RecastError, recast};
 use std::alloc::{AllocError, Global};
 
 // What must be written for a document at a shape. An error means out of memory.
-fn due_for(alloc: Global, shape: &[u8], bytes: &[u8]) -> Result<Due, AllocError>
+fn expected_for(alloc: Global, shape: &[u8], bytes: &[u8]) -> Result<Expected, AllocError>
     ensures { IfOk result (λ d. IsForRecast shape.now bytes.now d.status d.place d.output.items (string_bytes d.text)) }
 {
     let shape = match asked(alloc, shape)? {
         Ok(shape) => shape,
-        Err(refusal) => return Ok(Due::no_shape(alloc, refusal)),
+        Err(refusal) => return Ok(Expected::no_shape(alloc, refusal)),
     };
     match recast(alloc, &shape, bytes) {
-        Ok(output) => Ok(Due {
+        Ok(output) => Ok(Expected {
             status: Status::Done,
             place: 0,
             output,
@@ -31,11 +31,11 @@ fn due_for(alloc: Global, shape: &[u8], bytes: &[u8]) -> Result<Due, AllocError>
         }),
         Err(RecastError::Read(e)) => {
             let text = format!(in alloc; "{e}")?;
-            Ok(Due::refusal(alloc, Status::ReadRefused, text))
+            Ok(Expected::refusal(alloc, Status::ReadRefused, text))
         }
         Err(RecastError::Write(e)) => {
             let text = format!(in alloc; "{e}")?;
-            Ok(Due::refusal(alloc, Status::WriteRefused, text))
+            Ok(Expected::refusal(alloc, Status::WriteRefused, text))
         }
         Err(RecastError::NoMemory) => Err(AllocError),
     }
@@ -51,8 +51,8 @@ fn recast_whole(
 ) -> Report
     ensures { IsRecast shape.now bytes.now result.status (call_of result output.old output.new text.old text.new) }
 {
-    match due_for(alloc, shape, bytes) {
-        Ok(due) => deliver(&due, output, text),
+    match expected_for(alloc, shape, bytes) {
+        Ok(expected) => deliver(&expected, output, text),
         Err(_) => Report::no_memory(),
     }
 }

@@ -21,7 +21,7 @@ use Rattle.bson_laws.specs.Slots.{reads_places}
 use Rattle.bson_met.proofs.Refusals.{StopsAs, stops_bind, stops_map}
 use Rattle.bson_slots.specs.FieldSlots.{fields_marked}
 use Rattle.bson_slots.specs.NextValue.{next_value, behind_first}
-use Rattle.bson_slots.proofs.DueNext.{next_parts}
+use Rattle.bson_slots.proofs.NextParts.{next_parts}
 
 -- the values of these fields, and then the rest
 abbrev pub values_before : List Field → MarkedFields → MarkedFields
@@ -52,8 +52,8 @@ module _ (reader : Reader) (fs : List FieldShape) (i : ℕ) (done : List Field) 
     left = drop-cons fs i f lt ∙ ap (λ g. g ∷ drop (suc i) fs) (sym stands)
 
     -- its value, and then those of the others
-    due : result_map (values_before done) (next_value i (reads_for reader f.shape) old >>= λ v. result_map (field_value (made (string_bytes f.name)) v) (reads_places (suc i) (slots_for reader (fields_of (drop (suc i) fs))) (behind_first old))) ≡ total
-    due =
+    expected : result_map (values_before done) (next_value i (reads_for reader f.shape) old >>= λ v. result_map (field_value (made (string_bytes f.name)) v) (reads_places (suc i) (slots_for reader (fields_of (drop (suc i) fs))) (behind_first old))) ≡ total
+    expected =
         ap (result_map (values_before done)) (sym (next_parts i (reads_for reader f.shape) (λ v rest. result_map (field_value (made (string_bytes f.name)) v) (reads_places (suc i) (slots_for reader (fields_of (drop (suc i) fs))) rest)) old))
         ∙ sym (ap (λ gs. result_map (values_before done) (reads_places i (slots_for reader (fields_of gs)) old)) left)
         ∙ so_far
@@ -67,12 +67,12 @@ module _ (reader : Reader) (fs : List FieldShape) (i : ℕ) (done : List Field) 
         ∙ sym (more done x (reads_places (suc i) (slots_for reader (fields_of (drop (suc i) fs))) (behind_first old)))
         ∙ ap (λ n. result_map (values_before done) (result_map (field_value n (marked x.value)) (reads_places (suc i) (slots_for reader (fields_of (drop (suc i) fs))) (behind_first old)))) named
         ∙ sym (ap (λ r. result_map (values_before done) (r >>= λ v. result_map (field_value (made (string_bytes f.name)) v) (reads_places (suc i) (slots_for reader (fields_of (drop (suc i) fs))) (behind_first old)))) is)
-        ∙ due
+        ∙ expected
 
     -- it is refused, or no element is left for it
     pub places_stop : (t : Stop Fault) → StopsAs t (next_value i (reads_for reader f.shape) old) → StopsAs t total
     places_stop t h =
-        subst (λ (r : Reading MarkedFields). StopsAs t r) due
+        subst (λ (r : Reading MarkedFields). StopsAs t r) expected
         (stops_map t (values_before done) (next_value i (reads_for reader f.shape) old >>= λ v. result_map (field_value (made (string_bytes f.name)) v) (reads_places (suc i) (slots_for reader (fields_of (drop (suc i) fs))) (behind_first old)))
         (stops_bind t (next_value i (reads_for reader f.shape) old) (λ v. result_map (field_value (made (string_bytes f.name)) v) (reads_places (suc i) (slots_for reader (fields_of (drop (suc i) fs))) (behind_first old))) h))
 

@@ -18,7 +18,7 @@ use Rattle.bson_laws.specs.ReadsFrom.{reads_for, parts_for}
 use Rattle.bson_met.proofs.Refusals.{StopsAs, stops_bind, stops_map}
 use Rattle.bson_texts.specs.ListsMarked.{items_marked}
 use Rattle.bson_slots.specs.NextValue.{next_value, behind_first}
-use Rattle.bson_slots.proofs.DueNext.{next_parts}
+use Rattle.bson_slots.proofs.NextParts.{next_parts}
 
 -- these items, and then the rest
 abbrev pub items_before : List Datum → MarkedItems → MarkedItems
@@ -49,8 +49,8 @@ module _ (reader : Reader) (ps : List Form) (i : ℕ) (done : List Datum) (old :
     left = drop-cons ps i s lt ∙ ap (λ f. f ∷ drop (suc i) ps) (sym stands)
 
     -- its value, and then those of the others
-    due : result_map (items_before done) (next_value i (reads_for reader s) old >>= λ v. result_map (item v) (parts_for reader (parts_of (drop (suc i) ps)) (suc i) (behind_first old))) ≡ total
-    due =
+    expected : result_map (items_before done) (next_value i (reads_for reader s) old >>= λ v. result_map (item v) (parts_for reader (parts_of (drop (suc i) ps)) (suc i) (behind_first old))) ≡ total
+    expected =
         ap (result_map (items_before done)) (sym (next_parts i (reads_for reader s) (λ v rest. result_map (item v) (parts_for reader (parts_of (drop (suc i) ps)) (suc i) rest)) old))
         ∙ sym (ap (λ qs. result_map (items_before done) (parts_for reader (parts_of qs) i old)) left)
         ∙ so_far
@@ -63,12 +63,12 @@ module _ (reader : Reader) (ps : List Form) (i : ℕ) (done : List Datum) (old :
         ∙ (λ j. result_map (items_before (pushed j)) (parts_for reader (parts_of (drop (suc i) ps)) (suc i) (rest j)))
         ∙ sym (more done d (parts_for reader (parts_of (drop (suc i) ps)) (suc i) (behind_first old)))
         ∙ sym (ap (λ r. result_map (items_before done) (r >>= λ v. result_map (item v) (parts_for reader (parts_of (drop (suc i) ps)) (suc i) (behind_first old)))) is)
-        ∙ due
+        ∙ expected
 
     -- it is refused, or no element is left for it
     pub parts_stop : (t : Stop Fault) → StopsAs t (next_value i (reads_for reader s) old) → StopsAs t total
     parts_stop t h =
-        subst (λ (r : Reading MarkedItems). StopsAs t r) due
+        subst (λ (r : Reading MarkedItems). StopsAs t r) expected
         (stops_map t (items_before done) (next_value i (reads_for reader s) old >>= λ v. result_map (item v) (parts_for reader (parts_of (drop (suc i) ps)) (suc i) (behind_first old)))
         (stops_bind t (next_value i (reads_for reader s) old) (λ v. result_map (item v) (parts_for reader (parts_of (drop (suc i) ps)) (suc i) (behind_first old))) h))
 

@@ -13,7 +13,7 @@ use bson_datum::Datum;
 use bson_laws::Reader;
 use bson_met::{Items, Met, Reading};
 use bson_shape::Shape;
-use bson_slots::due;
+use bson_slots::next_part;
 use bson_values::Text;
 use std::alloc::Global;
 
@@ -83,6 +83,6 @@ pub(crate) fn read_next<'de>(
     ensures rest { IfOk result (λ _. elements.new ≡ behind_first elements.old) }
     ensures value { Reaches marked result (next_value index (reads_for reader.now shape.now) elements.old) }
 {
-    let value = due(alloc, index, elements)?;
+    let value = next_part(alloc, index, elements)?;
     read_item(alloc, reader, shape, index, &value)
 }

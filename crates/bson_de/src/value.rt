@@ -21,7 +21,7 @@ use bson_laws::{Origin, Reader};
 use bson_leaves::null;
 use bson_met::{Items, Met, Reading, refused};
 use bson_shape::{FieldShape, Form, Shape};
-use bson_slots::due_shape;
+use bson_slots::shape_for_reader;
 use bson_values::{Cause, Text};
 use std::alloc::Global;
 
@@ -67,7 +67,7 @@ pub fn read_for<'de>(
         Form::Lossy(inner) => read_mended(alloc, reader, inner, value),
         Form::Readable(inner) => read_human_readable(alloc, reader, inner, value),
         Form::Mode(human, compact) => {
-            let shape = due_shape(reader.readable, human, compact);
+            let shape = shape_for_reader(reader.readable, human, compact);
             read_for(alloc, reader, shape, value)
         }
         Form::Seq(item) => read_sequence(alloc, reader, item, value),

@@ -32,7 +32,7 @@ use Rattle.bson_laws.proofs.Documents.{mended_top, closed_top, node_read, top_wr
 use Rattle.bson_laws.proofs.Enveloped.{document_read}
 use Rattle.bson_laws.proofs.Given.{given_lossy}
 use Rattle.bson_laws.proofs.GivenAt.{reads_given}
-use Rattle.bson_laws.proofs.Lent.{lent_owned}
+use Rattle.bson_laws.proofs.Borrowed.{borrowed_owned}
 use Rattle.bson_laws.proofs.Mended.{tree_mended}
 use Rattle.bson_laws.proofs.PlainForms.{OwnsTexts, IsPlain}
 use Rattle.bson_laws.proofs.PlainUnrolled.{own_whole, plain_whole}
@@ -92,7 +92,7 @@ views_read : (s : Form) (t : Tree) (v : Value) → IsShape s → OwnsTexts s →
 views_read s (document ps) v shape owned is_plain h e =
     let small : length (enc (document ps)) < 2 ^ 31 = let f = h.fits in omega arith in
     let coded = clean_coded (document ps) h.clean in
-    let r = reads_again from_marked s (document ps) v max_levels shape (lent_owned from_marked s refl owned) h.clean h.nests e in
+    let r = reads_again from_marked s (document ps) v max_levels shape (borrowed_owned from_marked s refl owned) h.clean h.nests e in
     coded_read s (document ps) r.0 coded refl small
     (ap (λ x. at_settled.reads x (mended (tree_node from_input (document ps) max_levels))) (settled_same false s (plain_settled s is_plain)) ∙ ap (at_settled.reads s) (tree_mended from_input (document ps) max_levels coded) ∙ r.1)
     ∙ ap Ok r.2
@@ -105,13 +105,13 @@ lossy_views_read s t v shape owned is_plain h e = views_read (whole s) t v (shap
 -- levels that a shape may, so it is not the law at the shape whose texts are mended, which has one more.
 again_at : (s : Form) (bytes : Bytes) (d : Value) (t : Tree) → IsShape s → IsSettled s → AreBytes bytes → lossy_at s bytes ≡ Ok d → spell_document d ≡ Ok t → length (enc t) ≤ max_bytes
     → (v : Value) × (lossy_at s (enc t) ≡ Ok v) × (spell_document v ≡ Ok t)
-again_at s bytes d t shape due are e spelled fits =
-    let same = settled_same false s due in
+again_at s bytes d t shape expected are e spelled fits =
+    let same = settled_same false s expected in
     let r = node_read (lossy s) bytes d are e in
     let top = top_ok (kind_of d) (spell d max_levels) t spelled in
     let n = node_in max_levels EmbeddedDocument r.0 in
     let given = reads_given from_input (lossy s) n r.1 r.2 (subst (λ x. at_settled.reads (lossy x) n ≡ Ok r.1) same r.3) in
-    let k = again from_marked (contents r.1) s max_levels t shape due (given_lossy from_input (contents r.1) s given) (omega (arith, fits)) (ap (λ v. spell v max_levels) r.4 ∙ top.1) in
+    let k = again from_marked (contents r.1) s max_levels t shape expected (given_lossy from_input (contents r.1) s given) (omega (arith, fits)) (ap (λ v. spell v max_levels) r.4 ∙ top.1) in
     let is : kind t ≡ EmbeddedDocument = spell_kind false d max_levels t top.1 ∙ top.0 in (
       contents k.0,
       coded_read s t k.0 k.3 is (omega (arith, fits)) (ap (λ x. at_settled.reads x (mended (tree_node from_input t max_levels))) same ∙ ap (at_settled.reads s) (tree_mended from_input t max_levels k.3) ∙ k.1),
@@ -120,4 +120,4 @@ again_at s bytes d t shape due are e spelled fits =
 
 pub lossy_document_again : (s : Form) (bytes : Bytes) (d : Value) (t : Tree) → makers.IsShape s → IsSettled s → AreBytes bytes → reads_lossy s bytes ≡ Ok d → spell_document d ≡ Ok t → length (enc t) ≤ max_bytes
     → (v : Value) × (reads_lossy s (enc t) ≡ Ok v) × (spell_document v ≡ Ok t)
-lossy_document_again s bytes d t shape due are e spelled fits = again_at (whole s) bytes d t (shape_whole s shape) (settled_whole s due) are e spelled fits
+lossy_document_again s bytes d t shape expected are e spelled fits = again_at (whole s) bytes d t (shape_whole s shape) (settled_whole s expected) are e spelled fits

@@ -125,7 +125,7 @@ fn read<'x>(alloc: Global, readable: bool, shape: &Shape, value: &Bson) -> Readi
 
 // What was read; a refusal with its path.
 fn with_path<'x>(alloc: Global, reading: Reading<Datum<'x>>) -> de::Result<Datum<'x>>
-    ensures exact { (due : laws.Reading Value) → Reaches view reading.entry due → Gives view result (answered due) }
+    ensures exact { (expected : laws.Reading Value) → Reaches view reading.entry expected → Gives view result (answered expected) }
     ensures owned { IfOk reading.entry IsOwned → IfOk result IsOwned }
 {
     match reading {
@@ -136,7 +136,7 @@ fn with_path<'x>(alloc: Global, reading: Reading<Datum<'x>>) -> de::Result<Datum
 
 // What was read; a refusal without its path.
 fn without_path<'x>(reading: Reading<Datum<'x>>) -> de::Result<Datum<'x>>
-    ensures exact { (due : laws.Reading Value) → Reaches view reading.entry due → Gives view result (answered_bare due) }
+    ensures exact { (expected : laws.Reading Value) → Reaches view reading.entry expected → Gives view result (answered_bare expected) }
     ensures owned { IfOk reading.entry IsOwned → IfOk result IsOwned }
 {
     match reading {

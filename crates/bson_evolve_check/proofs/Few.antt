@@ -3,7 +3,7 @@ use Rattle.std.proofs.Common.{◌≡◌, ℕ, suc, ◌+◌, ◌-◌, ◌*◌, �
 use Rattle.bson_shape.specs.Form.{Form, no_fields}
 use Rattle.bson_shape.specs.Makers.{IsShape}
 use Rattle.bson_evolve_laws.specs.Compatible.{Meets}
-use Rattle.bson_evolve_laws.specs.First.{is_met, due_step, most_pairs, pair_of, start, DuePair, Pair}
+use Rattle.bson_evolve_laws.specs.First.{is_met, pending_step, most_pairs, pair_of, start, PendingPair, Pair}
 use Rattle.bson_evolve_laws.specs.Placed.{placed}
 use Rattle.bson_evolve_laws.specs.Places.{all_places}
 use Rattle.bson_evolve_laws.specs.Rows.{row, Step}
@@ -20,12 +20,12 @@ all_pairs old new = pairs (all_places old) (all_places new)
 pub first_among : (old new : Form) → is_met (all_pairs old new) (start old new).pair ≡ true
 first_among old new = in_met (all_pairs old new) (start old new).pair (pair_there (placed no_fields old) (placed no_fields new) (all_places old) (all_places new) (whole_there old) (whole_there new))
 
-steps_among : (all : List Pair) (d : DuePair) (ss : List Step) → Meets (λ x y. In (pair_of (placed d.pair.old.around x) (placed d.pair.new.around y)) all) ss → AreAmong all (map (due_step d) ss)
+steps_among : (all : List Pair) (d : PendingPair) (ss : List Step) → Meets (λ x y. In (pair_of (placed d.pair.old.around x) (placed d.pair.new.around y)) all) ss → AreAmong all (map (pending_step d) ss)
 steps_among all d [] m = tt
-steps_among all d (s ∷ ss) m = (in_met all (due_step d s).pair m.0, steps_among all d ss m.1)
+steps_among all d (s ∷ ss) m = (in_met all (pending_step d s).pair m.0, steps_among all d ss m.1)
 
 -- the pairs that the row of one of them names are among them
-pub closed : (old new : Form) → IsShape old → IsShape new → ArePlain old new → (d : DuePair) → is_met (all_pairs old new) d.pair ≡ true → (ss : List Step) → row d.pair.old.form d.pair.new.form ≡ Some ss → AreAmong (all_pairs old new) (map (due_step d) ss)
+pub closed : (old new : Form) → IsShape old → IsShape new → ArePlain old new → (d : PendingPair) → is_met (all_pairs old new) d.pair ≡ true → (ss : List Step) → row d.pair.old.form d.pair.new.form ≡ Some ss → AreAmong (all_pairs old new) (map (pending_step d) ss)
 closed old new p q plain d here ss is =
     steps_among (all_pairs old new) d ss
     (pairs_closed (all_places old) (all_places new) (places_of old (whole_part old p plain.old_plain)) (places_of new (whole_part new q plain.new_plain)) d.pair (met_in (all_pairs old new) d.pair here) ss is)

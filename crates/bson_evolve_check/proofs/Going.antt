@@ -5,20 +5,20 @@ use Rattle.std.proofs.lemmas.List.{append-nil, append_assoc, length-append, leng
 use Rattle.bson_shape.specs.Form.{Form, Fields, no_fields}
 use Rattle.bson_values.specs.Refusal.{Path}
 use Rattle.bson_evolve_laws.specs.Compatible.{IsCompatible}
-use Rattle.bson_evolve_laws.specs.First.{Pair, pair_of, is_met, DuePair, due_step, Outcome, fault, unmet, entered, entered_first, search, start, IsFirstFault}
+use Rattle.bson_evolve_laws.specs.First.{Pair, pair_of, is_met, PendingPair, pending_step, Outcome, fault, unmet, entered, entered_first, search, start, IsFirstFault}
 use Rattle.bson_evolve_laws.specs.Placed.{placed, peel, Placed}
 use Rattle.bson_evolve_laws.specs.Rows.{row}
 use Rattle.bson_evolve_laws.proofs.Searched.{search_yes}
 use Rattle.bson_evolve_check.specs.Meeting.{PairKey, pair_at, Holds, IsMeeting}
 use Rattle.bson_evolve_check.specs.Numbering.{parts_in, AreGood, AreMore}
 use Rattle.bson_evolve_check.specs.Placing.{place_view, tables_in, AreDifferent, IsAt, IsMore, IsTable}
-use Rattle.bson_evolve_check.specs.Searching.{due_at, due_list, due_view, dues, next_view, route_path, AreAmong, AreKnown, AreWithin, GoesOn, IsNext}
+use Rattle.bson_evolve_check.specs.Searching.{pending_at, pending_list, pending_view, pending_of, next_view, route_path, AreAmong, AreKnown, AreWithin, GoesOn, IsNext}
 use Rattle.bson_evolve_check.specs.Steps.{step_view, steps_view, way_path}
 use Rattle.bson_evolve_check.specs.declared.parts.Part.{Part}
 use Rattle.bson_evolve_check.specs.declared.parts.Parts.{Parts}
 use Rattle.bson_evolve_check.specs.declared.place.Place.{Place}
 use Rattle.bson_evolve_check.specs.declared.place.Table.{Table}
-use Rattle.bson_evolve_check.specs.declared.search.Due.{Due}
+use Rattle.bson_evolve_check.specs.declared.search.Pending.{Pending}
 use Rattle.bson_evolve_check.specs.declared.search.Waiting.{Waiting}
 use Rattle.bson_evolve_check.specs.declared.step.Step.{Step}
 use Rattle.bson_evolve_check.specs.declared.step.Way.{Way}
@@ -29,14 +29,14 @@ use Rattle.bson_evolve_check.proofs.Pushes.{drop_next}
 
 -- ---- one step of the search
 
-abbrev later : ℕ → List Pair → List DuePair → Outcome
+abbrev later : ℕ → List Pair → List PendingPair → Outcome
 later n more ds = search n more ds
 
-search_skips : (n : ℕ) (pairs : List Pair) (d : DuePair) (ds : List DuePair) → is_met pairs d.pair ≡ true → search n pairs (d ∷ ds) ≡ search n pairs ds
+search_skips : (n : ℕ) (pairs : List Pair) (d : PendingPair) (ds : List PendingPair) → is_met pairs d.pair ≡ true → search n pairs (d ∷ ds) ≡ search n pairs ds
 search_skips zero pairs d ds e = refl
 search_skips (suc n) pairs d ds e = ap (λ b. entered_first (later n) pairs (cond b (unmet pairs ds) (d ∷ ds))) e
 
-search_enters : (n : ℕ) (pairs : List Pair) (d : DuePair) (ds : List DuePair) → is_met pairs d.pair ≡ false → search (suc n) pairs (d ∷ ds) ≡ entered (later n) pairs d ds (row d.pair.old.form d.pair.new.form)
+search_enters : (n : ℕ) (pairs : List Pair) (d : PendingPair) (ds : List PendingPair) → is_met pairs d.pair ≡ false → search (suc n) pairs (d ∷ ds) ≡ entered (later n) pairs d ds (row d.pair.old.form d.pair.new.form)
 search_enters n pairs d ds e = ap (λ b. entered_first (later n) pairs (cond b (unmet pairs ds) (d ∷ ds))) e
 
 -- ---- the route
@@ -56,47 +56,47 @@ ways_more ws i d before now init l e inv =
     ∙ ap (λ zs. before ++ route_path zs) (sym (drop_next ws i d l))
     ∙ inv
 
-within_more : (m n : ℕ) (ds : List Due) → m ≤ n → AreWithin m ds → AreWithin n ds
+within_more : (m n : ℕ) (ds : List Pending) → m ≤ n → AreWithin m ds → AreWithin n ds
 within_more m n [] l a = tt
 within_more m n (d ∷ ds) l a = (omega (arith, l, a.0), a.1)
 
-within_all : (n : ℕ) (ss : List Step) (s t : Table) (ds : List Due) → AreWithin n ds → AreWithin n (map (due_at n s t) ss ++ ds)
+within_all : (n : ℕ) (ss : List Step) (s t : Table) (ds : List Pending) → AreWithin n ds → AreWithin n (map (pending_at n s t) ss ++ ds)
 within_all n [] s t ds a = a
 within_all n (x ∷ ss) s t ds a = (omega arith, within_all n ss s t ds a)
 
 -- pairs that begin on the route no further out than it is the same are reached on the same ways
-same_due : (n : ℕ) (r q : List Way) → take n r ≡ take n q → (ds : List Due) → AreWithin n ds → map (due_view r) ds ≡ map (due_view q) ds
-same_due n r q e [] a = refl
-same_due n r q e (d ∷ ds) a =
+same_pending : (n : ℕ) (r q : List Way) → take n r ≡ take n q → (ds : List Pending) → AreWithin n ds → map (pending_view r) ds ≡ map (pending_view q) ds
+same_pending n r q e [] a = refl
+same_pending n r q e (d ∷ ds) a =
     let first : take d.level r ≡ take d.level q = sym (take-take d.level n r a.0) ∙ ap (take d.level) e ∙ take-take d.level n q a.0 in
-    let here : due_view r d ≡ due_view q d = ap (λ ws. record { path = route_path ws ++ way_path d.way; pair = pair_of (place_view d.old) (place_view d.new) }) first in
-    λ i. here i ∷ same_due d.level r q first ds a.1 i
+    let here : pending_view r d ≡ pending_view q d = ap (λ ws. record { path = route_path ws ++ way_path d.way; pair = pair_of (place_view d.old) (place_view d.new) }) first in
+    λ i. here i ∷ same_pending d.level r q first ds a.1 i
 
 -- ---- numbers
 
-pub known_more : (hs is : List Fields) → IsMore hs is → (ds : List Due) → AreKnown hs ds → AreKnown is ds
+pub known_more : (hs is : List Fields) → IsMore hs is → (ds : List Pending) → AreKnown hs ds → AreKnown is ds
 known_more hs is m [] a = tt
 known_more hs is m (d ∷ ds) a = (at_more hs is d.old.table.number _ m a.0, at_more hs is d.new.table.number _ m a.1, known_more hs is m ds a.2)
 
-known_all : (hs : List Fields) (n : ℕ) (s t : Table) → IsTable hs s → IsTable hs t → (ss : List Step) (ds : List Due) → AreKnown hs ds → AreKnown hs (map (due_at n s t) ss ++ ds)
+known_all : (hs : List Fields) (n : ℕ) (s t : Table) → IsTable hs s → IsTable hs t → (ss : List Step) (ds : List Pending) → AreKnown hs ds → AreKnown hs (map (pending_at n s t) ss ++ ds)
 known_all hs n s t a b [] ds k = k
 known_all hs n s t a b (x ∷ ss) ds k = (a, b, known_all hs n s t a b ss ds k)
 
 -- the last of the pairs that wait
-pub dues_last : (ws rest : List Waiting) (w : Waiting) → ws ≡ rest ++ w ∷ [] → dues ws ≡ dues rest ++ w.due ∷ []
-dues_last ws rest w e = ap dues e ∙ map-append (λ (x : Waiting). x.due) rest (w ∷ [])
+pub pending_of_last : (ws rest : List Waiting) (w : Waiting) → ws ≡ rest ++ w ∷ [] → pending_of ws ≡ pending_of rest ++ w.pending ∷ []
+pending_of_last ws rest w e = ap pending_of e ∙ map-append (λ (x : Waiting). x.pending) rest (w ∷ [])
 
 -- what a part is seen through, where it stands
 pub seen_at : (s : Part) (p : Place) → place_view s.seen ≡ peel (place_view s.place) → place_view s.place ≡ place_view p → place_view s.seen ≡ peel (place_view p)
 seen_at s p seen is = seen ∙ ap peel is
 
-popped : (due rest : List Due) (d : Due) → due ≡ rest ++ d ∷ [] → reverse due ≡ d ∷ reverse rest
-popped due rest d e = ap reverse e ∙ reverse-append rest (d ∷ [])
+popped : (pending rest : List Pending) (d : Pending) → pending ≡ rest ++ d ∷ [] → reverse pending ≡ d ∷ reverse rest
+popped pending rest d e = ap reverse e ∙ reverse-append rest (d ∷ [])
 
-pub popped_known : (hs : List Fields) (due rest : List Due) (d : Due) → due ≡ rest ++ d ∷ [] → AreKnown hs (reverse due) → IsTable hs d.old.table × IsTable hs d.new.table × AreKnown hs (reverse rest)
-popped_known hs due rest d e k = subst (AreKnown hs) (popped due rest d e) k
+pub popped_known : (hs : List Fields) (pending rest : List Pending) (d : Pending) → pending ≡ rest ++ d ∷ [] → AreKnown hs (reverse pending) → IsTable hs d.old.table × IsTable hs d.new.table × AreKnown hs (reverse rest)
+popped_known hs pending rest d e k = subst (AreKnown hs) (popped pending rest d e) k
 
-among_all : (all : List Pair) (ds es : List DuePair) → AreAmong all ds → AreAmong all es → AreAmong all (ds ++ es)
+among_all : (all : List Pair) (ds es : List PendingPair) → AreAmong all ds → AreAmong all es → AreAmong all (ds ++ es)
 among_all all [] es a b = b
 among_all all (d ∷ ds) es a b = (a.0, among_all all ds es a.1 b)
 
@@ -108,23 +108,23 @@ not_is false false e = absurd (let both : false ≡ true = e in cc)
 
 module _ (old new : Form) (all pairs : List Pair) where
   -- the search begins with the pair of the two shapes
-  pub begins : (parts : Parts) (met : BTreeSet PairKey) (d : Due) → AreGood parts → Holds (parts_in parts) met [] → IsTable (tables_in parts.tables) d.old.table → IsTable (tables_in parts.tables) d.new.table → d.level ≡ 0 → way_path d.way ≡ []
+  pub begins : (parts : Parts) (met : BTreeSet PairKey) (d : Pending) → AreGood parts → Holds (parts_in parts) met [] → IsTable (tables_in parts.tables) d.old.table → IsTable (tables_in parts.tables) d.new.table → d.level ≡ 0 → way_path d.way ≡ []
       → place_view d.old ≡ placed no_fields old → place_view d.new ≡ placed no_fields new → is_met all (start old new).pair ≡ true → GoesOn old new all [] parts met [] (d ∷ [])
   begins parts met d a h i j level way p q among =
       let path : route_path (take d.level []) ++ way_path d.way ≡ [] = (λ k. route_path (take (level k) []) ++ way k) in
-      let first : start old new ≡ due_view [] d = λ k. record { path = sym path k; pair = pair_of (sym p k) (sym q k) } in
+      let first : start old new ≡ pending_view [] d = λ k. record { path = sym path k; pair = pair_of (sym p k) (sym q k) } in
       record {
         good = a;
         holds = h;
         within = (omega (arith, level), tt);
         known = (i, j, tt);
-        among = (subst (λ (x : DuePair). is_met all x.pair ≡ true) first among, tt);
+        among = (subst (λ (x : PendingPair). is_met all x.pair ≡ true) first among, tt);
         left = λ n. (n, ap (λ x. search n [] (x ∷ [])) first);
       }
 
   -- no pair is left to be entered
-  pub ends : (parts : Parts) (met : BTreeSet PairKey) (route : List Way) (due : List Due) → due ≡ [] → GoesOn old new all pairs parts met route due → (n : ℕ) → (m : ℕ) × (search m [] (start old new ∷ []) ≡ search n pairs [])
-  ends parts met route due e g n = let r = g.left n in (r.0, r.1 ∙ ap (λ ds. search n pairs (due_list route ds)) e)
+  pub ends : (parts : Parts) (met : BTreeSet PairKey) (route : List Way) (pending : List Pending) → pending ≡ [] → GoesOn old new all pairs parts met route pending → (n : ℕ) → (m : ℕ) × (search m [] (start old new ∷ []) ≡ search n pairs [])
+  ends parts met route pending e g n = let r = g.left n in (r.0, r.1 ∙ ap (λ ds. search n pairs (pending_list route ds)) e)
 
   -- each pair that was met passes
   pub passes : ((n : ℕ) → (m : ℕ) × (search m [] (start old new ∷ []) ≡ search n pairs [])) → IsCompatible old new
@@ -132,21 +132,21 @@ module _ (old new : Form) (all pairs : List Pair) where
 
   -- ---- the pair that is popped
 
-  module _ (parts : Parts) (met : BTreeSet PairKey) (route : List Way) (due rest : List Due) (d : Due) (pop : due ≡ rest ++ d ∷ []) (g : GoesOn old new all pairs parts met route due) where
-    abbrev view : DuePair
-    view = due_view route d
+  module _ (parts : Parts) (met : BTreeSet PairKey) (route : List Way) (pending rest : List Pending) (d : Pending) (pop : pending ≡ rest ++ d ∷ []) (g : GoesOn old new all pairs parts met route pending) where
+    abbrev view : PendingPair
+    view = pending_view route d
 
-    all_due : due_list route due ≡ view ∷ due_list route rest
-    all_due = ap (map (due_view route)) (popped due rest d pop)
+    all_pending : pending_list route pending ≡ view ∷ pending_list route rest
+    all_pending = ap (map (pending_view route)) (popped pending rest d pop)
 
     within : AreWithin (length route) (d ∷ reverse rest)
-    within = subst (AreWithin (length route)) (popped due rest d pop) g.within
+    within = subst (AreWithin (length route)) (popped pending rest d pop) g.within
 
     known : AreKnown (tables_in parts.tables) (d ∷ reverse rest)
-    known = subst (AreKnown (tables_in parts.tables)) (popped due rest d pop) g.known
+    known = subst (AreKnown (tables_in parts.tables)) (popped pending rest d pop) g.known
 
-    among : AreAmong all (view ∷ due_list route rest)
-    among = subst (AreAmong all) all_due g.among
+    among : AreAmong all (view ∷ pending_list route rest)
+    among = subst (AreAmong all) all_pending g.among
 
     module _ (more : Parts) (now : BTreeSet PairKey) (m : AreMore parts more) (a b : Place) (i : IsTable (tables_in more.tables) a.table) (j : IsTable (tables_in more.tables) b.table)
         (seen_old : place_view a ≡ peel (place_view d.old)) (seen_new : place_view b ≡ peel (place_view d.new)) (k l : ℕ) (old_at : IsAt (parts_in more) k (place_view a)) (new_at : IsAt (parts_in more) l (place_view b)) (added : Bool)
@@ -168,11 +168,11 @@ module _ (old new : Form) (all pairs : List Pair) where
         within = within_more d.level (length route) (reverse rest) within.0 within.1;
         known = known_more (tables_in parts.tables) (tables_in more.tables) m.tables (reverse rest) known.2;
         among = among.1;
-        left = λ n. let r = g.left n in (r.0, r.1 ∙ ap (search n pairs) all_due ∙ search_skips n pairs view (due_list route rest) (ap (is_met pairs) pair_is ∙ was_met ∙ ap not e));
+        left = λ n. let r = g.left n in (r.0, r.1 ∙ ap (search n pairs) all_pending ∙ search_skips n pairs view (pending_list route rest) (ap (is_met pairs) pair_is ∙ was_met ∙ ap not e));
       }
 
       -- one that was not comes next
-      pub comes : added ≡ true → (next : Due) → next.level ≡ d.level → next.way ≡ d.way → next.old ≡ a → next.new ≡ b → IsNext old new all pairs more now route next rest
+      pub comes : added ≡ true → (next : Pending) → next.level ≡ d.level → next.way ≡ d.way → next.old ≡ a → next.new ≡ b → IsNext old new all pairs more now route next rest
       comes e next level way first second =
           let here : pair_at next.old next.new ≡ pair_at a b = (λ k. pair_at (first k) (second k)) in
           let same : view ≡ next_view route next = λ k. record { path = route_path (take (sym level k) route) ++ way_path (sym way k); pair = (pair_is ∙ sym here) k } in
@@ -185,13 +185,13 @@ module _ (old new : Form) (all pairs : List Pair) where
                 (subst (λ (p : Place). IsTable (tables_in more.tables) p.table) (sym first) i, subst (λ (p : Place). IsTable (tables_in more.tables) p.table) (sym second) j, known_more (tables_in parts.tables) (tables_in more.tables) m.tables (reverse rest) known.2);
             here = subst (λ p. is_met all p ≡ true) (pair_is ∙ sym here) among.0;
             among = among.1;
-            left = λ n. let r = g.left n in (r.0, r.1 ∙ ap (search n pairs) (all_due ∙ (λ k. same k ∷ due_list route rest)));
+            left = λ n. let r = g.left n in (r.0, r.1 ∙ ap (search n pairs) (all_pending ∙ (λ k. same k ∷ pending_list route rest)));
           }
 
   -- ---- the pair that comes next
 
-  module _ (parts : Parts) (met : BTreeSet PairKey) (route : List Way) (rest : List Due) (d : Due) (g : IsNext old new all pairs parts met route d rest) (after : List Way) (longer : after ≡ take d.level route ++ d.way ∷ []) where
-    abbrev next : DuePair
+  module _ (parts : Parts) (met : BTreeSet PairKey) (route : List Way) (rest : List Pending) (d : Pending) (g : IsNext old new all pairs parts met route d rest) (after : List Way) (longer : after ≡ take d.level route ++ d.way ∷ []) where
+    abbrev next : PendingPair
     next = next_view route d
 
     path_is : route_path after ≡ next.path
@@ -201,7 +201,7 @@ module _ (old new : Form) (all pairs : List Pair) where
     pub faults : row d.old.shape.now d.new.shape.now ≡ None → IsFirstFault old new (route_path after)
     faults none =
         let r = g.left 1 in
-        (r.0, r.1 ∙ search_enters 0 pairs next (due_list route rest) g.unmet ∙ ap (entered (later 0) pairs next (due_list route rest)) none ∙ ap fault (sym path_is))
+        (r.0, r.1 ∙ search_enters 0 pairs next (pending_list route rest) g.unmet ∙ ap (entered (later 0) pairs next (pending_list route rest)) none ∙ ap fault (sym path_is))
 
     level_is : length after ≡ suc d.level
     level_is =
@@ -209,39 +209,39 @@ module _ (old new : Form) (all pairs : List Pair) where
         let m : length (take d.level route) ≡ d.level = length-take-le d.level route g.within.0 in
         omega (arith, n, m)
 
-    step_is : (s : Step) → due_view after (due_at (length after) d.old.table d.new.table s) ≡ due_step next (step_view s)
+    step_is : (s : Step) → pending_view after (pending_at (length after) d.old.table d.new.table s) ≡ pending_step next (step_view s)
     step_is s =
         let path : route_path (take (length after) after) ≡ next.path = ap route_path (take_all (length after) after (omega arith)) ∙ path_is in
         λ k. record { path = path k ++ way_path s.way; pair = pair_of (placed next.pair.old.around s.old.now) (placed next.pair.new.around s.new.now) }
 
-    steps_are : (ss : List Step) → map (due_view after) (map (due_at (length after) d.old.table d.new.table) ss) ≡ map (due_step next) (steps_view ss)
+    steps_are : (ss : List Step) → map (pending_view after) (map (pending_at (length after) d.old.table d.new.table) ss) ≡ map (pending_step next) (steps_view ss)
     steps_are [] = refl
     steps_are (s ∷ ss) = λ k. step_is s k ∷ steps_are ss k
 
-    others_are : due_list after rest ≡ due_list route rest
+    others_are : pending_list after rest ≡ pending_list route rest
     others_are =
         let first : take d.level after ≡ take d.level route = ap (take d.level) longer ∙ take_at (take d.level route) (d.way ∷ []) d.level (length-take-le d.level route g.within.0) in
-        same_due d.level after route first (reverse rest) g.within.1
+        same_pending d.level after route first (reverse rest) g.within.1
 
     -- the pairs that its row names are to be entered next
-    pub enters : (ss : List Step) → row d.old.shape.now d.new.shape.now ≡ Some (steps_view ss) → AreAmong all (map (due_step next) (steps_view ss)) → (due : List Due) → due ≡ rest ++ reverse (map (due_at (length after) d.old.table d.new.table) ss)
-        → GoesOn old new all (pair_at d.old d.new ∷ pairs) parts met after due
-    enters ss is closed due f =
-        let steps = map (due_at (length after) d.old.table d.new.table) ss in
-        let order : reverse due ≡ steps ++ reverse rest = ap reverse f ∙ reverse-append rest (reverse steps) ∙ ap (λ xs. xs ++ reverse rest) (reverse-reverse steps) in
-        let due_is : due_list after due ≡ map (due_step next) (steps_view ss) ++ due_list route rest =
-        ap (map (due_view after)) order ∙ map-append (due_view after) steps (reverse rest) ∙ (λ k. steps_are ss k ++ others_are k) in
+    pub enters : (ss : List Step) → row d.old.shape.now d.new.shape.now ≡ Some (steps_view ss) → AreAmong all (map (pending_step next) (steps_view ss)) → (pending : List Pending) → pending ≡ rest ++ reverse (map (pending_at (length after) d.old.table d.new.table) ss)
+        → GoesOn old new all (pair_at d.old d.new ∷ pairs) parts met after pending
+    enters ss is closed pending f =
+        let steps = map (pending_at (length after) d.old.table d.new.table) ss in
+        let order : reverse pending ≡ steps ++ reverse rest = ap reverse f ∙ reverse-append rest (reverse steps) ∙ ap (λ xs. xs ++ reverse rest) (reverse-reverse steps) in
+        let pending_is : pending_list after pending ≡ map (pending_step next) (steps_view ss) ++ pending_list route rest =
+        ap (map (pending_view after)) order ∙ map-append (pending_view after) steps (reverse rest) ∙ (λ k. steps_are ss k ++ others_are k) in
         record {
           good = g.good;
           holds = g.holds;
           within = subst (AreWithin (length after)) (sym order)
               (within_all (length after) ss d.old.table d.new.table (reverse rest) (within_more d.level (length after) (reverse rest) (omega (arith, level_is)) g.within.1));
           known = subst (AreKnown (tables_in parts.tables)) (sym order) (known_all (tables_in parts.tables) (length after) d.old.table d.new.table g.known.0 g.known.1 ss (reverse rest) g.known.2);
-          among = subst (AreAmong all) (sym due_is) (among_all all (map (due_step next) (steps_view ss)) (due_list route rest) closed g.among);
+          among = subst (AreAmong all) (sym pending_is) (among_all all (map (pending_step next) (steps_view ss)) (pending_list route rest) closed g.among);
           left = λ n.
               let r = g.left (suc n) in (
                 r.0,
-                r.1 ∙ search_enters n pairs next (due_list route rest) g.unmet ∙ ap (entered (later n) pairs next (due_list route rest)) is
-                    ∙ ap (search n (pair_at d.old d.new ∷ pairs)) (sym due_is),
+                r.1 ∙ search_enters n pairs next (pending_list route rest) g.unmet ∙ ap (entered (later n) pairs next (pending_list route rest)) is
+                    ∙ ap (search n (pair_at d.old d.new ∷ pairs)) (sym pending_is),
               );
         }

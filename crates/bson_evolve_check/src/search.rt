@@ -7,7 +7,7 @@ ghost use Rattle.bson_evolve_laws.specs.First.{Pair};
 ghost use Rattle.bson_evolve_check.specs.Checks.{ArePlain};
 ghost use Rattle.bson_evolve_check.specs.Numbering.{AreGood};
 ghost use Rattle.bson_evolve_check.specs.Placing.{tables_in};
-ghost use Rattle.bson_evolve_check.specs.Searching.{due_at, dues, AreKnown, ComesNext, Enters, Finds, GoesOn};
+ghost use Rattle.bson_evolve_check.specs.Searching.{pending_at, pending_of, AreKnown, ComesNext, Enters, Finds, GoesOn};
 ghost use Rattle.bson_evolve_check.specs.declared.step.Way.{Way as WayView};
 ghost use Rattle.bson_evolve_check.specs.Steps.{way_path};
 
@@ -24,7 +24,7 @@ use std::collections::BTreeSet;
 
 /// A pair that is still to be entered: how many ways of the route lead to the pair whose row names it, and the way from there.
 #[derive(Clone, Copy)]
-pub(crate) struct Due<'s> {
+pub(crate) struct Pending<'s> {
     pub(crate) level: usize,
     pub(crate) way: Way<'s>,
     pub(crate) old: Place<'s>,
@@ -42,14 +42,14 @@ pub(crate) struct Origin {
 /// A pair that is still to be entered, and where it was found.
 #[derive(Clone, Copy)]
 pub(crate) struct Waiting<'s> {
-    pub(crate) due: Due<'s>,
+    pub(crate) pending: Pending<'s>,
     pub(crate) origin: Origin,
 }
 
 /// A pair that is entered, each part of it seen through, and the numbers of its parts.
 #[derive(Clone, Copy)]
 pub(crate) struct Entry<'s> {
-    pub(crate) due: Due<'s>,
+    pub(crate) pending: Pending<'s>,
     pub(crate) old: usize,
     pub(crate) new: usize,
 }
@@ -80,8 +80,8 @@ pub(crate) fn first_fault<'s>(
     let table = parts.outside()?;
     waiting.push(start(table, old, new))?;
     while let Some(next) = next_unmet(alloc, &mut parts, &mut met, &mut waiting)? {
-        route.truncate(next.due.level);
-        route.push(next.due.way)?;
+        route.truncate(next.pending.level);
+        route.push(next.pending.way)?;
         if !push_row(alloc, &mut waiting, route.len(), next, bson)? {
             return Ok(Some(path_of(alloc, &route)?));
         }
@@ -97,20 +97,20 @@ fn next_unmet<'s>(
     waiting: &mut Vec<Waiting<'s>>,
 ) -> Result<Option<Entry<'s>>, AllocError>
     requires good { AreGood parts.old }
-    requires known { AreKnown (tables_in parts.old.tables) (reverse (dues waiting.old.items)) }
-    ensures { IfOk result (λ o. (old new : Form) (all pairs : List Pair) (route : List WayView) → GoesOn old new all pairs parts.old met.old route (dues waiting.old.items)
-        → ComesNext old new all pairs parts.new (btree_set_len met.old) met.new route (dues waiting.new.items) o) }
+    requires known { AreKnown (tables_in parts.old.tables) (reverse (pending_of waiting.old.items)) }
+    ensures { IfOk result (λ o. (old new : Form) (all pairs : List Pair) (route : List WayView) → GoesOn old new all pairs parts.old met.old route (pending_of waiting.old.items)
+        → ComesNext old new all pairs parts.new (btree_set_len met.old) met.new route (pending_of waiting.new.items) o) }
 {
     while let Some(next) = waiting.pop() {
-        let due = next.due;
+        let pending = next.pending;
         let from = next.origin;
-        let first = parts.part(alloc, due.old, from.old, from.before)?;
-        let second = parts.part(alloc, due.new, from.new, from.before)?;
+        let first = parts.part(alloc, pending.old, from.old, from.before)?;
+        let second = parts.part(alloc, pending.new, from.new, from.before)?;
         if meet(met, first.number, second.number)? {
             return Ok(Some(Entry {
-                due: Due {
-                    level: due.level,
-                    way: due.way,
+                pending: Pending {
+                    level: pending.level,
+                    way: pending.way,
                     old: first.seen,
                     new: second.seen,
                 },
@@ -124,13 +124,13 @@ fn next_unmet<'s>(
 
 // The pair of the two shapes, without definitions around them.
 fn start<'s>(table: Table<'s>, old: &'s Shape, new: &'s Shape) -> Waiting<'s>
-    ensures way { way_path result.due.way ≡ [] }
-    ensures level { result.due.level ≡ 0 }
-    ensures old { result.due.old ≡ record { table = table.entry; shape = old.entry } }
-    ensures new { result.due.new ≡ record { table = table.entry; shape = new.entry } }
+    ensures way { way_path result.pending.way ≡ [] }
+    ensures level { result.pending.level ≡ 0 }
+    ensures old { result.pending.old ≡ record { table = table.entry; shape = old.entry } }
+    ensures new { result.pending.new ≡ record { table = table.entry; shape = new.entry } }
 {
     Waiting {
-        due: Due {
+        pending: Pending {
             level: 0,
             way: Way::here(),
             old: Place { table, shape: old },
@@ -153,9 +153,9 @@ fn push_row<'s>(
     bson: &'s Shape,
 ) -> Result<bool, AllocError>
     requires { bson.now ≡ leaf Bson }
-    ensures { IfOk result (λ passes. Enters passes level next.entry.due (dues waiting.old.items) (dues waiting.new.items)) }
+    ensures { IfOk result (λ passes. Enters passes level next.entry.pending (pending_of waiting.old.items) (pending_of waiting.new.items)) }
 {
-    match row(alloc, next.due.old.shape, next.due.new.shape, bson)? {
+    match row(alloc, next.pending.old.shape, next.pending.new.shape, bson)? {
         Some(steps) => {
             push_steps(waiting, level, next, steps)?;
             Ok(true)
@@ -171,26 +171,26 @@ fn push_steps<'s>(
     next: Entry<'s>,
     steps: Vec<Step<'s>>,
 ) -> Result<(), AllocError>
-    ensures { OnOk result (dues waiting.new.items ≡ dues waiting.old.items ++ reverse (map (due_at level next.entry.due.old.table next.entry.due.new.table) steps.entry.items)) }
+    ensures { OnOk result (pending_of waiting.new.items ≡ pending_of waiting.old.items ++ reverse (map (pending_at level next.entry.pending.old.table next.entry.pending.new.table) steps.entry.items)) }
 {
     let mut steps = steps;
     while let Some(step) = steps.pop() {
-        let due = due_at(level, next.due.old.table, next.due.new.table, step);
+        let pending = pending_at(level, next.pending.old.table, next.pending.new.table, step);
         let origin = Origin {
             old: next.old,
             new: next.new,
             before: steps.len(),
         };
-        waiting.push(Waiting { due, origin })?;
+        waiting.push(Waiting { pending, origin })?;
     }
     Ok(())
 }
 
 // The pair of a step, with the definitions around its parts.
-fn due_at<'s>(level: usize, old: Table<'s>, new: Table<'s>, step: Step<'s>) -> Due<'s>
-    ensures { result ≡ due_at level old.entry new.entry step.entry }
+fn pending_at<'s>(level: usize, old: Table<'s>, new: Table<'s>, step: Step<'s>) -> Pending<'s>
+    ensures { result ≡ pending_at level old.entry new.entry step.entry }
 {
-    Due {
+    Pending {
         level,
         way: step.way,
         old: Place {

@@ -5,7 +5,7 @@ use Rattle.bson_shape.specs.Makers.{IsShape}
 use Rattle.bson_laws.specs.Plain.{IsPlain}
 use Rattle.bson_values.specs.Refusal.{Path}
 use Rattle.bson_evolve_laws.specs.Compatible.{IsCompatible}
-use Rattle.bson_evolve_laws.specs.First.{Pair, DuePair, due_step, Outcome, all_pass, fault, cut_off, unmet, entered, entered_first, search, start, IsFirstFault, most_pairs, fault_of, first_fault, is_met}
+use Rattle.bson_evolve_laws.specs.First.{Pair, PendingPair, pending_step, Outcome, all_pass, fault, cut_off, unmet, entered, entered_first, search, start, IsFirstFault, most_pairs, fault_of, first_fault, is_met}
 use Rattle.bson_evolve_laws.specs.Placed.{placed}
 use Rattle.bson_evolve_laws.specs.Places.{all_places}
 use Rattle.bson_evolve_laws.specs.Rows.{Answer, row}
@@ -13,27 +13,27 @@ use Rattle.bson_evolve_laws.proofs.Peels.{IsPart}
 use Rattle.bson_evolve_laws.proofs.Searched.{In, count_if, left, search_ends, search_no}
 use Rattle.bson_evolve_laws.proofs.Universe.{pairs, pairs_many, pairs_closed, pair_there, places_of, whole_there}
 
-pub search_more : (n : ℕ) (met : List Pair) (due : List DuePair) → (search n met due ≡ cut_off → ⊥) → search (suc n) met due ≡ search n met due
-search_more zero met due f = absurd (f refl)
-search_more (suc n) met due f = by_due (unmet met due) f (λ more later g. search_more n more later g) where
-  by_row : (d : DuePair) (ds : List DuePair) (o : Answer) → (entered (λ more later. search n more later) met d ds o ≡ cut_off → ⊥)
-      → ((more : List Pair) (later : List DuePair) → (search n more later ≡ cut_off → ⊥) → search (suc n) more later ≡ search n more later)
+pub search_more : (n : ℕ) (met : List Pair) (pending : List PendingPair) → (search n met pending ≡ cut_off → ⊥) → search (suc n) met pending ≡ search n met pending
+search_more zero met pending f = absurd (f refl)
+search_more (suc n) met pending f = by_pending (unmet met pending) f (λ more later g. search_more n more later g) where
+  by_row : (d : PendingPair) (ds : List PendingPair) (o : Answer) → (entered (λ more later. search n more later) met d ds o ≡ cut_off → ⊥)
+      → ((more : List Pair) (later : List PendingPair) → (search n more later ≡ cut_off → ⊥) → search (suc n) more later ≡ search n more later)
       → entered (λ more later. search (suc n) more later) met d ds o ≡ entered (λ more later. search n more later) met d ds o
   by_row d ds None g rest = refl
-  by_row d ds (Some ss) g rest = rest (d.pair ∷ met) (map (due_step d) ss ++ ds) g
+  by_row d ds (Some ss) g rest = rest (d.pair ∷ met) (map (pending_step d) ss ++ ds) g
 
-  by_due : (l : List DuePair) → (entered_first (λ more later. search n more later) met l ≡ cut_off → ⊥)
-      → ((more : List Pair) (later : List DuePair) → (search n more later ≡ cut_off → ⊥) → search (suc n) more later ≡ search n more later)
+  by_pending : (l : List PendingPair) → (entered_first (λ more later. search n more later) met l ≡ cut_off → ⊥)
+      → ((more : List Pair) (later : List PendingPair) → (search n more later ≡ cut_off → ⊥) → search (suc n) more later ≡ search n more later)
       → entered_first (λ more later. search (suc n) more later) met l ≡ entered_first (λ more later. search n more later) met l
-  by_due [] g rest = refl
-  by_due (d ∷ ds) g rest = by_row d ds (row d.pair.old.form d.pair.new.form) g rest
+  by_pending [] g rest = refl
+  by_pending (d ∷ ds) g rest = by_row d ds (row d.pair.old.form d.pair.new.form) g rest
 
-search_longer : (k n : ℕ) (met : List Pair) (due : List DuePair) → (search n met due ≡ cut_off → ⊥) → search (k + n) met due ≡ search n met due
-search_longer zero n met due f = let same : 0 + n ≡ n = omega arith in ap (λ m. search m met due) same
-search_longer (suc k) n met due f =
-    let e = search_longer k n met due f in
+search_longer : (k n : ℕ) (met : List Pair) (pending : List PendingPair) → (search n met pending ≡ cut_off → ⊥) → search (k + n) met pending ≡ search n met pending
+search_longer zero n met pending f = let same : 0 + n ≡ n = omega arith in ap (λ m. search m met pending) same
+search_longer (suc k) n met pending f =
+    let e = search_longer k n met pending f in
     let same : suc k + n ≡ suc (k + n) = omega arith in
-    ap (λ m. search m met due) same ∙ (search_more (k + n) met due (λ c. f (sym e ∙ c)) ∙ e)
+    ap (λ m. search m met pending) same ∙ (search_more (k + n) met pending (λ c. f (sym e ∙ c)) ∙ e)
 
 fault_is : (p q : Path) → fault p ≡ fault q → p ≡ q
 fault_is p q e = cc
@@ -73,10 +73,10 @@ swapped n m = omega arith
 pub fault_found : (old new : Form) (path : Path) → IsShape old → IsShape new → IsPlain old → IsPlain new → IsFirstFault old new path → first_fault old new ≡ Some path
 fault_found old new path p q a b f =
     let m = most_pairs old new in
-    let due = start old new ∷ [] in
-    let longer : search (m + f.0) [] due ≡ fault path = search_longer m f.0 [] due (λ c. no_cut path (sym f.1 ∙ c)) ∙ f.1 in
-    let same : search (f.0 + m) [] due ≡ search m [] due = search_longer f.0 m [] due (ends old new p q a b) in
-    ap fault_of (sym same ∙ ap (λ k. search k [] due) (swapped f.0 m) ∙ longer)
+    let pending = start old new ∷ [] in
+    let longer : search (m + f.0) [] pending ≡ fault path = search_longer m f.0 [] pending (λ c. no_cut path (sym f.1 ∙ c)) ∙ f.1 in
+    let same : search (f.0 + m) [] pending ≡ search m [] pending = search_longer f.0 m [] pending (ends old new p q a b) in
+    ap fault_of (sym same ∙ ap (λ k. search k [] pending) (swapped f.0 m) ∙ longer)
 
 -- two shapes that are compatible have none
 pub none_found : (old new : Form) → IsCompatible old new → first_fault old new ≡ None

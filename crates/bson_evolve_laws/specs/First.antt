@@ -23,13 +23,13 @@ is_met [] p = false
 is_met (q ∷ qs) p = same_pair q p || is_met qs p
 
 -- a pair that is to be entered, and the path to it
-pub record DuePair : Type 0 where
+pub record PendingPair : Type 0 where
   pub path : Path
   pub pair : Pair
 
 -- a pair that the row of another one names
-abbrev pub due_step : DuePair → Step → DuePair
-due_step d s = record { path = d.path ++ s.path; pair = pair_of (placed d.pair.old.around s.old) (placed d.pair.new.around s.new) }
+abbrev pub pending_step : PendingPair → Step → PendingPair
+pending_step d s = record { path = d.path ++ s.path; pair = pair_of (placed d.pair.old.around s.old) (placed d.pair.new.around s.new) }
 
 -- what a search ends with
 pub data Outcome : Type 0 where
@@ -41,26 +41,26 @@ pub data Outcome : Type 0 where
   cut_off : Outcome
 
 -- the pairs that are to be entered, without the pairs before the first that was not met
-abbrev pub unmet : List Pair → List DuePair → List DuePair
+abbrev pub unmet : List Pair → List PendingPair → List PendingPair
 unmet met [] = []
-unmet met (d ∷ due) = if is_met met d.pair then unmet met due else d ∷ due
+unmet met (d ∷ pending) = if is_met met d.pair then unmet met pending else d ∷ pending
 
 -- A pair is entered: where it passes no row it is the fault, and else the pairs that its row names come before those that were to be entered before.
-abbrev pub entered : (List Pair → List DuePair → Outcome) → List Pair → DuePair → List DuePair → Answer → Outcome
-entered go_on met d due None = fault d.path
-entered go_on met d due (Some ss) = go_on (d.pair ∷ met) (map (due_step d) ss ++ due)
+abbrev pub entered : (List Pair → List PendingPair → Outcome) → List Pair → PendingPair → List PendingPair → Answer → Outcome
+entered go_on met d pending None = fault d.path
+entered go_on met d pending (Some ss) = go_on (d.pair ∷ met) (map (pending_step d) ss ++ pending)
 
-abbrev pub entered_first : (List Pair → List DuePair → Outcome) → List Pair → List DuePair → Outcome
+abbrev pub entered_first : (List Pair → List PendingPair → Outcome) → List Pair → List PendingPair → Outcome
 entered_first go_on met [] = all_pass met
-entered_first go_on met (d ∷ due) = entered go_on met d due (row d.pair.old.form d.pair.new.form)
+entered_first go_on met (d ∷ pending) = entered go_on met d pending (row d.pair.old.form d.pair.new.form)
 
 -- The search: the first of the pairs that are to be entered and were not met before is entered, and so on. It is cut off before it has entered so many.
-abbrev pub search : ℕ → List Pair → List DuePair → Outcome
-search zero met due = cut_off
-search (suc n) met due = entered_first (λ more later. search n more later) met (unmet met due)
+abbrev pub search : ℕ → List Pair → List PendingPair → Outcome
+search zero met pending = cut_off
+search (suc n) met pending = entered_first (λ more later. search n more later) met (unmet met pending)
 
 -- the two shapes
-abbrev pub start : (old new : Form) → DuePair
+abbrev pub start : (old new : Form) → PendingPair
 start old new = record { path = []; pair = pair_of (placed no_fields old) (placed no_fields new) }
 
 -- the first pair, in depth-first order, that passes no row is at this path

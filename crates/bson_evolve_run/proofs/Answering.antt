@@ -13,7 +13,7 @@ use Rattle.bson_laws.specs.Plain.{IsPlain}
 use Rattle.bson_program.proofs.Answered.{quiet_told, Settles}
 use Rattle.bson_program.specs.Command.{IsRefused}
 use Rattle.bson_program.specs.Prepared.{Says}
-use Rattle.bson_program.specs.Program.{IsAnswered, IsDue}
+use Rattle.bson_program.specs.Program.{IsAnswered, IsExpected}
 use Rattle.bson_program.specs.declared.answer.Answer.{Answer}
 use Rattle.bson_program.specs.Run.{Run, AllQuiet, AreKept, AreWritten, Told}
 use Rattle.bson_program.specs.ShapeWord.{IsNotation}
@@ -23,7 +23,7 @@ use Rattle.bson_evolve_laws.specs.PlainTest.{is_plain}
 use Rattle.bson_evolve_laws.proofs.Decided.{fault_found, none_found}
 use Rattle.bson_evolve_laws.proofs.PlainTests.{plain_found, plain_passes}
 use Rattle.bson_evolve_run.specs.Lines.{new_word, not_plain_line, old_word, usage_line}
-use Rattle.bson_evolve_run.specs.Rows.{check_program, no_input, verdict_status, Answers, IsDueFor, IsNo, IsYes, WritesVerdict}
+use Rattle.bson_evolve_run.specs.Rows.{check_program, no_input, verdict_status, Answers, IsExpectedFor, IsNo, IsYes, WritesVerdict}
 use Rattle.bson_evolve_run.specs.TwoShapes.{or_line, plain_shapes, request, shape_of, shapes_of, two_shapes, AreGood, RefusesWord, Shapes}
 use Rattle.bson_evolve_run.specs.declared.status.CheckStatus.{CheckStatus}
 use Rattle.bson_evolve_run.specs.declared.status.CheckStatus.TheVariants as statuses
@@ -75,14 +75,14 @@ module _ (old new : Utf8) where
       by_tests t u = cond t (cond u (Ok (shapes_of a b)) (Err (not_plain_line new_word))) (Err (not_plain_line old_word))
 
       -- both shapes are read
-      pub due_is : (status : CheckStatus) (out lines : Bytes) → IsDueFor a b status out lines → IsDue check_program (old ∷ new ∷ []) no_input status out lines
-      due_is status out lines (inl h) =
+      pub expected_is : (status : CheckStatus) (out lines : Bytes) → IsExpectedFor a b status out lines → IsExpected check_program (old ∷ new ∷ []) no_input status out lines
+      expected_is status out lines (inl h) =
           inl (record {
             job = shapes_of a b;
             asked = record { asks = record { notations = words_are; good = h.0 }; is = request_is ∙ (λ i. by_tests (plain_passes a h.0.old_plain i) (plain_passes b h.0.new_plain i)) };
             answer = h;
           })
-      due_is status out lines (inr (inl h)) =
+      expected_is status out lines (inr (inl h)) =
           inr (record {
             ended = h.1.0;
             refused = record {
@@ -92,7 +92,7 @@ module _ (old new : Utf8) where
             unread = refl;
             nothing = h.1.1;
           })
-      due_is status out lines (inr (inr h)) =
+      expected_is status out lines (inr (inr h)) =
           inr (record {
             ended = h.2.0;
             refused = record {
@@ -113,22 +113,22 @@ not_two words n = record { refuses = inl (record { other = n; says = refl }); is
   by_words (a ∷ b ∷ c ∷ ws) n = refl
 
 -- an answer that is the line for words that ask for nothing
-usage_is : (words : List Utf8) (says line : Utf8) (a : Answer CheckStatus) → IsRefused two_shapes words says → line ≡ says → a.status ≡ statuses.Usage → a.bytes.items ≡ [] → string_bytes a.lines ≡ line → Says (IsDue check_program words no_input) a
+usage_is : (words : List Utf8) (says line : Utf8) (a : Answer CheckStatus) → IsRefused two_shapes words says → line ≡ says → a.status ≡ statuses.Usage → a.bytes.items ≡ [] → string_bytes a.lines ≡ line → Says (IsExpected check_program words no_input) a
 usage_is words says line a r e status bytes lines = inr (record { ended = status; refused = subst (IsRefused two_shapes words) (sym (lines ∙ e)) r; unread = refl; nothing = bytes })
 
-pub old_due : (old new line : Utf8) → RefusesWord old_word old line → shape_of old_word old ≡ Err line → (a : Answer CheckStatus) → a.status ≡ statuses.Usage → a.bytes.items ≡ [] → string_bytes a.lines ≡ line
-    → Says (IsDue check_program (old ∷ new ∷ []) no_input) a
-old_due old new line r e a status bytes lines = usage_is (old ∷ new ∷ []) line line a (old_refused old new line r e) refl status bytes lines
+pub old_expected : (old new line : Utf8) → RefusesWord old_word old line → shape_of old_word old ≡ Err line → (a : Answer CheckStatus) → a.status ≡ statuses.Usage → a.bytes.items ≡ [] → string_bytes a.lines ≡ line
+    → Says (IsExpected check_program (old ∷ new ∷ []) no_input) a
+old_expected old new line r e a status bytes lines = usage_is (old ∷ new ∷ []) line line a (old_refused old new line r e) refl status bytes lines
 
-pub new_due : (old new : Utf8) (s : Form) → IsNotation old s → shape_of old_word old ≡ Ok s → (line : Utf8) → RefusesWord new_word new line → shape_of new_word new ≡ Err line → (a : Answer CheckStatus) → a.status ≡ statuses.Usage → a.bytes.items ≡ []
-    → string_bytes a.lines ≡ line → Says (IsDue check_program (old ∷ new ∷ []) no_input) a
-new_due old new s first read line r e a status bytes lines = usage_is (old ∷ new ∷ []) line line a (new_refused old new s first read line r e) refl status bytes lines
+pub new_expected : (old new : Utf8) (s : Form) → IsNotation old s → shape_of old_word old ≡ Ok s → (line : Utf8) → RefusesWord new_word new line → shape_of new_word new ≡ Err line → (a : Answer CheckStatus) → a.status ≡ statuses.Usage → a.bytes.items ≡ []
+    → string_bytes a.lines ≡ line → Says (IsExpected check_program (old ∷ new ∷ []) no_input) a
+new_expected old new s first read line r e a status bytes lines = usage_is (old ∷ new ∷ []) line line a (new_refused old new s first read line r e) refl status bytes lines
 
 two_long : (ws : List (String Global)) → (length ws ≡ 2 → ⊥) → (old new : Utf8) → map string_bytes ws ≢ old ∷ new ∷ []
 two_long ws n old new e = let many : length ws ≡ 2 = sym (length-map ws string_bytes) ∙ ap length e in n many
 
-pub usage_due : (ws : List (String Global)) → (length ws ≡ 2 → ⊥) → (a : Answer CheckStatus) → a.status ≡ statuses.Usage → a.bytes.items ≡ [] → string_bytes a.lines ≡ usage_line → Says (IsDue check_program (map string_bytes ws) no_input) a
-usage_due ws n a status bytes lines = usage_is (map string_bytes ws) usage_line usage_line a (not_two (map string_bytes ws) (two_long ws n)) refl status bytes lines
+pub usage_expected : (ws : List (String Global)) → (length ws ≡ 2 → ⊥) → (a : Answer CheckStatus) → a.status ≡ statuses.Usage → a.bytes.items ≡ [] → string_bytes a.lines ≡ usage_line → Says (IsExpected check_program (map string_bytes ws) no_input) a
+usage_expected ws n a status bytes lines = usage_is (map string_bytes ws) usage_line usage_line a (not_two (map string_bytes ws) (two_long ws n)) refl status bytes lines
 
 pub two_words : (ws : List (String Global)) (v w : String Global) → length ws ≡ 2 → v ≡ get_or ws 0 v → w ≡ get_or ws 1 w → map string_bytes ws ≡ string_bytes v ∷ string_bytes w ∷ []
 two_words [] v w e a b = absurd (omega (arith, e))
@@ -148,7 +148,7 @@ writes_verdict old new r answers p q a b words quiet = by_end (quiet_told check_
       ∙ (λ i. cond (plain_passes old a i) (cond (plain_passes new b i) (Ok (shapes_of old new)) (Err (not_plain_line new_word))) (Err (not_plain_line old_word)))
 
   by_end : Told (Answers (shapes_of old new)) r ⊎ ((r.status ≡ statuses.NoMemory) × AreKept r.out r.err) → WritesVerdict r old new ⊎ ((r.status ≡ statuses.NoMemory) × AreKept r.out r.err)
-  by_end (inl h) = by_verdict h.bytes h.lines h.due.1 h.written where
+  by_end (inl h) = by_verdict h.bytes h.lines h.expected.1 h.written where
     by_verdict : (bytes lines : Bytes) → IsYes (shapes_of old new) r.status bytes lines ⊎ IsNo (shapes_of old new) r.status bytes lines → AreWritten bytes lines r.out r.err
         → WritesVerdict r old new ⊎ ((r.status ≡ statuses.NoMemory) × AreKept r.out r.err)
     by_verdict bytes lines (inl y) w =

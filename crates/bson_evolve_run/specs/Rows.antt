@@ -7,7 +7,7 @@ use Rattle.bson_values.specs.Refusal.{Path}
 use Rattle.bson_laws.specs.Plain.{IsPlain}
 use Rattle.bson_program.specs.Ends.{SourceChange}
 use Rattle.bson_program.specs.Program.{Program}
-use Rattle.bson_program.specs.Run.{Due, Run}
+use Rattle.bson_program.specs.Run.{Expected, Run}
 use Rattle.bson_evolve_laws.specs.Compatible.{IsCompatible}
 use Rattle.bson_evolve_laws.specs.First.{first_fault, IsFirstFault}
 use Rattle.bson_evolve_run.specs.Lines.{new_word, not_plain_line, old_word, verdict_line}
@@ -44,12 +44,12 @@ abbrev pub Answers : Shapes → CheckStatus → (out lines : Bytes) → Type 0
 Answers shapes status out lines = AreGood shapes × (IsYes shapes status out lines ⊎ IsNo shapes status out lines)
 
 -- a line alone, which tells why the words are not two plain shapes
-abbrev pub IsRefusal : Utf8 → Due CheckStatus
+abbrev pub IsRefusal : Utf8 → Expected CheckStatus
 IsRefusal says status out line = (status ≡ statuses.Usage) × (out ≡ []) × (line ≡ says)
 
 -- what must be written for two shapes: the verdict where both are plain, and else a line that tells which is not
-abbrev pub IsDueFor : (old new : Form) → Due CheckStatus
-IsDueFor old new status out lines =
+abbrev pub IsExpectedFor : (old new : Form) → Expected CheckStatus
+IsExpectedFor old new status out lines =
     Answers (shapes_of old new) status out lines
     ⊎ ((IsPlain old → ⊥) × IsRefusal (not_plain_line old_word) status out lines)
     ⊎ (IsPlain old × (IsPlain new → ⊥) × IsRefusal (not_plain_line new_word) status out lines)

@@ -7,12 +7,12 @@ ghost use Rattle.bson_shape.specs.Notation.{text};
 ghost use Rattle.bson_laws.specs.Plain.{IsPlain};
 ghost use Rattle.bson_program.specs.Ends.{sink_change};
 ghost use Rattle.bson_program.specs.Prepared.{Says};
-ghost use Rattle.bson_program.specs.Program.{IsDue, IsAnswered};
+ghost use Rattle.bson_program.specs.Program.{IsExpected, IsAnswered};
 ghost use Rattle.bson_program.specs.Run.{run_of, AllQuiet, AreKept};
 ghost use Rattle.bson_values.specs.PathView.{path_view};
 ghost use Rattle.bson_evolve_check.specs.Checks.{Checks, IsVerdict};
 ghost use Rattle.bson_evolve_run.specs.Lines.{old_word, verdict_line};
-ghost use Rattle.bson_evolve_run.specs.Rows.{check_program, no_input, Answers, IsDueFor, IsRefusal, WritesVerdict};
+ghost use Rattle.bson_evolve_run.specs.Rows.{check_program, no_input, Answers, IsExpectedFor, IsRefusal, WritesVerdict};
 ghost use Rattle.bson_evolve_run.specs.TwoShapes.{shapes_of, AreGood, IsShapeOf};
 ghost use Rattle.bson_evolve_run.specs.declared.status.CheckStatus.TheVariants as statuses;
 
@@ -84,7 +84,7 @@ fn answer_to_verdict(alloc: Global, verdict: Verdict) -> Result<Answer<CheckStat
 
 // What must be written for two shapes that are not compared. An error means out of memory.
 fn answer_to_error(alloc: Global, error: CheckError) -> Result<Answer<CheckStatus>, AllocError>
-    ensures { IfOk result (λ a. (old new : Form) → Checks (Err error) old new → Says (IsDueFor old new) a) }
+    ensures { IfOk result (λ a. (old new : Form) → Checks (Err error) old new → Says (IsExpectedFor old new) a) }
 {
     match error {
         CheckError::OldNotPlain => refusal(alloc, OLD_NOT_PLAIN),
@@ -95,7 +95,7 @@ fn answer_to_error(alloc: Global, error: CheckError) -> Result<Answer<CheckStatu
 
 // What must be written for two shapes. An error means out of memory.
 fn answer_to(alloc: Global, old: &Shape, new: &Shape) -> Result<Answer<CheckStatus>, AllocError>
-    ensures { IfOk result (Says (IsDueFor old.now new.now)) }
+    ensures { IfOk result (Says (IsExpectedFor old.now new.now)) }
 {
     old.known();
     new.known();
@@ -111,7 +111,7 @@ fn answer_to_second(
     old: &Shape,
     word: &str,
 ) -> Result<Answer<CheckStatus>, AllocError>
-    ensures { IfOk result (λ a. (first : Utf8) → IsShapeOf old_word first (Ok old.now) → Says (IsDue check_program (first ∷ word.now ∷ []) no_input) a) }
+    ensures { IfOk result (λ a. (first : Utf8) → IsShapeOf old_word first (Ok old.now) → Says (IsExpected check_program (first ∷ word.now ∷ []) no_input) a) }
 {
     match shape_of(alloc, "new", word)? {
         Ok(new) => answer_to(alloc, old, &new),
@@ -121,7 +121,7 @@ fn answer_to_second(
 
 // What must be written for two words: both are read, the old one first, before they are compared. An error means out of memory.
 fn answer_to_words(alloc: Global, old: &str, new: &str) -> Result<Answer<CheckStatus>, AllocError>
-    ensures { IfOk result (Says (IsDue check_program (old.now ∷ new.now ∷ []) no_input)) }
+    ensures { IfOk result (Says (IsExpected check_program (old.now ∷ new.now ∷ []) no_input)) }
 {
     match shape_of(alloc, "old", old)? {
         Ok(shape) => answer_to_second(alloc, &shape, new),
@@ -131,7 +131,7 @@ fn answer_to_words(alloc: Global, old: &str, new: &str) -> Result<Answer<CheckSt
 
 // What must be written for these words. An error means out of memory.
 fn prepare(alloc: Global, words: &[String]) -> Result<Answer<CheckStatus>, AllocError>
-    ensures { IfOk result (Says (IsDue check_program (map string_bytes words.now) no_input)) }
+    ensures { IfOk result (Says (IsExpected check_program (map string_bytes words.now) no_input)) }
 {
     if words.len() != 2 {
         return refusal(alloc, USAGE);

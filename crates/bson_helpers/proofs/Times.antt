@@ -8,7 +8,7 @@ use Rattle.bson_values.specs.declared.de.Error.{Error}
 use Rattle.bson_traits.specs.Answers.{Reading, FailsAs}
 use Rattle.bson_helpers.specs.Dates.{ReadsTime}
 
-failed : (due : Reading ℤ) (e : Error) (f : Failure ReadFault) → read_failure e ≡ f → FailsAs f due → ReadsTime due (Err e)
+failed : (expected : Reading ℤ) (e : Error) (f : Failure ReadFault) → read_failure e ≡ f → FailsAs f expected → ReadsTime expected (Err e)
 failed (Ok n) e no_memory is h = inl is
 failed (Ok n) e (bare f) is h = absurd cc
 failed (Ok n) e (placed path f) is h = absurd cc
@@ -17,9 +17,9 @@ failed (Err g) e (bare f) is h = inr cc
 failed (Err g) e (placed path f) is h = inr cc
 
 -- no time is read
-pub not_read : (due : Reading ℤ) (e : Error) → FailsAs (read_failure e) due → ReadsTime due (Err e)
-not_read due e h = failed due e (read_failure e) refl h
+pub not_read : (expected : Reading ℤ) (e : Error) → FailsAs (read_failure e) expected → ReadsTime expected (Err e)
+not_read expected e h = failed expected e (read_failure e) refl h
 
 -- a time is read
-pub time_read : (due : Reading ℤ) (n : ℤ) (r : Result (String Global) Error) → due ≡ Ok n → ReadsTime (Ok n) r → ReadsTime due r
-time_read due n r is h = subst (λ d. ReadsTime d r) (sym is) h
+pub time_read : (expected : Reading ℤ) (n : ℤ) (r : Result (String Global) Error) → expected ≡ Ok n → ReadsTime (Ok n) r → ReadsTime expected r
+time_read expected n r is h = subst (λ d. ReadsTime d r) (sym is) h

@@ -27,9 +27,9 @@ writes_shape file s r answers words told small is quiet =
       by_end : Told (Answers (inferring_of file)) r ⊎ ((r.status ≡ statuses.NoMemory) × AreKept r.out r.err) → WritesShape r s ⊎ ((r.status ≡ statuses.NoMemory) × AreKept r.out r.err)
       by_end (inl h) =
           inl (record {
-            status = h.due.ended ∙ ap inferring_status is;
-            out_grew = subst (Appends r.out.before r.out.after) (h.due.writes ∙ ap output_of is) h.written.out_grew;
-            err_grew = subst (Appends r.err.before r.err.after) (h.due.says ∙ ap lines_of is) h.written.err_grew;
+            status = h.expected.ended ∙ ap inferring_status is;
+            out_grew = subst (Appends r.out.before r.out.after) (h.expected.writes ∙ ap output_of is) h.written.out_grew;
+            err_grew = subst (Appends r.err.before r.err.after) (h.expected.says ∙ ap lines_of is) h.written.err_grew;
           })
       by_end (inr h) = inr h
 

@@ -4,7 +4,7 @@ use Rattle.std.specs.Io.KnownBytes.{Appends}
 use Rattle.bson_kinds.specs.Text.{Bytes, Utf8}
 use Rattle.bson_program.specs.Input.{InputEnds, OnInput, input_status}
 use Rattle.bson_program.specs.Program.{Program}
-use Rattle.bson_program.specs.Run.{Run, Due}
+use Rattle.bson_program.specs.Run.{Run, Expected}
 use Rattle.bson_program.specs.ShapeWord.{newline}
 use Rattle.bson_shape.specs.Form.{Form}
 use Rattle.bson_shape.specs.Notation.{text}

@@ -18,6 +18,6 @@ pub fn law_infer_files()
 ///
 /// It does nothing.
 pub fn law_sound()
-    ensures found { (ps : Pairs) → is_sound ps ≡ true → IsSound (document ps) }
+    ensures sound { (ps : Pairs) → is_sound ps ≡ true → IsSound (document ps) }
     ensures passes { (ps : Pairs) → IsSound (document ps) → is_sound ps ≡ true }
 {}

@@ -6,7 +6,7 @@ ghost use Rattle.bson_base.specs.Tree.{Trees};
 ghost use Rattle.bson_shape.specs.Form.{Form};
 ghost use Rattle.bson_program.specs.Ends.{source_change, sink_change};
 ghost use Rattle.bson_program.specs.Prepared.{Says};
-ghost use Rattle.bson_program.specs.Program.{IsDue, IsAnswered};
+ghost use Rattle.bson_program.specs.Program.{IsExpected, IsAnswered};
 ghost use Rattle.bson_program.specs.Run.{run_of, AllQuiet, AreKept};
 ghost use Rattle.bson_infer_laws.specs.Encodings.{encodings};
 ghost use Rattle.bson_infer_laws.specs.Inferred.{inferred};
@@ -70,7 +70,7 @@ fn prepare<I: Source>(
     words: &[String],
     input: &mut I,
 ) -> Result<Answer<InferStatus>, AllocError>
-    ensures due { IfOk result (Says (IsDue infer_program (map string_bytes words.now) (source_change I.left I.faults input.old input.new))) }
+    ensures expected { IfOk result (Says (IsExpected infer_program (map string_bytes words.now) (source_change I.left I.faults input.old input.new))) }
     ensures later { I.faults input.old ≤ I.faults input.new }
 {
     if !words.is_empty() {

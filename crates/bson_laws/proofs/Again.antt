@@ -51,7 +51,7 @@ use Rattle.bson_laws.proofs.Given.{Differs, AreApart, IsGivenAny, AreGivenItems,
 use Rattle.bson_laws.proofs.Judged.{text_whole, by_null}
 use Rattle.bson_laws.proofs.RawAgain.{document_comes, array_comes, raw_comes}
 use Rattle.bson_laws.proofs.ReadBack.{distinct_from}
-use Rattle.bson_laws.proofs.Lent.{LeafLent, marked, text_lent, owned_same}
+use Rattle.bson_laws.proofs.Borrowed.{LeafBorrowed, marked, borrowed_text, owned_same}
 use Rattle.bson_laws.proofs.Mended.{tree_mended}
 use Rattle.bson_laws.proofs.Settled.{content_settled}
 use Rattle.bson_laws.proofs.Tame.{judged_then}
@@ -221,35 +221,35 @@ number_comes at l type n levels t h f e =
 character_whole : (c : ℕ) → IsScalar c → is_utf8 (encode_utf8 c) ≡ true
 character_whole c h = text-encode c h
 
-leaf_comes : (at : Sight) (l : Bool) (k : LeafKind) (v : Value) (levels : ℕ) (t : Tree) → IsShort t → LeafLent at l k → IsGivenLeaf k v → spell v levels ≡ Ok t → LeafComes at l k levels t
-leaf_comes at l anything v levels t small lent g e =
+leaf_comes : (at : Sight) (l : Bool) (k : LeafKind) (v : Value) (levels : ℕ) (t : Tree) → IsShort t → LeafBorrowed at l k → IsGivenLeaf k v → spell v levels ≡ Ok t → LeafComes at l k levels t
+leaf_comes at l anything v levels t small borrows_input g e =
     let h = any_comes at v levels t g e in (h.0, judged_then (tree_node at t levels) (read_any) h.0 h.1, ap (λ x. spell x levels) h.2 ∙ e, h.3)
-leaf_comes at l ignored value.unit levels t small lent g e = subst (LeafComes at l ignored levels) (ok_is null t e) (value.unit, refl, refl, tt)
-leaf_comes at l booleans (value.boolean b) levels t small lent g e = subst (LeafComes at l booleans levels) (ok_is (tree.boolean b) t e) (value.boolean b, refl, refl, tt)
-leaf_comes at l (numbers type) (value.integer other n) levels t small lent g e = number_comes at l type n levels t g.1 g.2 (ap (λ x. spell_number (written_as x) n) (sym g.0) ∙ e)
-leaf_comes at l doubles (value.double bits) levels t small lent g e = subst (LeafComes at l doubles levels) (ok_is (tree.double bits) t e) (value.double bits, refl, refl, g)
-leaf_comes at l characters (value.character c) levels t small lent g e =
+leaf_comes at l ignored value.unit levels t small borrows_input g e = subst (LeafComes at l ignored levels) (ok_is null t e) (value.unit, refl, refl, tt)
+leaf_comes at l booleans (value.boolean b) levels t small borrows_input g e = subst (LeafComes at l booleans levels) (ok_is (tree.boolean b) t e) (value.boolean b, refl, refl, tt)
+leaf_comes at l (numbers type) (value.integer other n) levels t small borrows_input g e = number_comes at l type n levels t g.1 g.2 (ap (λ x. spell_number (written_as x) n) (sym g.0) ∙ e)
+leaf_comes at l doubles (value.double bits) levels t small borrows_input g e = subst (LeafComes at l doubles levels) (ok_is (tree.double bits) t e) (value.double bits, refl, refl, g)
+leaf_comes at l characters (value.character c) levels t small borrows_input g e =
     subst (LeafComes at l characters levels) (ok_is (string (encode_utf8 c)) t e) (
       value.character c,
       ap (λ o. faultless o (node.string (piece at.texts (encode_utf8 c))) >>= read_leaf l characters) (text_whole at (encode_utf8 c) (character_whole c g)) ∙ ap (λ cs. read_character (one_character cs)) (one_again c g),
       refl,
       character_whole c g,
     )
-leaf_comes at l texts (value.str x) levels t small lent g e =
-    let h = text_lent at l x (value.str x) lent refl in
+leaf_comes at l texts (value.str x) levels t small borrows_input g e =
+    let h = borrowed_text at l x (value.str x) borrows_input refl in
     subst (LeafComes at l texts levels) (ok_is (string x) t e)
     (h.0, ap (λ o. faultless o (node.string (piece at.texts x)) >>= read_leaf l texts) (text_whole at x g) ∙ h.1, ap (λ w. spell w levels) h.2, g)
-leaf_comes at l byte_strings (value.bytes bs) levels t small lent g e =
-    subst (λ u. spell (value.bytes bs) levels ≡ Ok u → LeafComes at l byte_strings levels u) (binary_is _ _ 0 bs t e) (λ q. (value.bytes (piece at.bytes bs), ap (λ b. result_map value.bytes (cond b (Ok (piece at.bytes bs)) (refused not_borrowed))) lent, q, tt)) e
-leaf_comes at l byte_buffers (value.bytes bs) levels t small lent g e =
+leaf_comes at l byte_strings (value.bytes bs) levels t small borrows_input g e =
+    subst (λ u. spell (value.bytes bs) levels ≡ Ok u → LeafComes at l byte_strings levels u) (binary_is _ _ 0 bs t e) (λ q. (value.bytes (piece at.bytes bs), ap (λ b. result_map value.bytes (cond b (Ok (piece at.bytes bs)) (refused not_borrowed))) borrows_input, q, tt)) e
+leaf_comes at l byte_buffers (value.bytes bs) levels t small borrows_input g e =
     subst (λ u. spell (value.bytes bs) levels ≡ Ok u → LeafComes at l byte_buffers levels u) (binary_is _ _ 0 bs t e) (λ q. (value.bytes (made bs), refl, q, tt)) e
-leaf_comes at l units value.unit levels t small lent g e = subst (LeafComes at l units levels) (ok_is null t e) (value.unit, refl, refl, tt)
-leaf_comes at l (extended_values k) v levels t small lent g e =
+leaf_comes at l units value.unit levels t small borrows_input g e = subst (LeafComes at l units levels) (ok_is null t e) (value.unit, refl, refl, tt)
+leaf_comes at l (extended_values k) v levels t small borrows_input g e =
     let h = extended_comes at k v levels t g e in (h.0, judged_then (tree_node at t levels) (read_extended k) h.0 h.1, h.2, h.3)
-leaf_comes at l raw_documents (value.raw_document b) levels t small lent g e = document_comes at b levels t g e
-leaf_comes at l raw_arrays (value.raw_array b) levels t small lent g e = array_comes at b levels t g e
-leaf_comes at l raw_values v levels t small lent g e = raw_comes at v levels t small g e
-leaf_comes at l k v levels t small lent g e = absurd g
+leaf_comes at l raw_documents (value.raw_document b) levels t small borrows_input g e = document_comes at b levels t g e
+leaf_comes at l raw_arrays (value.raw_array b) levels t small borrows_input g e = array_comes at b levels t g e
+leaf_comes at l raw_values v levels t small borrows_input g e = raw_comes at v levels t small g e
+leaf_comes at l k v levels t small borrows_input g e = absurd g
 
 -- ---- keys
 
@@ -257,15 +257,15 @@ leaf_comes at l k v levels t small lent g e = absurd g
 abbrev KeyComes : (at : Sight) → (Piece → Reading Marked) → Value → Utf8 → Type 0
 KeyComes at read k x = (m : Marked) × (read (piece at.texts x) ≡ Ok m) × (contents m ≡ k)
 
-leaf_key_comes : (at : Sight) (l : Bool) (k : LeafKind) (v : Value) (x : Utf8) → LeafLent at l k → IsGivenLeafKey k v → key_text v ≡ Some x → KeyComes at (λ key. read_leaf_with no_extended l k (node.string key)) v x
-leaf_key_comes at l anything (value.str y) x lent g e = (value.str (piece at.texts x), refl, ap value.str (sym (some_is y x e)))
-leaf_key_comes at l raw_values (value.str y) x lent g e = (value.str (piece at.texts x), refl, ap value.str (sym (some_is y x e)))
-leaf_key_comes at l texts (value.str y) x lent g e = let h = text_lent at l x (value.str x) lent refl in (h.0, h.1, h.2 ∙ ap value.str (sym (some_is y x e)))
-leaf_key_comes at l characters (value.character c) x lent g e = absurd cc
-leaf_key_comes at l byte_strings (value.bytes bs) x lent g e = absurd cc
-leaf_key_comes at l byte_buffers (value.bytes bs) x lent g e = absurd cc
-leaf_key_comes at l ignored value.unit x lent g e = absurd cc
-leaf_key_comes at l k v x lent g e = absurd g
+leaf_key_comes : (at : Sight) (l : Bool) (k : LeafKind) (v : Value) (x : Utf8) → LeafBorrowed at l k → IsGivenLeafKey k v → key_text v ≡ Some x → KeyComes at (λ key. read_leaf_with no_extended l k (node.string key)) v x
+leaf_key_comes at l anything (value.str y) x borrows_input g e = (value.str (piece at.texts x), refl, ap value.str (sym (some_is y x e)))
+leaf_key_comes at l raw_values (value.str y) x borrows_input g e = (value.str (piece at.texts x), refl, ap value.str (sym (some_is y x e)))
+leaf_key_comes at l texts (value.str y) x borrows_input g e = let h = borrowed_text at l x (value.str x) borrows_input refl in (h.0, h.1, h.2 ∙ ap value.str (sym (some_is y x e)))
+leaf_key_comes at l characters (value.character c) x borrows_input g e = absurd cc
+leaf_key_comes at l byte_strings (value.bytes bs) x borrows_input g e = absurd cc
+leaf_key_comes at l byte_buffers (value.bytes bs) x borrows_input g e = absurd cc
+leaf_key_comes at l ignored value.unit x borrows_input g e = absurd cc
+leaf_key_comes at l k v x borrows_input g e = absurd g
 
 key_comes : (at : Sight) (s : Form) (k : Value) (x : Utf8) → IsGivenKey at s k → key_text k ≡ Some x → KeyComes at (reads_key s) k x
 key_comes at (leaf l) k x g e = leaf_key_comes at (borrows l) (leaf_kind l) k x g.1 g.0 e
@@ -422,37 +422,37 @@ lossy_comes at s levels t h = (h.0, ap (reads s) (tree_mended at t levels h.3) �
 
 mutual
   pub again : (at : Sight) (v : Value) (s : Form) (levels : ℕ) (t : Tree) → IsShape s → IsSettled s → IsGiven at v s → IsShort t → spell v levels ≡ Ok t → Comes at s levels t
-  again at v (leaf l) levels t p due g small e = leaf_comes at (borrows l) (leaf_kind l) v levels t small (given_leaf at v l g).1 (given_leaf at v l g).0 e
-  again at v (lossy s) levels t p due g small e = lossy_comes at s levels t (again (marked at) v s levels t p due (given_lossy at v s g) small e)
-  again at v (human_readable s) levels t p due g small e = absurd due
-  again at v (by_mode readable compact) levels t p due g small e = absurd due
-  again at v (definitions h s) levels t p due g small e = again at v s levels t p due.1 (given_body at v h s g) small e
-  again at value.none (optional s) levels t p due g small e = subst (Comes at (optional s) levels) (ok_is null t e) (value.none, refl, refl, tt)
-  again at (value.some v) (optional s) levels t p due g small e = option_comes at s t levels (again at v s levels t p due g small e)
-  again at (value.newtype m v) (newtype n s) levels t p due g small e =
-      let h = again at v s levels t p.1 due g.1 small (sym (free_spelled m v levels (ap is_reserved_newtype g.0 ∙ p.0.free)) ∙ e) in
+  again at v (leaf l) levels t p expected g small e = leaf_comes at (borrows l) (leaf_kind l) v levels t small (given_leaf at v l g).1 (given_leaf at v l g).0 e
+  again at v (lossy s) levels t p expected g small e = lossy_comes at s levels t (again (marked at) v s levels t p expected (given_lossy at v s g) small e)
+  again at v (human_readable s) levels t p expected g small e = absurd expected
+  again at v (by_mode readable compact) levels t p expected g small e = absurd expected
+  again at v (definitions h s) levels t p expected g small e = again at v s levels t p expected.1 (given_body at v h s g) small e
+  again at value.none (optional s) levels t p expected g small e = subst (Comes at (optional s) levels) (ok_is null t e) (value.none, refl, refl, tt)
+  again at (value.some v) (optional s) levels t p expected g small e = option_comes at s t levels (again at v s levels t p expected g small e)
+  again at (value.newtype m v) (newtype n s) levels t p expected g small e =
+      let h = again at v s levels t p.1 expected g.1 small (sym (free_spelled m v levels (ap is_reserved_newtype g.0 ∙ p.0.free)) ∙ e) in
       (value.newtype (made n) h.0, ap (result_map (value.newtype (made n))) h.1, free_spelled n (contents h.0) levels p.0.free ∙ h.2, h.3)
-  again at (value.unit_structure m) (unit_structure n) levels t p due g small e = subst (Comes at (unit_structure n) levels) (ok_is null t e) (value.unit_structure (made n), refl, refl, tt)
-  again at (value.sequence vs) (sequence s) levels t p due g small e =
-      let h = items_body at (reads_items (reads s) 0) vs levels t small e (λ k ts short q. again_items at vs s 0 k ts p due g short q) in
+  again at (value.unit_structure m) (unit_structure n) levels t p expected g small e = subst (Comes at (unit_structure n) levels) (ok_is null t e) (value.unit_structure (made n), refl, refl, tt)
+  again at (value.sequence vs) (sequence s) levels t p expected g small e =
+      let h = items_body at (reads_items (reads s) 0) vs levels t small e (λ k ts short q. again_items at vs s 0 k ts p expected g short q) in
       (value.sequence h.0, built_of (judged (tree_node at t levels) >>= array_of) (reads_items (reads s) 0) value.sequence h.0 h.1, h.2, h.3)
-  again at (value.map es) (map key s) levels t p due g small e =
+  again at (value.map es) (map key s) levels t p expected g small e =
       within (λ n u. IsShort u → Comes at (map key s) n u) document levels (spell_entries es) t e
       (λ n ps q short.
-      let h = again_entries at es key s n ps no_entries p.1 p.2 due g.0 g.1 (new_to_none es) (omega (arith, short, elements_size ps)) q in
+      let h = again_entries at es key s n ps no_entries p.1 p.2 expected g.0 g.1 (new_to_none es) (omega (arith, short, elements_size ps)) q in
       (value.map h.0, ap (result_map value.map) h.1, ap (result_map document) h.2, h.3)) small
-  again at (value.tuple vs) (tuple ps) levels t p due g small e =
-      let h = items_body at (reads_parts ps 0) vs levels t small e (λ k ts short q. again_parts at vs ps 0 k ts p due g short q) in
+  again at (value.tuple vs) (tuple ps) levels t p expected g small e =
+      let h = items_body at (reads_parts ps 0) vs levels t small e (λ k ts short q. again_parts at vs ps 0 k ts p expected g short q) in
       (value.tuple h.0, built_of (judged (tree_node at t levels) >>= array_of) (reads_parts ps 0) value.tuple h.0 h.1, h.2, h.3)
-  again at (value.tuple_structure m vs) (tuple_structure n ps) levels t p due g small e =
-      let h = items_body at (reads_parts ps 0) vs levels t small e (λ k ts short q. again_parts at vs ps 0 k ts p.1 due g.1 short q) in
+  again at (value.tuple_structure m vs) (tuple_structure n ps) levels t p expected g small e =
+      let h = items_body at (reads_parts ps 0) vs levels t small e (λ k ts short q. again_parts at vs ps 0 k ts p.1 expected g.1 short q) in
       (value.tuple_structure (made n) h.0, built_of (judged (tree_node at t levels) >>= array_of) (reads_parts ps 0) (value.tuple_structure (made n)) h.0 h.1, h.2, h.3)
-  again at (value.structure m vs) (structure u n fs) levels t p due g small e =
+  again at (value.structure m vs) (structure u n fs) levels t p expected g small e =
       let free = ap reserved_kind g.0 ∙ p.0.free in
       let spelled : enclosed_at document levels (spell_fields vs) ≡ Ok t = sym (free_struct m vs levels free) ∙ e in
-      let h = fields_body at u fs vs levels t small (distinct_from fs p.0.distinct) spelled (λ k ps short q. again_fields at vs fs k ps p.1 due (distinct_from fs p.0.distinct) g.1 short q) in
+      let h = fields_body at u fs vs levels t small (distinct_from fs p.0.distinct) spelled (λ k ps short q. again_fields at vs fs k ps p.1 expected (distinct_from fs p.0.distinct) g.1 short q) in
       (value.structure (made n) h.0, built_of (judged (tree_node at t levels)) (read_struct u fs) (value.structure (made n)) h.0 h.1, free_struct n (field_contents h.0) levels p.0.free ∙ h.2, h.3)
-  again at (value.unit_variant name) (enumeration vs) levels t p due g small e =
+  again at (value.unit_variant name) (enumeration vs) levels t p expected g small e =
       let whole = (variant_shape vs name unit_content p.1 g).0 in
       subst (Comes at (enumeration vs) levels) (ok_is (string name) t e) (
         value.unit_variant (made name),
@@ -460,47 +460,47 @@ mutual
         refl,
         whole,
       )
-  again at (value.newtype_variant name v) (enumeration vs) levels t p due g small e =
+  again at (value.newtype_variant name v) (enumeration vs) levels t p expected g small e =
       variant_comes at vs name levels (spell v) t small (variant_shape vs name (newtype_content g.0) p.1 g.1).0 e
       (λ n u short q.
-      let h = again at v g.0 n u (variant_shape vs name (newtype_content g.0) p.1 g.1).1 (content_settled vs name (newtype_content g.0) due g.1) g.2 short q in (
+      let h = again at v g.0 n u (variant_shape vs name (newtype_content g.0) p.1 g.1).1 (content_settled vs name (newtype_content g.0) expected g.1) g.2 short q in (
         value.newtype_variant (made name) h.0,
         variant_read vs name (newtype_content g.0) (tree_node at u n) g.1 ∙ ap (λ r. under name (result_map (value.newtype_variant (made name)) r)) h.1,
         ap (λ r. result_map document (named name r >>= one_pair name)) h.2,
         h.3,
       ))
-  again at (value.tuple_variant name ws) (enumeration vs) levels t p due g small e =
+  again at (value.tuple_variant name ws) (enumeration vs) levels t p expected g small e =
       variant_comes at vs name levels (λ n. enclosed_at array n (spell_items 0 ws)) t small (variant_shape vs name (tuple_content g.0) p.1 g.1).0 e
       (λ n u short q.
-      let h = items_body at (reads_parts g.0 0) ws n u short q (λ k ts few r. again_parts at ws g.0 0 k ts (variant_shape vs name (tuple_content g.0) p.1 g.1).1 (content_settled vs name (tuple_content g.0) due g.1) g.2 few r) in (
+      let h = items_body at (reads_parts g.0 0) ws n u short q (λ k ts few r. again_parts at ws g.0 0 k ts (variant_shape vs name (tuple_content g.0) p.1 g.1).1 (content_settled vs name (tuple_content g.0) expected g.1) g.2 few r) in (
         value.tuple_variant (made name) h.0,
         variant_read vs name (tuple_content g.0) (tree_node at u n) g.1
             ∙ ap (under name) (built_of (judged (tree_node at u n) >>= array_of) (reads_parts g.0 0) (value.tuple_variant (made name)) h.0 h.1),
         ap (λ r. result_map document (named name r >>= one_pair name)) h.2,
         h.3,
       ))
-  again at (value.structure_variant name ws) (enumeration vs) levels t p due g small e =
+  again at (value.structure_variant name ws) (enumeration vs) levels t p expected g small e =
       variant_comes at vs name levels (λ n. enclosed_at document n (spell_fields ws)) t small (variant_shape vs name (struct_content g.0) p.1 g.1).0 e
       (λ n u short q.
       let shape = (variant_shape vs name (struct_content g.0) p.1 g.1).1 in
       let distinct = distinct_from g.0 shape.0 in
-      let h = fields_body at dropped g.0 ws n u short distinct q (λ k ps few r. again_fields at ws g.0 k ps shape.1 (content_settled vs name (struct_content g.0) due g.1) distinct g.2 few r) in (
+      let h = fields_body at dropped g.0 ws n u short distinct q (λ k ps few r. again_fields at ws g.0 k ps shape.1 (content_settled vs name (struct_content g.0) expected g.1) distinct g.2 few r) in (
         value.structure_variant (made name) h.0,
         variant_read vs name (struct_content g.0) (tree_node at u n) g.1
             ∙ ap (under name) (built_of (judged (tree_node at u n)) (read_struct dropped g.0) (value.structure_variant (made name)) h.0 h.1),
         ap (λ r. result_map document (named name r >>= one_pair name)) h.2,
         h.3,
       ))
-  again at v s levels t p due g small e = absurd g
+  again at v s levels t p expected g small e = absurd g
 
   again_items : (at : Sight) (vs : Items) (s : Form) (i n : ℕ) (ts : Trees) → IsShape s → IsSettled s → ItemsGiven at vs s → AreShort i ts → spell_items i vs n ≡ Ok ts → (ms : MarkedItems) × (reads_items (reads s) i (tree_nodes at i ts n) ≡ Ok ms) × (spell_items i (item_contents ms) n ≡ Ok ts) × AreTreesCoded ts
-  again_items at no_items s i n ts p due g small e = subst (λ x. (ms : MarkedItems) × (reads_items (reads s) i (tree_nodes at i x n) ≡ Ok ms) × (spell_items i (item_contents ms) n ≡ Ok x) × AreTreesCoded x) (ok_is no_trees ts e) (no_items, refl, refl, tt)
-  again_items at (item v vs) s i n ts p due g small e =
+  again_items at no_items s i n ts p expected g small e = subst (λ x. (ms : MarkedItems) × (reads_items (reads s) i (tree_nodes at i x n) ≡ Ok ms) × (spell_items i (item_contents ms) n ≡ Ok x) × AreTreesCoded x) (ok_is no_trees ts e) (no_items, refl, refl, tt)
+  again_items at (item v vs) s i n ts p expected g small e =
       let a = bind_ok (under_index i (spell v n)) (λ t. spell_items (suc i) vs n >>= λ us. Ok (tree.tree t us)) ts e in
       let b = bind_ok (spell_items (suc i) vs n) (λ us. Ok (tree.tree a.0 us)) ts a.2 in
       let short = subst (AreShort i) (sym (ok_is (tree.tree a.0 b.0) ts b.2)) small in
-      let first = again at v s n a.0 p due g.0 (omega (arith, short, first_size i a.0 b.0)) (inside_ok (at_index i) (spell v n) a.0 a.1) in
-      let rest = again_items at vs s (suc i) n b.0 p due g.1 (omega (arith, short, later_size i a.0 b.0)) b.1 in
+      let first = again at v s n a.0 p expected g.0 (omega (arith, short, first_size i a.0 b.0)) (inside_ok (at_index i) (spell v n) a.0 a.1) in
+      let rest = again_items at vs s (suc i) n b.0 p expected g.1 (omega (arith, short, later_size i a.0 b.0)) b.1 in
       subst (λ x. (ms : MarkedItems) × (reads_items (reads s) i (tree_nodes at i x n) ≡ Ok ms) × (spell_items i (item_contents ms) n ≡ Ok x) × AreTreesCoded x) (ok_is (tree.tree a.0 b.0) ts b.2) (
         item first.0 rest.0,
         ap (λ r. under_index i r >>= λ w. result_map (item w) (reads_items (reads s) (suc i) (tree_nodes at (suc i) b.0 n))) first.1 ∙ ap (result_map (item first.0)) rest.1,
@@ -509,34 +509,34 @@ mutual
       )
 
   again_parts : (at : Sight) (vs : Items) (ps : Parts) (i n : ℕ) (ts : Trees) → AreParts ps → ArePartsSettled ps → PartsGiven at vs ps → AreShort i ts → spell_items i vs n ≡ Ok ts → (ms : MarkedItems) × (reads_parts ps i (tree_nodes at i ts n) ≡ Ok ms) × (spell_items i (item_contents ms) n ≡ Ok ts) × AreTreesCoded ts
-  again_parts at no_items no_parts i n ts p due g small e = (no_items, refl, e, subst AreTreesCoded (ok_is no_trees ts e) tt)
-  again_parts at (item v vs) (part s ps) i n ts p due g small e =
+  again_parts at no_items no_parts i n ts p expected g small e = (no_items, refl, e, subst AreTreesCoded (ok_is no_trees ts e) tt)
+  again_parts at (item v vs) (part s ps) i n ts p expected g small e =
       let a = bind_ok (under_index i (spell v n)) (λ t. spell_items (suc i) vs n >>= λ us. Ok (tree.tree t us)) ts e in
       let b = bind_ok (spell_items (suc i) vs n) (λ us. Ok (tree.tree a.0 us)) ts a.2 in
       let short = subst (AreShort i) (sym (ok_is (tree.tree a.0 b.0) ts b.2)) small in
-      let first = again at v s n a.0 p.0 due.0 g.0 (omega (arith, short, first_size i a.0 b.0)) (inside_ok (at_index i) (spell v n) a.0 a.1) in
-      let rest = again_parts at vs ps (suc i) n b.0 p.1 due.1 g.1 (omega (arith, short, later_size i a.0 b.0)) b.1 in
+      let first = again at v s n a.0 p.0 expected.0 g.0 (omega (arith, short, first_size i a.0 b.0)) (inside_ok (at_index i) (spell v n) a.0 a.1) in
+      let rest = again_parts at vs ps (suc i) n b.0 p.1 expected.1 g.1 (omega (arith, short, later_size i a.0 b.0)) b.1 in
       subst (λ x. (ms : MarkedItems) × (reads_parts (part s ps) i (tree_nodes at i x n) ≡ Ok ms) × (spell_items i (item_contents ms) n ≡ Ok x) × AreTreesCoded x) (ok_is (tree.tree a.0 b.0) ts b.2) (
         item first.0 rest.0,
         ap (λ r. under_index i r >>= λ w. result_map (item w) (reads_parts ps (suc i) (tree_nodes at (suc i) b.0 n))) first.1 ∙ ap (result_map (item first.0)) rest.1,
         ap (λ r. under_index i r >>= λ t. spell_items (suc i) (item_contents rest.0) n >>= λ us. Ok (tree.tree t us)) first.2 ∙ ap (λ r. r >>= λ us. Ok (tree.tree a.0 us)) rest.2,
         (first.3, rest.3),
       )
-  again_parts at vs ps i n ts p due g small e = absurd g
+  again_parts at vs ps i n ts p expected g small e = absurd g
 
   again_entries : (at : Sight) (es : Entries) (key s : Form) (n : ℕ) (ps : Pairs) (done : MarkedEntries) → IsShape key → IsShape s → IsSettled s → AreApart es → EntriesGiven at es key s → AreNewTo es (entry_contents done) → ArePairsShort ps → spell_entries es n ≡ Ok ps
       → (out : MarkedEntries) × (reads_entries (reads_key key) (reads s) (pair_nodes at ps n) done ≡ Ok (joined done out)) × (spell_entries (entry_contents out) n ≡ Ok ps) × ArePairsCoded ps
-  again_entries at no_entries key s n ps done w p due apart g new small e =
+  again_entries at no_entries key s n ps done w p expected apart g new small e =
       subst (λ x. (out : MarkedEntries) × (reads_entries (reads_key key) (reads s) (pair_nodes at x n) done ≡ Ok (joined done out)) × (spell_entries (entry_contents out) n ≡ Ok x) × ArePairsCoded x) (ok_is no_pairs ps e)
       (no_entries, ap Ok (sym (joined_none done)), refl, tt)
-  again_entries at (entry k v es) key s n ps done w p due apart g new small e =
+  again_entries at (entry k v es) key s n ps done w p expected apart g new small e =
       let a = bind_ok (spell_key k) (λ x. under x (spell v n) >>= λ t. spell_entries es n >>= λ qs. Ok (pair x t qs)) ps e in
       let b = bind_ok (under a.0 (spell v n)) (λ t. spell_entries es n >>= λ qs. Ok (pair a.0 t qs)) ps a.2 in
       let c = bind_ok (spell_entries es n) (λ qs. Ok (pair a.0 b.0 qs)) ps b.2 in
       let mk = key_comes at key k a.0 g.0 (spell_key_ok k a.0 a.1).0 in
       let short = subst ArePairsShort (sym (ok_is (pair a.0 b.0 c.0) ps c.2)) small in
-      let first = again at v s n b.0 p due g.1 (omega (arith, short, head_size a.0 b.0 c.0)) (under_ok a.0 (spell v n) b.0 b.1) in
-      let rest = again_entries at es key s n c.0 (joined done (entry mk.0 first.0 no_entries)) w p due apart.1 g.2 (new_to_marked es done mk.0 first.0 k v mk.2 apart.0 new.1) (omega (arith, short, tail_size a.0 b.0 c.0)) c.1 in
+      let first = again at v s n b.0 p expected g.1 (omega (arith, short, head_size a.0 b.0 c.0)) (under_ok a.0 (spell v n) b.0 b.1) in
+      let rest = again_entries at es key s n c.0 (joined done (entry mk.0 first.0 no_entries)) w p expected apart.1 g.2 (new_to_marked es done mk.0 first.0 k v mk.2 apart.0 new.1) (omega (arith, short, tail_size a.0 b.0 c.0)) c.1 in
       let read = reads_entries (reads_key key) (reads s) (pair_nodes at c.0 n) in
       subst (λ x. (out : MarkedEntries) × (reads_entries (reads_key key) (reads s) (pair_nodes at x n) done ≡ Ok (joined done out)) × (spell_entries (entry_contents out) n ≡ Ok x) × ArePairsCoded x) (ok_is (pair a.0 b.0 c.0) ps c.2) (
         entry mk.0 first.0 rest.0,
@@ -552,15 +552,15 @@ mutual
       )
 
   again_fields : (at : Sight) (vs : FieldValues) (fs : Fields) (n : ℕ) (ps : Pairs) → AreShapes fs → AreFieldsSettled fs → Distinct fs → FieldsGiven at vs fs → ArePairsShort ps → spell_fields vs n ≡ Ok ps → FieldsSeen at fs n ps
-  again_fields at no_field_values no_fields n ps p due d g small e = subst (FieldsSeen at no_fields n) (ok_is no_pairs ps e) (no_field_values, refl, refl, tt, tt)
-  again_fields at (field_value m v vs) (field name s fs) n ps p due d g small e =
+  again_fields at no_field_values no_fields n ps p expected d g small e = subst (FieldsSeen at no_fields n) (ok_is no_pairs ps e) (no_field_values, refl, refl, tt, tt)
+  again_fields at (field_value m v vs) (field name s fs) n ps p expected d g small e =
       let a = bind_ok (named m (spell v n)) (λ t. spell_fields vs n >>= λ qs. Ok (pair m t qs)) ps e in
       let b = bind_ok (spell_fields vs n) (λ qs. Ok (pair m a.0 qs)) ps a.2 in
       let ok = named_ok m (spell v n) a.0 a.1 in
       let there = ok.1 in
       let short = subst ArePairsShort (sym (ok_is (pair m a.0 b.0) ps b.2)) small in
-      let first = again at v s n a.0 p.1 due.0 g.1 (omega (arith, short, head_size m a.0 b.0)) there in
-      let rest = again_fields at vs fs n b.0 p.2 due.1 d.1 g.2 (omega (arith, short, tail_size m a.0 b.0)) b.1 in
+      let first = again at v s n a.0 p.1 expected.0 g.1 (omega (arith, short, head_size m a.0 b.0)) there in
+      let rest = again_fields at vs fs n b.0 p.2 expected.1 d.1 g.2 (omega (arith, short, tail_size m a.0 b.0)) b.1 in
       let same = bytes_eq-refl name in
       subst (FieldsSeen at (field name s fs) n) (ok_is (pair m a.0 b.0) ps b.2) (
         field_value (made name) first.0 rest.0,
@@ -574,4 +574,4 @@ mutual
         (g.0, rest.3),
         ((ap is_utf8 g.0 ∙ p.0, ok.0), first.3, rest.4),
       )
-  again_fields at vs fs n ps p due d g small e = absurd g
+  again_fields at vs fs n ps p expected d g small e = absurd g

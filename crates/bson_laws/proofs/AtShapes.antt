@@ -89,7 +89,7 @@ document_numbers s bytes v are e = documents.document_numbers (whole s) bytes v 
 -- what was read and written is read again, and written as the same bytes
 pub document_again : (s : Form) (bytes : Bytes) (v : Value) (t : Tree) → IsShape s → IsSettled s → AreBytes bytes → reads_document s bytes ≡ Ok v → spell_document v ≡ Ok t → length (enc t) ≤ max_bytes
     → (w : Value) × (reads_document s (enc t) ≡ Ok w) × (spell_document w ≡ Ok t)
-document_again s bytes v t p due are e q l = read_again.document_again (whole s) bytes v t (shape_whole s p) (settled_whole s due) are e q l
+document_again s bytes v t p expected are e q l = read_again.document_again (whole s) bytes v t (shape_whole s p) (settled_whole s expected) are e q l
 
 -- what is read at a shape that borrows nothing is read where texts are mended
 pub value_marked : (s : Form) (n : Node) (m : Marked) → IsOwned s → IsMarked n → reads s n ≡ Ok m → ReadAs contents (reads (lossy s) n) (contents m)

@@ -32,7 +32,7 @@ use Rattle.bson_laws.specs.Shaped as shaped
 use Rattle.bson_laws.specs.Views.{one_character}
 use Rattle.bson_laws.proofs.ChangedNodes.{Change, changed, changed_value, changed_nodes}
 use Rattle.bson_laws.proofs.Judged.{ReadAs, both_whole}
-use Rattle.bson_laws.proofs.Lent.{owned_same}
+use Rattle.bson_laws.proofs.Borrowed.{owned_same}
 use Rattle.bson_laws.proofs.Sizes.{inside_ok, under_ok}
 
 -- The second change follows the first: a text that is one after the first has the same bytes after the second, and both commute with mending.
@@ -40,8 +40,8 @@ pub record Follows (a b : Change) (is_bare : Bool) : Type 0 where
   pub texts : (t : Piece) → is_utf8 (a.text t).bytes ≡ true → (b.text t).bytes ≡ (a.text t).bytes
   -- where it is bare, nothing is in the input after the first
   pub no_text : is_bare ≡ true → (t : Piece) → (a.text t).in_input ≡ false
-  pub no_key : is_bare ≡ true → (k : Piece) → a.lends_key k ≡ false
-  pub no_bytes : is_bare ≡ true → (x : Piece) → a.lends_bytes x ≡ false
+  pub no_key : is_bare ≡ true → (k : Piece) → a.borrows_key k ≡ false
+  pub no_bytes : is_bare ≡ true → (x : Piece) → a.borrows_bytes x ≡ false
   pub slices : (s : Whole) (p : Piece) → slice_of (a.slice s) ≡ Ok p → slice_of (b.slice s) ≡ Ok p
   pub mends : (n : Node) → mended (changed a n) ≡ changed a (mended n)
   pub mends_then : (n : Node) → changed b (mended n) ≡ mended (changed b n)
@@ -222,8 +222,8 @@ module _ (a b : Change) (is_bare : Bool) (f : Follows a b is_bare) where
     pass_after place i (faulty g) e = absurd cc
     pass_after place i (then_node key n ns) e =
         let r = judged (before n) >>= λ _. passes (before n) in
-        let first = piece (a.lends_key key) key.bytes in
-        let second = piece (b.lends_key key) key.bytes in
+        let first = piece (a.borrows_key key) key.bytes in
+        let second = piece (b.borrows_key key) key.bytes in
         let d = bind_ok (inside (place i first) r) (λ _. pass_nodes place (suc i) (nodes_before ns)) tt e in
         let j = then_after n (passes (before n)) tt (inside_ok (place i first) r tt d.1) in
         ap (λ q. inside (place i second) (q >>= λ _. passes (after n)) >>= λ _. pass_nodes place (suc i) (nodes_after ns)) j.1
@@ -237,25 +237,25 @@ module _ (a b : Change) (is_bare : Bool) (f : Follows a b is_bare) where
 
   -- a binary where it is not taken as a byte string
   abbrev binary_before : Bool → Piece → Piece
-  binary_before u x = owned_under_mark (a.marks u x) (piece (a.lends_bytes x) x.bytes)
+  binary_before u x = owned_under_mark (a.marks u x) (piece (a.borrows_bytes x) x.bytes)
 
   abbrev binary_after : Bool → Piece → Piece
-  binary_after u x = owned_under_mark (b.marks u x) (piece (b.lends_bytes x) x.bytes)
+  binary_after u x = owned_under_mark (b.marks u x) (piece (b.borrows_bytes x) x.bytes)
 
   binary_same : (u : Bool) (x : Piece) → (binary_before u x).bytes ≡ (binary_after u x).bytes
-  binary_same u x = owned_same (a.marks u x) (piece (a.lends_bytes x) x.bytes) ∙ sym (owned_same (b.marks u x) (piece (b.lends_bytes x) x.bytes))
+  binary_same u x = owned_same (a.marks u x) (piece (a.borrows_bytes x) x.bytes) ∙ sym (owned_same (b.marks u x) (piece (b.borrows_bytes x) x.bytes))
 
   pub text_after : (l : Bool) (n : Node) (p : Piece) → (is_bare ≡ false → IsTextOwned l) → IsWhole n → text_of l (before n) ≡ Ok p → ReadAs bytes_in (text_of l (after n)) p.bytes
   text_after l (string t) p owned w e =
       let h = own_as is_bare l (a.text t) (b.text t) p (λ o. f.no_text o t) owned (sym (text_same t w)) e in (made (b.text t).bytes, h.0, sym h.1)
   text_after l (bytes u x) p owned w e =
-      binary_as is_bare l (binary_before u x) (binary_after u x) p (λ o. owned_unlent (a.marks u x) (piece (a.lends_bytes x) x.bytes) (f.no_bytes o x)) owned (binary_same u x) e
+      binary_as is_bare l (binary_before u x) (binary_after u x) p (λ o. owned_unlent (a.marks u x) (piece (a.borrows_bytes x) x.bytes) (f.no_bytes o x)) owned (binary_same u x) e
   text_after l n p owned w e = absurd cc
 
   bytes_after : (n : Node) (p : Piece) → (is_bare ≡ false → ⊥) → bytes_of (before n) ≡ Ok p → ⊥
   bytes_after (string t) p owned e = never is_bare (a.text t) p (λ o. f.no_text o t) owned e
-  bytes_after (bytes u x) p owned e = never is_bare (piece (a.lends_bytes x) x.bytes) p (λ o. f.no_bytes o x) owned e
-  bytes_after (extended (object_id id) ns) p owned e = never is_bare (piece (a.lends_bytes id) id.bytes) p (λ o. f.no_bytes o id) owned e
+  bytes_after (bytes u x) p owned e = never is_bare (piece (a.borrows_bytes x) x.bytes) p (λ o. f.no_bytes o x) owned e
+  bytes_after (extended (object_id id) ns) p owned e = never is_bare (piece (a.borrows_bytes id) id.bytes) p (λ o. f.no_bytes o id) owned e
   bytes_after n p owned e = absurd cc
 
   boolean_after : (n : Node) (x : Bool) → boolean_of (before n) ≡ Ok x → boolean_of (after n) ≡ Ok x
@@ -324,7 +324,7 @@ module _ (a b : Change) (is_bare : Bool) (f : Follows a b is_bare) where
   -- the texts of the structs that a value is read as
   raw_extended_after : (x : Extended) (m : Marked) → extended_fault (changed_value a x) ≡ None → raw_extended (changed_value a x) ≡ Ok m → ReadAs contents (raw_extended (changed_value b x)) (contents m)
   raw_extended_after (binary subtype y) m w e =
-      (binary_struct subtype (piece (b.lends_bytes y) y.bytes), refl, ap contents (ok_is (binary_struct subtype (piece (a.lends_bytes y) y.bytes)) m e))
+      (binary_struct subtype (piece (b.borrows_bytes y) y.bytes), refl, ap contents (ok_is (binary_struct subtype (piece (a.borrows_bytes y) y.bytes)) m e))
   raw_extended_after (regular_expression p q) m w e =
       let both = neither (text_fault (a.text p)) (text_fault (a.text q)) w in (
         expression_struct (b.text p) (b.text q),
@@ -351,7 +351,7 @@ module _ (a b : Change) (is_bare : Bool) (f : Follows a b is_bare) where
   raw_value_after (array slice ns) m w e =
       let r = map_ok value.raw_array (slice_of (a.slice slice)) m e in (value.raw_array r.0, ap (result_map value.raw_array) (f.slices slice r.0 r.1), ap contents r.2)
   raw_value_after (string t) m w e = (value.str (b.text t), refl, ap value.str (text_same t w) ∙ ap contents (ok_is (value.str (a.text t)) m e))
-  raw_value_after (bytes u x) m w e = (value.bytes (piece (b.lends_bytes x) x.bytes), refl, ap contents (ok_is (value.bytes (piece (a.lends_bytes x) x.bytes)) m e))
+  raw_value_after (bytes u x) m w e = (value.bytes (piece (b.borrows_bytes x) x.bytes), refl, ap contents (ok_is (value.bytes (piece (a.borrows_bytes x) x.bytes)) m e))
   raw_value_after (extended x ns) m w e = raw_extended_after x m w e
   raw_value_after n m w e = (m, e, refl)
 
@@ -397,8 +397,8 @@ module _ (a b : Change) (is_bare : Bool) (f : Follows a b is_bare) where
     any_entries_after (faulty g) es ds out h e = absurd cc
     any_entries_after (then_node key n ns) es ds out h e =
         let r = judged (before n) >>= λ _. read_any (before n) in
-        let k = value.str (piece (a.lends_key key) key.bytes) in
-        let l = value.str (piece (b.lends_key key) key.bytes) in
+        let k = value.str (piece (a.borrows_key key) key.bytes) in
+        let l = value.str (piece (b.borrows_key key) key.bytes) in
         let d = bind_ok (under key.bytes r) (λ v. any_entries (nodes_before ns) (put_entry k v es)) out e in
         let j = then_after n (read_any (before n)) d.0 (under_ok key.bytes r d.0 d.1) in
         let first = any_after n d.0 j.0 j.2 in
@@ -413,22 +413,22 @@ module _ (a b : Change) (is_bare : Bool) (f : Follows a b is_bare) where
   -- ---- keys, items and entries
 
   -- a key at a leaf
-  key_leaf_after : (l : Bool) (k : LeafKind) (key : Piece) (m : Marked) → (is_bare ≡ false → IsLeafOwned l k) → read_leaf_with no_extended l k (string (piece (a.lends_key key) key.bytes)) ≡ Ok m
-      → ReadAs contents (read_leaf_with no_extended l k (string (piece (b.lends_key key) key.bytes))) (contents m)
-  key_leaf_after l anything key m owned e = (value.str (piece (b.lends_key key) key.bytes), refl, ap contents (ok_is (value.str (piece (a.lends_key key) key.bytes)) m e))
+  key_leaf_after : (l : Bool) (k : LeafKind) (key : Piece) (m : Marked) → (is_bare ≡ false → IsLeafOwned l k) → read_leaf_with no_extended l k (string (piece (a.borrows_key key) key.bytes)) ≡ Ok m
+      → ReadAs contents (read_leaf_with no_extended l k (string (piece (b.borrows_key key) key.bytes))) (contents m)
+  key_leaf_after l anything key m owned e = (value.str (piece (b.borrows_key key) key.bytes), refl, ap contents (ok_is (value.str (piece (a.borrows_key key) key.bytes)) m e))
   key_leaf_after l ignored key m owned e = (value.unit, refl, ap contents (ok_is value.unit m e))
   key_leaf_after l characters key m owned e = (m, e, refl)
   key_leaf_after l texts key m owned e =
-      let r = map_ok value.str (borrow_or_own l (piece (a.lends_key key) key.bytes)) m e in
-      let h = own_as is_bare l (piece (a.lends_key key) key.bytes) (piece (b.lends_key key) key.bytes) r.0 (λ o. f.no_key o key) owned refl r.1 in
+      let r = map_ok value.str (borrow_or_own l (piece (a.borrows_key key) key.bytes)) m e in
+      let h = own_as is_bare l (piece (a.borrows_key key) key.bytes) (piece (b.borrows_key key) key.bytes) r.0 (λ o. f.no_key o key) owned refl r.1 in
       (value.str (made key.bytes), ap (result_map value.str) h.0, ap value.str (sym h.1) ∙ ap contents r.2)
   key_leaf_after l byte_strings key m owned e =
-      let r = map_ok value.bytes (borrow (piece (a.lends_key key) key.bytes)) m e in absurd (never is_bare (piece (a.lends_key key) key.bytes) r.0 (λ o. f.no_key o key) owned r.1)
+      let r = map_ok value.bytes (borrow (piece (a.borrows_key key) key.bytes)) m e in absurd (never is_bare (piece (a.borrows_key key) key.bytes) r.0 (λ o. f.no_key o key) owned r.1)
   key_leaf_after l byte_buffers key m owned e = (value.bytes (made key.bytes), refl, ap contents (ok_is (value.bytes (made key.bytes)) m e))
-  key_leaf_after l raw_values key m owned e = (value.str (piece (b.lends_key key) key.bytes), refl, ap contents (ok_is (value.str (piece (a.lends_key key) key.bytes)) m e))
+  key_leaf_after l raw_values key m owned e = (value.str (piece (b.borrows_key key) key.bytes), refl, ap contents (ok_is (value.str (piece (a.borrows_key key) key.bytes)) m e))
   key_leaf_after l k key m owned e = absurd cc
 
-  key_after : (s : Form) (key : Piece) (m : Marked) → (is_bare ≡ false → IsOwned s) → reads_key s (piece (a.lends_key key) key.bytes) ≡ Ok m → ReadAs contents (reads_key s (piece (b.lends_key key) key.bytes)) (contents m)
+  key_after : (s : Form) (key : Piece) (m : Marked) → (is_bare ≡ false → IsOwned s) → reads_key s (piece (a.borrows_key key) key.bytes) ≡ Ok m → ReadAs contents (reads_key s (piece (b.borrows_key key) key.bytes)) (contents m)
   key_after (leaf l) key m owned e = key_leaf_after (borrows l) (leaf_kind l) key m owned e
   key_after (enumeration vs) key m owned e = (m, e, refl)
   key_after s key m owned e = absurd cc
@@ -456,7 +456,7 @@ module _ (a b : Change) (is_bare : Bool) (f : Follows a b is_bare) where
   entries_after key read owned each (faulty g) es ds out h e = absurd cc
   entries_after key read owned each (then_node k n ns) es ds out h e =
       let keys = reads_key key in
-      let c = bind_ok (keys (piece (a.lends_key k) k.bytes)) (λ x. under k.bytes (read (before n)) >>= λ v. reads_entries keys read (nodes_before ns) (put_entry x v es)) out e in
+      let c = bind_ok (keys (piece (a.borrows_key k) k.bytes)) (λ x. under k.bytes (read (before n)) >>= λ v. reads_entries keys read (nodes_before ns) (put_entry x v es)) out e in
       let d = bind_ok (under k.bytes (read (before n))) (λ v. reads_entries keys read (nodes_before ns) (put_entry c.0 v es)) out c.2 in
       let j = key_after key k c.0 owned c.1 in
       let first = each n d.0 (under_ok k.bytes (read (before n)) d.0 d.1) in

@@ -16,23 +16,23 @@ pub record Change : Type 0 where
   -- what a document or an array is as a whole
   pub slice : Whole → Whole
   -- whether a key is in the input then, and a byte string
-  pub lends_key : Piece → Bool
-  pub lends_bytes : Piece → Bool
+  pub borrows_key : Piece → Bool
+  pub borrows_bytes : Piece → Bool
   -- whether a binary is under a mark then
   pub marks : Bool → Piece → Bool
 
 abbrev mutual
   pub changed : Change → Node → Node
   changed c (string t) = string (c.text t)
-  changed c (bytes u b) = bytes (c.marks u b) (piece (c.lends_bytes b) b.bytes)
+  changed c (bytes u b) = bytes (c.marks u b) (piece (c.borrows_bytes b) b.bytes)
   changed c (document slice ns) = document (c.slice slice) (changed_nodes c ns)
   changed c (array slice ns) = array (c.slice slice) (changed_nodes c ns)
   changed c (extended x ns) = extended (changed_value c x) (changed_nodes c ns)
   changed c n = n
 
   pub changed_value : Change → Extended → Extended
-  changed_value c (binary subtype b) = binary subtype (piece (c.lends_bytes b) b.bytes)
-  changed_value c (object_id id) = object_id (piece (c.lends_bytes id) id.bytes)
+  changed_value c (binary subtype b) = binary subtype (piece (c.borrows_bytes b) b.bytes)
+  changed_value c (object_id id) = object_id (piece (c.borrows_bytes id) id.bytes)
   changed_value c (regular_expression p q) = regular_expression (c.text p) (c.text q)
   changed_value c (db_pointer n id) = db_pointer (c.text n) id
   changed_value c (javascript_code t) = javascript_code (c.text t)
@@ -43,12 +43,12 @@ abbrev mutual
   pub changed_nodes : Change → Nodes → Nodes
   changed_nodes c ended = ended
   changed_nodes c (faulty e) = faulty e
-  changed_nodes c (then_node key n ns) = then_node (piece (c.lends_key key) key.bytes) (changed c n) (changed_nodes c ns)
+  changed_nodes c (then_node key n ns) = then_node (piece (c.borrows_key key) key.bytes) (changed c n) (changed_nodes c ns)
 
 -- ---- as it is
 
 abbrev pub as_it_is : Change
-as_it_is = record { text = λ t. t; slice = λ s. s; lends_key = λ k. k.in_input; lends_bytes = λ b. b.in_input; marks = λ u b. u }
+as_it_is = record { text = λ t. t; slice = λ s. s; borrows_key = λ k. k.in_input; borrows_bytes = λ b. b.in_input; marks = λ u b. u }
 
 mutual
   pub changed_same : (n : Node) → changed as_it_is n ≡ n
@@ -69,7 +69,7 @@ mutual
 -- ---- nothing is in the input
 
 abbrev pub bare : Change
-bare = record { text = λ t. made t.bytes; slice = λ s. of_opening; lends_key = λ k. false; lends_bytes = λ b. false; marks = λ u b. u }
+bare = record { text = λ t. made t.bytes; slice = λ s. of_opening; borrows_key = λ k. false; borrows_bytes = λ b. false; marks = λ u b. u }
 
 -- the document that a value is opened to
 opened_bare : (x : Extended) → changed_nodes bare (opened x) ≡ opened (changed_value bare x)
@@ -125,7 +125,7 @@ mended_input t = if t.in_input then mended_text t else t
 
 -- as `mended` changes a value of the input
 abbrev pub marking : Change
-marking = record { text = mended_input; slice = λ s. s; lends_key = λ k. false; lends_bytes = λ b. b.in_input; marks = λ u b. if b.in_input then true else u }
+marking = record { text = mended_input; slice = λ s. s; borrows_key = λ k. false; borrows_bytes = λ b. b.in_input; marks = λ u b. if b.in_input then true else u }
 
 pub opened_marked : (x : Extended) → changed_nodes marking (opened x) ≡ opened (changed_value marking x)
 opened_marked undefined = refl

@@ -36,7 +36,7 @@ use Rattle.bson_laws.proofs.GivenTrees.{IsGivenExtended}
 use Rattle.bson_laws.proofs.JudgedTexts.{judged_text}
 use Rattle.bson_laws.proofs.Sizes.{inside_ok, under_ok}
 use Rattle.bson_laws.proofs.Coded.{IsName}
-use Rattle.bson_laws.proofs.Lent.{TextLent, LeafLent, marked}
+use Rattle.bson_laws.proofs.Borrowed.{TextBorrowed, LeafBorrowed, marked}
 use Rattle.bson_laws.proofs.Mended.{mended_tame}
 use Rattle.bson_laws.proofs.Tame as tame
 use Rattle.bson_laws.proofs.Tame.{IsTextSeen, after_judged, judged_refused, document_tame, array_tame}
@@ -153,13 +153,13 @@ put_apart k v (entry l old es) h = by_case (put_apart k v es h.1) (same (content
   by_case later false unlike = (put_differs (contents l) k v es unlike h.0, later)
 
 abbrev pub IsGivenKey : Sight → Form → Value → Type 0
-IsGivenKey at (leaf l) k = IsGivenLeafKey (leaf_kind l) k × LeafLent at (borrows l) (leaf_kind l)
+IsGivenKey at (leaf l) k = IsGivenLeafKey (leaf_kind l) k × LeafBorrowed at (borrows l) (leaf_kind l)
 IsGivenKey at (enumeration vs) (value.unit_variant name) = (content_of vs name ≡ Some unit_content) × (has_zero name ≡ false)
 IsGivenKey at s k = ⊥
 
 abbrev mutual
   pub IsGiven : Sight → Value → Form → Type 0
-  IsGiven at v (leaf l) = IsGivenLeaf (leaf_kind l) v × LeafLent at (borrows l) (leaf_kind l)
+  IsGiven at v (leaf l) = IsGivenLeaf (leaf_kind l) v × LeafBorrowed at (borrows l) (leaf_kind l)
   IsGiven at v (lossy s) = IsGiven (marked at) v s
   IsGiven at v (by_mode readable compact) = IsGiven at v compact
   IsGiven at v (definitions h s) = IsGiven at v s
@@ -206,7 +206,7 @@ module _ (sight : Sight) where
   AreTame = tame.AreTame sight
 
   -- what is given at a leaf, of whatever form the value is; what the leaf borrows is there to be borrowed
-  pub leaf_given_at : (l : Leaf) (v : Value) → IsGivenLeaf (leaf_kind l) v × LeafLent sight (borrows l) (leaf_kind l) → IsGiven sight v (leaf l)
+  pub leaf_given_at : (l : Leaf) (v : Value) → IsGivenLeaf (leaf_kind l) v × LeafBorrowed sight (borrows l) (leaf_kind l) → IsGiven sight v (leaf l)
   leaf_given_at l (value.boolean b) g = g
   leaf_given_at l (value.integer t n) g = g
   leaf_given_at l (value.double b) g = g
@@ -231,7 +231,7 @@ module _ (sight : Sight) where
   leaf_given_at l (value.raw_array b) g = g
   leaf_given_at l (value.mode v w) g = g
 
-  pub given_leaf : (v : Value) (l : Leaf) → IsGiven sight v (leaf l) → IsGivenLeaf (leaf_kind l) v × LeafLent sight (borrows l) (leaf_kind l)
+  pub given_leaf : (v : Value) (l : Leaf) → IsGiven sight v (leaf l) → IsGivenLeaf (leaf_kind l) v × LeafBorrowed sight (borrows l) (leaf_kind l)
   given_leaf (value.boolean b) l g = g
   given_leaf (value.integer t n) l g = g
   given_leaf (value.double b) l g = g
@@ -261,9 +261,9 @@ module _ (sight : Sight) where
   lossy_given value.none s g = g
   lossy_given v s g = g
 
-  due_given : (v : Value) (readable compact : Form) → IsGiven sight v compact → IsGiven sight v (by_mode readable compact)
-  due_given value.none readable compact g = g
-  due_given v readable compact g = g
+  expected_given : (v : Value) (readable compact : Form) → IsGiven sight v compact → IsGiven sight v (by_mode readable compact)
+  expected_given value.none readable compact g = g
+  expected_given v readable compact g = g
 
   body_given : (v : Value) (h : Fields) (s : Form) → IsGiven sight v s → IsGiven sight v (definitions h s)
   body_given value.none h s g = g
@@ -273,9 +273,9 @@ module _ (sight : Sight) where
   given_lossy value.none s g = g
   given_lossy v s g = g
 
-  pub given_due : (v : Value) (readable compact : Form) → IsGiven sight v (by_mode readable compact) → IsGiven sight v compact
-  given_due value.none readable compact g = g
-  given_due v readable compact g = g
+  pub given_expected : (v : Value) (readable compact : Form) → IsGiven sight v (by_mode readable compact) → IsGiven sight v compact
+  given_expected value.none readable compact g = g
+  given_expected v readable compact g = g
 
   pub given_body : (v : Value) (h : Fields) (s : Form) → IsGiven sight v (definitions h s) → IsGiven sight v s
   given_body value.none h s g = g
@@ -365,37 +365,37 @@ module _ (sight : Sight) where
   borrowed_seen true p q is e = refl
   borrowed_seen false p q is e = absurd cc
 
-  text_lends : (l : Bool) (p q : Piece) → IsTextSeen sight p → borrow_or_own l p ≡ Ok q → TextLent sight l
-  text_lends true p q t e = (t (borrowed_seen p.in_input p q refl e)).0
-  text_lends false p q t e = tt
+  text_borrows : (l : Bool) (p q : Piece) → IsTextSeen sight p → borrow_or_own l p ≡ Ok q → TextBorrowed sight l
+  text_borrows true p q t e = (t (borrowed_seen p.in_input p q refl e)).0
+  text_borrows false p q t e = tt
 
   -- a leaf that reads a text, or a byte string, has it to borrow
-  texts_lend : (l : Bool) (n : Node) (q : Piece) → IsTame n → text_of l n ≡ Ok q → TextLent sight l
-  texts_lend l (node.string p) q t e = text_lends l p q t e
-  texts_lend l (node.bytes u b) q t e = let r = bind_ok (borrow_or_own l (owned_under_mark u b)) as_text q e in text_lends l (owned_under_mark u b) r.0 t.2 r.1
-  texts_lend l n q t e = absurd cc
+  texts_borrow : (l : Bool) (n : Node) (q : Piece) → IsTame n → text_of l n ≡ Ok q → TextBorrowed sight l
+  texts_borrow l (node.string p) q t e = text_borrows l p q t e
+  texts_borrow l (node.bytes u b) q t e = let r = bind_ok (borrow_or_own l (owned_under_mark u b)) as_text q e in text_borrows l (owned_under_mark u b) r.0 t.2 r.1
+  texts_borrow l n q t e = absurd cc
 
-  bytes_lend : (n : Node) (q : Piece) → IsTame n → bytes_of n ≡ Ok q → sight.bytes ≡ true
-  bytes_lend (node.string p) q t e = (t (borrowed_seen p.in_input p q refl e)).1
-  bytes_lend (node.bytes u b) q t e = t.1 (borrowed_seen b.in_input b q refl e)
-  bytes_lend (node.extended (node.object_id id) ns) q t e = t.0.2 (borrowed_seen id.in_input id q refl e)
-  bytes_lend n q t e = absurd cc
+  bytes_borrow : (n : Node) (q : Piece) → IsTame n → bytes_of n ≡ Ok q → sight.bytes ≡ true
+  bytes_borrow (node.string p) q t e = (t (borrowed_seen p.in_input p q refl e)).1
+  bytes_borrow (node.bytes u b) q t e = t.1 (borrowed_seen b.in_input b q refl e)
+  bytes_borrow (node.extended (node.object_id id) ns) q t e = t.0.2 (borrowed_seen id.in_input id q refl e)
+  bytes_borrow n q t e = absurd cc
 
-  leaf_lent : (extended : ExtendedLeaf → Node → Reading Marked) (l : Bool) (k : LeafKind) (n : Node) (v : Marked) → IsTame n → read_leaf_with extended l k n ≡ Ok v → LeafLent sight l k
-  leaf_lent extended l texts n v t e = let r = map_ok value.str (text_of l n) v e in texts_lend l n r.0 t r.1
-  leaf_lent extended l byte_strings n v t e = let r = map_ok value.bytes (bytes_of n) v e in bytes_lend n r.0 t r.1
-  leaf_lent extended l anything n v t e = tt
-  leaf_lent extended l ignored n v t e = tt
-  leaf_lent extended l booleans n v t e = tt
-  leaf_lent extended l (numbers type) n v t e = tt
-  leaf_lent extended l doubles n v t e = tt
-  leaf_lent extended l characters n v t e = tt
-  leaf_lent extended l byte_buffers n v t e = tt
-  leaf_lent extended l units n v t e = tt
-  leaf_lent extended l (extended_values k) n v t e = tt
-  leaf_lent extended l raw_documents n v t e = tt
-  leaf_lent extended l raw_arrays n v t e = tt
-  leaf_lent extended l raw_values n v t e = tt
+  leaf_borrowed : (extended : ExtendedLeaf → Node → Reading Marked) (l : Bool) (k : LeafKind) (n : Node) (v : Marked) → IsTame n → read_leaf_with extended l k n ≡ Ok v → LeafBorrowed sight l k
+  leaf_borrowed extended l texts n v t e = let r = map_ok value.str (text_of l n) v e in texts_borrow l n r.0 t r.1
+  leaf_borrowed extended l byte_strings n v t e = let r = map_ok value.bytes (bytes_of n) v e in bytes_borrow n r.0 t r.1
+  leaf_borrowed extended l anything n v t e = tt
+  leaf_borrowed extended l ignored n v t e = tt
+  leaf_borrowed extended l booleans n v t e = tt
+  leaf_borrowed extended l (numbers type) n v t e = tt
+  leaf_borrowed extended l doubles n v t e = tt
+  leaf_borrowed extended l characters n v t e = tt
+  leaf_borrowed extended l byte_buffers n v t e = tt
+  leaf_borrowed extended l units n v t e = tt
+  leaf_borrowed extended l (extended_values k) n v t e = tt
+  leaf_borrowed extended l raw_documents n v t e = tt
+  leaf_borrowed extended l raw_arrays n v t e = tt
+  leaf_borrowed extended l raw_values n v t e = tt
 
   -- ---- keys
 
@@ -426,7 +426,7 @@ module _ (sight : Sight) where
   unit_key_given vs name (Some c) v z is e = absurd cc
 
   key_given : (s : Form) (key : Piece) (v : Marked) → IsName key.bytes → IsTextSeen sight key → reads_key s key ≡ Ok v → IsGivenKey sight s (contents v)
-  key_given (leaf l) key v h t e = (leaf_key_given (borrows l) (leaf_kind l) key v h e, leaf_lent no_extended (borrows l) (leaf_kind l) (node.string key) v t e)
+  key_given (leaf l) key v h t e = (leaf_key_given (borrows l) (leaf_kind l) key v h e, leaf_borrowed no_extended (borrows l) (leaf_kind l) (node.string key) v t e)
   key_given (enumeration vs) key v h t e = unit_key_given vs key.bytes (content_of vs key.bytes) v h.1 refl e
   key_given s key v h t e = absurd cc
 
@@ -634,12 +634,12 @@ module _ (at_extended : ExtendedLeaf → Node → Reading Marked)
     reads_given at (leaf l) n v t e =
         let b = bind_ok (judged n) (read_leaf_with at_extended (borrows l) (leaf_kind l)) v e in
         let there = after_judged n (read_leaf_with at_extended (borrows l) (leaf_kind l)) v e in
-        leaf_given_at at l (contents v) (leaf_given at (borrows l) (leaf_kind l) n b.0 v t b.1 there, leaf_lent at at_extended (borrows l) (leaf_kind l) n v t there)
+        leaf_given_at at l (contents v) (leaf_given at (borrows l) (leaf_kind l) n b.0 v t b.1 there, leaf_borrowed at at_extended (borrows l) (leaf_kind l) n v t there)
     reads_given at (optional s) n v t e = option_given at s n (reads s n) v (λ w h. reads_given at s n w t h) e
     reads_given at (lossy s) n v t e = lossy_given at (contents v) s (reads_given (marked at) s (mended n) v (mended_tame at n t) e)
     reads_given at (human_readable s) n v t e =
         let m = map_ok (value.newtype (made readable_newtype)) (reads s n) v e in subst (λ x. IsGiven at (contents x) (human_readable s)) m.2 (refl, reads_given at s n m.0 t m.1)
-    reads_given at (by_mode readable compact) n v t e = due_given at (contents v) readable compact (reads_given at compact n v t e)
+    reads_given at (by_mode readable compact) n v t e = expected_given at (contents v) readable compact (reads_given at compact n v t e)
     reads_given at (reference name) n v t e = absurd (judged_refused n (unknown_reference name) v e)
     reads_given at (definitions h s) n v t e = body_given at (contents v) h s (reads_given at s n v t e)
     reads_given at (newtype name s) n v t e = let m = map_ok (value.newtype (made name)) (reads s n) v e in subst (λ x. IsGiven at (contents x) (newtype name s)) m.2 (refl, reads_given at s n m.0 t m.1)

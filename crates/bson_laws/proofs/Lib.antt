@@ -30,7 +30,7 @@ pub mod Codec
 pub mod PlainForms
 pub mod ShapeForms
 pub mod Settled
-pub mod Lent
+pub mod Borrowed
 pub mod Suited
 pub mod TreeLeaves
 pub mod Judged

@@ -60,7 +60,7 @@ mutual
   settled_owned r (optional s) h = settled_owned r s h
   settled_owned r (lossy s) h = settled_owned r s h
   settled_owned r (human_readable s) h = settled_owned true s h
-  settled_owned r (by_mode s t) h = let due = owned_either r (settled r s) (settled r t) (settled_owned r s h.0) (settled_owned r t h.1) in (due, due)
+  settled_owned r (by_mode s t) h = let expected = owned_either r (settled r s) (settled r t) (settled_owned r s h.0) (settled_owned r t h.1) in (expected, expected)
   settled_owned r (sequence s) h = settled_owned r s h
   settled_owned r (map key s) h = (h.0, settled_owned r s h.1)
   settled_owned r (tuple ps) h = parts_owned r ps h

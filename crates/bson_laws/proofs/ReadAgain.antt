@@ -47,13 +47,13 @@ coded_read s t m c k small e = absurd cc
 -- what was read from bytes and is spelled as a tree is read from the bytes of the tree again, as what is spelled as the same tree
 pub document_again : (s : Form) (bytes : Bytes) (d : Value) (t : Tree) → IsShape s → IsSettled s → AreBytes bytes → document_at s bytes ≡ Ok d → spell_document d ≡ Ok t → length (enc t) ≤ max_bytes
     → (v : Value) × (document_at s (enc t) ≡ Ok v) × (spell_document v ≡ Ok t)
-document_again s bytes d t p due h e q l =
-    let same = settled_same false s due in
+document_again s bytes d t p expected h e q l =
+    let same = settled_same false s expected in
     let r = node_read s bytes d h e in
     let top = top_ok (kind_of d) (spell d max_levels) t q in
     let n = node_in max_levels EmbeddedDocument r.0 in
     let given = reads_given from_input s n r.1 r.2 (subst (λ x. reads x n ≡ Ok r.1) same r.3) in
-    let k = again from_input (contents r.1) s max_levels t p due given (omega (arith, l)) (ap (λ v. spell v max_levels) r.4 ∙ top.1) in
+    let k = again from_input (contents r.1) s max_levels t p expected given (omega (arith, l)) (ap (λ v. spell v max_levels) r.4 ∙ top.1) in
     let is : kind t ≡ EmbeddedDocument = spell_kind false d max_levels t top.1 ∙ top.0 in (
       contents k.0,
       coded_read s t k.0 k.3 is (omega (arith, l)) (ap (λ x. reads x (tree_node from_input t max_levels)) same ∙ k.1),

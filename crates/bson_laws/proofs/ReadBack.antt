@@ -50,8 +50,8 @@ use Rattle.bson_laws.proofs.Codec.{seen_again}
 use Rattle.bson_laws.proofs.Filled.{Distinct, ArePassed, seen_of, seen_at, seen_fields, fields_seen}
 use Rattle.bson_laws.proofs.Ignored.{ignores_again}
 use Rattle.bson_laws.proofs.Judged.{ReadAs, by_null, judged_again, document_again, array_again}
-use Rattle.bson_laws.proofs.Lent.{LeafLent, IsLent, lent_from_input, text_lent}
-use Rattle.bson_laws.proofs.Suited.{LeafSuits, Suits, FieldsSuit, PartsSuit, VariantsSuit, ContentSuits, HasParts, marked_at, suits_lent, lent_suits, tree_suits}
+use Rattle.bson_laws.proofs.Borrowed.{LeafBorrowed, IsBorrowed, borrowed_from_input, borrowed_text}
+use Rattle.bson_laws.proofs.Suited.{LeafSuits, Suits, FieldsSuit, PartsSuit, VariantsSuit, ContentSuits, HasParts, marked_at, suits_borrowed, borrowed_suits, tree_suits}
 use Rattle.bson_laws.proofs.Mended.{tree_mended}
 use Rattle.bson_laws.proofs.Settled.{settled_same, plain_settled}
 use Rattle.bson_laws.proofs.Known.{where_known}
@@ -90,34 +90,34 @@ number_read type n true v e = (value.integer type n, refl, some_is (value.intege
 number_read type n false v e = absurd cc
 
 -- what may be borrowed is
-bytes_lent : (b : Bool) (bs : Bytes) (v : Value) → b ≡ true → value.bytes bs ≡ v → ReadAs contents (result_map value.bytes (borrow (piece b bs))) v
-bytes_lent true bs v lent e = (value.bytes (piece true bs), refl, e)
-bytes_lent false bs v lent e = absurd cc
+borrowed_bytes : (b : Bool) (bs : Bytes) (v : Value) → b ≡ true → value.bytes bs ≡ v → ReadAs contents (result_map value.bytes (borrow (piece b bs))) v
+borrowed_bytes true bs v borrows_input e = (value.bytes (piece true bs), refl, e)
+borrowed_bytes false bs v borrows_input e = absurd cc
 
-leaf_read : (at : Sight) (l : Bool) (k : LeafKind) (t : Tree) (v : Value) (levels : ℕ) → LeafLent at l k → IsClean t → depth t ≤ levels → views_leaf k t ≡ Some v → ReadAs contents (in_bytes.read_leaf l k (tree_node at t levels)) v
-leaf_read at l anything t v levels lent c d e = any_again at levels t v c d e
-leaf_read at l ignored t v levels lent c d e = absurd cc
-leaf_read at l booleans (boolean b) v levels lent c d e = (value.boolean b, refl, some_is (value.boolean b) v e)
-leaf_read at l booleans t v levels lent c d e = absurd cc
-leaf_read at l (numbers type) (int32 n) v levels lent c d e = number_read type n (in_range type n) v e
-leaf_read at l (numbers type) (int64 n) v levels lent c d e = number_read type n (in_range type n) v e
-leaf_read at l (numbers type) t v levels lent c d e = absurd cc
-leaf_read at l doubles (double bits) v levels lent c d e = (value.double bits, refl, some_is (value.double bits) v e)
-leaf_read at l doubles t v levels lent c d e = absurd cc
-leaf_read at l characters (string t) v levels lent c d e = let m = some_map value.character (one_character (chars t)) v e in (value.character m.0, ap read_character m.1, m.2)
-leaf_read at l characters t v levels lent c d e = absurd cc
-leaf_read at l texts (string t) v levels lent c d e = text_lent at l t v lent (some_is (value.str t) v e)
-leaf_read at l texts t v levels lent c d e = absurd cc
-leaf_read at l byte_strings (binary zero bs) v levels lent c d e = bytes_lent at.bytes bs v lent (some_is (value.bytes bs) v e)
-leaf_read at l byte_strings t v levels lent c d e = absurd cc
-leaf_read at l byte_buffers (binary zero bs) v levels lent c d e = (value.bytes (made bs), refl, some_is (value.bytes bs) v e)
-leaf_read at l byte_buffers t v levels lent c d e = absurd cc
-leaf_read at l units null v levels lent c d e = (value.unit, refl, some_is value.unit v e)
-leaf_read at l units t v levels lent c d e = absurd cc
-leaf_read at l (extended_values k) t v levels lent c d e = extended_again at k t v levels c d e
-leaf_read at l raw_documents t v levels lent c d e = absurd cc
-leaf_read at l raw_arrays t v levels lent c d e = absurd cc
-leaf_read at l raw_values t v levels lent c d e = absurd cc
+leaf_read : (at : Sight) (l : Bool) (k : LeafKind) (t : Tree) (v : Value) (levels : ℕ) → LeafBorrowed at l k → IsClean t → depth t ≤ levels → views_leaf k t ≡ Some v → ReadAs contents (in_bytes.read_leaf l k (tree_node at t levels)) v
+leaf_read at l anything t v levels borrows_input c d e = any_again at levels t v c d e
+leaf_read at l ignored t v levels borrows_input c d e = absurd cc
+leaf_read at l booleans (boolean b) v levels borrows_input c d e = (value.boolean b, refl, some_is (value.boolean b) v e)
+leaf_read at l booleans t v levels borrows_input c d e = absurd cc
+leaf_read at l (numbers type) (int32 n) v levels borrows_input c d e = number_read type n (in_range type n) v e
+leaf_read at l (numbers type) (int64 n) v levels borrows_input c d e = number_read type n (in_range type n) v e
+leaf_read at l (numbers type) t v levels borrows_input c d e = absurd cc
+leaf_read at l doubles (double bits) v levels borrows_input c d e = (value.double bits, refl, some_is (value.double bits) v e)
+leaf_read at l doubles t v levels borrows_input c d e = absurd cc
+leaf_read at l characters (string t) v levels borrows_input c d e = let m = some_map value.character (one_character (chars t)) v e in (value.character m.0, ap read_character m.1, m.2)
+leaf_read at l characters t v levels borrows_input c d e = absurd cc
+leaf_read at l texts (string t) v levels borrows_input c d e = borrowed_text at l t v borrows_input (some_is (value.str t) v e)
+leaf_read at l texts t v levels borrows_input c d e = absurd cc
+leaf_read at l byte_strings (binary zero bs) v levels borrows_input c d e = borrowed_bytes at.bytes bs v borrows_input (some_is (value.bytes bs) v e)
+leaf_read at l byte_strings t v levels borrows_input c d e = absurd cc
+leaf_read at l byte_buffers (binary zero bs) v levels borrows_input c d e = (value.bytes (made bs), refl, some_is (value.bytes bs) v e)
+leaf_read at l byte_buffers t v levels borrows_input c d e = absurd cc
+leaf_read at l units null v levels borrows_input c d e = (value.unit, refl, some_is value.unit v e)
+leaf_read at l units t v levels borrows_input c d e = absurd cc
+leaf_read at l (extended_values k) t v levels borrows_input c d e = extended_again at k t v levels c d e
+leaf_read at l raw_documents t v levels borrows_input c d e = absurd cc
+leaf_read at l raw_arrays t v levels borrows_input c d e = absurd cc
+leaf_read at l raw_values t v levels borrows_input c d e = absurd cc
 
 -- the same of a tree in memory, of which nothing is borrowed
 tree_leaf_read : (at : Sight) (l : Bool) (k : LeafKind) (t : Tree) (v : Value) (levels : ℕ) → IsLeafOwned l k → IsClean t → depth t ≤ levels → views_leaf k t ≡ Some v → ReadAs contents (read_leaf origins.Tree l k (tree_node at t levels)) v
@@ -143,9 +143,9 @@ leaf_read_from origins.Tree at l k t v levels suits c d e = tree_leaf_read at l 
 
 -- ---- the keys of maps
 
-leaf_key_again : (at : Sight) (l : Bool) (k : LeafKind) (key : Utf8) (v : Value) → LeafLent at l k → views_leaf_key k key ≡ Some v → (v ≡ value.str key) × ReadAs contents (read_leaf_with no_extended l k (node.string (piece at.texts key))) (value.str key)
-leaf_key_again at l texts key v lent e = (sym (some_is (value.str key) v e), text_lent at l key (value.str key) lent refl)
-leaf_key_again at l k key v lent e = absurd cc
+leaf_key_again : (at : Sight) (l : Bool) (k : LeafKind) (key : Utf8) (v : Value) → LeafBorrowed at l k → views_leaf_key k key ≡ Some v → (v ≡ value.str key) × ReadAs contents (read_leaf_with no_extended l k (node.string (piece at.texts key))) (value.str key)
+leaf_key_again at l texts key v borrows_input e = (sym (some_is (value.str key) v e), borrowed_text at l key (value.str key) borrows_input refl)
+leaf_key_again at l k key v borrows_input e = absurd cc
 
 -- what a text is as a key: the unit variant of that name, where the keys are an enum
 abbrev key_of : Form → Utf8 → Value
@@ -157,7 +157,7 @@ keys_apart (enumeration vs) a b = refl
 keys_apart s a b = refl
 
 key_again : (o : Origin) (at : Sight) (s : Form) → Suits o at s → ReadsKeys at (key_of s) (views_key s) (reads_key s)
-key_again o at (leaf l) suits key v e = leaf_key_again at (borrows l) (leaf_kind l) key v (suits_lent o at (borrows l) (leaf_kind l) suits) e
+key_again o at (leaf l) suits key v e = leaf_key_again at (borrows l) (leaf_kind l) key v (suits_borrowed o at (borrows l) (leaf_kind l) suits) e
 key_again o at (enumeration vs) suits key v e = let u = unit_is key (content_of vs key) v e in (u.1, (value.unit_variant (made key), u.2, refl))
 key_again o at s suits key v e = absurd cc
 
@@ -398,8 +398,8 @@ mutual
   reads_content_again o at (struct_content fs) n t v levels p suits c d e = absurd cc
 
 -- what a clean tree is at a shape is read from it in bytes
-pub reads_again : (at : Sight) (s : Form) (t : Tree) (v : Value) (levels : ℕ) → IsShape s → IsLent at s → IsClean t → depth t ≤ levels → views s t ≡ Some v → ReadAs contents (in_bytes.reads s (tree_node at t levels)) v
-reads_again at s t v levels p lent c d e = reads_back origins.Bytes at s t v levels p (lent_suits at s lent) c d e
+pub reads_again : (at : Sight) (s : Form) (t : Tree) (v : Value) (levels : ℕ) → IsShape s → IsBorrowed at s → IsClean t → depth t ≤ levels → views s t ≡ Some v → ReadAs contents (in_bytes.reads s (tree_node at t levels)) v
+reads_again at s t v levels p borrows_input c d e = reads_back origins.Bytes at s t v levels p (borrowed_suits at s borrows_input) c d e
 
 pub enclosed_framed : (b : Bytes) → length (enclosed b) < 2 ^ 31 → IsFramed (enclosed b)
 enclosed_framed b l =
@@ -414,7 +414,7 @@ envelope_again ps l = enclosed_framed (elements ps) l
 pub views_reads : (s : Form) (t : Tree) (v : Value) → IsShape s → IsPlain s → IsSound t → views s t ≡ Some v → document_at s (enc t) ≡ Ok v
 views_reads s (document ps) v p plain h e =
     let small : length (enc (document ps)) < 2 ^ 31 = let f = h.fits in omega arith in
-    let r = reads_again from_input s (document ps) v max_levels p (lent_from_input s plain) h.clean h.nests e in
+    let r = reads_again from_input s (document ps) v max_levels p (borrowed_from_input s plain) h.clean h.nests e in
     ap (λ r. result_map contents (elim r [ Ok b ↦ answered (in_bytes.reads (settled false s) (node_in max_levels EmbeddedDocument b)) | Err f ↦ Err (bare (unreadable (raw f))) ])) (envelope_again ps small)
     ∙ ap (λ n. result_map contents (answered (in_bytes.reads (settled false s) n))) (seen_again max_levels (document ps) (clean_coded (document ps) h.clean) small)
     ∙ ap (λ x. result_map contents (answered (in_bytes.reads x (tree_node from_input (document ps) max_levels)))) (settled_same false s (plain_settled s plain))

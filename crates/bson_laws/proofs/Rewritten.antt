@@ -26,7 +26,7 @@ use Rattle.bson_laws.proofs.DatumSpelled.{accepted}
 use Rattle.bson_laws.proofs.GivenRaw.{a_document, an_array, a_tree, a_binary, a_code, IsWhole, by_whole, IsGivenRaw}
 use Rattle.bson_laws.proofs.GivenTrees.{IsGivenTree, IsGivenExtended}
 use Rattle.bson_laws.proofs.Given.{IsGivenAny, AreGivenItems, AreGivenEntries, IsGivenLeaf, IsGivenLeafKey, IsGivenKey, IsGiven, ItemsGiven, PartsGiven, EntriesGiven, FieldsGiven, given_leaf, given_lossy, given_body}
-use Rattle.bson_laws.proofs.Lent.{marked}
+use Rattle.bson_laws.proofs.Borrowed.{marked}
 use Rattle.bson_laws.proofs.Free.{free_spelled, free_struct}
 use Rattle.bson_laws.proofs.Writable.{wide_small, short_small, taken, binary_written, unless_bind, unless_map, unless_inside, unless_named, Written, number_written, bytes_written, enclosed_written, variant_written}
 use Rattle.std.specs.Str.{bytes_eq}

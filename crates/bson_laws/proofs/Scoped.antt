@@ -14,7 +14,7 @@ use Rattle.bson_laws.specs.Containers.{unit_of, reads_key}
 use Rattle.bson_laws.specs.FromTree.{tree_unit_of}
 use Rattle.bson_laws.specs.Judged.{judged, refused}
 use Rattle.bson_laws.specs.ReadsFrom.{reads_from, reads_for}
-use Rattle.bson_laws.specs.Scopes.{meaning, meanings_of, laid, laid_fields, laid_parts, formed, Means}
+use Rattle.bson_laws.specs.Scopes.{table_meaning, meanings_of, laid, laid_fields, laid_parts, formed, IsDefinedAs}
 use Rattle.bson_laws.specs.Settled.{settled, settled_variants, settled_content}
 use Rattle.bson_laws.specs.Slots.{missing_value}
 use Rattle.bson_laws.specs.Unrolled.{Meanings, undefined, unrolled, unrolled_variants, unrolled_content, step, names_in, max_steps, whole}
@@ -31,49 +31,49 @@ rounds_are : 404 ≡ max_steps
 unfolding max_steps
 rounds_are = refl
 
-all_rounds : (h : Fields) → meaning max_steps 0 h ≡ names_in max_steps h
-unfolding meaning
+all_rounds : (h : Fields) → table_meaning max_steps 0 h ≡ names_in max_steps h
+unfolding table_meaning
 all_rounds h = refl
 
 -- where all rounds are left
-pub meaning_top : (h : Fields) → meaning 404 0 h ≡ names_in max_steps h
-meaning_top h = ap (λ n. meaning n 0 h) rounds_are ∙ all_rounds h
+pub meaning_top : (h : Fields) → table_meaning 404 0 h ≡ names_in max_steps h
+meaning_top h = ap (λ n. table_meaning n 0 h) rounds_are ∙ all_rounds h
 
-meaning_step : (rounds steps : ℕ) (h : Fields) → meaning rounds (suc steps) h ≡ step max_steps h (meaning rounds steps h)
-unfolding meaning
+meaning_step : (rounds steps : ℕ) (h : Fields) → table_meaning rounds (suc steps) h ≡ step max_steps h (table_meaning rounds steps h)
+unfolding table_meaning
 meaning_step rounds steps h = refl
 
-meaning_round : (rounds : ℕ) (h : Fields) → meaning (suc rounds) 0 h ≡ step max_steps h (meaning rounds (count h) h)
-unfolding meaning
+meaning_round : (rounds : ℕ) (h : Fields) → table_meaning (suc rounds) 0 h ≡ step max_steps h (table_meaning rounds (count h) h)
+unfolding table_meaning
 meaning_round rounds h = refl
 
-meaning_end : (h : Fields) → meaning 0 0 h ≡ undefined
-unfolding meaning
+meaning_end : (h : Fields) → table_meaning 0 0 h ≡ undefined
+unfolding table_meaning
 meaning_end h = refl
 
 -- a name without definition means itself
-pub meaning_lacks : (rounds steps : ℕ) (h : Fields) (key : Utf8) → definition h key ≡ None → meaning rounds steps h key ≡ reference key
-meaning_lacks rounds (suc steps) h key e = ap (λ (g : Meanings). g key) (meaning_step rounds steps h) ∙ missing max_steps h (meaning rounds steps h) key e
-meaning_lacks (suc rounds) zero h key e = ap (λ (g : Meanings). g key) (meaning_round rounds h) ∙ missing max_steps h (meaning rounds (count h) h) key e
+pub meaning_lacks : (rounds steps : ℕ) (h : Fields) (key : Utf8) → definition h key ≡ None → table_meaning rounds steps h key ≡ reference key
+meaning_lacks rounds (suc steps) h key e = ap (λ (g : Meanings). g key) (meaning_step rounds steps h) ∙ missing max_steps h (table_meaning rounds steps h) key e
+meaning_lacks (suc rounds) zero h key e = ap (λ (g : Meanings). g key) (meaning_round rounds h) ∙ missing max_steps h (table_meaning rounds (count h) h) key e
 meaning_lacks zero zero h key e = ap (λ (g : Meanings). g key) (meaning_end h)
 
 -- a name with a definition means what that is unrolled to with a step less
-pub follow_step : (rounds steps less : ℕ) (h : Fields) (key : Utf8) (s : Form) → steps ≡ suc less → definition h key ≡ Some s → meaning rounds steps h key ≡ unrolled max_steps s (meaning rounds less h)
+pub follow_step : (rounds steps less : ℕ) (h : Fields) (key : Utf8) (s : Form) → steps ≡ suc less → definition h key ≡ Some s → table_meaning rounds steps h key ≡ unrolled max_steps s (table_meaning rounds less h)
 follow_step rounds steps less h key s is e =
-    ap (λ n. meaning rounds n h key) is ∙ ap (λ (g : Meanings). g key) (meaning_step rounds less h) ∙ found max_steps h (meaning rounds less h) key s e
+    ap (λ n. table_meaning rounds n h key) is ∙ ap (λ (g : Meanings). g key) (meaning_step rounds less h) ∙ found max_steps h (table_meaning rounds less h) key s e
 
 -- or with a round less
-pub follow_round : (rounds less names : ℕ) (h : Fields) (key : Utf8) (s : Form) → rounds ≡ suc less → names ≡ count h → definition h key ≡ Some s → meaning rounds 0 h key ≡ unrolled max_steps s (meaning less names h)
+pub follow_round : (rounds less names : ℕ) (h : Fields) (key : Utf8) (s : Form) → rounds ≡ suc less → names ≡ count h → definition h key ≡ Some s → table_meaning rounds 0 h key ≡ unrolled max_steps s (table_meaning less names h)
 follow_round rounds less names h key s is counted e =
-    ap (λ n. meaning n 0 h key) is ∙ ap (λ (g : Meanings). g key) (meaning_round less h) ∙ ap (λ n. step max_steps h (meaning less n h) key) (sym counted) ∙ found max_steps h (meaning less names h) key s e
+    ap (λ n. table_meaning n 0 h key) is ∙ ap (λ (g : Meanings). g key) (meaning_round less h) ∙ ap (λ n. step max_steps h (table_meaning less n h) key) (sym counted) ∙ found max_steps h (table_meaning less names h) key s e
 
 -- or itself, where none is left
-pub follow_end : (rounds steps : ℕ) (h : Fields) (key : Utf8) → rounds ≡ 0 → steps ≡ 0 → meaning rounds steps h key ≡ reference key
-follow_end rounds steps h key a b = (λ i. meaning (a i) (b i) h key) ∙ ap (λ (g : Meanings). g key) (meaning_end h)
+pub follow_end : (rounds steps : ℕ) (h : Fields) (key : Utf8) → rounds ≡ 0 → steps ≡ 0 → table_meaning rounds steps h key ≡ reference key
+follow_end rounds steps h key a b = (λ i. table_meaning (a i) (b i) h key) ∙ ap (λ (g : Meanings). g key) (meaning_end h)
 
 -- readers with as many rounds and steps left in one table
-pub same_meanings : (r q : Reader) (rounds steps : ℕ) → q.table ≡ r.table → q.rounds ≡ rounds → q.steps ≡ steps → meaning rounds steps (fields_of r.table.now) ≡ meanings_of q
-same_meanings r q rounds steps t a b = sym (λ i. meaning (a i) (b i) (fields_of (t i).now))
+pub same_meanings : (r q : Reader) (rounds steps : ℕ) → q.table ≡ r.table → q.rounds ≡ rounds → q.steps ≡ steps → table_meaning rounds steps (fields_of r.table.now) ≡ meanings_of q
+same_meanings r q rounds steps t a b = sym (λ i. table_meaning (a i) (b i) (fields_of (t i).now))
 
 -- ---- reading
 
@@ -86,11 +86,11 @@ pub read_inside : (r q : Reader) (h : Fields) (s : Form) (n : Node) → q.readab
 read_inside r q h s n readable origin names = λ i. reads_from (origin i) (settled (readable i) (unrolled max_steps s (names i))) n
 
 -- a reference is read as its definition
-pub read_definition : (r : Reader) (d : Definition) (name : Utf8) (n : Node) → Means (Some d) r name → reads_for d.reader d.shape.now n ≡ reads_for r (reference name) n
+pub read_definition : (r : Reader) (d : Definition) (name : Utf8) (n : Node) → IsDefinedAs (Some d) r name → reads_for d.reader d.shape.now n ≡ reads_for r (reference name) n
 read_definition r d name n h = λ i. reads_from (h.2 i) (settled (h.1 i) (sym h.0 i)) n
 
 -- and refused where it has none, once the value is judged
-pub read_nothing : (r : Reader) (name : Utf8) (n : Node) → Means None r name → reads_for r (reference name) n ≡ (judged n >>= λ _. refused (unknown_reference name))
+pub read_nothing : (r : Reader) (name : Utf8) (n : Node) → IsDefinedAs None r name → reads_for r (reference name) n ≡ (judged n >>= λ _. refused (unknown_reference name))
 read_nothing r name n h = ap (λ s. reads_from r.origin (settled r.readable s) n) h
 
 -- ---- sizes
@@ -111,13 +111,13 @@ absent_formed : {T : Type 0} (b : Bool) (g : Meanings) (s : Form) → absent {T 
 absent_formed b g (optional s) = refl
 absent_formed b g s = refl
 
-due_absent : {T : Type 0} (b : Bool) (x y z w : Form) → absent {T = T} x ≡ absent z → absent {T = T} y ≡ absent w → absent {T = T} (cond b x y) ≡ absent (cond b z w)
-due_absent true x y z w h k = h
-due_absent false x y z w h k = k
+expected_absent : {T : Type 0} (b : Bool) (x y z w : Form) → absent {T = T} x ≡ absent z → absent {T = T} y ≡ absent w → absent {T = T} (cond b x y) ≡ absent (cond b z w)
+expected_absent true x y z w h k = h
+expected_absent false x y z w h k = k
 
 -- what stands for a missing field
 pub missing_formed : {T : Type 0} (b : Bool) (g : Meanings) (s : Form) → missing_value {T = T} (settled b (unrolled max_steps s g)) ≡ missing_value (settled b s)
-missing_formed b g (by_mode h c) = due_absent b (settled b (unrolled max_steps h g)) (settled b (unrolled max_steps c g)) (settled b h) (settled b c) (absent_formed b g h) (absent_formed b g c)
+missing_formed b g (by_mode h c) = expected_absent b (settled b (unrolled max_steps h g)) (settled b (unrolled max_steps c g)) (settled b h) (settled b c) (absent_formed b g h) (absent_formed b g c)
 missing_formed b g (optional s) = refl
 missing_formed b g s = refl
 

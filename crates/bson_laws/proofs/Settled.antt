@@ -155,6 +155,6 @@ absent_settled r (reference name) = refl
 absent_settled r (definitions h s) = refl
 
 -- of two forms the one that applies says what stands for a missing value
-pub missing_due : {T : Type 0} (r : Bool) (s t : Form) → missing_value {T = T} (settled r (by_mode s t)) ≡ absent {T = T} (cond r s t)
-missing_due true s t = absent_settled true s
-missing_due false s t = absent_settled false t
+pub missing_expected : {T : Type 0} (r : Bool) (s t : Form) → missing_value {T = T} (settled r (by_mode s t)) ≡ absent {T = T} (cond r s t)
+missing_expected true s t = absent_settled true s
+missing_expected false s t = absent_settled false t

@@ -4,9 +4,9 @@ use Rattle.bson_shape.specs.Form.{Form, leaf, optional, lossy, human_readable, b
 use Rattle.bson_laws.specs.Settled.{alike, settled, settled_fields, settled_parts, settled_variants, settled_content}
 use Rattle.bson_laws.proofs.Cut.{cut, cut_fields, cut_parts, cut_variants, cut_content}
 
-due_cut : (b : Bool) (s t : Form) (d : ℕ) → cut (cond b s t) d ≡ cond b (cut s d) (cut t d)
-due_cut true s t d = refl
-due_cut false s t d = refl
+expected_cut : (b : Bool) (s t : Form) (d : ℕ) → cut (cond b s t) d ≡ cond b (cut s d) (cut t d)
+expected_cut true s t d = refl
+expected_cut false s t d = refl
 
 -- the key of a map stays as it is
 mutual
@@ -15,7 +15,7 @@ mutual
   settled_cut r (optional s) d = ap optional (settled_cut r s d)
   settled_cut r (lossy s) d = ap lossy (settled_cut r s d)
   settled_cut r (human_readable s) d = ap human_readable (settled_cut true s d)
-  settled_cut r (by_mode s t) d = ap alike (due_cut r (settled r s) (settled r t) d ∙ (λ i. cond r (settled_cut r s d i) (settled_cut r t d i)))
+  settled_cut r (by_mode s t) d = ap alike (expected_cut r (settled r s) (settled r t) d ∙ (λ i. cond r (settled_cut r s d i) (settled_cut r t d i)))
   settled_cut r (sequence s) zero = refl
   settled_cut r (sequence s) (suc d) = ap sequence (settled_cut r s d)
   settled_cut r (map key s) zero = refl

@@ -25,10 +25,10 @@ use Rattle.bson_laws.specs.UuidBytes.{uuid_bytes}
 use Rattle.bson_laws.specs.Written.{zero_free, with_scope}
 use Rattle.bson_laws.specs.Spell.{Writing, spell_binary, spell_whole, spell_unwrapped, spell_scoped, spell_uuid, struct_at, reserved_at, enclosed_at, variant_at, named, written_key, spell_key, spell_number, spell_as, spell_items_as, spell_entries_as, spell_fields_as, spell_list, spell_part, spell, at_top, HoldsNumbers}
 use Rattle.bson_laws.proofs.Alike.{AreAlike, Both, SameScope, scopes_alike}
-use Rattle.bson_laws.proofs.Given.{IsGivenAny, AreGivenItems, AreGivenEntries, IsGivenLeaf, IsGiven, ItemsGiven, PartsGiven, EntriesGiven, FieldsGiven, given_leaf, given_lossy, given_due, given_body}
+use Rattle.bson_laws.proofs.Given.{IsGivenAny, AreGivenItems, AreGivenEntries, IsGivenLeaf, IsGiven, ItemsGiven, PartsGiven, EntriesGiven, FieldsGiven, given_leaf, given_lossy, given_expected, given_body}
 use Rattle.bson_laws.proofs.GivenRaw.{a_document, an_array, a_tree, a_binary, a_code, by_whole, IsGivenRaw}
 use Rattle.bson_laws.proofs.GivenTrees.{IsGivenTree, ArePairsGiven, AreTreesGiven, IsGivenExtended}
-use Rattle.bson_laws.proofs.Lent.{marked}
+use Rattle.bson_laws.proofs.Borrowed.{marked}
 use Rattle.bson_laws.proofs.Writable.{IsSmall, wide_small, short_small}
 
 -- ---- values whose numbers an Int64 holds
@@ -302,7 +302,7 @@ mutual
   pub given_signed : (at : Sight) (v : Value) (s : Form) → IsGiven at v s → AreSigned v
   given_signed at v (leaf l) g = leaf_signed (leaf_kind l) v (given_leaf at v l g).0
   given_signed at v (lossy s) g = given_signed (marked at) v s (given_lossy at v s g)
-  given_signed at v (by_mode readable compact) g = given_signed at v compact (given_due at v readable compact g)
+  given_signed at v (by_mode readable compact) g = given_signed at v compact (given_expected at v readable compact g)
   given_signed at v (definitions h s) g = given_signed at v s (given_body at v h s g)
   given_signed at (value.newtype m v) (human_readable s) g = given_signed at v s g.1
   given_signed at value.none (optional s) g = tt

@@ -8,11 +8,11 @@ use Rattle.bson_laws.specs.Leaves.{LeafKind, anything, ignored, booleans, number
 use Rattle.bson_laws.specs.Owned.{IsLeafOwned}
 use Rattle.bson_laws.specs.ReadsLeaf.{borrows}
 use Rattle.bson_laws.specs.SuitsTrees.{SuitsTrees, FieldsSuitTrees, PartsSuitTrees, VariantsSuitTrees, ContentSuitsTrees}
-use Rattle.bson_laws.proofs.Lent.{LeafLent, IsLent, AreFieldsLent, ArePartsLent, AreVariantsLent, IsContentLent, marked}
+use Rattle.bson_laws.proofs.Borrowed.{LeafBorrowed, IsBorrowed, AreFieldsBorrowed, ArePartsBorrowed, AreVariantsBorrowed, IsContentBorrowed, marked}
 
 -- in bytes a leaf has what it borrows; from a tree it borrows nothing
 abbrev pub LeafSuits : Origin → Sight → (is_borrowing : Bool) → LeafKind → Type 0
-LeafSuits origins.Bytes at l k = LeafLent at l k
+LeafSuits origins.Bytes at l k = LeafBorrowed at l k
 LeafSuits origins.Tree at l k = IsLeafOwned l k
 
 -- a mark makes nothing of a tree in memory
@@ -66,40 +66,40 @@ abbrev mutual
 -- ---- in bytes
 
 mutual
-  pub lent_suits : (at : Sight) (s : Form) → IsLent at s → Suits origins.Bytes at s
-  lent_suits at (leaf l) h = h
-  lent_suits at (optional s) h = lent_suits at s h
-  lent_suits at (lossy s) h = lent_suits (marked at) s h
-  lent_suits at (human_readable s) h = lent_suits at s h
-  lent_suits at (by_mode readable compact) h = (lent_suits at readable h.0, lent_suits at compact h.1)
-  lent_suits at (newtype name s) h = lent_suits at s h
-  lent_suits at (unit_structure name) h = tt
-  lent_suits at (sequence s) h = lent_suits at s h
-  lent_suits at (map key s) h = (lent_suits at key h.0, lent_suits at s h.1)
-  lent_suits at (tuple ps) h = parts_lent_suit at ps h
-  lent_suits at (tuple_structure name ps) h = parts_lent_suit at ps h
-  lent_suits at (enumeration vs) h = variants_lent_suit at vs h
-  lent_suits at (structure u name fs) h = fields_lent_suit at fs h
-  lent_suits at (reference name) h = tt
-  lent_suits at (definitions t s) h = lent_suits at s h
+  pub borrowed_suits : (at : Sight) (s : Form) → IsBorrowed at s → Suits origins.Bytes at s
+  borrowed_suits at (leaf l) h = h
+  borrowed_suits at (optional s) h = borrowed_suits at s h
+  borrowed_suits at (lossy s) h = borrowed_suits (marked at) s h
+  borrowed_suits at (human_readable s) h = borrowed_suits at s h
+  borrowed_suits at (by_mode readable compact) h = (borrowed_suits at readable h.0, borrowed_suits at compact h.1)
+  borrowed_suits at (newtype name s) h = borrowed_suits at s h
+  borrowed_suits at (unit_structure name) h = tt
+  borrowed_suits at (sequence s) h = borrowed_suits at s h
+  borrowed_suits at (map key s) h = (borrowed_suits at key h.0, borrowed_suits at s h.1)
+  borrowed_suits at (tuple ps) h = parts_borrowed_suit at ps h
+  borrowed_suits at (tuple_structure name ps) h = parts_borrowed_suit at ps h
+  borrowed_suits at (enumeration vs) h = variants_borrowed_suit at vs h
+  borrowed_suits at (structure u name fs) h = fields_borrowed_suit at fs h
+  borrowed_suits at (reference name) h = tt
+  borrowed_suits at (definitions t s) h = borrowed_suits at s h
 
-  fields_lent_suit : (at : Sight) (fs : Fields) → AreFieldsLent at fs → FieldsSuit origins.Bytes at fs
-  fields_lent_suit at no_fields h = tt
-  fields_lent_suit at (field name s fs) h = (lent_suits at s h.0, fields_lent_suit at fs h.1)
+  fields_borrowed_suit : (at : Sight) (fs : Fields) → AreFieldsBorrowed at fs → FieldsSuit origins.Bytes at fs
+  fields_borrowed_suit at no_fields h = tt
+  fields_borrowed_suit at (field name s fs) h = (borrowed_suits at s h.0, fields_borrowed_suit at fs h.1)
 
-  parts_lent_suit : (at : Sight) (ps : Parts) → ArePartsLent at ps → PartsSuit origins.Bytes at ps
-  parts_lent_suit at no_parts h = tt
-  parts_lent_suit at (part s ps) h = (lent_suits at s h.0, parts_lent_suit at ps h.1)
+  parts_borrowed_suit : (at : Sight) (ps : Parts) → ArePartsBorrowed at ps → PartsSuit origins.Bytes at ps
+  parts_borrowed_suit at no_parts h = tt
+  parts_borrowed_suit at (part s ps) h = (borrowed_suits at s h.0, parts_borrowed_suit at ps h.1)
 
-  variants_lent_suit : (at : Sight) (vs : Variants) → AreVariantsLent at vs → VariantsSuit origins.Bytes at vs
-  variants_lent_suit at no_variants h = tt
-  variants_lent_suit at (variant name c vs) h = (content_lent_suits at c h.0, variants_lent_suit at vs h.1)
+  variants_borrowed_suit : (at : Sight) (vs : Variants) → AreVariantsBorrowed at vs → VariantsSuit origins.Bytes at vs
+  variants_borrowed_suit at no_variants h = tt
+  variants_borrowed_suit at (variant name c vs) h = (content_borrowed_suits at c h.0, variants_borrowed_suit at vs h.1)
 
-  content_lent_suits : (at : Sight) (c : Content) → IsContentLent at c → ContentSuits origins.Bytes at c
-  content_lent_suits at unit_content h = tt
-  content_lent_suits at (newtype_content s) h = lent_suits at s h
-  content_lent_suits at (tuple_content ps) h = (tt, parts_lent_suit at ps h)
-  content_lent_suits at (struct_content fs) h = fields_lent_suit at fs h
+  content_borrowed_suits : (at : Sight) (c : Content) → IsContentBorrowed at c → ContentSuits origins.Bytes at c
+  content_borrowed_suits at unit_content h = tt
+  content_borrowed_suits at (newtype_content s) h = borrowed_suits at s h
+  content_borrowed_suits at (tuple_content ps) h = (tt, parts_borrowed_suit at ps h)
+  content_borrowed_suits at (struct_content fs) h = fields_borrowed_suit at fs h
 
 -- ---- from a tree
 
@@ -142,27 +142,27 @@ mutual
 
 -- ---- at a leaf
 
-text_lends : (at : Sight) (l : Bool) → IsLeafOwned l texts → LeafLent at l texts
-text_lends at true h = absurd h
-text_lends at false h = tt
+text_borrows : (at : Sight) (l : Bool) → IsLeafOwned l texts → LeafBorrowed at l texts
+text_borrows at true h = absurd h
+text_borrows at false h = tt
 
-owned_lent : (at : Sight) (l : Bool) (k : LeafKind) → IsLeafOwned l k → LeafLent at l k
-owned_lent at l texts h = text_lends at l h
-owned_lent at l byte_strings h = absurd h
-owned_lent at l anything h = tt
-owned_lent at l ignored h = tt
-owned_lent at l booleans h = tt
-owned_lent at l (numbers type) h = tt
-owned_lent at l doubles h = tt
-owned_lent at l characters h = tt
-owned_lent at l byte_buffers h = tt
-owned_lent at l units h = tt
-owned_lent at l (extended_values k) h = tt
-owned_lent at l raw_documents h = tt
-owned_lent at l raw_arrays h = tt
-owned_lent at l raw_values h = tt
+owned_borrowed : (at : Sight) (l : Bool) (k : LeafKind) → IsLeafOwned l k → LeafBorrowed at l k
+owned_borrowed at l texts h = text_borrows at l h
+owned_borrowed at l byte_strings h = absurd h
+owned_borrowed at l anything h = tt
+owned_borrowed at l ignored h = tt
+owned_borrowed at l booleans h = tt
+owned_borrowed at l (numbers type) h = tt
+owned_borrowed at l doubles h = tt
+owned_borrowed at l characters h = tt
+owned_borrowed at l byte_buffers h = tt
+owned_borrowed at l units h = tt
+owned_borrowed at l (extended_values k) h = tt
+owned_borrowed at l raw_documents h = tt
+owned_borrowed at l raw_arrays h = tt
+owned_borrowed at l raw_values h = tt
 
 -- what suits an origin borrows nothing that may not be borrowed
-pub suits_lent : (o : Origin) (at : Sight) (l : Bool) (k : LeafKind) → LeafSuits o at l k → LeafLent at l k
-suits_lent origins.Bytes at l k h = h
-suits_lent origins.Tree at l k h = owned_lent at l k h
+pub suits_borrowed : (o : Origin) (at : Sight) (l : Bool) (k : LeafKind) → LeafSuits o at l k → LeafBorrowed at l k
+suits_borrowed origins.Bytes at l k h = h
+suits_borrowed origins.Tree at l k h = owned_borrowed at l k h

@@ -19,7 +19,7 @@ use Rattle.bson_laws.specs.ReadsLeaf.{put_entry, read_any, any_items, any_entrie
 use Rattle.bson_laws.specs.Containers.{reads_items, reads_entries}
 use Rattle.bson_laws.specs.Views.{views_any, views_any_items, views_any_entries, views_items, views_entries}
 use Rattle.bson_laws.proofs.Judged.{ReadAs, judged_again}
-use Rattle.bson_laws.proofs.Lent.{owned_same}
+use Rattle.bson_laws.proofs.Borrowed.{owned_same}
 use Rattle.bson_laws.proofs.Items.{ReadsBack, items_again}
 use Rattle.bson_laws.proofs.Entries.{new_first, entries_again}
 

@@ -10,12 +10,12 @@ use Rattle.bson_laws.specs.Settled.{settled, settled_fields, settled_parts, sett
 use Rattle.bson_laws.specs.Unrolled.{Meanings, undefined, repeated, unrolled, unrolled_fields, unrolled_parts, unrolled_variants, unrolled_content, step, max_steps}
 
 -- what the names of a table mean where so many rounds, and so many steps, are left
-unfoldable pub meaning : (rounds steps : ℕ) → Fields → Meanings
-meaning rounds steps h = repeated steps (step max_steps h) (repeated rounds (repeated (suc (count h)) (step max_steps h)) undefined)
+unfoldable pub table_meaning : (rounds steps : ℕ) → Fields → Meanings
+table_meaning rounds steps h = repeated steps (step max_steps h) (repeated rounds (repeated (suc (count h)) (step max_steps h)) undefined)
 
 -- what references mean to a reader
 abbrev pub meanings_of : Reader → Meanings
-meanings_of r = meaning r.rounds r.steps (fields_of r.table.now)
+meanings_of r = table_meaning r.rounds r.steps (fields_of r.table.now)
 
 -- ---- what a shape is unrolled to
 
@@ -54,10 +54,10 @@ formed_content r c = settled_content r.readable (laid_content r c)
 -- ---- definitions
 
 -- the definition that a name means to a reader, and the reader for it; none where it means a reference without definition
-abbrev pub Means : Option Definition → Reader → Utf8 → Type 0
-Means None r name = meanings_of r name ≡ reference name
-Means (Some d) r name = (meanings_of r name ≡ laid d.reader d.shape.now) × (d.reader.readable ≡ r.readable) × (d.reader.origin ≡ r.origin)
+abbrev pub IsDefinedAs : Option Definition → Reader → Utf8 → Type 0
+IsDefinedAs None r name = meanings_of r name ≡ reference name
+IsDefinedAs (Some d) r name = (meanings_of r name ≡ laid d.reader d.shape.now) × (d.reader.readable ≡ r.readable) × (d.reader.origin ≡ r.origin)
 
 -- a form is read as the definition of each name that it is the definition of
 abbrev pub Follows : Option Definition → Reader → Form → Type 0
-Follows o r f = (name : Utf8) → definition (fields_of r.table.now) name ≡ Some f → Means o r name
+Follows o r f = (name : Utf8) → definition (fields_of r.table.now) name ≡ Some f → IsDefinedAs o r name

@@ -84,8 +84,8 @@ date_time_list list = do
   end_as milliseconds text.1
 
 -- a subtype and a text, which is to be base64 of bytes
-abbrev pub base64_text : {S : Type 0} → List (Part S) → Option (ℕ × Utf8)
-base64_text list = do
+abbrev pub base64_parts : {S : Type 0} → List (Part S) → Option (ℕ × Utf8)
+base64_parts list = do
   text ← next_text list
   value ← next_key (codes "subType") text.1
   digits ← next_text value
@@ -95,7 +95,7 @@ base64_text list = do
 -- a subtype and bytes, given as base64 and digits
 abbrev pub base64_list : {S : Type 0} → List (Part S) → Option (ℕ × Bytes)
 base64_list list = do
-  given ← base64_text list
+  given ← base64_parts list
   b ← bytes_of_base64 given.1
   Some (given.0, b)
 
@@ -123,7 +123,7 @@ abbrev pub base64_given : {S : Type 0} → ElementType → List (Part S) → Opt
 base64_given Binary list = do
   body ← next_key (codes "$binary") list
   value ← next_key_of (codes "base64") (codes "bytes") body
-  base64_text value
+  base64_parts value
 base64_given kind list = None
 
 -- a time and an increment

@@ -2,7 +2,7 @@
 ghost use Rattle.std.specs.Prelude.{◌≡◌};
 ghost use Rattle.bson_shape.specs.Form.{Form};
 ghost use Rattle.bson_shape.specs.ShapeView.{fields_of};
-ghost use Rattle.bson_laws.specs.Scopes.{formed, meanings_of, Means, Follows};
+ghost use Rattle.bson_laws.specs.Scopes.{formed, meanings_of, IsDefinedAs, Follows};
 ghost use Rattle.bson_laws.specs.Settled.{settled};
 ghost use Rattle.bson_laws.specs.Unrolled.{names_in, max_steps, whole};
 
@@ -80,7 +80,7 @@ impl<'s> Reader<'s> {
 
     /// What a name means: its definition, and the reader for it; `None` where it has none.
     pub fn definition(&self, name: &str) -> Option<Definition<'s>>
-        ensures means { Means result self.now name.now }
+        ensures means { IsDefinedAs result self.now name.now }
     {
         match definition(self.table, name) {
             None => None,

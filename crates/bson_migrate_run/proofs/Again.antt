@@ -88,7 +88,7 @@ bytes_cut file are = bytes_within (length file) 0 file are
 abbrev with_written : Recast → List Bytes → List Bytes
 with_written (writes b) rest = b ∷ rest
 with_written (unread f) rest = rest
-with_written (unwritten due long) rest = rest
+with_written (unwritten expected long) rest = rest
 
 abbrev written : Form → List Bytes → List Bytes
 written s [] = []
@@ -97,7 +97,7 @@ written s (p ∷ ps) = with_written (recast_of s p) (written s ps)
 front_joined : (r : Recast) (rest : List Bytes) → bytes_of r ++ joined rest ≡ joined (with_written r rest)
 front_joined (writes b) rest = refl
 front_joined (unread f) rest = refl
-front_joined (unwritten due long) rest = refl
+front_joined (unwritten expected long) rest = refl
 
 outputs_joined : (s : Form) (ps : List Bytes) → outputs s ps ≡ joined (written s ps)
 outputs_joined s [] = refl
@@ -107,13 +107,13 @@ abbrev IsKept : Form → Bytes → Type 0
 IsKept s b = recast_of s b ≡ writes b
 
 front_kept : (s : Form) (p : Bytes) (rest : List Bytes) → IsShape s → IsSettled s → AreBytes p → (r : Recast) → recast_of s p ≡ r → Each (IsKept s) rest → Each (IsKept s) (with_written r rest)
-front_kept s p rest shape due are (writes b) is h = (recast_again s p b shape due are is, h)
-front_kept s p rest shape due are (unread f) is h = h
-front_kept s p rest shape due are (unwritten refusal long) is h = h
+front_kept s p rest shape expected are (writes b) is h = (recast_again s p b shape expected are is, h)
+front_kept s p rest shape expected are (unread f) is h = h
+front_kept s p rest shape expected are (unwritten refusal long) is h = h
 
 written_kept : (s : Form) (ps : List Bytes) → IsShape s → IsSettled s → Each AreBytes ps → Each (IsKept s) (written s ps)
-written_kept s [] shape due are = tt
-written_kept s (p ∷ ps) shape due are = front_kept s p (written s ps) shape due are.0 (recast_of s p) refl (written_kept s ps shape due are.1)
+written_kept s [] shape expected are = tt
+written_kept s (p ∷ ps) shape expected are = front_kept s p (written s ps) shape expected are.0 (recast_of s p) refl (written_kept s ps shape expected are.1)
 
 kept_framed : (s : Form) (bs : List Bytes) → Each (IsKept s) bs → Each IsFramed bs
 kept_framed s [] h = tt
@@ -130,9 +130,9 @@ none_listed s n (b ∷ bs) h = ap (λ r. listed n r (not_recast s (suc n) bs)) h
 -- ---- the migration of what was migrated
 
 output_again : (s : Form) (ps : List Bytes) → IsShape s → IsSettled s → Each AreBytes ps → migration_of s (outputs s ps) ≡ migrated (outputs s ps) []
-output_again s ps shape due are =
+output_again s ps shape expected are =
     let bs = written s ps in
-    let kept = written_kept s ps shape due are in
+    let kept = written_kept s ps shape expected are in
     let is : outputs s ps ≡ joined bs = outputs_joined s ps in
     let cuts : cut (joined bs) ≡ record { pieces = bs; broken = None } = cut_joined 0 bs (kept_framed s bs kept) in
     subst (λ o. migration_of s o ≡ migrated o []) (sym is)
@@ -140,9 +140,9 @@ output_again s ps shape due are =
     ∙ ap (λ o. migrated o (not_recast s 0 bs)) (outputs_kept s bs kept) ∙ ap (migrated (joined bs)) (none_listed s 0 bs kept))
 
 answer_again : (s : Form) (ps : List Bytes) (break : Option ℕ) (m : Migration) → IsShape s → IsSettled s → Each AreBytes ps → IsMigration (migration_by break (outputs s ps) (not_recast s 0 ps)) (Ok m) → migration_of s m.output.items ≡ migrated m.output.items []
-answer_again s ps (Some place) m shape due are h = absurd h
-answer_again s ps None m shape due are h = subst (λ o. migration_of s o ≡ migrated o []) (sym h.0) (output_again s ps shape due are)
+answer_again s ps (Some place) m shape expected are h = absurd h
+answer_again s ps None m shape expected are h = subst (λ o. migration_of s o ≡ migrated o []) (sym h.0) (output_again s ps shape expected are)
 
 pub migrated_again : (s : Form) (file : Bytes) → IsShape s → IsSettled s → AreBytes file → (r : Result Migration MigrateError) → IsMigration (migration_of s file) r → IfOk r (λ m. migration_of s m.output.items ≡ migrated m.output.items [])
-migrated_again s file shape due are (Ok m) h = answer_again s (cut file).pieces (cut file).broken m shape due (bytes_cut file are) h
-migrated_again s file shape due are (Err e) h = tt
+migrated_again s file shape expected are (Ok m) h = answer_again s (cut file).pieces (cut file).broken m shape expected (bytes_cut file are) h
+migrated_again s file shape expected are (Err e) h = tt

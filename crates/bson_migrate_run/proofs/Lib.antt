@@ -2,4 +2,4 @@ pub mod Listing
 pub mod Again
 pub mod Settled
 pub mod WholeFiles
-pub mod LinesDue
+pub mod LinesExpected

@@ -39,9 +39,9 @@ listed_front n (writes b) rest (x ∷ more) xs h t = absurd h
 listed_front n (unread f) rest [] xs h t = absurd h
 listed_front n (unread f) rest (x ∷ []) xs h t = (h.0, t)
 listed_front n (unread f) rest (x ∷ y ∷ more) xs h t = absurd h.1
-listed_front n (unwritten due long) rest [] xs h t = absurd h
-listed_front n (unwritten due long) rest (x ∷ []) xs h t = (h.0, t)
-listed_front n (unwritten due long) rest (x ∷ y ∷ more) xs h t = absurd h.1
+listed_front n (unwritten expected long) rest [] xs h t = absurd h
+listed_front n (unwritten expected long) rest (x ∷ []) xs h t = (h.0, t)
+listed_front n (unwritten expected long) rest (x ∷ y ∷ more) xs h t = absurd h.1
 
 pub no_refusal : (b : Bytes) (e : RecastError) → IsRefusal (writes b) e → e ≢ NoMemory → ⊥
 no_refusal b (Read e) h n = absurd cc
@@ -52,7 +52,7 @@ no_refusal b NoMemory h n = n refl
 refusal_listed : (r : Recast) (x : Refused) → IsRefusal r x.error → x.error ≢ NoMemory → AreListed (listed x.number r []) (x ∷ []) × (bytes_of r ≡ [])
 refusal_listed (writes b) x h n = absurd (no_refusal b x.error h n)
 refusal_listed (unread f) x h n = ((record { number = refl; refusal = h; cause = n }, tt), refl)
-refusal_listed (unwritten due long) x h n = ((record { number = refl; refusal = h; cause = n }, tt), refl)
+refusal_listed (unwritten expected long) x h n = ((record { number = refl; refusal = h; cause = n }, tt), refl)
 
 pub one_refused : (r : Recast) (x : Refused) (old new : Bytes) (before after : List Refused) → IsRefusal r x.error → x.error ≢ NoMemory → new ≡ old → after ≡ before ++ x ∷ [] → IsOneMigrated x.number r old new before after
 one_refused r x old new before after h n kept grew =

@@ -3,7 +3,7 @@ use Rattle.std.specs.Prelude.{◌≡◌, ℕ, List, [], ◌∷◌, ◌++◌, fal
 use Rattle.std.specs.Fmt.{decimal}
 use Rattle.bson_kinds.specs.Text.{Utf8}
 use Rattle.bson_values.specs.Refusal.{WriteFault, Failure}
-use Rattle.bson_recast_run.specs.Due.{read_refused_line, write_refused_line}
+use Rattle.bson_recast_run.specs.PrintedLines.{read_refused_line, write_refused_line}
 use Rattle.bson_tree_recast.specs.Printed.{recast_error_text}
 use Rattle.bson_program.specs.OneShape.{Usage}
 use Rattle.bson_program.specs.ShapeWord.{newline}
@@ -45,7 +45,7 @@ refused_lines (x ∷ xs) = (refused_text x ++ newline) ++ refused_lines xs
 abbrev pub IsLine : (number : ℕ) → Recast → Utf8 → Type 0
 IsLine number (writes bytes) line = ⊥
 IsLine number (unread f) line = line ≡ of_document number (read_refused_line f)
-IsLine number (unwritten due too_long) line = (f : Failure WriteFault) × Unwritten (unwritten due too_long) f × (line ≡ of_document number (write_refused_line f))
+IsLine number (unwritten expected too_long) line = (f : Failure WriteFault) × Unwritten (unwritten expected too_long) f × (line ≡ of_document number (write_refused_line f))
 
 -- a line for each document that is not recast
 abbrev pub AreLines : List NotRecast → Utf8 → Type 0

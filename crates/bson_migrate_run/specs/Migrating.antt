@@ -26,7 +26,7 @@ pub data Migrating : Type 0 where
 abbrev pub bytes_of : Recast → Bytes
 bytes_of (writes bytes) = bytes
 bytes_of (unread f) = []
-bytes_of (unwritten due too_long) = []
+bytes_of (unwritten expected too_long) = []
 
 -- the recast documents, one behind another
 abbrev pub outputs : Form → List Bytes → Bytes
@@ -37,7 +37,7 @@ outputs s (piece ∷ pieces) = bytes_of (recast_of s piece) ++ outputs s pieces
 abbrev pub listed : (number : ℕ) → Recast → List NotRecast → List NotRecast
 listed number (writes bytes) rest = rest
 listed number (unread f) rest = record { number = number; recast = unread f } ∷ rest
-listed number (unwritten due too_long) rest = record { number = number; recast = unwritten due too_long } ∷ rest
+listed number (unwritten expected too_long) rest = record { number = number; recast = unwritten expected too_long } ∷ rest
 
 -- the documents that are not recast, of those from this number on
 abbrev pub not_recast : Form → (number : ℕ) → List Bytes → List NotRecast

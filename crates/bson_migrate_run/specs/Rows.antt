@@ -6,7 +6,7 @@ use Rattle.bson_shape.specs.Form.{Form}
 use Rattle.bson_program.specs.Input.{InputEnds, OnInput, input_status}
 use Rattle.bson_program.specs.OneShape.{one_shape}
 use Rattle.bson_program.specs.Program.{Program}
-use Rattle.bson_program.specs.Run.{Run, Due}
+use Rattle.bson_program.specs.Run.{Run, Expected}
 use Rattle.bson_migrate_run.specs.declared.migrating.Refused.{Refused}
 use Rattle.bson_migrate_run.specs.declared.status.MigrateStatus.{MigrateStatus}
 use Rattle.bson_migrate_run.specs.declared.status.MigrateStatus.TheVariants as statuses
@@ -33,7 +33,7 @@ pub record BrokenRow (migration : Migrating) (out line : Bytes) : Type 0 where
   pub nothing : out ≡ []
 
 -- what must be written for what the migration of a whole file comes to
-abbrev pub AnswersMigration : Migrating → Due MigrateStatus
+abbrev pub AnswersMigration : Migrating → Expected MigrateStatus
 AnswersMigration migration statuses.Done out lines = DoneRow migration out lines
 AnswersMigration migration statuses.SomeRefused out lines = SomeRefusedRow migration out lines
 AnswersMigration migration statuses.Broken out lines = BrokenRow migration out lines

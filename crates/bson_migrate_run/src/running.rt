@@ -8,7 +8,7 @@ ghost use Rattle.bson_shape.specs.Notation.{text};
 ghost use Rattle.bson_program.specs.Command.{Asked};
 ghost use Rattle.bson_program.specs.Ends.{source_change, sink_change};
 ghost use Rattle.bson_program.specs.Prepared.{Says};
-ghost use Rattle.bson_program.specs.Program.{IsDue, IsAnswered};
+ghost use Rattle.bson_program.specs.Program.{IsExpected, IsAnswered};
 ghost use Rattle.bson_program.specs.Run.{run_of, AllQuiet, AreKept};
 ghost use Rattle.bson_migrate_run.specs.declared.status.MigrateStatus.TheVariants as statuses;
 ghost use Rattle.bson_migrate_run.specs.Lines.{refused_lines};
@@ -102,7 +102,7 @@ fn prepare<I: Source>(
     words: &[String],
     input: &mut I,
 ) -> Result<Answer<MigrateStatus>, AllocError>
-    ensures due { IfOk result (Says (IsDue migrate_program (map string_bytes words.now) (source_change I.left I.faults input.old input.new))) }
+    ensures expected { IfOk result (Says (IsExpected migrate_program (map string_bytes words.now) (source_change I.left I.faults input.old input.new))) }
     ensures later { I.faults input.old ≤ I.faults input.new }
 {
     let shape = match asked(alloc, words)? {

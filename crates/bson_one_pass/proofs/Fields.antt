@@ -38,9 +38,9 @@ put_dropped key n [] free h = rw h refl
 put_dropped key n (s ∷ ss) free h = rw (free.0, put_dropped key n ss free.1 h) refl
 
 -- an element that a slot without a value takes, behind others
-pub put_due : (u : UnknownFields) (key : Utf8) (n : Node) (front back : Slots) (s : Slot) (v : Marked) → Lacks key front → bytes_eq s.name key ≡ true → s.value ≡ None → s.read n ≡ Ok v → put_at u key n (front ++ s ∷ back) ≡ Ok (front ++ filled s v ∷ back)
-put_due u key n [] back s v free same empty read = rw (same, empty, read) refl
-put_due u key n (f ∷ front) back s v free same empty read = rw (free.0, put_due u key n front back s v free.1 same empty read) refl
+pub put_expected : (u : UnknownFields) (key : Utf8) (n : Node) (front back : Slots) (s : Slot) (v : Marked) → Lacks key front → bytes_eq s.name key ≡ true → s.value ≡ None → s.read n ≡ Ok v → put_at u key n (front ++ s ∷ back) ≡ Ok (front ++ filled s v ∷ back)
+put_expected u key n [] back s v free same empty read = rw (same, empty, read) refl
+put_expected u key n (f ∷ front) back s v free same empty read = rw (free.0, put_expected u key n front back s v free.1 same empty read) refl
 
 -- ---- what is written
 

@@ -7,7 +7,7 @@ use Rattle.bson_kinds.specs.declared.element_type.ElementType.{ElementType}
 use Rattle.bson_rawdoc.specs.Node.{Node, node_in}
 use Rattle.bson_shape.specs.Form.{Form, sequence, reference, definitions, Fields}
 use Rattle.bson_shape.specs.ShapeView.{nodes}
-use Rattle.bson_laws.specs.Scopes.{meanings_of, laid, Means}
+use Rattle.bson_laws.specs.Scopes.{meanings_of, laid, IsDefinedAs}
 use Rattle.bson_laws.specs.Unrolled.{Meanings, unrolled, names_in, in_table, max_steps}
 use Rattle.bson_laws.specs.declared.origin.Definition.{Definition}
 use Rattle.bson_laws.specs.declared.origin.Reader.{Reader}
@@ -28,24 +28,24 @@ inside_put o r q h s levels n old new names put = subst (λ (t : Option Tree). I
 
 -- ---- a reference: its definition
 
-pub reference_smaller : (r : Reader) (d : Definition) (name : Utf8) → Means (Some d) r name → nodes (meanings_of r name) ≡ nodes (laid d.reader d.shape.now)
+pub reference_smaller : (r : Reader) (d : Definition) (name : Utf8) → IsDefinedAs (Some d) r name → nodes (meanings_of r name) ≡ nodes (laid d.reader d.shape.now)
 reference_smaller r d name means = ap nodes means.0
 
-reference_is : (r : Reader) (d : Definition) (name : Utf8) (levels : ℕ) (n : Node) → Means (Some d) r name → recast_for d.reader d.shape.now levels n ≡ recast_for r (reference name) levels n
+reference_is : (r : Reader) (d : Definition) (name : Utf8) (levels : ℕ) (n : Node) → IsDefinedAs (Some d) r name → recast_for d.reader d.shape.now levels n ≡ recast_for r (reference name) levels n
 reference_is r d name levels n means = λ i. recast_node (sym means.0 i) levels n
 
-pub reference_put : (o : Option ElementType) (r : Reader) (d : Definition) (name : Utf8) (levels : ℕ) (n : Node) (old new : Bytes) → Means (Some d) r name → IfSome o (IsPut (recast_for d.reader d.shape.now levels n) old new)
+pub reference_put : (o : Option ElementType) (r : Reader) (d : Definition) (name : Utf8) (levels : ℕ) (n : Node) (old new : Bytes) → IsDefinedAs (Some d) r name → IfSome o (IsPut (recast_for d.reader d.shape.now levels n) old new)
     → IfSome o (IsPut (recast_for r (reference name) levels n) old new)
 reference_put o r d name levels n old new means put = subst (λ (t : Option Tree). IfSome o (IsPut t old new)) (reference_is r d name levels n means) put
 
-pub reference_kept : (r : Reader) (d : Definition) (name : Utf8) (levels : ℕ) (k : ElementType) (b : Bytes) → Means (Some d) r name → IsKept (laid d.reader d.shape.now) levels k b → IsKept (laid r (reference name)) levels k b
+pub reference_kept : (r : Reader) (d : Definition) (name : Utf8) (levels : ℕ) (k : ElementType) (b : Bytes) → IsDefinedAs (Some d) r name → IsKept (laid d.reader d.shape.now) levels k b → IsKept (laid r (reference name)) levels k b
 reference_kept r d name levels k b means kept = subst (λ (t : Option Tree). IsPut t [] b k) (reference_is r d name levels (node_in levels k b) means) kept
 
 -- ---- a sequence of references
 
-sequence_is : (r : Reader) (d : Definition) (name : Utf8) (levels : ℕ) (n : Node) → Means (Some d) r name → recast_for d.reader (sequence d.shape.now) levels n ≡ recast_for r (sequence (reference name)) levels n
+sequence_is : (r : Reader) (d : Definition) (name : Utf8) (levels : ℕ) (n : Node) → IsDefinedAs (Some d) r name → recast_for d.reader (sequence d.shape.now) levels n ≡ recast_for r (sequence (reference name)) levels n
 sequence_is r d name levels n means = λ i. recast_node (sequence (sym means.0 i)) levels n
 
-pub sequence_put : (o : Option ElementType) (r : Reader) (d : Definition) (name : Utf8) (levels : ℕ) (n : Node) (old new : Bytes) → Means (Some d) r name → IfSome o (IsPut (recast_for d.reader (sequence d.shape.now) levels n) old new)
+pub sequence_put : (o : Option ElementType) (r : Reader) (d : Definition) (name : Utf8) (levels : ℕ) (n : Node) (old new : Bytes) → IsDefinedAs (Some d) r name → IfSome o (IsPut (recast_for d.reader (sequence d.shape.now) levels n) old new)
     → IfSome o (IsPut (recast_for r (sequence (reference name)) levels n) old new)
 sequence_put o r d name levels n old new means put = subst (λ (t : Option Tree). IfSome o (IsPut t old new)) (sequence_is r d name levels n means) put

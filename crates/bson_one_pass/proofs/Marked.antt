@@ -13,7 +13,7 @@ use Rattle.bson_shape.specs.ShapeView.{fields_of}
 use Rattle.bson_values.specs.Marked.{Marked, contents}
 use Rattle.bson_laws.specs.Judged.{Reading}
 use Rattle.bson_laws.specs.Owned.{IsOwned, AreFieldsOwned}
-use Rattle.bson_laws.specs.Scopes.{meaning, meanings_of, laid}
+use Rattle.bson_laws.specs.Scopes.{table_meaning, meanings_of, laid}
 use Rattle.bson_laws.specs.Spell.{spell}
 use Rattle.bson_laws.specs.Unrolled.{Meanings, undefined, repeated, unrolled, unrolled_name, step, max_steps}
 use Rattle.bson_laws.specs.declared.origin.Reader.{Reader}
@@ -43,8 +43,8 @@ repeated_owned : (n : ℕ) (f : Meanings → Meanings) (g : Meanings) → ((h : 
 repeated_owned zero f g keep owned = owned
 repeated_owned (suc n) f g keep owned = keep (repeated n f g) (repeated_owned n f g keep owned)
 
-meaning_owned : (rounds steps : ℕ) (h : Fields) → AreFieldsOwned h → AllOwned (meaning rounds steps h)
-unfolding meaning
+meaning_owned : (rounds steps : ℕ) (h : Fields) → AreFieldsOwned h → AllOwned (table_meaning rounds steps h)
+unfolding table_meaning
 meaning_owned rounds steps h owned =
     let keep : (g : Meanings) → AllOwned g → AllOwned (step max_steps h g) = λ g all name. name_owned h g all owned name in
     repeated_owned steps (step max_steps h) (repeated rounds (repeated (suc (count h)) (step max_steps h)) undefined) keep

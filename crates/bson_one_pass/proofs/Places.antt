@@ -28,7 +28,7 @@ use Rattle.bson_one_pass.specs.ReadsUnrolled.{reads, slots_of, missing_value}
 use Rattle.bson_one_pass.specs.Free.{is_free}
 use Rattle.bson_one_pass.specs.Put.{of_writing, recast_by, recast_for, recast_fields, IsElementPut, ArePairsPut}
 use Rattle.bson_one_pass.specs.Found.{name_of, names, AreWritten}
-use Rattle.bson_one_pass.proofs.Fields.{LacksName, names-append, filled, put_dropped, put_due, written_more, fields_end, fields_step}
+use Rattle.bson_one_pass.proofs.Fields.{LacksName, names-append, filled, put_dropped, put_expected, written_more, fields_end, fields_step}
 
 -- the slot of a field for a reader
 abbrev pub slot_of : Reader → FieldShape → Slot
@@ -113,10 +113,10 @@ module _ (reader : Reader) (u : UnknownFields) (fs : List FieldShape) (levels : 
       ∙ ap (map name_of) (take-append-drop place fs)
 
   -- the element of the next field
-  pub due_step : (old_walk new_walk : Walk) (e : Element) (f : FieldShape) (new : Bytes) → AreUnderWay reader u fs levels whole (nodes_with (node_in levels) old_walk) place old made → old_walk ≡ then_walk e new_walk → place < length fs
+  pub expected_step : (old_walk new_walk : Walk) (e : Element) (f : FieldShape) (new : Bytes) → AreUnderWay reader u fs levels whole (nodes_with (node_in levels) old_walk) place old made → old_walk ≡ then_walk e new_walk → place < length fs
       → f ≡ get_or fs place f → bytes_eq (name_of f) e.key ≡ true → AreDistinct (fields_of fs) → has_zero (name_of f) ≡ false → IsElementPut (recast_for reader f.shape levels (node_in levels e.kind e.value)) (name_of f) made new
       → AreUnderWay reader u fs levels whole (nodes_with (node_in levels) new_walk) (place + 1) old new
-  due_step old_walk new_walk e f new p step lt got same distinct closed h =
+  expected_step old_walk new_walk e f new p step lt got same distinct closed h =
       let n = node_in levels e.kind e.value in
       let ns = nodes_with (node_in levels) new_walk in
       let q = read_by levels (name_of f) made new (reads (laid reader f.shape) n) h in
@@ -132,7 +132,7 @@ module _ (reader : Reader) (u : UnknownFields) (fs : List FieldShape) (levels : 
         left = p.left
             ∙ ap (λ w. recast_fields u (p.front ++ slots_of (laid_fields reader (fields_of (drop place fs)))) levels (nodes_with (node_in levels) w)) step
             ∙ ap (λ xs. recast_fields u (p.front ++ slots_of (laid_fields reader (fields_of xs))) levels (then_node (borrowed e.key) n ns)) (left_there f lt got)
-            ∙ fields_step u levels (borrowed e.key) n ns (p.front ++ s ∷ back) (p.front ++ filled s q.0 ∷ back) (put_due u e.key n p.front back s q.0 lacks same refl q.2)
+            ∙ fields_step u levels (borrowed e.key) n ns (p.front ++ s ∷ back) (p.front ++ filled s q.0 ∷ back) (put_expected u e.key n p.front back s q.0 lacks same refl q.2)
             ∙ ap (λ ss. recast_fields u ss levels ns) (sym (append_assoc p.front (filled s q.0 ∷ []) back))
             ∙ ap (λ k. recast_fields u ((p.front ++ filled s q.0 ∷ []) ++ slots_of (laid_fields reader (fields_of (drop k fs)))) levels ns) (sym (add-one place));
         written = written_more levels p.front (filled s q.0) p.bytes el p.written (record { value = q.0; tree = q.1; given = refl; spelled = q.3; closed = closed; bytes_are = refl });

@@ -20,17 +20,17 @@ use Rattle.bson_one_pass.specs.Put.{recast_node, recast_for, recast_items, recas
 use Rattle.bson_one_pass.specs.Run.{IsHead, IsKept, run, size}
 use Rattle.bson_one_pass.proofs.Entries.{AreEntriesPut, entry_step}
 use Rattle.bson_one_pass.proofs.Items.{AreLeft, item_step}
-use Rattle.bson_one_pass.proofs.Places.{AreUnderWay, due_step, same_name}
+use Rattle.bson_one_pass.proofs.Places.{AreUnderWay, expected_step, same_name}
 use Rattle.bson_one_pass.proofs.Runs.{walk_next, next_kept}
 use Rattle.bson_one_pass.proofs.Tuples.{part_at_put}
 
 -- the element of the next field
-pub next_due : (reader : Reader) (u : UnknownFields) (fs : List FieldShape) (levels : ℕ) (whole : Option Pairs) (place at n : ℕ) (bytes : Bytes) (e : Element) (f : FieldShape) (old made new : Bytes)
+pub next_expected : (reader : Reader) (u : UnknownFields) (fs : List FieldShape) (levels : ℕ) (whole : Option Pairs) (place at n : ℕ) (bytes : Bytes) (e : Element) (f : FieldShape) (old made new : Bytes)
     → AreUnderWay reader u fs levels whole (nodes_with (node_in levels) (walk_elements (drop at bytes))) place old made → IsHead (drop at bytes) e → n ≡ size e → place < length fs → f ≡ get_or fs place f → bytes_eq (name_of f) e.key ≡ true
     → AreDistinct (fields_of fs) → IsElementPut (recast_for reader f.shape levels (node_in levels e.kind e.value)) e.key made new → AreUnderWay reader u fs levels whole (nodes_with (node_in levels) (walk_elements (drop (at + n) bytes))) (place + 1) old new
-next_due reader u fs levels whole place at n bytes e f old made new before head is lt got same distinct put =
+next_expected reader u fs levels whole place at n bytes e f old made new before head is lt got same distinct put =
     let named : name_of f ≡ e.key = same_name (name_of f) e.key same in
-    due_step reader u fs levels whole place old made (walk_elements (drop at bytes)) (walk_elements (drop (at + n) bytes)) e f new before (walk_next bytes at n e head is) lt got same distinct (ap has_zero named ∙ head.closed)
+    expected_step reader u fs levels whole place old made (walk_elements (drop at bytes)) (walk_elements (drop (at + n) bytes)) e f new before (walk_next bytes at n e head is) lt got same distinct (ap has_zero named ∙ head.closed)
     (subst (λ k. IsElementPut (recast_for reader f.shape levels (node_in levels e.kind e.value)) k made new) (sym named) put)
 
 -- the same, where it is left in the run from the first byte on
@@ -39,7 +39,7 @@ pub next_field_kept : (reader : Reader) (u : UnknownFields) (fs : List FieldShap
     → AreDistinct (fields_of fs) → IsKept (laid reader f.shape) levels e.kind e.value → AreUnderWay reader u fs levels whole (nodes_with (node_in levels) (walk_elements (drop (at + n) bytes))) (place + 1) [] (run bytes 0 (at + n))
 next_field_kept reader u fs levels whole place at n bytes e f before head is lt got same distinct kept =
     let put = subst (λ m. IsElementPut (recast_for reader f.shape levels (node_in levels e.kind e.value)) e.key (run bytes 0 at) (run bytes 0 (at + m))) (sym is) (next_kept (laid reader f.shape) levels bytes 0 at e [] (omega arith) head kept) in
-    next_due reader u fs levels whole place at n bytes e f [] (run bytes 0 at) (run bytes 0 (at + n)) before head is lt got same distinct put
+    next_expected reader u fs levels whole place at n bytes e f [] (run bytes 0 at) (run bytes 0 (at + n)) before head is lt got same distinct put
 
 -- the next element of an array
 pub next_item : (s : Form) (levels i j : ℕ) (whole : Option Trees) (at n : ℕ) (bytes : Bytes) (e : Element) (key : Utf8) (old made new : Bytes) → AreLeft whole (recast_items s levels i (nodes_with (node_in levels) (walk_elements (drop at bytes)))) i old made

@@ -9,7 +9,7 @@ use Rattle.bson_kinds.specs.Text.{Bytes}
 use Rattle.bson_io.specs.Ends.{TakesExactly}
 use Rattle.bson_program.specs.Ends.{SourceChange}
 use Rattle.bson_program.specs.Input.{InputEnds, WholeRow, OnInput, input_status}
-use Rattle.bson_program.specs.Run.{Due}
+use Rattle.bson_program.specs.Run.{Expected}
 
 -- at its end all that it told was read
 pub whole : (a b : Option Bytes) (bytes told : Bytes) → Consumes a b bytes → IsAtEnd b → a ≡ Some told → bytes ≡ told
@@ -25,7 +25,7 @@ long (Some xs) (Some ys) told count h taken =
     let same : xs ≡ told = cc in
     omega (arith, taken.all, length-append taken.bytes ys, ap length taken.taken, ap length same)
 
-module _ {Status : Type 0} (ends : InputEnds Status) (Answers : Bytes → Due Status) (input : SourceChange) (doc : Bytes) (told : input.before ≡ Some doc) where
+module _ {Status : Type 0} (ends : InputEnds Status) (Answers : Bytes → Expected Status) (input : SourceChange) (doc : Bytes) (told : input.before ≡ Some doc) where
   -- what must be written for a whole input must be written for the bytes that it told
   pub of_told : (status : Status) (out lines : Bytes) → WholeRow Answers input status out lines → (length doc ≤ max_bytes) × Answers doc status out lines
   of_told status out lines h =

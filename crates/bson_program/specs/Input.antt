@@ -4,7 +4,7 @@ use Rattle.bson_base.specs.Sound.{max_bytes}
 use Rattle.bson_kinds.specs.Text.{Bytes, Utf8}
 use Rattle.bson_io.specs.Ends.{Rose, TakesAtMost, TakesExactly}
 use Rattle.bson_program.specs.Ends.{SourceChange, ReadAs}
-use Rattle.bson_program.specs.Run.{Due}
+use Rattle.bson_program.specs.Run.{Expected}
 use Rattle.bson_program.specs.declared.endings.InputEndings.{InputEndings}
 
 -- how the program ends where its input failed, and where it is too long, with the line for that
@@ -20,7 +20,7 @@ abbrev pub source_fault_line : Utf8
 source_fault_line = codes "source fault\n"
 
 -- These bytes were the whole input, and this must be written for them.
-pub record WholeRow {Status : Type 0} (Answers : Bytes → Due Status) (input : SourceChange) (status : Status) (out lines : Bytes) : Type 0 where
+pub record WholeRow {Status : Type 0} (Answers : Bytes → Expected Status) (input : SourceChange) (status : Status) (out lines : Bytes) : Type 0 where
   pub bytes : Bytes
   pub read : ReadAs input bytes
   pub answer : Answers bytes status out lines
@@ -41,11 +41,11 @@ pub record SourceFaultRow {Status : Type 0} (ends : InputEnds Status) (input : S
   pub nothing : out ≡ []
 
 -- The input was not read to its end, as this line tells.
-abbrev pub IsUnread : {Status : Type 0} → InputEnds Status → SourceChange → Due Status
+abbrev pub IsUnread : {Status : Type 0} → InputEnds Status → SourceChange → Expected Status
 IsUnread ends input status out line = TooLongRow ends input status out line ⊎ SourceFaultRow ends input status out line
 
 -- what must be written for an input, by what must be written for the bytes of a whole one
-abbrev pub OnInput : {Status : Type 0} → InputEnds Status → (Answers : Bytes → Due Status) → SourceChange → Due Status
+abbrev pub OnInput : {Status : Type 0} → InputEnds Status → (Answers : Bytes → Expected Status) → SourceChange → Expected Status
 OnInput ends Answers input status out lines = WholeRow Answers input status out lines ⊎ IsUnread ends input status out lines
 
 -- the status for an input of these bytes, by that for the bytes of a whole one

@@ -4,13 +4,13 @@ use Rattle.std.specs.Global.{Vec}
 use Rattle.std.specs.declared.alloc.AllocError.{AllocError}
 use Rattle.bson_program.specs.Ends.{SourceChange, SinkChange, ReadAs}
 use Rattle.bson_program.specs.Input.{InputEnds, IsUnread}
-use Rattle.bson_program.specs.Run.{Due, AreKept, AreWritten, AreCut}
+use Rattle.bson_program.specs.Run.{Expected, AreKept, AreWritten, AreCut}
 use Rattle.bson_program.specs.declared.answer.Answer.{Answer}
 use Rattle.bson_program.specs.declared.endings.Endings.{Endings}
 
 -- the answer is what must be written
-abbrev pub Says : {Status : Type 0} → Due Status → Answer Status → Type 0
-Says IsDue a = IsDue a.status a.bytes.items (string_bytes a.lines)
+abbrev pub Says : {Status : Type 0} → Expected Status → Answer Status → Type 0
+Says IsExpected a = IsExpected a.status a.bytes.items (string_bytes a.lines)
 
 -- the whole input, or the answer where it was not read to its end
 abbrev pub IsTaken : {Status : Type 0} → InputEnds Status → SourceChange → Result (Vec ℕ) (Answer Status) → Type 0

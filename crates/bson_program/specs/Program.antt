@@ -5,7 +5,7 @@ use Rattle.std.specs.Io.KnownBytes.{Keeps}
 use Rattle.bson_kinds.specs.Text.{Bytes, Utf8}
 use Rattle.bson_program.specs.Command.{Command, IsAskedFor, IsRefused}
 use Rattle.bson_program.specs.Ends.{SourceChange}
-use Rattle.bson_program.specs.Run.{Run, Due, AllQuiet, AreKept, Told, CutShort}
+use Rattle.bson_program.specs.Run.{Run, Expected, AllQuiet, AreKept, Told, CutShort}
 use Rattle.bson_program.specs.declared.endings.Endings.{Endings}
 
 -- what a program does
@@ -13,7 +13,7 @@ pub record Program (Job Status : Type 0) : Type 1 where
   -- the job that its words ask for
   pub command : Command Job
   -- what must be written for a job on an input
-  pub Answers : Job → SourceChange → Due Status
+  pub Answers : Job → SourceChange → Expected Status
   -- the status for a job on an input of these bytes
   pub status : Job → Bytes → Status
   -- the status for words that ask for no job
@@ -35,8 +35,8 @@ pub record UsageRow {Job Status : Type 0} (p : Program Job Status) (words : List
   pub nothing : out ≡ []
 
 -- what must be written for these words on this input
-abbrev pub IsDue : {Job Status : Type 0} → Program Job Status → List Utf8 → SourceChange → Due Status
-IsDue p words input status out lines = JobRow p words input status out lines ⊎ UsageRow p words input status out lines
+abbrev pub IsExpected : {Job Status : Type 0} → Program Job Status → List Utf8 → SourceChange → Expected Status
+IsExpected p words input status out lines = JobRow p words input status out lines ⊎ UsageRow p words input status out lines
 
 -- the status for what the words ask for
 abbrev pub requested_status : {Job Status : Type 0} → Program Job Status → Result Job Utf8 → Bytes → Status
@@ -44,17 +44,17 @@ requested_status p (Ok job) bytes = p.status job bytes
 requested_status p (Err line) bytes = p.usage
 
 -- the status that must be returned for these words on an input of these bytes
-abbrev pub status_due : {Job Status : Type 0} → Program Job Status → List Utf8 → Bytes → Status
-status_due p words bytes = requested_status p (p.command.request words) bytes
+abbrev pub status_expected : {Job Status : Type 0} → Program Job Status → List Utf8 → Bytes → Status
+status_expected p words bytes = requested_status p (p.command.request words) bytes
 
 -- The table of answers.
 pub record IsAnswered {Job Status : Type 0} (p : Program Job Status) (r : Run Status) : Type 0 where
   -- each status comes only with exactly what must be written with it on the two sinks; but a sink failed, or memory ran out and nothing was written
-  pub ended : Told (IsDue p r.words r.input) r
-      ⊎ ((r.status ≡ p.endings.sink_fault) × CutShort (IsDue p r.words r.input) r)
+  pub ended : Told (IsExpected p r.words r.input) r
+      ⊎ ((r.status ≡ p.endings.sink_fault) × CutShort (IsExpected p r.words r.input) r)
       ⊎ ((r.status ≡ p.endings.no_memory) × AreKept r.out r.err)
   -- where the input tells its bytes, no count rose and no sink's count is at its last value, the status is the one that must be returned, or out of memory
-  pub complete : AllQuiet r → IfSome r.input.before (λ bytes. (r.status ≡ status_due p r.words bytes) ⊎ (r.status ≡ p.endings.no_memory))
+  pub complete : AllQuiet r → IfSome r.input.before (λ bytes. (r.status ≡ status_expected p r.words bytes) ⊎ (r.status ≡ p.endings.no_memory))
   -- no count falls
   pub input_later : r.input.faults_before ≤ r.input.faults_after
   pub out_later : r.out.faults_before ≤ r.out.faults_after

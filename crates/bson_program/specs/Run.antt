@@ -25,8 +25,8 @@ pub record AllQuiet {Status : Type 0} (r : Run Status) : Type 0 where
   pub err_below : r.err.faults_after < last_count
 
 -- what must be written with a status: these bytes to the output, and these lines to the output for lines
-abbrev pub Due : Type 0 → Type 1
-Due Status = Status → (out lines : Bytes) → Type 0
+abbrev pub Expected : Type 0 → Type 1
+Expected Status = Status → (out lines : Bytes) → Type 0
 
 -- Nothing was written.
 pub record AreKept (out err : SinkChange) : Type 0 where
@@ -48,16 +48,16 @@ pub record AreCut (bytes lines : Bytes) (out err : SinkChange) : Type 0 where
   pub no_room : FitsIn out.room bytes → FitsIn err.room lines → ⊥
 
 -- What had to be written with the status was written.
-pub record Told {Status : Type 0} (IsDue : Due Status) (r : Run Status) : Type 0 where
+pub record Told {Status : Type 0} (IsExpected : Expected Status) (r : Run Status) : Type 0 where
   pub bytes : Bytes
   pub lines : Bytes
-  pub due : IsDue r.status bytes lines
+  pub expected : IsExpected r.status bytes lines
   pub written : AreWritten bytes lines r.out r.err
 
 -- What had to be written with some status was cut short.
-pub record CutShort {Status : Type 0} (IsDue : Due Status) (r : Run Status) : Type 0 where
+pub record CutShort {Status : Type 0} (IsExpected : Expected Status) (r : Run Status) : Type 0 where
   pub status : Status
   pub bytes : Bytes
   pub lines : Bytes
-  pub due : IsDue status bytes lines
+  pub expected : IsExpected status bytes lines
   pub cut : AreCut bytes lines r.out r.err

@@ -35,9 +35,9 @@ use Rattle.bson_raw_builder.proofs.Rawless.{plain_is}
 -- ---- what is made
 
 -- what is made is what the value is
-pub made_is : {E : Type 0} (r : Result Datum E) (due : Reading Marked) (m : Marked) → due ≡ Ok m → IfOk r (λ d. marked d ≡ m) → IfOk r (λ d. due ≡ Ok (marked d))
-made_is (Ok d) due m e h = e ∙ ap Ok (sym h)
-made_is (Err x) due m e h = tt
+pub made_is : {E : Type 0} (r : Result Datum E) (expected : Reading Marked) (m : Marked) → expected ≡ Ok m → IfOk r (λ d. marked d ≡ m) → IfOk r (λ d. expected ≡ Ok (marked d))
+made_is (Ok d) expected m e h = e ∙ ap Ok (sym h)
+made_is (Err x) expected m e h = tt
 
 -- what is read is never refused
 pub never_refused : {A B : Type 0} (o : Option (Refusal ReadFault)) (x : A) (y : B) → RefusesAs o (let r : Reading A = Ok x in r) → RefusesAs o (let r : Reading B = Ok y in r)

@@ -22,8 +22,8 @@ use Rattle.bson_raw_builder.specs.Putting.{RefusesFor, with_value, looked_kind, 
 -- ---- refusals
 
 -- a failure for the cause of the definition
-pub refused_for : {A : Type 0} (f : Failure ReadFault) (c : Cause) (due : Building A) → f ≡ bare (unreadable c) → due ≡ Err c → RefusesFor f due
-refused_for f c due is e = subst (λ g. RefusesFor g due) (sym is) e
+pub refused_for : {A : Type 0} (f : Failure ReadFault) (c : Cause) (expected : Building A) → f ≡ bare (unreadable c) → expected ≡ Err c → RefusesFor f expected
+refused_for f c expected is e = subst (λ g. RefusesFor g expected) (sym is) e
 
 -- what is refused where a part is, is refused as the part is
 pub refuses_as : {A B C : Type 0} (f : Failure ReadFault) (g : A → B) (r : Building A) (s : Building C) → ((c : Cause) → r ≡ Err c → s ≡ Err c) → RefusesFor f (result_map g r) → RefusesFor f s
@@ -66,10 +66,10 @@ kind_over old key value k =
     λ i. before i ++ (byte k ∷ behind i)
 
 -- an element whose value was appended, and whose kind was then written over its place
-pub element_put : (old key new : Bytes) (k : ElementType) (due : Building Tree) → with_value (old ++ front key) due ≡ Ok (k, new)
-    → result_map (λ t. old ++ element (kind t) key (enc t)) due ≡ Ok (take (length old) new ++ (byte k ∷ drop (length old + 1) new))
-element_put old key new k due e =
-    let m = map_ok (λ t. (kind t, (old ++ front key) ++ enc t)) due (k, new) e in
+pub element_put : (old key new : Bytes) (k : ElementType) (expected : Building Tree) → with_value (old ++ front key) expected ≡ Ok (k, new)
+    → result_map (λ t. old ++ element (kind t) key (enc t)) expected ≡ Ok (take (length old) new ++ (byte k ∷ drop (length old + 1) new))
+element_put old key new k expected e =
+    let m = map_ok (λ t. (kind t, (old ++ front key) ++ enc t)) expected (k, new) e in
     let its : kind m.0 ≡ k = ap (λ (p : ElementType × Bytes). p.0) m.2 in
     let bytes : (old ++ front key) ++ enc m.0 ≡ new = ap (λ (p : ElementType × Bytes). p.1) m.2 in
     ap (result_map (λ t. old ++ element (kind t) key (enc t))) m.1
@@ -77,15 +77,15 @@ element_put old key new k due e =
     ∙ ap Ok (sym (kind_over old key (enc m.0) k) ∙ ap (λ b. take (length old) b ++ (byte k ∷ drop (length old + 1) b)) bytes)
 
 -- the same, by what each step of it left
-pub element_set : (old begun new final key : Bytes) (place : ℕ) (k : ElementType) (due : Building Tree) → place ≡ length old → begun ≡ old ++ front key → with_value begun due ≡ Ok (k, new)
-    → final ≡ take place new ++ (byte k ∷ drop (place + 1) new) → result_map (λ t. old ++ element (kind t) key (enc t)) due ≡ Ok final
-element_set old begun new final key place k due at is e f =
-    element_put old key new k due (ap (λ b. with_value b due) (sym is) ∙ e) ∙ ap Ok (ap (λ n. take n new ++ (byte k ∷ drop (n + 1) new)) (sym at) ∙ sym f)
+pub element_set : (old begun new final key : Bytes) (place : ℕ) (k : ElementType) (expected : Building Tree) → place ≡ length old → begun ≡ old ++ front key → with_value begun expected ≡ Ok (k, new)
+    → final ≡ take place new ++ (byte k ∷ drop (place + 1) new) → result_map (λ t. old ++ element (kind t) key (enc t)) expected ≡ Ok final
+element_set old begun new final key place k expected at is e f =
+    element_put old key new k expected (ap (λ b. with_value b expected) (sym is) ∙ e) ∙ ap Ok (ap (λ n. take n new ++ (byte k ∷ drop (n + 1) new)) (sym at) ∙ sym f)
 
 -- the place of the kind is there
-pub place_there : (old begun new key : Bytes) (place : ℕ) (k : ElementType) (due : Building Tree) → place ≡ length old → begun ≡ old ++ front key → with_value begun due ≡ Ok (k, new) → place < length new
-place_there old begun new key place k due at is e =
-    let m = map_ok (λ t. (kind t, begun ++ enc t)) due (k, new) e in
+pub place_there : (old begun new key : Bytes) (place : ℕ) (k : ElementType) (expected : Building Tree) → place ≡ length old → begun ≡ old ++ front key → with_value begun expected ≡ Ok (k, new) → place < length new
+place_there old begun new key place k expected at is e =
+    let m = map_ok (λ t. (kind t, begun ++ enc t)) expected (k, new) e in
     let bytes : begun ++ enc m.0 ≡ new = ap (λ (p : ElementType × Bytes). p.1) m.2 in
     omega (arith, at, ap length is, ap length bytes, length-append begun (enc m.0), length-append old (front key))
 
@@ -95,19 +95,19 @@ array_put old new (Ok ts) e = let is = ok_is (old ++ enc (array ts)) new e in ap
 array_put old new (Err c) e = absurd cc
 
 -- the same under a key of a document
-pub pair_set : (old begun new final key : Bytes) (place : ℕ) (k : ElementType) (due : Building Tree) → has_zero key ≡ false → place ≡ length old → begun ≡ old ++ front key → with_value begun due ≡ Ok (k, new)
-    → final ≡ take place new ++ (byte k ∷ drop (place + 1) new) → result_map (λ t. old ++ element (kind t) key (enc t)) (under_key key due) ≡ Ok final
-pair_set old begun new final key place k due z at is e f =
-    ap (result_map (λ t. old ++ element (kind t) key (enc t))) (free_key key due z) ∙ element_set old begun new final key place k due at is e f
+pub pair_set : (old begun new final key : Bytes) (place : ℕ) (k : ElementType) (expected : Building Tree) → has_zero key ≡ false → place ≡ length old → begun ≡ old ++ front key → with_value begun expected ≡ Ok (k, new)
+    → final ≡ take place new ++ (byte k ∷ drop (place + 1) new) → result_map (λ t. old ++ element (kind t) key (enc t)) (under_key key expected) ≡ Ok final
+pair_set old begun new final key place k expected z at is e f =
+    ap (result_map (λ t. old ++ element (kind t) key (enc t))) (free_key key expected z) ∙ element_set old begun new final key place k expected at is e f
 
-pub pair_refused : (f : Failure ReadFault) (old begun key : Bytes) (due : Building Tree) → has_zero key ≡ false → RefusesFor f (with_value begun due)
-    → RefusesFor f (result_map (λ t. old ++ element (kind t) key (enc t)) (under_key key due))
-pair_refused f old begun key due z x =
-    refuses_as f (λ t. (kind t, begun ++ enc t)) due _ (λ c e. ap (result_map (λ t. old ++ element (kind t) key (enc t))) (free_key key due z ∙ e)) x
+pub pair_refused : (f : Failure ReadFault) (old begun key : Bytes) (expected : Building Tree) → has_zero key ≡ false → RefusesFor f (with_value begun expected)
+    → RefusesFor f (result_map (λ t. old ++ element (kind t) key (enc t)) (under_key key expected))
+pair_refused f old begun key expected z x =
+    refuses_as f (λ t. (kind t, begun ++ enc t)) expected _ (λ c e. ap (result_map (λ t. old ++ element (kind t) key (enc t))) (free_key key expected z ∙ e)) x
 
 -- a key with a zero
-pub zero_refused : (old key : Bytes) (due : Building Tree) → has_zero key ≡ true → result_map (λ t. old ++ element (kind t) key (enc t)) (under_key key due) ≡ Err zero_byte
-zero_refused old key due z = ap (λ b. result_map (λ t. old ++ element (kind t) key (enc t)) (unless (cond b (Some (key_zero key)) None) due)) z
+pub zero_refused : (old key : Bytes) (expected : Building Tree) → has_zero key ≡ true → result_map (λ t. old ++ element (kind t) key (enc t)) (under_key key expected) ≡ Err zero_byte
+zero_refused old key expected z = ap (λ b. result_map (λ t. old ++ element (kind t) key (enc t)) (unless (cond b (Some (key_zero key)) None) expected)) z
 
 -- ---- the elements of a document and of an array
 

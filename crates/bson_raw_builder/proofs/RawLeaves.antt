@@ -41,7 +41,7 @@ use Rattle.bson_met.specs.declared.value.Value as met
 use Rattle.bson_met.specs.declared.value.Value.TheVariants as values
 use Rattle.bson_met.specs.declared.value.Value.TheVariants.{Document, Array}
 use Rattle.bson_met.proofs.Refusals.{StopsAs}
-use Rattle.bson_raw_builder.specs.RawTreeView.{IsRaw, raw_made, raw_at, or_not_borrowed, scope_tree, scoped_due}
+use Rattle.bson_raw_builder.specs.RawTreeView.{IsRaw, raw_made, raw_at, or_not_borrowed, scope_tree, scoped_expected}
 use Rattle.bson_raw_builder.proofs.RawTrees.{reading_is, whole_tree}
 
 -- ---- leaves
@@ -82,7 +82,7 @@ held_is (Some u) t e = ap Some cc
 
 module _ (code : Piece) (n : Node) where
   -- by the tree that its scope is
-  pub scoped_built : (ps : Pairs) → scope_tree n ≡ Ok (document ps) → scoped_due code n ≡ (as_reading (assembled_tree (javascript_code_with_scope code.bytes ps)) >>= built_value)
+  pub scoped_built : (ps : Pairs) → scope_tree n ≡ Ok (document ps) → scoped_expected code n ≡ (as_reading (assembled_tree (javascript_code_with_scope code.bytes ps)) >>= built_value)
   scoped_built ps e =
       let m = bind_ok (under scope_key (judged n)) (λ m. or_not_borrowed (held_scope m)) (document ps) e in
       let same = judged_is n m.0 (under_ok scope_key (judged n) m.0 m.1) in
@@ -94,18 +94,18 @@ module _ (code : Piece) (n : Node) where
   none_built None r e = ap Err cc
   none_built (Some t) r e = absurd cc
 
-  scoped_refused : (r : Refusal ReadFault) → scope_tree n ≡ Err r → scoped_due code n ≡ Err r
+  scoped_refused : (r : Refusal ReadFault) → scope_tree n ≡ Err r → scoped_expected code n ≡ Err r
   scoped_refused r e = by_case (under scope_key (judged n)) refl e where
     by_case : (u : Reading Node) → under scope_key (judged n) ≡ u → (u >>= λ m. or_not_borrowed (held_scope m)) ≡ Err r
         → (u >>= λ _. read_built (extended (node.javascript_code_with_scope code n) ended) >>= built_value) ≡ Err r
     by_case (Err x) is h = ap Err cc
     by_case (Ok m) is h = none_built (held_scope n) r (subst (λ k. or_not_borrowed (held_scope k) ≡ Err r) (sym (judged_is n m (under_ok scope_key (judged n) m is))) h)
 
-  refuses : (o : Option (Refusal ReadFault)) → RefusesAs o (scope_tree n) → RefusesAs o (scoped_due code n)
+  refuses : (o : Option (Refusal ReadFault)) → RefusesAs o (scope_tree n) → RefusesAs o (scoped_expected code n)
   refuses None h = tt
   refuses (Some r) h = scoped_refused r h
 
-  pub scoped_stops : (s : Stop Fault) → StopsAs s (scope_tree n) → StopsAs s (scoped_due code n)
+  pub scoped_stops : (s : Stop Fault) → StopsAs s (scope_tree n) → StopsAs s (scoped_expected code n)
   scoped_stops s h = refuses (stop_view read_fault s) h
 
 -- what is built of a code with a scope is one, with the same code

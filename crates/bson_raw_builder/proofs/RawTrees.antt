@@ -88,14 +88,14 @@ pub empty_built : (ps : Pairs) (t : Tree) → ps ≡ no_pairs → as_reading (as
 empty_built ps t is e = stays_is (Ok no_pairs) t (ap (λ p. result_map looked_tree (looked_at p 199)) (sym is) ∙ document_looked ps t e)
 
 module _ (ps rest : Pairs) (key : Utf8) (v : Tree) (o : Option Wrapper) (t : Tree) (is : ps ≡ pair key v rest) (known : of_key key ≡ o) (e : as_reading (assembled_tree (document ps)) ≡ Ok t) where
-  pub body_due : (w : Wrapper) → said_of o ≡ Body w → body_built w v ≡ Ok t
-  body_due w said = became_is (body_built w v) t (ap (result_map looked_tree) (sym (looked_body ps rest key v 199 w o is known said)) ∙ document_looked ps t e)
+  pub body_expected : (w : Wrapper) → said_of o ≡ Body w → body_built w v ≡ Ok t
+  body_expected w said = became_is (body_built w v) t (ap (result_map looked_tree) (sym (looked_body ps rest key v 199 w o is known said)) ∙ document_looked ps t e)
 
-  pub code_due : said_of o ≡ Code → code_built v rest 199 ≡ Ok t
-  code_due said = became_is (code_built v rest 199) t (ap (result_map looked_tree) (sym (looked_code ps rest key v 199 o is known said)) ∙ document_looked ps t e)
+  pub code_expected : said_of o ≡ Code → code_built v rest 199 ≡ Ok t
+  code_expected said = became_is (code_built v rest 199) t (ap (result_map looked_tree) (sym (looked_code ps rest key v 199 o is known said)) ∙ document_looked ps t e)
 
-  pub document_due : said_of o ≡ Ordinary → IsContainer (kind t)
-  document_due said = stays_is (built_pairs ps 199) t (ap (result_map looked_tree) (sym (looked_ordinary ps rest key v 199 o is known said)) ∙ document_looked ps t e)
+  pub document_expected : said_of o ≡ Ordinary → IsContainer (kind t)
+  document_expected said = stays_is (built_pairs ps 199) t (ap (result_map looked_tree) (sym (looked_ordinary ps rest key v 199 o is known said)) ∙ document_looked ps t e)
 
 -- ---- what is built of an array
 

@@ -18,22 +18,22 @@ use Rattle.bson_laws.specs.FirstKeys.{FirstKey, body, first_key}
 
 -- the failure is the refusal of the definition, without a path; nothing is said where memory ran out
 abbrev pub RefusesFor : {A : Type 0} → Failure ReadFault → Building A → Type 0
-RefusesFor no_memory due = Unit {0}
-RefusesFor (bare (unreadable c)) due = due ≡ Err c
-RefusesFor f due = ⊥
+RefusesFor no_memory expected = Unit {0}
+RefusesFor (bare (unreadable c)) expected = expected ≡ Err c
+RefusesFor f expected = ⊥
 
 -- the call gives what the definition gives, its value seen so, or the refusal of the definition; or memory ran out
 abbrev pub Gives : {X Y : Type 0} → (X → Y) → Result X Error → Building Y → Type 0
-Gives see (Ok x) due = due ≡ Ok (see x)
-Gives see (Err e) due = RefusesFor (read_failure e) due
+Gives see (Ok x) expected = expected ≡ Ok (see x)
+Gives see (Err e) expected = RefusesFor (read_failure e) expected
 
 -- a kind, and the bytes so far with those of a value of this kind behind them
 abbrev pub with_value : Bytes → Building Tree → Building (ElementType × Bytes)
-with_value old due = result_map (λ t. (kind t, old ++ enc t)) due
+with_value old expected = result_map (λ t. (kind t, old ++ enc t)) expected
 
 -- the value of the definition was appended, and its kind is answered
 abbrev pub Puts : Result ElementType Error → (old new : Bytes) → Building Tree → Type 0
-Puts result old new due = Gives (λ k. (k, new)) result (with_value old due)
+Puts result old new expected = Gives (λ k. (k, new)) result (with_value old expected)
 
 -- the kind of what a document becomes; none where it stays a document
 abbrev pub looked_kind : Looked → Option ElementType
@@ -41,23 +41,23 @@ looked_kind (stays ps) = None
 looked_kind (becomes t) = Some (kind t)
 
 abbrev pub with_looked : Bytes → Building Looked → Building (Option ElementType × Bytes)
-with_looked old due = result_map (λ x. (looked_kind x, old ++ enc (looked_tree x))) due
+with_looked old expected = result_map (λ x. (looked_kind x, old ++ enc (looked_tree x))) expected
 
 -- the same for a document that was looked at
 abbrev pub PutsLooked : Result (Option ElementType) Error → (old new : Bytes) → Building Looked → Type 0
-PutsLooked result old new due = Gives (λ k. (k, new)) result (with_looked old due)
+PutsLooked result old new expected = Gives (λ k. (k, new)) result (with_looked old expected)
 
 -- the part of the definition was appended as these bytes
 abbrev pub PutsPart : {A : Type 0} → (A → Bytes) → Result (Unit {0}) Error → (old new : Bytes) → Building A → Type 0
-PutsPart bytes result old new due = Gives (λ _. new) result (result_map (λ x. old ++ bytes x) due)
+PutsPart bytes result old new expected = Gives (λ _. new) result (result_map (λ x. old ++ bytes x) expected)
 
 -- what was appended as a whole, where it has no more bytes than a document may
 abbrev pub whole_of : ElementType → Bytes → Building RawBytes
 whole_of k b = if nat_lt max_bytes (length b) then Err too_long else Ok (record { kind = k; bytes = b })
 
 -- a part of a regular expression
-abbrev pub part_due : Utf8 → Building Utf8
-part_due t = unless (zero_fault t) (Ok t)
+abbrev pub part_expected : Utf8 → Building Utf8
+part_expected t = unless (zero_fault t) (Ok t)
 
 -- ---- first keys
 

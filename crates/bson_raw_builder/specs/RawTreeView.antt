@@ -56,20 +56,20 @@ IsWhole t = IsRawless t × (length (enc t) ≤ max_bytes)
 
 -- the kind and the bytes of what is built, or its refusal; or memory ran out
 abbrev pub IsBuilt : Result RawValue (Stop Fault) → Reading Tree → Type 0
-IsBuilt (Ok v) due = (t : Tree) × (due ≡ Ok t) × (raw_view v ≡ raw_bytes t) × IsWhole t
-IsBuilt (Err s) due = RefusesAs (stop_view read_fault s) due
+IsBuilt (Ok v) expected = (t : Tree) × (expected ≡ Ok t) × (raw_view v ≡ raw_bytes t) × IsWhole t
+IsBuilt (Err s) expected = RefusesAs (stop_view read_fault s) expected
 
 -- what is built of a document or of an array
-abbrev pub container_due : Node → Reading Tree
-container_due n = judged n >>= built_container
+abbrev pub container_expected : Node → Reading Tree
+container_expected n = judged n >>= built_container
 
 -- what was built, as a value
 abbrev pub as_value : Reading Tree → Reading Marked
 as_value r = r >>= built_value
 
 -- a value in a document that opening makes
-abbrev pub opened_due : Node → Reading Tree
-opened_due n = judged n >>= opened_tree
+abbrev pub opened_expected : Node → Reading Tree
+opened_expected n = judged n >>= opened_tree
 
 -- ---- values in their bytes
 
@@ -99,5 +99,5 @@ abbrev pub scope_tree : Node → Reading Tree
 scope_tree n = under scope_key (judged n) >>= λ m. or_not_borrowed (held_scope m)
 
 -- a code with its scope, as it is built
-abbrev pub scoped_due : Piece → Node → Reading Marked
-scoped_due code n = under scope_key (judged n) >>= λ _. as_value (read_built (extended (node.javascript_code_with_scope code n) ended))
+abbrev pub scoped_expected : Piece → Node → Reading Marked
+scoped_expected code n = under scope_key (judged n) >>= λ _. as_value (read_built (extended (node.javascript_code_with_scope code n) ended))

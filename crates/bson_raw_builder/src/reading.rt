@@ -20,7 +20,7 @@ ghost use Rattle.bson_met.specs.OpenedView.{extended_view, scope_node};
 ghost use Rattle.bson_met.specs.PieceView.{met_text};
 ghost use Rattle.bson_met.specs.ValueView.{value_view};
 ghost use Rattle.bson_raw_builder.specs.Putting.{Gives, body_built, code_built, is_body};
-ghost use Rattle.bson_raw_builder.specs.RawTreeView.{IsBuilt, IsCodeBuilt, IsContainer, IsRaw, IsRawless, IsWhole, as_value, container_due, opened_due, raw_at, scope_tree, scoped_due};
+ghost use Rattle.bson_raw_builder.specs.RawTreeView.{IsBuilt, IsCodeBuilt, IsContainer, IsRaw, IsRawless, IsWhole, as_value, container_expected, opened_expected, raw_at, scope_tree, scoped_expected};
 ghost use Rattle.bson_raw_builder.specs.RawValueView.{raw_view};
 
 use crate::bodies::body_of;
@@ -104,7 +104,7 @@ fn extended_value<'de>(
 
 // What the raw builder makes of a document or of an array.
 fn build_container<'x>(alloc: Global, value: &Met<'_>) -> Reading<RawValue<'x>>
-    ensures built { IsBuilt result (container_due value.now) }
+    ensures built { IsBuilt result (container_expected value.now) }
 {
     match value.judge(alloc)? {
         Value::Document(document) => build_document(alloc, document),
@@ -205,7 +205,7 @@ fn became_code<'x>(alloc: Global, value: &Bson, built: RawValue<'_>) -> Reading<
 
 // A code with a scope, for which a level is left, as the raw builder makes it.
 fn code_with_scope<'x>(alloc: Global, code: MetText<'_>, scope: Scope<'_>) -> Reading<Datum<'x>>
-    ensures exact { Reaches marked result (scoped_due (met_text code.entry) (scope_node scope.entry)) }
+    ensures exact { Reaches marked result (scoped_expected (met_text code.entry) (scope_node scope.entry)) }
 {
     let tree = scope_in_memory(alloc, scope)?;
     let owned = code.to_string(alloc)?;
@@ -280,7 +280,7 @@ fn document_of_opened(alloc: Global, document: MetDocument<'_>) -> Reading<Docum
 #[cycle(opened)]
 #[tactic(auto, using(bson_base::proofs::Rows::row_items))]
 fn value_of_opened(alloc: Global, value: &Met<'_>) -> Reading<Bson>
-    ensures exact { Reaches tree_of result (opened_due value.now) }
+    ensures exact { Reaches tree_of result (opened_expected value.now) }
 {
     match value.judge(alloc)? {
         Value::String(text) => Ok(Bson::String(text.to_string(alloc)?)),

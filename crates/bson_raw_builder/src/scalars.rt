@@ -5,7 +5,7 @@ ghost use Rattle.bson_kinds.specs.Kind.{byte};
 ghost use Rattle.bson_base.specs.Tree as trees;
 ghost use Rattle.bson_base.specs.Tree.{closed_text, le32};
 ghost use Rattle.bson_laws.specs.Assembled.{plain};
-ghost use Rattle.bson_raw_builder.specs.Putting.{Puts, PutsPart, part_due};
+ghost use Rattle.bson_raw_builder.specs.Putting.{Puts, PutsPart, part_expected};
 
 use crate::refused::refused;
 use bson_base::{DateTime, Decimal128, Double, MAX_BINARY, ObjectId, Timestamp, has_zero};
@@ -138,7 +138,7 @@ pub(crate) fn put_regular_expression(
 
 // Appends a part of a regular expression, closed by a zero.
 fn put_part(out: &mut Vec<u8>, part: &str) -> Result<()>
-    ensures { PutsPart (λ t. t ++ 0 ∷ []) result out.old.items out.new.items (part_due part.now) }
+    ensures { PutsPart (λ t. t ++ 0 ∷ []) result out.old.items out.new.items (part_expected part.now) }
 {
     if has_zero(part) {
         return Err(refused(Cause::ZeroByte));

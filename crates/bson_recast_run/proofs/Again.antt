@@ -27,7 +27,7 @@ use Rattle.bson_laws.proofs.ReadAgain.{document_size}
 use Rattle.bson_program.proofs.Inputs.{whole}
 use Rattle.bson_program.specs.Command.{IsAskedFor}
 use Rattle.bson_program.specs.Ends.{ReadAs}
-use Rattle.bson_program.specs.Program.{IsDue, IsAnswered}
+use Rattle.bson_program.specs.Program.{IsExpected, IsAnswered}
 use Rattle.bson_program.specs.Run.{Run, AllQuiet, AreKept, AreWritten, Told, CutShort}
 use Rattle.bson_de_raw.specs.ReadsLossy.{reads_lossy}
 use Rattle.bson_de_raw.proofs.Lossy.{lossy_document_again}
@@ -68,24 +68,24 @@ written_again read reads bytes out are e =
     subst (λ b. recast_read (read b) ≡ writes b) (sym w.is) (recast_as read (enc w.tree) next.0 w.tree next.1 next.2 fits)
 
 pub recast_again : (s : Form) (bytes out : Bytes) → IsShape s → IsSettled s → AreBytes bytes → recast_of s bytes ≡ writes out → recast_of s out ≡ writes out
-recast_again s bytes out shape due are e = written_again (reads_document s) (λ b d t h. document_again s b d t shape due h) bytes out are e
+recast_again s bytes out shape expected are e = written_again (reads_document s) (λ b d t h. document_again s b d t shape expected h) bytes out are e
 
 lossy_again : (s : Form) (bytes out : Bytes) → IsShape s → IsSettled s → AreBytes bytes → lossy_recast_of s bytes ≡ writes out → lossy_recast_of s out ≡ writes out
-lossy_again s bytes out shape due are e = written_again (reads_lossy s) (λ b d t h. lossy_document_again s b d t shape due h) bytes out are e
+lossy_again s bytes out shape expected are e = written_again (reads_lossy s) (λ b d t h. lossy_document_again s b d t shape expected h) bytes out are e
 
 pub given_back : (s : Form) (bytes : Bytes) → IsShape s → IsSettled s → AreBytes bytes → (r : Result (Vec ℕ) RecastError) → IsRecast (recast_of s bytes) r → IfOk r (λ v. recast_of s v.items ≡ writes v.items)
-given_back s bytes shape due are (Ok v) h = recast_again s bytes v.items shape due are h
-given_back s bytes shape due are (Err e) h = tt
+given_back s bytes shape expected are (Ok v) h = recast_again s bytes v.items shape expected are h
+given_back s bytes shape expected are (Err e) h = tt
 
 pub given_lossy_back : (s : Form) (bytes : Bytes) → IsShape s → IsSettled s → AreBytes bytes → (r : Result (Vec ℕ) RecastError) → IsRecast (lossy_recast_of s bytes) r → IfOk r (λ v. lossy_recast_of s v.items ≡ writes v.items)
-given_lossy_back s bytes shape due are (Ok v) h = lossy_again s bytes v.items shape due are h
-given_lossy_back s bytes shape due are (Err e) h = tt
+given_lossy_back s bytes shape expected are (Ok v) h = lossy_again s bytes v.items shape expected are h
+given_lossy_back s bytes shape expected are (Err e) h = tt
 
 -- the same in each way that is by value
 with_again : (way : Way) (s : Form) (bytes out : Bytes) → IsByValue way → IsShape s → IsSettled s → AreBytes bytes → recast_with way s bytes ≡ writes out → recast_with way s out ≡ writes out
-with_again ways.Plain s bytes out by shape due are e = recast_again s bytes out shape due are e
-with_again ways.Lossy s bytes out by shape due are e = lossy_again s bytes out shape due are e
-with_again ways.Tree s bytes out by shape due are e = absurd by
+with_again ways.Plain s bytes out by shape expected are e = recast_again s bytes out shape expected are e
+with_again ways.Lossy s bytes out by shape expected are e = lossy_again s bytes out shape expected are e
+with_again ways.Tree s bytes out by shape expected are e = absurd by
 
 with_fits : (way : Way) (s : Form) (bytes out : Bytes) → IsByValue way → recast_with way s bytes ≡ writes out → length out ≤ max_bytes
 with_fits ways.Plain s bytes out by e = written_fits (reads_document s) bytes out e
@@ -125,9 +125,9 @@ pub record HasWritten (r : Run Status) : Type 0 where
 
 has_written : (r : Run Status) (job : Job) → request r.words ≡ Ok (requests.Recast job) → r.status ≡ statuses.Done → IsAnswered recast_program r → HasWritten r
 has_written r job asks done answers = by_end answers.ended where
-  by_due : (bytes lines : Bytes) → AreWritten bytes lines r.out r.err → IsDue recast_program r.words r.input statuses.Done bytes lines → HasWritten r
-  by_due bytes lines written (inr row) = absurd (let e = row.ended in cc)
-  by_due bytes lines written (inl row) = by_request row.job row.asked row.answer where
+  by_expected : (bytes lines : Bytes) → AreWritten bytes lines r.out r.err → IsExpected recast_program r.words r.input statuses.Done bytes lines → HasWritten r
+  by_expected bytes lines written (inr row) = absurd (let e = row.ended in cc)
+  by_expected bytes lines written (inl row) = by_request row.job row.asked row.answer where
     by_request : (asked : Request) → IsAskedFor recast_command r.words asked → AnswersRequest asked r.input statuses.Done bytes lines → HasWritten r
     by_request (requests.Make rows) is h = absurd (let e = sym asks ∙ is.is in cc)
     by_request (requests.Recast job) is (inl h) =
@@ -135,8 +135,8 @@ has_written r job asks done answers = by_end answers.ended where
     by_request (requests.Recast job) is (inr (inl h)) = absurd (let e = h.ended in cc)
     by_request (requests.Recast job) is (inr (inr h)) = absurd (let e = h.ended in cc)
 
-  by_end : Told (IsDue recast_program r.words r.input) r ⊎ ((r.status ≡ statuses.SinkFault) × CutShort (IsDue recast_program r.words r.input) r) ⊎ ((r.status ≡ statuses.NoMemory) × AreKept r.out r.err) → HasWritten r
-  by_end (inl h) = by_due h.bytes h.lines h.written (subst (λ x. IsDue recast_program r.words r.input x h.bytes h.lines) done h.due)
+  by_end : Told (IsExpected recast_program r.words r.input) r ⊎ ((r.status ≡ statuses.SinkFault) × CutShort (IsExpected recast_program r.words r.input) r) ⊎ ((r.status ≡ statuses.NoMemory) × AreKept r.out r.err) → HasWritten r
+  by_end (inl h) = by_expected h.bytes h.lines h.written (subst (λ x. IsExpected recast_program r.words r.input x h.bytes h.lines) done h.expected)
   by_end (inr (inl h)) = absurd (let e = sym done ∙ h.0 in cc)
   by_end (inr (inr h)) = absurd (let e = sym done ∙ h.0 in cc)
 
@@ -150,7 +150,7 @@ shown_fits true document out small is digits = digits refl
 pub run_again : (first second : Run Status) (job : Job) (given out : Bytes) → request first.words ≡ Ok (requests.Recast job) → IsByValue job.options.way → IsSettled job.shape → IsAnswered recast_program first → first.status ≡ statuses.Done → AreBytes given → first.input.before ≡ Some given
     → first.out.before ≡ Some [] → first.out.after ≡ Some out → (AskForDigits first.words → length out ≤ max_bytes) → IsAnswered recast_program second → second.words ≡ first.words
     → second.input.before ≡ Some out → AllQuiet second → WritesExactly second out
-run_again first second job given out asked value due answers done are told empty holds short again words input quiet =
+run_again first second job given out asked value expected answers done are told empty holds short again words input quiet =
     let h = has_written first job asked done answers in
     let d = h.done in
     let o = h.job.options in
@@ -159,7 +159,7 @@ run_again first second job given out asked value due answers done are told empty
     let is_out : h.out ≡ out = grown first.out.before first.out.after h.out out empty holds h.out_grew in
     let same_request : requests.Recast job ≡ requests.Recast h.job = ok_is (requests.Recast job) (requests.Recast h.job) (sym asked ∙ h.asked.is) in
     let same_job : job ≡ h.job = cc in
-    let settled : IsSettled s = subst (λ (j : Job). IsSettled j.shape) same_job due in
+    let settled : IsSettled s = subst (λ (j : Job). IsSettled j.shape) same_job expected in
     let by : IsByValue o.way = subst (λ (j : Job). IsByValue j.options.way) same_job value in
     let held : document_in o.hex given ≡ Some d.document = sym (ap (document_in o.hex) is_input) ∙ d.holds in
     let shows : out ≡ shown o.hex d.written = sym is_out ∙ d.shows in

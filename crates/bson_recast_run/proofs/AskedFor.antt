@@ -14,7 +14,7 @@ use Rattle.bson_program.specs.OneShape.{one_shape}
 use Rattle.bson_recast_run.specs.declared.options.Job.{Job}
 use Rattle.bson_recast_run.specs.declared.options.Options.{Options}
 use Rattle.bson_recast_run.specs.declared.options.Request.TheVariants as requests
-use Rattle.bson_recast_run.specs.Due.{recast_usage}
+use Rattle.bson_recast_run.specs.PrintedLines.{recast_usage}
 use Rattle.bson_recast_run.specs.Making.{rows_asked}
 use Rattle.bson_recast_run.specs.Options.{no_options, options_of, job_of, job_request, job_command, request_of, request, IsList, IsNoList, RefusesJob}
 use Rattle.bson_recast_run.proofs.LeadingOptions.{led_by_options, no_option_taken, options_taken}

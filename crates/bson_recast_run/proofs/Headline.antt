@@ -19,7 +19,7 @@ use Rattle.bson_recast_run.specs.declared.options.Job.{Job}
 use Rattle.bson_recast_run.specs.declared.options.Request.TheVariants as requests
 use Rattle.bson_recast_run.specs.declared.status.Status.{Status}
 use Rattle.bson_recast_run.specs.declared.status.Status.TheVariants as statuses
-use Rattle.bson_recast_run.specs.Due.{recast_usage}
+use Rattle.bson_recast_run.specs.PrintedLines.{recast_usage}
 use Rattle.bson_program.proofs.Answered.{quiet_read}
 use Rattle.bson_program.specs.Program.{IsAnswered}
 use Rattle.bson_program.specs.Run.{Run, AllQuiet, AreKept, Told}
@@ -83,11 +83,11 @@ keeps_from (Some x) None h = absurd h
 keeps_from (Some x) (Some y) h = h ∙ append-nil x
 
 -- what must be written where the recast writes this document
-writes_due : (hex : Bool) (document : Bytes) (status : Status) (bytes line : Bytes) → AnswersRecast hex (writes document) status bytes line → (status ≡ statuses.Done) × (bytes ≡ shown hex document) × (line ≡ [])
-writes_due hex document statuses.Done bytes line h = (refl, h.shows ∙ ap (shown hex) (let e = h.answer in cc), h.no_line)
-writes_due hex document statuses.ReadRefused bytes line h = absurd (let e = h.answer in cc)
-writes_due hex document statuses.WriteRefused bytes line h = absurd h.answer
-writes_due hex document status bytes line h = absurd h
+writes_expected : (hex : Bool) (document : Bytes) (status : Status) (bytes line : Bytes) → AnswersRecast hex (writes document) status bytes line → (status ≡ statuses.Done) × (bytes ≡ shown hex document) × (line ≡ [])
+writes_expected hex document statuses.Done bytes line h = (refl, h.shows ∙ ap (shown hex) (let e = h.answer in cc), h.no_line)
+writes_expected hex document statuses.ReadRefused bytes line h = absurd (let e = h.answer in cc)
+writes_expected hex document statuses.WriteRefused bytes line h = absurd h.answer
+writes_expected hex document status bytes line h = absurd h
 
 -- Asked for a job on this input, which holds a document whose recast writes another, exactly that is written, or nothing.
 pub writes_job : (job : Job) (doc held out : Bytes) (r : Run Status) → IsAnswered recast_program r → length doc ≤ max_bytes → document_in job.options.hex doc ≡ Some held
@@ -96,9 +96,9 @@ writes_job job doc held out r answers small holds recast_is asked told quiet =
     by_end (quiet_read recast_program recast_input (AnswersJob job) r (requests.Recast job) doc quiet asked (λ status bytes line h. h) told small answers) where
       by_end : Told (AnswersJob job doc) r ⊎ ((r.status ≡ statuses.NoMemory) × AreKept r.out r.err) → WritesExactly r (shown job.options.hex out)
       by_end (inl h) =
-          let of_held : AnswersDocument job (Some held) r.status h.bytes h.lines = subst (λ d. AnswersDocument job d r.status h.bytes h.lines) holds h.due in
-          let due = writes_due job.options.hex out r.status h.bytes h.lines (subst (λ c. AnswersRecast job.options.hex c r.status h.bytes h.lines) recast_is of_held) in
-          inl (due.0, subst (Appends r.out.before r.out.after) due.1 h.written.out_grew, keeps_from r.err.before r.err.after (subst (Appends r.err.before r.err.after) due.2 h.written.err_grew))
+          let of_held : AnswersDocument job (Some held) r.status h.bytes h.lines = subst (λ d. AnswersDocument job d r.status h.bytes h.lines) holds h.expected in
+          let expected = writes_expected job.options.hex out r.status h.bytes h.lines (subst (λ c. AnswersRecast job.options.hex c r.status h.bytes h.lines) recast_is of_held) in
+          inl (expected.0, subst (Appends r.out.before r.out.after) expected.1 h.written.out_grew, keeps_from r.err.before r.err.after (subst (Appends r.err.before r.err.after) expected.2 h.written.err_grew))
       by_end (inr h) = inr h
 
 -- Given the notation of a shape and the bytes of a sound document, whose value at the shape means a sound document, exactly that document is written, or nothing.

@@ -5,7 +5,7 @@ use Rattle.std.specs.Str.{bytes_eq}
 use Rattle.std.proofs.lemmas.Slice.Eq.{bytes_eq-Decides}
 use Rattle.bson_kinds.specs.Text.{Utf8}
 use Rattle.bson_recast_run.specs.declared.options.Options.{Options}
-use Rattle.bson_recast_run.specs.Due.{recast_usage}
+use Rattle.bson_recast_run.specs.PrintedLines.{recast_usage}
 use Rattle.bson_kinds.proofs.Outcomes.{some_is}
 use Rattle.bson_recast_run.specs.declared.options.Way.{Way}
 use Rattle.bson_recast_run.specs.declared.options.Way.TheVariants as ways

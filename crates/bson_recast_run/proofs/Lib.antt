@@ -4,7 +4,7 @@ mod LeadingOptions
 pub mod AskedFor
 mod RowsAsked
 mod MadeRecast
-mod RowsDue
+mod RowsExpected
 pub mod Migrates
 pub mod Headline
 pub mod Settled

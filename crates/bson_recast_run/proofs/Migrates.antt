@@ -22,7 +22,7 @@ use Rattle.bson_laws.proofs.AtShapes.{views_reads, document_written, document_nu
 use Rattle.bson_laws.proofs.Spelled.{spell_means}
 use Rattle.bson_de_raw.specs.ReadsLossy.{reads_lossy}
 use Rattle.bson_de_raw.proofs.Lossy.{lossy_numbers, lossy_written, lossy_views_read}
-use Rattle.bson_ser_stream.specs.Writing.{IsDue, too_long_failure}
+use Rattle.bson_ser_stream.specs.Writing.{IsExpected, too_long_failure}
 use Rattle.bson_tree_recast.specs.declared.error.RecastError.{RecastError}
 use Rattle.bson_tree_recast.specs.declared.error.RecastError.TheVariants.{Read, Write, NoMemory}
 use Rattle.bson_tree_recast.specs.Recast.{writes, unread, written, recast_read, recast_of, Unwritten, IsRecast}
@@ -60,7 +60,7 @@ module _ (s : Form) (bytes : Bytes) (t u : Tree) (d : Value) (shape : IsShape s)
 -- ---- what was read is refused for its size alone
 
 -- the answer to a value that is not written
-value_refused : (d : Value) (b : Bool) (w : Writing Tree) (f : Failure WriteFault) → nat_lt max_bytes (size d) ≡ b → Unwritten (written b w) f → IsDue w f ⊎ ((f ≡ too_long_failure) × (max_bytes < size d))
+value_refused : (d : Value) (b : Bool) (w : Writing Tree) (f : Failure WriteFault) → nat_lt max_bytes (size d) ≡ b → Unwritten (written b w) f → IsExpected w f ⊎ ((f ≡ too_long_failure) × (max_bytes < size d))
 value_refused d b (Err r) f e (inl is) = inl is
 value_refused d b (Err r) f e (inr long) = inr (long.1, ltb-true _ _ (e ∙ long.0))
 value_refused d true (Ok t) f e (inl is) = absurd is
@@ -71,7 +71,7 @@ value_refused d false (Ok t) f e h = absurd h
 pub record IsValueRefused (answer : Result Value (Failure ReadFault)) (f : Failure WriteFault) : Type 0 where
   pub value : Value
   pub read : answer ≡ Ok value
-  pub refused : IsDue (spell_document value) f ⊎ ((f ≡ too_long_failure) × (max_bytes < size value))
+  pub refused : IsExpected (spell_document value) f ⊎ ((f ≡ too_long_failure) × (max_bytes < size value))
 
 unwritten_is : (f : Failure WriteFault) (answer : Result Value (Failure ReadFault)) → Unwritten (recast_read answer) f → IsValueRefused answer f
 unwritten_is f (Err e) h = absurd h
@@ -94,14 +94,14 @@ module _ (s : Form) (bytes : Bytes) (writes_it : (d : Value) → reads_document 
   value_is : (d e : Value) → reads_document s bytes ≡ Ok d → reads_document s bytes ≡ Ok e → d ≡ e
   value_is d e p q = let both : read d ≡ read e = sym p ∙ q in cc
 
-  due_for_size : (w : Writing Tree) (f : Failure WriteFault) → IsWrittenUnlessLarge w → IsDue w f → IsForSize s bytes f
-  due_for_size (Ok t) f u due = absurd due
-  due_for_size (Err r) f u due = inr (r.path, r.fault, due, u)
+  expected_for_size : (w : Writing Tree) (f : Failure WriteFault) → IsWrittenUnlessLarge w → IsExpected w f → IsForSize s bytes f
+  expected_for_size (Ok t) f u expected = absurd expected
+  expected_for_size (Err r) f u expected = inr (r.path, r.fault, expected, u)
 
   too_large : (f : Failure WriteFault) (h : IsValueRefused (reads_document s bytes) f) → IsForSize s bytes f
   too_large f h = by_cause h.refused where
-    by_cause : IsDue (spell_document h.value) f ⊎ ((f ≡ too_long_failure) × (max_bytes < size h.value)) → IsForSize s bytes f
-    by_cause (inl due) = due_for_size (spell_document h.value) f (writes_it h.value h.read) due
+    by_cause : IsExpected (spell_document h.value) f ⊎ ((f ≡ too_long_failure) × (max_bytes < size h.value)) → IsForSize s bytes f
+    by_cause (inl expected) = expected_for_size (spell_document h.value) f (writes_it h.value h.read) expected
     by_cause (inr long) = inl (long.0, λ d is. subst (λ x. max_bytes < size x) (value_is h.value d h.read is) long.1)
 
 pub for_size : (s : Form) (bytes : Bytes) → AreBytes bytes → IsShape s → IsWritable s → (r : Result (Vec ℕ) RecastError) → IsRecast (recast_of s bytes) r → IfUnwritten (IsForSize s bytes) r
@@ -113,10 +113,10 @@ lossy_for_size s bytes are shape writable r h = of_each (reads_lossy s bytes) (I
 
 -- ---- no number
 
-due_for_none : (w : Writing Tree) (f : Failure WriteFault) → HoldsNumbers w → IsDue w f → IsForNoNumber f
-due_for_none (Ok t) f u due = absurd due
-due_for_none (Err r) f u due = λ path fault is n.
-    let both : placed r.path (bare r.fault) ≡ placed path (bare fault) = sym due ∙ is in
+expected_for_none : (w : Writing Tree) (f : Failure WriteFault) → HoldsNumbers w → IsExpected w f → IsForNoNumber f
+expected_for_none (Ok t) f u expected = absurd expected
+expected_for_none (Err r) f u expected = λ path fault is n.
+    let both : placed r.path (bare r.fault) ≡ placed path (bare fault) = sym expected ∙ is in
     let same : r.fault ≡ fault = cc in
     u (subst IsNumber (sym same) n)
 
@@ -126,9 +126,9 @@ HasNumbers answer = (d : Value) → answer ≡ Ok d → HoldsNumbers (spell_docu
 
 no_number : (answer : Result Value (Failure ReadFault)) → HasNumbers answer → (f : Failure WriteFault) (h : IsValueRefused answer f) → IsForNoNumber f
 no_number answer holds f h = by_cause h.refused where
-  by_cause : IsDue (spell_document h.value) f ⊎ ((f ≡ too_long_failure) × (max_bytes < size h.value)) → IsForNoNumber f
-  by_cause (inl due) = due_for_none (spell_document h.value) f (holds h.value h.read) due
-  by_cause (inr long) = due_for_none (Err (here (unwritable too_long))) f (λ e. e) long.0
+  by_cause : IsExpected (spell_document h.value) f ⊎ ((f ≡ too_long_failure) × (max_bytes < size h.value)) → IsForNoNumber f
+  by_cause (inl expected) = expected_for_none (spell_document h.value) f (holds h.value h.read) expected
+  by_cause (inr long) = expected_for_none (Err (here (unwritable too_long))) f (λ e. e) long.0
 
 pub for_no_number : (s : Form) (bytes : Bytes) → AreBytes bytes → (r : Result (Vec ℕ) RecastError) → IsRecast (recast_of s bytes) r → IfUnwritten IsForNoNumber r
 for_no_number s bytes are r h = let read = reads_document s bytes in of_each read IsForNoNumber (no_number read (λ d is. document_numbers s bytes d are is)) r h

@@ -11,7 +11,7 @@ use Rattle.bson_values.specs.Refusal.{WriteFault, Failure, no_memory}
 use Rattle.bson_values.specs.ErrorView.{write_failure}
 use Rattle.bson_values.specs.declared.ser.Error as ser
 use Rattle.bson_laws.specs.Spell.{Writing, spell_document, size}
-use Rattle.bson_ser_stream.specs.Writing.{Fails, IsDue, too_long_failure}
+use Rattle.bson_ser_stream.specs.Writing.{Fails, IsExpected, too_long_failure}
 use Rattle.bson_tree_recast.specs.declared.error.RecastError.{RecastError}
 use Rattle.bson_tree_recast.specs.declared.error.RecastError.TheVariants.{Read, Write, NoMemory}
 use Rattle.bson_tree_recast.specs.Recast.{writes, written, recast_read, Unwritten, IsRefusal, IsWriteError}
@@ -25,21 +25,21 @@ within false (Ok t) bytes e is = let same : enc t ≡ bytes = cc in ap writes sa
 within false (Err r) bytes e is = absurd cc
 
 -- a value that is refused, or is too long
-refused_or : (b : Bool) (w : Writing Tree) (f : Failure WriteFault) → IsDue w f ⊎ ((b ≡ true) × (f ≡ too_long_failure)) → Unwritten (written b w) f
+refused_or : (b : Bool) (w : Writing Tree) (f : Failure WriteFault) → IsExpected w f ⊎ ((b ≡ true) × (f ≡ too_long_failure)) → Unwritten (written b w) f
 refused_or b (Err r) f h = h
-refused_or true (Ok t) f (inl due) = absurd due
+refused_or true (Ok t) f (inl expected) = absurd expected
 refused_or true (Ok t) f (inr long) = inr long
-refused_or false (Ok t) f (inl due) = absurd due
+refused_or false (Ok t) f (inl expected) = absurd expected
 refused_or false (Ok t) f (inr long) = absurd (let e = long.0 in cc)
 
-due : (d : Value) (f : Failure WriteFault) → f ≢ no_memory → Fails (size d) (spell_document d) f → IsDue (spell_document d) f ⊎ ((nat_lt max_bytes (size d) ≡ true) × (f ≡ too_long_failure))
-due d f n (inl none) = absurd (n none)
-due d f n (inr (inl h)) = inl h
-due d f n (inr (inr h)) = inr (lt-ltb _ _ h.1, h.0)
+expected : (d : Value) (f : Failure WriteFault) → f ≢ no_memory → Fails (size d) (spell_document d) f → IsExpected (spell_document d) f ⊎ ((nat_lt max_bytes (size d) ≡ true) × (f ≡ too_long_failure))
+expected d f n (inl none) = absurd (n none)
+expected d f n (inr (inl h)) = inl h
+expected d f n (inr (inr h)) = inr (lt-ltb _ _ h.1, h.0)
 
 pub write_error : (d : Value) (e : ser.Error) (r : RecastError) → Fails (size d) (spell_document d) (write_failure e) → IsWriteError e r → IsRefusal (recast_read (Ok d)) r
 write_error d e NoMemory h is = tt
 write_error d e (Write x) h is =
-    let answer : Unwritten (recast_read (Ok d)) (write_failure e) = refused_or (nat_lt max_bytes (size d)) (spell_document d) (write_failure e) (due d (write_failure e) is.1 h) in
+    let answer : Unwritten (recast_read (Ok d)) (write_failure e) = refused_or (nat_lt max_bytes (size d)) (spell_document d) (write_failure e) (expected d (write_failure e) is.1 h) in
     subst (λ y. Unwritten (recast_read (Ok d)) (write_failure y)) (sym is.0) answer
 write_error d e (Read x) h is = absurd is

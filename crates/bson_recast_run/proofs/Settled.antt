@@ -18,7 +18,7 @@ use Rattle.bson_recast_run.specs.Rows.{AnswersRecast, AnswersNotDigits, AnswersD
 status_unwritten : (r : Recast) (f : Failure WriteFault) → Unwritten r f → recast_status r ≡ statuses.WriteRefused
 status_unwritten (writes bytes) f h = absurd h
 status_unwritten (unread e) f h = absurd h
-status_unwritten (unwritten due too_long) f h = refl
+status_unwritten (unwritten expected too_long) f h = refl
 
 status_is : (hex : Bool) (r : Recast) (status : Status) (out line : Bytes) → AnswersRecast hex r status out line → status ≡ recast_status r
 status_is hex r statuses.Done out line h = sym (ap recast_status h.answer)

@@ -1,6 +1,6 @@
 pub mod Number
 pub mod Recasting
-pub mod Due
+pub mod PrintedLines
 pub mod Making
 pub mod Options
 pub mod Digits

@@ -9,7 +9,7 @@ use Rattle.bson_shape.specs.Notation.{text}
 use Rattle.bson_program.specs.Command.{Command}
 use Rattle.bson_program.specs.OneShape as one_shape
 use Rattle.bson_program.specs.ShapeWord.{RefusesWord}
-use Rattle.bson_recast_run.specs.Due.{recast_usage}
+use Rattle.bson_recast_run.specs.PrintedLines.{recast_usage}
 use Rattle.bson_recast_run.specs.Making.{AskForRows, rows_asked}
 use Rattle.bson_recast_run.specs.declared.options.Job.{Job}
 use Rattle.bson_recast_run.specs.declared.options.Options.{Options}

@@ -6,14 +6,14 @@ use Rattle.bson_values.specs.Refusal.{ReadFault, WriteFault, Failure}
 use Rattle.bson_program.specs.Ends.{SourceChange}
 use Rattle.bson_program.specs.Input.{InputEnds, OnInput, input_status}
 use Rattle.bson_program.specs.Program.{Program}
-use Rattle.bson_program.specs.Run.{Run, Due, AreKept}
+use Rattle.bson_program.specs.Run.{Run, Expected, AreKept}
 use Rattle.bson_recast_run.specs.declared.options.Job.{Job}
 use Rattle.bson_recast_run.specs.declared.options.Request.{Request}
 use Rattle.bson_recast_run.specs.declared.options.Request.TheVariants as requests
 use Rattle.bson_recast_run.specs.declared.status.Status.{Status}
 use Rattle.bson_recast_run.specs.declared.status.Status.TheVariants as statuses
 use Rattle.bson_recast_run.specs.Digits.{document_in, shown}
-use Rattle.bson_recast_run.specs.Due.{read_refused_line, write_refused_line, too_long_line, not_digits_line}
+use Rattle.bson_recast_run.specs.PrintedLines.{read_refused_line, write_refused_line, too_long_line, not_digits_line}
 use Rattle.bson_recast_run.specs.Making.{IsMadeLine}
 use Rattle.bson_recast_run.specs.Options.{recast_command}
 use Rattle.bson_recast_run.specs.Recasting.{recast_with}
@@ -47,31 +47,31 @@ pub record NotDigitsRow (out line : Bytes) : Type 0 where
   pub nothing : out ≡ []
 
 -- what must be written for what the recast of a whole document comes to
-abbrev pub AnswersRecast : (hex : Bool) → Recast → Due Status
+abbrev pub AnswersRecast : (hex : Bool) → Recast → Expected Status
 AnswersRecast hex recast statuses.Done out line = DoneRow hex recast out line
 AnswersRecast hex recast statuses.ReadRefused out line = ReadRefusedRow recast out line
 AnswersRecast hex recast statuses.WriteRefused out line = WriteRefusedRow recast out line
 AnswersRecast hex recast status out line = ⊥
 
 -- what must be written where an input is to be digits and is not
-abbrev pub AnswersNotDigits : Due Status
+abbrev pub AnswersNotDigits : Expected Status
 AnswersNotDigits statuses.ReadRefused out line = NotDigitsRow out line
 AnswersNotDigits status out line = ⊥
 
 -- what must be written for a job on the document that an input holds
-abbrev pub AnswersDocument : Job → Option Bytes → Due Status
+abbrev pub AnswersDocument : Job → Option Bytes → Expected Status
 AnswersDocument job (Some document) = AnswersRecast job.options.hex (recast_with job.options.way job.shape document)
 AnswersDocument job None = AnswersNotDigits
 
 -- what must be written for a job on a whole input
-abbrev pub AnswersJob : Job → Bytes → Due Status
+abbrev pub AnswersJob : Job → Bytes → Expected Status
 AnswersJob job bytes = AnswersDocument job (document_in job.options.hex bytes)
 
 -- the status for what a recast comes to
 abbrev pub recast_status : Recast → Status
 recast_status (writes bytes) = statuses.Done
 recast_status (unread f) = statuses.ReadRefused
-recast_status (unwritten due too_long) = statuses.WriteRefused
+recast_status (unwritten expected too_long) = statuses.WriteRefused
 
 -- the status for a job on the document that an input holds
 abbrev pub document_status : Job → Option Bytes → Status
@@ -84,7 +84,7 @@ pub record MadeRow (rows : ℕ) (out line : Bytes) : Type 0 where
   pub no_line : line ≡ []
 
 -- what must be written for so many rows
-abbrev pub AnswersRows : (rows : ℕ) → Due Status
+abbrev pub AnswersRows : (rows : ℕ) → Expected Status
 AnswersRows rows statuses.Done out line = MadeRow rows out line
 AnswersRows rows status out line = ⊥
 
@@ -93,7 +93,7 @@ abbrev pub recast_input : InputEnds Status
 recast_input = record { source_fault = statuses.SourceFault; too_long = statuses.ReadRefused; too_long_line = too_long_line }
 
 -- what must be written for what is asked for; for rows the input is not touched
-abbrev pub AnswersRequest : Request → SourceChange → Due Status
+abbrev pub AnswersRequest : Request → SourceChange → Expected Status
 AnswersRequest (requests.Recast job) input status out line = OnInput recast_input (AnswersJob job) input status out line
 AnswersRequest (requests.Make rows) input status out line = Keeps input.before input.after × AnswersRows rows status out line
 

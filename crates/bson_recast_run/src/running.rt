@@ -16,9 +16,9 @@ ghost use Rattle.bson_program.specs.OneShape.{one_shape};
 ghost use Rattle.bson_program.specs.Ends.{source_change, sink_change};
 ghost use Rattle.bson_program.specs.Input.{OnInput};
 ghost use Rattle.bson_program.specs.Prepared.{Says};
-ghost use Rattle.bson_program.specs.Program.{IsDue, IsAnswered};
+ghost use Rattle.bson_program.specs.Program.{IsExpected, IsAnswered};
 ghost use Rattle.bson_program.specs.Run.{Run, run_of, AllQuiet};
-ghost use Rattle.bson_recast_run.specs.Due.{recast_usage};
+ghost use Rattle.bson_recast_run.specs.PrintedLines.{recast_usage};
 ghost use Rattle.bson_recast_run.specs.Making.{max_rows};
 ghost use Rattle.bson_recast_run.specs.Options.{AskForDigits, IsByValue, job_command, request};
 ghost use Rattle.bson_recast_run.specs.Recasting.{recast_with};
@@ -138,7 +138,7 @@ fn answer_to_job<I: Source>(
     job: &Job,
     input: &mut I,
 ) -> Result<Answer<Status>, AllocError>
-    ensures due { IfOk result (Says (OnInput recast_input (AnswersJob job.now) (source_change I.left I.faults input.old input.new))) }
+    ensures expected { IfOk result (Says (OnInput recast_input (AnswersJob job.now) (source_change I.left I.faults input.old input.new))) }
     ensures later { I.faults input.old ≤ I.faults input.new }
 {
     match read_input(alloc, INPUT_ENDINGS, input)? {
@@ -165,7 +165,7 @@ fn prepare<I: Source>(
     words: &[String],
     input: &mut I,
 ) -> Result<Answer<Status>, AllocError>
-    ensures due { IfOk result (Says (IsDue recast_program (map string_bytes words.now) (source_change I.left I.faults input.old input.new))) }
+    ensures expected { IfOk result (Says (IsExpected recast_program (map string_bytes words.now) (source_change I.left I.faults input.old input.new))) }
     ensures later { I.faults input.old ≤ I.faults input.new }
 {
     match asked(alloc, words)? {

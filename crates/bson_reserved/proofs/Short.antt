@@ -8,7 +8,7 @@ use Rattle.bson_base.specs.Tree as tree
 use Rattle.bson_kinds.specs.declared.element_type.ElementType.{ElementType}
 use Rattle.bson_kinds.specs.declared.element_type.ElementType.TheVariants as kinds
 use Rattle.bson_values.specs.Value.{FieldValues, Value, str, bytes, integer, u8, i64, map, raw_document}
-use Rattle.bson_laws.specs.Unwrap.{Part, a_key, a_value, ◌>>=◌, next_key, next_key_of, next_text, next_bytes, next_byte, next_unsigned, next_scope, end_as, object_id_list, date_time_list, base64_text, base64_list, bytes_list, or_else, binary_list, base64_given, timestamp_list, text_list, regular_expression_list, db_pointer_list, sixteen, decimal128_list, scoped_code, listed, unwrap}
+use Rattle.bson_laws.specs.Unwrap.{Part, a_key, a_value, ◌>>=◌, next_key, next_key_of, next_text, next_bytes, next_byte, next_unsigned, next_scope, end_as, object_id_list, date_time_list, base64_parts, base64_list, bytes_list, or_else, binary_list, base64_given, timestamp_list, text_list, regular_expression_list, db_pointer_list, sixteen, decimal128_list, scoped_code, listed, unwrap}
 use Rattle.bson_reserved.specs.Listed.{unwrap_list}
 
 -- the steps accept no list of more than n parts
@@ -63,11 +63,11 @@ object_id_short = key _ 5 _ (text 4 _ (λ t list long. none_left (bytes_of_digit
 date_time_short : IsShort 6 date_time_list
 date_time_short = key _ 5 _ (key _ 4 _ (text 3 _ (λ t list long. none_left (integer_of_text t) _ (λ n. ends 3 n list long))))
 
-base64_text_short : IsShort 4 base64_text
-base64_text_short = text 3 _ (λ t. key _ 2 _ (text 1 _ (λ d list long. none_left (subtype_of_text d) _ (λ n. ends 1 _ list long))))
+base64_parts_short : IsShort 4 base64_parts
+base64_parts_short = text 3 _ (λ t. key _ 2 _ (text 1 _ (λ d list long. none_left (subtype_of_text d) _ (λ n. ends 1 _ list long))))
 
 base64_short : IsShort 4 base64_list
-base64_short list long = ap (λ o. o >>= λ given. bytes_of_base64 given.1 >>= λ b. Some (given.0, b)) (base64_text_short list long)
+base64_short list long = ap (λ o. o >>= λ given. bytes_of_base64 given.1 >>= λ b. Some (given.0, b)) (base64_parts_short list long)
 
 bytes_short : IsShort 4 bytes_list
 bytes_short = byte_string 3 _ (λ b. key _ 2 _ (byte 1 _ (λ n. ends 1 _)))
@@ -110,7 +110,7 @@ unwrap_list_short kinds.Decimal128 list long = ap (option_map tree.decimal128) (
 unwrap_list_short kind list long = refl
 
 pub base64_given_short : (kind : ElementType) → IsShort 6 (base64_given kind)
-base64_given_short kinds.Binary list long = key _ 5 _ (key_of _ _ 4 _ base64_text_short) list long
+base64_given_short kinds.Binary list long = key _ 5 _ (key_of _ _ 4 _ base64_parts_short) list long
 base64_given_short kind list long = refl
 
 pub unwrap_short : (kind : ElementType) (fields : FieldValues) → (kind ≡ kinds.Undefined → ⊥) → (kind ≡ kinds.MaxKey → ⊥) → (kind ≡ kinds.MinKey → ⊥) → 6 < length (listed fields []) → unwrap kind fields ≡ None

@@ -66,7 +66,7 @@ pub(crate) fn binary_list<'a>(list: &[Part<'a, '_>]) -> Option<Accepted<'a>>
 {
     let body = next_key("$binary", list)?;
     let value = next_key_of("base64", "bytes", body)?;
-    match base64_text(value) {
+    match base64_parts(value) {
         Some((subtype, text)) => Some(Accepted::Base64 { subtype, text }),
         None => {
             let (subtype, bytes) = bytes_list(value)?;
@@ -76,8 +76,8 @@ pub(crate) fn binary_list<'a>(list: &[Part<'a, '_>]) -> Option<Accepted<'a>>
 }
 
 // A subtype and a text, which is to be base64 of bytes.
-fn base64_text<'a>(list: &[Part<'a, '_>]) -> Option<(BinarySubtype, &'a str)>
-    ensures value { option_map (λ p. (p.0.0, p.1.now)) result ≡ unwrap.base64_text (parts_view list.now) }
+fn base64_parts<'a>(list: &[Part<'a, '_>]) -> Option<(BinarySubtype, &'a str)>
+    ensures value { option_map (λ p. (p.0.0, p.1.now)) result ≡ unwrap.base64_parts (parts_view list.now) }
     ensures text { IsSome result → unwrap.bytes_list (parts_view list.now) ≡ None }
 {
     let (text, more) = next_text(list)?;

@@ -11,7 +11,7 @@ use Rattle.bson_laws.specs.Spell.{Writing, spell_as}
 use Rattle.bson_writing.specs.Halting.{Halts, halt_view, IsHereOrMemory}
 use Rattle.bson_writing.specs.declared.halt.Halt.{Halt}
 use Rattle.bson_writing.specs.declared.halt.Halt.TheVariants.{Stopped, TooLong}
-use Rattle.bson_ser_stream.specs.Writing.{IsDue, Fails, level_inside}
+use Rattle.bson_ser_stream.specs.Writing.{IsExpected, Fails, level_inside}
 use Rattle.bson_ser_stream.specs.Halting.{EndHalts}
 use Rattle.bson_ser_stream.proofs.Limits.{placed_is, part_too_long}
 use Rattle.bson_ser_parts.specs.Taking.{Refuses}
@@ -27,21 +27,21 @@ placed_here f (Stopped NoMemory) g is h = subst (λ x. IsPlaced (Some (here f)) 
 placed_here f TooLong g is h = absurd is
 
 -- why one part is not written tells why the whole is not
-pub part_fails : {A B : Type 0} (h : Halt) (f : Failure WriteFault) (size total spare : ℕ) (one : Writing A) (due : Writing B) → ((r : Refusal WriteFault) → one ≡ Err r → due ≡ Err r) → size ≤ total
-    → Halts size spare one h → IsPlaced (halt_view h) f → Fails total due f
-part_fails (Stopped NoMemory) f size total spare one due on within halts is = inl is
-part_fails (Stopped (Refused x)) f size total spare one due on within halts is = elim (placed_is _ f is) [ inl want ↦ inl want | inr known ↦ inr (inl (subst (λ d. IsDue d f) (sym (on _ halts)) known)) ]
-part_fails TooLong f size total spare one due on within halts is = elim (placed_is _ f is) [ inl want ↦ inl want | inr long ↦ inr (inr (long, omega (arith, halts, within))) ]
+pub part_fails : {A B : Type 0} (h : Halt) (f : Failure WriteFault) (size total spare : ℕ) (one : Writing A) (expected : Writing B) → ((r : Refusal WriteFault) → one ≡ Err r → expected ≡ Err r) → size ≤ total
+    → Halts size spare one h → IsPlaced (halt_view h) f → Fails total expected f
+part_fails (Stopped NoMemory) f size total spare one expected on within halts is = inl is
+part_fails (Stopped (Refused x)) f size total spare one expected on within halts is = elim (placed_is _ f is) [ inl want ↦ inl want | inr known ↦ inr (inl (subst (λ d. IsExpected d f) (sym (on _ halts)) known)) ]
+part_fails TooLong f size total spare one expected on within halts is = elim (placed_is _ f is) [ inl want ↦ inl want | inr long ↦ inr (inr (long, omega (arith, halts, within))) ]
 
 -- too many bytes
-pub long_fails : {B : Type 0} (f : Failure WriteFault) (total : ℕ) (due : Writing B) → max_bytes + 1 ≤ total → IsPlaced (halt_view TooLong) f → Fails total due f
-long_fails f total due long is = elim (placed_is _ f is) [ inl want ↦ inl want | inr known ↦ inr (inr (known, omega (arith, long))) ]
+pub long_fails : {B : Type 0} (f : Failure WriteFault) (total : ℕ) (expected : Writing B) → max_bytes + 1 ≤ total → IsPlaced (halt_view TooLong) f → Fails total expected f
+long_fails f total expected long is = elim (placed_is _ f is) [ inl want ↦ inl want | inr known ↦ inr (inr (known, omega (arith, long))) ]
 
 -- a document or an array is not ended
-pub end_fails : {B : Type 0} (h : Halt) (f : Failure WriteFault) (mid : Output) (start total : ℕ) (due : Writing B) → length mid.bytes + 1 - start ≡ total → EndHalts mid start h → IsPlaced (halt_view h) f → Fails total due f
-end_fails (Stopped NoMemory) f mid start total due long halts is = inl is
-end_fails (Stopped (Refused r)) f mid start total due long halts is = absurd halts
-end_fails TooLong f mid start total due long halts is = long_fails f total due (omega (arith, halts, long)) is
+pub end_fails : {B : Type 0} (h : Halt) (f : Failure WriteFault) (mid : Output) (start total : ℕ) (expected : Writing B) → length mid.bytes + 1 - start ≡ total → EndHalts mid start h → IsPlaced (halt_view h) f → Fails total expected f
+end_fails (Stopped NoMemory) f mid start total expected long halts is = inl is
+end_fails (Stopped (Refused r)) f mid start total expected long halts is = absurd halts
+end_fails TooLong f mid start total expected long halts is = long_fails f total expected (omega (arith, halts, long)) is
 
 -- a document or an array with a level left is begun unless memory runs out
 pub begin_memory : (h : Halt) (spare : ℕ) (f : Failure WriteFault) → Halts 4 spare (level_inside max_levels) h → IsPlaced (halt_view h) f → f ≡ no_memory

@@ -152,10 +152,10 @@ in_place begun readable name tuple w still long = record {
 }
 
 -- what holds of memory and of size holds of the whole
-pair_fails : {B : Type 0} (h : Halt) (w : VariantWriter) (total : ℕ) (due : Writing B) (e : Error) → length w.out.now.bytes + 2 - w.pair.document.start ≡ total → PairEndHalts w.pair w.out.now h → IsPlaced (halt_view h) (write_failure e) → Fails total due (write_failure e)
-pair_fails (Stopped NoMemory) w total due e long halts is = inl is
-pair_fails (Stopped (Refused r)) w total due e long halts is = absurd halts
-pair_fails TooLong w total due e long halts is = long_fails (write_failure e) total due (omega (arith, halts, long)) is
+pair_fails : {B : Type 0} (h : Halt) (w : VariantWriter) (total : ℕ) (expected : Writing B) (e : Error) → length w.out.now.bytes + 2 - w.pair.document.start ≡ total → PairEndHalts w.pair w.out.now h → IsPlaced (halt_view h) (write_failure e) → Fails total expected (write_failure e)
+pair_fails (Stopped NoMemory) w total expected e long halts is = inl is
+pair_fails (Stopped (Refused r)) w total expected e long halts is = absurd halts
+pair_fails TooLong w total expected e long halts is = long_fails (write_failure e) total expected (omega (arith, halts, long)) is
 
 module _ (w : VariantWriter) (new : Output) (ends : PairEnds w.pair (contents_kind w.tuple) w.out.now new) where
   pub items_ended : EndsItems w new.bytes (Ok tt)

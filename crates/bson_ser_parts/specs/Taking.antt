@@ -30,15 +30,15 @@ AnswersBadStep result = RefusesFor cause.bad_step result
 
 -- Why it fails, as of something of a size; and it answers `TooLong` only where that is more than a document may have.
 abbrev pub Refuses : {Y : Type 0} → (size : ℕ) → Writing Y → Failure WriteFault → Type 0
-Refuses size due f = Fails size due f × (f ≡ too_long_failure → max_bytes < size)
+Refuses size expected f = Fails size expected f × (f ≡ too_long_failure → max_bytes < size)
 
 -- The part was taken. Or the writer has failed: for the refusal of the definition with the whole value, for memory, or since all that it was given has more bytes than a
 -- document may.
 abbrev pub Takes : {Y : Type 0} → (taken fails : Type 0) → (size : ℕ) → Writing Y → Result (Unit {0}) Error → Type 0
-Takes taken fails size due (Ok x) = taken
-Takes taken fails size due (Err e) = fails × Refuses size due (write_failure e)
+Takes taken fails size expected (Ok x) = taken
+Takes taken fails size expected (Err e) = fails × Refuses size expected (write_failure e)
 
 -- The whole value is behind what the output held when the writer began. Or the output holds that alone again, and the call answers why.
 abbrev pub Ends : (begun : Bytes) → (size : ℕ) → Writing Tree → (left : Bytes) → Result (Unit {0}) Error → Type 0
-Ends begun size due left (Ok x) = (with_tree begun due ≡ Ok left) × (size ≤ max_bytes)
-Ends begun size due left (Err e) = (left ≡ begun) × Refuses size due (write_failure e)
+Ends begun size expected left (Ok x) = (with_tree begun expected ≡ Ok left) × (size ≤ max_bytes)
+Ends begun size expected left (Err e) = (left ≡ begun) × Refuses size expected (write_failure e)

@@ -37,19 +37,19 @@ judged_size true r t ok = absurd cc
 judged_size false r t ok = refl
 
 -- where the definition gives something, it is a binary of the bytes that the text stands for
-pub decoded_due : (subtype : ℕ) (o : Option Bytes) → IsOk (spell_decoded subtype o) → (bs : Bytes) × (o ≡ Some bs) × (written_size (spell_decoded subtype o) ≡ length (binary_front subtype 0) + length bs)
-decoded_due subtype None ok = absurd cc
-decoded_due subtype (Some bs) ok =
+pub decoded_expected : (subtype : ℕ) (o : Option Bytes) → IsOk (spell_decoded subtype o) → (bs : Bytes) × (o ≡ Some bs) × (written_size (spell_decoded subtype o) ≡ length (binary_front subtype 0) + length bs)
+decoded_expected subtype None ok = absurd cc
+decoded_expected subtype (Some bs) ok =
     (bs, refl, judged_size (ltb (max_binary subtype) (length bs)) _ (binary subtype bs) ok ∙ length-written subtype bs ∙ ap (λ n. n + length bs) (length-front_same subtype (length bs)))
 
 module _ (its : ElementType) (subtype : ℕ) (o : Option Bytes) (old begun new : Output) (s0 s1 s2 : ℕ) where
   -- the front has no room
   pub decoded_short : (r : Result ElementType Halt) → Grows old new s0 s2 → IsErrAnd r IsOutOfMemory → old.spare < length (binary_front subtype 0) → Puts its (written_size (spell_decoded subtype o)) (spell_decoded subtype o) old new s0 s2 r
-  decoded_short r grows out short = out_of_memory its _ (spell_decoded subtype o) old new s0 s2 grows r out (λ ok. let due = decoded_due subtype o ok in omega (arith, short, due.2))
+  decoded_short r grows out short = out_of_memory its _ (spell_decoded subtype o) old new s0 s2 grows r out (λ ok. let expected = decoded_expected subtype o ok in omega (arith, short, expected.2))
 
   -- the text is refused, or its bytes have no room behind the front
   pub decoded_fault : (T : Type 0) (fault : Base64Fault) (h : Halt) → Grows old new s0 s2 → Appended old begun (binary_front subtype 0) s0 s1 → Decodes {T = T} (Err fault) o begun new s1 s2 → IsFault fault h
       → Puts its (written_size (spell_decoded subtype o)) (spell_decoded subtype o) old new s0 s2 (Err h)
   decoded_fault T NotBase64 h grows a is fails = puts_refusal its _ (spell_decoded subtype o) old new s0 s2 grows _ h (ap (spell_decoded subtype) is) fails
   decoded_fault T NoMemory h grows a short fails = out_of_memory its _ (spell_decoded subtype o) old new s0 s2 grows (Err h) fails
-      (λ ok. let due = decoded_due subtype o ok in omega (arith, short due.0 due.1, due.2, a.spare))
+      (λ ok. let expected = decoded_expected subtype o ok in omega (arith, short expected.0 expected.1, expected.2, a.spare))

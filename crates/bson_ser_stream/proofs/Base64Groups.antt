@@ -65,8 +65,8 @@ no_room_group spare left done b None y within short e = cc e
 no_room_group spare left done b (Some a) y within short e = omega (arith, within, short a refl, front_longer done a b y e)
 
 -- a piece that did not fit
-pub no_room : (spare : ℕ) (due : Option Bytes) (piece : Bytes) → due ≡ Some piece → (length piece ≤ spare → ⊥) → (b : Bytes) → due ≡ Some b → spare < length b
-no_room spare due piece is large b e =
+pub no_room : (spare : ℕ) (expected : Option Bytes) (piece : Bytes) → expected ≡ Some piece → (length piece ≤ spare → ⊥) → (b : Bytes) → expected ≡ Some b → spare < length b
+no_room spare expected piece is large b e =
     let same : piece ≡ b = some_same _ _ (sym is ∙ e) in
     elim (cases_lt spare (length piece)) [
       | inl less ↦ rw same at less
@@ -80,7 +80,7 @@ pub record IsRead (text rest : Bytes) (old new : Output) (before now : ℕ) : Ty
   pub bytes : IsBytes rest
   pub done : Bytes
   pub appended : Appended old new done before now
-  pub due : bytes_of_base64 text ≡ with_front done (bytes_of_base64 rest)
+  pub expected : bytes_of_base64 text ≡ with_front done (bytes_of_base64 rest)
 
 pub read_grows : (text rest : Bytes) (old new : Output) (before now : ℕ) → IsRead text rest old new before now → Grows old new before now
 read_grows text rest old new before now h = Grows-appended old new h.done before now h.appended
@@ -95,12 +95,12 @@ module _ (text rest : Bytes) (old mid new : Output) (before between now : ℕ) (
   read_step long group count =
       let three = piece_length mid new group.bytes between now 3 group.appended count in
       let cut : bytes_of_base64 rest ≡ with_front group.bytes (bytes_of_base64 (drop 4 rest)) =
-      base64_cut rest long read.bytes ∙ ap (λ x. after_group x (bytes_of_base64 (drop 4 rest))) group.is_due ∙ whole_group group.bytes (bytes_of_base64 (drop 4 rest)) three in
+      base64_cut rest long read.bytes ∙ ap (λ x. after_group x (bytes_of_base64 (drop 4 rest))) group.is_expected ∙ whole_group group.bytes (bytes_of_base64 (drop 4 rest)) three in
       record {
         bytes = bytes_back 4 rest read.bytes;
         done = read.done ++ group.bytes;
         appended = Appended-trans old mid new read.done group.bytes before between now read.appended group.appended;
-        due = read.due ∙ ap (with_front read.done) cut ∙ front_twice read.done group.bytes (bytes_of_base64 (drop 4 rest));
+        expected = read.expected ∙ ap (with_front read.done) cut ∙ front_twice read.done group.bytes (bytes_of_base64 (drop 4 rest));
       }
 
   -- a group of fewer bytes, with more behind it
@@ -109,12 +109,12 @@ module _ (text rest : Bytes) (old mid new : Output) (before between now : ℕ) (
   read_short n long group count short =
       let len = piece_length mid new group.bytes between now n group.appended count in
       let cut : bytes_of_base64 rest ≡ None =
-      base64_cut rest long read.bytes ∙ ap (λ x. after_group x (bytes_of_base64 (drop 4 rest))) group.is_due ∙ short_group group.bytes (bytes_of_base64 (drop 4 rest)) (λ three. short (sym len ∙ three)) in
-      read.due ∙ front_none read.done _ cut
+      base64_cut rest long read.bytes ∙ ap (λ x. after_group x (bytes_of_base64 (drop 4 rest))) group.is_expected ∙ short_group group.bytes (bytes_of_base64 (drop 4 rest)) (λ three. short (sym len ∙ three)) in
+      read.expected ∙ front_none read.done _ cut
 
   -- a group is refused
   pub read_fault : (T U : Type 0) (f : Base64Fault) → 4 < length rest → Decodes {T = T} (Err f) (bytes_of_base64 (take 4 rest)) mid new between now → Decodes {T = U} (Err f) (bytes_of_base64 text) old new before now
-  read_fault T U NotBase64 long h = read.due ∙ front_none read.done _ (base64_cut rest long read.bytes ∙ ap (λ x. after_group x (bytes_of_base64 (drop 4 rest))) h)
+  read_fault T U NotBase64 long h = read.expected ∙ front_none read.done _ (base64_cut rest long read.bytes ∙ ap (λ x. after_group x (bytes_of_base64 (drop 4 rest))) h)
   read_fault T U NoMemory long h = λ b e.
       no_room_group old.spare mid.spare read.done b (bytes_of_base64 (take 4 rest)) (bytes_of_base64 (drop 4 rest)) read.appended.spare h
-      (sym (ap (with_front read.done) (base64_cut rest long read.bytes)) ∙ sym read.due ∙ e)
+      (sym (ap (with_front read.done) (base64_cut rest long read.bytes)) ∙ sym read.expected ∙ e)

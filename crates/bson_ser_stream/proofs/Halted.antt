@@ -20,14 +20,14 @@ use Rattle.bson_writing.specs.declared.halt.Halt.{Halt}
 use Rattle.bson_values.specs.declared.stop.Stop.TheVariants.{Refused, NoMemory}
 use Rattle.bson_writing.specs.declared.halt.Halt.TheVariants.{Stopped, TooLong}
 
-pub gives_err : {X Y : Type 0} (size spare : ℕ) (view : X → Y) (result : Result X Halt) (h : Halt) (due : Writing Y) → result ≡ Err h → Halts size spare due h → Gives size spare view result due
-gives_err size spare view result h due is halts = subst (λ r. Gives size spare view r due) (sym is) halts
+pub gives_err : {X Y : Type 0} (size spare : ℕ) (view : X → Y) (result : Result X Halt) (h : Halt) (expected : Writing Y) → result ≡ Err h → Halts size spare expected h → Gives size spare view result expected
+gives_err size spare view result h expected is halts = subst (λ r. Gives size spare view r expected) (sym is) halts
 
 -- a document or an array that is not ended
-pub unended : {A : Type 0} (h : Halt) (total spare start : ℕ) (mid : Output) (due : Writing A) → length mid.bytes + 1 ≡ total + start → spare + start ≤ length mid.bytes + mid.spare → EndHalts mid start h → Halts total spare due h
-unended (Stopped NoMemory) total spare start mid due long room e = λ _. omega (arith, e)
-unended (Stopped (Refused r)) total spare start mid due long room e = absurd e
-unended TooLong total spare start mid due long room e = omega (arith, e)
+pub unended : {A : Type 0} (h : Halt) (total spare start : ℕ) (mid : Output) (expected : Writing A) → length mid.bytes + 1 ≡ total + start → spare + start ≤ length mid.bytes + mid.spare → EndHalts mid start h → Halts total spare expected h
+unended (Stopped NoMemory) total spare start mid expected long room e = λ _. omega (arith, e)
+unended (Stopped (Refused r)) total spare start mid expected long room e = absurd e
+unended TooLong total spare start mid expected long room e = omega (arith, e)
 
 no_ok : {A : Type 0} (r : Writing A) (f : Refusal WriteFault) → r ≡ Err f → IsOk r → ⊥
 no_ok (Ok x) f e h = absurd cc
@@ -58,13 +58,13 @@ err_entry (Ok key) r s old f e = err_first elements (pair key) (under key r) s o
 err_entry (Err g) r s old f e = let same : g ≡ f = cc in ap Err same
 
 -- elements of which one is not written, behind others that were
-rest_halts : (one due : Writing Bytes) (h : Halt) (first left all before now : ℕ) (old mid : Output) → ((new : Bytes) → due ≡ Ok new → IsOk one) → ((f : Refusal WriteFault) → one ≡ Err f → due ≡ Err f)
-    → ((new : Bytes) → due ≡ Ok new → length new ≡ length old.bytes + all) → ((new : Bytes) → due ≡ Ok new → length new ≡ length mid.bytes + left) → first ≤ left → left ≤ all → Grows old mid before now
-    → Halts first mid.spare one h → Halts all old.spare due h
-rest_halts one due TooLong first left all before now old mid ok err long longer within less grows halts = omega (arith, halts)
-rest_halts one due (Stopped (Refused x)) first left all before now old mid ok err long longer within less grows halts = err _ halts
-rest_halts one due (Stopped NoMemory) first left all before now old mid ok err long longer within less grows halts = λ done.
-    let whole = ok_value due done in
+rest_halts : (one expected : Writing Bytes) (h : Halt) (first left all before now : ℕ) (old mid : Output) → ((new : Bytes) → expected ≡ Ok new → IsOk one) → ((f : Refusal WriteFault) → one ≡ Err f → expected ≡ Err f)
+    → ((new : Bytes) → expected ≡ Ok new → length new ≡ length old.bytes + all) → ((new : Bytes) → expected ≡ Ok new → length new ≡ length mid.bytes + left) → first ≤ left → left ≤ all → Grows old mid before now
+    → Halts first mid.spare one h → Halts all old.spare expected h
+rest_halts one expected TooLong first left all before now old mid ok err long longer within less grows halts = omega (arith, halts)
+rest_halts one expected (Stopped (Refused x)) first left all before now old mid ok err long longer within less grows halts = err _ halts
+rest_halts one expected (Stopped NoMemory) first left all before now old mid ok err long longer within less grows halts = λ done.
+    let whole = ok_value expected done in
     omega (arith, halts (ok whole.0 whole.1), grows.room, long whole.0 whole.1, longer whole.0 whole.1)
 
 -- the fields behind a field that is not written

@@ -20,7 +20,7 @@ use Rattle.bson_laws.specs.Written.{with_scope}
 use Rattle.bson_laws.specs.Spell.{Writing, spell_number, spell_binary, spell_whole, spell_unwrapped, spell_scoped, spell_uuid, enclosed_at, struct_at, reserved_at, named, variant_at, written_key, spell_key, spell_as, spell_items_as, spell_entries_as, spell_fields_as, spell_list, spell_part, spell, at_top, spell_document, size}
 use Rattle.bson_laws.proofs.Alike.{AreAlike, Both, SameScope, scopes_alike}
 use Rattle.bson_values.specs.Stop.{IsPlaced}
-use Rattle.bson_ser_stream.specs.Writing.{with_tree, IsDue, Fails, too_long_failure}
+use Rattle.bson_ser_stream.specs.Writing.{with_tree, IsExpected, Fails, too_long_failure}
 use Rattle.bson_writing.specs.Halting.{halt_view, Halts}
 use Rattle.bson_writing.specs.declared.halt.Halt.{Halt}
 use Rattle.bson_values.specs.declared.stop.Stop.TheVariants.{Refused, NoMemory}
@@ -190,13 +190,13 @@ top_else : (k : ElementType) (r : Writing Tree) → Else r → Else (at_top k r)
 top_else EmbeddedDocument r h = h
 top_else k r h = λ e. e
 
-due_else : (r : Writing Tree) (f : Failure WriteFault) → Else r → IsDue r f → f ≡ too_long_failure → ⊥
-due_else (Ok t) f h due is = due
-due_else (Err r) f h due is = let same : r.fault ≡ unwritable too_long = cc in h (subst IsLengthFault (sym same) tt)
+expected_else : (r : Writing Tree) (f : Failure WriteFault) → Else r → IsExpected r f → f ≡ too_long_failure → ⊥
+expected_else (Ok t) f h expected is = expected
+expected_else (Err r) f h expected is = let same : r.fault ≡ unwritable too_long = cc in h (subst IsLengthFault (sym same) tt)
 
 any_of : (f : Failure WriteFault) (r : Writing Tree) (total : ℕ) → Else r → Fails total r f → f ≡ too_long_failure → max_bytes < total
 any_of f r total h (inl want) is = absurd cc
-any_of f r total h (inr (inl due)) is = absurd (due_else r f h due is)
+any_of f r total h (inr (inl expected)) is = absurd (expected_else r f h expected is)
 any_of f r total h (inr (inr long)) is = long.1
 
 -- what fails with `TooLong` has more bytes than a document may: a value as a part, and a whole document
@@ -206,9 +206,9 @@ part_too_long readable v levels total f h is = any_of f (spell_as readable v lev
 pub only_too_long : (v : Value) (f : Failure WriteFault) → Fails (size v) (spell_document v) f → f ≡ too_long_failure → max_bytes < size v
 only_too_long v f h is = any_of f (spell_document v) (size v) (top_else (kind_of v) (spell v max_levels) (spell_else false v max_levels)) h is
 
-due_is : (r : Writing Tree) (old : Bytes) (g : Refusal WriteFault) (f : Failure WriteFault) → with_tree old r ≡ Err g → f ≡ with_path g → IsDue r f
-due_is (Ok t) old g f e is = absurd cc
-due_is (Err r) old g f e is = let same : g ≡ r = cc in is ∙ ap with_path same
+expected_is : (r : Writing Tree) (old : Bytes) (g : Refusal WriteFault) (f : Failure WriteFault) → with_tree old r ≡ Err g → f ≡ with_path g → IsExpected r f
+expected_is (Ok t) old g f e is = absurd cc
+expected_is (Err r) old g f e is = let same : g ≡ r = cc in is ∙ ap with_path same
 
 pub placed_is : (g : Refusal WriteFault) (f : Failure WriteFault) → IsPlaced (Some g) f → (f ≡ no_memory) ⊎ (f ≡ with_path g)
 placed_is g no_memory h = inl refl
@@ -218,5 +218,5 @@ placed_is g (placed path x) h = inr h
 -- what a caller sees of a halt
 pub fails : (h : Halt) (f : Failure WriteFault) (total spare : ℕ) (old : Bytes) (r : Writing Tree) → Halts total spare (with_tree old r) h → IsPlaced (halt_view h) f → Fails total r f
 fails (Stopped NoMemory) f total spare old r halts is = inl is
-fails (Stopped (Refused x)) f total spare old r halts is = elim (placed_is _ f is) [ inl want ↦ inl want | inr due ↦ inr (inl (due_is r old _ f halts due)) ]
+fails (Stopped (Refused x)) f total spare old r halts is = elim (placed_is _ f is) [ inl want ↦ inl want | inr expected ↦ inr (inl (expected_is r old _ f halts expected)) ]
 fails TooLong f total spare old r halts is = elim (placed_is _ f is) [ inl want ↦ inl want | inr long ↦ inr (inr (long, halts)) ]

@@ -9,7 +9,7 @@ use Rattle.bson_values.specs.Value.{Value}
 use Rattle.bson_laws.specs.Means.{means}
 use Rattle.bson_laws.specs.Spell.{Writing, spell_document, size}
 use Rattle.bson_laws.proofs.Spelled.{spell_means}
-use Rattle.bson_ser_stream.specs.Writing.{with_tree, IsDue, Fails}
+use Rattle.bson_ser_stream.specs.Writing.{with_tree, IsExpected, Fails}
 
 abbrev written : Bytes → Writing Bytes
 written b = Ok b
@@ -22,5 +22,5 @@ sound_bytes v t old new items e s empty is h = same_bytes items (enc t) (ap Ok i
 
 pub sound_fails : (v : Value) (t : Tree) (f : Failure WriteFault) → means v ≡ Some t → IsSound t → Fails (size v) (spell_document v) f → f ≡ no_memory
 sound_fails v t f e s (inl none) = none
-sound_fails v t f e s (inr (inl due)) = absurd (subst (λ r. IsDue r f) (spell_means v t e s).0 due)
+sound_fails v t f e s (inr (inl expected)) = absurd (subst (λ r. IsExpected r f) (spell_means v t e s).0 expected)
 sound_fails v t f e s (inr (inr long)) = absurd (omega (arith, (spell_means v t e s).1, s.fits, long.1))

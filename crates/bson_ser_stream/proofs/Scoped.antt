@@ -55,15 +55,15 @@ abbrev placed : ℕ → Writing ℕ
 placed x = Ok x
 
 module _ (code : Utf8) (r : Writing Tree) (n : ℕ) (whole : (u : Tree) → r ≡ Ok u → IsWhole code u) (long : (u : Tree) → r ≡ Ok u → length (enc u) ≡ n) where
-  abbrev due : Writing Tree
-  due = spell_scoped (Some (code, r))
+  abbrev expected : Writing Tree
+  expected = spell_scoped (Some (code, r))
 
   -- the parts of all that is written of it
   abbrev parts : Tree → Bytes
   parts u = closed_text code ++ enc u
 
-  due_ok : (old new : Bytes) → with_tree old due ≡ Ok new → IsOk (with_tree old (under (codes "$scope") r))
-  due_ok old new e = let m = map_ok (λ t. old ++ enc t) due new e in let k = map_ok (with_scope code) (under (codes "$scope") r) m.0 m.1 in subst (λ x. IsOk (with_tree old x)) (sym k.1) refl
+  expected_ok : (old new : Bytes) → with_tree old expected ≡ Ok new → IsOk (with_tree old (under (codes "$scope") r))
+  expected_ok old new e = let m = map_ok (λ t. old ++ enc t) expected new e in let k = map_ok (with_scope code) (under (codes "$scope") r) m.0 m.1 in subst (λ x. IsOk (with_tree old x)) (sym k.1) refl
 
   ok_new : (w : Writing Bytes) → IsOk w → (b : Bytes) × (w ≡ Ok b)
   ok_new (Ok b) h = (b, refl)
@@ -72,18 +72,18 @@ module _ (code : Utf8) (r : Writing Tree) (n : ℕ) (whole : (u : Tree) → r �
   ok_any : (old other : Bytes) → IsOk (with_tree old (under (codes "$scope") r)) → IsOk (with_tree other (under (codes "$scope") r))
   ok_any old other h = let b = ok_new (with_tree old (under (codes "$scope") r)) h in let m = map_ok (λ t. old ++ enc t) (under (codes "$scope") r) b.0 b.1 in subst (λ x. IsOk (with_tree other x)) (sym m.1) refl
 
-  err_due : (w : Writing Tree) (old other : Bytes) (f : Refusal WriteFault) → with_tree old w ≡ Err f → with_tree other (result_map (with_scope code) w) ≡ Err f
-  err_due (Ok t) old other f e = absurd cc
-  err_due (Err g) old other f e = let same : g ≡ f = cc in ap Err same
+  err_expected : (w : Writing Tree) (old other : Bytes) (f : Refusal WriteFault) → with_tree old w ≡ Err f → with_tree other (result_map (with_scope code) w) ≡ Err f
+  err_expected (Ok t) old other f e = absurd cc
+  err_expected (Err g) old other f e = let same : g ≡ f = cc in ap Err same
 
   -- no place for the length
-  pub unbegun : (h : Halt) (old : Output) (x : ℕ) → Halts 4 old.spare (placed x) h → Halts (length code + 9 + n) old.spare (with_tree old.bytes due) h
+  pub unbegun : (h : Halt) (old : Output) (x : ℕ) → Halts 4 old.spare (placed x) h → Halts (length code + 9 + n) old.spare (with_tree old.bytes expected) h
   unbegun (Stopped NoMemory) old x e = λ _. omega (arith, e refl)
   unbegun (Stopped (Refused f)) old x e = absurd cc
   unbegun TooLong old x e = omega (arith, e)
 
   -- no code
-  pub uncoded : (h : Halt) (old begun : Output) (s0 s1 : ℕ) → Appended old begun length_place s0 s1 → Halts (length code + 5) begun.spare (with_tree begun.bytes (spelled code)) h → Halts (length code + 9 + n) old.spare (with_tree old.bytes due) h
+  pub uncoded : (h : Halt) (old begun : Output) (s0 s1 : ℕ) → Appended old begun length_place s0 s1 → Halts (length code + 5) begun.spare (with_tree begun.bytes (spelled code)) h → Halts (length code + 9 + n) old.spare (with_tree old.bytes expected) h
   uncoded (Stopped NoMemory) old begun s0 s1 a e = λ _. omega (arith, e refl, a.spare)
   uncoded (Stopped (Refused f)) old begun s0 s1 a e = absurd cc
   uncoded TooLong old begun s0 s1 a e = omega (arith, e)
@@ -99,11 +99,11 @@ module _ (code : Utf8) (r : Writing Tree) (n : ℕ) (whole : (u : Tree) → r �
     so_far = Grows-trans old begun coded s0 s1 s2 (Grows-appended old begun length_place s0 s1 begins) grows
 
     -- no scope
-    pub unscoped : (h : Halt) → Halts n coded.spare (with_tree coded.bytes (under (codes "$scope") r)) h → Halts (length code + 9 + n) old.spare (with_tree old.bytes due) h
+    pub unscoped : (h : Halt) → Halts n coded.spare (with_tree coded.bytes (under (codes "$scope") r)) h → Halts (length code + 9 + n) old.spare (with_tree old.bytes expected) h
     unscoped (Stopped NoMemory) e = λ ok.
-        let b = ok_new (with_tree old.bytes due) ok in
-        omega (arith, e (ok_any old.bytes coded.bytes (due_ok old.bytes b.0 b.1)), so_far.room, coded_long)
-    unscoped (Stopped (Refused f)) e = err_due (under (codes "$scope") r) coded.bytes old.bytes _ e
+        let b = ok_new (with_tree old.bytes expected) ok in
+        omega (arith, e (ok_any old.bytes coded.bytes (expected_ok old.bytes b.0 b.1)), so_far.room, coded_long)
+    unscoped (Stopped (Refused f)) e = err_expected (under (codes "$scope") r) coded.bytes old.bytes _ e
     unscoped TooLong e = omega (arith, e)
 
     pub Grows-scoped : (filled : Output) (s3 : ℕ) → Grows coded filled s2 s3 → Grows old filled s0 s3
@@ -124,11 +124,11 @@ module _ (code : Utf8) (r : Writing Tree) (n : ℕ) (whole : (u : Tree) → r �
       filled_long : length filled.bytes ≡ start + (length code + 9 + n)
       filled_long = omega (arith, ap length tree_there.2, length-append coded.bytes (enc tree_there.0), coded_long, scope_long, at)
 
-      pub untotaled : (h : Halt) → TotalHalts filled start h → Halts (length code + 9 + n) old.spare (with_tree old.bytes due) h
+      pub untotaled : (h : Halt) → TotalHalts filled start h → Halts (length code + 9 + n) old.spare (with_tree old.bytes expected) h
       untotaled (Stopped s) e = absurd e
       untotaled TooLong e = omega (arith, e, filled_long)
 
-      pub puts_scoped : (new : Output) (s4 : ℕ) → Totals filled new start s3 s4 → Puts JavaScriptCodeWithScope (length code + 9 + n) due old new s0 s4 (Ok JavaScriptCodeWithScope)
+      pub puts_scoped : (new : Output) (s4 : ℕ) → Totals filled new start s3 s4 → Puts JavaScriptCodeWithScope (length code + 9 + n) expected old new s0 s4 (Ok JavaScriptCodeWithScope)
       puts_scoped new s4 total =
           let u = tree_there.0 in
           let m : ℕ = length filled.bytes - start in

@@ -10,16 +10,16 @@ use Rattle.bson_ser_stream.specs.declared.base64_text.Base64Fault.{Base64Fault}
 use Rattle.bson_ser_stream.specs.declared.base64_text.Base64Fault.TheVariants.{NotBase64, NoMemory}
 
 -- The bytes of the definition were appended.
-pub record IsDecoded (due : Option Bytes) (old new : Output) (before now : ℕ) : Type 0 where
+pub record IsDecoded (expected : Option Bytes) (old new : Output) (before now : ℕ) : Type 0 where
   pub bytes : Bytes
-  pub is_due : due ≡ Some bytes
+  pub is_expected : expected ≡ Some bytes
   pub appended : Appended old new bytes before now
 
 -- the bytes of the definition were appended; or it gives none; or those that it gives take more room than is spare
 abbrev pub Decodes : {T : Type 0} → Result T Base64Fault → Option Bytes → Output → Output → ℕ → ℕ → Type 0
-Decodes (Ok x) due old new before now = IsDecoded due old new before now
-Decodes (Err NotBase64) due old new before now = due ≡ None
-Decodes (Err NoMemory) due old new before now = (bytes : Bytes) → due ≡ Some bytes → old.spare < length bytes
+Decodes (Ok x) expected old new before now = IsDecoded expected old new before now
+Decodes (Err NotBase64) expected old new before now = expected ≡ None
+Decodes (Err NoMemory) expected old new before now = (bytes : Bytes) → expected ≡ Some bytes → old.spare < length bytes
 
 -- the halt is the refusal of a text that is not base64, or memory ran out
 abbrev pub IsFault : Base64Fault → Halt → Type 0

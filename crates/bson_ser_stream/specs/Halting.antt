@@ -20,15 +20,15 @@ pub record Grows (old new : Output) (before now : ℕ) : Type 0 where
   pub most : now + 2 * length old.bytes ≤ before + 2 * length new.bytes
 
 -- A value of a kind and a size was appended as the definition says, and its kind is answered; or there is a reason not to.
-pub record Puts (its : ElementType) (size : ℕ) (due : Writing Tree) (old new : Output) (before now : ℕ) (result : Result ElementType Halt) : Type 0 where
+pub record Puts (its : ElementType) (size : ℕ) (expected : Writing Tree) (old new : Output) (before now : ℕ) (result : Result ElementType Halt) : Type 0 where
   pub kind : IfOk result (λ k. k ≡ its)
-  pub bytes : Gives size old.spare (λ _. new.bytes) result (with_tree old.bytes due)
+  pub bytes : Gives size old.spare (λ _. new.bytes) result (with_tree old.bytes expected)
   pub fits : OnOk result (size ≤ max_bytes)
   pub grows : Grows old new before now
 
 -- Elements that take so many bytes were appended, so that these are the bytes of the definition; or there is a reason not to.
-pub record PutsParts (size : ℕ) (due : Writing Bytes) (old new : Output) (before now : ℕ) (result : Result (Unit {0}) Halt) : Type 0 where
-  pub bytes : Gives size old.spare (λ _. new.bytes) result due
+pub record PutsParts (size : ℕ) (expected : Writing Bytes) (old new : Output) (before now : ℕ) (result : Result (Unit {0}) Halt) : Type 0 where
+  pub bytes : Gives size old.spare (λ _. new.bytes) result expected
   pub grows : Grows old new before now
 
 -- A document or an array that begins at a place is ended: a zero is behind it, and its length in its first four bytes.

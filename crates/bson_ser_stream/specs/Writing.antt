@@ -53,13 +53,13 @@ abbrev pub too_long_failure : Failure WriteFault
 too_long_failure = with_path (here (unwritable too_long))
 
 -- the failure is the refusal of the definition, with its path
-abbrev pub IsDue : {A : Type 0} → Writing A → Failure WriteFault → Type 0
-IsDue (Ok x) f = ⊥
-IsDue (Err r) f = f ≡ with_path r
+abbrev pub IsExpected : {A : Type 0} → Writing A → Failure WriteFault → Type 0
+IsExpected (Ok x) f = ⊥
+IsExpected (Err r) f = f ≡ with_path r
 
 -- Why something of a size is not written: because memory ran out, for the refusal of the definition, or for its size.
 abbrev pub Fails : {A : Type 0} → ℕ → Writing A → Failure WriteFault → Type 0
-Fails size due f = (f ≡ no_memory) ⊎ IsDue due f ⊎ ((f ≡ too_long_failure) × (max_bytes < size))
+Fails size expected f = (f ≡ no_memory) ⊎ IsExpected expected f ⊎ ((f ≡ too_long_failure) × (max_bytes < size))
 
 -- these bytes are given, or memory ran out
 abbrev pub GivesBytes : Bytes → Result (Vec ℕ) Error → Type 0

@@ -68,8 +68,8 @@ pub(crate) fn put_binary<L: Ledger>(
     subtype: BinarySubtype,
     bytes: &[u8],
 ) -> Result<ElementType, Halt>
-    ensures { let due = spell_binary subtype.0 bytes.now in
-        Puts ElementType.Binary (written_size due) due out.old out.new steps.old steps.new result }
+    ensures { let expected = spell_binary subtype.0 bytes.now in
+        Puts ElementType.Binary (written_size expected) expected out.old out.new steps.old steps.new result }
 {
     let behind = behind_length(subtype, bytes.len());
     if behind > MAX_BINARY {
@@ -118,8 +118,8 @@ pub(crate) fn put_base64<L: Ledger>(
     subtype: BinarySubtype,
     text: &str,
 ) -> Result<ElementType, Halt>
-    ensures { let due = spell_unwrapped (option_map (λ bs. binary subtype.0 bs) (bytes_of_base64 text.now)) in
-        Puts ElementType.Binary (written_size due) due out.old out.new steps.old steps.new result }
+    ensures { let expected = spell_unwrapped (option_map (λ bs. binary subtype.0 bs) (bytes_of_base64 text.now)) in
+        Puts ElementType.Binary (written_size expected) expected out.old out.new steps.old steps.new result }
 {
     let start = out.len();
     push_front(out, steps, subtype, 0)?;

@@ -120,8 +120,8 @@ pub(crate) fn put_regular_expression<L: Ledger>(
     pattern: &str,
     options: &str,
 ) -> Result<ElementType, Halt>
-    ensures { let due = spell_whole (regular_expression pattern.now options.now) in
-        Puts ElementType.RegularExpression (written_size due) due out.old out.new steps.old steps.new result }
+    ensures { let expected = spell_whole (regular_expression pattern.now options.now) in
+        Puts ElementType.RegularExpression (written_size expected) expected out.old out.new steps.old steps.new result }
 {
     if has_zero(pattern) {
         return Err(zero_in(out.allocator(), pattern));

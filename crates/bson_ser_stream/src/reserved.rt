@@ -31,8 +31,8 @@ pub(crate) fn put_unwrapped<L: Ledger>(
     kind: ElementType,
     fields: &[Field<'_>],
 ) -> Result<ElementType, Halt>
-    ensures { let due = spell_unwrapped (unwrap kind (fields_view fields.now)) in
-        Puts kind (written_size due) due out.old out.new steps.old steps.new result }
+    ensures { let expected = spell_unwrapped (unwrap kind (fields_view fields.now)) in
+        Puts kind (written_size expected) expected out.old out.new steps.old steps.new result }
 {
     match unwrap(kind, fields) {
         Some(accepted) => put_accepted(out, steps, accepted),
@@ -46,8 +46,8 @@ fn put_accepted<L: Ledger>(
     steps: &mut Steps<L>,
     accepted: Accepted<'_>,
 ) -> Result<ElementType, Halt>
-    ensures { let due = spell_unwrapped (accepted_view accepted.entry) in
-        Puts (accepted_kind accepted.entry) (written_size due) due out.old out.new steps.old steps.new result }
+    ensures { let expected = spell_unwrapped (accepted_view accepted.entry) in
+        Puts (accepted_kind accepted.entry) (written_size expected) expected out.old out.new steps.old steps.new result }
 {
     match accepted {
         Accepted::ObjectId(id) => put_object_id(out, steps, id),
@@ -75,8 +75,8 @@ pub(crate) fn put_uuid<L: Ledger>(
     content: &Datum<'_>,
     readable: bool,
 ) -> Result<ElementType, Halt>
-    ensures { let due = spell_uuid (uuid_bytes readable (view content.now)) in
-        Puts ElementType.Binary (written_size due) due out.old out.new steps.old steps.new result }
+    ensures { let expected = spell_uuid (uuid_bytes readable (view content.now)) in
+        Puts ElementType.Binary (written_size expected) expected out.old out.new steps.old steps.new result }
 {
     match uuid_bytes(readable, content) {
         None => Err(Halt::caused(out.allocator(), Cause::BadUuid)),

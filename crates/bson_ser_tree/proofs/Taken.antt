@@ -157,9 +157,9 @@ module _ (levels : ℕ) (is : (readable : Bool) (es : Entries) → tree_whole re
       let further = λ (x : Writing Tree). result_map fold (under key x >>= λ t. tree_entries readable after (put key t ps) levels) in
       ap without_paths (is readable (entries_joined before (entry k v after)) ∙ ap (result_map fold) (entries_on readable before (entry k v after) no_pairs ps levels made) ∙ ap behind judged ∙ ap further e)
 
-  kept : {X : Type 0} (see : X → Utf8) (x : X) (o new : Option Pairs) (due : Writing Utf8) (made : Writing Pairs) → KeepsFrom see o due new (Ok x) → IsMade o made → (due ≡ Ok (see x)) × IsMade new made
-  kept see x None new due made s m = absurd m
-  kept see x (Some ps) new due made s m = (s.0, subst (λ o. IsMade o made) (sym s.1) m)
+  kept : {X : Type 0} (see : X → Utf8) (x : X) (o new : Option Pairs) (expected : Writing Utf8) (made : Writing Pairs) → KeepsFrom see o expected new (Ok x) → IsMade o made → (expected ≡ Ok (see x)) × IsMade new made
+  kept see x None new expected made s m = absurd m
+  kept see x (Some ps) new expected made s m = (s.0, subst (λ o. IsMade o made) (sym s.1) m)
 
   pub takes_key : {X : Type 0} (see : X → Utf8) (x : X) (old new : EntriesMade) (k : Value) → new.made.readable ≡ old.made.readable → new.key ≡ see x
       → KeepsFrom see old.made.pairs (tree_key_text old.made.readable k levels) new.made.pairs (Ok x) → TakesKey levels old new k (Ok tt)
@@ -223,9 +223,9 @@ pub steps_failed : {A : Type 0} (o new : Option A) (step : A → Writing A) (res
 steps_failed None new step result s h = s
 steps_failed (Some a) new step result s h = absurd cc
 
-pub keeps_failed : {A X Y : Type 0} (see : X → Y) (o new : Option A) (due : Writing Y) (result : Result X Error) → KeepsFrom see o due new result → HasFailed o → HasFailed new × AnswersFailed result
-keeps_failed see None new due result s h = s
-keeps_failed see (Some a) new due result s h = absurd cc
+pub keeps_failed : {A X Y : Type 0} (see : X → Y) (o new : Option A) (expected : Writing Y) (result : Result X Error) → KeepsFrom see o expected new result → HasFailed o → HasFailed new × AnswersFailed result
+keeps_failed see None new expected result s h = s
+keeps_failed see (Some a) new expected result s h = absurd cc
 
 pub finish_failed : {X A B : Type 0} (become : A → B) (see : X → B) (o : Option A) (result : Result X Error) → Finishes become see o result → HasFailed o → AnswersFailed result
 finish_failed become see None result s h = s

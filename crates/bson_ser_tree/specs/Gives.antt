@@ -12,8 +12,8 @@ use Rattle.bson_laws.specs.Spell.{Writing}
 
 -- what the definition gives is this refusal; nothing is said where memory ran out
 abbrev pub RefusesAs : {Y : Type 0} → Option (Refusal WriteFault) → Writing Y → Type 0
-RefusesAs None due = Unit {0}
-RefusesAs (Some r) due = due ≡ Err r
+RefusesAs None expected = Unit {0}
+RefusesAs (Some r) expected = expected ≡ Err r
 
 -- a fault of the value itself, or out of memory
 abbrev pub IsHereOrMemory : WriteFault → Option (Refusal WriteFault) → Type 0
@@ -28,8 +28,8 @@ IsFaultOrMemory e (Some r) = r ≡ here (unwritable (raw e))
 
 -- A writer inside a value gives what the definition gives, seen so, or its refusal with the path so far; or memory ran out.
 abbrev pub Reaches : {X Y : Type 0} → (X → Y) → Result X (Stop Fault) → Writing Y → Type 0
-Reaches see (Ok x) due = due ≡ Ok (see x)
-Reaches see (Err s) due = RefusesAs (stop_view write_fault s) due
+Reaches see (Ok x) expected = expected ≡ Ok (see x)
+Reaches see (Err s) expected = RefusesAs (stop_view write_fault s) expected
 
 -- the failure is the refusal without its path, or out of memory
 abbrev pub IsBare : Option (Refusal WriteFault) → Failure WriteFault → Type 0

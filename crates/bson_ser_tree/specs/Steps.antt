@@ -15,8 +15,8 @@ use Rattle.bson_ser_tree.specs.Taking.{HasFailed, AnswersFailed}
 
 -- what the definition gives was made; or nothing is left, and the refusal is answered without its path, or that memory ran out
 abbrev pub Steps : {A : Type 0} → Writing A → (new : Option A) → Result (Unit {0}) Error → Type 0
-Steps due new (Ok x) = (a : _) × (due ≡ Ok a) × (new ≡ Some a)
-Steps due new (Err e) = HasFailed new × FailsAs (write_failure e) (without_paths due)
+Steps expected new (Ok x) = (a : _) × (expected ≡ Ok a) × (new ≡ Some a)
+Steps expected new (Err e) = HasFailed new × FailsAs (write_failure e) (without_paths expected)
 
 -- a step from what was made before; a writer that failed answers that it did
 abbrev pub StepsFrom : {A : Type 0} → (old : Option A) → (A → Writing A) → (new : Option A) → Result (Unit {0}) Error → Type 0
@@ -42,13 +42,13 @@ pair_step readable key v levels ps = tree_spell readable false v levels >>= λ t
 
 -- a text was given, and what was made stays; or nothing is left of it, and the refusal is answered without its path, or that memory ran out
 abbrev pub Keeps : {A X Y : Type 0} → (see : X → Y) → A → Writing Y → (new : Option A) → Result X Error → Type 0
-Keeps see a due new (Ok x) = (due ≡ Ok (see x)) × (new ≡ Some a)
-Keeps see a due new (Err e) = HasFailed new × FailsAs (write_failure e) (without_paths due)
+Keeps see a expected new (Ok x) = (expected ≡ Ok (see x)) × (new ≡ Some a)
+Keeps see a expected new (Err e) = HasFailed new × FailsAs (write_failure e) (without_paths expected)
 
 -- the same from what was made before; a writer that failed answers that it did
 abbrev pub KeepsFrom : {A X Y : Type 0} → (see : X → Y) → (old : Option A) → Writing Y → (new : Option A) → Result X Error → Type 0
-KeepsFrom see None due new result = HasFailed new × AnswersFailed result
-KeepsFrom see (Some a) due new result = Keeps see a due new result
+KeepsFrom see None expected new result = HasFailed new × AnswersFailed result
+KeepsFrom see (Some a) expected new result = Keeps see a expected new result
 
 -- what everything together becomes is given, or memory ran out; a writer that failed answers that it did
 abbrev pub Finishes : {X A B : Type 0} → (become : A → B) → (see : X → B) → Option A → Result X Error → Type 0

@@ -19,8 +19,8 @@ use Rattle.bson_ser_tree.specs.Made.{ItemsMade, PairsMade, EntriesMade}
 
 -- what was made so far is what the definition gives
 abbrev pub IsMade : {A : Type 0} → Option A → Writing A → Type 0
-IsMade None due = ⊥
-IsMade (Some a) due = due ≡ Ok a
+IsMade None expected = ⊥
+IsMade (Some a) expected = expected ≡ Ok a
 
 -- the values that a writer of an array has taken, with so many levels left for what is in them
 pub record HasItems (levels : ℕ) (readable : Bool) (w : ItemsMade) (vs : Items) : Type 0 where
@@ -46,8 +46,8 @@ HasFailed made = made ≡ None
 
 -- the part was taken; or the writer has failed, and answers the refusal of the definition without its path, or that memory ran out
 abbrev pub Takes : {Y : Type 0} → (taken failed : Type 0) → Writing Y → Result (Unit {0}) Error → Type 0
-Takes taken failed due (Ok x) = taken
-Takes taken failed due (Err e) = failed × FailsAs (write_failure e) (without_paths due)
+Takes taken failed expected (Ok x) = taken
+Takes taken failed expected (Err e) = failed × FailsAs (write_failure e) (without_paths expected)
 
 -- the call answers that the writer failed before
 abbrev pub AnswersFailed : {X : Type 0} → Result X Error → Type 0
@@ -55,8 +55,8 @@ AnswersFailed result = IsErrAnd result (λ e. write_failure e ≡ bare (unwritab
 
 -- the whole value is given, or memory ran out
 abbrev pub GivesWhole : Writing Tree → Result Bson Error → Type 0
-GivesWhole due (Ok b) = due ≡ Ok (tree_of b)
-GivesWhole due (Err e) = write_failure e ≡ no_memory
+GivesWhole expected (Ok b) = expected ≡ Ok (tree_of b)
+GivesWhole expected (Err e) = write_failure e ≡ no_memory
 
 -- a value is handed to a writer of an array: what refuses it is the refusal of each whole value that begins with the values so far and this one
 abbrev pub TakesItem : (whole : Items → Value) → (levels : ℕ) → (old new : ItemsMade) → Value → Result (Unit {0}) Error → Type 0

@@ -2,4 +2,4 @@ pub mod Places
 pub mod MarkedFields
 pub mod Finished
 pub mod Elements
-pub mod DueNext
+pub mod NextParts

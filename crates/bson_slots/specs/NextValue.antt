@@ -30,6 +30,6 @@ behind_first (faulty e) = ended
 behind_first (then_node k n ns) = ns
 
 -- the next element is given, and those behind it are left
-abbrev pub IsDue : ℕ → Nodes → Result Node (Stop Fault) → Nodes → Type 0
-IsDue i old (Ok n) new = (next_node i old ≡ Ok n) × (new ≡ behind_first old)
-IsDue i old (Err s) new = RefusesAs (stop_view read_fault s) (next_node i old)
+abbrev pub IsNextPart : ℕ → Nodes → Result Node (Stop Fault) → Nodes → Type 0
+IsNextPart i old (Ok n) new = (next_node i old ≡ Ok n) × (new ≡ behind_first old)
+IsNextPart i old (Err s) new = RefusesAs (stop_view read_fault s) (next_node i old)

@@ -8,7 +8,7 @@ mod next_item;
 mod slots;
 
 pub use index::{NameIndex, scan};
-pub use mode::due_shape;
+pub use mode::shape_for_reader;
 pub use named::{named_field, named_struct, named_struct_variant};
-pub use next_item::due;
+pub use next_item::next_part;
 pub use slots::Slots;

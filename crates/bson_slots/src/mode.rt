@@ -5,7 +5,7 @@ use bson_shape::Shape;
 
 /// The one of two shapes that applies for a reader who is human or not.
 #[inline(always)]
-pub fn due_shape<'s>(readable: bool, human: &'s Shape, compact: &'s Shape) -> &'s Shape
+pub fn shape_for_reader<'s>(readable: bool, human: &'s Shape, compact: &'s Shape) -> &'s Shape
     ensures { result.now ≡ (if readable then human.now else compact.now) }
 {
     if readable { human } else { compact }

@@ -13,7 +13,7 @@ ghost use Rattle.bson_laws.specs.Views.{absent};
 ghost use Rattle.bson_slots.specs.FieldSlots.{AreFirst, AreFirst-prop, field_slots, fields_marked, value_at, with_value};
 ghost use Rattle.bson_met.specs.Gives.{Reaches};
 
-use crate::mode::due_shape;
+use crate::mode::shape_for_reader;
 use crate::named::named_field;
 use bson_datum::{Datum, Field};
 use bson_laws::Reader;
@@ -229,7 +229,7 @@ fn may_be_missing(shape: &Shape, readable: bool) -> bool
 {
     match shape.form() {
         Form::Option(_) => true,
-        Form::Mode(human, compact) => is_option(due_shape(readable, human, compact)),
+        Form::Mode(human, compact) => is_option(shape_for_reader(readable, human, compact)),
         _ => false,
     }
 }

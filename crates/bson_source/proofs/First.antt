@@ -15,16 +15,16 @@ use Rattle.bson_values.specs.ErrorView.{read_failure}
 use Rattle.bson_values.specs.Refusal.{ReadFault, Failure, no_memory, bare, placed, io, invalid_utf8_string, unrecognized_element_type, end_of_stream, unreadable}
 use Rattle.bson_values.specs.declared.de.Error.{Error}
 use Rattle.bson_source.specs.Taken.{TakesSome, TakesAll}
-use Rattle.bson_source.specs.FirstDocument.{announced, document_length, due, first_document, of_length, or_four}
+use Rattle.bson_source.specs.FirstDocument.{announced, document_length, bytes_needed, first_document, of_length, or_four}
 use Rattle.bson_source.specs.FromSource.{IsAll, IsTakeError, ReadsOne, Stops}
 
 -- ---- how many bytes are to be taken
 
-due_short : (b : Bytes) → length b < 4 → due b ≡ 4
-due_short b h = ap (λ t. cond t 4 (or_four (announced b))) (lt-ltb _ _ h)
+needed_short : (b : Bytes) → length b < 4 → bytes_needed b ≡ 4
+needed_short b h = ap (λ t. cond t 4 (or_four (announced b))) (lt-ltb _ _ h)
 
-due_long : (b : Bytes) → 4 ≤ length b → due b ≡ or_four (announced b)
-due_long b h = ap (λ t. cond t 4 (or_four (announced b))) (le-ltb _ _ h)
+needed_long : (b : Bytes) → 4 ≤ length b → bytes_needed b ≡ or_four (announced b)
+needed_long b h = ap (λ t. cond t 4 (or_four (announced b))) (le-ltb _ _ h)
 
 -- the first four bytes announce the same, whatever follows them
 same_announced : (b more : Bytes) → length b ≡ 4 → announced (b ++ more) ≡ announced b
@@ -38,12 +38,12 @@ at_least_four : (z : ℤ) → 4 ≤ or_four (document_length z)
 at_least_four (pos n) = of_test n (nat_lt n 5) refl
 at_least_four (negsuc n) = omega arith
 
-due_of : (b : Bytes) (t : Bool) → 4 ≤ cond t 4 (or_four (announced b))
-due_of b true = omega arith
-due_of b false = at_least_four (int32_in b)
+needed_of : (b : Bytes) (t : Bool) → 4 ≤ cond t 4 (or_four (announced b))
+needed_of b true = omega arith
+needed_of b false = at_least_four (int32_in b)
 
-within_four : (b : Bytes) → length b ≤ 4 → length b ≤ due b
-within_four b h = omega (arith, h, due_of b (nat_lt (length b) 4))
+within_four : (b : Bytes) → length b ≤ 4 → length b ≤ bytes_needed b
+within_four b h = omega (arith, h, needed_of b (nat_lt (length b) 4))
 
 -- ---- bytes were not taken
 
@@ -96,8 +96,8 @@ ended see a b before now more e t h is = record {
 }
 
 -- how many bytes are to be taken, and the first document, where the length is known
-due_is : (b : Bytes) (o : Option ℕ) → 4 ≤ length b → announced b ≡ o → due b ≡ or_four o
-due_is b o h is = due_long b h ∙ ap or_four is
+needed_is : (b : Bytes) (o : Option ℕ) → 4 ≤ length b → announced b ≡ o → bytes_needed b ≡ or_four o
+needed_is b o h is = needed_long b h ∙ ap or_four is
 
 document_is : (b : Bytes) (o : Option ℕ) → 4 ≤ length b → announced b ≡ o → first_document b ≡ of_length b o
 document_is b o h is = ap (λ s. cond s (Err (bare end_of_stream)) (of_length b (announced b))) (le-ltb _ _ h) ∙ ap (of_length b) is
@@ -110,7 +110,7 @@ none_announced see a b before now more e t h none is = record {
   within = within_four more t.within;
   exact =
       subst (λ f. Stops (IsAll b more) (Rose before now) f (first_document more)) (sym is)
-      (inl (omega (arith, h, t.within, due_is more None h none)), document_is more None h none);
+      (inl (omega (arith, h, t.within, needed_is more None h none)), document_is more None h none);
 }
 
 -- ---- the bytes behind the length
@@ -130,11 +130,11 @@ pub rest_failed : {X Y : Type 0} (see : X → Y) (answer : Bytes → Result Y (F
 rest_failed see answer a b c before mid now n m more e t ge is s le h = record {
   came = m ++ more;
   taken = Consumes-trans a b c m more t.taken s.taken;
-  within = omega (arith, t.within, ge, s.within, least m n is, length-append m more, due_is (m ++ more) (Some n) (long m more ge) (announces m more n t.within ge is));
+  within = omega (arith, t.within, ge, s.within, least m n is, length-append m more, needed_is (m ++ more) (Some n) (long m more ge) (announces m more n t.within ge is));
   exact = stops _ before mid now (read_failure e) (answer (m ++ more)) le h;
 }
 
-all_came : (c : Option Bytes) (n : ℕ) (m more : Bytes) → length m ≡ 4 → 4 ≤ n → due (m ++ more) ≡ n → (length more ≡ n - length m) ⊎ IsAtEnd c → IsAll c (m ++ more)
+all_came : (c : Option Bytes) (n : ℕ) (m more : Bytes) → length m ≡ 4 → 4 ≤ n → bytes_needed (m ++ more) ≡ n → (length more ≡ n - length m) ⊎ IsAtEnd c → IsAll c (m ++ more)
 all_came c n m more four ge is (inl e) = inl (omega (arith, four, ge, is, e, length-append m more))
 all_came c n m more four ge is (inr e) = inr e
 
@@ -147,8 +147,8 @@ all_taken a b c before now n m more v t ge is whole s =
     record {
       came = m ++ more;
       taken = Consumes-trans a b c m more t.taken s.taken;
-      within = omega (arith, fits, due_is (m ++ more) (Some n) (long m more ge) at);
-      exact = (all_came c n m more four (least m n is) (due_is (m ++ more) (Some n) (long m more ge) at) s.ended, document_is (m ++ more) (Some n) (long m more ge) at ∙ ap Ok (take_all n (m ++ more) fits ∙ sym whole));
+      within = omega (arith, fits, needed_is (m ++ more) (Some n) (long m more ge) at);
+      exact = (all_came c n m more four (least m n is) (needed_is (m ++ more) (Some n) (long m more ge) at) s.ended, document_is (m ++ more) (Some n) (long m more ge) at ∙ ap Ok (take_all n (m ++ more) fits ∙ sym whole));
     }
 
 -- the rest was taken, or not

@@ -20,8 +20,8 @@ or_four None = 4
 or_four (Some n) = n
 
 -- How many bytes are to be taken, by those that came: the four of the length, and then as many as they announce.
-abbrev pub due : Bytes → ℕ
-due b = if nat_lt (length b) 4 then 4 else or_four (announced b)
+abbrev pub bytes_needed : Bytes → ℕ
+bytes_needed b = if nat_lt (length b) 4 then 4 else or_four (announced b)
 
 -- the bytes of a document of this length, or all where they are fewer
 abbrev pub of_length : Bytes → Option ℕ → Result Bytes (Failure ReadFault)

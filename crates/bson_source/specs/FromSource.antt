@@ -7,11 +7,11 @@ use Rattle.bson_values.specs.ErrorView.{read_failure}
 use Rattle.bson_values.specs.Refusal.{ReadFault, Failure, no_memory, bare, placed, io}
 use Rattle.bson_values.specs.declared.de.Error.{Error}
 use Rattle.bson_io.specs.Ends.{Rose}
-use Rattle.bson_source.specs.FirstDocument.{due, first_document}
+use Rattle.bson_source.specs.FirstDocument.{bytes_needed, first_document}
 
 -- All that was to be taken came, or the source has no more.
 abbrev pub IsAll : (left : Option Bytes) → (came : Bytes) → Type 0
-IsAll left came = (length came ≡ due came) ⊎ IsAtEnd left
+IsAll left came = (length came ≡ bytes_needed came) ⊎ IsAtEnd left
 
 -- bytes are not taken: a call on the source failed, or memory ran out
 abbrev pub IsTakeError : (failed : Type 0) → Failure ReadFault → Type 0
@@ -36,7 +36,7 @@ Ends see all failed (Err e) answer = Stops all failed (read_failure e) answer
 pub record ReadsOne {X Y : Type 0} (see : X → Y) (answer : Bytes → Result Y (Failure ReadFault)) (old new : Option Bytes) (before now : ℕ) (result : Result X Error) : Type 0 where
   pub came : Bytes
   pub taken : Consumes old new came
-  pub within : length came ≤ due came
+  pub within : length came ≤ bytes_needed came
   pub exact : Ends see (IsAll new came) (Rose before now) result (answer came)
 
 -- what the first document is read as

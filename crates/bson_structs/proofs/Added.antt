@@ -47,19 +47,19 @@ within_at_once f (Err KeyNotText) e = sym e
 within_at_once f (Err Unguarded) e = sym e
 within_at_once f (Err TooDeep) e = sym e
 
-struct_due : (k : Option ElementType) (b : Bool) (due : Result Form ShapeError) → k ≡ None → b ≡ false → cond (is_some k) (Err ReservedName) (cond b (Err RepeatedName) due) ≡ due
-struct_due None false due k b = refl
-struct_due None true due k b = absurd cc
-struct_due (Some x) b due k d = absurd cc
+struct_expected : (k : Option ElementType) (b : Bool) (expected : Result Form ShapeError) → k ≡ None → b ≡ false → cond (is_some k) (Err ReservedName) (cond b (Err RepeatedName) expected) ≡ expected
+struct_expected None false expected k b = refl
+struct_expected None true expected k b = absurd cc
+struct_expected (Some x) b expected k d = absurd cc
 
 pub struct_made : (name : Utf8) (n : String Global) (fs : Fields) (r : Result Form ShapeError) → string_bytes n ≡ name → reserved_kind name ≡ None → repeats fs ≡ false → r ≡ made_structure dropped (string_bytes n) fs → IsShapeOf (structure dropped name fs) r
 struct_made name n fs r named free distinct made =
     made_within (structure dropped name fs) r (within_at_once (structure dropped name fs) r
-    (subst (λ m. r ≡ made_structure dropped m fs) named made ∙ struct_due (reserved_kind name) (repeats fs) (within_levels (structure dropped name fs)) free distinct))
+    (subst (λ m. r ≡ made_structure dropped m fs) named made ∙ struct_expected (reserved_kind name) (repeats fs) (within_levels (structure dropped name fs)) free distinct))
 
-enum_due : (b : Bool) (due : Result Form ShapeError) → b ≡ false → cond b (Err RepeatedName) due ≡ due
-enum_due false due b = refl
-enum_due true due b = absurd cc
+enum_expected : (b : Bool) (expected : Result Form ShapeError) → b ≡ false → cond b (Err RepeatedName) expected ≡ expected
+enum_expected false expected b = refl
+enum_expected true expected b = absurd cc
 
 pub enum_made : (vs : Variants) (r : Result Form ShapeError) → variants_repeat vs ≡ false → r ≡ made_enumeration vs → IsShapeOf (enumeration vs) r
-enum_made vs r distinct made = made_within (enumeration vs) r (within_at_once (enumeration vs) r (made ∙ enum_due (variants_repeat vs) (within_levels (enumeration vs)) distinct))
+enum_made vs r distinct made = made_within (enumeration vs) r (within_at_once (enumeration vs) r (made ∙ enum_expected (variants_repeat vs) (within_levels (enumeration vs)) distinct))

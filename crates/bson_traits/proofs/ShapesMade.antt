@@ -9,7 +9,7 @@ use Rattle.bson_shape.specs.Makers.{Makes, within_levels}
 use Rattle.bson_shape.specs.declared.error.ShapeError.{ShapeError}
 use Rattle.bson_shape.specs.declared.error.ShapeError.TheVariants.{ReservedName, RepeatedName, KeyNotText, Unguarded, TooDeep, NoMemory}
 use Rattle.bson_traits.specs.Answers.{Reading, not_fitting}
-use Rattle.bson_traits.specs.ShapeOf.{IsShapeOf, due_shape}
+use Rattle.bson_traits.specs.ShapeOf.{IsShapeOf, shape_of_type}
 
 made_of : (f : Form) (b : Bool) (r : Result Form ShapeError) → nat_lt max_shape_levels (levels f) ≡ b → Makes r (cond b (Err TooDeep) (Ok f)) → IsShapeOf f r
 made_of f true (Ok s) is h = absurd cc
@@ -32,11 +32,11 @@ made_within f r h = made_of f (nat_lt max_shape_levels (levels f)) r refl h
 
 -- ---- the shape of a type, as readers ask for it
 
-due_of : (f : Form) (b : Bool) → nat_lt max_shape_levels (levels f) ≡ b → due_shape f ≡ cond b (Err not_fitting) (Ok f)
-due_of f b e = ap (λ x. cond x (Err not_fitting) (Ok f)) e
+expected_of : (f : Form) (b : Bool) → nat_lt max_shape_levels (levels f) ≡ b → shape_of_type f ≡ cond b (Err not_fitting) (Ok f)
+expected_of f b e = ap (λ x. cond x (Err not_fitting) (Ok f)) e
 
-pub shape_is_due : (f s : Form) → s ≡ f → levels f ≤ max_shape_levels → due_shape f ≡ Ok s
-shape_is_due f s is few = due_of f false (le-ltb _ _ few) ∙ ap Ok (sym is)
+pub shape_is_expected : (f s : Form) → s ≡ f → levels f ≤ max_shape_levels → shape_of_type f ≡ Ok s
+shape_is_expected f s is few = expected_of f false (le-ltb _ _ few) ∙ ap Ok (sym is)
 
-pub none_is_due : (f : Form) → max_shape_levels < levels f → due_shape f ≡ Err not_fitting
-none_is_due f many = due_of f true (lt-ltb _ _ many)
+pub none_is_expected : (f : Form) → max_shape_levels < levels f → shape_of_type f ≡ Err not_fitting
+none_is_expected f many = expected_of f true (lt-ltb _ _ many)

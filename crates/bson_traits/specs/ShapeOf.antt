@@ -16,9 +16,9 @@ IsShapeOf form (Err NoMemory) = Unit {0}
 IsShapeOf form (Err e) = ⊥
 
 -- the form of a type that has a shape; a type whose form has too many levels fits nothing
-abbrev pub due_shape : Form → Reading Form
-due_shape form = if nat_lt max_shape_levels (levels form) then Err not_fitting else Ok form
+abbrev pub shape_of_type : Form → Reading Form
+shape_of_type form = if nat_lt max_shape_levels (levels form) then Err not_fitting else Ok form
 
 -- what a type gives of what is read at its shape
 abbrev pub read_typed : {C : Type 0} → Form → (Value → Reading C) → (Form → Reading Value) → Reading C
-read_typed form taken read = due_shape form >>= λ s. read s >>= taken
+read_typed form taken read = shape_of_type form >>= λ s. read s >>= taken

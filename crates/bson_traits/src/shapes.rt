@@ -3,7 +3,7 @@ ghost use Rattle.bson_shape.specs.Form as form;
 ghost use Rattle.bson_shape.specs.Form.{leaf};
 ghost use Rattle.bson_shape.specs.declared.leaf.Leaf.TheVariants as leaves;
 ghost use Rattle.bson_traits.specs.Answers.{Reads};
-ghost use Rattle.bson_traits.specs.ShapeOf.{IsShapeOf, due_shape};
+ghost use Rattle.bson_traits.specs.ShapeOf.{IsShapeOf, shape_of_type};
 
 use crate::refusal::not_fitting;
 use crate::traits::Deserialize;
@@ -16,9 +16,9 @@ use std::alloc::Global;
 /// # Errors
 ///
 /// `not_fitting` exactly where it would have more than 512 levels, or `NoMemory`.
-#[tactic(auto, using(crate::proofs::ShapesMade::shape_is_due, crate::proofs::ShapesMade::none_is_due))]
+#[tactic(auto, using(crate::proofs::ShapesMade::shape_is_expected, crate::proofs::ShapesMade::none_is_expected))]
 pub fn shape_of<'de, T: Deserialize<'de>>(alloc: Global) -> de::Result<Shape>
-    ensures shape { Reads (λ s. s) result (due_shape T.form) }
+    ensures shape { Reads (λ s. s) result (shape_of_type T.form) }
 {
     match T::shape(alloc) {
         Ok(shape) => Ok(shape),

@@ -23,16 +23,16 @@ use Rattle.bson_tree_recast.specs.declared.error.RecastError.{RecastError}
 use Rattle.bson_tree_recast.specs.declared.error.RecastError.TheVariants as errors
 
 -- a recast that ends at a step ends so for all that comes behind it
-pub carried : {X Y : Type 0} (o : Option Ending) (due : Result X Ending) (next : X → Result Y Ending) → StopsAs o due → StopsAs o (due >>= next)
-carried None due next h = tt
-carried (Some x) due next h = ap (λ d. d >>= next) h
+pub carried : {X Y : Type 0} (o : Option Ending) (expected : Result X Ending) (next : X → Result Y Ending) → StopsAs o expected → StopsAs o (expected >>= next)
+carried None expected next h = tt
+carried (Some x) expected next h = ap (λ d. d >>= next) h
 
 -- the last step is the recast
-pub last : (due : Result Bytes Ending) (r : Result (Vec ℕ) RecastError) → Steps (λ v. v.items) r due → IsRecast (ended due) r
-last due (Ok v) h = ap ended h
-last due (Err (errors.Read e)) h = ap ended h
-last due (Err (errors.Write e)) h = subst (λ r. Unwritten r (write_failure e)) (sym (ap ended h)) (inl refl)
-last due (Err errors.NoMemory) h = tt
+pub last : (expected : Result Bytes Ending) (r : Result (Vec ℕ) RecastError) → Steps (λ v. v.items) r expected → IsRecast (ended expected) r
+last expected (Ok v) h = ap ended h
+last expected (Err (errors.Read e)) h = ap ended h
+last expected (Err (errors.Write e)) h = subst (λ r. Unwritten r (write_failure e)) (sym (ap ended h)) (inl refl)
+last expected (Err errors.NoMemory) h = tt
 
 -- what a call gives is given at its step
 pub ends_given : {A E : Type 0} (ends : E → Ending) (r : Result A E) (x : A) → r ≡ Ok x → or_ends ends r ≡ Ok x
@@ -78,49 +78,49 @@ pub framed : {X : Type 0} (see : X → Pairs) (r : Result X Error) (b : Bytes) (
 framed see r b frame h g = subst (Gives see r) (ap (λ x. x >>= document_pairs) h) g
 
 -- what is told of a fault of bytes
-pub told : {A : Type 0} (fault : Error) (due : Result A Ending) → due ≡ Err (unread_for fault) → StopsAs (option_map unread_for (raw_told fault)) due
-told NoMemory due h = tt
-told fault due h = h
+pub told : {A : Type 0} (fault : Error) (expected : Result A Ending) → expected ≡ Err (unread_for fault) → StopsAs (option_map unread_for (raw_told fault)) expected
+told NoMemory expected h = tt
+told fault expected h = h
 
 -- a fault of bytes is told, unless memory ran out
-pub document_stops : {A : Type 0} (fault : Error) (due : Result A Error) → (due ≡ Err fault) ⊎ (fault ≡ NoMemory) → StopsAs (option_map unread_for (raw_told fault)) (or_ends unread_for due)
-document_stops fault due (inl e) = told fault (or_ends unread_for due) (ap (or_ends unread_for) e)
-document_stops fault due (inr none) = subst (λ f. StopsAs (option_map unread_for (raw_told f)) (or_ends unread_for due)) (sym none) tt
+pub document_stops : {A : Type 0} (fault : Error) (expected : Result A Error) → (expected ≡ Err fault) ⊎ (fault ≡ NoMemory) → StopsAs (option_map unread_for (raw_told fault)) (or_ends unread_for expected)
+document_stops fault expected (inl e) = told fault (or_ends unread_for expected) (ap (or_ends unread_for) e)
+document_stops fault expected (inr none) = subst (λ f. StopsAs (option_map unread_for (raw_told f)) (or_ends unread_for expected)) (sym none) tt
 
-pub document_stopped : {A : Type 0} (fault : Error) (r : RecastError) (due : Result A Error) → stopped r ≡ option_map unread_for (raw_told fault) → (due ≡ Err fault) ⊎ (fault ≡ NoMemory) → StopsAs (stopped r) (or_ends unread_for due)
-document_stopped fault r due is h = subst (λ o. StopsAs o (or_ends unread_for due)) (sym is) (document_stops fault due h)
+pub document_stopped : {A : Type 0} (fault : Error) (r : RecastError) (expected : Result A Error) → stopped r ≡ option_map unread_for (raw_told fault) → (expected ≡ Err fault) ⊎ (fault ≡ NoMemory) → StopsAs (stopped r) (or_ends unread_for expected)
+document_stopped fault r expected is h = subst (λ o. StopsAs o (or_ends unread_for expected)) (sym is) (document_stops fault expected h)
 
 -- ---- the value
 
-read_failed : (f g : Failure ReadFault) (due : Result Value (Failure ReadFault)) → reading.FailsAs f due → f ≡ g → f ≢ no_memory → or_ends in_reading due ≡ Err (in_reading g)
-read_failed no_memory g due h same some = absurd (some refl)
-read_failed (bare x) g due h same some = ap (or_ends in_reading) h ∙ ap (λ y. Err (in_reading y)) same
-read_failed (placed p x) g due h same some = ap (or_ends in_reading) h ∙ ap (λ y. Err (in_reading y)) same
+read_failed : (f g : Failure ReadFault) (expected : Result Value (Failure ReadFault)) → reading.FailsAs f expected → f ≡ g → f ≢ no_memory → or_ends in_reading expected ≡ Err (in_reading g)
+read_failed no_memory g expected h same some = absurd (some refl)
+read_failed (bare x) g expected h same some = ap (or_ends in_reading) h ∙ ap (λ y. Err (in_reading y)) same
+read_failed (placed p x) g expected h same some = ap (or_ends in_reading) h ∙ ap (λ y. Err (in_reading y)) same
 
 -- a failure of reading ends the recast, unless memory ran out
-pub value_stops : (e : de.Error) (r : RecastError) (due : Result Value (Failure ReadFault)) → reading.FailsAs (read_failure e) due → IsReadError e r → StopsAs (stopped r) (or_ends in_reading due)
-value_stops e errors.NoMemory due h is = tt
-value_stops e (errors.Read d) due h is = read_failed (read_failure e) (read_failure d) due h (ap read_failure (sym is.0)) is.1
-value_stops e (errors.Write d) due h is = absurd is
+pub value_stops : (e : de.Error) (r : RecastError) (expected : Result Value (Failure ReadFault)) → reading.FailsAs (read_failure e) expected → IsReadError e r → StopsAs (stopped r) (or_ends in_reading expected)
+value_stops e errors.NoMemory expected h is = tt
+value_stops e (errors.Read d) expected h is = read_failed (read_failure e) (read_failure d) expected h (ap read_failure (sym is.0)) is.1
+value_stops e (errors.Write d) expected h is = absurd is
 
 -- ---- the document that is made
 
-write_failed : (f g : Failure WriteFault) (due : Result Pairs (Failure WriteFault)) → writing.FailsAs f due → f ≡ g → f ≢ no_memory → or_ends in_writing due ≡ Err (in_writing g)
-write_failed no_memory g due h same some = absurd (some refl)
-write_failed (bare x) g due h same some = ap (or_ends in_writing) h ∙ ap (λ y. Err (in_writing y)) same
-write_failed (placed p x) g due h same some = ap (or_ends in_writing) h ∙ ap (λ y. Err (in_writing y)) same
+write_failed : (f g : Failure WriteFault) (expected : Result Pairs (Failure WriteFault)) → writing.FailsAs f expected → f ≡ g → f ≢ no_memory → or_ends in_writing expected ≡ Err (in_writing g)
+write_failed no_memory g expected h same some = absurd (some refl)
+write_failed (bare x) g expected h same some = ap (or_ends in_writing) h ∙ ap (λ y. Err (in_writing y)) same
+write_failed (placed p x) g expected h same some = ap (or_ends in_writing) h ∙ ap (λ y. Err (in_writing y)) same
 
 -- a failure of writing ends the recast, unless memory ran out
-pub made_stops : (e : ser.Error) (r : RecastError) (due : Result Pairs (Failure WriteFault)) → writing.FailsAs (write_failure e) due → IsWriteError e r → StopsAs (stopped r) (or_ends in_writing due)
-made_stops e errors.NoMemory due h is = tt
-made_stops e (errors.Write d) due h is = write_failed (write_failure e) (write_failure d) due h (ap write_failure (sym is.0)) is.1
-made_stops e (errors.Read d) due h is = absurd is
+pub made_stops : (e : ser.Error) (r : RecastError) (expected : Result Pairs (Failure WriteFault)) → writing.FailsAs (write_failure e) expected → IsWriteError e r → StopsAs (stopped r) (or_ends in_writing expected)
+made_stops e errors.NoMemory expected h is = tt
+made_stops e (errors.Write d) expected h is = write_failed (write_failure e) (write_failure d) expected h (ap write_failure (sym is.0)) is.1
+made_stops e (errors.Read d) expected h is = absurd is
 
 -- ---- its bytes
 
-pub bytes_stop : (o : Option EncodeFault) (due : Result Bytes EncodeFault) → IsRefusedFor o due → StopsAs (option_map unencoded_for o) (or_ends unencoded_for due)
-bytes_stop None due h = tt
-bytes_stop (Some f) due h = ap (or_ends unencoded_for) h
+pub bytes_stop : (o : Option EncodeFault) (expected : Result Bytes EncodeFault) → IsRefusedFor o expected → StopsAs (option_map unencoded_for o) (or_ends unencoded_for expected)
+bytes_stop None expected h = tt
+bytes_stop (Some f) expected h = ap (or_ends unencoded_for) h
 
-pub bytes_stopped : (o : Option EncodeFault) (r : RecastError) (due : Result Bytes EncodeFault) → stopped r ≡ option_map unencoded_for o → IsRefusedFor o due → StopsAs (stopped r) (or_ends unencoded_for due)
-bytes_stopped o r due is h = subst (λ x. StopsAs x (or_ends unencoded_for due)) (sym is) (bytes_stop o due h)
+pub bytes_stopped : (o : Option EncodeFault) (r : RecastError) (expected : Result Bytes EncodeFault) → stopped r ≡ option_map unencoded_for o → IsRefusedFor o expected → StopsAs (stopped r) (or_ends unencoded_for expected)
+bytes_stopped o r expected is h = subst (λ x. StopsAs x (or_ends unencoded_for expected)) (sym is) (bytes_stop o expected h)

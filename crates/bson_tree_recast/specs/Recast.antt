@@ -23,7 +23,7 @@ pub data Recast : Type 0 where
   -- the bytes are not read at the shape, for this failure
   unread : Failure ReadFault → Recast
   -- what is read is not written: for this failure, where there is one, or for its size, where it takes more bytes than a document may
-  unwritten : (due : Option (Failure WriteFault)) → (too_long : Bool) → Recast
+  unwritten : (expected : Option (Failure WriteFault)) → (too_long : Bool) → Recast
 
 -- the recast of a value that is too long or not, by the tree that it is written as
 abbrev pub written : (too_long : Bool) → Writing Tree → Recast
@@ -45,13 +45,13 @@ recast_of s bytes = recast_read (reads_document s bytes)
 -- the failure is this one
 abbrev pub Is : Option (Failure WriteFault) → Failure WriteFault → Type 0
 Is None f = ⊥
-Is (Some due) f = f ≡ due
+Is (Some expected) f = f ≡ expected
 
 -- What is read is not written, for this failure. Where there is a refusal and the whole is too long, it is either.
 abbrev pub Unwritten : Recast → Failure WriteFault → Type 0
 Unwritten (writes bytes) f = ⊥
 Unwritten (unread e) f = ⊥
-Unwritten (unwritten due too_long) f = Is due f ⊎ ((too_long ≡ true) × (f ≡ too_long_failure))
+Unwritten (unwritten expected too_long) f = Is expected f ⊎ ((too_long ≡ true) × (f ≡ too_long_failure))
 
 -- the error of a recast; out of memory is free
 abbrev pub IsRefusal : Recast → RecastError → Type 0
@@ -91,13 +91,13 @@ stopped NoMemory = None
 
 -- the recast ends so at this step; nothing is said where memory ran out
 abbrev pub StopsAs : {Y : Type 0} → Option Ending → Result Y Ending → Type 0
-StopsAs None due = Unit {0}
-StopsAs (Some x) due = due ≡ Err x
+StopsAs None expected = Unit {0}
+StopsAs (Some x) expected = expected ≡ Err x
 
 -- A step gives what the definition gives, seen so, or the recast ends; or memory ran out.
 abbrev pub Steps : {X Y : Type 0} → (X → Y) → Result X RecastError → Result Y Ending → Type 0
-Steps see (Ok x) due = due ≡ Ok (see x)
-Steps see (Err e) due = StopsAs (stopped e) due
+Steps see (Ok x) expected = expected ≡ Ok (see x)
+Steps see (Err e) expected = StopsAs (stopped e) expected
 
 -- the recast whose last step comes to this
 abbrev pub ended : Result Bytes Ending → Recast

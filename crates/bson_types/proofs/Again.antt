@@ -10,7 +10,7 @@ use Rattle.bson_laws.specs.Reads.{reads_document}
 use Rattle.bson_traits.specs.Answers.{Reading, Writing}
 use Rattle.bson_traits.specs.Laws.{GivesBack, Returns}
 use Rattle.bson_types.specs.Typed.{ReadsBack}
-use Rattle.bson_types.proofs.Levels.{shape_is_due}
+use Rattle.bson_types.proofs.Levels.{shape_is_expected}
 
 -- the law of the type, at a datum
 pub given_back : {C : Type 0} (form : Form) (c : C) (taken : Value → Reading C) (w : Writing Value) (v : Value) → w ≡ Ok v → Returns form c taken w → GivesBack form c taken v
@@ -20,5 +20,5 @@ pub reads_back : {C : Type 0} (form : Form) (taken : Value → Reading C) (c : C
 reads_back form taken c v t shape read again = record {
   datum = read;
   value = again;
-  call = ap (λ r. r >>= λ s. reads_document s (enc t) >>= taken) (shape_is_due form shape) ∙ ap (λ r. r >>= taken) read ∙ again;
+  call = ap (λ r. r >>= λ s. reads_document s (enc t) >>= taken) (shape_is_expected form shape) ∙ ap (λ r. r >>= taken) read ∙ again;
 }

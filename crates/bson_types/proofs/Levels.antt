@@ -4,7 +4,7 @@ use Rattle.std.proofs.lemmas.Bool.{le-ltb}
 use Rattle.bson_shape.specs.Form.{Form, leaf, optional, lossy, human_readable, by_mode, sequence, map, tuple, tuple_structure, newtype, unit_structure, structure, enumeration, reference, definitions}
 use Rattle.bson_shape.specs.Levels.{levels, max_shape_levels}
 use Rattle.bson_shape.specs.Makers.{IsShape}
-use Rattle.bson_traits.specs.ShapeOf.{due_shape}
+use Rattle.bson_traits.specs.ShapeOf.{shape_of_type}
 
 few : (f : Form) → IsShape f → levels f ≤ max_shape_levels
 few (leaf l) h = omega arith
@@ -26,5 +26,5 @@ few (definitions table f) h = h.0.few
 not_above : (f : Form) → levels f ≤ max_shape_levels → nat_lt max_shape_levels (levels f) ≡ false
 not_above f h = le-ltb _ _ h
 
-pub shape_is_due : (f : Form) → IsShape f → due_shape f ≡ Ok f
-shape_is_due f h = rw (not_above f (few f h)) refl
+pub shape_is_expected : (f : Form) → IsShape f → shape_of_type f ≡ Ok f
+shape_is_expected f h = rw (not_above f (few f h)) refl

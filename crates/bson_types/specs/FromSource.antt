@@ -10,7 +10,7 @@ use Rattle.bson_values.specs.declared.de.Error.{Error}
 use Rattle.bson_shape.specs.Form.{Form}
 use Rattle.bson_source.specs.FromSource.{ReadsOne, read_first}
 use Rattle.bson_traits.specs.Answers.{Reading}
-use Rattle.bson_traits.specs.ShapeOf.{due_shape}
+use Rattle.bson_traits.specs.ShapeOf.{shape_of_type}
 
 -- the call fails so, or memory ran out
 abbrev pub FailsWith : {X : Type 0} → Failure ReadFault → Result X Error → Type 0
@@ -23,4 +23,4 @@ ReadsAt see (Err f) taken read old new before now result = Keeps old new × Fail
 ReadsAt see (Ok form) taken read old new before now result = ReadsOne see (read_first (λ b. read form b >>= taken)) old new before now result
 
 abbrev pub ReadsTyped : {X C : Type 0} → (X → C) → Form → (Value → Reading C) → (Form → Bytes → Reading Value) → (old new : Option Bytes) → (before now : ℕ) → Result X Error → Type 0
-ReadsTyped see form taken read old new before now result = ReadsAt see (due_shape form) taken read old new before now result
+ReadsTyped see form taken read old new before now result = ReadsAt see (shape_of_type form) taken read old new before now result

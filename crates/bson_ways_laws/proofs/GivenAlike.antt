@@ -25,7 +25,7 @@ use Rattle.bson_laws.specs.Spell.{Writing, spell_number, spell_key, named, enclo
 use Rattle.bson_laws.proofs.Free.{free_spelled, free_struct}
 use Rattle.bson_laws.proofs.Given.{Differs, AreApart, IsGivenText, IsGivenAny, AreGivenItems, AreGivenEntries, IsGivenLeaf, IsGivenLeafKey, IsGivenKey, IsGiven, ItemsGiven, PartsGiven, EntriesGiven, FieldsGiven, given_leaf, given_lossy, given_body}
 use Rattle.bson_rawdoc.specs.Node.{Sight}
-use Rattle.bson_laws.proofs.Lent.{marked}
+use Rattle.bson_laws.proofs.Borrowed.{marked}
 use Rattle.bson_laws.proofs.GivenTrees.{IsGivenTree, ArePairsGiven, AreTreesGiven, IsGivenExtended}
 use Rattle.bson_laws.proofs.ShapeForms.{IsShape, AreShapes, AreParts, AreVariants, IsContent}
 use Rattle.bson_laws.proofs.Sizes.{ok_is, enclosed_ok, variant_ok, inside_ok, under_ok, named_ok, spell_key_ok}

@@ -10,7 +10,7 @@ use Rattle.bson_laws.specs.Judged.{Reading}
 use Rattle.bson_laws.specs.Slots.{Slot, reads_places}
 use Rattle.bson_met.specs.Gives.{RefusesAs}
 use Rattle.bson_slots.specs.NextValue.{next_value, behind_first}
-use Rattle.bson_slots.proofs.DueNext.{next_parts}
+use Rattle.bson_slots.proofs.NextParts.{next_parts}
 
 -- a field's value before the others
 abbrev named : Slot → Marked → Reading MarkedFields → Reading MarkedFields

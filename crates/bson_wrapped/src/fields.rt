@@ -22,7 +22,7 @@ ghost use Rattle.bson_slots.specs.NextValue.{next_value, behind_first};
 ghost use Rattle.bson_wrapped.specs.Fields.{field_slot, one_slot, two_slots, drop_at};
 
 use bson_met::{Elements, Items, Met, Reading, Step, Value, refused};
-use bson_slots::due;
+use bson_slots::next_part;
 use bson_texts::{ignore, own_text};
 use bson_values::Cause;
 use std::alloc::Global;
@@ -33,7 +33,7 @@ pub(crate) trait FieldValue: Drop {
 
     ghost seen: { Self → Marked };
 
-    ghost due: { absent {T = Piece} form ≡ None };
+    ghost required: { absent {T = Piece} form ≡ None };
 
     /// The value at its shape.
     fn read(alloc: Global, value: &Met<'_>) -> Reading<Self>
@@ -45,7 +45,7 @@ impl FieldValue for String {
 
     ghost seen = { λ s. values.str (made (string_bytes s)) };
 
-    ghost due = { λ _. None };
+    ghost required = { λ _. None };
 
     fn read(alloc: Global, value: &Met<'_>) -> Reading<String> {
         own_text(alloc, value)
@@ -57,7 +57,7 @@ impl FieldValue for u8 {
 
     ghost seen = { λ n. values.integer values.u8 (pos n) };
 
-    ghost due = { λ _. None };
+    ghost required = { λ _. None };
 
     fn read(alloc: Global, value: &Met<'_>) -> Reading<u8> {
         let number = value.integer(alloc)?;
@@ -73,7 +73,7 @@ impl FieldValue for u32 {
 
     ghost seen = { λ n. values.integer values.u32 (pos n) };
 
-    ghost due = { λ _. None };
+    ghost required = { λ _. None };
 
     fn read(alloc: Global, value: &Met<'_>) -> Reading<u32> {
         let number = value.integer(alloc)?;
@@ -107,7 +107,7 @@ impl FieldValue for Id {
 
     ghost seen = { λ id. values.structure (made []) (one made (codes "$oid") (values.str (made (string_bytes id.0)))) };
 
-    ghost due = { λ _. None };
+    ghost required = { λ _. None };
 
     fn read(alloc: Global, value: &Met<'_>) -> Reading<Id> {
         Ok(Id(one_field(alloc, "$oid", value)?))
@@ -156,7 +156,7 @@ fn next_item<T: FieldValue>(alloc: Global, index: u64, items: &mut Items<'_>) ->
     ensures rest { IfOk result (λ _. items.new ≡ behind_first items.old) }
     ensures value { Reaches T.seen result (next_value index (reads no_extended T.form) items.old) }
 {
-    let value = due(alloc, index, items)?;
+    let value = next_part(alloc, index, items)?;
     match T::read(alloc, &value) {
         Ok(value) => Ok(value),
         Err(stop) => Err(stop.under_index(index)),

@@ -42,11 +42,11 @@ IsUnder segment (Stopped s) TooLong = ⊥
 -- Why something of a size is not written into so much spare room: a refusal is the one of the definition, memory runs out only where
 -- the definition gives another refusal or the room is too small, and only what has more bytes than a document may is too long.
 abbrev pub Halts : {A : Type 0} → ℕ → ℕ → Writing A → Halt → Type 0
-Halts size spare due (Stopped (Refused r)) = due ≡ Err (refusal r.value)
-Halts size spare due (Stopped NoMemory) = IsOk due → spare < size
-Halts size spare due TooLong = max_bytes < size
+Halts size spare expected (Stopped (Refused r)) = expected ≡ Err (refusal r.value)
+Halts size spare expected (Stopped NoMemory) = IsOk expected → spare < size
+Halts size spare expected TooLong = max_bytes < size
 
 -- what the definition gives is given, or there is a reason not to
 abbrev pub Gives : {X Y : Type 0} → ℕ → ℕ → (X → Y) → Result X Halt → Writing Y → Type 0
-Gives size spare view (Ok x) due = due ≡ Ok (view x)
-Gives size spare view (Err h) due = Halts size spare due h
+Gives size spare view (Ok x) expected = expected ≡ Ok (view x)
+Gives size spare view (Err h) expected = Halts size spare expected h

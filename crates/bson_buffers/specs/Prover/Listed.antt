@@ -13,12 +13,12 @@ use Rattle.bson_migrate_run.specs.Migrating.{NotRecast, broken, migrated, migrat
 use Rattle.bson_buffers.specs.Asked.{DenotesShape, DenotesNone}
 use Rattle.bson_buffers.specs.Buffers.{Call, IsSilent}
 use Rattle.bson_buffers.specs.Checks.{NoShapeRow}
-use Rattle.bson_buffers.specs.Due.{listed_status}
+use Rattle.bson_buffers.specs.Expected.{listed_status}
 use Rattle.bson_buffers.specs.Finding.{left_at}
 use Rattle.bson_buffers.specs.Lists as lists
 use Rattle.bson_buffers.specs.Migrates.{MigratedRow, BrokenRow}
 use Rattle.bson_buffers.specs.Number.{number_of}
-use Rattle.bson_buffers.specs.declared.listed.DueList.{DueList}
+use Rattle.bson_buffers.specs.declared.listed.ExpectedList.{ExpectedList}
 use Rattle.bson_buffers.specs.declared.reason.Reason as declared
 use Rattle.bson_buffers.specs.declared.refusal.Refusal.{Refusal}
 use Rattle.bson_buffers.specs.declared.status.Status.{Status}
@@ -51,11 +51,11 @@ records_from file text_start [] = []
 records_from file text_start (x ∷ xs) = lists.record_of file text_start x.number (reason_for x.error) ∷ records_from file (text_start + length (reason_for x.error).text) xs
 
 -- the output of a migration, and the records and texts of its refused documents
-pub record IsListingOf (file : Bytes) (m : Migration) (d : DueList) : Type 0 where
-  pub status : d.due.status ≡ listed_status m.refused.items
-  pub place : d.due.place ≡ 0
-  pub output : d.due.output.items ≡ m.output.items
-  pub texts : string_bytes d.due.text ≡ texts_of m.refused.items
+pub record IsListingOf (file : Bytes) (m : Migration) (d : ExpectedList) : Type 0 where
+  pub status : d.expected.status ≡ listed_status m.refused.items
+  pub place : d.expected.place ≡ 0
+  pub output : d.expected.output.items ≡ m.output.items
+  pub texts : string_bytes d.expected.text ≡ texts_of m.refused.items
   pub records : d.refusals.items ≡ records_from file 0 m.refused.items
 
 -- what must be written for a file

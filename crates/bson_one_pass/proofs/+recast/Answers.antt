@@ -37,7 +37,7 @@ use Rattle.bson_one_pass.proofs.AnyOrder.{if_element_put, if_missing_put, left_l
 use Rattle.bson_one_pass.proofs.Places.{AreUnderWay, dropped_step, missing_step, places_end}
 use Rattle.bson_one_pass.proofs.KnownNames.{bytes_same}
 use Rattle.bson_one_pass.proofs.Runs.{first_head, head_at, run_put, next_changed, next_kept, next_within, run_written, walk_next, walk_over}
-use Rattle.bson_one_pass.proofs.Steps.{next_due, next_entry, next_item, next_part}
+use Rattle.bson_one_pass.proofs.Steps.{next_expected, next_entry, next_item, next_part}
 use Rattle.bson_one_pass.proofs.Tuples.{parts_put, tuple_put, tuple_structure_put}
 use Rattle.bson_one_pass.proofs.Variants.{enum_put, if_pair_put, named_content, named_smaller}
 use Rattle.bson_one_pass.proofs.+recast.Goals.{array::recast_items-in-Some+in_ok-from-in-Some, array::recast_items-in-None+in_ok-at-in-None, tuple::recast_parts-in-Some+in_ok-from-in-Some, tuple::recast_parts-in-None+in_ok-at-in-None}
@@ -546,7 +546,7 @@ structure::recast_fields-loop-at-preserved-in-Some-value_under t c =
       next_within bytes at n e c.loop-at.invariant.0 head is,
       omega (arith, c.in_ok-from.ensures.behind, is),
       omega (arith, found.3.0),
-      next_due c.args.reader.now (unknown_of c.args.closed) fs levels (recast_fields (unknown_of c.args.closed) (slots_of (laid_fields c.args.reader.now (fields_of fs))) levels (nodes_with (node_in levels) (walk_elements bytes))) c.loop-at.place at n bytes e f c.args.made.now.items made (new ++ run bytes next (at + n)) c.loop-at.invariant.3 head is found.3.0
+      next_expected c.args.reader.now (unknown_of c.args.closed) fs levels (recast_fields (unknown_of c.args.closed) (slots_of (laid_fields c.args.reader.now (fields_of fs))) levels (nodes_with (node_in levels) (walk_elements bytes))) c.loop-at.place at n bytes e f c.args.made.now.items made (new ++ run bytes next (at + n)) c.loop-at.invariant.3 head is found.3.0
           found.1 same c.requires.distinct put,
     )
 

@@ -6,7 +6,7 @@ use Rattle.bson_buffers.proofs.listed.migrate_whole.Goals as goal
 
 pub returns-in-Ok : goal.returns-in-Ok
 returns-in-Ok c =
-    let due = c.in-Ok.listed.due in
+    let expected = c.in-Ok.listed.expected in
     let records = c.in-Ok.listed.refusals.items in
     let before = c.args.refusals.now in
     let array : Records = record { before = before; after = c.put_front.new.buffer; written = c.put_front.result; needed = c.len.result } in
@@ -15,4 +15,4 @@ returns-in-Ok c =
       written = c.put_front.ensures.count ∙ ap (λ rs. min (length rs) (length before)) c.deref.ensures.value;
       needed = search rules;
     } in
-    is_listed c.args.shape.now c.args.file.now due.status due.place due.output.items (string_bytes due.text) records c.deliver.result.status _ array c.in-Ok.ensures c.deliver.ensures listed
+    is_listed c.args.shape.now c.args.file.now expected.status expected.place expected.output.items (string_bytes expected.text) records c.deliver.result.status _ array c.in-Ok.ensures c.deliver.ensures listed

@@ -13,10 +13,10 @@ use Rattle.bson_de.proofs.enumeration.unit_content.Goals as goal
 
 pub returns-in-Bytes : goal.returns-in-Bytes
 returns-in-Bytes c =
-    let due = λ (o : Origin). unit_content_at o c.args.name.now (reads_from o (leaf Bson) c.args.value.now) in
-    record { exact = subst (λ o. StopsAs c.refused.result (due o)) (sym c.in-Bytes.is) (refused_stops Marked unit_in_document c.refused.result c.refused.ensures.here) }
+    let expected = λ (o : Origin). unit_content_at o c.args.name.now (reads_from o (leaf Bson) c.args.value.now) in
+    record { exact = subst (λ o. StopsAs c.refused.result (expected o)) (sym c.in-Bytes.is) (refused_stops Marked unit_in_document c.refused.result c.refused.ensures.here) }
 
 pub returns-in-Tree : goal.returns-in-Tree
 returns-in-Tree c =
-    let due = λ (o : Origin). unit_content_at o c.args.name.now (reads_from o (leaf Bson) c.args.value.now) in
-    record { exact = subst (λ o. Reaches marked c.read_unit_content.result (due o)) (sym c.in-Tree.is) c.read_unit_content.ensures.exact }
+    let expected = λ (o : Origin). unit_content_at o c.args.name.now (reads_from o (leaf Bson) c.args.value.now) in
+    record { exact = subst (λ o. Reaches marked c.read_unit_content.result (expected o)) (sym c.in-Tree.is) c.read_unit_content.ensures.exact }

@@ -15,9 +15,9 @@ use Rattle.bson_de.proofs.from_tree.read_unit_content.Goals as goal
 pub returns : goal.returns
 returns c =
     let name = c.args.name.now in
-    let due = reads_from origins.Tree (leaf Bson) c.args.value.now in
+    let expected = reads_from origins.Tree (leaf Bson) c.args.value.now in
     record {
-      exact = ap (λ r. r >>= λ _. Ok (unit_variant (made name))) (reaches_at marked name c.read_extended.result (Ok c.in_ok-at_key.field-0) due c.in_ok-at_key.ensures c.read_extended.ensures.exact)
+      exact = ap (λ r. r >>= λ _. Ok (unit_variant (made name))) (reaches_at marked name c.read_extended.result (Ok c.in_ok-at_key.field-0) expected c.in_ok-at_key.ensures c.read_extended.ensures.exact)
           ∙ ap (λ t. Ok (unit_variant (made t))) (sym c.in_ok-from_str.ensures.ok);
     }
 
@@ -25,6 +25,6 @@ pub returns-in_err-at_key : goal.returns-in_err-at_key
 returns-in_err-at_key c =
     let name = c.args.name.now in
     let stop = c.in_err-at_key.field-0.0 in
-    let due = reads_from origins.Tree (leaf Bson) c.args.value.now in
-    let here = stops_bind stop (under name due) (λ _. Ok (unit_variant (made name))) (reaches_at marked name c.read_extended.result (Err stop) due c.in_err-at_key.ensures c.read_extended.ensures.exact) in
+    let expected = reads_from origins.Tree (leaf Bson) c.args.value.now in
+    let here = stops_bind stop (under name expected) (λ _. Ok (unit_variant (made name))) (reaches_at marked name c.read_extended.result (Err stop) expected c.in_err-at_key.ensures c.read_extended.ensures.exact) in
     record { exact = search (rules, here) }

@@ -33,8 +33,8 @@ returns-in_ok-from_str-in-Unit c =
 pub returns-in-Newtype : goal.returns-in-Newtype
 returns-in-Newtype c =
     let name = c.args.name.now in
-    let due : Reading Marked = Err (here end_of_stream) in
-    let stops : StopsAs c.here.result due = search rules in
+    let expected : Reading Marked = Err (here end_of_stream) in
+    let stops : StopsAs c.here.result expected = search rules in
     record {
       exact = subst (λ (r : Reading Marked). StopsAs c.here.result r)
           (sym (text_read c.args.variants.now name ∙ ap (λ r. r >>= unit_read name) c.in_ok-variant_of.ensures ∙ contents_missing name c.in_ok-variant_of.field-0.now.content c.in-Newtype.is)) stops;

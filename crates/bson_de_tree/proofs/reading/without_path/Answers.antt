@@ -10,12 +10,12 @@ use Rattle.bson_de_tree.proofs.reading.without_path.Goals as goal
 
 pub returns-in-Ok : goal.returns-in-Ok
 returns-in-Ok c = record {
-  exact = λ due h. ap answered_bare (subst (λ r. Reaches view r due) c.in-Ok.is h);
+  exact = λ expected h. ap answered_bare (subst (λ r. Reaches view r expected) c.in-Ok.is h);
   owned = λ h. subst (λ r. IfOk r IsOwned) c.in-Ok.is h;
 }
 
 pub returns-in-Err : goal.returns-in-Err
 returns-in-Err c = record {
-  exact = λ due h. bare_as (stop_view read_fault c.in-Err.stop) (read_failure c.bare.result) due c.bare.ensures (subst (λ r. Reaches view r due) c.in-Err.is h);
+  exact = λ expected h. bare_as (stop_view read_fault c.in-Err.stop) (read_failure c.bare.result) expected c.bare.ensures (subst (λ r. Reaches view r expected) c.in-Err.is h);
   owned = λ h. tt;
 }

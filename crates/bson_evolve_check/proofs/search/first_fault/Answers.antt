@@ -7,7 +7,7 @@ use Rattle.bson_evolve_laws.specs.Placed.{placed}
 use Rattle.bson_evolve_check.specs.Meeting.{pair_at}
 use Rattle.bson_evolve_check.specs.Numbering.{parts_in}
 use Rattle.bson_evolve_check.specs.Placing.{place_view, tables_in, IsTable}
-use Rattle.bson_evolve_check.specs.Searching.{dues, next_view, route_path, Enters, GoesOn, IsNext}
+use Rattle.bson_evolve_check.specs.Searching.{pending_of, next_view, route_path, Enters, GoesOn, IsNext}
 use Rattle.bson_evolve_check.specs.Steps.{steps_view}
 use Rattle.bson_evolve_check.specs.declared.place.Place.{Place}
 use Rattle.bson_evolve_check.proofs.Few.{all_pairs, closed, few_more, few_none, fewer_left, first_among, not_met}
@@ -26,7 +26,7 @@ loop-waiting-init c =
     let hs = tables_in parts.tables in
     let met = c.new-met.result in
     let w = c.start.result in
-    let d = w.due in
+    let d = w.pending in
     let number = c.in_ok-table.ensures.number in
     let a = subst (λ (p : Place). IsTable hs p.table) (sym c.start.ensures.old) number in
     let b = subst (λ (p : Place). IsTable hs p.table) (sym c.start.ensures.new) number in
@@ -36,9 +36,9 @@ loop-waiting-init c =
     let holds = holds_none (parts_in parts) met (contains_none met c.new-met.ensures.empty) in
     let goes = begins old new (all_pairs old new) [] parts met d c.in_ok-table.ensures.more.good holds a b c.start.ensures.level c.start.ensures.way first second (first_among old new) in
     let route : c.new-route.result.items ≡ [] = c.new-route.ensures.items in
-    let due : dues c.push.new.self.items ≡ d ∷ [] = ap dues (c.in_ok-push.ensures.items ∙ ap (λ ds. ds ++ w ∷ []) c.new-waiting.ensures.items) in (
+    let pending : pending_of c.push.new.self.items ≡ d ∷ [] = ap pending_of (c.in_ok-push.ensures.items ∙ ap (λ ds. ds ++ w ∷ []) c.new-waiting.ensures.items) in (
       [],
-      subst (λ ds. GoesOn old new (all_pairs old new) [] parts met c.new-route.result.items ds) (sym due) (subst (λ r. GoesOn old new (all_pairs old new) [] parts met r (d ∷ [])) (sym route) goes),
+      subst (λ ds. GoesOn old new (all_pairs old new) [] parts met c.new-route.result.items ds) (sym pending) (subst (λ r. GoesOn old new (all_pairs old new) [] parts met r (d ∷ [])) (sym route) goes),
       few_none old new (btree_set_len met) c.new-met.ensures.len,
     )
 
@@ -53,14 +53,14 @@ returns-then-not-branch c =
     let old = c.args.old.now in
     let new = c.args.new.now in
     let pairs = c.loop-waiting.invariant.0 in
-    let d = c.in-Some.next.due in
-    let n : IsNext old new (all_pairs old new) pairs c.next_unmet.new.parts c.next_unmet.new.met c.loop-waiting.route.items d (dues c.next_unmet.new.waiting.items) × (btree_set_len c.next_unmet.new.met ≡ btree_set_len c.loop-waiting.met + 1) =
+    let d = c.in-Some.next.pending in
+    let n : IsNext old new (all_pairs old new) pairs c.next_unmet.new.parts c.next_unmet.new.met c.loop-waiting.route.items d (pending_of c.next_unmet.new.waiting.items) × (btree_set_len c.next_unmet.new.met ≡ btree_set_len c.loop-waiting.met + 1) =
     rw c.in-Some.is at (c.in_ok-next.ensures old new (all_pairs old new) pairs c.loop-waiting.route.items c.loop-waiting.invariant.1) in
     let after = c.push-in-Some.new.self.items in
     let longer = c.in_ok-push-2.ensures.items ∙ ap (λ ws. ws ++ d.way ∷ []) c.truncate.ensures.items in
-    let none = subst (λ b. Enters b c.len.result d (dues c.next_unmet.new.waiting.items) (dues c.push_row.new.waiting.items)) c.if-not-branch.true c.in_ok-push_row.ensures in
+    let none = subst (λ b. Enters b c.len.result d (pending_of c.next_unmet.new.waiting.items) (pending_of c.push_row.new.waiting.items)) c.if-not-branch.true c.in_ok-push_row.ensures in
     subst (IsFirstFault old new) (sym (c.in_ok-path_of.ensures ∙ ap route_path c.deref.ensures.value))
-    (faults old new (all_pairs old new) pairs c.next_unmet.new.parts c.next_unmet.new.met c.loop-waiting.route.items (dues c.next_unmet.new.waiting.items) d n.0 after longer none)
+    (faults old new (all_pairs old new) pairs c.next_unmet.new.parts c.next_unmet.new.met c.loop-waiting.route.items (pending_of c.next_unmet.new.waiting.items) d n.0 after longer none)
 
 pub loop-waiting-preserved : goal.loop-waiting-preserved
 loop-waiting-preserved c =
@@ -69,19 +69,19 @@ loop-waiting-preserved c =
     let all = all_pairs old new in
     let pairs = c.loop-waiting.invariant.0 in
     let route = c.loop-waiting.route.items in
-    let d = c.in-Some.next.due in
-    let n : IsNext old new (all_pairs old new) pairs c.next_unmet.new.parts c.next_unmet.new.met c.loop-waiting.route.items d (dues c.next_unmet.new.waiting.items) × (btree_set_len c.next_unmet.new.met ≡ btree_set_len c.loop-waiting.met + 1) =
+    let d = c.in-Some.next.pending in
+    let n : IsNext old new (all_pairs old new) pairs c.next_unmet.new.parts c.next_unmet.new.met c.loop-waiting.route.items d (pending_of c.next_unmet.new.waiting.items) × (btree_set_len c.next_unmet.new.met ≡ btree_set_len c.loop-waiting.met + 1) =
     rw c.in-Some.is at (c.in_ok-next.ensures old new (all_pairs old new) pairs c.loop-waiting.route.items c.loop-waiting.invariant.1) in
     let after = c.push-in-Some.new.self.items in
     let longer = c.in_ok-push-2.ensures.items ∙ ap (λ ws. ws ++ d.way ∷ []) c.truncate.ensures.items in
-    let before = dues c.next_unmet.new.waiting.items in
-    let due = dues c.push_row.new.waiting.items in
+    let before = pending_of c.next_unmet.new.waiting.items in
+    let pending = pending_of c.push_row.new.waiting.items in
     let count : c.len.result ≡ length after = omega (arith, c.len.ensures) in
-    let e = subst (λ n. Enters true n d before due) count (subst (λ b. Enters b c.len.result d before due) c.if-not-branch.false c.in_ok-push_row.ensures) in
+    let e = subst (λ n. Enters true n d before pending) count (subst (λ b. Enters b c.len.result d before pending) c.if-not-branch.false c.in_ok-push_row.ensures) in
     let among = closed old new c.known.ensures.shape c.known-2.ensures.shape c.requires.plain (next_view route d) n.0.here (steps_view e.0) e.1 in
     let few = few_more old new pairs (pair_at d.old d.new) (btree_set_len c.loop-waiting.met) n.0.here n.0.unmet c.loop-waiting.invariant.2 in (
       pair_at d.old d.new ∷ pairs,
-      enters old new all pairs c.next_unmet.new.parts c.next_unmet.new.met route before d n.0 after longer e.0 e.1 among due e.2,
+      enters old new all pairs c.next_unmet.new.parts c.next_unmet.new.met route before d n.0 after longer e.0 e.1 among pending e.2,
       subst (λ m. not_met old new (pair_at d.old d.new ∷ pairs) + m < most_pairs old new) (sym n.1) few,
     )
 
@@ -90,8 +90,8 @@ loop-waiting-smaller c =
     let old = c.args.old.now in
     let new = c.args.new.now in
     let pairs = c.loop-waiting.invariant.0 in
-    let d = c.in-Some.next.due in
-    let n : IsNext old new (all_pairs old new) pairs c.next_unmet.new.parts c.next_unmet.new.met c.loop-waiting.route.items d (dues c.next_unmet.new.waiting.items) × (btree_set_len c.next_unmet.new.met ≡ btree_set_len c.loop-waiting.met + 1) =
+    let d = c.in-Some.next.pending in
+    let n : IsNext old new (all_pairs old new) pairs c.next_unmet.new.parts c.next_unmet.new.met c.loop-waiting.route.items d (pending_of c.next_unmet.new.waiting.items) × (btree_set_len c.next_unmet.new.met ≡ btree_set_len c.loop-waiting.met + 1) =
     rw c.in-Some.is at (c.in_ok-next.ensures old new (all_pairs old new) pairs c.loop-waiting.route.items c.loop-waiting.invariant.1) in
     let few = few_more old new pairs (pair_at d.old d.new) (btree_set_len c.loop-waiting.met) n.0.here n.0.unmet c.loop-waiting.invariant.2 in
     fewer_left old new pairs (pair_at d.old d.new) (btree_set_len c.loop-waiting.met) (btree_set_len c.next_unmet.new.met) n.1

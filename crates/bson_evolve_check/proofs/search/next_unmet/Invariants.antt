@@ -4,7 +4,7 @@ use Rattle.bson_shape.specs.Form.{Form}
 use Rattle.bson_evolve_laws.specs.First.{Pair}
 use Rattle.bson_evolve_check.specs.Numbering.{AreGood}
 use Rattle.bson_evolve_check.specs.Placing.{tables_in}
-use Rattle.bson_evolve_check.specs.Searching.{dues, AreKnown, GoesOn}
+use Rattle.bson_evolve_check.specs.Searching.{pending_of, AreKnown, GoesOn}
 use Rattle.bson_evolve_check.specs.declared.step.Way.{Way}
 use Rattle.bson_evolve_check.proofs.search.next_unmet.Given as goal
 
@@ -12,8 +12,8 @@ use Rattle.bson_evolve_check.proofs.search.next_unmet.Given as goal
 abbrev pub invariant-loop-next : goal.invariant-loop-next
 invariant-loop-next l = record {
   good : AreGood l.parts;
-  known : AreKnown (tables_in l.parts.tables) (reverse (dues l.waiting.items));
-  goes : (old new : Form) (all pairs : List Pair) (route : List Way) → GoesOn old new all pairs l.initial.parts l.initial.met route (dues l.initial.waiting.items) → GoesOn old new all pairs l.parts l.met route (dues l.waiting.items);
+  known : AreKnown (tables_in l.parts.tables) (reverse (pending_of l.waiting.items));
+  goes : (old new : Form) (all pairs : List Pair) (route : List Way) → GoesOn old new all pairs l.initial.parts l.initial.met route (pending_of l.initial.waiting.items) → GoesOn old new all pairs l.parts l.met route (pending_of l.waiting.items);
   many : btree_set_len l.met ≡ btree_set_len l.initial.met;
 }
 

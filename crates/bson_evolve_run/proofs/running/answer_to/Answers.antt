@@ -9,7 +9,7 @@ returns-in-Ok c =
     let new = c.args.new.now in
     let is = c.in-Ok.ensures.exact in
     let good : AreGood (shapes_of old new) = record { old_made = c.known.ensures.shape; new_made = c.known-2.ensures.shape; old_plain = is.0.old_plain; new_plain = is.0.new_plain } in
-    ok_map c.answer_to_verdict.result _ _ (λ a due. inl (due old new is.1 good)) c.answer_to_verdict.ensures
+    ok_map c.answer_to_verdict.result _ _ (λ a expected. inl (expected old new is.1 good)) c.answer_to_verdict.ensures
 
 pub returns-in-Err : goal.returns-in-Err
-returns-in-Err c = ok_map c.answer_to_error.result _ _ (λ a due. due c.args.old.now c.args.new.now c.in-Err.ensures.exact) c.answer_to_error.ensures
+returns-in-Err c = ok_map c.answer_to_error.result _ _ (λ a expected. expected c.args.old.now c.args.new.now c.in-Err.ensures.exact) c.answer_to_error.ensures

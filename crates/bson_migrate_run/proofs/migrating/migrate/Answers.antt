@@ -8,4 +8,4 @@ same_at (b ∷ bs) zero d lt = refl
 same_at (b ∷ bs) (suc k) d lt = same_at bs k d (omega arith)
 
 pub returns-clause-again : goal.returns-clause-again
-returns-clause-again c = λ due. migrated_again c.args.shape.now c.args.file.now c.known.ensures.shape due (λ k d lt. omega (arith, c.type_inv.file k, same_at c.args.file.now k d lt)) c.migrate_each.result c.migrate_each.ensures
+returns-clause-again c = λ expected. migrated_again c.args.shape.now c.args.file.now c.known.ensures.shape expected (λ k d lt. omega (arith, c.type_inv.file k, same_at c.args.file.now k d lt)) c.migrate_each.result c.migrate_each.ensures

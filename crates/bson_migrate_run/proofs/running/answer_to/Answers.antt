@@ -2,7 +2,7 @@ use Rattle.std.proofs.Common.{ap, sym, subst, ◌∙◌, string_bytes}
 use Rattle.bson_migrate_run.specs.Lines.{refused_lines}
 use Rattle.bson_migrate_run.specs.Migrating.{migration_of}
 use Rattle.bson_migrate_run.specs.Rows.{listed_status, AnswersMigration}
-use Rattle.bson_migrate_run.proofs.LinesDue.{answers_of}
+use Rattle.bson_migrate_run.proofs.LinesExpected.{answers_of}
 use Rattle.bson_migrate_run.proofs.running.answer_to.Goals as goal
 
 pub returns : goal.returns

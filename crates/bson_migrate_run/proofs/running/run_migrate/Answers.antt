@@ -6,5 +6,5 @@ use Rattle.bson_migrate_run.proofs.running.run_migrate.Goals as goal
 
 pub returns : goal.returns
 returns g c =
-    let is = answered migrate_program settled _ c.prepare-prepared.result c.prepare-prepared.ensures.due c.finish.ensures.finished c.prepare-prepared.ensures.later c.finish.ensures.out_later c.finish.ensures.err_later in
+    let is = answered migrate_program settled _ c.prepare-prepared.result c.prepare-prepared.ensures.expected c.finish.ensures.finished c.prepare-prepared.ensures.later c.finish.ensures.out_later c.finish.ensures.err_later in
     record { migrates = λ s file output refused shape words told small is_whole quiet. writes_migrated s file output refused _ is shape words told small is_whole quiet; answers = is }

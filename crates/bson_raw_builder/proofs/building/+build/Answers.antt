@@ -91,8 +91,8 @@ put_values-returns t c =
 pub put_item-returns-in_err-kind : goal.put_item-returns-in_err-kind
 put_item-returns-in_err-kind t c =
     let old = c.args.out.now.items in
-    let due = built (tree_of c.args.value.now) c.args.levels in
-    let here = refuses_as (read_failure c.in_err-kind.field-0.0) (λ u. (kind u, c.append_front.new.out.items ++ enc u)) due (result_map (λ u. old ++ element (kind u) (decimal c.args.index) (enc u)) due)
+    let expected = built (tree_of c.args.value.now) c.args.levels in
+    let here = refuses_as (read_failure c.in_err-kind.field-0.0) (λ u. (kind u, c.append_front.new.out.items ++ enc u)) expected (result_map (λ u. old ++ element (kind u) (decimal c.args.index) (enc u)) expected)
     (λ k e. ap (result_map (λ u. old ++ element (kind u) (decimal c.args.index) (enc u))) e) c.in_err-kind.ensures in
     search (rules, here)
 

@@ -18,7 +18,7 @@ returns-in_err-element_type c =
 
 pub returns : goal.returns
 returns c =
-    let due = built (array (trees_of c.args.values.now)) max_levels in
+    let expected = built (array (trees_of c.args.values.now)) max_levels in
     let new = c.put_array.new.out.items in
-    let whole = ap (λ b. with_value b due) (sym c.new-out.ensures.items) ∙ c.in_ok-element_type.ensures in
-    record { assembled = subst (λ (b : Building RawBytes). Gives raw_view c.finished.result b) (whole_built new c.in_ok-element_type.element_type due whole) c.finished.ensures }
+    let whole = ap (λ b. with_value b expected) (sym c.new-out.ensures.items) ∙ c.in_ok-element_type.ensures in
+    record { assembled = subst (λ (b : Building RawBytes). Gives raw_view c.finished.result b) (whole_built new c.in_ok-element_type.element_type expected whole) c.finished.ensures }

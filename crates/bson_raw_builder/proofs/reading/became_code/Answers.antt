@@ -13,14 +13,14 @@ use Rattle.bson_raw_builder.proofs.BuiltValues.{code_none, code_alone, code_scop
 use Rattle.bson_raw_builder.proofs.reading.became_code.Goals as goal
 
 pub returns-in_default : goal.returns-in_default
-returns-in_default c = record { exact = λ t rest due whole is. absurd (code_none (tree_of c.args.value.now) rest 199 t c.in_default.ensures due) }
+returns-in_default c = record { exact = λ t rest expected whole is. absurd (code_none (tree_of c.args.value.now) rest 199 t c.in_default.ensures expected) }
 
 pub returns-then-eq : goal.returns-then-eq
 returns-then-eq c =
     let same : c.args.built.element_type ≡ kinds.JavaScriptCode = search rules in
     record {
-      exact = λ t rest due whole is.
-          ap built_value (code_alone (tree_of c.args.value.now) rest 199 c.in-Some.code.now t c.in-Some.ensures due (sym (ap (λ (r : RawBytes). r.kind) is) ∙ same)) ∙ c.in_ok-code_value.ensures;
+      exact = λ t rest expected whole is.
+          ap built_value (code_alone (tree_of c.args.value.now) rest 199 c.in-Some.code.now t c.in-Some.ensures expected (sym (ap (λ (r : RawBytes). r.kind) is) ∙ same)) ∙ c.in_ok-code_value.ensures;
     }
 
 pub scoped_value-requires : goal.scoped_value-requires
@@ -34,8 +34,8 @@ pub returns : goal.returns
 returns c =
     let other : c.args.built.element_type ≡ kinds.JavaScriptCode → ⊥ = search rules in
     record {
-      exact = λ t rest due whole is.
-          let s = code_scoped (tree_of c.args.value.now) rest 199 c.in-Some.code.now t c.in-Some.ensures due (λ alone. other (ap (λ (r : RawBytes). r.kind) is ∙ alone)) in
+      exact = λ t rest expected whole is.
+          let s = code_scoped (tree_of c.args.value.now) rest 199 c.in-Some.code.now t c.in-Some.ensures expected (λ alone. other (ap (λ (r : RawBytes). r.kind) is ∙ alone)) in
           let bytes = ap (λ (r : RawBytes). r.bytes) is in
           subst (λ (r : Reading Marked). Reaches marked c.scoped_value.result r) (ap built_value (sym s.1))
           (c.scoped_value.ensures.exact s.0 (bytes ∙ ap enc s.1) (subst (λ b. length b ≤ max_bytes) (sym bytes) whole.1));

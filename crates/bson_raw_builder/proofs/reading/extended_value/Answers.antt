@@ -13,8 +13,8 @@ use Rattle.bson_raw_builder.proofs.reading.extended_value.Goals as goal
 
 pub returns-in-JavaScriptCodeWithScope : goal.returns-in-JavaScriptCodeWithScope
 returns-in-JavaScriptCodeWithScope c =
-    let due = ap (λ x. tree_raw_value_of (opens (extended_view x))) c.in-JavaScriptCodeWithScope.is in
-    record { exact = subst (λ (r : Reading Marked). Reaches marked c.code_with_scope.result r) (sym due) c.code_with_scope.ensures.exact }
+    let expected = ap (λ x. tree_raw_value_of (opens (extended_view x))) c.in-JavaScriptCodeWithScope.is in
+    record { exact = subst (λ (r : Reading Marked). Reaches marked c.code_with_scope.result r) (sym expected) c.code_with_scope.ensures.exact }
 
 pub returns-in_default : goal.returns-in_default
 returns-in_default c =

@@ -11,7 +11,7 @@ use Rattle.bson_laws.specs.TreeRaw.{as_reading, built_value}
 use Rattle.bson_met.specs.Gives.{Reaches}
 use Rattle.bson_met.proofs.Refusals.{stops_bind}
 use Rattle.bson_raw_builder.proofs.FirstKeys.{body_there}
-use Rattle.bson_raw_builder.proofs.RawTrees.{body_due, code_due, document_due, empty_built, container_built}
+use Rattle.bson_raw_builder.proofs.RawTrees.{body_expected, code_expected, document_expected, empty_built, container_built}
 use Rattle.bson_raw_builder.proofs.reading.looked_value.Goals as goal
 
 pub returns-in_err-built : goal.returns-in_err-built
@@ -39,8 +39,8 @@ returns-in-Body c =
     let rest = c.next.new.self in
     let is : ps ≡ pair key v rest = sym c.iter-pairs.ensures.pairs ∙ c.in-Some.ensures.steps ∙ ap (λ k. pair k v rest) (sym c.deref.ensures) in
     let b = c.in_ok-built.ensures.read (document ps) tt c.raw_of_document.ensures.assembled in
-    let due = body_due ps rest key v (of_key key) b.0 is refl b.1 c.in-Body.wrapper (sym c.in-Body.ensures) in
-    record { exact = subst (λ (r : Reading Marked). Reaches marked c.became.result r) (ap (λ r. r >>= built_value) (sym b.1)) (c.became.ensures.exact b.0 due) }
+    let expected = body_expected ps rest key v (of_key key) b.0 is refl b.1 c.in-Body.wrapper (sym c.in-Body.ensures) in
+    record { exact = subst (λ (r : Reading Marked). Reaches marked c.became.result r) (ap (λ r. r >>= built_value) (sym b.1)) (c.became.ensures.exact b.0 expected) }
 
 pub became_code-requires : goal.became_code-requires
 became_code-requires c =
@@ -50,7 +50,7 @@ became_code-requires c =
     let rest = c.next.new.self in
     let is : ps ≡ pair key v rest = sym c.iter-pairs.ensures.pairs ∙ c.in-Some.ensures.steps ∙ ap (λ k. pair k v rest) (sym c.deref.ensures) in
     let b = c.in_ok-built.ensures.read (document ps) tt c.raw_of_document.ensures.assembled in
-    record { coded = (b.0, rest, code_due ps rest key v (of_key key) b.0 is refl b.1 (sym c.in-Code.ensures), b.3, b.2) }
+    record { coded = (b.0, rest, code_expected ps rest key v (of_key key) b.0 is refl b.1 (sym c.in-Code.ensures), b.3, b.2) }
 
 pub returns-in-Code : goal.returns-in-Code
 returns-in-Code c =
@@ -60,8 +60,8 @@ returns-in-Code c =
     let rest = c.next.new.self in
     let is : ps ≡ pair key v rest = sym c.iter-pairs.ensures.pairs ∙ c.in-Some.ensures.steps ∙ ap (λ k. pair k v rest) (sym c.deref.ensures) in
     let b = c.in_ok-built.ensures.read (document ps) tt c.raw_of_document.ensures.assembled in
-    let due = code_due ps rest key v (of_key key) b.0 is refl b.1 (sym c.in-Code.ensures) in
-    record { exact = subst (λ (r : Reading Marked). Reaches marked c.became_code.result r) (ap (λ r. r >>= built_value) (sym b.1)) (c.became_code.ensures.exact b.0 rest due b.3 b.2) }
+    let expected = code_expected ps rest key v (of_key key) b.0 is refl b.1 (sym c.in-Code.ensures) in
+    record { exact = subst (λ (r : Reading Marked). Reaches marked c.became_code.result r) (ap (λ r. r >>= built_value) (sym b.1)) (c.became_code.ensures.exact b.0 rest expected b.3 b.2) }
 
 pub returns : goal.returns
 returns c =
@@ -71,6 +71,6 @@ returns c =
     let rest = c.next.new.self in
     let is : ps ≡ pair key v rest = sym c.iter-pairs.ensures.pairs ∙ c.in-Some.ensures.steps ∙ ap (λ k. pair k v rest) (sym c.deref.ensures) in
     let b = c.in_ok-built.ensures.read (document ps) tt c.raw_of_document.ensures.assembled in
-    let kind = document_due ps rest key v (of_key key) b.0 is refl b.1 (sym c.in-Ordinary.ensures) in
+    let kind = document_expected ps rest key v (of_key key) b.0 is refl b.1 (sym c.in-Ordinary.ensures) in
     let whole = ap (λ r. r >>= built_value) b.1 ∙ container_built b.0 b.3.0 kind in
     record { exact = subst (λ (r : Reading Marked). Reaches marked c.container_value-in-Ordinary.result r) (sym whole) (c.container_value-in-Ordinary.ensures.exact b.0 b.3 kind b.2) }

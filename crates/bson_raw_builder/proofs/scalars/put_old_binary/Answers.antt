@@ -8,5 +8,5 @@ use Rattle.bson_raw_builder.proofs.scalars.put_old_binary.Goals as goal
 pub returns-then-behind-gt-MAX_BINARY : goal.returns-then-behind-gt-MAX_BINARY
 returns-then-behind-gt-MAX_BINARY c =
     let long = old_fault c.args.bytes.now c.if-behind-gt-MAX_BINARY.true in
-    let due = ap (λ o. with_value c.args.out.now.items (unless o (Ok (binary 2 c.args.bytes.now)))) long in
-    subst (λ f. RefusesFor f (with_value c.args.out.now.items (plain (binary 2 c.args.bytes.now)))) (sym c.refused.ensures) due
+    let expected = ap (λ o. with_value c.args.out.now.items (unless o (Ok (binary 2 c.args.bytes.now)))) long in
+    subst (λ f. RefusesFor f (with_value c.args.out.now.items (plain (binary 2 c.args.bytes.now)))) (sym c.refused.ensures) expected

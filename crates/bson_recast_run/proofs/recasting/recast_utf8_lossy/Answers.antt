@@ -8,7 +8,7 @@ pub returns-clause-migrates : goal.returns-clause-migrates
 returns-clause-migrates c = λ t u d owned plain sound view mean clean is. lossy_migrates c.args.shape.now c.args.bytes.now t u d c.known.ensures.shape plain sound view mean clean is owned c.through_lossy.result c.through_lossy.ensures
 
 pub returns-clause-again : goal.returns-clause-again
-returns-clause-again c = λ due. given_lossy_back c.args.shape.now c.args.bytes.now c.known.ensures.shape due (λ k d lt. omega (arith, c.type_inv.bytes k, same_at c.args.bytes.now k d lt)) c.through_lossy.result c.through_lossy.ensures
+returns-clause-again c = λ expected. given_lossy_back c.args.shape.now c.args.bytes.now c.known.ensures.shape expected (λ k d lt. omega (arith, c.type_inv.bytes k, same_at c.args.bytes.now k d lt)) c.through_lossy.result c.through_lossy.ensures
 
 pub returns-clause-too_large : goal.returns-clause-too_large
 returns-clause-too_large c = λ writable. lossy_for_size c.args.shape.now c.args.bytes.now (λ k d lt. omega (arith, c.type_inv.bytes k, same_at c.args.bytes.now k d lt)) c.known.ensures.shape writable c.through_lossy.result c.through_lossy.ensures

@@ -4,7 +4,7 @@ use Rattle.std.specs.List.{starts_with}
 use Rattle.std.proofs.lemmas.Str.Pattern.{starts_text}
 use Rattle.bson_program.specs.Command.{Asked}
 use Rattle.bson_program.specs.OneShape.{one_shape}
-use Rattle.bson_recast_run.specs.Due.{recast_usage}
+use Rattle.bson_recast_run.specs.PrintedLines.{recast_usage}
 use Rattle.bson_recast_run.proofs.OneWord.{one_word}
 use Rattle.bson_recast_run.proofs.running.asked_shape.Goals as goal
 

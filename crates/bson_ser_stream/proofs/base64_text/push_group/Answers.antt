@@ -12,4 +12,4 @@ returns-in_err-push_all-clause-decoded g c =
     rw (p.1, p.2) (no_room _ _ _ (base64_some _ _ c.in-Ok.ensures.ok.0) (λ fits. cc (c.in_err-push_all.ensures.free fits)))
 
 pub returns-clause-decoded : goal.returns-clause-decoded
-returns-clause-decoded g c = record { bytes = _; is_due = base64_some _ _ c.in-Ok.ensures.ok.0; appended = c.in_ok-push_all.ensures.ok }
+returns-clause-decoded g c = record { bytes = _; is_expected = base64_some _ _ c.in-Ok.ensures.ok.0; appended = c.in_ok-push_all.ensures.ok }

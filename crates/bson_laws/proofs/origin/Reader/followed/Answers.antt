@@ -2,7 +2,7 @@ use Rattle.std.proofs.Common.{◌≡◌, ◌-◌, suc, refl, ap, ◌∙◌, arit
 use Rattle.bson_shape.specs.Guarded.{count}
 use Rattle.bson_shape.specs.ShapeView.{fields_of}
 use Rattle.bson_shape.proofs.Chains.{count_of}
-use Rattle.bson_laws.specs.Scopes.{meaning}
+use Rattle.bson_laws.specs.Scopes.{table_meaning}
 use Rattle.bson_laws.specs.Unrolled.{Meanings, unrolled, max_steps}
 use Rattle.bson_laws.proofs.Scoped.{follow_step, follow_round, follow_end, same_meanings}
 use Rattle.bson_laws.proofs.origin.Reader.followed.Goals as goal
@@ -30,7 +30,7 @@ returns-then-self-gt0-2 c name e =
     let is : r.rounds ≡ suc less = omega arith in
     let none : r.steps ≡ 0 = omega arith in
     let counted : names ≡ count h = omega (arith, count_of r.table.now, c.left-then-self-gt0-2.ensures.steps) in (
-      ap (λ n. meaning r.rounds n h name) none
+      ap (λ n. table_meaning r.rounds n h name) none
           ∙ follow_round r.rounds less names h name c.args.shape.now is counted e
           ∙ ap (λ (g : Meanings). unrolled max_steps c.args.shape.now g) (same_meanings r q less names c.left-then-self-gt0-2.ensures.table c.left-then-self-gt0-2.ensures.rounds refl),
       c.left-then-self-gt0-2.ensures.readable,

@@ -1,5 +1,5 @@
 use Rattle.bson_reserved.proofs.Ends.{map_ends}
-use Rattle.bson_reserved.proofs.lists.base64_text.Goals as goal
+use Rattle.bson_reserved.proofs.lists.base64_parts.Goals as goal
 
 pub returns-clause-value : goal.returns-clause-value
 returns-clause-value c =

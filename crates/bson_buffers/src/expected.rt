@@ -1,6 +1,6 @@
 // What must be written for a call, before its buffers are looked at, and its delivery.
 ghost use Rattle.std.specs.Prelude.{◌≡◌, [], string_bytes};
-ghost use Rattle.bson_buffers.specs.Due.{IsDelivered};
+ghost use Rattle.bson_buffers.specs.Expected.{IsDelivered};
 ghost use Rattle.bson_buffers.specs.Buffers.{call_of};
 ghost use Rattle.bson_buffers.specs.declared.status.Status.TheVariants as statuses;
 
@@ -12,22 +12,22 @@ use std::alloc::Global;
 
 /// A status, with what must be written to the two buffers.
 #[derive(Drop)]
-pub struct Due {
+pub struct Expected {
     pub status: Status,
     pub place: usize,
     pub output: Vec<u8>,
     pub text: String,
 }
 
-impl Due {
+impl Expected {
     /// A text alone.
-    pub fn refusal(alloc: Global, status: Status, text: String) -> Due
+    pub fn refusal(alloc: Global, status: Status, text: String) -> Expected
         ensures status { result.status ≡ status }
         ensures place { result.place ≡ 0 }
         ensures output { result.output.items ≡ [] }
         ensures text { string_bytes result.text ≡ string_bytes text }
     {
-        Due {
+        Expected {
             status,
             place: 0,
             output: Vec::new(alloc),
@@ -36,13 +36,13 @@ impl Due {
     }
 
     /// The refusal of a shape.
-    pub fn no_shape(alloc: Global, refusal: ShapeRefusal) -> Due
+    pub fn no_shape(alloc: Global, refusal: ShapeRefusal) -> Expected
         ensures status { result.status ≡ statuses.ShapeRefused }
         ensures place { result.place ≡ refusal.place }
         ensures output { result.output.items ≡ [] }
         ensures text { string_bytes result.text ≡ string_bytes refusal.text }
     {
-        Due {
+        Expected {
             status: Status::ShapeRefused,
             place: refusal.place,
             output: Vec::new(alloc),
@@ -52,17 +52,17 @@ impl Due {
 }
 
 /// Puts the text into its buffer, as much of it as fits, and the output into its own, if all of it fits.
-pub fn deliver(due: &Due, output: &mut [u8], text: &mut [u8]) -> Report
-    ensures { IsDelivered due.now.status due.now.place due.now.output.items (string_bytes due.now.text)
+pub fn deliver(expected: &Expected, output: &mut [u8], text: &mut [u8]) -> Report
+    ensures { IsDelivered expected.now.status expected.now.place expected.now.output.items (string_bytes expected.now.text)
         result.status (call_of result output.old output.new text.old text.new) }
 {
     let report = Report {
-        status: due.status,
-        place: due.place,
+        status: expected.status,
+        place: expected.place,
         written: 0,
-        needed: due.output.len(),
-        text_written: put_front(due.text.as_bytes(), text),
-        text_needed: due.text.len(),
+        needed: expected.output.len(),
+        text_written: put_front(expected.text.as_bytes(), text),
+        text_needed: expected.text.len(),
     };
     if output.len() < report.needed {
         return Report {
@@ -71,7 +71,7 @@ pub fn deliver(due: &Due, output: &mut [u8], text: &mut [u8]) -> Report
         };
     }
     Report {
-        written: put_front(&due.output, output),
+        written: put_front(&expected.output, output),
         ..report
     }
 }

@@ -15,7 +15,7 @@ next_parts i read others (faulty e) = refl
 next_parts i read others (then_node k n ns) = refl
 
 -- the value of the next element
-pub value_due : (i : ℕ) (read : Node → Reading Marked) (ns : Nodes) (n : Node) → next_node i ns ≡ Ok n → next_value i read ns ≡ under_index i (read n)
-value_due i read ended n e = absurd cc
-value_due i read (faulty f) n e = absurd cc
-value_due i read (then_node k m ns) n e = let same : m ≡ n = cc in ap (λ x. under_index i (read x)) same
+pub value_expected : (i : ℕ) (read : Node → Reading Marked) (ns : Nodes) (n : Node) → next_node i ns ≡ Ok n → next_value i read ns ≡ under_index i (read n)
+value_expected i read ended n e = absurd cc
+value_expected i read (faulty f) n e = absurd cc
+value_expected i read (then_node k m ns) n e = let same : m ≡ n = cc in ap (λ x. under_index i (read x)) same

@@ -16,15 +16,15 @@ use Rattle.bson_buffers.specs.Checks.{NoShapeRow}
 use Rattle.bson_buffers.specs.Migrates as migrates
 use Rattle.bson_buffers.specs.Recasts.{RecastRow, LargerRow, UnreadRow, UnwrittenRow}
 use Rattle.bson_buffers.specs.Buffers.{Call, Writes, LacksSpace, Tells, IsSilent}
-use Rattle.bson_buffers.specs.declared.due.Due as due
+use Rattle.bson_buffers.specs.declared.expected.Expected as expected
 use Rattle.bson_buffers.specs.declared.status.Status.{Status}
 use Rattle.bson_buffers.specs.declared.status.Status.TheVariants as statuses
 
 -- What had to be written was put into the buffers; where the output does not fit, the status tells it.
-pub record IsDelivered (due : Status) (place : ℕ) (output : Bytes) (said : Utf8) (status : Status) (c : Call) : Type 0 where
+pub record IsDelivered (expected : Status) (place : ℕ) (output : Bytes) (said : Utf8) (status : Status) (c : Call) : Type 0 where
   pub at : c.place ≡ place
   pub told : Tells c said
-  pub written : length output ≤ length c.buffer.before → (status ≡ due) × Writes c output
+  pub written : length output ≤ length c.buffer.before → (status ≡ expected) × Writes c output
   pub lacking : length c.buffer.before < length output → (status ≡ statuses.BufferTooSmall) × LacksSpace c output
 
 -- The bytes are a shape's notation, or a text tells why they are none.
@@ -59,7 +59,7 @@ listed_status [] = statuses.Done
 listed_status (x ∷ xs) = statuses.SomeRefused
 
 -- The output of a migration, and the lines of its refused documents.
-pub record IsOfMigration (m : Migration) (d : due.Due) : Type 0 where
+pub record IsOfMigration (m : Migration) (d : expected.Expected) : Type 0 where
   pub status : d.status ≡ listed_status m.refused.items
   pub place : d.place ≡ 0
   pub output : d.output.items ≡ m.output.items

@@ -7,7 +7,7 @@ use Rattle.bson_kinds.specs.Text.{Bytes, Utf8}
 use Rattle.bson_program.specs.Command.{IsAskedFor}
 use Rattle.bson_program.specs.Ends.{SourceChange}
 use Rattle.bson_program.specs.Prepared.{Says}
-use Rattle.bson_program.specs.Program.{IsDue}
+use Rattle.bson_program.specs.Program.{IsExpected}
 use Rattle.bson_program.specs.declared.answer.Answer.{Answer}
 use Rattle.bson_recast_run.specs.declared.options.Request.TheVariants as requests
 use Rattle.bson_recast_run.specs.declared.status.Status.{Status}
@@ -19,7 +19,7 @@ keeps_same None = tt
 keeps_same (Some bytes) = refl
 
 -- what must be written for rows must be written for words that ask for them, where the input was not touched
-pub rows_due : (words : List Utf8) (input : SourceChange) (rows : ℕ) (r : Result (Answer Status) AllocError) → IsAskedFor recast_program.command words (requests.Make rows) → Keeps input.before input.after
-    → IfOk r (Says (AnswersRows rows)) → IfOk r (Says (IsDue recast_program words input))
-rows_due words input rows (Ok a) asked kept h = inl (record { job = requests.Make rows; asked = asked; answer = (kept, h) })
-rows_due words input rows (Err e) asked kept h = tt
+pub rows_expected : (words : List Utf8) (input : SourceChange) (rows : ℕ) (r : Result (Answer Status) AllocError) → IsAskedFor recast_program.command words (requests.Make rows) → Keeps input.before input.after
+    → IfOk r (Says (AnswersRows rows)) → IfOk r (Says (IsExpected recast_program words input))
+rows_expected words input rows (Ok a) asked kept h = inl (record { job = requests.Make rows; asked = asked; answer = (kept, h) })
+rows_expected words input rows (Err e) asked kept h = tt

@@ -10,7 +10,7 @@ use Rattle.bson_values.specs.Refusal.{ReadFault, Failure}
 use Rattle.bson_shape.specs.Form.{Form}
 use Rattle.bson_tree_recast.specs.declared.error.RecastError.{RecastError}
 use Rattle.bson_tree_recast.specs.declared.error.RecastError.TheVariants.{Read, Write, NoMemory}
-use Rattle.bson_recast_run.specs.Due.{read_refused_line}
+use Rattle.bson_recast_run.specs.PrintedLines.{read_refused_line}
 use Rattle.bson_tree_recast.specs.Printed.{recast_error_text}
 use Rattle.bson_tree_recast.specs.Recast.{Recast, writes, unread, unwritten, IsRefusal}
 use Rattle.bson_program.specs.ShapeWord.{newline}
@@ -36,9 +36,9 @@ line_by n (unread f) (Read e) h some =
     text_ended n (codes "read refused: " ++ printed_failure printed_read_fault (read_failure e)) ∙ ap (λ g. of_document n (read_refused_line g)) (same_failure f (read_failure e) h)
 line_by n (unread f) (Write e) h some = absurd h
 line_by n (unread f) NoMemory h some = absurd (some refl)
-line_by n (unwritten due long) (Read e) h some = absurd cc
-line_by n (unwritten due long) (Write e) h some = (write_failure e, h, text_ended n (codes "write refused: " ++ printed_failure printed_write_fault (write_failure e)))
-line_by n (unwritten due long) NoMemory h some = absurd (some refl)
+line_by n (unwritten expected long) (Read e) h some = absurd cc
+line_by n (unwritten expected long) (Write e) h some = (write_failure e, h, text_ended n (codes "write refused: " ++ printed_failure printed_write_fault (write_failure e)))
+line_by n (unwritten expected long) NoMemory h some = absurd (some refl)
 
 line_is : (d : NotRecast) (x : Refused) → IsListed d x → IsLine d.number d.recast (refused_text x ++ newline)
 line_is d x h = subst (λ n. IsLine d.number d.recast (of_document n (recast_error_text x.error) ++ newline)) (sym h.number) (line_by d.number d.recast x.error h.refusal h.cause)

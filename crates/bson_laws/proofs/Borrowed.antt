@@ -1,0 +1,179 @@
+-- The shapes that borrow nothing which is not there to be borrowed.
+use Rattle.std.proofs.Common.{◌≡◌, Bool, true, false, Ok, refl}
+use Rattle.bson_kinds.specs.Outcome.{result_map}
+use Rattle.bson_kinds.specs.Text as base
+use Rattle.bson_rawdoc.specs.Node.{Sight, from_input, piece}
+use Rattle.bson_rawdoc.specs.Piece.{Piece, made}
+use Rattle.bson_shape.specs.Form.{Form, leaf, optional, lossy, human_readable, by_mode, sequence, newtype, unit_structure, map, tuple, tuple_structure, structure, enumeration, reference, definitions, Fields, no_fields, field, Parts, no_parts, part, Content, unit_content, newtype_content, tuple_content, struct_content, Variants, no_variants, variant}
+use Rattle.bson_shape.specs.declared.leaf.Leaf.{Leaf}
+use Rattle.bson_shape.specs.declared.leaf.Leaf.TheVariants.{Str, Bytes}
+use Rattle.bson_values.specs.Value as value
+use Rattle.bson_values.specs.Value.{Value}
+use Rattle.bson_values.specs.Marked.{contents}
+use Rattle.bson_laws.specs.Leaves.{LeafKind, anything, ignored, booleans, numbers, doubles, characters, texts, byte_strings, byte_buffers, units, extended_values, raw_documents, raw_arrays, raw_values, leaf_kind}
+use Rattle.bson_laws.specs.Plain.{OwnsTextLeaf}
+use Rattle.bson_laws.proofs.PlainForms.{OwnsTexts, FieldsOwnTexts, PartsOwnTexts, VariantsOwnTexts, ContentOwnsTexts, IsPlain, AreFieldsPlain, ArePartsPlain, AreVariantsPlain, IsContentPlain}
+use Rattle.bson_laws.specs.ReadsLeaf.{borrows}
+use Rattle.bson_laws.specs.Taken.{borrow_or_own, owned_under_mark}
+use Rattle.bson_laws.proofs.Judged.{ReadAs}
+
+-- a leaf that borrows texts takes them from the input, and so one that borrows byte strings
+abbrev pub TextBorrowed : Sight → (is_borrowing : Bool) → Type 0
+TextBorrowed at true = at.texts ≡ true
+TextBorrowed at false = Unit {0}
+
+abbrev pub LeafBorrowed : Sight → (is_borrowing : Bool) → LeafKind → Type 0
+LeafBorrowed at l texts = TextBorrowed at l
+LeafBorrowed at l byte_strings = at.bytes ≡ true
+LeafBorrowed at l k = Unit {0}
+
+-- as what is seen so is seen where its texts are mended
+abbrev pub marked : Sight → Sight
+marked at = record { texts = false; bytes = at.bytes; under_mark = true; in_memory = at.in_memory }
+
+abbrev mutual
+  -- what each leaf of the shape borrows is in the input
+  pub IsBorrowed : Sight → Form → Type 0
+  IsBorrowed at (leaf l) = LeafBorrowed at (borrows l) (leaf_kind l)
+  IsBorrowed at (optional s) = IsBorrowed at s
+  IsBorrowed at (lossy s) = IsBorrowed (marked at) s
+  IsBorrowed at (human_readable s) = IsBorrowed at s
+  IsBorrowed at (by_mode readable compact) = IsBorrowed at readable × IsBorrowed at compact
+  IsBorrowed at (newtype name s) = IsBorrowed at s
+  IsBorrowed at (unit_structure name) = Unit {0}
+  IsBorrowed at (sequence s) = IsBorrowed at s
+  IsBorrowed at (map key s) = IsBorrowed at key × IsBorrowed at s
+  IsBorrowed at (tuple ps) = ArePartsBorrowed at ps
+  IsBorrowed at (tuple_structure name ps) = ArePartsBorrowed at ps
+  IsBorrowed at (enumeration vs) = AreVariantsBorrowed at vs
+  IsBorrowed at (structure u name fs) = AreFieldsBorrowed at fs
+  IsBorrowed at (reference name) = Unit {0}
+  IsBorrowed at (definitions h s) = IsBorrowed at s
+
+  pub AreFieldsBorrowed : Sight → Fields → Type 0
+  AreFieldsBorrowed at no_fields = Unit {0}
+  AreFieldsBorrowed at (field name s fs) = IsBorrowed at s × AreFieldsBorrowed at fs
+
+  pub ArePartsBorrowed : Sight → Parts → Type 0
+  ArePartsBorrowed at no_parts = Unit {0}
+  ArePartsBorrowed at (part s ps) = IsBorrowed at s × ArePartsBorrowed at ps
+
+  pub AreVariantsBorrowed : Sight → Variants → Type 0
+  AreVariantsBorrowed at no_variants = Unit {0}
+  AreVariantsBorrowed at (variant name c vs) = IsContentBorrowed at c × AreVariantsBorrowed at vs
+
+  pub IsContentBorrowed : Sight → Content → Type 0
+  IsContentBorrowed at unit_content = Unit {0}
+  IsContentBorrowed at (newtype_content s) = IsBorrowed at s
+  IsContentBorrowed at (tuple_content ps) = ArePartsBorrowed at ps
+  IsContentBorrowed at (struct_content fs) = AreFieldsBorrowed at fs
+
+-- ---- in the input everything may be borrowed, but for the texts that are mended
+
+leaf_owned : (at : Sight) (l : Leaf) → at.bytes ≡ true → OwnsTextLeaf l → LeafBorrowed at (borrows l) (leaf_kind l)
+leaf_owned at Str e h = absurd h
+leaf_owned at Bytes e h = e
+leaf_owned at l e h = tt
+
+leaf_from_input : (l : Bool) (k : LeafKind) → LeafBorrowed from_input l k
+leaf_from_input true texts = refl
+leaf_from_input false texts = tt
+leaf_from_input l byte_strings = refl
+leaf_from_input l anything = tt
+leaf_from_input l ignored = tt
+leaf_from_input l booleans = tt
+leaf_from_input l (numbers type) = tt
+leaf_from_input l doubles = tt
+leaf_from_input l characters = tt
+leaf_from_input l byte_buffers = tt
+leaf_from_input l units = tt
+leaf_from_input l (extended_values k) = tt
+leaf_from_input l raw_documents = tt
+leaf_from_input l raw_arrays = tt
+leaf_from_input l raw_values = tt
+
+mutual
+  -- where no text is borrowed, byte strings alone are
+  pub borrowed_owned : (at : Sight) (s : Form) → at.bytes ≡ true → OwnsTexts s → IsBorrowed at s
+  borrowed_owned at (leaf l) e h = leaf_owned at l e h
+  borrowed_owned at (optional s) e h = borrowed_owned at s e h
+  borrowed_owned at (lossy s) e h = borrowed_owned (marked at) s e h
+  borrowed_owned at (human_readable s) e h = borrowed_owned at s e h
+  borrowed_owned at (by_mode readable compact) e h = (borrowed_owned at readable e h.0, borrowed_owned at compact e h.1)
+  borrowed_owned at (newtype name s) e h = borrowed_owned at s e h
+  borrowed_owned at (unit_structure name) e h = tt
+  borrowed_owned at (sequence s) e h = borrowed_owned at s e h
+  borrowed_owned at (map key s) e h = (borrowed_owned at key e h.0, borrowed_owned at s e h.1)
+  borrowed_owned at (tuple ps) e h = parts_owned at ps e h
+  borrowed_owned at (tuple_structure name ps) e h = parts_owned at ps e h
+  borrowed_owned at (enumeration vs) e h = variants_owned at vs e h
+  borrowed_owned at (structure u name fs) e h = fields_owned at fs e h
+  borrowed_owned at (reference name) e h = tt
+  borrowed_owned at (definitions t s) e h = borrowed_owned at s e h
+
+  fields_owned : (at : Sight) (fs : Fields) → at.bytes ≡ true → FieldsOwnTexts fs → AreFieldsBorrowed at fs
+  fields_owned at no_fields e h = tt
+  fields_owned at (field name s fs) e h = (borrowed_owned at s e h.0, fields_owned at fs e h.1)
+
+  parts_owned : (at : Sight) (ps : Parts) → at.bytes ≡ true → PartsOwnTexts ps → ArePartsBorrowed at ps
+  parts_owned at no_parts e h = tt
+  parts_owned at (part s ps) e h = (borrowed_owned at s e h.0, parts_owned at ps e h.1)
+
+  variants_owned : (at : Sight) (vs : Variants) → at.bytes ≡ true → VariantsOwnTexts vs → AreVariantsBorrowed at vs
+  variants_owned at no_variants e h = tt
+  variants_owned at (variant name c vs) e h = (content_owned at c e h.0, variants_owned at vs e h.1)
+
+  content_owned : (at : Sight) (c : Content) → at.bytes ≡ true → ContentOwnsTexts c → IsContentBorrowed at c
+  content_owned at unit_content e h = tt
+  content_owned at (newtype_content s) e h = borrowed_owned at s e h
+  content_owned at (tuple_content ps) e h = parts_owned at ps e h
+  content_owned at (struct_content fs) e h = fields_owned at fs e h
+
+mutual
+  pub borrowed_from_input : (s : Form) → IsPlain s → IsBorrowed from_input s
+  borrowed_from_input (leaf l) p = leaf_from_input (borrows l) (leaf_kind l)
+  borrowed_from_input (optional s) p = borrowed_from_input s p
+  borrowed_from_input (lossy s) p = borrowed_owned (marked from_input) s refl p.0
+  borrowed_from_input (human_readable s) p = absurd p
+  borrowed_from_input (by_mode readable compact) p = absurd p
+  borrowed_from_input (newtype name s) p = borrowed_from_input s p.1
+  borrowed_from_input (unit_structure name) p = tt
+  borrowed_from_input (sequence s) p = borrowed_from_input s p
+  borrowed_from_input (map key s) p = (borrowed_from_input key p.1, borrowed_from_input s p.2)
+  borrowed_from_input (tuple ps) p = parts_from_input ps p
+  borrowed_from_input (tuple_structure name ps) p = parts_from_input ps p
+  borrowed_from_input (enumeration vs) p = variants_from_input vs p
+  borrowed_from_input (structure u name fs) p = fields_from_input fs p.1
+  borrowed_from_input (reference name) p = tt
+  borrowed_from_input (definitions h s) p = borrowed_from_input s p.1
+
+  fields_from_input : (fs : Fields) → AreFieldsPlain fs → AreFieldsBorrowed from_input fs
+  fields_from_input no_fields p = tt
+  fields_from_input (field name s fs) p = (borrowed_from_input s p.1, fields_from_input fs p.2)
+
+  parts_from_input : (ps : Parts) → ArePartsPlain ps → ArePartsBorrowed from_input ps
+  parts_from_input no_parts p = tt
+  parts_from_input (part s ps) p = (borrowed_from_input s p.0, parts_from_input ps p.1)
+
+  variants_from_input : (vs : Variants) → AreVariantsPlain vs → AreVariantsBorrowed from_input vs
+  variants_from_input no_variants p = tt
+  variants_from_input (variant name c vs) p = (content_from_input c p.1, variants_from_input vs p.2)
+
+  content_from_input : (c : Content) → IsContentPlain c → IsContentBorrowed from_input c
+  content_from_input unit_content p = tt
+  content_from_input (newtype_content s) p = borrowed_from_input s p
+  content_from_input (tuple_content ps) p = parts_from_input ps p
+  content_from_input (struct_content fs) p = fields_from_input fs p
+
+-- ---- what may be borrowed is read
+
+pub borrowed_text : (at : Sight) (l : Bool) (t : base.Bytes) (v : Value) → LeafBorrowed at l texts → value.str t ≡ v → ReadAs contents (result_map value.str (borrow_or_own l (piece at.texts t))) v
+borrowed_text at true t v w e = (value.str (piece at.texts t), by_case at.texts w, e) where
+  by_case : (b : Bool) → b ≡ true → result_map value.str (borrow_or_own true (piece b t)) ≡ Ok (value.str (piece b t))
+  by_case true h = refl
+  by_case false h = absurd cc
+borrowed_text at false t v w e = (value.str (made t), refl, e)
+
+pub owned_same : (u : Bool) (p : Piece) → (owned_under_mark u p).bytes ≡ p.bytes
+owned_same true p = refl
+owned_same false p = refl
