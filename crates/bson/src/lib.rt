@@ -25,8 +25,8 @@
 //! | texts | `date_text`, `date_of_text`, `integer_of_text`, `subtype_of_text`; `DateError`, `NotDate`, `NotHex`, `NotUuid` |
 //! | contracts | `laws`; the definitions that contracts name, as `Rattle.bson.specs.Tree` |
 //!
-//! The examples are the functions of the crate `bson_examples`, where each is proved; the program `bson_tour` runs each once. An example without a clause is
-//! proved too: it is safe, and it returns.
+//! The examples are the functions of the crates `bson_examples` and `bson_example_types`, where each is proved; the program `bson_tour` runs each once. An example
+//! without a clause is proved too: it is safe, and it returns.
 //!
 //! # Types of one's own
 //!
@@ -34,7 +34,7 @@
 //! of `Pet`, an enum; `tools/derive.py` writes the impls of such types, with nothing to prove by hand (docs/USING.md). What `from_slice` reads from what `to_vec` wrote is the value
 //! again: `laws::law_round_trip` says so.
 //!
-//! `bson_examples/src/own_types.rt`:
+//! `bson_example_types/src/own_types.rt`:
 //!
 //! ```rust
 //! use crate::{Cat, Person};

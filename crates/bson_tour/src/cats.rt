@@ -1,6 +1,6 @@
 // The examples over types of one's own.
 use crate::printing::{print_bytes, print_value};
-use bson_examples::*;
+use bson_example_types::*;
 use std::alloc::{AllocError, Global};
 use std::io::Print;
 use std::test::Fail;

@@ -17,7 +17,7 @@ pub struct Person {
 }
 
 impl Serialize for Person {
-    ghost use Rattle.bson_examples.specs.Person.{written_person};
+    ghost use Rattle.bson_example_types.specs.Person.{written_person};
 
     ghost written = { written_person };
 
@@ -31,7 +31,7 @@ impl Serialize for Person {
 }
 
 impl<'de> Deserialize<'de> for Person {
-    ghost use Rattle.bson_examples.specs.Person.{person_form, PersonContents, person_contents, taken_person};
+    ghost use Rattle.bson_example_types.specs.Person.{person_form, PersonContents, person_contents, taken_person};
 
     ghost form = { person_form };
 
@@ -60,7 +60,7 @@ impl<'de> Deserialize<'de> for Person {
 }
 
 impl<'de> RoundTrip<'de> for Person {
-    ghost use Rattle.bson_examples.specs.Person.{IsPerson, person_returns};
+    ghost use Rattle.bson_example_types.specs.Person.{IsPerson, person_returns};
 
     ghost is_value = { IsPerson };
 
@@ -74,7 +74,7 @@ impl<'de> RoundTrip<'de> for Person {
 }
 
 impl<'de> NeverNull<'de> for Person {
-    ghost use Rattle.bson_examples.specs.Person.{person_not_null};
+    ghost use Rattle.bson_example_types.specs.Person.{person_not_null};
 
     ghost not_null = { λ person _. person_not_null person };
 }

@@ -13,7 +13,7 @@ use Rattle.bson.specs.Scalars.{taken_i32, taken_text}
 use Rattle.bson.specs.Structs.{no_fields, and_field, written_structure, then_field, last_field, taken_structure}
 use Rattle.bson.specs.ScalarsBack.{i32_returns, string_returns}
 use Rattle.bson.specs.StructsBack.{ReturnFields, field_returns, last_returns, structure_returns, structure_not_null}
-use Rattle.bson_examples.specs.declared.cat.Cat.{Cat}
+use Rattle.bson_example_types.specs.declared.cat.Cat.{Cat}
 
 -- ---- written
 

@@ -15,7 +15,7 @@ pub enum Pet {
 }
 
 impl Serialize for Pet {
-    ghost use Rattle.bson_examples.specs.Pet.{written_pet};
+    ghost use Rattle.bson_example_types.specs.Pet.{written_pet};
 
     ghost written = { written_pet };
 
@@ -32,7 +32,7 @@ impl Serialize for Pet {
 }
 
 impl<'de> Deserialize<'de> for Pet {
-    ghost use Rattle.bson_examples.specs.Pet.{pet_form, PetContents, pet_contents, taken_pet};
+    ghost use Rattle.bson_example_types.specs.Pet.{pet_form, PetContents, pet_contents, taken_pet};
 
     ghost form = { pet_form };
 
@@ -65,7 +65,7 @@ impl<'de> Deserialize<'de> for Pet {
 }
 
 impl<'de> RoundTrip<'de> for Pet {
-    ghost use Rattle.bson_examples.specs.Pet.{IsPet, pet_returns};
+    ghost use Rattle.bson_example_types.specs.Pet.{IsPet, pet_returns};
 
     ghost is_value = { IsPet };
 
@@ -80,7 +80,7 @@ impl<'de> RoundTrip<'de> for Pet {
 }
 
 impl<'de> NeverNull<'de> for Pet {
-    ghost use Rattle.bson_examples.specs.Pet.{pet_not_null};
+    ghost use Rattle.bson_example_types.specs.Pet.{pet_not_null};
 
     ghost not_null = { λ pet _. pet_not_null pet };
 }

@@ -16,8 +16,8 @@ use Rattle.bson.specs.Structs.{no_fields, and_field, written_structure, then_fie
 use Rattle.bson.specs.ScalarsBack.{i64_returns, string_returns}
 use Rattle.bson.specs.SequencesBack.{sequence_returns}
 use Rattle.bson.specs.StructsBack.{ReturnFields, field_returns, last_returns, structure_returns, structure_not_null}
-use Rattle.bson_examples.specs.Pet.{written_pet, pet_form, PetContents, pet_contents, taken_pet, IsPet, pet_returns}
-use Rattle.bson_examples.specs.declared.household.Person.{Person}
+use Rattle.bson_example_types.specs.Pet.{written_pet, pet_form, PetContents, pet_contents, taken_pet, IsPet, pet_returns}
+use Rattle.bson_example_types.specs.declared.household.Person.{Person}
 
 -- ---- written
 

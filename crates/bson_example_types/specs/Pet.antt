@@ -9,9 +9,9 @@ use Rattle.bson.specs.TypeAnswers.{Reading, Writing}
 use Rattle.bson.specs.TypeLaws.{Returns, IsNeverNull}
 use Rattle.bson.specs.OwnVariants.{written_unit, written_newtype, unit_or, newtype_or, no_variant}
 use Rattle.bson.specs.VariantsBack.{unit_variant_returns, newtype_variant_returns, unit_variant_not_null, newtype_variant_not_null}
-use Rattle.bson_examples.specs.Cat.{written_cat, cat_form, CatContents, cat_contents, taken_cat, IsCat, cat_returns}
-use Rattle.bson_examples.specs.declared.pet.Pet.{Pet}
-use Rattle.bson_examples.specs.declared.pet.Pet.TheVariants as cases
+use Rattle.bson_example_types.specs.Cat.{written_cat, cat_form, CatContents, cat_contents, taken_cat, IsCat, cat_returns}
+use Rattle.bson_example_types.specs.declared.pet.Pet.{Pet}
+use Rattle.bson_example_types.specs.declared.pet.Pet.TheVariants as cases
 
 -- ---- written
 

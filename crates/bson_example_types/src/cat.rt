@@ -14,7 +14,7 @@ pub struct Cat {
 }
 
 impl Serialize for Cat {
-    ghost use Rattle.bson_examples.specs.Cat.{written_cat};
+    ghost use Rattle.bson_example_types.specs.Cat.{written_cat};
 
     ghost written = { written_cat };
 
@@ -27,7 +27,7 @@ impl Serialize for Cat {
 }
 
 impl<'de> Deserialize<'de> for Cat {
-    ghost use Rattle.bson_examples.specs.Cat.{cat_form, CatContents, cat_contents, taken_cat};
+    ghost use Rattle.bson_example_types.specs.Cat.{cat_form, CatContents, cat_contents, taken_cat};
 
     ghost form = { cat_form };
 
@@ -54,7 +54,7 @@ impl<'de> Deserialize<'de> for Cat {
 }
 
 impl<'de> RoundTrip<'de> for Cat {
-    ghost use Rattle.bson_examples.specs.Cat.{IsCat, cat_returns};
+    ghost use Rattle.bson_example_types.specs.Cat.{IsCat, cat_returns};
 
     ghost is_value = { IsCat };
 
@@ -67,7 +67,7 @@ impl<'de> RoundTrip<'de> for Cat {
 }
 
 impl<'de> NeverNull<'de> for Cat {
-    ghost use Rattle.bson_examples.specs.Cat.{cat_not_null};
+    ghost use Rattle.bson_example_types.specs.Cat.{cat_not_null};
 
     ghost not_null = { λ cat _. cat_not_null cat };
 }
