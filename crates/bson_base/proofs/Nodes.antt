@@ -1,7 +1,8 @@
 -- How many values are in a value, and that those inside another are fewer.
 use Rattle.std.proofs.Common.{◌≡◌, ℕ, zero, suc, ◌+◌, ◌<◌, List, [], ◌∷◌, length, get_or, refl, arith}
+use Rattle.bson_key_set.specs.Keys.{Key}
 use Rattle.bson_base.specs.Tree.{Tree, document, array, javascript_code_with_scope, Pairs, no_pairs, pair, Trees, no_trees, tree}
-use Rattle.bson_base.specs.BsonView.{Key, zipped, tree_of, trees_of}
+use Rattle.bson_base.specs.BsonView.{zipped, tree_of, trees_of}
 use Rattle.bson_base.specs.declared.bson.Bson.{Bson}
 
 abbrev mutual

@@ -6,8 +6,9 @@ use Rattle.std.specs.String.{string_eq}
 use Rattle.std.specs.Str.{bytes_eq}
 use Rattle.std.specs.Cmp.Lexicographic.{pointwise}
 use Rattle.std.proofs.lemmas.Bool.{and_right}
+use Rattle.bson_key_set.specs.Keys.{Key}
 use Rattle.bson_base.specs.Tree.{Pairs}
-use Rattle.bson_base.specs.BsonView.{Key, zipped, tree_of, trees_of}
+use Rattle.bson_base.specs.BsonView.{zipped, tree_of, trees_of}
 use Rattle.bson_base.specs.Same.{same, same_trees, same_pairs}
 use Rattle.bson_base.specs.declared.bson.Bson as bson
 use Rattle.bson_base.specs.declared.bson.Bson.{Bson}

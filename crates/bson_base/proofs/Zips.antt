@@ -4,21 +4,17 @@ use Rattle.std.specs.Prelude.{map, not, if◌then◌else◌, is_some, IfSome, sl
 use Rattle.std.specs.Option.{option_map}
 use Rattle.std.proofs.lemmas.List.Quantifiers.{position-Some}
 use Rattle.std.specs.List.{list_any, position, position_or_len, IsDistinct, AllByRecursion, AllZip}
-use Rattle.std.specs.Str.{bytes_eq}
 use Rattle.std.specs.String.{string_eq}
 use Rattle.std.proofs.lemmas.List.{take_more}
 use Rattle.std.proofs.lemmas.Option.{slice_get-get_or, slice_get_past}
 use Rattle.std.proofs.lemmas.Grind.{common_steps}
 use Rattle.bson_kinds.specs.Text.{Utf8}
+use Rattle.bson_key_set.specs.Keys.{Key, is_key}
 use Rattle.bson_base.specs.Tree.{Tree, Trees, no_trees, tree, no_pairs, pair}
-use Rattle.bson_base.specs.BsonView.{Key, zipped, tree_of, trees_of}
+use Rattle.bson_base.specs.BsonView.{zipped, tree_of, trees_of}
 use Rattle.bson_base.specs.Sound.{Lacks}
 use Rattle.bson_base.specs.Pairs.{lookup, put, without, count, keys_of, AreDistinct}
 use Rattle.bson_base.specs.declared.bson.Bson.{Bson}
-
--- whether a document holds the key as this one
-abbrev pub is_key : Utf8 → Key → Bool
-is_key key k = bytes_eq key (string_bytes k)
 
 pub count-zipped : (ks : List Key) (vs : List Bson) → count (zipped ks (trees_of vs)) ≡ min (length ks) (length vs)
 count-zipped [] vs = omega arith

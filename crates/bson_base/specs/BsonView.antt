@@ -1,8 +1,7 @@
 -- What contracts see of the owned values: a `Bson` as a tree, a `Document` as its pairs, the types of their parts as the trees that they are.
 -- Source: bsonspec.org, version 1.1.
 use Rattle.std.specs.Prelude.{List, [], ◌∷◌, string_bytes}
-use Rattle.std.specs.Global.{Global}
-use Rattle.std.specs.declared.string.String.{String}
+pub use Rattle.bson_key_set.specs.Keys.{Key}
 use Rattle.bson_base.specs.Instant.{millis}
 use Rattle.bson_base.specs.Tree.{Tree, double, string, document, array, binary, undefined, object_id, boolean, date_time, null, regular_expression, db_pointer, javascript_code, symbol, javascript_code_with_scope, int32, timestamp, int64, decimal128, max_key, min_key, Pairs, no_pairs, pair, Trees, no_trees, tree}
 use Rattle.bson_base.specs.declared.binary.Binary.{Binary}
@@ -17,10 +16,6 @@ use Rattle.bson_base.specs.declared.document.Document.{Document}
 abbrev pub binary_of : Binary → Tree
 binary_of b = binary b.subtype.0 b.bytes.items
 
--- a key, as a document holds it
-abbrev pub Key : Type 0
-Key = String Global
-
 -- each key with the value at its index, as far as both lists go
 abbrev pub zipped : List Key → Trees → Pairs
 zipped [] ts = no_pairs
@@ -32,12 +27,12 @@ abbrev mutual
   tree_of (bson.Double d) = double d.0
   tree_of (bson.String t) = string (string_bytes t)
   tree_of (bson.Array' shape row) = array (row_of row)
-  tree_of (bson.Document' keys shape row) = document (zipped keys.keys (row_of row))
+  tree_of (bson.Document' keys shape row) = document (zipped keys (row_of row))
   tree_of (bson.Boolean b) = boolean b
   tree_of bson.Null = null
   tree_of (bson.RegularExpression r) = regular_expression r.pattern r.options
   tree_of (bson.JavaScriptCode t) = javascript_code (string_bytes t)
-  tree_of (bson.JavaScriptCodeWithScope' code keys shape row) = javascript_code_with_scope (string_bytes code) (zipped keys.keys (row_of row))
+  tree_of (bson.JavaScriptCodeWithScope' code keys shape row) = javascript_code_with_scope (string_bytes code) (zipped keys (row_of row))
   tree_of (bson.Int32 n) = int32 n
   tree_of (bson.Int64 n) = int64 n
   tree_of (bson.Timestamp t) = timestamp t.time t.increment
@@ -62,7 +57,7 @@ trees_of (b ∷ bs) = tree (tree_of b) (trees_of bs)
 
 -- the pairs of a document
 abbrev pub pairs_of : Document → Pairs
-pairs_of d = zipped d.keys.keys (trees_of d.values.items)
+pairs_of d = zipped d.keys (trees_of d.values.items)
 
 -- code with its scope
 abbrev pub scoped_of : JavaScriptCodeWithScope → Tree

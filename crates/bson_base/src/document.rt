@@ -6,8 +6,7 @@ ghost use Rattle.bson_base.specs.BsonView.{tree_of, trees_of, zipped, pairs_of};
 
 use crate::bson::{Bson, copies_of};
 use crate::iter::{IntoIter, Iter};
-use crate::key_seed::KeySeed;
-use indexmap::IndexSet;
+use bson_key_set::{KeySeed, KeySet};
 use std::alloc::{AllocError, Global};
 use std::mem;
 
@@ -19,7 +18,7 @@ use std::mem;
 pub struct Document {
     // Each value is at the index of its key, so there are as many keys as values. A type that holds itself has no place
     // to state that, so each method goes by the indexes that have both.
-    keys: IndexSet<String, KeySeed>,
+    keys: KeySet,
     values: Vec<Bson>,
 }
 
@@ -38,7 +37,7 @@ impl Document {
         ensures empty { pairs_of result ≡ no_pairs }
     {
         Document {
-            keys: IndexSet::with_hasher(alloc, seed),
+            keys: KeySet::with_seed(alloc, seed),
             values: Vec::new(alloc),
         }
     }
@@ -113,7 +112,7 @@ impl Document {
     {
         self.even_out();
         let index = self.keys.get_index_of(key)?;
-        let _ = self.keys.shift_remove_index(index);
+        self.keys.remove(index);
         Some(self.values.remove(index))
     }
 
@@ -135,7 +134,7 @@ impl Document {
     pub fn try_clone(&self, alloc: Global) -> Result<Document, AllocError>
         ensures equal { IfOk result (λ d. pairs_of d ≡ pairs_of self.now) }
     {
-        let keys = self.keys.clone()?;
+        let keys = self.keys.try_clone()?;
         let values = copies_of(alloc, &self.values)?;
         Ok(Document { keys, values })
     }
@@ -152,7 +151,7 @@ impl Document {
     // Drops a key without a value, and a value without a key.
     fn even_out(&mut self)
         ensures same { pairs_of self.new ≡ pairs_of self.old }
-        ensures even { length self.new.keys.keys ≡ length self.new.values.items }
+        ensures even { length self.new.keys ≡ length self.new.values.items }
     {
         let len = self.len();
         self.keys.truncate(len);

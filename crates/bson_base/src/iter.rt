@@ -5,8 +5,7 @@ ghost use Rattle.bson_base.specs.Next.{IsNext, IsTaken};
 ghost use Rattle.bson_base.specs.BsonView.{zipped, trees_of};
 
 use crate::bson::Bson;
-use crate::key_seed::KeySeed;
-use indexmap::{IndexSet, set};
+use bson_key_set::{IntoKeys, KeySet};
 use std::marker::Model;
 use std::vec;
 
@@ -57,7 +56,7 @@ impl<'a> Iterator for Iter<'a> {
 /// The pairs of a document, owned, one after another. Contracts see it as the pairs that are left.
 #[derive(Drop)]
 pub struct IntoIter {
-    keys: set::IntoIter<String>,
+    keys: IntoKeys,
     values: vec::IntoIter<Bson>,
 }
 
@@ -79,11 +78,11 @@ impl Model for IntoIter {
 
 impl IntoIter {
     // Over keys and the values beside them.
-    pub(crate) fn over(keys: IndexSet<String, KeySeed>, values: Vec<Bson>) -> IntoIter
-        ensures { result ≡ zipped keys.keys (trees_of values.items) }
+    pub(crate) fn over(keys: KeySet, values: Vec<Bson>) -> IntoIter
+        ensures { result ≡ zipped keys (trees_of values.items) }
     {
         IntoIter {
-            keys: keys.into_iter(),
+            keys: keys.into_keys(),
             values: values.into_iter(),
         }
     }

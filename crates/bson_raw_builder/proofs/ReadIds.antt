@@ -46,8 +46,8 @@ zipped_free (k ∷ ks) (trees.tree t ts) f = (f.0, zipped_free ks ts f.1)
 mutual
   bson_free : (b : Bson) → IsRawFree (tree_of b)
   bson_free (bson.Array' shape row) = row_free row
-  bson_free (bson.Document' keys shape row) = zipped_free keys.keys (row_of row) (row_free row)
-  bson_free (bson.JavaScriptCodeWithScope' code keys shape row) = zipped_free keys.keys (row_of row) (row_free row)
+  bson_free (bson.Document' keys shape row) = zipped_free keys (row_of row) (row_free row)
+  bson_free (bson.JavaScriptCodeWithScope' code keys shape row) = zipped_free keys (row_of row) (row_free row)
   bson_free b = tt
 
   row_free : {m : _} (row : Row_of-Bson m) → AreTreesRawFree (row_of row)
@@ -60,7 +60,7 @@ trees_free (b ∷ bs) = (bson_free b, trees_free bs)
 
 -- nothing in a document in memory is given by its bytes
 pub document_free : (d : Document) → ArePairsRawFree (pairs_of d)
-document_free d = zipped_free d.keys.keys (trees_of d.values.items) (trees_free d.values.items)
+document_free d = zipped_free d.keys (trees_of d.values.items) (trees_free d.values.items)
 
 -- ---- keys
 

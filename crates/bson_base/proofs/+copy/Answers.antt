@@ -5,7 +5,7 @@ use Rattle.bson_base.proofs.+copy.Goals as goal
 
 pub document::Document::try_clone-returns : goal.document::Document::try_clone-returns
 document::Document::try_clone-returns t c =
-    record { equal = zipped_clone c.args.self.now.keys.keys c.in_ok-keys.keys.keys _ _ c.in_ok-keys.ensures.cases (c.in_ok-values.ensures ∙ ap trees_of c.deref.ensures.value) }
+    record { equal = zipped_clone c.args.self.now.keys c.in_ok-keys.keys _ _ c.in_ok-keys.ensures.same (c.in_ok-values.ensures ∙ ap trees_of c.deref.ensures.value) }
 
 pub bson::copies_of-loop-value-preserved : goal.bson::copies_of-loop-value-preserved
 bson::copies_of-loop-value-preserved t c =

@@ -11,4 +11,4 @@ pub returns-in-None : goal.returns-in-None
 returns-in-None c =
     let two : is_some (in_pair (pairs_of c.args.document)) ≡ false = search rules in
     let one : alone (pairs_of c.args.document) ≡ None = search rules in
-    record { folded = ap (λ ts. document (zipped c.args.document.keys.keys ts)) (row_items c.args.document.values) ∙ sym (stays (pairs_of c.args.document) two one) }
+    record { folded = ap (λ ts. document (zipped c.args.document.keys ts)) (row_items c.args.document.values) ∙ sym (stays (pairs_of c.args.document) two one) }
