@@ -34,7 +34,13 @@ def crates():
 
 
 def all_below(name, below):
-    return {name}.union(*(all_below(other, below) for other in below[name] if other in below))
+    found, left = {name}, [name]
+    while left:
+        for other in below[left.pop()]:
+            if other in below and other not in found:
+                found.add(other)
+                left.append(other)
+    return found
 
 
 def direct(name, below):

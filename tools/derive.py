@@ -8,7 +8,7 @@ parameters. The impls are put behind the type, and before it the line `use` that
 great letter; declare it in specs/Lib.antt. A type that another one holds comes before it. Where a type has changed, remove its impls first. Then run `rt fmt` in the crate.
 
 The types of fields: `bool`, the integer types, `char`, `String`, `Double`, `()`, `ObjectId`, `DateTime`, `Timestamp`, `Decimal128`, `Uuid`, `Binary`,
-`DbPointer`, `Regex`, `Vec<T>`, `Option<T>`, `BTreeMap<String, T>`, and types of other FILEs. An `Option<T>` wants a `T` that is never written as Null.
+`DbPointer`, `Regex`, `JavaScriptCodeWithScope`, `Document`, `Bson`, `Vec<T>`, `Option<T>`, `BTreeMap<String, T>`, and types of other FILEs. An `Option<T>` wants a `T` that is never written as Null.
 """
 import os
 import re
@@ -30,13 +30,13 @@ class Type:
 
 
 # the types whose law of never being Null asks that the value is one of the type
-KNOWING = ("id", "date", "stamp", "decimal", "binary", "pointer", "regex")
+KNOWING = ("id", "date", "stamp", "decimal", "binary", "pointer", "regex", "document", "scoped")
 
 
 def leaf(word, Contents, taken, written, contents, holds, name, argument="{x}", known="{h}"):
     law = f"{name}_returns {argument} {known}".strip() if argument else f"{name}_returns"
     null = f"{name}_not_null {argument} {known.removesuffix(' {h}.2')}" if name in KNOWING else f"{name}_not_null {argument}"
-    return Type(f"leaf leaves.{word}", Contents, taken, written, contents, holds, law, None if name == "unit" else null)
+    return Type(f"leaf leaves.{word}", Contents, taken, written, contents, holds, law, None if name in ("unit", "tree") else null)
 
 
 LEAVES = {
@@ -55,6 +55,9 @@ LEAVES = {
     "Regex": leaf("Regex", "Utf8 × Utf8", "taken_regex", "Ok (regex_datum ({x}.pattern, {x}.options))", "({x}.pattern, {x}.options)",
                   "((is_utf8 {x}.pattern ≡ true) × (is_utf8 {x}.options ≡ true) × (sorted {x}.options ≡ {x}.options))", "regex", "{x}.pattern {x}.options", "{h}.0 {h}.1 {h}.2"),
     "Uuid": leaf("Uuid", "Bytes", "taken_uuid", "Ok (uuid_value {x}.0)", "{x}.0", "HasBytes 16 {x}.0", "uuid", "{x}.0"),
+    "JavaScriptCodeWithScope": leaf("CodeWithScope", "Utf8 × Pairs", "taken_scoped", "Ok (scoped_datum (scoped_contents {x}))", "scoped_contents {x}", "IsTreeScoped (scoped_contents {x})", "scoped", "(scoped_contents {x})"),
+    "Document": leaf("Document", "Pairs", "taken_document", "Ok (document_datum (pairs_of {x}))", "pairs_of {x}", "IsTreeDocument (pairs_of {x})", "document", "(pairs_of {x})"),
+    "Bson": leaf("Bson", "Tree", "taken_tree", "Ok (tree_datum (tree_of {x}))", "tree_of {x}", "IsTree (tree_of {x})", "tree", "(tree_of {x})"),
     "Binary": leaf("Binary", "ℕ × Bytes", "taken_binary", "Ok (binary_datum ({x}.subtype.0, {x}.bytes.items))", "({x}.subtype.0, {x}.bytes.items)",
                    "(({x}.subtype.0 < 256) × AreBytes {x}.bytes.items)", "binary", "{x}.subtype.0 {x}.bytes.items", "{h}.0 {h}.1"),
 }
@@ -64,6 +67,7 @@ for bits in ("8", "16", "32", "64"):
     LEAVES[unsigned] = leaf(unsigned.upper(), "ℕ", f"taken_{unsigned}", f"Ok (integer {unsigned} (pos {{x}}))", "{x}", f"{{x}} < 2 ^ {bits}", unsigned)
 
 EXTENDED = ("id", "date", "stamp", "decimal", "uuid", "binary", "pointer", "regex")
+TREES = ("tree", "document", "scoped")
 
 VALUE = "Rattle.bson.specs.Value"
 
@@ -84,8 +88,11 @@ WORDS = {
     "Rattle.bson.specs.Value": "Value FieldValues boolean integer i8 i16 i32 i64 u8 u16 u32 u64 double character str unit",
     "Rattle.bson.specs.TypeAnswers": "Reading Writing",
     "Rattle.bson.specs.TypeLaws": "Returns IsNeverNull",
-    "Rattle.bson.specs.Scalars": " ".join(sorted({type.taken for name, type in LEAVES.items() if type.taken.removeprefix("taken_") not in EXTENDED})),
+    "Rattle.bson.specs.Scalars": " ".join(sorted({type.taken for name, type in LEAVES.items() if type.taken.removeprefix("taken_") not in EXTENDED + TREES})),
     "Rattle.bson.specs.ExtendedTypes": " ".join(f"{'uuid_value' if name == 'uuid' else name + '_datum'} taken_{name}" for name in EXTENDED),
+    "Rattle.bson.specs.BsonView": "pairs_of tree_of",
+    "Rattle.bson.specs.Tree": "Pairs Tree",
+    "Rattle.bson.specs.TypeTrees": "scoped_contents " + " ".join(f"{name}_datum taken_{name}" for name in TREES) + " IsTree IsTreeDocument IsTreeScoped",
     "Rattle.bson.specs.Sequences": "written_items written_sequence taken_sequence",
     "Rattle.bson.specs.Options": "written_option taken_option IsOptional",
     "Rattle.bson.specs.Maps": "written_entries written_map map_contents taken_map IsMapOf",
@@ -93,6 +100,7 @@ WORDS = {
     "Rattle.bson.specs.OwnVariants": "written_unit written_newtype unit_or newtype_or no_variant",
     "Rattle.bson.specs.ScalarsBack": " ".join(f"{name}_{law}" for name in "bool i8 i16 i32 i64 u8 u16 u32 u64 double char string unit str".split() for law in ("returns", "not_null")),
     "Rattle.bson.specs.ExtendedBack": " ".join(f"{name}_{law}" for name in EXTENDED for law in ("returns", "not_null")),
+    "Rattle.bson.specs.TreesBack": "tree_returns document_returns document_not_null scoped_returns scoped_not_null",
     "Rattle.bson.specs.SequencesBack": "sequence_returns sequence_not_null",
     "Rattle.bson.specs.OptionsBack": "option_returns",
     "Rattle.bson.specs.MapsBack": "map_returns map_not_null",
@@ -156,7 +164,17 @@ def typed(text, names, depth=0):
 
 
 def enclosed(term):
-    return f"({term})" if " " in term and not term.startswith("(") else term
+    return term if " " not in term or is_enclosed(term) else f"({term})"
+
+
+def is_enclosed(term):
+    """Whether the bracket that begins a term is closed at its end."""
+    depth = 0
+    for place, mark in enumerate(term):
+        depth += {"(": 1, ")": -1}.get(mark, 0)
+        if depth == 0:
+            return term.startswith("(") and place + 1 == len(term)
+    return False
 
 
 def struct_definitions(name, fields, names):

@@ -159,12 +159,14 @@ pub use Rattle.bson_traits.specs.Scalars
 pub use Rattle.bson_traits.specs.Sequences
 pub use Rattle.bson_traits.specs.ShapeOf
 pub use Rattle.bson_traits.specs.Structs
+pub use Rattle.bson_traits.specs.Trees as TypeTrees
 pub use Rattle.bson_traits.specs.Prover.ExtendedBack
 pub use Rattle.bson_traits.specs.Prover.MapsBack
 pub use Rattle.bson_traits.specs.Prover.OptionsBack
 pub use Rattle.bson_traits.specs.Prover.ScalarsBack
 pub use Rattle.bson_traits.specs.Prover.SequencesBack
 pub use Rattle.bson_traits.specs.Prover.StructsBack
+pub use Rattle.bson_traits.specs.Prover.TreesBack
 pub use Rattle.bson_structs.specs.FieldsAdded
 pub use Rattle.bson_structs.specs.FieldsLeft
 pub use Rattle.bson_structs.specs.Variants as OwnVariants

@@ -3,9 +3,9 @@ use Rattle.std.proofs.Common.{◌≡◌, List, [], ◌∷◌, Bool, true, false,
 use Rattle.std.specs.Prelude.{◌&&◌, is_some, codes}
 use Rattle.std.specs.Str.{bytes_eq}
 use Rattle.std.proofs.lemmas.Slice.Eq.{bytes_eq-Decides}
-use Rattle.bson_kinds.specs.Text.{Utf8}
+use Rattle.bson_kinds.specs.Text.{Utf8, begins_with_dollar}
 use Rattle.bson_base.specs.Tree.{Tree, document, Pairs, no_pairs, pair}
-use Rattle.bson_base.specs.Folded.{Form, value_in, code_with_scope, value_of_keys, alone, in_pair, or_document, or_alone, fold}
+use Rattle.bson_base.specs.Folded.{Form, forms, value_in, code_with_scope, value_of_keys, alone, in_pair, or_document, or_alone, fold}
 
 -- the key is that of none of the forms
 abbrev pub IsOther : Utf8 → List Form → Type 0
@@ -46,3 +46,33 @@ scope_first key other t u e h =
     let rest = cond (bytes_eq key (codes "$scope") && bytes_eq other (codes "$code")) (code_with_scope u t) None in
     under_scope (bytes_eq key (codes "$scope") && bytes_eq other (codes "$code")) (code_with_scope u t)
     (subst (λ b. is_some (cond (b && bytes_eq other (codes "$scope")) (code_with_scope t u) rest) ≡ true) e h)
+
+-- a text that does not begin with `$` is none that does
+apart : (key k : Utf8) → begins_with_dollar key ≡ false → begins_with_dollar k ≡ true → key ≡ k → ⊥
+apart key k h is e = true≢false (sym is ∙ sym (ap begins_with_dollar e) ∙ h)
+
+-- every wrapper key begins with `$`
+abbrev AllBegin : List Form → Type 0
+AllBegin [] = Unit {0}
+AllBegin (f ∷ fs) = (begins_with_dollar f.key ≡ true) × AllBegin fs
+
+others : (fs : List Form) (key : Utf8) → begins_with_dollar key ≡ false → AllBegin fs → IsOther key fs
+others [] key h all = tt
+others (f ∷ fs) key h all = (apart key f.key h all.0, others fs key h all.1)
+
+forms_begin : AllBegin forms
+forms_begin = (refl, (refl, (refl, (refl, (refl, (refl, (refl, (refl, (refl, (refl, (refl, (refl, (refl, (refl, (refl, (refl, tt))))))))))))))))
+
+is_not : (key k : Utf8) → begins_with_dollar key ≡ false → begins_with_dollar k ≡ true → bytes_eq key k ≡ false
+is_not key k h is = differs key k (bytes_eq key k) refl (apart key k h is)
+
+neither : (key other : Utf8) (t u : Tree) → begins_with_dollar key ≡ false → value_of_keys key t other u ≡ None
+neither key other t u h =
+    ap (λ b. cond (b && bytes_eq other (codes "$scope")) (code_with_scope t u) (cond (bytes_eq key (codes "$scope") && bytes_eq other (codes "$code")) (code_with_scope u t) None)) (is_not key (codes "$code") h refl)
+    ∙ ap (λ b. cond (b && bytes_eq other (codes "$code")) (code_with_scope u t) None) (is_not key (codes "$scope") h refl)
+
+-- a document whose first key does not begin with `$` stays
+pub first_stays : (key : Utf8) (t : Tree) (ps : Pairs) → begins_with_dollar key ≡ false → fold (pair key t ps) ≡ document (pair key t ps)
+first_stays key t no_pairs h = stays (pair key t no_pairs) refl (no_form forms key t (others forms key h forms_begin))
+first_stays key t (pair other u no_pairs) h = stays (pair key t (pair other u no_pairs)) (ap is_some (neither key other t u h)) refl
+first_stays key t (pair other u (pair k v ps)) h = stays (pair key t (pair other u (pair k v ps))) refl refl

@@ -1,4 +1,4 @@
-ghost use Rattle.std.specs.Prelude.{◌≡◌, ◌==◌, length, map, is_some, string_bytes, IfOk, OnOk, OnErr};
+ghost use Rattle.std.specs.Prelude.{◌≡◌, ◌<◌, ◌==◌, length, map, is_some, slice_get, slice_set, string_bytes, Some, IfOk, OnOk, OnErr};
 ghost use Rattle.std.specs.Option.{option_map};
 ghost use Rattle.bson_base.specs.Tree.{no_pairs};
 ghost use Rattle.bson_base.specs.Pairs.{lookup, put, without, count, keys_of, AreDistinct};
@@ -99,8 +99,7 @@ impl Document {
             self.values.push(value)?;
             return Ok(None);
         }
-        let old = mem::replace(&mut self.values[index], value);
-        Ok(Some(old))
+        Ok(Some(replaced(&mut self.values, index, value)))
     }
 
     /// Removes a key and returns its value; `None` where the key is not there, and the document is then unchanged.
@@ -148,8 +147,21 @@ impl Document {
         (&self.keys.as_slice()[..len], &self.values[..len])
     }
 
-    // Drops a key without a value, and a value without a key.
+    // Sees to it that there are as many keys as values.
+    #[inline(always)]
     fn even_out(&mut self)
+        ensures same { pairs_of self.new ≡ pairs_of self.old }
+        ensures even { length self.new.keys ≡ length self.new.values.items }
+    {
+        if self.keys.len() != self.values.len() {
+            self.cut();
+        }
+    }
+
+    // Drops a key without a value, and a value without a key. No document has one.
+    #[cold]
+    #[inline(never)]
+    fn cut(&mut self)
         ensures same { pairs_of self.new ≡ pairs_of self.old }
         ensures even { length self.new.keys ≡ length self.new.values.items }
     {
@@ -157,6 +169,16 @@ impl Document {
         self.keys.truncate(len);
         self.values.truncate(len);
     }
+}
+
+// Puts a value in the place of another, which it returns. It stands apart, so that a new key has no room for the other value on the stack.
+#[inline(never)]
+fn replaced(values: &mut Vec<Bson>, index: usize, value: Bson) -> Bson
+    requires within { index < length values.old.items }
+    ensures before { slice_get values.old.items index ≡ Some result }
+    ensures after { values.new.items ≡ slice_set values.old.items index value }
+{
+    mem::replace(&mut values[index], value)
 }
 
 impl IntoIterator for Document {

@@ -1,15 +1,17 @@
-ghost use Rattle.std.specs.Prelude.{◌≡◌, IfOk, is_some, true, Some};
+ghost use Rattle.std.specs.Prelude.{◌≡◌, IfOk, is_some, true, false, Some};
 ghost use Rattle.std.specs.Option.{option_map};
 ghost use Rattle.bson_base.specs.BsonView.{tree_of, pairs_of};
 ghost use Rattle.bson_base.specs.Folded as folded;
 ghost use Rattle.bson_base.specs.Folded.{fold, fold_values, IsInKind, HasForm, KeepsScope};
 ghost use Rattle.bson_base.specs.Opened.{IsExtended, opened};
+ghost use Rattle.bson_base.specs.Tree as trees;
 ghost use Rattle.bson_base.specs.Tree.{Tree};
 
 use crate::bson::Bson;
 use crate::code_with_scope::JavaScriptCodeWithScope;
 use crate::document::Document;
 use crate::forms;
+use bson_kinds::begins_with_dollar;
 use std::alloc::{AllocError, Global};
 
 impl Bson {
@@ -37,6 +39,9 @@ impl Bson {
     pub fn from_extended_document(alloc: Global, document: Document) -> Result<Bson, AllocError>
         ensures folded { IfOk result (λ b. tree_of b ≡ fold (pairs_of document)) }
     {
+        if !may_fold(&document) {
+            return Ok(Bson::Document(document));
+        }
         if is_in_pair(&document) {
             return Ok(into_pair(document));
         }
@@ -44,6 +49,16 @@ impl Bson {
             Some(value) => Ok(value),
             None => Ok(Bson::Document(document)),
         }
+    }
+}
+
+// Whether the first key begins with `$`, as each wrapper key does. Most documents are none by that.
+fn may_fold(document: &Document) -> bool
+    ensures stays { result ≡ false → fold (pairs_of document.now) ≡ trees.document (pairs_of document.now) }
+{
+    match document.iter().next() {
+        Some((key, _)) => begins_with_dollar(key),
+        None => false,
     }
 }
 

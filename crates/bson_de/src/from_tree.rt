@@ -17,8 +17,8 @@ use bson_datum::Datum;
 use bson_kinds::ElementType;
 use bson_leaves::variant_of;
 use bson_met::{Elements, Items, Met, MetArray, Reading, Step, Value, refused};
+use bson_raw_builder::read_extended;
 use bson_shape::{Leaf, VariantContent, VariantShape};
-use bson_trees::read_extended;
 use bson_values::{Cause, Stop, Text, de};
 use std::alloc::Global;
 

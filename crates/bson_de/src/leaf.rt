@@ -10,9 +10,8 @@ use bson_datum::Datum;
 use bson_laws::Origin;
 use bson_leaves::{is_extended, read_leaf};
 use bson_met::{Met, Reading, refused};
-use bson_raw_builder::read_raw_tree;
+use bson_raw_builder::{read_extended, read_raw_tree};
 use bson_shape::Leaf;
-use bson_trees::read_extended;
 use bson_values::Cause;
 use std::alloc::Global;
 

@@ -1,5 +1,5 @@
 -- What is read of a value in memory, and its refusals.
-use Rattle.std.proofs.Common.{◌≡◌, Bool, Option, Some, None, Result, Ok, ap, sym, subst, ◌∙◌, ◌≤◌}
+use Rattle.std.proofs.Common.{◌≡◌, suc, Bool, true, Option, Some, None, Result, Ok, ap, sym, subst, ◌∙◌, ◌≤◌}
 use Rattle.bson_kinds.specs.Outcome.{result_map}
 use Rattle.bson_base.specs.Sound.{IsClean, max_levels}
 use Rattle.bson_base.specs.Tree.{Tree, depth}
@@ -26,12 +26,20 @@ use Rattle.bson_laws.specs.Settled.{settled}
 use Rattle.bson_laws.specs.SuitsTrees.{SuitsTrees}
 use Rattle.bson_laws.specs.declared.origin.Origin.TheVariants as origins
 use Rattle.bson_laws.specs.Unrolled as unrolled
+use Rattle.bson_laws.specs.Views.{views}
 use Rattle.bson_laws.proofs.AtShapes.{views_means, views_reads_tree}
+use Rattle.bson_moved.specs.Simple.{is_simple}
+use Rattle.bson_moved.proofs.Plain.{plain, suits, alone}
 use Rattle.bson_met.specs.Gives.{RefusesAs}
 use Rattle.bson_met.proofs.Refusals.{StopsAs, stops_map}
 use Rattle.bson_de_raw.specs.Gives.{FailsAs, Gives, GivesValue}
 use Rattle.bson_de_raw.proofs.ReadBack.{gives_value}
 use Rattle.bson_de_tree.specs.Bare.{IsBare}
+
+-- a tree that has a view at a simple shape is read as that
+pub simple_read : (readable : Bool) (s : Form) (t : Tree) (v : Value) → IsShape s → is_simple s ≡ true → IsClean t → depth t ≤ max_levels → views s t ≡ Some v → reads_tree_value readable s t ≡ Ok v
+simple_read readable s t v shape simple clean deep e =
+    views_reads_tree readable s t v shape (plain no_fields s simple) (suits s simple) clean deep (ap (λ (f : Form). views f t) (alone (suc (depth t)) (unrolled.names_in (suc (depth t)) no_fields) s simple) ∙ e)
 
 module _ (readable : Bool) (s : Form) (t : Tree) (n : Node) (is : n ≡ tree_node from_memory t max_levels) where
   whole : reads_from origins.Tree (settled readable (unrolled.whole s)) n ≡ reads_tree readable s t

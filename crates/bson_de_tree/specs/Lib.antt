@@ -1,2 +1,3 @@
+pub use Rattle.bson_de_raw.specs.Gives
 pub mod Options
 pub mod Bare

@@ -1,4 +1,4 @@
-ghost use Rattle.std.specs.Prelude.{◌≡◌, ◌≤◌, true, Some, IfOk};
+ghost use Rattle.std.specs.Prelude.{◌≡◌, ◌≤◌, true, is_some, Some, IfOk, IsTrue};
 ghost use Rattle.bson_base.specs.BsonView.{tree_of, pairs_of};
 ghost use Rattle.bson_base.specs.Sound.{IsClean, max_levels};
 ghost use Rattle.bson_base.specs.Tree as trees;
@@ -16,7 +16,9 @@ ghost use Rattle.bson_laws.specs.Reads.{answered};
 ghost use Rattle.bson_laws.specs.ReadsFrom.{answered_bare, reads_tree_value};
 ghost use Rattle.bson_laws.specs.Recursive.{FitsIn};
 ghost use Rattle.bson_laws.specs.SuitsTrees.{SuitsTrees};
+ghost use Rattle.bson_laws.specs.Views.{views};
 ghost use Rattle.bson_met.specs.Gives.{Reaches};
+ghost use Rattle.bson_moved.specs.Simple as moved;
 ghost use Rattle.bson_de_raw.specs.Gives.{Gives, GivesValue};
 ghost use Rattle.bson_de_tree.specs.Bare.{IsBare};
 ghost use Rattle.bson_de_tree.specs.Options.{is_readable};
@@ -24,9 +26,10 @@ ghost use Rattle.bson_de_tree.specs.Options.{is_readable};
 use crate::options::DeserializerOptions;
 use bson_base::{Bson, Document, MAX_NESTING_LEVEL};
 use bson_datum::Datum;
-use bson_de::read_for;
+use bson_de_raw::read_for;
 use bson_laws::{Origin, Reader};
 use bson_met::{Met, Reading};
+use bson_moved::{has_view, is_clean, is_simple, take};
 use bson_shape::Shape;
 use bson_values::{Refused, Stop, de};
 use std::alloc::Global;
@@ -60,7 +63,7 @@ pub fn from_bson_at<'x>(alloc: Global, shape: &Shape, bson: Bson) -> de::Result<
         → tree_of bson ≡ t → GivesValue (norm v) result }
 {
     shape.known();
-    with_path(alloc, read(alloc, true, shape, &bson))
+    with_path(alloc, read_tree(alloc, true, shape, bson))
 }
 
 /// The same by the options, whose errors carry no path.
@@ -78,7 +81,7 @@ pub fn from_bson_with_options_at<'x>(
         (answered_bare (reads_tree_value (is_readable options.human_readable) shape.now (tree_of bson))) }
     ensures owned { IfOk result IsOwned }
 {
-    without_path(read(alloc, options.is_readable(), shape, &bson))
+    without_path(read_tree(alloc, options.is_readable(), shape, bson))
 }
 
 /// [`from_bson_at`] of a document.
@@ -113,7 +116,29 @@ pub fn from_document_with_options_at<'x>(
     from_bson_with_options_at(alloc, shape, Bson::Document(doc), options)
 }
 
-// The value that a value in memory is at a shape. It is read with the lifetime of that value, and then owned: its texts are moved.
+// The value that a value in memory is at a shape. Its texts are moved where it can be taken apart, and else copied.
+fn read_tree<'x>(alloc: Global, readable: bool, shape: &Shape, tree: Bson) -> Reading<Datum<'x>>
+    ensures exact { Reaches view result (reads_tree_value readable shape.now (tree_of tree)) }
+    ensures owned { IfOk result IsOwned }
+{
+    shape.known();
+    if can_take(shape, &tree) {
+        return Ok(take(alloc, shape, tree)?);
+    }
+    read(alloc, readable, shape, &tree)
+}
+
+// Whether a tree can be taken apart: the shape is simple, and the tree is clean and has a value there. Where it is not so, nothing is said.
+fn can_take(shape: &Shape, tree: &Bson) -> bool
+    ensures simple { IsTrue result → moved.is_simple shape.now ≡ true }
+    ensures clean { IsTrue result → IsClean (tree_of tree.now) }
+    ensures nests { IsTrue result → depth (tree_of tree.now) ≤ max_levels }
+    ensures view { IsTrue result → is_some (views shape.now (tree_of tree.now)) ≡ true }
+{
+    is_simple(shape) && is_clean(tree, MAX_NESTING_LEVEL) && has_view(shape, tree)
+}
+
+// The value that a value in memory is at a shape, by the reader of all shapes. It is read with the lifetime of that value, and then owned.
 fn read<'x>(alloc: Global, readable: bool, shape: &Shape, value: &Bson) -> Reading<Datum<'x>>
     ensures exact { Reaches view result (reads_tree_value readable shape.now (tree_of value.now)) }
     ensures owned { IfOk result IsOwned }

@@ -1,8 +1,8 @@
 // The leaves that take a value of any kind.
 ghost use Rattle.std.specs.Prelude.{◌≡◌, IsTrue};
-ghost use Rattle.bson_kinds.specs.Text.{begins_with_dollar};
 ghost use Rattle.bson_itself.specs.Itself.{IsTakenKey, IsTakenSubtype};
 
+use bson_kinds::begins_with_dollar;
 use bson_values::Wrapper;
 
 /// A leaf that takes a value of any kind.
@@ -23,18 +23,6 @@ pub(crate) fn is_taken_key(leaf: UntypedLeaf, key: &str) -> bool
         UntypedLeaf::Any => true,
         UntypedLeaf::Bson => !begins_with_dollar(key) || Wrapper::from_key(key).is_none(),
     }
-}
-
-// Whether the first character is `$`, as that of each wrapper key is.
-#[inline(always)]
-fn begins_with_dollar(key: &str) -> bool
-    ensures { result ≡ begins_with_dollar key.now }
-{
-    let bytes = key.as_bytes();
-    if bytes.is_empty() {
-        return false;
-    }
-    bytes[0] == b'$'
 }
 
 // Whether a binary of a subtype is read at a leaf as one.

@@ -6,4 +6,4 @@ use Rattle.bson_key_set.specs.declared.key_set.Stored.TheVariants.{Few, Many}
 
 abbrev pub keys_in : Stored → List Key
 keys_in (Few seed keys) = keys.items
-keys_in (Many set) = set.keys
+keys_in (Many set) = set.value.keys

@@ -22,11 +22,14 @@ pub fn index_among(key: &str, keys: &[String]) -> Option<usize>
 }
 
 // A set of these keys, with a hash table. The empty set has room for all of them, so that no memory is taken.
-pub fn hashed(empty: IndexSet<String, KeySeed>, keys: Vec<String>) -> IndexSet<String, KeySeed>
-    requires empty { empty.keys ≡ [] }
-    requires room { length keys.items ≤ spare empty }
+pub fn hashed(
+    empty: Box<IndexSet<String, KeySeed>>,
+    keys: Vec<String>,
+) -> Box<IndexSet<String, KeySeed>>
+    requires empty { empty.value.keys ≡ [] }
+    requires room { length keys.items ≤ spare empty.value }
     requires distinct { IsDistinct string_eq keys.items }
-    ensures keys { result.keys ≡ keys.items }
+    ensures keys { result.value.keys ≡ keys.items }
 {
     let mut set = empty;
     for key in keys {

@@ -8,9 +8,9 @@ use std::hash::{BuildHasher, DefaultHasher, Hasher};
 pub struct KeySeed(u64);
 
 impl KeySeed {
-    /// The seed of no bytes, for keys that are not chosen by others.
+    /// The seed for keys that are not chosen by others.
     pub fn new() -> KeySeed {
-        KeySeed::of(&[])
+        KeySeed(0)
     }
 
     /// The seed of these bytes.

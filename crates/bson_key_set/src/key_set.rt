@@ -27,7 +27,7 @@ pub struct KeySet {
 #[derive(Drop)]
 pub(crate) enum Stored {
     Few(KeySeed, Vec<String>),
-    Many(IndexSet<String, KeySeed>),
+    Many(Box<IndexSet<String, KeySeed>>),
 }
 
 impl Model for KeySet {
@@ -163,25 +163,36 @@ impl KeySet {
     {
         match self.stored {
             Stored::Few(_, keys) => IntoKeys::of_few(keys.into_iter()),
-            Stored::Many(set) => IntoKeys::of_many(set.into_iter()),
+            Stored::Many(set) => IntoKeys::of_many(Box::into_inner(set).into_iter()),
         }
     }
 
     // Where there is no place for one more key in the list, moves all keys into a hash table.
+    #[inline(always)]
     fn make_room(&mut self) -> Result<(), AllocError>
         ensures same { self.new ≡ self.old }
     {
+        match &self.stored {
+            Stored::Few(_, keys) if keys.len() >= MOST_FEW => self.hash_all(),
+            _ => Ok(()),
+        }
+    }
+
+    // Moves all keys into a hash table.
+    #[cold]
+    #[inline(never)]
+    fn hash_all(&mut self) -> Result<(), AllocError>
+        ensures same { self.new ≡ self.old }
+    {
         if let Stored::Few(seed, keys) = &mut self.stored {
-            if keys.len() >= MOST_FEW {
-                let alloc = *keys.allocator();
-                let empty = IndexSet::with_capacity_and_hasher(
-                    alloc,
-                    keys.len().saturating_mul(2),
-                    *seed,
-                )?;
-                let keys = mem::replace(keys, Vec::new(alloc));
-                self.stored = Stored::Many(hashed(empty, keys));
-            }
+            let alloc = *keys.allocator();
+            let room = keys.len().saturating_mul(2);
+            let empty = Box::new(
+                alloc,
+                IndexSet::with_capacity_and_hasher(alloc, room, *seed)?,
+            )?;
+            let keys = mem::replace(keys, Vec::new(alloc));
+            self.stored = Stored::Many(hashed(empty, keys));
         }
         Ok(())
     }

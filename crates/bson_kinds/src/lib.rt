@@ -3,6 +3,8 @@
 
 mod element_type;
 mod reserved;
+mod text;
 
 pub use element_type::ElementType;
 pub use reserved::reserved_kind;
+pub use text::begins_with_dollar;

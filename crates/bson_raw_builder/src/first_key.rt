@@ -1,8 +1,8 @@
 ghost use Rattle.std.specs.Prelude.{◌≡◌};
-ghost use Rattle.bson_kinds.specs.Text.{begins_with_dollar};
 ghost use Rattle.bson_values.specs.Wrapper.{of_key};
 ghost use Rattle.bson_raw_builder.specs.FirstKeyView.{said, said_of};
 
+use bson_kinds::begins_with_dollar;
 use bson_values::Wrapper;
 
 /// What the first key of a document says of it.
@@ -50,14 +50,4 @@ fn wrapper_of(key: &str) -> Option<Wrapper>
         return None;
     }
     Wrapper::from_key(key)
-}
-
-fn begins_with_dollar(key: &str) -> bool
-    ensures { result ≡ begins_with_dollar key.now }
-{
-    let bytes = key.as_bytes();
-    if bytes.is_empty() {
-        return false;
-    }
-    bytes[0] == b'$'
 }

@@ -11,6 +11,7 @@ mod refused;
 mod scalars;
 mod values;
 
+pub use bson_trees::read_extended;
 pub use building::{raw_from_bson, raw_of_bson};
 pub use raw_value::{RawValue, raw_from_element};
 pub use reading::read_raw_tree;

@@ -152,7 +152,7 @@ fn array(alloc: Global, items: &[Datum<'_>], readable: bool, levels: u32) -> Wri
 fn item_trees(alloc: Global, items: &[Datum<'_>], readable: bool, levels: u32) -> Writing<Vec<Bson>>
     ensures { Reaches (λ trees. trees_of trees.items) result (tree_items readable 0 (items_view items.now) levels) }
 {
-    let mut trees = Vec::new(alloc);
+    let mut trees = Vec::with_capacity(alloc, items.len())?;
     for (index, item) in items.iter().enumerate() {
         trees.push(item_tree(alloc, index as u64, item, readable, levels)?)?;
     }

@@ -1,3 +1,4 @@
 pub mod ShapesMade
 pub mod Steps
 pub mod MapSteps
+pub mod TreeSteps

@@ -38,11 +38,11 @@ abbrev pub joined : Entries → Entries → Entries
 joined no_entries fs = fs
 joined (entry k v es) fs = entry k v (joined es fs)
 
-joined_entry : (ds : List Entry) (d : Entry) (vs : Entries) → joined (entries_view (ds ++ d ∷ [])) vs ≡ joined (entries_view ds) (entry (view d.key) (view d.value) vs)
+pub joined_entry : (ds : List Entry) (d : Entry) (vs : Entries) → joined (entries_view (ds ++ d ∷ [])) vs ≡ joined (entries_view ds) (entry (view d.key) (view d.value) vs)
 joined_entry [] d vs = refl
 joined_entry (e ∷ ds) d vs = ap (entry (view e.key) (view e.value)) (joined_entry ds d vs)
 
-joined_nothing : (vs : Entries) → joined vs no_entries ≡ vs
+pub joined_nothing : (vs : Entries) → joined vs no_entries ≡ vs
 joined_nothing no_entries = refl
 joined_nothing (entry k v vs) = ap (entry k v) (joined_nothing vs)
 

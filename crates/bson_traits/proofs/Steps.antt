@@ -13,11 +13,11 @@ abbrev pub joined : Items → Items → Items
 joined no_items ws = ws
 joined (item v vs) ws = item v (joined vs ws)
 
-joined_datum : (ds : List Datum) (d : Datum) (vs : Items) → joined (items_view (ds ++ d ∷ [])) vs ≡ joined (items_view ds) (item (view d) vs)
+pub joined_datum : (ds : List Datum) (d : Datum) (vs : Items) → joined (items_view (ds ++ d ∷ [])) vs ≡ joined (items_view ds) (item (view d) vs)
 joined_datum [] d vs = refl
 joined_datum (e ∷ ds) d vs = ap (item (view e)) (joined_datum ds d vs)
 
-joined_nothing : (vs : Items) → joined vs no_items ≡ vs
+pub joined_nothing : (vs : Items) → joined vs no_items ≡ vs
 joined_nothing no_items = refl
 joined_nothing (item v vs) = ap (item v) (joined_nothing vs)
 

@@ -7,4 +7,5 @@ pub mod Options
 pub mod Maps
 pub mod Extended
 pub mod Structs
+pub mod Trees
 pub mod Prover

@@ -4,3 +4,4 @@ pub mod OptionsBack
 pub mod MapsBack
 pub mod ExtendedBack
 pub mod StructsBack
+pub mod TreesBack

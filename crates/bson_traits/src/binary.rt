@@ -30,11 +30,7 @@ impl Serialize for Binary {
     ghost written = { λ b. Ok (binary_datum (b.subtype.0, b.bytes.items)) };
 
     fn to_datum(&self, alloc: Global) -> ser::Result<Datum<'_>> {
-        if self.subtype.0 == 0 {
-            Ok(Datum::Bytes(ByteStr::Borrowed(&self.bytes)))
-        } else {
-            Ok(binary_datum(alloc, self.subtype, &self.bytes)?)
-        }
+        Ok(borrowed_binary(alloc, self)?)
     }
 }
 
@@ -84,7 +80,7 @@ impl<'de> NeverNull<'de> for Binary {
 }
 
 // The binary that a datum is.
-fn binary_of(alloc: Global, datum: &Datum<'_>) -> de::Result<Binary>
+pub(crate) fn binary_of(alloc: Global, datum: &Datum<'_>) -> de::Result<Binary>
     ensures { Reads (λ b. (b.subtype.0, b.bytes.items)) result (taken_binary (view datum.now)) }
 {
     let Some((subtype, bytes)) = binary_said(alloc, datum)? else {
@@ -94,6 +90,16 @@ fn binary_of(alloc: Global, datum: &Datum<'_>) -> de::Result<Binary>
         return Ok(Binary::from_parts(subtype, bytes));
     }
     Err(not_fitting())
+}
+
+// The datum of a binary: its bytes, borrowed, where its subtype is 0, and else a struct.
+pub(crate) fn borrowed_binary(alloc: Global, binary: &Binary) -> Result<Datum<'_>, AllocError>
+    ensures { IfOk result (λ d. view d ≡ binary_datum (binary.now.subtype.0, binary.now.bytes.items)) }
+{
+    if binary.subtype.0 == 0 {
+        return Ok(Datum::Bytes(ByteStr::Borrowed(&binary.bytes)));
+    }
+    binary_datum(alloc, binary.subtype, &binary.bytes)
 }
 
 // The datum of a binary, which owns its bytes: bytes where its subtype is 0, and else a struct.

@@ -180,7 +180,7 @@ impl<'de> NeverNull<'de> for Timestamp {
 }
 
 // The ObjectId that a datum is.
-fn id_in(alloc: Global, datum: &Datum<'_>) -> de::Result<ObjectId>
+pub(crate) fn id_in(alloc: Global, datum: &Datum<'_>) -> de::Result<ObjectId>
     ensures { Reads (λ id. id.0) result (taken_id (view datum.now)) }
 {
     let Some(id) = id_said(datum) else {
@@ -217,7 +217,7 @@ pub(crate) fn id_said(datum: &Datum<'_>) -> Option<ObjectId>
 }
 
 // The time that a datum is.
-fn date_in(alloc: Global, datum: &Datum<'_>) -> de::Result<DateTime>
+pub(crate) fn date_in(alloc: Global, datum: &Datum<'_>) -> de::Result<DateTime>
     ensures { Reads (λ time. millis time) result (taken_date (view datum.now)) }
 {
     let Some(time) = date_said(datum) else {
@@ -252,7 +252,7 @@ fn date_said(datum: &Datum<'_>) -> Option<DateTime>
 }
 
 // The time in seconds and the increment that a datum is.
-fn stamp_of(alloc: Global, datum: &Datum<'_>) -> de::Result<Timestamp>
+pub(crate) fn stamp_of(alloc: Global, datum: &Datum<'_>) -> de::Result<Timestamp>
     ensures { Reads (λ stamp. (pos stamp.time, pos stamp.increment)) result (taken_stamp (view datum.now)) }
 {
     let Some(stamp) = stamp_said(datum) else {

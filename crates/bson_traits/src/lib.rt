@@ -6,6 +6,7 @@ mod data;
 mod extended;
 mod inside;
 mod known;
+mod known_trees;
 mod map;
 mod memory;
 mod numbers;
@@ -18,6 +19,9 @@ mod sixteen;
 mod structs;
 mod texts;
 mod traits;
+mod tree_data;
+mod tree_inside;
+mod trees;
 
 pub use extended::{date_datum, id_datum, stamp_datum};
 pub use refusal::not_fitting;

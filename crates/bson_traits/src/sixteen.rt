@@ -122,7 +122,7 @@ impl<'de> NeverNull<'de> for Uuid {
 }
 
 // The decimal number that a datum is.
-fn decimal_in(alloc: Global, datum: &Datum<'_>) -> de::Result<Decimal128>
+pub(crate) fn decimal_in(alloc: Global, datum: &Datum<'_>) -> de::Result<Decimal128>
     ensures { Reads (λ d. d.0) result (taken_decimal (view datum.now)) }
 {
     let Some(decimal) = decimal_said(datum) else {
@@ -136,7 +136,7 @@ fn decimal_in(alloc: Global, datum: &Datum<'_>) -> de::Result<Decimal128>
 }
 
 // The datum of a decimal number.
-fn decimal_datum<'x>(alloc: Global, decimal: Decimal128) -> Result<Datum<'x>, AllocError>
+pub(crate) fn decimal_datum<'x>(alloc: Global, decimal: Decimal128) -> Result<Datum<'x>, AllocError>
     ensures { IfOk result (λ d. view d ≡ decimal_datum decimal.0) }
 {
     let bits = ByteStr::Owned(decimal.0.to_vec(alloc)?);

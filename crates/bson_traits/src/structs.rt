@@ -132,7 +132,7 @@ impl<'de> NeverNull<'de> for Regex {
 }
 
 // The reference to a document that a datum is.
-fn pointer_of(alloc: Global, datum: &Datum<'_>) -> de::Result<DbPointer>
+pub(crate) fn pointer_of(alloc: Global, datum: &Datum<'_>) -> de::Result<DbPointer>
     ensures { Reads (λ p. (string_bytes p.namespace, p.id.0)) result (taken_pointer (view datum.now)) }
 {
     let Some((namespace, id)) = pointer_said(datum) else {
@@ -146,7 +146,11 @@ fn pointer_of(alloc: Global, datum: &Datum<'_>) -> de::Result<DbPointer>
 }
 
 // The datum of a reference to a document.
-fn pointer_datum<'x>(alloc: Global, namespace: &str, id: ObjectId) -> Result<Datum<'x>, AllocError>
+pub(crate) fn pointer_datum<'x>(
+    alloc: Global,
+    namespace: &str,
+    id: ObjectId,
+) -> Result<Datum<'x>, AllocError>
     ensures { IfOk result (λ d. view d ≡ pointer_datum (namespace.now, id.0)) }
 {
     let namespace = copied(alloc, namespace)?;
@@ -173,7 +177,7 @@ fn pointer_in<'d>(body: &'d Datum<'_>) -> Option<(&'d str, ObjectId)>
 }
 
 // The regular expression that a datum is.
-fn regex_of(alloc: Global, datum: &Datum<'_>) -> de::Result<Regex>
+pub(crate) fn regex_of(alloc: Global, datum: &Datum<'_>) -> de::Result<Regex>
     ensures { Reads (λ r. (r.pattern, r.options)) result (taken_regex (view datum.now)) }
 {
     let Some((pattern, options)) = regex_said(datum) else {
@@ -189,7 +193,11 @@ fn regex_of(alloc: Global, datum: &Datum<'_>) -> de::Result<Regex>
 }
 
 // The datum of a regular expression of these texts.
-fn regex_datum<'x>(alloc: Global, pattern: &str, options: &str) -> Result<Datum<'x>, AllocError>
+pub(crate) fn regex_datum<'x>(
+    alloc: Global,
+    pattern: &str,
+    options: &str,
+) -> Result<Datum<'x>, AllocError>
     ensures { IfOk result (λ d. view d ≡ regex_datum (pattern.now, options.now)) }
 {
     let pattern = copied(alloc, pattern)?;
@@ -215,7 +223,7 @@ fn regex_in<'d>(body: &'d Datum<'_>) -> Option<(&'d str, &'d str)>
 }
 
 // A copy of a text.
-fn copied<'x>(alloc: Global, text: &str) -> Result<Datum<'x>, AllocError>
+pub(crate) fn copied<'x>(alloc: Global, text: &str) -> Result<Datum<'x>, AllocError>
     ensures { IfOk result (λ d. view d ≡ str text.now) }
 {
     Ok(Datum::Str(Text::Owned(String::from_str(alloc, text)?)))

@@ -13,7 +13,7 @@ use Rattle.bson_values.specs.Refusal.{ReadFault, WriteFault, Failure, no_memory,
 use Rattle.bson_values.specs.Value.{Value}
 use Rattle.bson_values.specs.declared.de.Error as de
 use Rattle.bson_values.specs.declared.ser.Error as ser
-use Rattle.bson_de_raw.specs.Gives as reading
+use Rattle.bson_de_tree.specs.Gives as reading
 use Rattle.bson_ser_tree.specs.Answers as writing
 use Rattle.bson_rawdoc.specs.DocumentTree.{document_pairs, Gives}
 use Rattle.bson_shape.specs.Form.{Form}

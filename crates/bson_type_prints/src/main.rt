@@ -2,6 +2,7 @@
 //! with those in `stdout`, which come from the specification and from bsonspec.org, version 1.1.
 #![tactic(auto)]
 
+mod documents;
 mod helpers;
 mod numbers;
 mod printing;
@@ -29,6 +30,7 @@ fn main(rt: HostRuntime) -> Result<(), Fail> {
     print_helpers(&rt, alloc)?;
     shapes::print_shapes(&rt, alloc)?;
     numbers::print_number(&rt, alloc, &5)?;
+    documents::print_documents(&rt, alloc)?;
     trees::print_number(&rt, alloc, &5)?;
     tables::print_tables(&rt, alloc)
 }

@@ -43,7 +43,7 @@ pub fn print_numbers(rt: &impl Print) -> Result<(), Fail> {
 }
 
 /// A value as a datum.
-fn print_datum<P: Print, T: Serialize>(
+pub fn print_datum<P: Print, T: Serialize>(
     rt: &P,
     alloc: Global,
     name: &str,
@@ -53,7 +53,7 @@ fn print_datum<P: Print, T: Serialize>(
 }
 
 /// What is read of a datum.
-fn print_taken<'de, P: Print, T: Deserialize<'de> + Debug + Drop>(
+pub fn print_taken<'de, P: Print, T: Deserialize<'de> + Debug + Drop>(
     rt: &P,
     alloc: Global,
     name: &str,
@@ -63,7 +63,7 @@ fn print_taken<'de, P: Print, T: Deserialize<'de> + Debug + Drop>(
 }
 
 /// What is read of the datum of a value.
-fn print_again<'de, P: Print, T: Serialize + Deserialize<'de> + Debug + Drop>(
+pub fn print_again<'de, P: Print, T: Serialize + Deserialize<'de> + Debug + Drop>(
     rt: &P,
     alloc: Global,
     name: &str,

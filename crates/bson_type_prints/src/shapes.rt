@@ -1,4 +1,5 @@
 // The shapes of a number, of the marks and of helpers.
+use bson_base::{Bson, Document, JavaScriptCodeWithScope};
 use bson_helpers::{
     HumanReadable, Utf8LossyDeserialization, bson_datetime_as_rfc3339_string,
     hex_string_as_object_id, i64_as_bson_datetime, rfc3339_string_as_bson_datetime,
@@ -34,7 +35,10 @@ fn print_shape_of<'de, P: Print, T: Deserialize<'de>>(
 fn print_types<P: Print>(rt: &P, alloc: Global) -> Result<(), Fail> {
     print_shape_of::<P, i32>(rt, alloc, "i32")?;
     print_shape_of::<P, HumanReadable<i32>>(rt, alloc, "HumanReadable")?;
-    print_shape_of::<P, Utf8LossyDeserialization<i32>>(rt, alloc, "Utf8LossyDeserialization")
+    print_shape_of::<P, Utf8LossyDeserialization<i32>>(rt, alloc, "Utf8LossyDeserialization")?;
+    print_shape_of::<P, Bson>(rt, alloc, "Bson")?;
+    print_shape_of::<P, Document>(rt, alloc, "Document")?;
+    print_shape_of::<P, JavaScriptCodeWithScope>(rt, alloc, "JavaScriptCodeWithScope")
 }
 
 /// The shape of what gives the texts of times.

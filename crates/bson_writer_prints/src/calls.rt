@@ -1,18 +1,16 @@
-// The calls of the writers of documents and arrays, and of those that do not begin.
-use crate::outputs::{begin, print_answer, print_output};
-use crate::variants::print_variant;
+// The calls of the writers of documents, arrays and variants, part by part, and what the output holds behind them: where their parts are taken, where one is refused, and where a
+// call of the wrong form is made.
+use crate::outputs::{add_output, output};
 use bson_datum::Datum;
 use bson_io::{Out, Steps, Tally};
-use bson_ser_parts::DocumentWriter;
-use bson_ser_value::ValueWriter;
+use bson_lines::Lines;
+use bson_ser_parts::{DocumentWriter, VariantWriter};
 use bson_values::Text;
 use std::alloc::Global;
-use std::io;
-use std::io::Print;
 
 /// What a writer of several parts is asked to take.
 #[derive(Clone, Copy)]
-pub enum Part {
+enum Part {
     /// An element of an array.
     Element,
     /// An entry of a document, under this key.
@@ -21,162 +19,146 @@ pub enum Part {
     EntryOfNumber,
 }
 
-/// A text as a value.
-fn text(text: &str) -> Datum<'_> {
-    Datum::Str(Text::Borrowed(text))
-}
-
-/// Prints what a writer of a document answers to an entry.
-fn print_entry(
-    rt: &impl Print,
-    writer: &mut DocumentWriter<'_>,
-    name: &str,
-    key: &Datum<'_>,
-    value: &Datum<'_>,
-) -> io::Result<()> {
+/// Adds what the writer of a document answers to a part.
+fn add_part(lines: &mut Lines, writer: &mut DocumentWriter<'_>, part: Part, value: &Datum<'_>) {
     let mut steps = Steps::<Tally>::new();
-    print_answer(rt, name, "entry", &writer.entry(key, value, &mut steps))
+    match part {
+        Part::Element => lines.made("element", &writer.element(value, &mut steps)),
+        Part::Entry(key) => {
+            let key = Datum::Str(Text::Borrowed(key));
+            lines.made("entry", &writer.entry(&key, value, &mut steps));
+        }
+        Part::EntryOfNumber => {
+            lines.made("entry", &writer.entry(&Datum::I32(1), value, &mut steps));
+        }
+    }
 }
 
-/// Prints what it answers to an element.
-fn print_element(
-    rt: &impl Print,
-    writer: &mut DocumentWriter<'_>,
-    name: &str,
-    value: &Datum<'_>,
-) -> io::Result<()> {
+/// Adds what the writer of a document or an array behind an output answers.
+fn add_writer(lines: &mut Lines, out: &mut Out, is_array: bool, parts: &[Part], value: &Datum<'_>) {
     let mut steps = Steps::<Tally>::new();
-    print_answer(rt, name, "element", &writer.element(value, &mut steps))
+    match DocumentWriter::start(out, is_array, false, &mut steps) {
+        Ok(mut writer) => {
+            for part in parts {
+                add_part(lines, &mut writer, *part, value);
+            }
+            lines.made("end", &writer.end(&mut steps));
+        }
+        Err(error) => lines.text("start", &error),
+    }
 }
 
-/// Prints what it answers to a part.
-fn print_part(
-    rt: &impl Print,
-    writer: &mut DocumentWriter<'_>,
-    name: &str,
+/// Adds what the writer of a document answers, and what the output holds then.
+fn add_document(lines: &mut Lines, alloc: Global, parts: &[Part], value: &Datum<'_>) {
+    let mut out = output(alloc);
+    lines.line("document");
+    add_writer(lines, &mut out, false, parts, value);
+    add_output(lines, &out);
+}
+
+/// Adds what the writer of an array answers, and what the output holds then.
+fn add_array(lines: &mut Lines, alloc: Global, parts: &[Part], value: &Datum<'_>) {
+    let mut out = output(alloc);
+    lines.line("array");
+    add_writer(lines, &mut out, true, parts, value);
+    add_output(lines, &out);
+}
+
+/// Adds what the writer of a variant answers to a part. The keys of its entries are texts.
+fn add_variant_part(
+    lines: &mut Lines,
+    writer: &mut VariantWriter<'_>,
     part: Part,
     value: &Datum<'_>,
-) -> io::Result<()> {
-    match part {
-        Part::Element => print_element(rt, writer, name, value),
-        Part::Entry(key) => print_entry(rt, writer, name, &text(key), value),
-        Part::EntryOfNumber => print_entry(rt, writer, name, &Datum::I32(1), value),
-    }
-}
-
-/// Prints what it answers to parts.
-fn print_parts(
-    rt: &impl Print,
-    writer: &mut DocumentWriter<'_>,
-    name: &str,
-    parts: &[Part],
-    value: &Datum<'_>,
-) -> io::Result<()> {
-    for part in parts {
-        print_part(rt, writer, name, *part, value)?;
-    }
-    Ok(())
-}
-
-/// Prints what the writer of a document or an array behind an output answers.
-fn print_writer(
-    rt: &impl Print,
-    out: &mut Out,
-    name: &str,
-    parts: &[Part],
-    value: &Datum<'_>,
-) -> io::Result<()> {
+) {
     let mut steps = Steps::<Tally>::new();
-    begin(out, &mut steps)?;
-    match DocumentWriter::start(out, name == "array", false, &mut steps) {
-        Ok(mut writer) => {
-            print_parts(rt, &mut writer, name, parts, value)?;
-            print_answer(rt, name, "end", &writer.end(&mut steps))
-        }
-        Err(error) => print_answer(rt, name, "start", &Err(error)),
+    match part {
+        Part::Element => lines.made("element", &writer.element(value, &mut steps)),
+        Part::Entry(key) => lines.made("entry", &writer.entry(key, value, &mut steps)),
+        Part::EntryOfNumber => {}
     }
 }
 
-/// Prints what the writer of a document or an array answers, and what the output holds then.
-fn print_document(
-    rt: &impl Print,
-    alloc: Global,
-    name: &str,
+/// Adds what the writer of a variant behind an output answers.
+fn add_variant_writer(
+    lines: &mut Lines,
+    out: &mut Out,
+    variant: &str,
+    is_tuple: bool,
     parts: &[Part],
     value: &Datum<'_>,
-) -> io::Result<()> {
-    let mut out = Out::new(alloc);
-    print_writer(rt, &mut out, name, parts, value)?;
-    print_output(rt, alloc, &out)
+) {
+    let mut steps = Steps::<Tally>::new();
+    match VariantWriter::start(out, variant, is_tuple, false, &mut steps) {
+        Ok(mut writer) => {
+            for part in parts {
+                add_variant_part(lines, &mut writer, *part, value);
+            }
+            lines.made("end", &writer.end(&mut steps));
+        }
+        Err(error) => lines.text("start", &error),
+    }
 }
 
-/// Prints what each writer of several parts answers.
-fn print_writers(
-    rt: &impl Print,
+/// Adds what the writer of a tuple variant answers, and what the output holds then.
+fn add_tuple_variant(
+    lines: &mut Lines,
+    alloc: Global,
+    variant: &str,
+    parts: &[Part],
+    value: &Datum<'_>,
+) {
+    let mut out = output(alloc);
+    lines.line("tuple variant");
+    add_variant_writer(lines, &mut out, variant, true, parts, value);
+    add_output(lines, &out);
+}
+
+/// Adds what the writer of a struct variant answers, and what the output holds then.
+fn add_struct_variant(lines: &mut Lines, alloc: Global, parts: &[Part], value: &Datum<'_>) {
+    let mut out = output(alloc);
+    lines.line("struct variant");
+    add_variant_writer(lines, &mut out, "T", false, parts, value);
+    add_output(lines, &out);
+}
+
+/// Adds what each writer answers.
+fn add_writers(
+    lines: &mut Lines,
     alloc: Global,
     entries: &[Part],
     elements: &[Part],
     value: &Datum<'_>,
-) -> io::Result<()> {
-    print_document(rt, alloc, "document", entries, value)?;
-    print_document(rt, alloc, "array", elements, value)?;
-    print_variant(rt, alloc, "tuple variant", "T", elements, value)?;
-    print_variant(rt, alloc, "struct variant", "T", entries, value)
+) {
+    add_document(lines, alloc, entries, value);
+    add_array(lines, alloc, elements, value);
+    add_tuple_variant(lines, alloc, "T", elements, value);
+    add_struct_variant(lines, alloc, entries, value);
 }
 
-/// Each writer takes its part.
-pub fn print_taken(rt: &impl Print, alloc: Global) -> io::Result<()> {
-    print_writers(
-        rt,
-        alloc,
-        &[Part::Entry("i")],
-        &[Part::Element],
-        &Datum::I32(1),
-    )
+/// Entries with an element between them.
+const ENTRIES: [Part; 3] = [Part::Entry("i"), Part::Element, Part::Entry("j")];
+
+/// Elements with an entry between them.
+const ELEMENTS: [Part; 3] = [Part::Element, Part::Entry("i"), Part::Element];
+
+/// Each writer takes its part; refuses a value, and then what it has to take; and refuses a part of the wrong form, and then what it has to take.
+fn add_each(lines: &mut Lines, alloc: Global) {
+    let number = Datum::I32(1);
+    add_writers(lines, alloc, &ENTRIES[..1], &ELEMENTS[..1], &number);
+    add_writers(lines, alloc, &ENTRIES, &ELEMENTS, &Datum::U64(u64::MAX));
+    add_writers(lines, alloc, &ENTRIES, &ELEMENTS, &number);
 }
 
-/// Each writer refuses a value, and then what it has to take.
-pub fn print_refused(rt: &impl Print, alloc: Global) -> io::Result<()> {
-    let entries = [Part::Entry("i"), Part::Entry("j")];
-    let elements = [Part::Element, Part::Element];
-    print_writers(rt, alloc, &entries, &elements, &Datum::U64(u64::MAX))
+/// Adds a key that is no text, a key with a zero character, and the name of a variant with one.
+fn add_names(lines: &mut Lines, alloc: Global, value: &Datum<'_>) {
+    add_document(lines, alloc, &[Part::EntryOfNumber], value);
+    add_struct_variant(lines, alloc, &[Part::Entry("i\0")], value);
+    add_tuple_variant(lines, alloc, "T\0", &[], value);
 }
 
-/// Each writer takes its part, refuses one of the wrong form, and then what it has to take.
-pub fn print_wrong(rt: &impl Print, alloc: Global) -> io::Result<()> {
-    let entries = [Part::Entry("i"), Part::Element, Part::Entry("j")];
-    let elements = [Part::Element, Part::Entry("i"), Part::Element];
-    print_writers(rt, alloc, &entries, &elements, &Datum::I32(1))
-}
-
-/// Values that are taken by one writer alone, and names that are refused.
-pub fn print_names(rt: &impl Print, alloc: Global, value: &Datum<'_>) -> io::Result<()> {
-    print_variant(rt, alloc, "tuple variant", "T", &[Part::Element], value)?;
-    print_document(rt, alloc, "document", &[Part::EntryOfNumber], value)?;
-    print_variant(
-        rt,
-        alloc,
-        "struct variant",
-        "T",
-        &[Part::Entry("i\0")],
-        value,
-    )?;
-    print_variant(rt, alloc, "tuple variant", "T\0", &[], value)
-}
-
-/// Prints what is answered where no value is of this name.
-fn print_start(rt: &impl Print, out: &mut Out, name: &str) -> io::Result<()> {
-    let mut steps = Steps::<Tally>::new();
-    begin(out, &mut steps)?;
-    match ValueWriter::start(out, name, &mut steps) {
-        Ok(mut writer) => print_answer(rt, "value", "end", &writer.end(&mut steps)),
-        Err(error) => print_answer(rt, "value", "start", &Err(error)),
-    }
-}
-
-/// A writer of a value whose name is not reserved does not begin.
-pub fn print_not_reserved(rt: &impl Print, alloc: Global) -> io::Result<()> {
-    let mut out = Out::new(alloc);
-    print_start(rt, &mut out, "oid")?;
-    print_output(rt, alloc, &out)
+/// The calls of each writer.
+pub fn add_calls(lines: &mut Lines, alloc: Global) {
+    add_each(lines, alloc);
+    add_names(lines, alloc, &Datum::Bool(true));
 }

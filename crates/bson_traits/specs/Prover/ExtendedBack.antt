@@ -24,20 +24,20 @@ use Rattle.bson_traits.specs.Laws.{Returns, IsNeverNull}
 use Rattle.bson_traits.specs.Extended.{taken_where, taken_as, sized, decimal_datum, decimal_said, taken_decimal, binary_datum, binary_said, taken_binary, uuid_value, uuid_said, taken_uuid, pointer_datum, pointer_said, taken_pointer, regex_datum, regex_said, with_sorted, taken_regex, id_datum, id_said, taken_id, date_datum, date_said, taken_date, unsigned, both, stamp_datum, stamp_said, taken_stamp}
 
 -- the datum of a tree is of the tree's kind
-of_kind : (t : Tree) → IsInRange t → IsValueOfKind (kind t) (datum itself t)
+pub of_kind : (t : Tree) → IsInRange t → IsValueOfKind (kind t) (datum itself t)
 of_kind t h = record { of_tree = record { tree = t; ranges = h; is_datum = refl }; has_kind = refl }
 
 -- the datum of contents gives them, where it says them
-own_datum : {C : Type 0} (datum_of : C → Value) (said : Value → Option C) (c : C) → said (datum_of c) ≡ Some c → taken_as datum_of said (datum_of c) ≡ Ok c
+pub own_datum : {C : Type 0} (datum_of : C → Value) (said : Value → Option C) (c : C) → said (datum_of c) ≡ Some c → taken_as datum_of said (datum_of c) ≡ Ok c
 own_datum datum_of said c e = ap (taken_where datum_of (datum_of c)) e ∙ rw ((same_decides (datum_of c) (datum_of c)).1 refl) refl
 
 -- what means Null is Null
-only_null : (t : Tree) → IsInRange t → means (datum itself t) ≡ Some null → null ≡ sorted_tree t
+pub only_null : (t : Tree) → IsInRange t → means (datum itself t) ≡ Some null → null ≡ sorted_tree t
 only_null t h e = datum_means t null h e
 
 -- ---- an ObjectId
 
-id_says : (id : Bytes) → HasBytes 12 id → id_said (id_datum id) ≡ Some id
+pub id_says : (id : Bytes) → HasBytes 12 id → id_said (id_datum id) ≡ Some id
 id_says id h = digits_read 12 id h.count h.are_bytes
 
 pub id_returns : (id : Bytes) → HasBytes 12 id → Returns (leaf leaves.ObjectId) id taken_id (Ok (id_datum id))
@@ -51,7 +51,7 @@ id_not_null id h e = let is : null ≡ tree.object_id id = only_null (tree.objec
 
 -- ---- a time
 
-date_says : (n : ℤ) → FitsSigned w64 n → date_said (date_datum n) ≡ Some n
+pub date_says : (n : ℤ) → FitsSigned w64 n → date_said (date_datum n) ≡ Some n
 date_says n h = integer_read n h
 
 pub date_returns : (n : ℤ) → FitsSigned w64 n → Returns (leaf leaves.DateTime) n taken_date (Ok (date_datum n))
@@ -74,7 +74,7 @@ in_i64 n h = grind (arith, ints, h)
 unsigned_is : (n : ℕ) → n < 2 ^ 32 → option_and_then unsigned (cond (in_range i64 (pos n)) (Some (pos n)) None) ≡ Some (pos n)
 unsigned_is n h = rw (in_i64 n h, in_u32 n h) refl
 
-stamp_says : (t i : ℕ) → t < 2 ^ 32 → i < 2 ^ 32 → stamp_said (stamp_datum (pos t, pos i)) ≡ Some (pos t, pos i)
+pub stamp_says : (t i : ℕ) → t < 2 ^ 32 → i < 2 ^ 32 → stamp_said (stamp_datum (pos t, pos i)) ≡ Some (pos t, pos i)
 stamp_says t i h k = ap (λ a. both a (option_and_then unsigned (cond (in_range i64 (pos i)) (Some (pos i)) None))) (unsigned_is t h) ∙ ap (λ b. both (Some (pos t)) b) (unsigned_is i k)
 
 pub stamp_returns : (t i : ℕ) → t < 2 ^ 32 → i < 2 ^ 32 → Returns (leaf leaves.Timestamp) (pos t, pos i) taken_stamp (Ok (stamp_datum (pos t, pos i)))
@@ -88,7 +88,7 @@ stamp_not_null t i h k e = let is : null ≡ tree.timestamp t i = only_null (tre
 
 -- ---- a decimal number
 
-sized_is : (b : Bytes) → length b ≡ 16 → sized 16 b ≡ Some b
+pub sized_is : (b : Bytes) → length b ≡ 16 → sized 16 b ≡ Some b
 sized_is b h = ap (λ n. cond (nat_eq n 16) (Some b) None) h
 
 pub decimal_returns : (b : Bytes) → HasBytes 16 b → Returns (leaf leaves.Decimal128) b taken_decimal (Ok (decimal_datum b))
@@ -102,7 +102,7 @@ decimal_not_null b h e = let is : null ≡ tree.decimal128 b = only_null (tree.d
 
 -- ---- a binary
 
-binary_says : (subtype : ℕ) (b : Bytes) → subtype < 256 → AreBytes b → binary_said (binary_datum (subtype, b)) ≡ Some (subtype, b)
+pub binary_says : (subtype : ℕ) (b : Bytes) → subtype < 256 → AreBytes b → binary_said (binary_datum (subtype, b)) ≡ Some (subtype, b)
 binary_says zero b small bytes = refl
 binary_says (suc n) b small bytes = rw (subtype_read (suc n) small, base64_read b bytes) refl
 

@@ -10,10 +10,10 @@ use Rattle.bson_de_tree.proofs.reading.from_bson_at.Goals as goal
 pub returns : goal.returns
 returns c =
     let s = c.args.shape.now in
-    let exact = c.with_path.ensures.exact (reads_tree_value true s (tree_of c.args.bson)) c.read.ensures.exact in
+    let exact = c.with_path.ensures.exact (reads_tree_value true s (tree_of c.args.bson)) c.read_tree.ensures.exact in
     record {
       exact = exact;
-      owned = c.with_path.ensures.owned c.read.ensures.owned;
+      owned = c.with_path.ensures.owned c.read_tree.ensures.owned;
       read_back = λ v t plain suits fits mean clean deep is.
           read_back s v t c.with_path.result c.known.ensures.shape plain suits fits mean clean deep true (subst (λ x. Gives view c.with_path.result (answered (reads_tree_value true s x))) is exact);
     }

@@ -10,6 +10,6 @@ returns c =
     let s = c.args.shape.now in
     let t = tree_of c.args.bson in
     record {
-      exact = subst (λ readable. Gives view c.without_path.result (answered_bare (reads_tree_value readable s t))) c.is_readable.ensures (c.without_path.ensures.exact (reads_tree_value c.is_readable.result s t) c.read.ensures.exact);
-      owned = c.without_path.ensures.owned c.read.ensures.owned;
+      exact = subst (λ readable. Gives view c.without_path.result (answered_bare (reads_tree_value readable s t))) c.is_readable.ensures (c.without_path.ensures.exact (reads_tree_value c.is_readable.result s t) c.read_tree.ensures.exact);
+      owned = c.without_path.ensures.owned c.read_tree.ensures.owned;
     }

@@ -6,4 +6,4 @@ use Rattle.bson_key_set.proofs.few.hashed.Given as goal
 
 abbrev pub invariant-loop-key : goal.invariant-loop-key
 invariant-loop-key l =
-    (insert_all string_eq l.set.keys (into_iter_items l.key-iterator) ≡ l.fn.keys.items) × (length (into_iter_items l.key-iterator) ≤ spare l.set)
+    (insert_all string_eq l.set.value.keys (into_iter_items l.key-iterator) ≡ l.fn.keys.items) × (length (into_iter_items l.key-iterator) ≤ spare l.set.value)

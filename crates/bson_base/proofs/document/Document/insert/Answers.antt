@@ -34,7 +34,7 @@ returns-clause-new c =
     let within : c.in_ok-index.index < length d.keys = subst (λ ks. c.in_ok-index.index < length ks) keys c.in_ok-index.ensures.within in
     let among : c.in_ok-index.index < length d.values.items = omega (arith, within, c.even_out.ensures.even) in
     let first = found_at key d.keys c.in_ok-index.index c.in_ok-index.ensures.index within in
-    rw (keys, c.reserve.ensures.items, c.replace-old.ensures.after) (put_position key d.keys d.values.items c.args.value c.in_ok-index.index among first)
+    rw (keys, c.replaced.ensures.after, c.reserve.ensures.items) (put_position key d.keys d.values.items c.args.value c.in_ok-index.index among first)
     ∙ ap (put key (tree_of c.args.value)) c.even_out.ensures.same
 
 pub returns-clause-old : goal.returns-clause-old
@@ -46,8 +46,6 @@ returns-clause-old c =
     let within : c.in_ok-index.index < length d.keys = subst (λ ks. c.in_ok-index.index < length ks) keys c.in_ok-index.ensures.within in
     let among : c.in_ok-index.index < length d.values.items = omega (arith, within, c.even_out.ensures.even) in
     let first = found_at key d.keys c.in_ok-index.index c.in_ok-index.ensures.index within in
-    let room = c.reserve.new.self.items in
-    let there : c.in_ok-index.index < length room = subst (λ vs. c.in_ok-index.index < length vs) (sym c.reserve.ensures.items) among in
-    ap (option_map tree_of) (sym (slice_get_read room (length room) c.in_ok-index.index c.replace-old.result refl there (rw c.replace-old.ensures.value c.index_mut.ensures.value)) ∙ ap (λ vs. slice_get vs c.in_ok-index.index) c.reserve.ensures.items)
+    ap (option_map tree_of) (sym c.replaced.ensures.before ∙ ap (λ vs. slice_get vs c.in_ok-index.index) c.reserve.ensures.items)
     ∙ lookup_position key d.keys d.values.items c.in_ok-index.index first
     ∙ ap (lookup key) c.even_out.ensures.same

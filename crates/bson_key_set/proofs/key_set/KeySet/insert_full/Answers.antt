@@ -23,7 +23,7 @@ returns-clause-index c =
           let same : w.in-Few.keys.items ≡ c.args.self.now = sym (ap keys_in w.in-Few.is) ∙ c.self.view_is ∙ c.make_room.ensures.same in
           rw w.result-is (subst (λ ks. IfOk w.insert_among.result (λ r. r.0 ≡ position_or_len (is_key text) ks)) same w.insert_among.ensures.index)
       | in-Many+in_ok-place-in-Many w ↦
-          let same : w.in-Many.set.keys ≡ c.args.self.now = sym (ap keys_in w.in-Many.is) ∙ c.self.view_is ∙ c.make_room.ensures.same in
+          let same : w.deref_mut.result.now.keys ≡ c.args.self.now = ap (λ s. s.keys) w.deref_mut.ensures.value ∙ sym (ap keys_in w.in-Many.is) ∙ c.self.view_is ∙ c.make_room.ensures.same in
           rw w.result-is (w.in_ok-place-in-Many.ensures.index ∙ ap (position_or_len (is_key text)) same)
     ]
 
@@ -35,6 +35,6 @@ returns-clause-added c =
           let same : w.in-Few.keys.items ≡ c.args.self.now = sym (ap keys_in w.in-Few.is) ∙ c.self.view_is ∙ c.make_room.ensures.same in
           rw w.result-is (subst (λ ks. IfOk w.insert_among.result (λ r. r.1 ≡ not (list_any (is_key text) ks))) same w.insert_among.ensures.added)
       | in-Many+in_ok-place-in-Many w ↦
-          let same : w.in-Many.set.keys ≡ c.args.self.now = sym (ap keys_in w.in-Many.is) ∙ c.self.view_is ∙ c.make_room.ensures.same in
+          let same : w.deref_mut.result.now.keys ≡ c.args.self.now = ap (λ s. s.keys) w.deref_mut.ensures.value ∙ sym (ap keys_in w.in-Many.is) ∙ c.self.view_is ∙ c.make_room.ensures.same in
           rw w.result-is (w.in_ok-place-in-Many.ensures.added ∙ ap (λ ks. not (list_any (is_key text) ks)) same)
     ]

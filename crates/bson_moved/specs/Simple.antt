@@ -1,0 +1,38 @@
+-- The shapes at which values are moved out of a tree in memory. Source: serde's data model.
+use Rattle.std.specs.Prelude.{Bool, true, false, ◌&&◌, not}
+use Rattle.bson_kinds.specs.Text.{Utf8, has_zero, begins_with_dollar}
+use Rattle.bson_shape.specs.Form.{Form, leaf, optional, sequence, structure, dropped, Fields, no_fields, field}
+use Rattle.bson_shape.specs.declared.leaf.Leaf.{Leaf}
+use Rattle.bson_shape.specs.declared.leaf.Leaf.TheVariants.{Bool as BoolLeaf, I8, I16, I32, I64, U8, U16, U32, U64, Double, String}
+
+-- the name does not begin with `$` and holds no zero character
+abbrev pub is_free : Utf8 → Bool
+is_free name = not (has_zero name) && not (begins_with_dollar name)
+
+-- a leaf of numbers, of truths, or of texts that are owned
+abbrev pub is_simple_leaf : Leaf → Bool
+is_simple_leaf BoolLeaf = true
+is_simple_leaf I8 = true
+is_simple_leaf I16 = true
+is_simple_leaf I32 = true
+is_simple_leaf I64 = true
+is_simple_leaf U8 = true
+is_simple_leaf U16 = true
+is_simple_leaf U32 = true
+is_simple_leaf U64 = true
+is_simple_leaf Double = true
+is_simple_leaf String = true
+is_simple_leaf l = false
+
+abbrev mutual
+  -- leaves of numbers, truths and texts, options, sequences, and structs of free names that drop unknown fields
+  pub is_simple : Form → Bool
+  is_simple (leaf l) = is_simple_leaf l
+  is_simple (optional s) = is_simple s
+  is_simple (sequence s) = is_simple s
+  is_simple (structure dropped name fs) = is_free name && are_simple fs
+  is_simple s = false
+
+  pub are_simple : Fields → Bool
+  are_simple no_fields = true
+  are_simple (field name s fs) = is_free name && is_simple s && are_simple fs
