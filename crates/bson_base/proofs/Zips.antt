@@ -6,8 +6,9 @@ use Rattle.std.proofs.lemmas.List.Quantifiers.{position-Some}
 use Rattle.std.specs.List.{list_any, position, position_or_len, IsDistinct, AllByRecursion, AllZip}
 use Rattle.std.specs.String.{string_eq}
 use Rattle.std.proofs.lemmas.List.{take_more}
-use Rattle.std.proofs.lemmas.Option.{slice_get-get_or, slice_get_past}
+use Rattle.std.proofs.lemmas.Option.{slice_get-get_or, slice_get_past, get_or_from_slice_get}
 use Rattle.std.proofs.lemmas.Grind.{common_steps}
+use Rattle.std.proofs.lemmas.Slice.Eq.{bytes_eq-Decides}
 use Rattle.bson_kinds.specs.Text.{Utf8}
 use Rattle.bson_key_set.specs.Keys.{Key, is_key}
 use Rattle.bson_base.specs.Tree.{Tree, Trees, no_trees, tree, no_pairs, pair}
@@ -189,3 +190,9 @@ pub none_left : (ks : List Key) (vs : List Bson) → length vs ≡ 0 → zipped 
 none_left [] vs h = refl
 none_left (k ∷ ks) [] h = refl
 none_left (k ∷ ks) (v ∷ vs) h = absurd (omega arith)
+
+-- the key at its first place is the text that is looked for
+pub key_position : (key : Utf8) (ks : List Key) (k : Key) (i : ℕ) → Some i ≡ position (is_key key) ks → slice_get ks i ≡ Some k → string_bytes k ≡ key
+key_position key ks k i e at =
+    let first = (position-Some (is_key key) ks i k (sym e)).1 in
+    sym ((bytes_eq-Decides key (string_bytes k)).0 (ap (is_key key) (sym (get_or_from_slice_get ks i k k at)) ∙ first))

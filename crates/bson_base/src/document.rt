@@ -1,4 +1,4 @@
-ghost use Rattle.std.specs.Prelude.{◌≡◌, ◌<◌, ◌==◌, length, map, is_some, slice_get, slice_set, string_bytes, Some, IfOk, OnOk, OnErr};
+ghost use Rattle.std.specs.Prelude.{◌≡◌, ◌<◌, ◌==◌, length, map, is_some, slice_get, slice_set, string_bytes, Some, IfOk, IfSome, OnOk, OnErr};
 ghost use Rattle.std.specs.Option.{option_map};
 ghost use Rattle.bson_base.specs.Tree.{no_pairs};
 ghost use Rattle.bson_base.specs.Pairs.{lookup, put, without, count, keys_of, AreDistinct};
@@ -109,10 +109,22 @@ impl Document {
         ensures value { option_map tree_of result ≡ lookup key.now (pairs_of self.old) }
         ensures rest { pairs_of self.new ≡ without key.now (pairs_of self.old) }
     {
+        let (_, value) = self.remove_entry(key)?;
+        Some(value)
+    }
+
+    /// Removes a key and returns it with its value; `None` where the key is not there, and the document is then unchanged.
+    ///
+    /// The pairs after it move down by one place. It takes no memory.
+    pub fn remove_entry(&mut self, key: &str) -> Option<(String, Bson)>
+        ensures key { IfSome result (λ p. string_bytes p.0 ≡ key.now) }
+        ensures value { option_map (λ p. tree_of p.1) result ≡ lookup key.now (pairs_of self.old) }
+        ensures rest { pairs_of self.new ≡ without key.now (pairs_of self.old) }
+    {
         self.even_out();
         let index = self.keys.get_index_of(key)?;
-        self.keys.remove(index);
-        Some(self.values.remove(index))
+        let key = self.keys.remove(index);
+        Some((key, self.values.remove(index)))
     }
 
     /// The pairs in order, borrowed. It takes no memory.

@@ -1,5 +1,5 @@
 //! The keys of a document.
-ghost use Rattle.std.specs.Prelude.{◌≡◌, [], ◌∷◌, ◌++◌, ◌<◌, length, take, remove, not, if◌then◌else◌, string_bytes, IfOk, IfSome, OnErr, OnOk};
+ghost use Rattle.std.specs.Prelude.{◌≡◌, [], ◌∷◌, ◌++◌, ◌<◌, length, take, remove, slice_get, Some, not, if◌then◌else◌, string_bytes, IfOk, IfSome, OnErr, OnOk};
 ghost use Rattle.std.specs.List.{list_any, position, position_or_len, AllZip, IsDistinct};
 ghost use Rattle.std.specs.String.{string_eq};
 ghost use Rattle.bson_key_set.specs.Keys.{is_key, with_key, IsSameKey};
@@ -108,18 +108,18 @@ impl KeySet {
         }
     }
 
-    /// Removes the key at an index. The keys after it move down by one place.
-    pub fn remove(&mut self, index: usize)
+    /// Removes the key at an index, and returns it. The keys after it move down by one place.
+    pub fn remove(&mut self, index: usize) -> String
         requires within { index < length self.old }
+        ensures key { slice_get self.old index ≡ Some result }
         ensures keys { self.new ≡ remove self.old index }
     {
         match &mut self.stored {
-            Stored::Few(_, keys) => {
-                let _ = keys.remove(index);
-            }
-            Stored::Many(set) => {
-                let _ = set.shift_remove_index(index);
-            }
+            Stored::Few(_, keys) => keys.remove(index),
+            Stored::Many(set) => match set.shift_remove_index(index) {
+                Some(key) => key,
+                None => unreachable!(),
+            },
         }
     }
 

@@ -175,10 +175,20 @@ fn take_field<'x>(
     ensures rest { IfOk result (λ f. pairs_of document.new ≡ without (string_bytes field.now.name) (pairs_of document.old)) }
     ensures owned { IfOk result (λ f. NoneBorrowed (field_borrowed f)) }
 {
-    let name = Text::Owned(String::from_str(alloc, field.name.as_str())?);
-    let value = match document.remove(field.name.as_str()) {
-        Some(value) => take(alloc, &field.shape, value)?,
-        None => Datum::None,
-    };
-    Ok(Field { name, value })
+    match document.remove_entry(field.name.as_str()) {
+        Some((name, value)) => {
+            let value = take(alloc, &field.shape, value)?;
+            Ok(Field {
+                name: Text::Owned(name),
+                value,
+            })
+        }
+        None => {
+            let name = Text::Owned(String::from_str(alloc, field.name.as_str())?);
+            Ok(Field {
+                name,
+                value: Datum::None,
+            })
+        }
+    }
 }

@@ -1,1 +1,0 @@
-use Rattle.bson_base.proofs.document.Document.even_out.Goals as goal

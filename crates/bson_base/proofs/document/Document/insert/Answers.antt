@@ -1,8 +1,7 @@
-use Rattle.std.proofs.Common.{◌≡◌, ◌<◌, true, false, ap, ◌∙◌, sym, subst, length, string_bytes, refl, arith}
+use Rattle.std.proofs.Common.{◌≡◌, ◌<◌, true, false, ap, ◌∙◌, sym, subst, length, string_bytes, arith}
 use Rattle.std.specs.Prelude.{slice_get}
 use Rattle.std.specs.List.{list_any}
 use Rattle.std.specs.Option.{option_map}
-use Rattle.std.proofs.lemmas.Option.{slice_get_read}
 use Rattle.bson_base.specs.BsonView.{tree_of, trees_of}
 use Rattle.bson_base.specs.Pairs.{lookup, put}
 use Rattle.bson_key_set.specs.Keys.{is_key}
