@@ -1,33 +1,23 @@
 // Files are migrated, and their refused documents listed.
-use crate::printing::{FILE, print_report};
+use crate::reports::{FILE, add_report};
 use bson_buffers::{Refusal, migrate_and_list, migrate_into};
+use bson_lines::Lines;
 use std::alloc::Global;
-use std::io::Print;
-use std::test::Fail;
 
 /// Migrates a file.
-fn print_file(
-    rt: &impl Print,
-    alloc: Global,
-    what: &str,
-    file: &[u8],
-    output: &mut [u8],
-    text: &mut [u8],
-) -> Result<(), Fail> {
+fn add_file(lines: &mut Lines, alloc: Global, file: &[u8], output: &mut [u8], text: &mut [u8]) {
     let report = migrate_into(alloc, b"{n:u32}", file, output, text);
-    print_report(rt, alloc, what, report, output, text)
+    add_report(lines, "file", &report, output, text);
 }
 
 /// A file with a refused document, where the buffer is too small, where it is larger, and where the text does not fit; one without; and a file that is
 /// broken.
-pub fn print_migrated(rt: &impl Print, alloc: Global) -> Result<(), Fail> {
-    print_file(rt, alloc, "file", &FILE, &mut [255; 15], &mut [b'.'; 64])?;
-    print_file(rt, alloc, "file", &FILE, &mut [255; 18], &mut [b'.'; 64])?;
-    print_file(rt, alloc, "file", &FILE, &mut [255; 18], &mut [b'.'; 10])?;
-    let one = &FILE[..12];
-    print_file(rt, alloc, "one", one, &mut [255; 18], &mut [b'.'; 64])?;
-    let broken = &FILE[..13];
-    print_file(rt, alloc, "broken", broken, &mut [255; 18], &mut [b'.'; 64])
+pub fn add_migrated(lines: &mut Lines, alloc: Global) {
+    add_file(lines, alloc, &FILE, &mut [255; 15], &mut [b'.'; 64]);
+    add_file(lines, alloc, &FILE, &mut [255; 18], &mut [b'.'; 64]);
+    add_file(lines, alloc, &FILE, &mut [255; 18], &mut [b'.'; 10]);
+    add_file(lines, alloc, &FILE[..12], &mut [255; 18], &mut [b'.'; 64]);
+    add_file(lines, alloc, &FILE[..13], &mut [255; 18], &mut [b'.'; 64]);
 }
 
 /// A record that no call wrote.
@@ -41,28 +31,25 @@ const UNWRITTEN: Refusal = Refusal {
 };
 
 /// Migrates the file and lists its refused documents.
-fn print_list(
-    rt: &impl Print,
+fn add_list(
+    lines: &mut Lines,
     alloc: Global,
     output: &mut [u8],
     text: &mut [u8],
     refusals: &mut [Refusal],
-) -> Result<(), Fail> {
+) {
     let listed = migrate_and_list(alloc, b"{n:u32}", &FILE, output, text, refusals);
-    print_report(rt, alloc, "list", listed.report, output, text)?;
-    println!(rt;
-        "    {} of {}",
-        listed.refusals_written, listed.refusals_needed
-    )?;
+    add_report(lines, "list", &listed.report, output, text);
+    lines.debug("written", &listed.refusals_written);
+    lines.debug("needed", &listed.refusals_needed);
     for refusal in refusals.iter() {
-        println!(rt; "    {refusal:?}")?;
+        lines.debug("refusal", refusal);
     }
-    Ok(())
 }
 
 /// The file with its refused document listed, in an array with room for it and for another, and in an array without room.
-pub fn print_listed(rt: &impl Print, alloc: Global) -> Result<(), Fail> {
+pub fn add_listed(lines: &mut Lines, alloc: Global) {
     let mut refusals = [UNWRITTEN, UNWRITTEN];
-    print_list(rt, alloc, &mut [255; 18], &mut [b'.'; 64], &mut refusals)?;
-    print_list(rt, alloc, &mut [], &mut [b'.'; 64], &mut [])
+    add_list(lines, alloc, &mut [255; 18], &mut [b'.'; 64], &mut refusals);
+    add_list(lines, alloc, &mut [], &mut [b'.'; 64], &mut []);
 }

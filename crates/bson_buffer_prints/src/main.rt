@@ -4,16 +4,24 @@
 
 mod documents;
 mod files;
-mod printing;
+mod reports;
 mod shapes;
 
-use std::test::Fail;
+use bson_lines::Lines;
+use std::alloc::Global;
+use std::io;
 
-fn main(rt: HostRuntime) -> Result<(), Fail> {
-    let alloc = rt.alloc();
-    shapes::print_judged(&rt, alloc)?;
-    documents::print_recast(&rt, alloc)?;
-    documents::print_found(&rt)?;
-    files::print_migrated(&rt, alloc)?;
-    files::print_listed(&rt, alloc)
+/// Adds all lines.
+fn add_all(lines: &mut Lines, alloc: Global) {
+    shapes::add_judged(lines, alloc);
+    documents::add_recast(lines, alloc);
+    documents::add_found(lines);
+    files::add_migrated(lines, alloc);
+    files::add_listed(lines, alloc);
+}
+
+fn main(rt: HostRuntime) -> io::Result<()> {
+    let mut lines = Lines::new(rt.alloc());
+    add_all(&mut lines, rt.alloc());
+    lines.print(&rt)
 }

@@ -1,180 +1,99 @@
 // Runs of the program whose ends fail.
 use bson_io::{MemorySink, MemorySource};
-use bson_recast_run::{Status, run};
+use bson_lines::Lines;
+use bson_recast_run::run;
 use std::alloc::{AllocError, Global};
-use std::io::Print;
-use std::test::Fail;
 
 /// The document with the field `i`, an Int32 1.
 const DOCUMENT: &[u8; 12] = b"\x0c\0\0\0\x10i\0\x01\0\0\0\0";
 
-/// A source of the document, of which these calls fail, and each gives at most so many bytes.
-fn source(alloc: Global, failing: &[u64], limits: &[usize]) -> Result<MemorySource, AllocError> {
+/// A source of the document, of which this call fails, counted from 1, and each gives at most one byte.
+fn source(alloc: Global, failing: u64) -> Result<MemorySource, AllocError> {
     let bytes = DOCUMENT.to_vec(alloc)?;
-    let failing = failing.to_vec(alloc)?;
-    let limits = limits.to_vec(alloc)?;
+    let failing = [failing].to_vec(alloc)?;
+    let limits = [1; 13].to_vec(alloc)?;
     Ok(MemorySource::new(bytes, failing, limits))
 }
 
-/// A sink with ample room, of which these calls fail, and each takes at most so many bytes.
-fn sink(alloc: Global, failing: &[u64], limits: &[usize]) -> Result<MemorySink, AllocError> {
-    let failing = failing.to_vec(alloc)?;
-    let limits = limits.to_vec(alloc)?;
+/// A sink with ample room, of which this call fails, counted from 1, and each takes at most one byte.
+fn sink(alloc: Global, failing: u64) -> Result<MemorySink, AllocError> {
+    let failing = [failing].to_vec(alloc)?;
+    let limits = [1; 12].to_vec(alloc)?;
     MemorySink::new(alloc, 99, failing, limits)
 }
 
-/// Runs the program at this shape.
-fn run_at(
+/// The ends of a run.
+#[derive(Drop)]
+struct Ends {
+    input: MemorySource,
+    out: MemorySink,
+    err: MemorySink,
+}
+
+/// Ends of which these calls fail; 0 is no call.
+fn failing_ends(alloc: Global, read: u64, written: u64, told: u64) -> Result<Ends, AllocError> {
+    let input = source(alloc, read)?;
+    let out = sink(alloc, written)?;
+    let err = sink(alloc, told)?;
+    Ok(Ends { input, out, err })
+}
+
+/// Adds how a run over ends ended, what it wrote and what it told.
+fn add_over(lines: &mut Lines, alloc: Global, words: &Vec<String>, ends: &mut Ends) {
+    let status = run(alloc, words, &mut ends.input, &mut ends.out, &mut ends.err);
+    lines.debug("status", &status);
+    lines.hex("written", ends.out.written());
+    lines.hex("told", ends.err.written());
+}
+
+/// Adds what came of a run over ends of which these calls fail.
+fn add_run(
+    lines: &mut Lines,
     alloc: Global,
-    shape: &str,
-    input: &mut MemorySource,
-    out: &mut MemorySink,
-    err: &mut MemorySink,
-) -> Result<Status, AllocError> {
-    let words = vec![in alloc; String::from_str(alloc, shape)?]?;
-    Ok(run(alloc, &words, input, out, err))
-}
-
-/// Prints how a run ended, and in hexadecimal digits what it wrote and what it told.
-fn print_texts(
-    rt: &impl Print,
-    what: &str,
-    status: Status,
-    written: &str,
-    told: &str,
-) -> Result<(), Fail> {
-    println!(rt; "{what}: {status:?} [{written}] [{told}]")?;
-    Ok(())
-}
-
-/// Prints how a run ended, what it wrote and what it told.
-fn print_ends(
-    rt: &impl Print,
-    alloc: Global,
-    what: &str,
-    status: Status,
-    out: &MemorySink,
-    err: &MemorySink,
-) -> Result<(), Fail> {
-    let written = hex::encode(alloc, out.written())?;
-    let told = hex::encode(alloc, err.written())?;
-    print_texts(rt, what, status, written.as_str(), told.as_str())
-}
-
-/// What a run is called, its shape, and the numbers of the calls at which its input, its output and its error output fail, counted from 1; 0 is no call.
-#[derive(Clone, Copy)]
-struct Case<'a> {
-    what: &'a str,
-    shape: &'a str,
+    words: &Vec<String>,
     read: u64,
     written: u64,
     told: u64,
+) {
+    match failing_ends(alloc, read, written, told) {
+        Ok(mut ends) => add_over(lines, alloc, words, &mut ends),
+        Err(error) => lines.text("no ends", &error),
+    }
 }
 
-/// Runs the program over these ends, and prints what came of it.
-fn print_over(
-    rt: &impl Print,
-    alloc: Global,
-    case: Case<'_>,
-    input: &mut MemorySource,
-    out: &mut MemorySink,
-    err: &mut MemorySink,
-) -> Result<(), Fail> {
-    let status = run_at(alloc, case.shape, input, out, err)?;
-    print_ends(rt, alloc, case.what, status, out, err)
-}
-
-/// Runs the program over this input and this output.
-fn print_with(
-    rt: &impl Print,
-    alloc: Global,
-    case: Case<'_>,
-    input: &mut MemorySource,
-    out: &mut MemorySink,
-) -> Result<(), Fail> {
-    let mut err = sink(alloc, &[case.told], &[])?;
-    print_over(rt, alloc, case, input, out, &mut err)
-}
-
-/// Runs the program over this input.
-fn print_from(
-    rt: &impl Print,
-    alloc: Global,
-    case: Case<'_>,
-    input: &mut MemorySource,
-) -> Result<(), Fail> {
-    let mut out = sink(alloc, &[case.written], &[1; 12])?;
-    print_with(rt, alloc, case, input, &mut out)
-}
-
-/// Runs the program, and prints what came of it. Each call of its input and of its output moves one byte at most.
-fn print_run(rt: &impl Print, alloc: Global, case: Case<'_>) -> Result<(), Fail> {
-    let mut input = source(alloc, &[case.read], &[1; 13])?;
-    print_from(rt, alloc, case, &mut input)
-}
-
-/// The shape at which the document is recast.
-const SHAPE: &str = "{i:i32}";
-
-/// An input that fails at a call.
-fn print_input_fault(rt: &impl Print, alloc: Global, call: u64) -> Result<(), Fail> {
-    let what = format!(in alloc; "read {call}")?;
-    print_run(
-        rt,
-        alloc,
-        Case {
-            what: what.as_str(),
-            shape: SHAPE,
-            read: call,
-            written: 0,
-            told: 0,
-        },
-    )
-}
-
-/// Inputs that fail at each of their calls.
-pub fn print_input_faults(rt: &impl Print, alloc: Global) -> Result<(), Fail> {
+/// Inputs that fail at each of their calls, and outputs that do.
+fn add_runs(lines: &mut Lines, alloc: Global, words: &Vec<String>) {
     for call in 1..14 {
-        print_input_fault(rt, alloc, call)?;
+        add_run(lines, alloc, words, call, 0, 0);
     }
-    Ok(())
-}
-
-/// An output that fails at a call.
-fn print_output_fault(rt: &impl Print, alloc: Global, call: u64) -> Result<(), Fail> {
-    let what = format!(in alloc; "write {call}")?;
-    print_run(
-        rt,
-        alloc,
-        Case {
-            what: what.as_str(),
-            shape: SHAPE,
-            read: 0,
-            written: call,
-            told: 0,
-        },
-    )
-}
-
-/// Outputs that fail at each of their calls.
-pub fn print_output_faults(rt: &impl Print, alloc: Global) -> Result<(), Fail> {
     for call in 1..13 {
-        print_output_fault(rt, alloc, call)?;
+        add_run(lines, alloc, words, 0, call, 0);
     }
-    Ok(())
+}
+
+/// A list of one word.
+fn one_word(alloc: Global, word: &str) -> Result<Vec<String>, AllocError> {
+    Ok(vec![in alloc; String::from_str(alloc, word)?]?)
+}
+
+/// Inputs and outputs that fail.
+fn add_input_and_output(lines: &mut Lines, alloc: Global) {
+    match one_word(alloc, "{i:i32}") {
+        Ok(words) => add_runs(lines, alloc, &words),
+        Err(error) => lines.text("no words", &error),
+    }
 }
 
 /// An error output that fails.
-pub fn print_error_fault(rt: &impl Print, alloc: Global) -> Result<(), Fail> {
-    print_run(
-        rt,
-        alloc,
-        Case {
-            what: "error output",
-            shape: "{i:i33}",
-            read: 0,
-            written: 0,
-            told: 1,
-        },
-    )
+fn add_error_output(lines: &mut Lines, alloc: Global) {
+    match one_word(alloc, "{i:i33}") {
+        Ok(words) => add_run(lines, alloc, &words, 0, 0, 1),
+        Err(error) => lines.text("no words", &error),
+    }
+}
+
+/// Runs whose ends fail.
+pub fn add_faults(lines: &mut Lines, alloc: Global) {
+    add_input_and_output(lines, alloc);
+    add_error_output(lines, alloc);
 }

@@ -1,72 +1,93 @@
-// What is read where there is memory: a document at a shape.
-use crate::printing::{print_bytes, print_debug};
-use bson_de_raw::{from_slice_at, from_slice_utf8_lossy_at};
-use bson_recast_run::{recast, recast_by_tree, recast_utf8_lossy};
+// What is read of a document at a shape, its copies, and why it is refused: as `Debug` prints them.
+use bson_datum::Datum;
+use bson_de_raw::from_slice_at;
+use bson_lines::Lines;
+use bson_recast_run::{RecastError, recast};
 use bson_shape::Shape;
-use std::alloc::Global;
-use std::io::Print;
-use std::test::Fail;
+use std::alloc::{AllocError, Global};
 
-/// Prints what a document is read as at a shape.
-fn print_read(rt: &impl Print, alloc: Global, shape: &Shape, bytes: &[u8]) -> Result<(), Fail> {
-    print_debug(rt, &from_slice_at(alloc, shape, bytes)?)
+/// The shape of a value of each form that holds others or has memory of its own.
+const SHAPE: &str =
+    "S{o:?string,n:N=str,m:[str:bytes],q:[bytebuf],t:(bool,str),p:P(str),e:[<A,B=str,C(str),D{f:str}>],u:U!,d:rawdoc,r:rawarray}";
+
+/// A document with such a value.
+const FORMS: &[u8] = b"\xc6\0\0\0\
+    \x02o\0\x02\0\0\0a\0\
+    \x02n\0\x02\0\0\0b\0\
+    \x03m\0\x0e\0\0\0\x05k\0\x01\0\0\0\0\x01\0\
+    \x04q\0\x0e\0\0\0\x050\0\x01\0\0\0\0\x02\0\
+    \x04t\0\x12\0\0\0\x080\0\x01\x021\0\x02\0\0\0c\0\0\
+    \x04p\0\x0e\0\0\0\x020\0\x02\0\0\0d\0\0\
+    \x04e\0Q\0\0\0\x020\0\x02\0\0\0A\0\x031\0\x0e\0\0\0\x02B\0\x02\0\0\0x\0\0\x032\0\x16\0\0\0\x04C\0\x0e\0\0\0\x020\0\x02\0\0\0y\0\0\0\x033\0\x16\0\0\0\x03D\0\x0e\0\0\0\x02f\0\x02\0\0\0z\0\0\0\0\
+    \x0au\0\
+    \x03d\0\x05\0\0\0\0\
+    \x04r\0\x05\0\0\0\0\
+    \0";
+
+/// An owned copy of a datum.
+fn owned<'x>(alloc: Global, datum: &Datum<'_>) -> Result<Datum<'x>, AllocError> {
+    datum.try_clone(alloc)?.into_owned(alloc)
 }
 
-/// Prints what a document is recast to at a shape.
-fn print_recast(
-    rt: &impl Print,
-    alloc: Global,
-    what: &str,
-    shape: &Shape,
-    bytes: &[u8],
-) -> Result<(), Fail> {
-    print_bytes(rt, alloc, what, &recast(alloc, shape, bytes)?)
+/// Adds a datum, its copy and its owned copy.
+fn add_copies(lines: &mut Lines, alloc: Global, datum: &Datum<'_>) {
+    lines.debug("read", datum);
+    lines.debug("copy", &datum.try_clone(alloc));
+    lines.debug("owned", &owned(alloc, datum));
 }
 
-/// The document with the field `i`, an Int32 1.
-const DOCUMENT: &[u8] = b"\x0c\0\0\0\x10i\0\x01\0\0\0\0";
-
-/// The document read at a shape, and recast.
-pub fn print_document(rt: &impl Print, alloc: Global) -> Result<(), Fail> {
-    let shape = Shape::parse(alloc, "S{i:i32}")?;
-    print_read(rt, alloc, &shape, DOCUMENT)?;
-    print_recast(rt, alloc, "recast", &shape, DOCUMENT)
+/// Adds what a document is read as at a shape, and its copies.
+fn add_read(lines: &mut Lines, alloc: Global, shape: &Shape, bytes: &[u8]) {
+    match from_slice_at(alloc, shape, bytes) {
+        Ok(datum) => add_copies(lines, alloc, &datum),
+        Err(error) => lines.text("not read", &error),
+    }
 }
 
-/// The same document, recast by way of trees.
-pub fn print_by_tree(rt: &impl Print, alloc: Global) -> Result<(), Fail> {
-    let shape = Shape::parse(alloc, "S{i:i32}")?;
-    let made = recast_by_tree(alloc, &shape, DOCUMENT)?;
-    print_bytes(rt, alloc, "recast_by_tree", &made)
+/// A value in memory of its own.
+fn boxed<'x>(alloc: Global, value: Datum<'x>) -> Result<Box<Datum<'x>>, AllocError> {
+    Ok(Box::new(alloc, value)?)
 }
 
-/// The document with the field `a`, an array of 1 and 2 whose keys are `5` and `7`.
-const ARRAY: &[u8] = b"\x1b\0\0\0\x04a\0\x13\0\0\0\x105\0\x01\0\0\0\x107\0\x02\0\0\0\0\0";
-
-/// The document with an array that stays in its bytes, read and recast: its keys stay as they are.
-pub fn print_raw_array(rt: &impl Print, alloc: Global) -> Result<(), Fail> {
-    let shape = Shape::parse(alloc, "S{a:rawarray}")?;
-    print_read(rt, alloc, &shape, ARRAY)?;
-    print_recast(rt, alloc, "rawarray", &shape, ARRAY)
+/// A value with two forms.
+fn mode<'x>(alloc: Global) -> Result<Datum<'x>, AllocError> {
+    let readable = boxed(alloc, Datum::Bool(true))?;
+    let compact = boxed(alloc, Datum::Unit)?;
+    Ok(Datum::Mode { readable, compact })
 }
 
-/// The document with the field `s`, a text of one byte that is not UTF-8.
-const ILL_FORMED: &[u8] = b"\x0e\0\0\0\x02s\0\x02\0\0\0\xff\0\0";
-
-/// Prints what the document is read as, with its text mended.
-fn print_read_mended(rt: &impl Print, alloc: Global, shape: &Shape) -> Result<(), Fail> {
-    print_debug(rt, &from_slice_utf8_lossy_at(alloc, shape, ILL_FORMED)?)
+/// Adds a value with two forms, and its copies.
+fn add_mode(lines: &mut Lines, alloc: Global) {
+    match mode(alloc) {
+        Ok(datum) => add_copies(lines, alloc, &datum),
+        Err(error) => lines.text("no value", &error),
+    }
 }
 
-/// Prints what the document is recast to, with its text mended.
-fn print_recast_mended(rt: &impl Print, alloc: Global, shape: &Shape) -> Result<(), Fail> {
-    let written = recast_utf8_lossy(alloc, shape, ILL_FORMED)?;
-    print_bytes(rt, alloc, "recast_utf8_lossy", &written)
+/// Why a document without elements is refused at a shape, if it is.
+fn refusal(alloc: Global, shape: &Shape) -> Option<RecastError> {
+    recast(alloc, shape, b"\x05\0\0\0\0").err()
 }
 
-/// The same of a document whose text is mended.
-pub fn print_mended(rt: &impl Print, alloc: Global) -> Result<(), Fail> {
-    let shape = Shape::parse(alloc, "S{s:string}")?;
-    print_read_mended(rt, alloc, &shape)?;
-    print_recast_mended(rt, alloc, &shape)
+/// Adds what is read at the shape of each form.
+fn add_forms(lines: &mut Lines, alloc: Global) {
+    match Shape::parse(alloc, SHAPE) {
+        Ok(shape) => add_read(lines, alloc, &shape, FORMS),
+        Err(error) => lines.text("no shape", &error),
+    }
+}
+
+/// Adds the refusal of a document at a sequence.
+fn add_refusal(lines: &mut Lines, alloc: Global) {
+    match Shape::parse(alloc, "[bool]") {
+        Ok(shape) => lines.debug("refusal", &refusal(alloc, &shape)),
+        Err(error) => lines.text("no shape", &error),
+    }
+}
+
+/// A document that is read, a value with two forms, and a document that is refused.
+pub fn add_documents(lines: &mut Lines, alloc: Global) {
+    add_forms(lines, alloc);
+    add_mode(lines, alloc);
+    add_refusal(lines, alloc);
 }

@@ -1,143 +1,81 @@
 // What the writer refuses where there is memory.
-use crate::printing::print_text;
-use crate::writing::one_field;
 use bson_base::MAX_BINARY;
-use bson_datum::{Datum, Entry, Field, RawArr};
-use bson_rawdoc::{RawArrayBuf, RawDocumentBuf};
+use bson_datum::Datum;
+use bson_de_raw::from_slice_at;
+use bson_lines::Lines;
 use bson_ser_stream::to_vec_at;
-use bson_values::{ByteStr, Text};
+use bson_shape::Shape;
 use std::alloc::{AllocError, Global};
-use std::io::Print;
-use std::test::Fail;
 
-/// The text of a UUID.
-const UUID: &str = "67e55044-10b1-426f-9247-bb680e5fe0c8";
-
-/// A field with this value.
-fn field<'a>(name: &'a str, value: Datum<'a>) -> Field<'a> {
-    let name = Text::Borrowed(name);
-    Field { name, value }
+/// Adds the bytes that a datum is written as, or why it is refused.
+pub fn add_written(lines: &mut Lines, alloc: Global, datum: &Datum<'_>) {
+    lines.bytes("to_vec_at", &to_vec_at(alloc, datum));
 }
 
-/// A map whose key is a byte string.
-fn map_of_bytes<'a>(alloc: Global) -> Result<Datum<'a>, AllocError> {
-    let key = Datum::Bytes(ByteStr::Borrowed(b"a"));
-    let value = Datum::Unit;
-    Ok(Datum::Map(vec![in alloc; Entry { key, value }]?))
+/// The front of a document with a binary of one byte too many under `x`.
+const LONG: &[u8] = b"\x0e\0\0\x01\x05x\0\x01\0\0\x01\0";
+
+/// The same of a binary of the old subtype 2, in which four bytes less may be.
+const LONG_OLD: &[u8] = b"\x0e\0\0\x01\x05x\0\x01\0\0\x01\x02\xfd\xff\xff\0";
+
+/// Bytes with zeros behind them, to this length.
+fn padded(alloc: Global, front: &[u8], len: usize) -> Result<Vec<u8>, AllocError> {
+    let mut bytes = front.to_vec(alloc)?;
+    bytes.resize(len, 0)?;
+    Ok(bytes)
 }
 
-/// The digits of an ObjectId.
-fn digits<'a>() -> Datum<'a> {
-    Datum::Str(Text::Borrowed("507f1f77bcf86cd799439011"))
-}
-
-/// A struct with these fields.
-fn structure<'a>(name: &'a str, fields: Vec<Field<'a>>) -> Datum<'a> {
-    let name = Text::Borrowed(name);
-    Datum::Struct { name, fields }
-}
-
-/// Puts a field with the digits of an ObjectId behind others.
-fn push_digits<'a>(fields: &mut Vec<Field<'a>>) -> Result<(), AllocError> {
-    fields.push(field("$oid", digits()))?;
-    Ok(())
-}
-
-/// A struct of a reserved name with its field twice.
-fn repeated_field<'a>(alloc: Global) -> Result<Datum<'a>, AllocError> {
-    let mut fields = Vec::new(alloc);
-    push_digits(&mut fields)?;
-    push_digits(&mut fields)?;
-    Ok(structure("$oid", fields))
-}
-
-/// The newtype of a UUID around the text of one, which it takes in the readable form alone.
-fn compact_uuid<'a>(alloc: Global) -> Result<Datum<'a>, AllocError> {
-    let name = Text::Borrowed("$__bson_private_uuid");
-    let value = Box::new(alloc, Datum::Str(Text::Borrowed(UUID)))?;
-    Ok(Datum::NewtypeStruct { name, value })
-}
-
-/// An array in an array, and so on: so many arrays.
-fn nested<'a>(alloc: Global, arrays: u32) -> Result<Datum<'a>, AllocError> {
-    let mut value = Datum::Unit;
-    for _ in 0..arrays {
-        value = Datum::Seq(vec![in alloc; value]?);
-    }
-    Ok(value)
-}
-
-/// The parts of a binary of the old subtype 2 with these bytes.
-fn parts<'a>(alloc: Global, bytes: &'a [u8]) -> Result<Datum<'a>, AllocError> {
-    let mut fields = Vec::new(alloc);
-    fields.push(field("bytes", Datum::Bytes(ByteStr::Borrowed(bytes))))?;
-    fields.push(field("subType", Datum::U8(2)))?;
-    Ok(structure("", fields))
-}
-
-/// A binary of the old subtype 2 with these bytes.
-fn old_binary<'a>(alloc: Global, bytes: &'a [u8]) -> Result<Datum<'a>, AllocError> {
-    let parts = parts(alloc, bytes)?;
-    let fields = vec![in alloc; field("$binary", parts)]?;
-    Ok(structure("$binary", fields))
-}
-
-/// Prints why a value is refused where a document is to be written.
-fn print_refused(rt: &impl Print, alloc: Global, value: &Datum<'_>) -> Result<(), Fail> {
-    match to_vec_at(alloc, value) {
-        Ok(_) => print_text(rt, &"written"),
-        Err(error) => print_text(rt, &error),
+/// Adds what a document that is read at a shape is written as, or why it is refused.
+fn add_read(lines: &mut Lines, alloc: Global, shape: &Shape, bytes: &[u8]) {
+    match from_slice_at(alloc, shape, bytes) {
+        Ok(datum) => add_written(lines, alloc, &datum),
+        Err(error) => lines.text("not read", &error),
     }
 }
 
-/// Writes a document with the value under `x`, and prints why it is refused.
-fn print_refusal(rt: &impl Print, alloc: Global, value: Datum<'_>) -> Result<(), Fail> {
-    print_refused(rt, alloc, &one_field(alloc, "x", value)?)
+/// Adds the refusal of the binary of a document with this front and this length.
+fn add_long(lines: &mut Lines, alloc: Global, shape: &Shape, front: &[u8], len: usize) {
+    match padded(alloc, front, len) {
+        Ok(bytes) => add_read(lines, alloc, shape, &bytes),
+        Err(error) => lines.text("no document", &error),
+    }
 }
 
-/// The refusals of a field given twice, and of a UUID in the form that the newtype does not take.
-fn print_reserved(rt: &impl Print, alloc: Global) -> Result<(), Fail> {
-    print_refusal(rt, alloc, repeated_field(alloc)?)?;
-    print_refusal(rt, alloc, compact_uuid(alloc)?)
+/// Adds the refusals of long binaries.
+fn add_binaries(lines: &mut Lines, alloc: Global) {
+    match Shape::parse(alloc, "{x:binary}") {
+        Ok(shape) => {
+            add_long(lines, alloc, &shape, LONG, MAX_BINARY + 14);
+            add_long(lines, alloc, &shape, LONG_OLD, MAX_BINARY + 14);
+        }
+        Err(error) => lines.text("no shape", &error),
+    }
 }
 
-/// The refusals of a number above the greatest Int64, of a key that is no text, of a field given twice, of a UUID in the form that the newtype
-/// does not take, and of an array at level 201.
-pub fn print_refusals(rt: &impl Print, alloc: Global) -> Result<(), Fail> {
-    print_refusal(rt, alloc, Datum::U64(9223372036854775808))?;
-    print_refusal(rt, alloc, map_of_bytes(alloc)?)?;
-    print_reserved(rt, alloc)?;
-    print_refusal(rt, alloc, nested(alloc, 200)?)
+/// The document with an array without elements under `a`.
+const ARRAY: &[u8] = b"\x0d\0\0\0\x04a\0\x05\0\0\0\0\0";
+
+/// Adds the refusal of an array in its bytes where a document is to be written.
+fn add_array(lines: &mut Lines, alloc: Global, document: &Datum<'_>) {
+    match document.field("a") {
+        Some(array) => add_written(lines, alloc, array),
+        None => lines.line("no array"),
+    }
 }
 
-/// The refusal of a binary with these bytes.
-fn print_binary(rt: &impl Print, alloc: Global, bytes: &[u8]) -> Result<(), Fail> {
-    print_refusal(rt, alloc, Datum::Bytes(ByteStr::Borrowed(bytes)))
+/// Adds the refusal of the array of a document that is read at a shape.
+fn add_raw_array(lines: &mut Lines, alloc: Global, shape: &Shape) {
+    match from_slice_at(alloc, shape, ARRAY) {
+        Ok(document) => add_array(lines, alloc, &document),
+        Err(error) => lines.text("not read", &error),
+    }
 }
 
-/// The refusal of a binary of subtype 0 that has one byte too many.
-pub fn print_long_binary(rt: &impl Print, alloc: Global) -> Result<(), Fail> {
-    print_binary(rt, alloc, &vec![in alloc; 0; MAX_BINARY + 1]?)
-}
-
-/// The refusal of a binary of the old subtype 2 with these bytes.
-fn print_old_binary(rt: &impl Print, alloc: Global, bytes: &[u8]) -> Result<(), Fail> {
-    print_refusal(rt, alloc, old_binary(alloc, bytes)?)
-}
-
-/// The refusal of a binary of the old subtype 2 that has one byte too many: four bytes less may be in it.
-pub fn print_long_old_binary(rt: &impl Print, alloc: Global) -> Result<(), Fail> {
-    print_old_binary(rt, alloc, &vec![in alloc; 0; MAX_BINARY - 3]?)
-}
-
-/// An array without elements in its bytes.
-fn raw_array<'a>(alloc: Global) -> Result<Datum<'a>, Fail> {
-    let document = RawDocumentBuf::from_bytes(vec![in alloc; 5, 0, 0, 0, 0]?)?;
-    let array = RawArrayBuf::from_document(document);
-    Ok(Datum::RawArray(RawArr::Owned(array)))
-}
-
-/// The refusal of an array in its bytes where a document is to be written.
-pub fn print_raw_array(rt: &impl Print, alloc: Global) -> Result<(), Fail> {
-    print_refused(rt, alloc, &raw_array(alloc)?)
+/// The refusals of long binaries, and of an array in its bytes.
+pub fn add_refusals(lines: &mut Lines, alloc: Global) {
+    add_binaries(lines, alloc);
+    match Shape::parse(alloc, "{a:rawarray}") {
+        Ok(shape) => add_raw_array(lines, alloc, &shape),
+        Err(error) => lines.text("no shape", &error),
+    }
 }

@@ -1,210 +1,124 @@
-// Helpers for ObjectIds and times: each writes, and reads what it wrote.
-use crate::printing::{print_read, print_written};
+// Helpers for ObjectIds and times: the shape of each, what it writes, and what it reads of that.
+use crate::values::add_shape;
 use bson_base::{DateTime, ObjectId, Timestamp};
-use bson_datum::Datum;
 use bson_helpers::{
     bson_datetime_as_rfc3339_string, hex_string_as_object_id, i64_as_bson_datetime,
     rfc3339_string_as_bson_datetime, serialize_object_id_as_hex_string, timestamp_as_u32,
     u32_as_timestamp,
 };
+use bson_lines::Lines;
 use std::alloc::Global;
-use std::io::Print;
-use std::test::Fail;
 
 /// The bytes of an ObjectId.
 const ID: [u8; 12] = [
     0x50, 0x7f, 0x1f, 0x77, 0xbc, 0xf8, 0x6c, 0xd7, 0x99, 0x43, 0x90, 0x11,
 ];
 
-/// The digits of that ObjectId.
-const DIGITS: &str = "507f1f77bcf86cd799439011";
-
-/// The text of a time.
-const DATE: &str = "2023-11-14T22:13:20Z";
-
-/// The milliseconds of that time since the start of 1970.
+/// The milliseconds of a time since the start of 1970.
 const MILLIS: i64 = 1700000000000;
 
-/// An ObjectId as a text of digits.
-fn print_id(rt: &impl Print, alloc: Global, id: &ObjectId) -> Result<(), Fail> {
-    print_written(
-        rt,
-        "object id as hex",
-        &serialize_object_id_as_hex_string(alloc, id),
-    )
+/// Adds an ObjectId as a text of digits.
+fn add_object_id(lines: &mut Lines, alloc: Global, id: &ObjectId) {
+    let digits = serialize_object_id_as_hex_string(alloc, id);
+    lines.made("serialize_object_id_as_hex_string", &digits);
 }
 
-/// A text of digits as an ObjectId.
-fn print_digits(rt: &impl Print, alloc: Global, digits: &str) -> Result<(), Fail> {
-    print_written(
-        rt,
-        "hex_string_as_object_id",
-        &hex_string_as_object_id::serialize(alloc, digits),
-    )
+/// Adds a text of digits as an ObjectId.
+fn add_digits(lines: &mut Lines, alloc: Global, digits: &str) {
+    match hex_string_as_object_id::serialize(alloc, digits) {
+        Ok(datum) => {
+            lines.debug(digits, &datum);
+            let read = hex_string_as_object_id::deserialize(alloc, datum);
+            lines.made("read", &read);
+        }
+        Err(error) => lines.text(digits, &error),
+    }
 }
 
-/// The digits of an ObjectId that a datum is.
-fn print_digits_of(rt: &impl Print, alloc: Global, datum: Datum<'_>) -> Result<(), Fail> {
-    print_read(
-        rt,
-        "hex_string_as_object_id",
-        &hex_string_as_object_id::deserialize(alloc, datum),
-    )
+/// Adds a text as a DateTime.
+fn add_text(lines: &mut Lines, alloc: Global, text: &str) {
+    match rfc3339_string_as_bson_datetime::serialize(alloc, text) {
+        Ok(datum) => {
+            lines.debug(text, &datum);
+            let read = rfc3339_string_as_bson_datetime::deserialize(alloc, datum);
+            lines.made("read", &read);
+        }
+        Err(error) => lines.text(text, &error),
+    }
 }
 
-/// An ObjectId as a text, and texts as ObjectIds.
-pub fn print_object_id(rt: &impl Print, alloc: Global) -> Result<(), Fail> {
-    print_id(rt, alloc, &ObjectId(ID))?;
-    print_digits(rt, alloc, DIGITS)?;
-    print_digits(rt, alloc, "507f")?;
-    print_digits_of(
-        rt,
-        alloc,
-        hex_string_as_object_id::serialize(alloc, DIGITS)?,
-    )
+/// Adds a DateTime as a text.
+fn add_date(lines: &mut Lines, alloc: Global, date: &DateTime) {
+    match bson_datetime_as_rfc3339_string::serialize(alloc, date) {
+        Ok(datum) => {
+            lines.debug("date", &datum);
+            let read = bson_datetime_as_rfc3339_string::deserialize(alloc, datum);
+            lines.made("read", &read);
+        }
+        Err(error) => lines.text("date", &error),
+    }
 }
 
-/// A text as a DateTime.
-fn print_text(rt: &impl Print, alloc: Global, text: &str) -> Result<(), Fail> {
-    print_written(
-        rt,
-        "rfc3339_string_as_bson_datetime",
-        &rfc3339_string_as_bson_datetime::serialize(alloc, text),
-    )
+/// Adds a number of milliseconds as a DateTime.
+fn add_millis(lines: &mut Lines, alloc: Global, millis: &i64) {
+    match i64_as_bson_datetime::serialize(alloc, millis) {
+        Ok(datum) => {
+            lines.debug("milliseconds", &datum);
+            lines.made("read", &i64_as_bson_datetime::deserialize(alloc, datum));
+        }
+        Err(error) => lines.text("milliseconds", &error),
+    }
 }
 
-/// The text of a DateTime that a datum is.
-fn print_text_of(rt: &impl Print, alloc: Global, datum: Datum<'_>) -> Result<(), Fail> {
-    print_read(
-        rt,
-        "rfc3339_string_as_bson_datetime",
-        &rfc3339_string_as_bson_datetime::deserialize(alloc, datum),
-    )
+/// Adds a number of seconds as a Timestamp.
+fn add_seconds(lines: &mut Lines, alloc: Global, seconds: &u32) {
+    match u32_as_timestamp::serialize(alloc, seconds) {
+        Ok(datum) => {
+            lines.debug("seconds", &datum);
+            lines.made("read", &u32_as_timestamp::deserialize(alloc, datum));
+        }
+        Err(error) => lines.text("seconds", &error),
+    }
 }
 
-/// Texts as DateTimes.
-pub fn print_texts(rt: &impl Print, alloc: Global) -> Result<(), Fail> {
-    print_text(rt, alloc, DATE)?;
-    print_text(rt, alloc, "yesterday")?;
-    print_text_of(
-        rt,
-        alloc,
-        rfc3339_string_as_bson_datetime::serialize(alloc, DATE)?,
-    )
+/// Adds a Timestamp as a number of seconds.
+fn add_stamp(lines: &mut Lines, alloc: Global, time: u32, increment: u32) {
+    match timestamp_as_u32::serialize(alloc, &Timestamp { time, increment }) {
+        Ok(datum) => {
+            lines.debug("stamp", &datum);
+            lines.made("read", &timestamp_as_u32::deserialize(alloc, datum));
+        }
+        Err(error) => lines.text("stamp", &error),
+    }
 }
 
-/// A DateTime as a text.
-fn print_date(rt: &impl Print, alloc: Global, date: &DateTime) -> Result<(), Fail> {
-    print_written(
-        rt,
-        "bson_datetime_as_rfc3339_string",
-        &bson_datetime_as_rfc3339_string::serialize(alloc, date),
-    )
+/// Adds the shapes of texts, and texts that are written and refused.
+fn add_texts(lines: &mut Lines, alloc: Global) {
+    add_shape(lines, alloc, &hex_string_as_object_id::shape(alloc));
+    add_digits(lines, alloc, "507f1f77bcf86cd799439011");
+    add_digits(lines, alloc, "507f");
+    add_shape(lines, alloc, &rfc3339_string_as_bson_datetime::shape(alloc));
+    add_text(lines, alloc, "2023-11-14T22:13:20Z");
+    add_text(lines, alloc, "yesterday");
 }
 
-/// The DateTime of a text that a datum is.
-fn print_date_of(rt: &impl Print, alloc: Global, datum: Datum<'_>) -> Result<(), Fail> {
-    print_read(
-        rt,
-        "bson_datetime_as_rfc3339_string",
-        &bson_datetime_as_rfc3339_string::deserialize(alloc, datum),
-    )
+/// Adds the shapes of dates and numbers, and dates and numbers that are written and refused.
+fn add_times(lines: &mut Lines, alloc: Global) {
+    add_shape(lines, alloc, &bson_datetime_as_rfc3339_string::shape(alloc));
+    add_date(lines, alloc, &DateTime::from_millis(MILLIS));
+    add_date(lines, alloc, &DateTime::from_millis(i64::MAX));
+    add_shape(lines, alloc, &i64_as_bson_datetime::shape(alloc));
+    add_millis(lines, alloc, &5);
+    add_shape(lines, alloc, &u32_as_timestamp::shape(alloc));
+    add_seconds(lines, alloc, &5);
+    add_shape(lines, alloc, &timestamp_as_u32::shape(alloc));
+    add_stamp(lines, alloc, 5, 0);
+    add_stamp(lines, alloc, 1, 1);
 }
 
-/// What is read of the text of a DateTime.
-fn print_date_again(rt: &impl Print, alloc: Global, date: &DateTime) -> Result<(), Fail> {
-    print_date_of(
-        rt,
-        alloc,
-        bson_datetime_as_rfc3339_string::serialize(alloc, date)?,
-    )
-}
-
-/// DateTimes as texts.
-pub fn print_dates(rt: &impl Print, alloc: Global) -> Result<(), Fail> {
-    print_date(rt, alloc, &DateTime::from_millis(MILLIS))?;
-    print_date(rt, alloc, &DateTime::from_millis(i64::MAX))?;
-    print_date_again(rt, alloc, &DateTime::from_millis(MILLIS))
-}
-
-/// A number of milliseconds as a DateTime.
-fn print_millis(rt: &impl Print, alloc: Global, millis: &i64) -> Result<(), Fail> {
-    print_written(
-        rt,
-        "i64_as_bson_datetime",
-        &i64_as_bson_datetime::serialize(alloc, millis),
-    )
-}
-
-/// The number of milliseconds of a DateTime that a datum is.
-fn print_millis_of(rt: &impl Print, alloc: Global, datum: Datum<'_>) -> Result<(), Fail> {
-    print_read(
-        rt,
-        "i64_as_bson_datetime",
-        &i64_as_bson_datetime::deserialize(alloc, datum),
-    )
-}
-
-/// A number of seconds as a Timestamp.
-fn print_seconds(rt: &impl Print, alloc: Global, seconds: &u32) -> Result<(), Fail> {
-    print_written(
-        rt,
-        "u32_as_timestamp",
-        &u32_as_timestamp::serialize(alloc, seconds),
-    )
-}
-
-/// The number of seconds of a Timestamp that a datum is.
-fn print_seconds_of(rt: &impl Print, alloc: Global, datum: Datum<'_>) -> Result<(), Fail> {
-    print_read(
-        rt,
-        "u32_as_timestamp",
-        &u32_as_timestamp::deserialize(alloc, datum),
-    )
-}
-
-/// A number of milliseconds and one of seconds, written and read.
-pub fn print_times(rt: &impl Print, alloc: Global) -> Result<(), Fail> {
-    print_millis(rt, alloc, &5)?;
-    print_millis_of(rt, alloc, i64_as_bson_datetime::serialize(alloc, &5)?)?;
-    print_seconds(rt, alloc, &5)?;
-    print_seconds_of(rt, alloc, u32_as_timestamp::serialize(alloc, &5)?)
-}
-
-/// A Timestamp as a number of seconds.
-fn print_stamp(rt: &impl Print, alloc: Global, stamp: &Timestamp) -> Result<(), Fail> {
-    print_written(
-        rt,
-        "timestamp_as_u32",
-        &timestamp_as_u32::serialize(alloc, stamp),
-    )
-}
-
-/// The Timestamp of a number of seconds that a datum is.
-fn print_stamp_of(rt: &impl Print, alloc: Global, datum: Datum<'_>) -> Result<(), Fail> {
-    print_read(
-        rt,
-        "timestamp_as_u32",
-        &timestamp_as_u32::deserialize(alloc, datum),
-    )
-}
-
-/// A Timestamp without an increment, written and read.
-fn print_second(rt: &impl Print, alloc: Global, stamp: &Timestamp) -> Result<(), Fail> {
-    print_stamp(rt, alloc, stamp)?;
-    print_stamp_of(rt, alloc, timestamp_as_u32::serialize(alloc, stamp)?)
-}
-
-/// Timestamps as numbers of seconds.
-pub fn print_stamps(rt: &impl Print, alloc: Global) -> Result<(), Fail> {
-    let second = Timestamp {
-        time: 5,
-        increment: 0,
-    };
-    print_second(rt, alloc, &second)?;
-    let increment = Timestamp {
-        time: 1,
-        increment: 1,
-    };
-    print_stamp(rt, alloc, &increment)
+/// What each helper writes and reads.
+pub fn add_helpers(lines: &mut Lines, alloc: Global) {
+    add_object_id(lines, alloc, &ObjectId(ID));
+    add_texts(lines, alloc);
+    add_times(lines, alloc);
 }

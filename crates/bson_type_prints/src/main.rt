@@ -4,33 +4,24 @@
 
 mod documents;
 mod helpers;
-mod numbers;
-mod printing;
-mod shapes;
 mod tables;
-mod trees;
+mod values;
 
+use bson_lines::Lines;
 use std::alloc::Global;
-use std::io::Print;
-use std::test::Fail;
+use std::io;
 
-/// What is printed of helpers.
-fn print_helpers(rt: &impl Print, alloc: Global) -> Result<(), Fail> {
-    numbers::print_numbers(rt)?;
-    numbers::print_marks(rt, alloc)?;
-    helpers::print_object_id(rt, alloc)?;
-    helpers::print_texts(rt, alloc)?;
-    helpers::print_dates(rt, alloc)?;
-    helpers::print_times(rt, alloc)?;
-    helpers::print_stamps(rt, alloc)
+/// Adds all lines.
+fn add_all(lines: &mut Lines, alloc: Global) {
+    values::add_numbers(lines);
+    values::add_values(lines, alloc);
+    documents::add_documents(lines, alloc);
+    helpers::add_helpers(lines, alloc);
+    tables::add_tables(lines, alloc);
 }
 
-fn main(rt: HostRuntime) -> Result<(), Fail> {
-    let alloc = rt.alloc();
-    print_helpers(&rt, alloc)?;
-    shapes::print_shapes(&rt, alloc)?;
-    numbers::print_number(&rt, alloc, &5)?;
-    documents::print_documents(&rt, alloc)?;
-    trees::print_number(&rt, alloc, &5)?;
-    tables::print_tables(&rt, alloc)
+fn main(rt: HostRuntime) -> io::Result<()> {
+    let mut lines = Lines::new(rt.alloc());
+    add_all(&mut lines, rt.alloc());
+    lines.print(&rt)
 }

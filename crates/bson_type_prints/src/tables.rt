@@ -1,52 +1,41 @@
-// A map from texts to vectors of optional numbers, written as the bytes of a document and read from them.
-use crate::printing::{print_hex, print_read};
-use crate::trees;
+// A map from texts to vectors of optional numbers, as the bytes of a document, as a value in memory and as a document in memory.
+use bson_base::Bson;
+use bson_de_tree::DeserializerOptions;
 use bson_io::MemorySource;
-use bson_rawdoc::RawDocumentBuf;
+use bson_lines::Lines;
+use bson_ser_tree::SerializerOptions;
+use bson_typed_trees::{
+    from_bson, from_bson_with_options, from_document, from_document_with_options, to_bson,
+    to_bson_with_options, to_document, to_document_with_options,
+};
 use bson_types::{
     from_reader, from_reader_utf8_lossy, from_slice, from_slice_utf8_lossy, to_raw_document_buf,
     to_vec,
 };
 use std::alloc::{AllocError, Global};
 use std::collections::BTreeMap;
-use std::io::Print;
-use std::test::Fail;
 
 /// What is written and read.
-pub type Table = BTreeMap<String, Vec<Option<i32>>>;
+type Table = BTreeMap<String, Vec<Option<i32>>>;
+
+/// The document `{a: [1, null]}`.
+const TABLE: &[u8] = b"\x17\0\0\0\x04a\0\x0f\0\0\0\x100\0\x01\0\0\0\x0a1\0\0\0";
 
 /// The document `{a: 1}`, whose value is no array.
 const OTHER: &[u8] = b"\x0c\0\0\0\x10a\0\x01\0\0\0\0";
 
-/// The numbers `[1, null]`.
-fn numbers(alloc: Global) -> Result<Vec<Option<i32>>, AllocError> {
-    Ok(vec![in alloc; Some(1), None]?)
+/// Options for a writer of the compact form.
+fn writing() -> SerializerOptions {
+    SerializerOptions::builder()
+        .human_readable(Some(false))
+        .build()
 }
 
-/// The table of these numbers at this key.
-fn table_of(alloc: Global, key: String, numbers: Vec<Option<i32>>) -> Result<Table, AllocError> {
-    let mut table = BTreeMap::new(alloc);
-    table.insert(key, numbers)?;
-    Ok(table)
-}
-
-/// The table `{a: [1, null]}`.
-fn table(alloc: Global) -> Result<Table, AllocError> {
-    table_of(alloc, String::from_str(alloc, "a")?, numbers(alloc)?)
-}
-
-/// Prints what is read of bytes.
-fn print_slice(rt: &impl Print, alloc: Global, bytes: &[u8]) -> Result<(), Fail> {
-    print_read(rt, "from_slice", &from_slice::<Table>(alloc, bytes))
-}
-
-/// The same with texts mended.
-fn print_mended(rt: &impl Print, alloc: Global, bytes: &[u8]) -> Result<(), Fail> {
-    print_read(
-        rt,
-        "from_slice_utf8_lossy",
-        &from_slice_utf8_lossy::<Table>(alloc, bytes),
-    )
+/// Options for a reader of the compact form.
+fn reading() -> DeserializerOptions {
+    DeserializerOptions::builder()
+        .human_readable(Some(false))
+        .build()
 }
 
 /// A source of these bytes, each call of which succeeds.
@@ -55,76 +44,123 @@ fn source(alloc: Global, bytes: &[u8]) -> Result<MemorySource, AllocError> {
     Ok(MemorySource::new(bytes, Vec::new(alloc), Vec::new(alloc)))
 }
 
-/// Prints what is read of a source.
-fn print_taken(rt: &impl Print, alloc: Global, source: &mut MemorySource) -> Result<(), Fail> {
-    print_read(
-        rt,
-        "from_reader",
-        &from_reader::<MemorySource, Table>(alloc, source),
-    )
+/// Adds what is read of a source.
+fn add_source(lines: &mut Lines, alloc: Global, bytes: &[u8]) {
+    match source(alloc, bytes) {
+        Ok(mut source) => {
+            let read = from_reader::<MemorySource, Table>(alloc, &mut source);
+            lines.made("from_reader", &read);
+        }
+        Err(error) => lines.text("no source", &error),
+    }
 }
 
-/// The same with texts mended.
-fn print_taken_mended(
-    rt: &impl Print,
-    alloc: Global,
-    source: &mut MemorySource,
-) -> Result<(), Fail> {
-    print_read(
-        rt,
-        "from_reader_utf8_lossy",
-        &from_reader_utf8_lossy::<MemorySource, Table>(alloc, source),
-    )
+/// Adds the same with texts mended.
+fn add_mended_source(lines: &mut Lines, alloc: Global, bytes: &[u8]) {
+    match source(alloc, bytes) {
+        Ok(mut source) => {
+            let read = from_reader_utf8_lossy::<MemorySource, Table>(alloc, &mut source);
+            lines.made("from_reader_utf8_lossy", &read);
+        }
+        Err(error) => lines.text("no source", &error),
+    }
 }
 
-/// Prints what is read of a source of these bytes.
-fn print_source(rt: &impl Print, alloc: Global, bytes: &[u8]) -> Result<(), Fail> {
-    print_taken(rt, alloc, &mut source(alloc, bytes)?)
+/// Adds what is read of bytes with texts mended.
+fn add_mended(lines: &mut Lines, alloc: Global, bytes: &[u8]) {
+    let read = from_slice_utf8_lossy::<Table>(alloc, bytes);
+    lines.made("from_slice_utf8_lossy", &read);
 }
 
-/// The same with texts mended.
-fn print_mended_source(rt: &impl Print, alloc: Global, bytes: &[u8]) -> Result<(), Fail> {
-    print_taken_mended(rt, alloc, &mut source(alloc, bytes)?)
+/// Adds the bytes that a table is written as, and the document that owns them.
+fn add_bytes(lines: &mut Lines, alloc: Global, table: &Table) {
+    lines.bytes("to_vec", &to_vec(alloc, table));
+    lines.made("to_raw_document_buf", &to_raw_document_buf(alloc, table));
 }
 
-/// Prints bytes, and what is read of them by each call.
-fn print_bytes(rt: &impl Print, alloc: Global, bytes: &[u8]) -> Result<(), Fail> {
-    print_hex(rt, alloc, "to_vec", bytes)?;
-    print_slice(rt, alloc, bytes)?;
-    print_mended(rt, alloc, bytes)?;
-    print_source(rt, alloc, bytes)?;
-    print_mended_source(rt, alloc, bytes)
+/// Adds what is read of a value in memory.
+fn add_read(lines: &mut Lines, alloc: Global, value: Bson) {
+    lines.made("from_bson", &from_bson::<Table>(alloc, value));
 }
 
-/// Prints the bytes of a table, and what is read of them.
-fn print_written(rt: &impl Print, alloc: Global, table: &Table) -> Result<(), Fail> {
-    print_bytes(rt, alloc, &to_vec(alloc, table)?)
+/// Adds a table as a value in memory, and what is read of it.
+fn add_value(lines: &mut Lines, alloc: Global, table: &Table) {
+    match to_bson(alloc, table) {
+        Ok(value) => {
+            lines.debug("to_bson", &value);
+            add_read(lines, alloc, value);
+        }
+        Err(error) => lines.text("no value", &error),
+    }
 }
 
-/// Prints the bytes of a document that owns them.
-fn print_raw(rt: &impl Print, alloc: Global, document: &RawDocumentBuf) -> Result<(), Fail> {
-    print_hex(
-        rt,
-        alloc,
-        "to_raw_document_buf",
-        document.as_document().as_bytes(),
-    )
+/// Adds the same in the compact form.
+fn add_compact_value(lines: &mut Lines, alloc: Global, table: &Table) {
+    match to_bson_with_options(alloc, table, writing()) {
+        Ok(value) => {
+            lines.debug("to_bson_with_options", &value);
+            let read = from_bson_with_options::<Table>(alloc, value, reading());
+            lines.made("from_bson_with_options", &read);
+        }
+        Err(error) => lines.text("no value", &error),
+    }
 }
 
-/// Prints the document that a table is, by its bytes.
-fn print_document(rt: &impl Print, alloc: Global, table: &Table) -> Result<(), Fail> {
-    print_raw(rt, alloc, &to_raw_document_buf(alloc, table)?)
+/// Adds a table as a document in memory, and what is read of it.
+fn add_document(lines: &mut Lines, alloc: Global, table: &Table) {
+    match to_document(alloc, table) {
+        Ok(document) => {
+            lines.debug("to_document", &document);
+            let read = from_document::<Table>(alloc, document);
+            lines.made("from_document", &read);
+        }
+        Err(error) => lines.text("no document", &error),
+    }
 }
 
-/// Prints what is made of a table by each call.
-fn print_table(rt: &impl Print, alloc: Global, table: &Table) -> Result<(), Fail> {
-    print_written(rt, alloc, table)?;
-    print_document(rt, alloc, table)?;
-    trees::print_trees(rt, alloc, table)
+/// Adds the same in the compact form.
+fn add_compact_document(lines: &mut Lines, alloc: Global, table: &Table) {
+    match to_document_with_options(alloc, table, writing()) {
+        Ok(document) => {
+            lines.debug("to_document_with_options", &document);
+            let read = from_document_with_options::<Table>(alloc, document, reading());
+            lines.made("from_document_with_options", &read);
+        }
+        Err(error) => lines.text("no document", &error),
+    }
 }
 
-/// What is printed of the table, and of a document that is none.
-pub fn print_tables(rt: &impl Print, alloc: Global) -> Result<(), Fail> {
-    print_table(rt, alloc, &table(alloc)?)?;
-    print_slice(rt, alloc, OTHER)
+/// Adds what is made of a table, and what is read of that.
+fn add_table(lines: &mut Lines, alloc: Global, table: &Table) {
+    lines.debug("from_slice", table);
+    add_bytes(lines, alloc, table);
+    add_value(lines, alloc, table);
+    add_compact_value(lines, alloc, table);
+    add_document(lines, alloc, table);
+    add_compact_document(lines, alloc, table);
+}
+
+/// Adds what is read of the bytes of a document, and what is made of that.
+fn add_slice(lines: &mut Lines, alloc: Global, bytes: &[u8]) {
+    match from_slice::<Table>(alloc, bytes) {
+        Ok(table) => add_table(lines, alloc, &table),
+        Err(error) => lines.text("from_slice", &error),
+    }
+}
+
+/// Adds a number as a value in memory; it is no document.
+fn add_number(lines: &mut Lines, alloc: Global, number: &i32) {
+    lines.made("to_bson", &to_bson(alloc, number));
+    lines.made("to_document", &to_document(alloc, number));
+}
+
+/// A table that is read and written by each call, and a document and values that are none.
+pub fn add_tables(lines: &mut Lines, alloc: Global) {
+    add_slice(lines, alloc, TABLE);
+    add_slice(lines, alloc, OTHER);
+    add_mended(lines, alloc, TABLE);
+    add_source(lines, alloc, TABLE);
+    add_mended_source(lines, alloc, TABLE);
+    add_read(lines, alloc, Bson::Int32(1));
+    add_number(lines, alloc, &5);
 }

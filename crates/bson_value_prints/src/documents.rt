@@ -1,58 +1,50 @@
 // Documents are written as bytes, read as trees, owned as bytes and folded, where there is memory; and the texts of the refusals.
-use crate::printing::{print_elements, print_hex, print_named, print_text};
+use crate::values::add_elements_of;
 use bson_base::{Bson, Document, EncodeError};
+use bson_lines::Lines;
+use bson_rawdoc::raw::Error;
 use bson_rawdoc::{RawDocument, RawDocumentBuf};
 use std::alloc::{AllocError, Global};
-use std::io::Print;
-use std::test::Fail;
 
 /// The document `{hello: "world"}` of bsonspec.org.
 const HELLO: &[u8] = b"\x16\0\0\0\x02hello\0\x06\0\0\0world\0\0";
 
-/// A text.
-fn text(alloc: Global, text: &str) -> Result<Bson, AllocError> {
-    Ok(Bson::String(String::from_str(alloc, text)?))
-}
-
-/// Puts a text under a key of a document.
-fn put(alloc: Global, document: &mut Document, key: &str, text: &str) -> Result<(), AllocError> {
-    let key = String::from_str(alloc, key)?;
-    document.insert(key, self::text(alloc, text)?)?;
-    Ok(())
-}
-
 /// A document of one text.
 fn one_text(alloc: Global, key: &str, text: &str) -> Result<Document, AllocError> {
     let mut document = Document::new(alloc);
-    put(alloc, &mut document, key, text)?;
+    let key = String::from_str(alloc, key)?;
+    let text = String::from_str(alloc, text)?;
+    document.insert(key, Bson::String(text))?;
     Ok(document)
 }
 
-/// Prints the bytes of a document.
-fn print_bytes(rt: &impl Print, alloc: Global, document: &Document) -> Result<(), Fail> {
-    print_hex(rt, alloc, "written", &document.to_vec(alloc)?)
+/// Adds the bytes of a document of one text, or why it has none.
+fn add_written(lines: &mut Lines, alloc: Global, key: &str, text: &str) {
+    match one_text(alloc, key, text) {
+        Ok(document) => lines.bytes("written", &document.to_vec(alloc)),
+        Err(error) => lines.text("no document", &error),
+    }
 }
 
-/// The bytes of a document.
-pub fn print_written(rt: &impl Print, alloc: Global) -> Result<(), Fail> {
-    print_bytes(rt, alloc, &one_text(alloc, "hello", "world")?)
+/// The tree that the bytes of a document are.
+fn tree(alloc: Global) -> Result<Document, Error> {
+    RawDocument::from_bytes(HELLO)?.to_document(alloc)
 }
 
-/// The elements of the tree that the bytes of a document are.
-pub fn print_tree(rt: &impl Print, alloc: Global) -> Result<(), Fail> {
-    let document = RawDocument::from_bytes(HELLO)?;
-    print_elements(rt, "tree", &document.to_document(alloc)?)
+/// Adds the elements of the tree that the bytes of a document are.
+fn add_tree(lines: &mut Lines, alloc: Global) {
+    match tree(alloc) {
+        Ok(document) => add_elements_of(lines, &document),
+        Err(fault) => lines.debug("no tree", &fault),
+    }
 }
 
-/// The bytes of a document that owns them.
-fn owned(alloc: Global) -> Result<Vec<u8>, Fail> {
-    let document = RawDocumentBuf::from_bytes(HELLO.to_vec(alloc)?)?;
-    Ok(document.into_bytes())
-}
-
-/// The bytes of a document that owns them.
-pub fn print_owned(rt: &impl Print, alloc: Global) -> Result<(), Fail> {
-    print_hex(rt, alloc, "owned", &owned(alloc)?)
+/// Adds the bytes of a document that owns them.
+fn add_owned(lines: &mut Lines, bytes: Vec<u8>) {
+    match RawDocumentBuf::from_bytes(bytes) {
+        Ok(document) => lines.hex("owned", &document.into_bytes()),
+        Err(fault) => lines.debug("no document", &fault),
+    }
 }
 
 /// The value that a document with a wrapper key becomes.
@@ -60,28 +52,17 @@ fn folded(alloc: Global) -> Result<Bson, AllocError> {
     Bson::from_extended_document(alloc, one_text(alloc, "$symbol", "a")?)
 }
 
-/// The value that a document with a wrapper key becomes.
-pub fn print_folded(rt: &impl Print, alloc: Global) -> Result<(), Fail> {
-    print_named(rt, "folded", &folded(alloc)?)
-}
-
-/// Prints why a document has no bytes.
-fn print_refused(rt: &impl Print, alloc: Global, document: &Document) -> Result<(), Fail> {
-    match document.to_vec(alloc) {
-        Ok(_) => Err(Fail::from("the document has bytes")),
-        Err(error) => print_text(rt, &error),
+/// Documents as bytes and as trees, a document that is folded, and the texts of the refusals of writing.
+pub fn add_documents(lines: &mut Lines, alloc: Global) {
+    add_written(lines, alloc, "hello", "world");
+    add_tree(lines, alloc);
+    match HELLO.to_vec(alloc) {
+        Ok(bytes) => add_owned(lines, bytes),
+        Err(error) => lines.text("no bytes", &error),
     }
-}
-
-/// Why a document with a zero character in a key has no bytes.
-fn print_zero_in_key(rt: &impl Print, alloc: Global) -> Result<(), Fail> {
-    print_refused(rt, alloc, &one_text(alloc, "a\0", "b")?)
-}
-
-/// The texts of the refusals of writing a document.
-pub fn print_refusals(rt: &impl Print, alloc: Global) -> Result<(), Fail> {
-    print_zero_in_key(rt, alloc)?;
-    print_text(rt, &EncodeError::BinaryTooLong(16777217))?;
-    print_text(rt, &EncodeError::TooLong)?;
-    print_text(rt, &EncodeError::NoMemory)
+    lines.made("folded", &folded(alloc));
+    add_written(lines, alloc, "a\0", "b");
+    lines.text("refusal", &EncodeError::BinaryTooLong(16777217));
+    lines.text("refusal", &EncodeError::TooLong);
+    lines.text("refusal", &EncodeError::NoMemory);
 }

@@ -1,14 +1,13 @@
 // Sources and sinks over readers and writers that fail, and the calls of the ends that take memory.
-use crate::printing::print_named;
 use bson_io::{
-    Failed, MemorySink, MemorySource, Out, ReadAdapter, Sink, Source, Steps, Tally, WriteAdapter,
+    MemorySink, MemorySource, Out, ReadAdapter, Sink, Source, Steps, Tally, WriteAdapter,
     read_to_end, write_due,
 };
+use bson_lines::Lines;
 use std::alloc::{AllocError, Global};
 use std::io;
-use std::io::{Print, Read, Write};
+use std::io::{Read, Write};
 use std::mem::size_of;
-use std::test::Fail;
 
 /// Gives a 7 at each call but the second, which fails.
 #[derive(Drop)]
@@ -53,35 +52,27 @@ impl Write for Reluctant {
     }
 }
 
-/// Prints what was read, and the bytes that were given for it.
-fn print_read(rt: &impl Print, read: &Result<usize, Failed>, buf: &[u8]) -> Result<(), Fail> {
-    println!(rt; "read: {read:?} {buf:?}")?;
-    Ok(())
-}
-
-/// Reads once, and prints what was read.
-fn print_next(rt: &impl Print, input: &mut ReadAdapter<Sevens>) -> Result<(), Fail> {
+/// Reads once, and adds what was read, and the bytes that were given for it.
+fn add_next(lines: &mut Lines, input: &mut ReadAdapter<Sevens>) {
     let mut buf = [0; 2];
-    let read = input.read(&mut buf);
-    print_read(rt, &read, &buf)
+    lines.debug("read", &input.read(&mut buf));
+    lines.hex("bytes", &buf);
 }
 
-/// The source passes bytes and errors on.
-pub fn print_source(rt: &impl Print) -> Result<(), Fail> {
+/// Adds what a source passes on: bytes and errors.
+fn add_source(lines: &mut Lines) {
     let mut input = ReadAdapter::new(Sevens { calls: 0 });
     for _ in 0..3 {
-        print_next(rt, &mut input)?;
+        add_next(lines, &mut input);
     }
-    Ok(())
 }
 
-/// The sink passes bytes and errors on.
-pub fn print_sink(rt: &impl Print) -> Result<(), Fail> {
+/// Adds what a sink passes on: bytes and errors.
+fn add_sink(lines: &mut Lines) {
     let mut out = WriteAdapter::new(Reluctant { calls: 0 });
     for _ in 0..4 {
-        print_named(rt, "written", &out.write(&[7, 8]))?;
+        lines.debug("written", &out.write(&[7, 8]));
     }
-    Ok(())
 }
 
 /// A source of three bytes, which gives two at its first call.
@@ -91,28 +82,28 @@ fn three(alloc: Global) -> Result<MemorySource, AllocError> {
     Ok(MemorySource::new(bytes, Vec::new(alloc), most))
 }
 
-/// What is read to the end of a source in memory.
-fn read(alloc: Global) -> Result<Vec<u8>, Fail> {
-    let mut input = three(alloc)?;
-    Ok(read_to_end(alloc, &mut input)?)
+/// Adds what is read to the end of a source in memory.
+fn add_read(lines: &mut Lines, alloc: Global) {
+    match three(alloc) {
+        Ok(mut input) => lines.debug("in memory", &read_to_end(alloc, &mut input)),
+        Err(error) => lines.text("no source", &error),
+    }
 }
 
-/// Prints bytes that were read, and what a sink in memory took of them.
-fn print_both(rt: &impl Print, read: &[u8], written: &[u8]) -> Result<(), Fail> {
-    println!(rt; "in memory: {read:?} {written:?}")?;
-    Ok(())
+/// A sink in memory.
+fn sink(alloc: Global) -> Result<MemorySink, AllocError> {
+    MemorySink::new(alloc, 12, Vec::new(alloc), Vec::new(alloc))
 }
 
-/// Writes bytes to a sink in memory, and prints what it took.
-fn print_written(rt: &impl Print, alloc: Global, read: &[u8]) -> Result<(), Fail> {
-    let mut out = MemorySink::new(alloc, 12, Vec::new(alloc), Vec::new(alloc))?;
-    write_due(&mut out, read)?;
-    print_both(rt, read, out.written())
-}
-
-/// Ends in memory: what is read to the end, and what is written.
-pub fn print_memory(rt: &impl Print, alloc: Global) -> Result<(), Fail> {
-    print_written(rt, alloc, &read(alloc)?)
+/// Adds what a sink in memory took.
+fn add_taken(lines: &mut Lines, alloc: Global) {
+    match sink(alloc) {
+        Ok(mut out) => {
+            lines.debug("written", &write_due(&mut out, &[1, 2, 3]));
+            lines.hex("bytes", out.written());
+        }
+        Err(error) => lines.text("no sink", &error),
+    }
 }
 
 /// Puts two bytes behind an output.
@@ -128,21 +119,20 @@ fn copied(out: &Out) -> Result<Vec<u8>, AllocError> {
     out.as_bytes().to_vec(out.allocator())
 }
 
-/// Prints a copy of what an output holds, and what it becomes.
-fn print_copy(rt: &impl Print, copy: &[u8], bytes: &[u8]) -> Result<(), Fail> {
-    println!(rt; "output: {copy:?} {bytes:?}")?;
-    Ok(())
-}
-
-/// An output that grows, and a copy of it.
-pub fn print_output(rt: &impl Print, alloc: Global) -> Result<(), Fail> {
+/// Adds a copy of what an output holds that has grown, and what it becomes.
+fn add_output(lines: &mut Lines, alloc: Global) {
     let mut out = Out::new(alloc);
-    fill(&mut out)?;
-    let copy = copied(&out)?;
-    print_copy(rt, &copy, &out.into_vec())
+    lines.debug("output", &fill(&mut out));
+    lines.debug("copy", &copied(&out));
+    lines.hex("bytes", &out.into_vec());
 }
 
-/// The size of a counter that does not count.
-pub fn print_size(rt: &impl Print) -> Result<(), Fail> {
-    print_named(rt, "size of steps", &size_of::<Steps<Tally>>())
+/// A source and a sink that pass errors on, ends in memory, an output that grows, and the size of a counter that does not count.
+pub fn add_ends(lines: &mut Lines, alloc: Global) {
+    add_source(lines);
+    add_sink(lines);
+    add_read(lines, alloc);
+    add_taken(lines, alloc);
+    add_output(lines, alloc);
+    lines.text("size of steps", &size_of::<Steps<Tally>>());
 }

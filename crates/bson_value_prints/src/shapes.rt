@@ -1,9 +1,7 @@
-// Shapes are made, read and printed where there is memory, up to the most levels.
-use crate::printing::print_text;
+// Shapes are made, read and printed where there is memory, up to the most levels; and why a notation is refused.
+use bson_lines::Lines;
 use bson_shape::{FieldShape, Shape, ShapeError, VariantContent, VariantShape};
-use std::alloc::Global;
-use std::io::Print;
-use std::test::Fail;
+use std::alloc::{AllocError, Global};
 
 /// A name.
 fn name(alloc: Global, name: &str) -> Result<String, ShapeError> {
@@ -77,16 +75,6 @@ fn made(alloc: Global) -> Result<Shape, ShapeError> {
     choice(alloc, content(alloc, shape)?)
 }
 
-/// Prints the notation of a shape.
-fn print_notation(rt: &impl Print, alloc: Global, shape: &Shape) -> Result<(), Fail> {
-    print_text(rt, &shape.print(alloc)?)
-}
-
-/// The notation of a shape that each maker had a part in.
-pub fn print_made(rt: &impl Print, alloc: Global) -> Result<(), Fail> {
-    print_notation(rt, alloc, &made(alloc)?)
-}
-
 /// Notations, each of which is printed as it was read.
 const NOTATIONS: [&str; 16] = [
     "i32",
@@ -107,27 +95,38 @@ const NOTATIONS: [&str; 16] = [
     "Point{x:i32,y:{z:i32},\"\":i32,\"é\\\"\\\\\":i32}",
 ];
 
-/// A notation, read and printed.
-fn print_parsed(rt: &impl Print, alloc: Global, text: &str) -> Result<(), Fail> {
-    print_notation(rt, alloc, &Shape::parse(alloc, text)?)
-}
-
-/// The notations, read and printed.
-pub fn print_notations(rt: &impl Print, alloc: Global) -> Result<(), Fail> {
-    for text in NOTATIONS {
-        print_parsed(rt, alloc, text)?;
+/// Adds a notation, read and printed.
+fn add_parsed(lines: &mut Lines, alloc: Global, text: &str) {
+    match Shape::parse(alloc, text) {
+        Ok(shape) => lines.written("notation", &shape.print(alloc)),
+        Err(error) => lines.debug(text, &error),
     }
-    Ok(())
 }
 
 /// The text of so many sequences in one another.
-fn sequences(alloc: Global, levels: usize) -> Result<String, Fail> {
+fn sequences(alloc: Global, levels: usize) -> Result<String, AllocError> {
     let opened = "[".repeat(alloc, levels)?;
     let closed = "]".repeat(alloc, levels)?;
-    Ok(format!(in alloc; "{opened}i32{closed}")?)
+    format!(in alloc; "{opened}i32{closed}")
 }
 
-/// A notation of the most levels, read and printed.
-pub fn print_levels(rt: &impl Print, alloc: Global) -> Result<(), Fail> {
-    print_parsed(rt, alloc, sequences(alloc, 511)?.as_str())
+/// Adds a notation of the most levels, read and printed.
+fn add_levels(lines: &mut Lines, alloc: Global) {
+    match sequences(alloc, 511) {
+        Ok(text) => add_parsed(lines, alloc, &text),
+        Err(error) => lines.text("no text", &error),
+    }
+}
+
+/// A shape that each maker had a part in, notations that are read and printed, and one that is refused.
+pub fn add_shapes(lines: &mut Lines, alloc: Global) {
+    match made(alloc) {
+        Ok(shape) => lines.written("made", &shape.print(alloc)),
+        Err(error) => lines.debug("not made", &error),
+    }
+    for text in NOTATIONS {
+        add_parsed(lines, alloc, text);
+    }
+    add_levels(lines, alloc);
+    add_parsed(lines, alloc, "<A,A>");
 }

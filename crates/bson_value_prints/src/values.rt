@@ -1,10 +1,15 @@
 // Owned values are made, opened and copied where there is memory.
-use crate::printing::{print_elements, print_whether};
-use bson_base::{Bson, Document, Regex};
+use bson_base::{Binary, BinarySubtype, Bson, Document, Regex};
+use bson_lines::Lines;
 use bson_rawdoc::RawDocument;
+use bson_values::{ByteStr, Text};
 use std::alloc::{AllocError, Global};
-use std::io::Print;
-use std::test::Fail;
+
+/// A binary.
+fn binary(alloc: Global) -> Result<Binary, AllocError> {
+    let bytes = vec![in alloc; 1, 2]?;
+    Ok(Binary::from_parts(BinarySubtype(4), bytes))
+}
 
 /// A regular expression, whose options are put in order.
 fn regex(alloc: Global) -> Result<Regex, AllocError> {
@@ -12,21 +17,21 @@ fn regex(alloc: Global) -> Result<Regex, AllocError> {
     Regex::new(alloc, pattern, String::from_str(alloc, "xi")?)
 }
 
-/// Prints the parts of a regular expression.
-fn print_parts(rt: &impl Print, what: &str, regex: &Regex) -> Result<(), Fail> {
-    println!(rt; "{what}: {} {}", regex.pattern(), regex.options())?;
-    Ok(())
+/// Adds the parts of a regular expression.
+fn add_regex(lines: &mut Lines, regex: &Result<Regex, AllocError>) {
+    match regex {
+        Ok(regex) => lines.named(regex.pattern(), regex.options()),
+        Err(error) => lines.text("no expression", error),
+    }
 }
 
-/// Prints the parts of a regular expression, and of a copy of it.
-fn print_both(rt: &impl Print, alloc: Global, regex: &Regex) -> Result<(), Fail> {
-    print_parts(rt, "regex", regex)?;
-    print_parts(rt, "copy", &regex.try_clone(alloc)?)
-}
-
-/// A regular expression, and a copy of it.
-pub fn print_regex(rt: &impl Print, alloc: Global) -> Result<(), Fail> {
-    print_both(rt, alloc, &regex(alloc)?)
+/// Adds a regular expression, and a copy of it.
+fn add_regex_copy(lines: &mut Lines, alloc: Global) {
+    let regex = regex(alloc);
+    add_regex(lines, &regex);
+    if let Ok(regex) = &regex {
+        add_regex(lines, &regex.try_clone(alloc));
+    }
 }
 
 /// The document that a symbol is opened to.
@@ -35,31 +40,33 @@ fn opened(alloc: Global) -> Result<Document, AllocError> {
     symbol.into_extended_document(alloc)
 }
 
-/// The document that a symbol is opened to.
-pub fn print_opened(rt: &impl Print, alloc: Global) -> Result<(), Fail> {
-    print_elements(rt, "opened", &opened(alloc)?)
+/// Adds the elements of a document.
+pub fn add_elements_of(lines: &mut Lines, document: &Document) {
+    for (key, value) in document.iter() {
+        lines.debug(key, value);
+    }
 }
 
-/// Puts a value under a key, and returns what was under it before.
+/// Adds the document that a symbol is opened to.
+fn add_opened(lines: &mut Lines, alloc: Global) {
+    match opened(alloc) {
+        Ok(document) => add_elements_of(lines, &document),
+        Err(error) => lines.text("no document", &error),
+    }
+}
+
+/// Puts null under a key, and returns what was under it before.
 fn put(alloc: Global, document: &mut Document) -> Result<Option<Bson>, AllocError> {
     document.insert(String::from_str(alloc, "a")?, Bson::Null)
 }
 
-/// What was under the key of a document before, and how many keys it has.
-fn print_old(rt: &impl Print, old: &Option<Bson>, keys: usize) -> Result<(), Fail> {
-    println!(rt; "document: {old:?}, {keys} key")?;
-    Ok(())
-}
-
-/// Puts a value under a key, and prints what was under it before.
-fn print_put(rt: &impl Print, alloc: Global, document: &mut Document) -> Result<(), Fail> {
-    let old = put(alloc, document)?;
-    print_old(rt, &old, document.len())
-}
-
-/// What was under the key of a document before, and how many keys it has.
-pub fn print_document(rt: &impl Print, alloc: Global) -> Result<(), Fail> {
-    print_put(rt, alloc, &mut Document::new(alloc))
+/// Adds what was under the key of a document before null was put there, and how many keys it has then; twice.
+fn add_put(lines: &mut Lines, alloc: Global) {
+    let mut document = Document::new(alloc);
+    for _ in 0..2 {
+        lines.made("put", &put(alloc, &mut document));
+        lines.text("keys", &document.len());
+    }
 }
 
 /// The bytes of a document with a value of each kind that has memory of its own: under `a` an array of a text, code, a symbol, a binary, a regular
@@ -67,23 +74,60 @@ pub fn print_document(rt: &impl Print, alloc: Global) -> Result<(), Fail> {
 const OWNED: &[u8] =
     b"`\0\0\0\x04a\0X\0\0\0\x020\0\x02\0\0\0a\0\x0d1\0\x02\0\0\0b\0\x0e2\0\x02\0\0\0c\0\x053\0\x02\0\0\0\0\x01\x02\x0b4\0d\0i\0\x0c5\0\x02\0\0\0e\0abcdefghijkl\x0f6\0\x0f\0\0\0\x02\0\0\0f\0\x05\0\0\0\0\0\0";
 
-/// A document with a value of each kind that has memory of its own.
-fn owned(alloc: Global) -> Result<Bson, Fail> {
-    let document = RawDocument::from_bytes(OWNED)?;
-    Ok(Bson::Document(document.to_document(alloc)?))
-}
-
 /// Whether a copy of a value is equal to it.
 fn is_copied(alloc: Global, value: &Bson) -> Result<bool, AllocError> {
     Ok(value.try_clone(alloc)? == *value)
 }
 
-/// Prints whether a copy of a value is equal to it.
-fn print_copied(rt: &impl Print, alloc: Global, value: &Bson) -> Result<(), Fail> {
-    print_whether(rt, "equal to its copy", is_copied(alloc, value)?)
+/// Adds whether a copy of a document is equal to it.
+fn add_copied(lines: &mut Lines, alloc: Global, document: RawDocument<'_>) {
+    match document.to_document(alloc) {
+        Ok(document) => {
+            let value = Bson::Document(document);
+            lines.made("equal to its copy", &is_copied(alloc, &value));
+        }
+        Err(fault) => lines.debug("no tree", &fault),
+    }
 }
 
-/// Whether a copy of a document is equal to it.
-pub fn print_copy(rt: &impl Print, alloc: Global) -> Result<(), Fail> {
-    print_copied(rt, alloc, &owned(alloc)?)
+/// Adds a copy of a document with a value of each kind that has memory of its own.
+fn add_copy(lines: &mut Lines, alloc: Global) {
+    match RawDocument::from_bytes(OWNED) {
+        Ok(document) => add_copied(lines, alloc, document),
+        Err(fault) => lines.debug("no document", &fault),
+    }
+}
+
+/// A text that owns its bytes.
+fn owned_text<'x>(alloc: Global) -> Result<Text<'x>, AllocError> {
+    Text::Borrowed("a").into_owned(alloc)
+}
+
+/// A byte string that owns its bytes.
+fn owned_bytes<'x>(alloc: Global) -> Result<ByteStr<'x>, AllocError> {
+    ByteStr::Borrowed(b"a").into_owned(alloc)
+}
+
+/// Adds a text and a byte string, owned, and copies of them.
+fn add_text_copies(lines: &mut Lines, alloc: Global) {
+    let text = owned_text(alloc);
+    lines.made("text", &text);
+    if let Ok(text) = &text {
+        lines.made("copy", &text.try_clone(alloc));
+    }
+    let bytes = owned_bytes(alloc);
+    lines.made("bytes", &bytes);
+    if let Ok(bytes) = &bytes {
+        lines.made("copy", &bytes.try_clone(alloc));
+    }
+}
+
+/// A binary, a regular expression, a value that is opened, a value that is put, and copies.
+pub fn add_values(lines: &mut Lines, alloc: Global) {
+    lines.made("binary", &binary(alloc));
+    add_regex_copy(lines, alloc);
+    add_opened(lines, alloc);
+    add_put(lines, alloc);
+    add_copy(lines, alloc);
+    add_text_copies(lines, alloc);
 }
