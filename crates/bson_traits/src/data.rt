@@ -4,8 +4,8 @@ ghost use Rattle.bson_values.specs.TextView.{text_view};
 ghost use Rattle.bson_values.specs.Value.{structure, no_field_values, field_value};
 ghost use Rattle.bson_datum.specs.View.{view};
 
-use crate::memory::push;
 use bson_datum::{Datum, Field};
+use bson_growing::push;
 use bson_values::Text;
 use std::alloc::{AllocError, Global};
 

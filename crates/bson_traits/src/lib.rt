@@ -8,7 +8,6 @@ mod inside;
 mod known;
 mod known_trees;
 mod map;
-mod memory;
 mod numbers;
 mod option;
 mod refusal;

@@ -4,12 +4,12 @@ ghost use Rattle.bson_traits.specs.Answers.{Reads};
 ghost use Rattle.bson_traits.specs.Maps.{map_contents, taken_pairs, are_texts, is_text, key_text};
 
 use crate::known::known_text;
-use crate::memory::{push, put};
 use crate::refusal::not_fitting;
 use crate::shapes::map_shape;
 use crate::texts::string_of;
 use crate::traits::{Deserialize, NeverNull, RoundTrip, Serialize};
 use bson_datum::{Datum, Entry};
+use bson_growing::{push, put};
 use bson_shape::{Shape, ShapeError};
 use bson_values::{Text, de, ser};
 use std::alloc::{AllocError, Global};

@@ -3,11 +3,11 @@ ghost use Rattle.bson_datum.specs.View.{items_view};
 ghost use Rattle.bson_traits.specs.Answers.{Reads};
 ghost use Rattle.bson_traits.specs.Sequences.{taken_items};
 
-use crate::memory::push;
 use crate::refusal::not_fitting;
 use crate::shapes::sequence_shape;
 use crate::traits::{Deserialize, NeverNull, RoundTrip, Serialize};
 use bson_datum::Datum;
+use bson_growing::push;
 use bson_shape::{Shape, ShapeError};
 use bson_values::{de, ser};
 use std::alloc::Global;

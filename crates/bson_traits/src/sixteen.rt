@@ -6,11 +6,11 @@ ghost use Rattle.bson_traits.specs.Extended.{sized, decimal_datum, decimal_said,
 
 use crate::data::struct_of_one;
 use crate::known::known_sixteen;
-use crate::memory::boxed;
 use crate::refusal::not_fitting;
 use crate::traits::{Deserialize, NeverNull, RoundTrip, Serialize};
 use bson_base::{Decimal128, Uuid};
 use bson_datum::Datum;
+use bson_growing::boxed;
 use bson_shape::{Shape, ShapeError};
 use bson_values::{ByteStr, Text, de, ser};
 use std::alloc::{AllocError, Global};

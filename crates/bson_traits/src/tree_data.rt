@@ -9,11 +9,11 @@ ghost use Rattle.bson_traits.specs.Trees.{text_under};
 use crate::binary::borrowed_binary;
 use crate::data::{struct_of_one, struct_of_two};
 use crate::extended::{date_datum, id_datum, stamp_datum};
-use crate::memory::push;
 use crate::sixteen::decimal_datum;
 use crate::structs::{pointer_datum, regex_datum};
 use bson_base::{Bson, Document, JavaScriptCodeWithScope};
 use bson_datum::{Datum, Entry};
+use bson_growing::push;
 use bson_values::Text;
 use std::alloc::{AllocError, Global};
 

@@ -17,13 +17,13 @@ ghost use Rattle.bson_traits.specs.Trees.{text_under, text_said, taken_under, ta
 use crate::binary::binary_of;
 use crate::data::struct_of_one;
 use crate::extended::{date_in, id_in, stamp_of};
-use crate::memory::push;
 use crate::refusal::not_fitting;
 use crate::sixteen::decimal_in;
 use crate::structs::{copied, pointer_of, regex_of};
 use crate::tree_data::{max_key_datum, min_key_datum, undefined_datum};
 use bson_base::{Binary, BinarySubtype, Bson, Document, JavaScriptCodeWithScope};
 use bson_datum::{Datum, Entry, Field};
+use bson_growing::push;
 use bson_kinds::{ElementType, reserved_kind};
 use bson_values::{ByteStr, Text, de};
 use std::alloc::{AllocError, Global};
