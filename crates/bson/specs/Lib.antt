@@ -150,16 +150,16 @@ pub use Rattle.bson_ser_tree.specs.Taking as TreeTaking
 pub use Rattle.bson_source.specs.Taken
 pub use Rattle.bson_source.specs.FirstDocument
 pub use Rattle.bson_source.specs.FromSource
-pub use Rattle.bson_traits.specs.Answers as TypeAnswers
-pub use Rattle.bson_traits.specs.Extended as ExtendedTypes
+pub use Rattle.bson_type_data.specs.Answers as TypeAnswers
+pub use Rattle.bson_type_data.specs.Extended as ExtendedTypes
 pub use Rattle.bson_traits.specs.Laws as TypeLaws
 pub use Rattle.bson_traits.specs.Maps
 pub use Rattle.bson_traits.specs.Options
-pub use Rattle.bson_traits.specs.Scalars
+pub use Rattle.bson_type_data.specs.Scalars
 pub use Rattle.bson_traits.specs.Sequences
 pub use Rattle.bson_traits.specs.ShapeOf
 pub use Rattle.bson_traits.specs.Structs
-pub use Rattle.bson_traits.specs.Trees as TypeTrees
+pub use Rattle.bson_type_data.specs.Trees as TypeTrees
 pub use Rattle.bson_traits.specs.Prover.ExtendedBack
 pub use Rattle.bson_traits.specs.Prover.MapsBack
 pub use Rattle.bson_traits.specs.Prover.OptionsBack

@@ -38,11 +38,7 @@ pub fn boxed<'a>(alloc: Global, datum: Datum<'a>) -> Result<Box<Datum<'a>>, Allo
 /// # Errors
 ///
 /// Memory ran out.
-pub fn put<T: Drop>(
-    map: &mut BTreeMap<String, T>,
-    key: String,
-    value: T,
-) -> Result<(), AllocError>
+pub fn put<T: Drop>(map: &mut BTreeMap<String, T>, key: String, value: T) -> Result<(), AllocError>
     ensures entries { OnOk result (map.new.entries ≡ insert_entry string_cmp map.old.entries key value) }
 {
     let _old = map.insert(key, value)?;

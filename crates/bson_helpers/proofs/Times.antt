@@ -5,7 +5,7 @@ use Rattle.std.specs.Global.{Global}
 use Rattle.bson_values.specs.ErrorView.{read_failure}
 use Rattle.bson_values.specs.Refusal.{ReadFault, Failure, no_memory, bare, placed}
 use Rattle.bson_values.specs.declared.de.Error.{Error}
-use Rattle.bson_traits.specs.Answers.{Reading, FailsAs}
+use Rattle.bson_type_data.specs.Answers.{Reading, FailsAs}
 use Rattle.bson_helpers.specs.Dates.{ReadsTime}
 
 failed : (expected : Reading ℤ) (e : Error) (f : Failure ReadFault) → read_failure e ≡ f → FailsAs f expected → ReadsTime expected (Err e)

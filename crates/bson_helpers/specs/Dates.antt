@@ -10,7 +10,7 @@ use Rattle.bson_datum.specs.View.{view}
 use Rattle.bson_datum.specs.declared.datum.Datum.{Datum}
 use Rattle.bson_values.specs.declared.de.Error.{Error as ReadError}
 use Rattle.bson_values.specs.declared.ser.Error.{Error as WriteError}
-use Rattle.bson_traits.specs.Answers.{Reading}
+use Rattle.bson_type_data.specs.Answers.{Reading}
 use Rattle.bson_helpers.specs.Helpers.{no_reading, no_writing}
 
 -- the value is the text of the time

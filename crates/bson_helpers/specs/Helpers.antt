@@ -10,9 +10,9 @@ use Rattle.bson_values.specs.ErrorView.{write_failure}
 use Rattle.bson_values.specs.Refusal.{Failure, ReadFault, WriteFault, bare, unreadable, unwritable}
 use Rattle.bson_values.specs.Value.{Value, integer, i32, i64, u32, str}
 use Rattle.bson_values.specs.declared.ser.Error.{Error as WriteError}
-use Rattle.bson_traits.specs.Answers.{Reading, Writing}
-use Rattle.bson_traits.specs.Extended.{date_datum, id_datum, stamp_datum, taken_id, taken_stamp}
-use Rattle.bson_traits.specs.Scalars.{taken_text, taken_u32}
+use Rattle.bson_type_data.specs.Answers.{Reading, Writing}
+use Rattle.bson_type_data.specs.Extended.{date_datum, id_datum, stamp_datum, taken_id, taken_stamp}
+use Rattle.bson_type_data.specs.Scalars.{taken_text, taken_u32}
 
 -- A call that takes no memory answers this.
 abbrev pub Answers : {X Y : Type 0} → (X → Y) → Result X WriteError → Writing Y → Type 0

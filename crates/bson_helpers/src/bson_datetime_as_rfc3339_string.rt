@@ -4,7 +4,7 @@ ghost use Rattle.bson_base.specs.Instant.{millis};
 ghost use Rattle.bson_shape.specs.Form.{leaf};
 ghost use Rattle.bson_shape.specs.declared.leaf.Leaf.TheVariants as leaves;
 ghost use Rattle.bson_datum.specs.View.{view};
-ghost use Rattle.bson_traits.specs.Answers.{Reads};
+ghost use Rattle.bson_type_data.specs.Answers.{Reads};
 ghost use Rattle.bson_helpers.specs.Dates.{WritesTime, ReadsTime};
 ghost use Rattle.bson_helpers.specs.Helpers.{date_in_text};
 

@@ -1,5 +1,5 @@
 ghost use Rattle.bson_datum.specs.View.{view};
-ghost use Rattle.bson_traits.specs.Answers.{Writes};
+ghost use Rattle.bson_type_data.specs.Answers.{Writes};
 ghost use Rattle.bson_helpers.specs.Helpers.{Answers, number_as_i32, number_as_i64, id_as_text};
 
 use crate::errors::unwritable;

@@ -6,7 +6,7 @@ use Rattle.bson_kinds.specs.Text.{Utf8}
 use Rattle.bson_values.specs.Value.{Value, unit_variant, newtype_variant}
 use Rattle.bson_datum.specs.View.{view}
 use Rattle.bson_datum.specs.declared.datum.Datum.{Datum}
-use Rattle.bson_traits.specs.Answers.{Reading, Writing, not_fitting}
+use Rattle.bson_type_data.specs.Answers.{Reading, Writing, not_fitting}
 
 -- ---- written
 

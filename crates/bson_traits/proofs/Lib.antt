@@ -1,4 +1,3 @@
 pub mod ShapesMade
 pub mod Steps
 pub mod MapSteps
-pub mod TreeSteps

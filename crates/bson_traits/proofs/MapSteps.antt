@@ -10,7 +10,8 @@ use Rattle.bson_kinds.specs.Text.{Utf8}
 use Rattle.bson_values.specs.Value.{Value, str, map, Entries, no_entries, entry}
 use Rattle.bson_datum.specs.View.{view, entries_view}
 use Rattle.bson_datum.specs.declared.datum.Entry.{Entry}
-use Rattle.bson_traits.specs.Answers.{Reading, Writing}
+use Rattle.bson_type_data.specs.Answers.{Reading, Writing}
+use Rattle.bson_type_data.proofs.Joined.{joined_entries, joined_entry, no_entry}
 use Rattle.bson_traits.specs.Maps.{Key, written_entries, written_map, pair_contents, map_contents, key_text, inserted, taken_entries}
 
 match_push : {X Y : Type 0} (f : X → Y) (o : Ordering) (a b z : X) → f (match_ordering o a b z) ≡ match_ordering o (f a) (f b) (f z)
@@ -33,33 +34,20 @@ put_more c t done new k x e es rest all is taken key grown so_far =
     ap (λ z. taken_entries t (map_contents c done) (entries_view z)) is ∙ ap (λ r. r >>= λ y. taken_entries t (inserted (map_contents c done) (key_text (view e.key)) y) (entries_view rest)) taken in
     ap (λ z. taken_entries t z (entries_view rest)) here ∙ sym left ∙ so_far
 
--- the entries of one list, and then those of another
-abbrev pub joined : Entries → Entries → Entries
-joined no_entries fs = fs
-joined (entry k v es) fs = entry k v (joined es fs)
-
-pub joined_entry : (ds : List Entry) (d : Entry) (vs : Entries) → joined (entries_view (ds ++ d ∷ [])) vs ≡ joined (entries_view ds) (entry (view d.key) (view d.value) vs)
-joined_entry [] d vs = refl
-joined_entry (e ∷ ds) d vs = ap (entry (view e.key) (view e.value)) (joined_entry ds d vs)
-
-pub joined_nothing : (vs : Entries) → joined vs no_entries ≡ vs
-joined_nothing no_entries = refl
-joined_nothing (entry k v vs) = ap (entry k v) (joined_nothing vs)
-
-map_entry : {E : Type 0} (ds : List Entry) (d : Entry) (r : Result Entries E) → result_map (joined (entries_view (ds ++ d ∷ []))) r ≡ result_map (joined (entries_view ds)) (result_map (entry (view d.key) (view d.value)) r)
+map_entry : {E : Type 0} (ds : List Entry) (d : Entry) (r : Result Entries E) → result_map (joined_entries (entries_view (ds ++ d ∷ []))) r ≡ result_map (joined_entries (entries_view ds)) (result_map (entry (view d.key) (view d.value)) r)
 map_entry ds d (Ok vs) = ap Ok (joined_entry ds d vs)
 map_entry ds d (Err e) = refl
 
 -- one more entry is written
 pub write_pair_more : {A : Type 0} (w : A → Writing Value) (es rest : List (Key × A)) (p : Key × A) (ds new : List Entry) (d : Entry) (all : Writing Entries) → es ≡ p ∷ rest → w p.1 ≡ Ok (view d.value) → str (string_bytes p.0) ≡ view d.key
-    → new ≡ ds ++ d ∷ [] → result_map (joined (entries_view ds)) (written_entries w es) ≡ all → result_map (joined (entries_view new)) (written_entries w rest) ≡ all
+    → new ≡ ds ++ d ∷ [] → result_map (joined_entries (entries_view ds)) (written_entries w es) ≡ all → result_map (joined_entries (entries_view new)) (written_entries w rest) ≡ all
 write_pair_more w es rest p ds new d all is e key grown so_far =
     let left : written_entries w es ≡ result_map (entry (view d.key) (view d.value)) (written_entries w rest) =
     ap (written_entries w) is ∙ ap (λ r. r >>= λ v. result_map (entry (str (string_bytes p.0)) v) (written_entries w rest)) e ∙ ap (λ k. result_map (entry k (view d.value)) (written_entries w rest)) key in
-    ap (λ z. result_map (joined (entries_view z)) (written_entries w rest)) grown ∙ map_entry ds d _ ∙ ap (result_map (joined (entries_view ds))) (sym left) ∙ so_far
+    ap (λ z. result_map (joined_entries (entries_view z)) (written_entries w rest)) grown ∙ map_entry ds d _ ∙ ap (result_map (joined_entries (entries_view ds))) (sym left) ∙ so_far
 
 -- all are written
-pub write_pairs_end : {A : Type 0} (w : A → Writing Value) (es left : List (Key × A)) (ds : List Entry) → left ≡ [] → result_map (joined (entries_view ds)) (written_entries w left) ≡ written_entries w es
+pub write_pairs_end : {A : Type 0} (w : A → Writing Value) (es left : List (Key × A)) (ds : List Entry) → left ≡ [] → result_map (joined_entries (entries_view ds)) (written_entries w left) ≡ written_entries w es
     → written_map w es ≡ Ok (map (entries_view ds))
 write_pairs_end w es left ds h so_far =
-    ap (result_map map) (sym so_far ∙ ap (λ z. result_map (joined (entries_view ds)) (written_entries w z)) h) ∙ ap (λ vs. Ok (map vs)) (joined_nothing (entries_view ds))
+    ap (result_map map) (sym so_far ∙ ap (λ z. result_map (joined_entries (entries_view ds)) (written_entries w z)) h) ∙ ap (λ vs. Ok (map vs)) (no_entry (entries_view ds))

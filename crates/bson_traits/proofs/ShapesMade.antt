@@ -8,7 +8,7 @@ use Rattle.bson_shape.specs.Levels.{levels, max_shape_levels}
 use Rattle.bson_shape.specs.Makers.{Makes, within_levels}
 use Rattle.bson_shape.specs.declared.error.ShapeError.{ShapeError}
 use Rattle.bson_shape.specs.declared.error.ShapeError.TheVariants.{ReservedName, RepeatedName, KeyNotText, Unguarded, TooDeep, NoMemory}
-use Rattle.bson_traits.specs.Answers.{Reading, not_fitting}
+use Rattle.bson_type_data.specs.Answers.{Reading, not_fitting}
 use Rattle.bson_traits.specs.ShapeOf.{IsShapeOf, shape_of_type}
 
 made_of : (f : Form) (b : Bool) (r : Result Form ShapeError) → nat_lt max_shape_levels (levels f) ≡ b → Makes r (cond b (Err TooDeep) (Ok f)) → IsShapeOf f r

@@ -5,21 +5,9 @@ use Rattle.bson_kinds.specs.Outcome.{◌>>=◌, result_map}
 use Rattle.bson_values.specs.Value.{Value, sequence, Items, no_items, item}
 use Rattle.bson_datum.specs.View.{view, items_view}
 use Rattle.bson_datum.specs.declared.datum.Datum.{Datum}
-use Rattle.bson_traits.specs.Answers.{Reading, Writing}
+use Rattle.bson_type_data.specs.Answers.{Reading, Writing}
+use Rattle.bson_type_data.proofs.Joined.{joined, joined_datum, joined_nothing}
 use Rattle.bson_traits.specs.Sequences.{written_items, written_sequence, taken_items}
-
--- the items of one list, and then those of another
-abbrev pub joined : Items → Items → Items
-joined no_items ws = ws
-joined (item v vs) ws = item v (joined vs ws)
-
-pub joined_datum : (ds : List Datum) (d : Datum) (vs : Items) → joined (items_view (ds ++ d ∷ [])) vs ≡ joined (items_view ds) (item (view d) vs)
-joined_datum [] d vs = refl
-joined_datum (e ∷ ds) d vs = ap (item (view e)) (joined_datum ds d vs)
-
-pub joined_nothing : (vs : Items) → joined vs no_items ≡ vs
-joined_nothing no_items = refl
-joined_nothing (item v vs) = ap (item v) (joined_nothing vs)
 
 map_datum : {E : Type 0} (ds : List Datum) (d : Datum) (r : Result Items E) → result_map (joined (items_view (ds ++ d ∷ []))) r ≡ result_map (joined (items_view ds)) (result_map (item (view d)) r)
 map_datum ds d (Ok vs) = ap Ok (joined_datum ds d vs)

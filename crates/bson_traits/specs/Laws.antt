@@ -5,7 +5,7 @@ use Rattle.bson_shape.specs.Form.{Form}
 use Rattle.bson_values.specs.Value.{Value}
 use Rattle.bson_laws.specs.Fits.{Fits}
 use Rattle.bson_laws.specs.Means.{means, norm}
-use Rattle.bson_traits.specs.Answers.{Reading, Writing}
+use Rattle.bson_type_data.specs.Answers.{Reading, Writing}
 
 -- A value fits the form of a type, and what is read back of it gives these contents.
 pub record GivesBack {C : Type 0} (form : Form) (contents : C) (taken : Value → Reading C) (v : Value) : Type 0 where

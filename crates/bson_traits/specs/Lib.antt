@@ -1,11 +1,7 @@
-pub mod Answers
 pub mod ShapeOf
 pub mod Laws
-pub mod Scalars
 pub mod Sequences
 pub mod Options
 pub mod Maps
-pub mod Extended
 pub mod Structs
-pub mod Trees
 pub mod Prover

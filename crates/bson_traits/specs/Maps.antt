@@ -10,7 +10,7 @@ use Rattle.std.specs.BTreeMap.{BTreeMap, IsOrdered, insert_entry}
 use Rattle.bson_kinds.specs.Outcome.{◌>>=◌, result_map}
 use Rattle.bson_kinds.specs.Text.{Utf8}
 use Rattle.bson_values.specs.Value.{Value, str, map, Entries, no_entries, entry}
-use Rattle.bson_traits.specs.Answers.{Reading, Writing, not_fitting}
+use Rattle.bson_type_data.specs.Answers.{Reading, Writing, not_fitting}
 
 -- a key, as a map holds it
 abbrev pub Key : Type 0

@@ -2,7 +2,7 @@
 use Rattle.std.specs.Prelude.{Option, Some, None, Ok, Err}
 use Rattle.bson_kinds.specs.Outcome.{result_map}
 use Rattle.bson_values.specs.Value.{Value, none, some}
-use Rattle.bson_traits.specs.Answers.{Reading, Writing, not_fitting}
+use Rattle.bson_type_data.specs.Answers.{Reading, Writing, not_fitting}
 
 abbrev pub written_option : {A : Type 0} → (A → Writing Value) → Option A → Writing Value
 written_option w None = Ok none

@@ -2,7 +2,7 @@
 use Rattle.std.specs.Prelude.{List, [], ◌∷◌, Ok, Err}
 use Rattle.bson_kinds.specs.Outcome.{◌>>=◌, result_map}
 use Rattle.bson_values.specs.Value.{Value, sequence, Items, no_items, item}
-use Rattle.bson_traits.specs.Answers.{Reading, Writing, not_fitting}
+use Rattle.bson_type_data.specs.Answers.{Reading, Writing, not_fitting}
 
 -- what a list of values is written as, or the first failure
 abbrev pub written_items : {A : Type 0} → (A → Writing Value) → List A → Writing Items

@@ -6,7 +6,7 @@ use Rattle.bson_shape.specs.Levels.{levels, max_shape_levels}
 use Rattle.bson_shape.specs.declared.error.ShapeError.{ShapeError}
 use Rattle.bson_shape.specs.declared.error.ShapeError.TheVariants.{TooDeep, NoMemory}
 use Rattle.bson_values.specs.Value.{Value}
-use Rattle.bson_traits.specs.Answers.{Reading, not_fitting}
+use Rattle.bson_type_data.specs.Answers.{Reading, not_fitting}
 
 -- The shape of the form, where it has few enough levels; `TooDeep` where it has more, or out of memory.
 abbrev pub IsShapeOf : Form → Result Form ShapeError → Type 0

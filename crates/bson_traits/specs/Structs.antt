@@ -4,7 +4,7 @@ use Rattle.std.specs.Str.{bytes_eq}
 use Rattle.bson_kinds.specs.Outcome.{◌>>=◌, result_map}
 use Rattle.bson_kinds.specs.Text.{Utf8}
 use Rattle.bson_values.specs.Value.{Value, structure, FieldValues, no_field_values, field_value}
-use Rattle.bson_traits.specs.Answers.{Reading, Writing, not_fitting}
+use Rattle.bson_type_data.specs.Answers.{Reading, Writing, not_fitting}
 
 -- ---- written
 

@@ -2,7 +2,7 @@
 ghost use Rattle.bson_base.specs.BsonView.{tree_of, trees_of, pairs_of, scoped_of};
 ghost use Rattle.bson_base.specs.Tree as trees;
 ghost use Rattle.bson_laws.specs.InRange.{IsInRange};
-ghost use Rattle.bson_traits.specs.Trees.{IsInMemory};
+ghost use Rattle.bson_type_data.specs.Trees.{IsInMemory};
 
 use crate::traits::RoundTrip;
 use bson_base::{Bson, Document, JavaScriptCodeWithScope};

@@ -2,15 +2,11 @@
 #![tactic(auto)]
 
 mod binary;
-mod data;
 mod extended;
-mod inside;
-mod known;
 mod known_trees;
 mod map;
 mod numbers;
 mod option;
-mod refusal;
 mod scalars;
 mod sequence;
 mod shapes;
@@ -18,11 +14,8 @@ mod sixteen;
 mod structs;
 mod texts;
 mod traits;
-mod tree_data;
-mod tree_inside;
 mod trees;
 
-pub use extended::{date_datum, id_datum, stamp_datum};
-pub use refusal::not_fitting;
+pub use bson_type_data::{date_datum, id_datum, not_fitting, stamp_datum};
 pub use shapes::{lossy_shape, readable_shape, shape_of};
 pub use traits::{Deserialize, NeverNull, RoundTrip, Serialize};

@@ -1,16 +1,14 @@
 ghost use Rattle.std.specs.Prelude.{◌≡◌, IfOk, string_bytes};
 ghost use Rattle.bson_datum.specs.View.{view, entries_view};
-ghost use Rattle.bson_traits.specs.Answers.{Reads};
+ghost use Rattle.bson_type_data.specs.Answers.{Reads};
 ghost use Rattle.bson_traits.specs.Maps.{map_contents, taken_pairs, are_texts, is_text, key_text};
 
-use crate::known::known_text;
-use crate::refusal::not_fitting;
 use crate::shapes::map_shape;
-use crate::texts::string_of;
 use crate::traits::{Deserialize, NeverNull, RoundTrip, Serialize};
 use bson_datum::{Datum, Entry};
 use bson_growing::{push, put};
 use bson_shape::{Shape, ShapeError};
+use bson_type_data::{known_text, not_fitting, string_of};
 use bson_values::{Text, de, ser};
 use std::alloc::{AllocError, Global};
 use std::collections::BTreeMap;

@@ -1,7 +1,7 @@
-use crate::inside::{i8_in, i16_in, i32_in, i64_in, u8_in, u16_in, u32_in, u64_in};
 use crate::traits::{Deserialize, NeverNull, RoundTrip, Serialize};
 use bson_datum::Datum;
 use bson_shape::{Shape, ShapeError};
+use bson_type_data::{i8_in, i16_in, i32_in, i64_in, u8_in, u16_in, u32_in, u64_in};
 use bson_values::{de, ser};
 use std::alloc::Global;
 
@@ -20,7 +20,7 @@ impl<'de> Deserialize<'de> for i8 {
     ghost use Rattle.std.specs.Prelude.{ℤ};
     ghost use Rattle.bson_shape.specs.Form.{leaf};
     ghost use Rattle.bson_shape.specs.declared.leaf.Leaf.TheVariants as leaves;
-    ghost use Rattle.bson_traits.specs.Scalars.{taken_i8};
+    ghost use Rattle.bson_type_data.specs.Scalars.{taken_i8};
 
     ghost form = { leaf leaves.I8 };
 
@@ -74,7 +74,7 @@ impl<'de> Deserialize<'de> for i16 {
     ghost use Rattle.std.specs.Prelude.{ℤ};
     ghost use Rattle.bson_shape.specs.Form.{leaf};
     ghost use Rattle.bson_shape.specs.declared.leaf.Leaf.TheVariants as leaves;
-    ghost use Rattle.bson_traits.specs.Scalars.{taken_i16};
+    ghost use Rattle.bson_type_data.specs.Scalars.{taken_i16};
 
     ghost form = { leaf leaves.I16 };
 
@@ -128,7 +128,7 @@ impl<'de> Deserialize<'de> for i32 {
     ghost use Rattle.std.specs.Prelude.{ℤ};
     ghost use Rattle.bson_shape.specs.Form.{leaf};
     ghost use Rattle.bson_shape.specs.declared.leaf.Leaf.TheVariants as leaves;
-    ghost use Rattle.bson_traits.specs.Scalars.{taken_i32};
+    ghost use Rattle.bson_type_data.specs.Scalars.{taken_i32};
 
     ghost form = { leaf leaves.I32 };
 
@@ -182,7 +182,7 @@ impl<'de> Deserialize<'de> for i64 {
     ghost use Rattle.std.specs.Prelude.{ℤ};
     ghost use Rattle.bson_shape.specs.Form.{leaf};
     ghost use Rattle.bson_shape.specs.declared.leaf.Leaf.TheVariants as leaves;
-    ghost use Rattle.bson_traits.specs.Scalars.{taken_i64};
+    ghost use Rattle.bson_type_data.specs.Scalars.{taken_i64};
 
     ghost form = { leaf leaves.I64 };
 
@@ -236,7 +236,7 @@ impl<'de> Deserialize<'de> for u8 {
     ghost use Rattle.std.specs.Prelude.{ℕ};
     ghost use Rattle.bson_shape.specs.Form.{leaf};
     ghost use Rattle.bson_shape.specs.declared.leaf.Leaf.TheVariants as leaves;
-    ghost use Rattle.bson_traits.specs.Scalars.{taken_u8};
+    ghost use Rattle.bson_type_data.specs.Scalars.{taken_u8};
 
     ghost form = { leaf leaves.U8 };
 
@@ -289,7 +289,7 @@ impl<'de> Deserialize<'de> for u16 {
     ghost use Rattle.std.specs.Prelude.{ℕ};
     ghost use Rattle.bson_shape.specs.Form.{leaf};
     ghost use Rattle.bson_shape.specs.declared.leaf.Leaf.TheVariants as leaves;
-    ghost use Rattle.bson_traits.specs.Scalars.{taken_u16};
+    ghost use Rattle.bson_type_data.specs.Scalars.{taken_u16};
 
     ghost form = { leaf leaves.U16 };
 
@@ -342,7 +342,7 @@ impl<'de> Deserialize<'de> for u32 {
     ghost use Rattle.std.specs.Prelude.{ℕ};
     ghost use Rattle.bson_shape.specs.Form.{leaf};
     ghost use Rattle.bson_shape.specs.declared.leaf.Leaf.TheVariants as leaves;
-    ghost use Rattle.bson_traits.specs.Scalars.{taken_u32};
+    ghost use Rattle.bson_type_data.specs.Scalars.{taken_u32};
 
     ghost form = { leaf leaves.U32 };
 
@@ -395,7 +395,7 @@ impl<'de> Deserialize<'de> for u64 {
     ghost use Rattle.std.specs.Prelude.{ℕ};
     ghost use Rattle.bson_shape.specs.Form.{leaf};
     ghost use Rattle.bson_shape.specs.declared.leaf.Leaf.TheVariants as leaves;
-    ghost use Rattle.bson_traits.specs.Scalars.{taken_u64};
+    ghost use Rattle.bson_type_data.specs.Scalars.{taken_u64};
 
     ghost form = { leaf leaves.U64 };
 

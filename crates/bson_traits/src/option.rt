@@ -1,9 +1,9 @@
-use crate::refusal::not_fitting;
 use crate::shapes::optional_shape;
 use crate::traits::{Deserialize, NeverNull, RoundTrip, Serialize};
 use bson_datum::Datum;
 use bson_growing::boxed;
 use bson_shape::{Shape, ShapeError};
+use bson_type_data::not_fitting;
 use bson_values::{de, ser};
 use std::alloc::Global;
 

@@ -1,10 +1,8 @@
-use crate::inside::{bool_in, char_in, double_in};
-use crate::known::known_eight;
-use crate::refusal::not_fitting;
 use crate::traits::{Deserialize, NeverNull, RoundTrip, Serialize};
 use bson_base::Double;
 use bson_datum::Datum;
 use bson_shape::{Shape, ShapeError};
+use bson_type_data::{bool_in, char_in, double_in, known_eight, not_fitting};
 use bson_values::{de, ser};
 use std::alloc::Global;
 
@@ -23,7 +21,7 @@ impl<'de> Deserialize<'de> for bool {
     ghost use Rattle.std.specs.Prelude.{Bool};
     ghost use Rattle.bson_shape.specs.Form.{leaf};
     ghost use Rattle.bson_shape.specs.declared.leaf.Leaf.TheVariants as leaves;
-    ghost use Rattle.bson_traits.specs.Scalars.{taken_bool};
+    ghost use Rattle.bson_type_data.specs.Scalars.{taken_bool};
 
     ghost form = { leaf leaves.Bool };
 
@@ -73,7 +71,7 @@ impl<'de> Deserialize<'de> for char {
     ghost use Rattle.std.specs.Prelude.{ℕ};
     ghost use Rattle.bson_shape.specs.Form.{leaf};
     ghost use Rattle.bson_shape.specs.declared.leaf.Leaf.TheVariants as leaves;
-    ghost use Rattle.bson_traits.specs.Scalars.{taken_char};
+    ghost use Rattle.bson_type_data.specs.Scalars.{taken_char};
 
     ghost form = { leaf leaves.Char };
 
@@ -126,7 +124,7 @@ impl<'de> Deserialize<'de> for Double {
     ghost use Rattle.bson_kinds.specs.Text.{Bytes};
     ghost use Rattle.bson_shape.specs.Form.{leaf};
     ghost use Rattle.bson_shape.specs.declared.leaf.Leaf.TheVariants as leaves;
-    ghost use Rattle.bson_traits.specs.Scalars.{taken_double};
+    ghost use Rattle.bson_type_data.specs.Scalars.{taken_double};
 
     ghost form = { leaf leaves.Double };
 
@@ -178,7 +176,7 @@ impl Serialize for () {
 impl<'de> Deserialize<'de> for () {
     ghost use Rattle.bson_shape.specs.Form.{leaf};
     ghost use Rattle.bson_shape.specs.declared.leaf.Leaf.TheVariants as leaves;
-    ghost use Rattle.bson_traits.specs.Scalars.{taken_unit};
+    ghost use Rattle.bson_type_data.specs.Scalars.{taken_unit};
 
     ghost form = { leaf leaves.Unit };
 

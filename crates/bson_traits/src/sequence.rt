@@ -1,14 +1,14 @@
 ghost use Rattle.std.specs.Prelude.{map};
 ghost use Rattle.bson_datum.specs.View.{items_view};
-ghost use Rattle.bson_traits.specs.Answers.{Reads};
+ghost use Rattle.bson_type_data.specs.Answers.{Reads};
 ghost use Rattle.bson_traits.specs.Sequences.{taken_items};
 
-use crate::refusal::not_fitting;
 use crate::shapes::sequence_shape;
 use crate::traits::{Deserialize, NeverNull, RoundTrip, Serialize};
 use bson_datum::Datum;
 use bson_growing::push;
 use bson_shape::{Shape, ShapeError};
+use bson_type_data::not_fitting;
 use bson_values::{de, ser};
 use std::alloc::Global;
 

@@ -2,12 +2,12 @@
 ghost use Rattle.bson_shape.specs.Form as form;
 ghost use Rattle.bson_shape.specs.Form.{leaf};
 ghost use Rattle.bson_shape.specs.declared.leaf.Leaf.TheVariants as leaves;
-ghost use Rattle.bson_traits.specs.Answers.{Reads};
+ghost use Rattle.bson_type_data.specs.Answers.{Reads};
 ghost use Rattle.bson_traits.specs.ShapeOf.{IsShapeOf, shape_of_type};
 
-use crate::refusal::not_fitting;
 use crate::traits::Deserialize;
 use bson_shape::{Shape, ShapeError};
+use bson_type_data::not_fitting;
 use bson_values::de;
 use std::alloc::Global;
 

@@ -1,16 +1,13 @@
-ghost use Rattle.std.specs.Prelude.{◌≡◌, IfOk, string_bytes};
-ghost use Rattle.bson_values.specs.TextView.{text_view};
 ghost use Rattle.bson_shape.specs.Form.{leaf};
 ghost use Rattle.bson_shape.specs.declared.leaf.Leaf.TheVariants as leaves;
 ghost use Rattle.bson_traits.specs.ShapeOf.{IsShapeOf};
 
-use crate::known::known_text;
-use crate::refusal::not_fitting;
 use crate::traits::{Deserialize, NeverNull, RoundTrip, Serialize};
 use bson_datum::Datum;
 use bson_shape::{Shape, ShapeError};
+use bson_type_data::{known_text, not_fitting, string_of};
 use bson_values::{Text, de, ser};
-use std::alloc::{AllocError, Global};
+use std::alloc::Global;
 
 impl Serialize for String {
     ghost use Rattle.std.specs.Prelude.{Ok, string_bytes};
@@ -28,7 +25,7 @@ impl<'de> Deserialize<'de> for String {
     ghost use Rattle.bson_kinds.specs.Text.{Utf8};
     ghost use Rattle.bson_shape.specs.Form.{leaf};
     ghost use Rattle.bson_shape.specs.declared.leaf.Leaf.TheVariants as leaves;
-    ghost use Rattle.bson_traits.specs.Scalars.{taken_text};
+    ghost use Rattle.bson_type_data.specs.Scalars.{taken_text};
 
     ghost form = { leaf leaves.String };
 
@@ -88,7 +85,7 @@ impl<'de> Deserialize<'de> for Text<'de> {
     ghost use Rattle.bson_values.specs.TextView.{text_view};
     ghost use Rattle.bson_shape.specs.Form.{leaf};
     ghost use Rattle.bson_shape.specs.declared.leaf.Leaf.TheVariants as leaves;
-    ghost use Rattle.bson_traits.specs.Scalars.{taken_text};
+    ghost use Rattle.bson_type_data.specs.Scalars.{taken_text};
 
     ghost form = { leaf leaves.Str };
 
@@ -132,14 +129,4 @@ impl<'de> NeverNull<'de> for Text<'de> {
     ghost use Rattle.bson_traits.specs.Prover.ScalarsBack.{string_not_null};
 
     ghost not_null = { λ t _. string_not_null (text_view t) };
-}
-
-// The text, owned.
-pub(crate) fn string_of(alloc: Global, text: Text<'_>) -> Result<String, AllocError>
-    ensures text { IfOk result (λ s. string_bytes s ≡ text_view text.entry) }
-{
-    match text {
-        Text::Borrowed(text) => String::from_str(alloc, text),
-        Text::Owned(text) => Ok(text),
-    }
 }

@@ -1,17 +1,16 @@
 use crate::known_trees::{known_document, known_scoped, known_tree};
 use crate::traits::{Deserialize, NeverNull, RoundTrip, Serialize};
-use crate::tree_data::{document_datum, scoped_datum, tree_datum};
-use crate::tree_inside::{document_in, scoped_in, tree_in};
 use bson_base::{Bson, Document, JavaScriptCodeWithScope};
 use bson_datum::Datum;
 use bson_shape::{Shape, ShapeError};
+use bson_type_data::{document_datum, document_in, scoped_datum, scoped_in, tree_datum, tree_in};
 use bson_values::{de, ser};
 use std::alloc::Global;
 
 impl Serialize for Bson {
     ghost use Rattle.std.specs.Prelude.{Ok};
     ghost use Rattle.bson_base.specs.BsonView.{tree_of};
-    ghost use Rattle.bson_traits.specs.Trees.{tree_datum};
+    ghost use Rattle.bson_type_data.specs.Trees.{tree_datum};
 
     ghost written = { λ b. Ok (tree_datum (tree_of b)) };
 
@@ -25,7 +24,7 @@ impl<'de> Deserialize<'de> for Bson {
     ghost use Rattle.bson_base.specs.Tree.{Tree};
     ghost use Rattle.bson_shape.specs.Form.{leaf};
     ghost use Rattle.bson_shape.specs.declared.leaf.Leaf.TheVariants as leaves;
-    ghost use Rattle.bson_traits.specs.Trees.{taken_tree};
+    ghost use Rattle.bson_type_data.specs.Trees.{taken_tree};
 
     ghost form = { leaf leaves.Bson };
 
@@ -47,7 +46,7 @@ impl<'de> Deserialize<'de> for Bson {
 impl<'de> RoundTrip<'de> for Bson {
     ghost use Rattle.bson_base.specs.BsonView.{tree_of};
     ghost use Rattle.bson_traits.specs.Prover.TreesBack.{tree_returns};
-    ghost use Rattle.bson_traits.specs.Trees.{IsTree};
+    ghost use Rattle.bson_type_data.specs.Trees.{IsTree};
 
     ghost is_value = { λ b. IsTree (tree_of b) };
 
@@ -61,7 +60,7 @@ impl<'de> RoundTrip<'de> for Bson {
 impl Serialize for Document {
     ghost use Rattle.std.specs.Prelude.{Ok};
     ghost use Rattle.bson_base.specs.BsonView.{pairs_of};
-    ghost use Rattle.bson_traits.specs.Trees.{document_datum};
+    ghost use Rattle.bson_type_data.specs.Trees.{document_datum};
 
     ghost written = { λ d. Ok (document_datum (pairs_of d)) };
 
@@ -75,7 +74,7 @@ impl<'de> Deserialize<'de> for Document {
     ghost use Rattle.bson_base.specs.Tree.{Pairs};
     ghost use Rattle.bson_shape.specs.Form.{leaf};
     ghost use Rattle.bson_shape.specs.declared.leaf.Leaf.TheVariants as leaves;
-    ghost use Rattle.bson_traits.specs.Trees.{taken_document};
+    ghost use Rattle.bson_type_data.specs.Trees.{taken_document};
 
     ghost form = { leaf leaves.Document };
 
@@ -97,7 +96,7 @@ impl<'de> Deserialize<'de> for Document {
 impl<'de> RoundTrip<'de> for Document {
     ghost use Rattle.bson_base.specs.BsonView.{pairs_of};
     ghost use Rattle.bson_traits.specs.Prover.TreesBack.{document_returns};
-    ghost use Rattle.bson_traits.specs.Trees.{IsTreeDocument};
+    ghost use Rattle.bson_type_data.specs.Trees.{IsTreeDocument};
 
     ghost is_value = { λ d. IsTreeDocument (pairs_of d) };
 
@@ -117,7 +116,7 @@ impl<'de> NeverNull<'de> for Document {
 
 impl Serialize for JavaScriptCodeWithScope {
     ghost use Rattle.std.specs.Prelude.{Ok};
-    ghost use Rattle.bson_traits.specs.Trees.{scoped_contents, scoped_datum};
+    ghost use Rattle.bson_type_data.specs.Trees.{scoped_contents, scoped_datum};
 
     ghost written = { λ c. Ok (scoped_datum (scoped_contents c)) };
 
@@ -131,7 +130,7 @@ impl<'de> Deserialize<'de> for JavaScriptCodeWithScope {
     ghost use Rattle.bson_base.specs.Tree.{Pairs};
     ghost use Rattle.bson_shape.specs.Form.{leaf};
     ghost use Rattle.bson_shape.specs.declared.leaf.Leaf.TheVariants as leaves;
-    ghost use Rattle.bson_traits.specs.Trees.{scoped_contents, taken_scoped};
+    ghost use Rattle.bson_type_data.specs.Trees.{scoped_contents, taken_scoped};
 
     ghost form = { leaf leaves.CodeWithScope };
 
@@ -152,7 +151,7 @@ impl<'de> Deserialize<'de> for JavaScriptCodeWithScope {
 
 impl<'de> RoundTrip<'de> for JavaScriptCodeWithScope {
     ghost use Rattle.bson_traits.specs.Prover.TreesBack.{scoped_returns};
-    ghost use Rattle.bson_traits.specs.Trees.{scoped_contents, IsTreeScoped};
+    ghost use Rattle.bson_type_data.specs.Trees.{scoped_contents, IsTreeScoped};
 
     ghost is_value = { λ c. IsTreeScoped (scoped_contents c) };
 
@@ -165,7 +164,7 @@ impl<'de> RoundTrip<'de> for JavaScriptCodeWithScope {
 
 impl<'de> NeverNull<'de> for JavaScriptCodeWithScope {
     ghost use Rattle.bson_traits.specs.Prover.TreesBack.{scoped_not_null};
-    ghost use Rattle.bson_traits.specs.Trees.{scoped_contents};
+    ghost use Rattle.bson_type_data.specs.Trees.{scoped_contents};
 
     ghost not_null = { λ c. scoped_not_null (scoped_contents c) };
 }

@@ -6,7 +6,7 @@ use Rattle.bson_values.specs.Refusal.{WriteFault, Failure, no_memory, bare, plac
 use Rattle.bson_values.specs.Value.{Value}
 use Rattle.bson_values.specs.declared.ser.Error.{Error}
 use Rattle.bson_ser_tree.specs.Answers as tree
-use Rattle.bson_traits.specs.Answers.{Writing, FailsAs, Writes}
+use Rattle.bson_type_data.specs.Answers.{Writing, FailsAs, Writes}
 
 -- the type refuses the value, or memory ran out for its datum
 pub fails_then : {Y : Type 0} (f : Failure WriteFault) (w : Writing Value) (next : Value → Writing Y) → FailsAs f w → FailsAs f (w >>= next)

@@ -5,7 +5,7 @@ ghost use Rattle.bson_datum.specs.View.{view};
 ghost use Rattle.bson_laws.specs.Reads.{answered};
 ghost use Rattle.bson_laws.specs.ReadsFrom.{answered_bare, reads_tree_value};
 ghost use Rattle.bson_de_tree.specs.Options.{is_readable};
-ghost use Rattle.bson_traits.specs.Answers.{Reads};
+ghost use Rattle.bson_type_data.specs.Answers.{Reads};
 ghost use Rattle.bson_traits.specs.ShapeOf.{read_typed};
 
 use bson_base::{Bson, Document};

@@ -7,7 +7,7 @@ use Rattle.bson_shape.specs.Makers.{IsShape}
 use Rattle.bson_values.specs.Value.{Value}
 use Rattle.bson_laws.specs.Means.{norm}
 use Rattle.bson_laws.specs.Reads.{reads_document}
-use Rattle.bson_traits.specs.Answers.{Reading, Writing}
+use Rattle.bson_type_data.specs.Answers.{Reading, Writing}
 use Rattle.bson_traits.specs.Laws.{GivesBack, Returns}
 use Rattle.bson_types.specs.Typed.{ReadsBack}
 use Rattle.bson_types.proofs.Levels.{shape_is_expected}

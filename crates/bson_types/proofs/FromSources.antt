@@ -15,7 +15,7 @@ use Rattle.bson_values.specs.declared.de.Error.{Error}
 use Rattle.bson_source.specs.FirstDocument.{first_document}
 use Rattle.bson_source.specs.FromSource.{IsAll, Stops, Ends, ReadsOne, read_first}
 use Rattle.bson_de_source.proofs.Then.{stops_then, ends_then}
-use Rattle.bson_traits.specs.Answers.{Reading, FailsAs, Reads}
+use Rattle.bson_type_data.specs.Answers.{Reading, FailsAs, Reads}
 use Rattle.bson_types.specs.FromSource.{ReadsAt}
 use Rattle.bson_types.proofs.Read.{gives_so}
 

@@ -5,7 +5,7 @@ use Rattle.bson_values.specs.Refusal.{ReadFault, Failure, no_memory, bare, place
 use Rattle.bson_values.specs.declared.de.Error.{Error}
 use Rattle.bson_de_raw.specs.Gives as raw
 use Rattle.bson_de_raw.specs.Gives.{Gives}
-use Rattle.bson_traits.specs.Answers.{Reading, FailsAs, Reads}
+use Rattle.bson_type_data.specs.Answers.{Reading, FailsAs, Reads}
 
 fails : {Y : Type 0} (f : Failure ReadFault) (answer : Reading Y) → raw.FailsAs f answer → FailsAs f answer
 fails no_memory answer h = tt

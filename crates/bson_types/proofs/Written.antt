@@ -14,7 +14,7 @@ use Rattle.bson_laws.specs.Means.{means}
 use Rattle.bson_laws.specs.Spell.{spell_document, size}
 use Rattle.bson_ser_stream.specs.Writing as stream
 use Rattle.bson_ser_stream.specs.Writing.{Fails, too_long_failure}
-use Rattle.bson_traits.specs.Answers.{Writing, FailsAs}
+use Rattle.bson_type_data.specs.Answers.{Writing, FailsAs}
 use Rattle.bson_types.specs.Typed.{GivesBytes, WritesDocument, WritesBytes}
 
 -- ---- no bytes

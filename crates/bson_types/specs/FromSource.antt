@@ -9,7 +9,7 @@ use Rattle.bson_values.specs.Value.{Value}
 use Rattle.bson_values.specs.declared.de.Error.{Error}
 use Rattle.bson_shape.specs.Form.{Form}
 use Rattle.bson_source.specs.FromSource.{ReadsOne, read_first}
-use Rattle.bson_traits.specs.Answers.{Reading}
+use Rattle.bson_type_data.specs.Answers.{Reading}
 use Rattle.bson_traits.specs.ShapeOf.{shape_of_type}
 
 -- the call fails so, or memory ran out

@@ -13,7 +13,7 @@ use Rattle.bson_laws.specs.Means.{means, norm}
 use Rattle.bson_laws.specs.Reads.{reads_document}
 use Rattle.bson_laws.specs.Spell.{spell_document, size}
 use Rattle.bson_ser_stream.specs.Writing.{Fails, too_long_failure}
-use Rattle.bson_traits.specs.Answers.{Reading, Writing}
+use Rattle.bson_type_data.specs.Answers.{Reading, Writing}
 use Rattle.bson_traits.specs.ShapeOf.{read_typed}
 
 -- ---- writing

@@ -1,7 +1,7 @@
 ghost use Rattle.bson_datum.specs.View.{view};
 ghost use Rattle.bson_laws.specs.Reads.{reads_document};
 ghost use Rattle.bson_de_raw.specs.ReadsLossy.{reads_lossy};
-ghost use Rattle.bson_traits.specs.Answers.{Reads};
+ghost use Rattle.bson_type_data.specs.Answers.{Reads};
 ghost use Rattle.bson_traits.specs.ShapeOf.{read_typed};
 
 use bson_datum::Datum;

@@ -4,7 +4,7 @@ use Rattle.bson_shape.specs.Form as form
 use Rattle.bson_shape.specs.Form.{Form}
 use Rattle.bson_values.specs.Value.{Value}
 use Rattle.bson_laws.proofs.Fitting.{lossy_fits}
-use Rattle.bson_traits.specs.Answers.{Reading, Writing}
+use Rattle.bson_type_data.specs.Answers.{Reading, Writing}
 use Rattle.bson_traits.specs.Laws.{Returns}
 
 pub lossy_returns : {C : Type 0} (f : Form) (c : C) (t : Value → Reading C) (r : Writing Value) → Returns f c t r → Returns (form.lossy f) c t r

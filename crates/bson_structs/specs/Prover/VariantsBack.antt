@@ -6,7 +6,7 @@ use Rattle.bson_shape.specs.Form.{Form, enumeration, Variants, unit_content, new
 use Rattle.bson_values.specs.Value.{Value, unit_variant, newtype_variant}
 use Rattle.bson_laws.specs.Means.{means, under_name, norm}
 use Rattle.bson_laws.specs.Variants.{content_of}
-use Rattle.bson_traits.specs.Answers.{Reading, Writing}
+use Rattle.bson_type_data.specs.Answers.{Reading, Writing}
 use Rattle.bson_traits.specs.Laws.{Returns, IsNeverNull}
 use Rattle.bson_structs.specs.Variants.{written_unit, written_newtype}
 

@@ -21,7 +21,7 @@ use Rattle.bson_laws.specs.InRange.{IsInRange}
 use Rattle.bson_laws.specs.Means.{means, norm}
 use Rattle.bson_laws.proofs.DatumNormal.{datum_norm, datum_means}
 use Rattle.bson_traits.specs.Laws.{Returns, IsNeverNull}
-use Rattle.bson_traits.specs.Extended.{taken_where, taken_as, sized, decimal_datum, decimal_said, taken_decimal, binary_datum, binary_said, taken_binary, uuid_value, uuid_said, taken_uuid, pointer_datum, pointer_said, taken_pointer, regex_datum, regex_said, with_sorted, taken_regex, id_datum, id_said, taken_id, date_datum, date_said, taken_date, unsigned, both, stamp_datum, stamp_said, taken_stamp}
+use Rattle.bson_type_data.specs.Extended.{taken_where, taken_as, sized, decimal_datum, decimal_said, taken_decimal, binary_datum, binary_said, taken_binary, uuid_value, uuid_said, taken_uuid, pointer_datum, pointer_said, taken_pointer, regex_datum, regex_said, with_sorted, taken_regex, id_datum, id_said, taken_id, date_datum, date_said, taken_date, unsigned, both, stamp_datum, stamp_said, taken_stamp}
 
 -- the datum of a tree is of the tree's kind
 pub of_kind : (t : Tree) → IsInRange t → IsValueOfKind (kind t) (datum itself t)

@@ -23,7 +23,7 @@ use Rattle.bson_shape.specs.declared.leaf.Leaf.TheVariants as leaves
 use Rattle.bson_values.specs.Value.{Value, str, map, Entries, entry}
 use Rattle.bson_laws.specs.Fits.{EntriesFit}
 use Rattle.bson_laws.specs.Means.{means_entries, norm_entries}
-use Rattle.bson_traits.specs.Answers.{Reading, Writing}
+use Rattle.bson_type_data.specs.Answers.{Reading, Writing}
 use Rattle.bson_traits.specs.Laws.{Returns, IsNeverNull}
 use Rattle.bson_traits.specs.Maps.{Key, written_entries, written_map, pair_contents, map_contents, are_texts, inserted, taken_entries, taken_map, IsPairOf, IsMapOf}
 

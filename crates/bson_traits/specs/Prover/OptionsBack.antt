@@ -6,7 +6,7 @@ use Rattle.bson_shape.specs.Form as form
 use Rattle.bson_shape.specs.Form.{Form}
 use Rattle.bson_values.specs.Value.{Value, some}
 use Rattle.bson_laws.specs.Means.{means, norm, some_or_none}
-use Rattle.bson_traits.specs.Answers.{Reading, Writing}
+use Rattle.bson_type_data.specs.Answers.{Reading, Writing}
 use Rattle.bson_traits.specs.Laws.{Returns, IsNeverNull}
 use Rattle.bson_traits.specs.Options.{written_option, taken_option, IsOptional}
 

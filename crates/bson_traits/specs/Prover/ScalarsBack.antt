@@ -12,7 +12,7 @@ use Rattle.bson_shape.specs.Form.{leaf}
 use Rattle.bson_shape.specs.declared.leaf.Leaf.TheVariants as leaves
 use Rattle.bson_values.specs.Value.{i8, i16, i32, i64, u8, u16, u32, u64, in_range, greatest, boolean, integer, double, character, str, unit}
 use Rattle.bson_traits.specs.Laws.{Returns, IsNeverNull}
-use Rattle.bson_traits.specs.Scalars.{taken_bool, taken_i8, taken_i16, taken_i32, taken_i64, taken_u8, taken_u16, taken_u32, taken_u64, taken_double, taken_char, taken_text, taken_unit}
+use Rattle.bson_type_data.specs.Scalars.{taken_bool, taken_i8, taken_i16, taken_i32, taken_i64, taken_u8, taken_u16, taken_u32, taken_u64, taken_double, taken_char, taken_text, taken_unit}
 
 -- ---- the ranges of the integer types
 

@@ -10,7 +10,7 @@ use Rattle.bson_shape.specs.Form.{Form}
 use Rattle.bson_values.specs.Value.{Value, sequence, Items, item}
 use Rattle.bson_laws.specs.Fits.{ItemsFit}
 use Rattle.bson_laws.specs.Means.{means_items, norm_items}
-use Rattle.bson_traits.specs.Answers.{Reading, Writing}
+use Rattle.bson_type_data.specs.Answers.{Reading, Writing}
 use Rattle.bson_traits.specs.Laws.{Returns, IsNeverNull}
 use Rattle.bson_traits.specs.Sequences.{written_items, written_sequence, taken_items, taken_sequence}
 

@@ -13,7 +13,7 @@ use Rattle.bson_shape.specs.Form.{Form, Fields}
 use Rattle.bson_values.specs.Value.{Value, structure, FieldValues, no_field_values, field_value}
 use Rattle.bson_laws.specs.Fits.{FieldsFit}
 use Rattle.bson_laws.specs.Means.{means_fields, norm, norm_fields, norm_struct, struct_means}
-use Rattle.bson_traits.specs.Answers.{Reading, Writing}
+use Rattle.bson_type_data.specs.Answers.{Reading, Writing}
 use Rattle.bson_traits.specs.Laws.{Returns, IsNeverNull}
 use Rattle.bson_traits.specs.Structs.{and_field, no_fields, written_structure, struct_fields, next_field, no_field_left, then_field, last_field, taken_structure}
 

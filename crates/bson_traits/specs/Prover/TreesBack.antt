@@ -16,10 +16,10 @@ use Rattle.bson_laws.specs.InRange.{IsInRange, ArePairsInRange, AreTreesInRange}
 use Rattle.bson_laws.specs.Means.{norm}
 use Rattle.bson_laws.proofs.DatumNormal.{datum_norm}
 use Rattle.bson_laws.proofs.Fitted.{unlike_swap}
-use Rattle.bson_traits.specs.Extended.{both, id_datum, id_said, date_datum, date_said, stamp_datum, stamp_said, decimal_datum, decimal_said, binary_datum, binary_said, pointer_datum, pointer_said, regex_datum, regex_said, with_sorted}
+use Rattle.bson_type_data.specs.Extended.{both, id_datum, id_said, date_datum, date_said, stamp_datum, stamp_said, decimal_datum, decimal_said, binary_datum, binary_said, pointer_datum, pointer_said, regex_datum, regex_said, with_sorted}
 use Rattle.bson_traits.specs.Laws.{Returns, IsNeverNull}
 use Rattle.bson_traits.specs.Prover.ExtendedBack.{of_kind, own_datum, only_null, id_says, date_says, stamp_says, sized_is, binary_says}
-use Rattle.bson_traits.specs.Trees.{text_under, text_said, taken_only, stamp_tree, code_and_scope, scoped_tree, taken_tree, taken_trees, taken_pairs, taken_document, taken_scoped, IsInMemory, ArePairsInMemory, AreTreesInMemory, tree_datum, document_datum, scoped_datum, IsTree, IsTreeDocument, IsTreeScoped}
+use Rattle.bson_type_data.specs.Trees.{text_under, text_said, taken_only, stamp_tree, code_and_scope, scoped_tree, taken_tree, taken_trees, taken_pairs, taken_document, taken_scoped, IsInMemory, ArePairsInMemory, AreTreesInMemory, tree_datum, document_datum, scoped_datum, IsTree, IsTreeDocument, IsTreeScoped}
 
 -- ---- pairs that are put one after another
 

@@ -3,7 +3,7 @@ use Rattle.std.proofs.Common.{◌≤◌, ◌+◌, ◌*◌, drop}
 use Rattle.bson_base.specs.BsonView.{tree_of, trees_of, pairs_of}
 use Rattle.bson_base.specs.Tree.{depth, pairs_depth, trees_depth}
 use Rattle.bson_laws.specs.InRange.{ArePairsInRange, AreTreesInRange}
-use Rattle.bson_traits.specs.Trees.{ArePairsInMemory, AreTreesInMemory}
+use Rattle.bson_type_data.specs.Trees.{ArePairsInMemory, AreTreesInMemory}
 use Rattle.bson_traits.proofs.known_trees.+known.Given as goal
 
 abbrev pub decreases-known_tree : goal.decreases-known_tree

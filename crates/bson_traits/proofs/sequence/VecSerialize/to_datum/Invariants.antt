@@ -2,7 +2,7 @@ use Rattle.std.proofs.Common.{◌≡◌, drop}
 use Rattle.bson_kinds.specs.Outcome.{result_map}
 use Rattle.bson_datum.specs.View.{items_view}
 use Rattle.bson_traits.specs.Sequences.{written_items}
-use Rattle.bson_traits.proofs.Steps.{joined}
+use Rattle.bson_type_data.proofs.Joined.{joined}
 use Rattle.bson_traits.proofs.sequence.VecSerialize.to_datum.Given as goal
 
 -- the items so far, and what is left

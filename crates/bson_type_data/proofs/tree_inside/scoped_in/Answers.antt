@@ -1,8 +1,8 @@
 use Rattle.std.proofs.Common.{sym, subst, ◌∙◌}
-use Rattle.bson_traits.specs.Answers.{Reads}
-use Rattle.bson_traits.specs.Trees.{scoped_contents}
-use Rattle.bson_traits.proofs.TreeSteps.{scoped_value}
-use Rattle.bson_traits.proofs.tree_inside.scoped_in.Goals as goal
+use Rattle.bson_type_data.specs.Answers.{Reads}
+use Rattle.bson_type_data.specs.Trees.{scoped_contents}
+use Rattle.bson_type_data.proofs.TreeSteps.{scoped_value}
+use Rattle.bson_type_data.proofs.tree_inside.scoped_in.Goals as goal
 
 pub returns-then-is_scoped : goal.returns-then-is_scoped
 returns-then-is_scoped c =

@@ -20,11 +20,10 @@ use Rattle.bson_values.specs.Value.{Items, item, Entries, entry, str, structure}
 use Rattle.bson_values.specs.Refusal.{Failure, ReadFault}
 use Rattle.bson_values.specs.TextView.{text_view}
 use Rattle.bson_values.specs.declared.text.Text.{Text}
-use Rattle.bson_traits.specs.Answers.{Reading, not_fitting, FailsAs}
-use Rattle.bson_traits.specs.Trees.{scoped_name, named_code, code_and_scope, scoped_tree, taken_struct, taken_tree, taken_trees, taken_document, taken_fields, taken_scoped}
-use Rattle.bson_traits.specs.Scalars.{taken_text}
-use Rattle.bson_traits.proofs.MapSteps.{joined as joined_entries, joined_entry, joined_nothing as no_entry}
-use Rattle.bson_traits.proofs.Steps.{joined, joined_datum, joined_nothing}
+use Rattle.bson_type_data.specs.Answers.{Reading, not_fitting, FailsAs}
+use Rattle.bson_type_data.specs.Trees.{scoped_name, named_code, code_and_scope, scoped_tree, taken_struct, taken_tree, taken_trees, taken_document, taken_fields, taken_scoped}
+use Rattle.bson_type_data.specs.Scalars.{taken_text}
+use Rattle.bson_type_data.proofs.Joined.{joined, joined_datum, joined_nothing, joined_entries, joined_entry, no_entry}
 
 -- ---- values that are made of data
 

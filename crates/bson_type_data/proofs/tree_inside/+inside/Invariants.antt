@@ -4,9 +4,9 @@ use Rattle.bson_base.specs.BsonView.{trees_of, pairs_of}
 use Rattle.bson_base.specs.Tree.{no_pairs}
 use Rattle.bson_kinds.specs.Outcome.{result_map}
 use Rattle.bson_datum.specs.View.{items_view, entries_view}
-use Rattle.bson_traits.specs.Trees.{taken_trees, taken_pairs}
-use Rattle.bson_traits.proofs.TreeSteps.{trees_joined}
-use Rattle.bson_traits.proofs.tree_inside.+inside.Given as goal
+use Rattle.bson_type_data.specs.Trees.{taken_trees, taken_pairs}
+use Rattle.bson_type_data.proofs.TreeSteps.{trees_joined}
+use Rattle.bson_type_data.proofs.tree_inside.+inside.Given as goal
 
 abbrev pub invariant-values_in-loop-item : goal.invariant-values_in-loop-item
 invariant-values_in-loop-item l = result_map (trees_joined (trees_of l.values.items)) (taken_trees (items_view (drop l.item-index l.items))) ≡ taken_trees (items_view l.items)

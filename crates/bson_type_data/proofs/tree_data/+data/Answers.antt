@@ -1,8 +1,8 @@
 use Rattle.std.proofs.Common.{ap, ◌∙◌}
 use Rattle.bson_datum.proofs.Views.{view-Map, view-Seq}
 use Rattle.bson_values.specs.Value.{map, sequence, str}
-use Rattle.bson_traits.proofs.TreeSteps.{data_more, data_all, values_left, entry_more, entries_all, pairs_left}
-use Rattle.bson_traits.proofs.tree_data.+data.Goals as goal
+use Rattle.bson_type_data.proofs.TreeSteps.{data_more, data_all, values_left, entry_more, entries_all, pairs_left}
+use Rattle.bson_type_data.proofs.tree_data.+data.Goals as goal
 
 pub values_datum-loop-value-preserved : goal.values_datum-loop-value-preserved
 values_datum-loop-value-preserved t c = record {

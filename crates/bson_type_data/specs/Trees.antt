@@ -17,9 +17,9 @@ use Rattle.bson_datum.specs.Access.{field, as_str}
 use Rattle.bson_values.specs.Value.{IntegerType, i32, i64, Value, boolean, integer, double, str, bytes, unit, sequence, map, structure, Items, no_items, item, Entries, no_entries, entry, FieldValues, no_field_values, field_value}
 use Rattle.bson_laws.specs.Datum.{datum, itself, wrapped}
 use Rattle.bson_laws.specs.InRange.{IsInRange}
-use Rattle.bson_traits.specs.Answers.{Reading, not_fitting}
-use Rattle.bson_traits.specs.Extended.{taken_where, taken_as, taken_id, taken_date, taken_stamp, taken_decimal, taken_binary, taken_pointer, taken_regex}
-use Rattle.bson_traits.specs.Scalars.{natural, taken_text}
+use Rattle.bson_type_data.specs.Answers.{Reading, not_fitting}
+use Rattle.bson_type_data.specs.Extended.{taken_where, taken_as, taken_id, taken_date, taken_stamp, taken_decimal, taken_binary, taken_pointer, taken_regex}
+use Rattle.bson_type_data.specs.Scalars.{natural, taken_text}
 
 -- the datum of a tree
 abbrev pub tree_datum : Tree → Value

@@ -4,9 +4,8 @@ use Rattle.bson_base.specs.BsonView.{tree_of, trees_of, pairs_of}
 use Rattle.bson_base.specs.Tree.{depth, pairs_depth, trees_depth}
 use Rattle.bson_datum.specs.View.{items_view, entries_view}
 use Rattle.bson_laws.specs.Datum.{pair_data, tree_data, itself}
-use Rattle.bson_traits.proofs.Steps.{joined as joined_items}
-use Rattle.bson_traits.proofs.MapSteps.{joined as joined_entries}
-use Rattle.bson_traits.proofs.tree_data.+data.Given as goal
+use Rattle.bson_type_data.proofs.Joined.{joined as joined_items, joined_entries}
+use Rattle.bson_type_data.proofs.tree_data.+data.Given as goal
 
 abbrev pub decreases-tree_datum : goal.decreases-tree_datum
 decreases-tree_datum l = 3 * depth (tree_of l.value.now)

@@ -1,6 +1,6 @@
 ghost use Rattle.std.specs.Prelude.{◌≡◌};
 ghost use Rattle.bson_values.specs.ErrorView.{read_failure};
-ghost use Rattle.bson_traits.specs.Answers.{not_fitting};
+ghost use Rattle.bson_type_data.specs.Answers.{not_fitting};
 
 use bson_values::{Cause, de};
 

@@ -10,7 +10,7 @@ use Rattle.bson_datum.specs.Access.{field, as_str, as_i64, as_bytes}
 use Rattle.bson_values.specs.Same.{same}
 use Rattle.bson_values.specs.Value.{Value, bytes, integer, i64, u32, in_range, newtype, mode}
 use Rattle.bson_laws.specs.Datum.{datum, uuid_datum, itself, wrapped, nameless, two}
-use Rattle.bson_traits.specs.Answers.{Reading, not_fitting}
+use Rattle.bson_type_data.specs.Answers.{Reading, not_fitting}
 
 -- contents that were found in a value, where the value is their datum
 abbrev pub taken_where : {C : Type 0} → (datum_of : C → Value) → Value → Option C → Reading C

@@ -1,14 +1,19 @@
 // The number, the truth value or the character that a value is. Each looks at a datum that is dropped by the caller.
 ghost use Rattle.bson_datum.specs.View.{view};
-ghost use Rattle.bson_traits.specs.Answers.{Reads};
-ghost use Rattle.bson_traits.specs.Scalars.{taken_bool, taken_i8, taken_i16, taken_i32, taken_i64, taken_u8, taken_u16, taken_u32, taken_u64, taken_double, taken_char};
+ghost use Rattle.bson_type_data.specs.Answers.{Reads};
+ghost use Rattle.bson_type_data.specs.Scalars.{taken_bool, taken_i8, taken_i16, taken_i32, taken_i64, taken_u8, taken_u16, taken_u32, taken_u64, taken_double, taken_char};
 
 use crate::refusal::not_fitting;
 use bson_base::Double;
 use bson_datum::Datum;
 use bson_values::de;
 
-pub(crate) fn bool_in(datum: &Datum<'_>) -> de::Result<bool>
+/// The truth value that a datum is.
+///
+/// # Errors
+///
+/// `NotFitting` exactly where it is none.
+pub fn bool_in(datum: &Datum<'_>) -> de::Result<bool>
     ensures { Reads (λ x. x) result (taken_bool (view datum.now)) }
 {
     match datum {
@@ -17,7 +22,12 @@ pub(crate) fn bool_in(datum: &Datum<'_>) -> de::Result<bool>
     }
 }
 
-pub(crate) fn i8_in(datum: &Datum<'_>) -> de::Result<i8>
+/// The `i8` that a datum is.
+///
+/// # Errors
+///
+/// `NotFitting` exactly where it is none.
+pub fn i8_in(datum: &Datum<'_>) -> de::Result<i8>
     ensures { Reads (λ x. x) result (taken_i8 (view datum.now)) }
 {
     match datum {
@@ -26,7 +36,12 @@ pub(crate) fn i8_in(datum: &Datum<'_>) -> de::Result<i8>
     }
 }
 
-pub(crate) fn i16_in(datum: &Datum<'_>) -> de::Result<i16>
+/// The `i16` that a datum is.
+///
+/// # Errors
+///
+/// `NotFitting` exactly where it is none.
+pub fn i16_in(datum: &Datum<'_>) -> de::Result<i16>
     ensures { Reads (λ x. x) result (taken_i16 (view datum.now)) }
 {
     match datum {
@@ -35,7 +50,12 @@ pub(crate) fn i16_in(datum: &Datum<'_>) -> de::Result<i16>
     }
 }
 
-pub(crate) fn i32_in(datum: &Datum<'_>) -> de::Result<i32>
+/// The `i32` that a datum is.
+///
+/// # Errors
+///
+/// `NotFitting` exactly where it is none.
+pub fn i32_in(datum: &Datum<'_>) -> de::Result<i32>
     ensures { Reads (λ x. x) result (taken_i32 (view datum.now)) }
 {
     match datum {
@@ -44,7 +64,12 @@ pub(crate) fn i32_in(datum: &Datum<'_>) -> de::Result<i32>
     }
 }
 
-pub(crate) fn i64_in(datum: &Datum<'_>) -> de::Result<i64>
+/// The `i64` that a datum is.
+///
+/// # Errors
+///
+/// `NotFitting` exactly where it is none.
+pub fn i64_in(datum: &Datum<'_>) -> de::Result<i64>
     ensures { Reads (λ x. x) result (taken_i64 (view datum.now)) }
 {
     match datum {
@@ -53,7 +78,12 @@ pub(crate) fn i64_in(datum: &Datum<'_>) -> de::Result<i64>
     }
 }
 
-pub(crate) fn u8_in(datum: &Datum<'_>) -> de::Result<u8>
+/// The `u8` that a datum is.
+///
+/// # Errors
+///
+/// `NotFitting` exactly where it is none.
+pub fn u8_in(datum: &Datum<'_>) -> de::Result<u8>
     ensures { Reads (λ x. x) result (taken_u8 (view datum.now)) }
 {
     match datum {
@@ -62,7 +92,12 @@ pub(crate) fn u8_in(datum: &Datum<'_>) -> de::Result<u8>
     }
 }
 
-pub(crate) fn u16_in(datum: &Datum<'_>) -> de::Result<u16>
+/// The `u16` that a datum is.
+///
+/// # Errors
+///
+/// `NotFitting` exactly where it is none.
+pub fn u16_in(datum: &Datum<'_>) -> de::Result<u16>
     ensures { Reads (λ x. x) result (taken_u16 (view datum.now)) }
 {
     match datum {
@@ -71,7 +106,12 @@ pub(crate) fn u16_in(datum: &Datum<'_>) -> de::Result<u16>
     }
 }
 
-pub(crate) fn u32_in(datum: &Datum<'_>) -> de::Result<u32>
+/// The `u32` that a datum is.
+///
+/// # Errors
+///
+/// `NotFitting` exactly where it is none.
+pub fn u32_in(datum: &Datum<'_>) -> de::Result<u32>
     ensures { Reads (λ x. x) result (taken_u32 (view datum.now)) }
 {
     match datum {
@@ -80,7 +120,12 @@ pub(crate) fn u32_in(datum: &Datum<'_>) -> de::Result<u32>
     }
 }
 
-pub(crate) fn u64_in(datum: &Datum<'_>) -> de::Result<u64>
+/// The `u64` that a datum is.
+///
+/// # Errors
+///
+/// `NotFitting` exactly where it is none.
+pub fn u64_in(datum: &Datum<'_>) -> de::Result<u64>
     ensures { Reads (λ x. x) result (taken_u64 (view datum.now)) }
 {
     match datum {
@@ -89,7 +134,12 @@ pub(crate) fn u64_in(datum: &Datum<'_>) -> de::Result<u64>
     }
 }
 
-pub(crate) fn double_in(datum: &Datum<'_>) -> de::Result<Double>
+/// The Double that a datum is.
+///
+/// # Errors
+///
+/// `NotFitting` exactly where it is none.
+pub fn double_in(datum: &Datum<'_>) -> de::Result<Double>
     ensures { Reads (λ d. d.0) result (taken_double (view datum.now)) }
 {
     match datum {
@@ -98,7 +148,12 @@ pub(crate) fn double_in(datum: &Datum<'_>) -> de::Result<Double>
     }
 }
 
-pub(crate) fn char_in(datum: &Datum<'_>) -> de::Result<char>
+/// The character that a datum is.
+///
+/// # Errors
+///
+/// `NotFitting` exactly where it is none.
+pub fn char_in(datum: &Datum<'_>) -> de::Result<char>
     ensures { Reads (λ x. x) result (taken_char (view datum.now)) }
 {
     match datum {

@@ -4,7 +4,7 @@ ghost use Rattle.bson_base.specs.BsonView.{tree_of, trees_of, pairs_of, scoped_o
 ghost use Rattle.bson_base.specs.Tree as trees;
 ghost use Rattle.bson_datum.specs.View.{view};
 ghost use Rattle.bson_laws.specs.Datum.{datum, itself};
-ghost use Rattle.bson_traits.specs.Trees.{text_under};
+ghost use Rattle.bson_type_data.specs.Trees.{text_under};
 
 use crate::binary::borrowed_binary;
 use crate::data::{struct_of_one, struct_of_two};
@@ -17,10 +17,14 @@ use bson_growing::push;
 use bson_values::Text;
 use std::alloc::{AllocError, Global};
 
-// The datum of a value.
+/// The datum of a value.
+///
+/// # Errors
+///
+/// Memory ran out.
 #[cycle(data)]
 #[tactic(auto, using(bson_base::proofs::Rows::row_items))]
-pub(crate) fn tree_datum(alloc: Global, value: &Bson) -> Result<Datum<'_>, AllocError>
+pub fn tree_datum(alloc: Global, value: &Bson) -> Result<Datum<'_>, AllocError>
     ensures { IfOk result (λ d. view d ≡ datum itself (tree_of value.now)) }
 {
     match value {
@@ -60,9 +64,13 @@ fn values_datum(alloc: Global, values: &[Bson]) -> Result<Datum<'_>, AllocError>
     Ok(Datum::Seq(items))
 }
 
-// The datum of a document.
+/// The datum of a document.
+///
+/// # Errors
+///
+/// Memory ran out.
 #[cycle(data)]
-pub(crate) fn document_datum(alloc: Global, document: &Document) -> Result<Datum<'_>, AllocError>
+pub fn document_datum(alloc: Global, document: &Document) -> Result<Datum<'_>, AllocError>
     ensures { IfOk result (λ d. view d ≡ datum itself (trees.document (pairs_of document.now))) }
 {
     let mut entries = Vec::with_capacity(alloc, document.len())?;
@@ -79,9 +87,13 @@ pub(crate) fn document_datum(alloc: Global, document: &Document) -> Result<Datum
     Ok(Datum::Map(entries))
 }
 
-// The datum of code with its scope.
+/// The datum of code with its scope.
+///
+/// # Errors
+///
+/// Memory ran out.
 #[cycle(data)]
-pub(crate) fn scoped_datum(
+pub fn scoped_datum(
     alloc: Global,
     scoped: &JavaScriptCodeWithScope,
 ) -> Result<Datum<'_>, AllocError>

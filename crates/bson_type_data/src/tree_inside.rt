@@ -10,9 +10,9 @@ ghost use Rattle.bson_base.specs.Tree.{no_pairs};
 ghost use Rattle.bson_values.specs.ByteStrView.{bytes_view};
 ghost use Rattle.bson_values.specs.TextView.{text_view};
 ghost use Rattle.bson_datum.specs.View.{view, items_view, entries_view, fields_view};
-ghost use Rattle.bson_traits.specs.Answers.{Reads};
-ghost use Rattle.bson_traits.specs.Scalars.{taken_text};
-ghost use Rattle.bson_traits.specs.Trees.{text_under, text_said, taken_under, taken_only, taken_kind, taken_struct, taken_tree, taken_trees, taken_pairs, taken_document, taken_fields, taken_scoped, are_scoped, named_code, scoped_name, scoped_tree, scoped_contents};
+ghost use Rattle.bson_type_data.specs.Answers.{Reads};
+ghost use Rattle.bson_type_data.specs.Scalars.{taken_text};
+ghost use Rattle.bson_type_data.specs.Trees.{text_under, text_said, taken_under, taken_only, taken_kind, taken_struct, taken_tree, taken_trees, taken_pairs, taken_document, taken_fields, taken_scoped, are_scoped, named_code, scoped_name, scoped_tree, scoped_contents};
 
 use crate::binary::binary_of;
 use crate::data::struct_of_one;
@@ -28,10 +28,14 @@ use bson_kinds::{ElementType, reserved_kind};
 use bson_values::{ByteStr, Text, de};
 use std::alloc::{AllocError, Global};
 
-// The value that a datum is.
+/// The value that a datum is.
+///
+/// # Errors
+///
+/// `NotFitting` exactly where it is none, or out of memory.
 #[cycle(inside)]
 #[tactic(auto, using(bson_base::proofs::Rows::row_items, bson_datum::proofs::Views::item_rows_items, bson_datum::proofs::Views::entry_rows_items, bson_datum::proofs::Views::rows_items))]
-pub(crate) fn tree_in(alloc: Global, datum: &Datum<'_>) -> de::Result<Bson>
+pub fn tree_in(alloc: Global, datum: &Datum<'_>) -> de::Result<Bson>
     ensures { Reads tree_of result (taken_tree (view datum.now)) }
 {
     match datum {
@@ -81,10 +85,14 @@ fn pairs_in(alloc: Global, entries: &[Entry<'_>]) -> de::Result<Document>
     Ok(document)
 }
 
-// The document that a datum is.
+/// The document that a datum is.
+///
+/// # Errors
+///
+/// `NotFitting` exactly where it is none, or out of memory.
 #[cycle(inside)]
 #[tactic(auto, using(bson_datum::proofs::Views::entry_rows_items))]
-pub(crate) fn document_in(alloc: Global, datum: &Datum<'_>) -> de::Result<Document>
+pub fn document_in(alloc: Global, datum: &Datum<'_>) -> de::Result<Document>
     ensures { Reads pairs_of result (taken_document (view datum.now)) }
 {
     match datum {
@@ -148,9 +156,13 @@ fn is_scoped(name: &Text<'_>) -> bool
     name.as_str() == "$codeWithScope"
 }
 
-// The code with its scope that a datum is.
+/// The code with its scope that a datum is.
+///
+/// # Errors
+///
+/// `NotFitting` exactly where it is none, or out of memory.
 #[tactic(auto, using(bson_datum::proofs::Views::rows_items))]
-pub(crate) fn scoped_in(alloc: Global, datum: &Datum<'_>) -> de::Result<JavaScriptCodeWithScope>
+pub fn scoped_in(alloc: Global, datum: &Datum<'_>) -> de::Result<JavaScriptCodeWithScope>
     ensures { Reads scoped_contents result (taken_scoped (view datum.now)) }
 {
     match datum {

@@ -4,7 +4,7 @@ use Rattle.bson_kinds.specs.Outcome.{◌>>=◌}
 use Rattle.bson_kinds.specs.Text.{Bytes, Utf8}
 use Rattle.bson_values.specs.Same.{same_type}
 use Rattle.bson_values.specs.Value.{IntegerType, Value, boolean, integer, i8, i16, i32, i64, u8, u16, u32, u64, double, character, str, unit}
-use Rattle.bson_traits.specs.Answers.{Reading, not_fitting}
+use Rattle.bson_type_data.specs.Answers.{Reading, not_fitting}
 
 abbrev pub taken_bool : Value → Reading Bool
 taken_bool (boolean b) = Ok b

@@ -1,0 +1,4 @@
+pub mod Answers
+pub mod Scalars
+pub mod Extended
+pub mod Trees
