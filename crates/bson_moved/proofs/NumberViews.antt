@@ -57,7 +57,7 @@ number_present raw_documents t h = absurd (none_some (number_at raw_documents) (
 number_present raw_arrays t h = absurd (none_some (number_at raw_arrays) (integer_in t) (λ n. refl) h)
 number_present raw_values t h = absurd (none_some (number_at raw_values) (integer_in t) (λ n. refl) h)
 
--- a simple leaf that takes neither truths nor doubles nor texts takes numbers
+-- a simple leaf that takes neither booleans nor doubles nor texts takes numbers
 pub number_same : (l : Leaf) (t : Tree) → is_simple_leaf l ≡ true → (l ≡ leaves.Bool → ⊥) → (l ≡ leaves.Double → ⊥) → (l ≡ leaves.String → ⊥) → views_leaf (leaf_kind l) t ≡ number_view (leaf_kind l) t
 number_same leaves.Bool t h b d s = absurd (b refl)
 number_same leaves.Double t h b d s = absurd (d refl)

@@ -11,7 +11,7 @@ use Rattle.bson_laws.specs.Plain.{IsKept, IsPlainIn, AreFieldsPlainIn}
 use Rattle.bson_laws.specs.ReadsLeaf.{borrows}
 use Rattle.bson_laws.specs.SuitsTrees.{SuitsTrees, FieldsSuitTrees}
 use Rattle.bson_laws.specs.Unrolled.{Meanings, unrolled, unrolled_fields}
-use Rattle.bson_moved.specs.Simple.{is_free, is_simple, are_simple, is_simple_leaf}
+use Rattle.bson_moved.specs.Simple.{is_free_name, is_simple, are_simple, is_simple_leaf}
 
 not_true : (b : Bool) → not b ≡ true → b ≡ false
 not_true true e = absurd cc
@@ -22,13 +22,13 @@ both true c h = (refl, h)
 both false c h = absurd cc
 
 -- a field has a free name and a simple shape, and so have those after it
-pub field_parts : (name : Utf8) (s : Form) (fs : Fields) → are_simple (field name s fs) ≡ true → (is_free name ≡ true) × (is_simple s ≡ true) × (are_simple fs ≡ true)
+pub field_parts : (name : Utf8) (s : Form) (fs : Fields) → are_simple (field name s fs) ≡ true → (is_free_name name ≡ true) × (is_simple s ≡ true) × (are_simple fs ≡ true)
 field_parts name s fs h =
-    let last = both (is_free name && is_simple s) (are_simple fs) h in
-    let first = both (is_free name) (is_simple s) last.0 in
+    let last = both (is_free_name name && is_simple s) (are_simple fs) h in
+    let first = both (is_free_name name) (is_simple s) last.0 in
     (first.0, first.1, last.1)
 
-pub free_name : (name : Utf8) → is_free name ≡ true → IsFreeName name
+pub free_name : (name : Utf8) → is_free_name name ≡ true → IsFreeName name
 free_name name h = record { no_zero = not_true _ (both (not (has_zero name)) _ h).0; no_dollar = not_true _ (both (not (has_zero name)) _ h).1 }
 
 kept : (l : Leaf) → is_simple_leaf l ≡ true → IsKept (leaf_kind l)
@@ -53,7 +53,7 @@ mutual
   plain around (leaf l) h = kept l h
   plain around (optional s) h = plain around s h
   plain around (sequence s) h = plain around s h
-  plain around (structure dropped name fs) h = let parts = both (is_free name) (are_simple fs) h in
+  plain around (structure dropped name fs) h = let parts = both (is_free_name name) (are_simple fs) h in
       (free_name name parts.0, fields_plain around fs parts.1)
   plain around (structure denied name fs) h = absurd cc
   plain around (lossy s) h = absurd cc
@@ -79,7 +79,7 @@ mutual
   suits (leaf l) h = owned l h
   suits (optional s) h = suits s h
   suits (sequence s) h = suits s h
-  suits (structure dropped name fs) h = fields_suit fs (both (is_free name) (are_simple fs) h).1
+  suits (structure dropped name fs) h = fields_suit fs (both (is_free_name name) (are_simple fs) h).1
   suits (structure denied name fs) h = absurd cc
   suits (lossy s) h = absurd cc
   suits (human_readable s) h = absurd cc
@@ -104,7 +104,7 @@ mutual
   alone rounds g (leaf l) h = refl
   alone rounds g (optional s) h = ap optional (alone rounds g s h)
   alone rounds g (sequence s) h = ap sequence (alone rounds g s h)
-  alone rounds g (structure dropped name fs) h = ap (structure dropped name) (fields_alone rounds g fs (both (is_free name) (are_simple fs) h).1)
+  alone rounds g (structure dropped name fs) h = ap (structure dropped name) (fields_alone rounds g fs (both (is_free_name name) (are_simple fs) h).1)
   alone rounds g (structure denied name fs) h = absurd cc
   alone rounds g (lossy s) h = absurd cc
   alone rounds g (human_readable s) h = absurd cc

@@ -6,10 +6,10 @@ use Rattle.bson_shape.specs.declared.leaf.Leaf.{Leaf}
 use Rattle.bson_shape.specs.declared.leaf.Leaf.TheVariants.{Bool as BoolLeaf, I8, I16, I32, I64, U8, U16, U32, U64, Double, String}
 
 -- the name does not begin with `$` and holds no zero character
-abbrev pub is_free : Utf8 → Bool
-is_free name = not (has_zero name) && not (begins_with_dollar name)
+abbrev pub is_free_name : Utf8 → Bool
+is_free_name name = not (has_zero name) && not (begins_with_dollar name)
 
--- a leaf of numbers, of truths, or of texts that are owned
+-- a leaf of numbers, of booleans, or of texts that are owned
 abbrev pub is_simple_leaf : Leaf → Bool
 is_simple_leaf BoolLeaf = true
 is_simple_leaf I8 = true
@@ -25,14 +25,14 @@ is_simple_leaf String = true
 is_simple_leaf l = false
 
 abbrev mutual
-  -- leaves of numbers, truths and texts, options, sequences, and structs of free names that drop unknown fields
+  -- leaves of numbers, booleans and texts, options, sequences, and structs of free names that drop unknown fields
   pub is_simple : Form → Bool
   is_simple (leaf l) = is_simple_leaf l
   is_simple (optional s) = is_simple s
   is_simple (sequence s) = is_simple s
-  is_simple (structure dropped name fs) = is_free name && are_simple fs
+  is_simple (structure dropped name fs) = is_free_name name && are_simple fs
   is_simple s = false
 
   pub are_simple : Fields → Bool
   are_simple no_fields = true
-  are_simple (field name s fs) = is_free name && is_simple s && are_simple fs
+  are_simple (field name s fs) = is_free_name name && is_simple s && are_simple fs

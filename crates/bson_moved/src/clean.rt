@@ -5,11 +5,11 @@ ghost use Rattle.bson_base.specs.Sound.{IsClean, AreTreesClean, ArePairsClean};
 ghost use Rattle.bson_base.specs.Tree.{depth, trees_depth, pairs_depth};
 
 use crate::known::{known_double, known_text};
-use crate::shapes::is_free;
+use crate::shapes::is_free_name;
 use bson_base::{Bson, Document};
 
-/// Whether a value is clean and nests no deeper than so many levels. `false` says nothing: a value with a part of another kind than Document, Array, String,
-/// Boolean, Int32, Int64, Double and Null is not looked at.
+/// Whether a value is clean and nests no deeper than so many levels. `false` tells nothing: it is also the answer for a tree that holds a value of another kind
+/// than Document, Array, String, Boolean, Int32, Int64, Double and Null, clean or not.
 #[cycle(clean)]
 #[tactic(auto, using(bson_base::proofs::Rows::row_items))]
 pub fn is_clean(value: &Bson, levels: u32) -> bool
@@ -64,7 +64,7 @@ fn is_clean_document(document: &Document, levels: u32) -> bool
     let mut pairs = document.iter();
     while let Some((key, value)) = pairs.next() {
         known_text(key);
-        if !is_free(key) || !is_clean(value, levels) {
+        if !is_free_name(key) || !is_clean(value, levels) {
             return false;
         }
     }

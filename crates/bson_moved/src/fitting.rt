@@ -13,7 +13,8 @@ use bson_shape::{FieldShape, Form, Leaf, Shape};
 /// The most pairs of a document that is taken apart: each pair that is taken moves those behind it.
 const MOST_PAIRS: usize = 32;
 
-/// Whether a tree is a value at a simple shape. `false` says nothing.
+/// Whether a tree is a value at a simple shape. `false` tells nothing: it is also the answer at a shape that is not simple, and where a struct is read from a
+/// document of more than 32 pairs.
 #[cycle(fitting)]
 #[tactic(auto, using(crate::proofs::Present::optional_present, crate::proofs::Present::structure_present, bson_base::proofs::Rows::row_items))]
 pub fn has_view(shape: &Shape, value: &Bson) -> bool

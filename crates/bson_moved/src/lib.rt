@@ -1,4 +1,4 @@
-//! Values that are moved out of a tree in memory, at shapes of numbers, truths, texts, options, sequences and structs.
+//! Values that are moved out of a tree in memory, at shapes of numbers, booleans, texts, options, sequences and structs.
 #![tactic(auto)]
 
 mod clean;

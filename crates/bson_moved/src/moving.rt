@@ -21,7 +21,8 @@ use bson_shape::{FieldShape, Form, Leaf, Shape};
 use bson_values::Text;
 use std::alloc::{AllocError, Global};
 
-/// The value that a tree is at a simple shape. Its texts are moved out of the tree.
+/// The value that a tree is at a simple shape. Its texts, and the keys of the fields that are there, are moved out of the tree; the names of structs and of missing
+/// fields are copied from the shape.
 ///
 /// # Errors
 ///
@@ -161,7 +162,7 @@ fn take_fields<'x>(
     Ok(taken)
 }
 
-// A field of a struct with its value, which is removed from the document.
+// A field of a struct with its value; both are removed from the document.
 #[cycle(take)]
 fn take_field<'x>(
     alloc: Global,

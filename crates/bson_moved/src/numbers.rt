@@ -57,7 +57,7 @@ fn narrowed<'x>(leaf: Leaf, number: i64) -> Option<Datum<'x>>
     }
 }
 
-// The number of a tree; `None` where it is no number without a fraction.
+// The number of an Int32 or an Int64; `None` for every other tree.
 fn integer_in(value: &Bson) -> Option<i64>
     ensures { result ≡ integer_in (tree_of value.now) }
 {

@@ -7,7 +7,7 @@ use bson_base::has_zero;
 use bson_kinds::begins_with_dollar;
 use bson_shape::{FieldShape, Form, Leaf, Shape};
 
-/// Whether a shape is made of numbers, truths, texts, options, sequences and structs of free names alone. A struct that denies unknown fields is none.
+/// Whether a shape is made of numbers, booleans, texts, options, sequences and structs of free names alone. A struct that denies unknown fields is none.
 #[cycle(simple)]
 pub fn is_simple(shape: &Shape) -> bool
     ensures { result ≡ simple.is_simple shape.now }
@@ -15,7 +15,7 @@ pub fn is_simple(shape: &Shape) -> bool
     match shape.form() {
         Form::Leaf(leaf) => is_simple_leaf(leaf),
         Form::Option(inner) | Form::Seq(inner) => is_simple(inner),
-        Form::Struct(name, fields) => is_free(name) && are_simple(fields),
+        Form::Struct(name, fields) => is_free_name(name) && are_simple(fields),
         _ => false,
     }
 }
@@ -26,14 +26,14 @@ fn are_simple(fields: &[FieldShape]) -> bool
     ensures { result ≡ simple.are_simple (fields_of fields.now) }
 {
     for field in fields {
-        if !is_free(field.name.as_str()) || !is_simple(&field.shape) {
+        if !is_free_name(field.name.as_str()) || !is_simple(&field.shape) {
             return false;
         }
     }
     true
 }
 
-// Whether a leaf takes numbers, truths or texts, which are owned.
+// Whether a leaf takes numbers, booleans or texts, which are owned.
 fn is_simple_leaf(leaf: Leaf) -> bool
     ensures { result ≡ simple.is_simple_leaf leaf }
 {
@@ -54,8 +54,8 @@ fn is_simple_leaf(leaf: Leaf) -> bool
 }
 
 // Whether a name does not begin with `$` and holds no zero character.
-pub(crate) fn is_free(name: &str) -> bool
-    ensures { result ≡ simple.is_free name.now }
+pub(crate) fn is_free_name(name: &str) -> bool
+    ensures { result ≡ simple.is_free_name name.now }
 {
     !has_zero(name) && !begins_with_dollar(name)
 }

@@ -1,4 +1,4 @@
-// What is known of the tree that a value in memory is: it is walked to its end.
+// Tells a contract that the tree of a value in memory is one of its type (`IsTree`). The value is walked to its end.
 ghost use Rattle.bson_base.specs.BsonView.{tree_of, trees_of, pairs_of, scoped_of};
 ghost use Rattle.bson_base.specs.Tree as trees;
 ghost use Rattle.bson_laws.specs.InRange.{IsInRange};

@@ -61,10 +61,11 @@ pub trait Deserialize<'de>: Sized {
 
 /// A type whose values are read as they were written.
 pub trait RoundTrip<'de>: Serialize + Deserialize<'de> {
-    /// What a value of the type is: numbers in their ranges, texts of UTF-8, keys in order, and so each part.
+    /// What a value of the type is: numbers and bytes in their ranges, texts of UTF-8, the options of regular expressions in order, the keys of each document and map
+    /// distinct, those of a `BTreeMap` in order, and so each part.
     ghost is_value: { Self → Type 0 };
 
-    /// Tells a contract that the value is one of the type. It does nothing.
+    /// Tells a contract that the value is one of the type. It changes nothing; a value with parts is walked to its end.
     fn known(&self)
         ensures value { is_value self.now };
 

@@ -46,6 +46,7 @@ text_under name t = wrapped itself name (str t)
 abbrev pub text_said : (name : Utf8) → Value → Option Utf8
 text_said name v = option_and_then as_str (field name v)
 
+-- the text whose datum under this name a value is
 abbrev pub taken_under : (name : Utf8) → Value → Reading Utf8
 taken_under name v = taken_as (text_under name) (text_said name) v
 
@@ -61,11 +62,11 @@ taken_number i32 n = Ok (tree.int32 n)
 taken_number i64 n = Ok (tree.int64 n)
 taken_number type n = Err not_fitting
 
--- a time in seconds and an increment
+-- a time in seconds and an increment; those of a time stamp that was taken have no sign, so none of them is refused
 abbrev pub stamp_tree : ℤ × ℤ → Reading Tree
 stamp_tree p = natural p.0 >>= λ time. result_map (tree.timestamp time) (natural p.1)
 
--- the tree of this kind whose datum a struct is; code with a scope is none of them
+-- The tree of this kind whose datum a struct is. Code with its scope is taken before (`taken_fields`), so no struct of a reserved name comes to the last row.
 abbrev pub taken_kind : ElementType → Value → Reading Tree
 taken_kind Binary v = result_map (λ p. tree.binary p.0 p.1) (taken_binary v)
 taken_kind Undefined v = taken_only tree.undefined v

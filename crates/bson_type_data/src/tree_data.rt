@@ -111,21 +111,21 @@ fn text_datum<'a>(alloc: Global, name: &'a str, text: &'a str) -> Result<Datum<'
     struct_of_one(alloc, name, name, Datum::Str(Text::Borrowed(text)))
 }
 
-// The datum of the deprecated kind without a value.
+// The datum of Undefined.
 pub(crate) fn undefined_datum<'x>(alloc: Global) -> Result<Datum<'x>, AllocError>
     ensures { IfOk result (λ d. view d ≡ datum itself trees.undefined) }
 {
     struct_of_one(alloc, "$undefined", "$undefined", Datum::Bool(true))
 }
 
-// The datum of the greatest value.
+// The datum of MaxKey.
 pub(crate) fn max_key_datum<'x>(alloc: Global) -> Result<Datum<'x>, AllocError>
     ensures { IfOk result (λ d. view d ≡ datum itself trees.max_key) }
 {
     struct_of_one(alloc, "$maxKey", "$maxKey", Datum::I32(1))
 }
 
-// The datum of the least value.
+// The datum of MinKey.
 pub(crate) fn min_key_datum<'x>(alloc: Global) -> Result<Datum<'x>, AllocError>
     ensures { IfOk result (λ d. view d ≡ datum itself trees.min_key) }
 {

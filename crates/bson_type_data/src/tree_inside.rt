@@ -268,14 +268,14 @@ fn symbol_datum<'x>(alloc: Global, text: &str) -> Result<Datum<'x>, AllocError>
     struct_of_one(alloc, "$symbol", "$symbol", text)
 }
 
-// The text that a datum may say under this name.
+// The text in the field of this name.
 fn text_said<'d>(datum: &'d Datum<'_>, name: &str) -> Option<&'d str>
     ensures { option_map (λ t. t.now) result ≡ text_said name.now (view datum.now) }
 {
     datum.field(name)?.as_str()
 }
 
-// The deprecated kind without a value, where a datum is its.
+// Undefined, where the datum is that of it.
 fn undefined_in(alloc: Global, datum: &Datum<'_>) -> de::Result<Bson>
     ensures { Reads tree_of result (taken_only trees.undefined (view datum.now)) }
 {
@@ -286,7 +286,7 @@ fn undefined_in(alloc: Global, datum: &Datum<'_>) -> de::Result<Bson>
     }
 }
 
-// The greatest value, where a datum is its.
+// MaxKey, where the datum is that of it.
 fn max_key_in(alloc: Global, datum: &Datum<'_>) -> de::Result<Bson>
     ensures { Reads tree_of result (taken_only trees.max_key (view datum.now)) }
 {
@@ -297,7 +297,7 @@ fn max_key_in(alloc: Global, datum: &Datum<'_>) -> de::Result<Bson>
     }
 }
 
-// The least value, where a datum is its.
+// MinKey, where the datum is that of it.
 fn min_key_in(alloc: Global, datum: &Datum<'_>) -> de::Result<Bson>
     ensures { Reads tree_of result (taken_only trees.min_key (view datum.now)) }
 {

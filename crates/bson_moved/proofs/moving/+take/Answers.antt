@@ -19,7 +19,7 @@ use Rattle.bson_datum.specs.declared.datum.Datum.{Datum}
 use Rattle.bson_datum.specs.declared.datum.Field.{Field}
 use Rattle.bson_datum.proofs.Views.{view-Seq}
 use Rattle.bson_laws.specs.Views.{views, views_at, views_fields, views_items, absent}
-use Rattle.bson_moved.specs.Simple.{is_free, is_simple, are_simple}
+use Rattle.bson_moved.specs.Simple.{is_free_name, is_simple, are_simple}
 use Rattle.bson_moved.proofs.Moves.{items_and, fields_and, parts_present, inner_present, items_next, items_end, next_there, fields_end, field_more, others_present, owned_more, document_tree, array_tree}
 use Rattle.bson_moved.proofs.Plain.{both, field_parts}
 use Rattle.bson_moved.proofs.Present.{optional_some}
@@ -38,7 +38,7 @@ take-take_struct-requires t c =
     let simple : is_simple (structure dropped name fs) ≡ true = ap is_simple form ∙ c.requires.simple in
     let tree : tree_of c.args.value ≡ trees.document ps = ap tree_of c.in-Document.is ∙ document_tree c.in-Document.document in
     let present : is_some (views (structure dropped name fs) (trees.document ps)) ≡ true = ap is_some (λ i. views (form i) (sym tree i)) ∙ c.requires.view in
-    (omega (arith, size, c.decreases), (shape.0.distinct, ((both (is_free name) (are_simple fs) simple).1, inner_present (value.structure name) (views_fields fs ps) present)))
+    (omega (arith, size, c.decreases), (shape.0.distinct, ((both (is_free_name name) (are_simple fs) simple).1, inner_present (value.structure name) (views_fields fs ps) present)))
 
 pub take-returns-in_ok-take_items-in-Array-clause-value : goal.take-returns-in_ok-take_items-in-Array-clause-value
 take-returns-in_ok-take_items-in-Array-clause-value t c =
