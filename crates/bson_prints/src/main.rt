@@ -1,7 +1,8 @@
-//! Prints what no contract says of documents that are read, written and recast: the text of `Debug`, copies of what is read, what the writer refuses, and runs whose ends fail. The
+//! Prints what no contract says of documents that are read, written and recast: the text of `Debug`, copies of what is read, once what each call makes, what the writer refuses, and runs whose ends fail. The
 //! gate compares the lines with those in `stdout`, which come from the specification and from bsonspec.org, version 1.1.
 #![tactic(auto)]
 
+mod calls;
 mod faults;
 mod reading;
 mod refusals;
@@ -15,6 +16,7 @@ use std::io;
 /// Adds all lines.
 fn add_all(lines: &mut Lines, alloc: Global) {
     reading::add_documents(lines, alloc);
+    calls::add_calls(lines, alloc);
     trees::add_trees(lines, alloc);
     refusals::add_refusals(lines, alloc);
     faults::add_faults(lines, alloc);

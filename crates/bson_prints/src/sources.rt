@@ -1,8 +1,9 @@
 // Documents that are read from sources: what is taken, and what is left behind it.
-use bson_de_source::from_reader_at;
+use bson_de_source::{from_reader_at, from_reader_utf8_lossy_at};
 use bson_io::{MemorySource, Source};
 use bson_lines::Lines;
 use bson_shape::Shape;
+use bson_source::take_document;
 use std::alloc::{AllocError, Global};
 
 /// The empty document, with a byte behind it.
@@ -37,6 +38,28 @@ fn add_bytes(lines: &mut Lines, alloc: Global, shape: &Shape, bytes: &[u8], fail
     }
 }
 
+/// Adds the bytes that are taken of a source, and what is left in it.
+fn add_taken(lines: &mut Lines, alloc: Global) {
+    match source(alloc, DOCUMENT, 0) {
+        Ok(mut source) => {
+            lines.bytes("take_document", &take_document(alloc, &mut source));
+            add_left(lines, &mut source);
+        }
+        Err(error) => lines.text("no source", &error),
+    }
+}
+
+/// Adds what is read of a source with texts mended.
+fn add_mended(lines: &mut Lines, alloc: Global, shape: &Shape) {
+    match source(alloc, DOCUMENT, 0) {
+        Ok(mut source) => {
+            let read = from_reader_utf8_lossy_at(alloc, shape, &mut source);
+            lines.made("from_reader_utf8_lossy_at", &read);
+        }
+        Err(error) => lines.text("no source", &error),
+    }
+}
+
 /// Adds what is read at a shape of the document, of a length that no document has, of a length that is cut off, and of the document where the first call fails.
 fn add_each(lines: &mut Lines, alloc: Global, shape: &Shape) {
     add_bytes(lines, alloc, shape, DOCUMENT, 0);
@@ -45,10 +68,14 @@ fn add_each(lines: &mut Lines, alloc: Global, shape: &Shape) {
     add_bytes(lines, alloc, shape, DOCUMENT, 1);
 }
 
-/// What is read of sources.
+/// What is taken and read of sources.
 pub fn add_sources(lines: &mut Lines, alloc: Global) {
+    add_taken(lines, alloc);
     match Shape::parse(alloc, "S{}") {
-        Ok(shape) => add_each(lines, alloc, &shape),
+        Ok(shape) => {
+            add_each(lines, alloc, &shape);
+            add_mended(lines, alloc, &shape);
+        }
         Err(error) => lines.text("no shape", &error),
     }
 }
