@@ -47,6 +47,16 @@ scope_first key other t u e h =
     under_scope (bytes_eq key (codes "$scope") && bytes_eq other (codes "$code")) (code_with_scope u t)
     (subst (λ b. is_some (cond (b && bytes_eq other (codes "$scope")) (code_with_scope t u) rest) ≡ true) e h)
 
+under_is : (b : Bool) (x : Option Tree) → is_some (cond b x None) ≡ true → cond b x None ≡ x
+under_is true x h = refl
+under_is false x h = absurd (true≢false (sym h))
+
+-- what the code first makes
+pub code_is : (key other : Utf8) (t u : Tree) → bytes_eq key (codes "$code") ≡ true → is_some (value_of_keys key t other u) ≡ true → value_of_keys key t other u ≡ code_with_scope t u
+code_is key other t u e h =
+    let is : key ≡ codes "$code" = (bytes_eq-Decides key (codes "$code")).0 e in
+    ap (λ k. value_of_keys k t other u) is ∙ under_is (bytes_eq other (codes "$scope")) (code_with_scope t u) (subst (λ k. is_some (value_of_keys k t other u) ≡ true) is h)
+
 -- a text that does not begin with `$` is none that does
 apart : (key k : Utf8) → begins_with_dollar key ≡ false → begins_with_dollar k ≡ true → key ≡ k → ⊥
 apart key k h is e = true≢false (sym is ∙ sym (ap begins_with_dollar e) ∙ h)

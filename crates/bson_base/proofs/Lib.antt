@@ -3,7 +3,7 @@ pub mod Encodings
 pub mod Folds
 pub mod Indexes
 pub mod Rows
-pub mod Zips
+pub mod Documents
 pub mod Nodes
 pub mod Sames
 pub mod ParsedTexts

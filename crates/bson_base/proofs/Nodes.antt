@@ -1,8 +1,8 @@
 -- How many values are in a value, and that those inside another are fewer.
-use Rattle.std.proofs.Common.{◌≡◌, ℕ, zero, suc, ◌+◌, ◌<◌, List, [], ◌∷◌, length, get_or, refl, arith}
-use Rattle.bson_key_set.specs.Keys.{Key}
+use Rattle.std.proofs.Common.{ℕ, zero, suc, ◌+◌, ◌<◌, List, [], ◌∷◌, length, get_or, arith}
+use Rattle.bson_key_map.specs.declared.pair.Pair.{Pair}
 use Rattle.bson_base.specs.Tree.{Tree, document, array, javascript_code_with_scope, Pairs, no_pairs, pair, Trees, no_trees, tree}
-use Rattle.bson_base.specs.BsonView.{zipped, tree_of, trees_of}
+use Rattle.bson_base.specs.BsonView.{tree_of, trees_of, pairs_in}
 use Rattle.bson_base.specs.declared.bson.Bson.{Bson}
 
 abbrev mutual
@@ -20,11 +20,10 @@ abbrev mutual
   trees_nodes no_trees = 1
   trees_nodes (tree t ts) = nodes t + trees_nodes ts + 1
 
-pub zipped_nodes : (ks : List Key) (vs : List Bson) → length ks ≡ length vs → pairs_nodes (zipped ks (trees_of vs)) ≡ trees_nodes (trees_of vs)
-zipped_nodes [] [] h = refl
-zipped_nodes [] (v ∷ vs) h = absurd (omega arith)
-zipped_nodes (k ∷ ks) [] h = absurd (omega arith)
-zipped_nodes (k ∷ ks) (v ∷ vs) h = omega (arith, zipped_nodes ks vs (omega arith))
+pub pair_nodes : (ps : List (Pair Bson)) (i : ℕ) (d : Pair Bson) → i < length ps → nodes (tree_of (get_or ps i d).value) < pairs_nodes (pairs_in ps)
+pair_nodes [] i d h = absurd (omega arith)
+pair_nodes (p ∷ ps) zero d h = omega arith
+pair_nodes (p ∷ ps) (suc i) d h = omega (arith, pair_nodes ps i d (omega arith))
 
 pub tree_nodes : (vs : List Bson) (i : ℕ) (d : Bson) → i < length vs → nodes (tree_of (get_or vs i d)) < trees_nodes (trees_of vs)
 tree_nodes [] i d h = absurd (omega arith)

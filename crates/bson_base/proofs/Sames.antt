@@ -1,14 +1,12 @@
 -- Equality, part by part.
-use Rattle.std.proofs.Common.{◌≡◌, ℕ, Bool, true, false, List, [], ◌∷◌, length, drop, refl, ap, sym, ◌∙◌, arith}
-use Rattle.std.specs.Prelude.{◌&&◌, string_bytes}
+use Rattle.std.proofs.Common.{◌≡◌, ℕ, Bool, false, List, [], ◌∷◌, ◌+◌, ◌<◌, get_or, string_bytes, length, drop, refl, ap, sym, ◌∙◌, arith}
+use Rattle.std.specs.Prelude.{◌&&◌}
 use Rattle.std.specs.Global.{Vec}
-use Rattle.std.specs.String.{string_eq}
 use Rattle.std.specs.Str.{bytes_eq}
-use Rattle.std.specs.Cmp.Lexicographic.{pointwise}
+use Rattle.std.proofs.lemmas.List.{drop_more}
 use Rattle.std.proofs.lemmas.Bool.{and_right}
-use Rattle.bson_key_set.specs.Keys.{Key}
-use Rattle.bson_base.specs.Tree.{Pairs}
-use Rattle.bson_base.specs.BsonView.{zipped, tree_of, trees_of}
+use Rattle.bson_key_map.specs.declared.pair.Pair.{Pair}
+use Rattle.bson_base.specs.BsonView.{tree_of, trees_of, pairs_in}
 use Rattle.bson_base.specs.Same.{same, same_trees, same_pairs}
 use Rattle.bson_base.specs.declared.bson.Bson as bson
 use Rattle.bson_base.specs.declared.bson.Bson.{Bson}
@@ -26,34 +24,23 @@ same_trees-lengths [] (y ∷ ys) h = refl
 same_trees-lengths (x ∷ xs) [] h = refl
 same_trees-lengths (x ∷ xs) (y ∷ ys) h = and_right _ _ (same_trees-lengths xs ys (λ e. h (omega arith)))
 
--- documents are equal where their keys are and their values are
-same_zipped : (ks js : List Key) (xs ys : List Bson) → length ks ≡ length xs → length js ≡ length ys
-    → (pointwise string_eq ks js && same_trees (trees_of xs) (trees_of ys)) ≡ same_pairs (zipped ks (trees_of xs)) (zipped js (trees_of ys))
-same_zipped [] [] [] [] h l = refl
-same_zipped [] [] xs (y ∷ ys) h l = absurd (omega arith)
-same_zipped [] [] (x ∷ xs) ys h l = absurd (omega arith)
-same_zipped [] (j ∷ js) xs [] h l = absurd (omega arith)
-same_zipped [] (j ∷ js) xs (y ∷ ys) h l = refl
-same_zipped (k ∷ ks) js [] ys h l = absurd (omega arith)
-same_zipped (k ∷ ks) [] (x ∷ xs) [] h l = refl
-same_zipped (k ∷ ks) [] (x ∷ xs) (y ∷ ys) h l = absurd (omega arith)
-same_zipped (k ∷ ks) (j ∷ js) (x ∷ xs) [] h l = absurd (omega arith)
-same_zipped (k ∷ ks) (j ∷ js) (x ∷ xs) (y ∷ ys) h l =
-    rearranged (bytes_eq (string_bytes k) (string_bytes j)) (pointwise string_eq ks js) (same (tree_of x) (tree_of y)) (same_trees (trees_of xs) (trees_of ys))
-    ∙ ap (λ b. (bytes_eq (string_bytes k) (string_bytes j) && same (tree_of x) (tree_of y)) && b) (same_zipped ks js xs ys (omega arith) (omega arith))
-  where
-    rearranged : (a b c d : Bool) → ((a && b) && (c && d)) ≡ ((a && c) && (b && d))
-    rearranged true true c d = refl
-    rearranged true false true d = refl
-    rearranged true false false d = refl
-    rearranged false b c d = refl
+-- the pairs that a loop has left to compare
+abbrev pub same_pairs_from : ℕ → List (Pair Bson) → List (Pair Bson) → Bool
+same_pairs_from i ps qs = same_pairs (pairs_in (drop i ps)) (pairs_in (drop i qs))
 
--- the same, of what the code knows: that the answer is the values' where the keys are equal, and `false` where they are not
-pub same_documents : (ks js : List Key) (xs ys : List Bson) (ps qs : Pairs) (keys : Bool) → length ks ≡ length xs → length js ≡ length ys
-    → zipped ks (trees_of xs) ≡ ps → zipped js (trees_of ys) ≡ qs → pointwise string_eq ks js ≡ keys
-    → (keys && same_trees (trees_of xs) (trees_of ys)) ≡ same_pairs ps qs
-same_documents ks js xs ys ps qs keys h l p q e =
-    ap (λ b. b && same_trees (trees_of xs) (trees_of ys)) (sym e) ∙ same_zipped ks js xs ys h l ∙ (λ i. same_pairs (p i) (q i))
+pub same_pairs-lengths : (ps qs : List (Pair Bson)) → (length ps ≡ length qs → ⊥) → same_pairs (pairs_in ps) (pairs_in qs) ≡ false
+same_pairs-lengths [] [] h = absurd (h refl)
+same_pairs-lengths [] (q ∷ qs) h = refl
+same_pairs-lengths (p ∷ ps) [] h = refl
+same_pairs-lengths (p ∷ ps) (q ∷ qs) h = and_right _ _ (same_pairs-lengths ps qs (λ e. h (omega arith)))
+
+-- the first of them, and those after it
+pub same_pairs-step : (ps qs : List (Pair Bson)) (i : ℕ) (p q : Pair Bson) → i < length ps → i < length qs → p ≡ get_or ps i p → q ≡ get_or qs i q
+    → same_pairs_from i ps qs ≡ ((bytes_eq (string_bytes p.key) (string_bytes q.key) && same (tree_of p.value) (tree_of q.value)) && same_pairs_from (i + 1) ps qs)
+same_pairs-step ps qs i p q lt less is are =
+    let here : drop i ps ≡ p ∷ drop (i + 1) ps = drop_more ps i p lt ∙ ap (λ x. x ∷ drop (i + 1) ps) (sym is) in
+    let there : drop i qs ≡ q ∷ drop (i + 1) qs = drop_more qs i q less ∙ ap (λ x. x ∷ drop (i + 1) qs) (sym are) in
+    λ j. same_pairs (pairs_in (here j)) (pairs_in (there j))
 
 -- an array and a value that is none
 pub unlike_array : (d e : Bson) (ds : Vec Bson) → d ≡ bson.Array ds → ((es : Vec Bson) → e ≡ bson.Array es → ⊥) → false ≡ same (tree_of d) (tree_of e)
@@ -62,12 +49,12 @@ unlike_array d e ds is none = sym (ap (λ x. same (tree_of x) (tree_of e)) is)
 
 -- a document and a value that is none
 pub unlike_document : (d e : Bson) (doc : Document) → d ≡ bson.Document doc → ((other : Document) → e ≡ bson.Document other → ⊥) → false ≡ same (tree_of d) (tree_of e)
-unlike_document d (bson.Document' keys shape row) doc is none =
-    absurd (none _ (sym (roll-out-Bson (bson.Document' keys shape row)) ∙ ap roll-Bson (outs-Document' keys shape row) ∙ rolls-Document _))
+unlike_document d (bson.Document' keys row) doc is none =
+    absurd (none _ (sym (roll-out-Bson (bson.Document' keys row)) ∙ ap roll-Bson (outs-Document' keys row) ∙ rolls-Document _))
 unlike_document d e doc is none = sym (ap (λ x. same (tree_of x) (tree_of e)) is)
 
 -- code with a scope and a value that is none
 pub unlike_scoped : (d e : Bson) (scoped : JavaScriptCodeWithScope) → d ≡ bson.JavaScriptCodeWithScope scoped → ((other : JavaScriptCodeWithScope) → e ≡ bson.JavaScriptCodeWithScope other → ⊥) → false ≡ same (tree_of d) (tree_of e)
-unlike_scoped d (bson.JavaScriptCodeWithScope' code keys shape row) scoped is none =
-    absurd (none _ (sym (roll-out-Bson (bson.JavaScriptCodeWithScope' code keys shape row)) ∙ ap roll-Bson (outs-JavaScriptCodeWithScope' code keys shape row) ∙ rolls-JavaScriptCodeWithScope _))
+unlike_scoped d (bson.JavaScriptCodeWithScope' code keys row) scoped is none =
+    absurd (none _ (sym (roll-out-Bson (bson.JavaScriptCodeWithScope' code keys row)) ∙ ap roll-Bson (outs-JavaScriptCodeWithScope' code keys row) ∙ rolls-JavaScriptCodeWithScope _))
 unlike_scoped d e scoped is none = sym (ap (λ x. same (tree_of x) (tree_of e)) is)

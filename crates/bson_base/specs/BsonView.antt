@@ -1,7 +1,8 @@
 -- What contracts see of the owned values: a `Bson` as a tree, a `Document` as its pairs, the types of their parts as the trees that they are.
 -- Source: bsonspec.org, version 1.1.
 use Rattle.std.specs.Prelude.{List, [], ◌∷◌, string_bytes}
-pub use Rattle.bson_key_set.specs.Keys.{Key}
+use Rattle.bson_key_map.specs.declared.pair.Pair.{Pair}
+pub use Rattle.bson_key_map.specs.Keys.{Key}
 use Rattle.bson_base.specs.Instant.{millis}
 use Rattle.bson_base.specs.Tree.{Tree, double, string, document, array, binary, undefined, object_id, boolean, date_time, null, regular_expression, db_pointer, javascript_code, symbol, javascript_code_with_scope, int32, timestamp, int64, decimal128, max_key, min_key, Pairs, no_pairs, pair, Trees, no_trees, tree}
 use Rattle.bson_base.specs.declared.binary.Binary.{Binary}
@@ -16,23 +17,17 @@ use Rattle.bson_base.specs.declared.document.Document.{Document}
 abbrev pub binary_of : Binary → Tree
 binary_of b = binary b.subtype.0 b.bytes.items
 
--- each key with the value at its index, as far as both lists go
-abbrev pub zipped : List Key → Trees → Pairs
-zipped [] ts = no_pairs
-zipped (k ∷ ks) no_trees = no_pairs
-zipped (k ∷ ks) (tree t ts) = pair (string_bytes k) t (zipped ks ts)
-
 abbrev mutual
   pub tree_of : Bson → Tree
   tree_of (bson.Double d) = double d.0
   tree_of (bson.String t) = string (string_bytes t)
   tree_of (bson.Array' shape row) = array (row_of row)
-  tree_of (bson.Document' keys shape row) = document (zipped keys (row_of row))
+  tree_of (bson.Document' keys row) = document (pairs_row keys row)
   tree_of (bson.Boolean b) = boolean b
   tree_of bson.Null = null
   tree_of (bson.RegularExpression r) = regular_expression r.pattern r.options
   tree_of (bson.JavaScriptCode t) = javascript_code (string_bytes t)
-  tree_of (bson.JavaScriptCodeWithScope' code keys shape row) = javascript_code_with_scope (string_bytes code) (zipped keys (row_of row))
+  tree_of (bson.JavaScriptCodeWithScope' code keys row) = javascript_code_with_scope (string_bytes code) (pairs_row keys row)
   tree_of (bson.Int32 n) = int32 n
   tree_of (bson.Int64 n) = int64 n
   tree_of (bson.Timestamp t) = timestamp t.time t.increment
@@ -50,14 +45,24 @@ abbrev mutual
   row_of end_of-Bson = no_trees
   row_of (more_of-Bson b rest) = tree (tree_of b) (row_of rest)
 
+  -- each key with its value; there are as many keys as values
+  pub pairs_row : {m : _} → List (Key × Unit {0}) → Row_of-Bson m → Pairs
+  pairs_row [] row = no_pairs
+  pairs_row (k ∷ ks) end_of-Bson = no_pairs
+  pairs_row (k ∷ ks) (more_of-Bson b rest) = pair (string_bytes k.0) (tree_of b) (pairs_row ks rest)
+
 -- the values of a `Vec` or a slice
 abbrev pub trees_of : List Bson → Trees
 trees_of [] = no_trees
 trees_of (b ∷ bs) = tree (tree_of b) (trees_of bs)
 
 -- the pairs of a document
+abbrev pub pairs_in : List (Pair Bson) → Pairs
+pairs_in [] = no_pairs
+pairs_in (p ∷ ps) = pair (string_bytes p.key) (tree_of p.value) (pairs_in ps)
+
 abbrev pub pairs_of : Document → Pairs
-pairs_of d = zipped d.keys (trees_of d.values.items)
+pairs_of d = pairs_in d.0
 
 -- code with its scope
 abbrev pub scoped_of : JavaScriptCodeWithScope → Tree

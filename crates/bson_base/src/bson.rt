@@ -95,7 +95,7 @@ impl Bson {
     ///
     /// Memory ran out.
     #[cycle(copy)]
-    #[tactic(auto, using(crate::proofs::Rows::row_items))]
+    #[tactic(auto, using(crate::proofs::Rows::row_items, crate::proofs::Rows::row_pairs))]
     pub fn try_clone(&self, alloc: Global) -> Result<Bson, AllocError>
         ensures equal { IfOk result (λ b. tree_of b ≡ tree_of self.now) }
     {
@@ -141,7 +141,7 @@ impl Bson {
 
 // Values equal to these, in order.
 #[cycle(copy)]
-#[tactic(auto, using(crate::proofs::Rows::row_items))]
+#[tactic(auto, using(crate::proofs::Rows::row_items, crate::proofs::Rows::row_pairs))]
 pub(crate) fn copies_of(alloc: Global, values: &[Bson]) -> Result<Vec<Bson>, AllocError>
     ensures { IfOk result (λ copies. trees_of copies.items ≡ trees_of values.now) }
 {

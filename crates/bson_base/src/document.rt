@@ -1,26 +1,20 @@
-ghost use Rattle.std.specs.Prelude.{◌≡◌, ◌<◌, ◌==◌, length, map, is_some, slice_get, slice_set, string_bytes, Some, IfOk, IfSome, OnOk, OnErr};
+ghost use Rattle.std.specs.Prelude.{◌≡◌, ◌==◌, is_some, string_bytes, IfOk, IfSome, OnOk, OnErr};
 ghost use Rattle.std.specs.Option.{option_map};
 ghost use Rattle.bson_base.specs.Tree.{no_pairs};
 ghost use Rattle.bson_base.specs.Pairs.{lookup, put, without, count, keys_of, AreDistinct};
-ghost use Rattle.bson_base.specs.BsonView.{tree_of, trees_of, zipped, pairs_of};
+ghost use Rattle.bson_base.specs.BsonView.{tree_of, pairs_in, pairs_of};
 
-use crate::bson::{Bson, copies_of};
-use crate::iter::{IntoIter, Iter};
-use bson_key_set::{KeySeed, KeySet};
+use crate::bson::Bson;
+use crate::iter::{IntoIter, Iter, Keys};
+use bson_key_map::{KeyMap, KeySeed, Pair};
 use std::alloc::{AllocError, Global};
-use std::mem;
 
 /// A document: pairs of a key and a value, in order, where no key is there twice.
 ///
 /// Source: bsonspec.org, version 1.1, `document`.
 #[cycle(bson)]
 #[derive(Debug, Drop)]
-pub struct Document {
-    // Each value is at the index of its key, so there are as many keys as values. A type that holds itself has no place
-    // to state that, so each method goes by the indexes that have both.
-    keys: KeySet,
-    values: Vec<Bson>,
-}
+pub struct Document(KeyMap<Bson>);
 
 impl Document {
     /// The empty document. It takes no memory.
@@ -36,10 +30,7 @@ impl Document {
     pub fn with_seed(alloc: Global, seed: KeySeed) -> Document
         ensures empty { pairs_of result ≡ no_pairs }
     {
-        Document {
-            keys: KeySet::with_seed(alloc, seed),
-            values: Vec::new(alloc),
-        }
+        Document(KeyMap::with_seed(alloc, seed))
     }
 
     /// How many pairs there are.
@@ -47,7 +38,7 @@ impl Document {
         ensures len { result ≡ count (pairs_of self.now) }
         ensures distinct { AreDistinct (pairs_of self.now) }
     {
-        self.keys.len().min(self.values.len())
+        self.0.as_slice().len()
     }
 
     /// Whether there is no pair.
@@ -61,8 +52,8 @@ impl Document {
     pub fn get(&self, key: &str) -> Option<&Bson>
         ensures value { option_map (λ b. tree_of b.now) result ≡ lookup key.now (pairs_of self.now) }
     {
-        let index = self.keys.get_index_of(key)?;
-        self.values.get(index)
+        let index = self.0.get_index_of(key)?;
+        Some(&self.0.as_slice()[index].value)
     }
 
     /// Whether a key is there. It takes no memory.
@@ -72,12 +63,11 @@ impl Document {
         self.get(key).is_some()
     }
 
-    /// The keys, in order. It takes no memory.
-    pub fn keys(&self) -> &[String]
-        ensures keys { map string_bytes result.now ≡ keys_of (pairs_of self.now) }
+    /// The keys in order, borrowed. It takes no memory.
+    pub fn keys(&self) -> Keys<'_>
+        ensures keys { result ≡ keys_of (pairs_of self.now) }
     {
-        let (keys, _) = self.parts();
-        keys
+        Keys::over(self.0.as_slice())
     }
 
     /// Puts a value at a key, and returns the value that was there; `None` where the key is new.
@@ -92,14 +82,13 @@ impl Document {
         ensures old { IfOk result (λ old. option_map tree_of old ≡ lookup (string_bytes key) (pairs_of self.old)) }
         ensures err { OnErr result (pairs_of self.new ≡ pairs_of self.old) }
     {
-        self.even_out();
-        self.values.reserve(1)?;
-        let (index, is_new) = self.keys.insert_full(key)?;
-        if is_new {
-            self.values.push(value)?;
-            return Ok(None);
+        match self.0.get_index_of(&key) {
+            Some(index) => Ok(Some(self.0.replace(index, value))),
+            None => {
+                self.0.push(key, value)?;
+                Ok(None)
+            }
         }
-        Ok(Some(replaced(&mut self.values, index, value)))
     }
 
     /// Removes a key and returns its value; `None` where the key is not there, and the document is then unchanged.
@@ -121,18 +110,16 @@ impl Document {
         ensures value { option_map (λ p. tree_of p.1) result ≡ lookup key.now (pairs_of self.old) }
         ensures rest { pairs_of self.new ≡ without key.now (pairs_of self.old) }
     {
-        self.even_out();
-        let index = self.keys.get_index_of(key)?;
-        let key = self.keys.remove(index);
-        Some((key, self.values.remove(index)))
+        let index = self.0.get_index_of(key)?;
+        let Pair { key, value } = self.0.remove(index);
+        Some((key, value))
     }
 
     /// The pairs in order, borrowed. It takes no memory.
     pub fn iter(&self) -> Iter<'_>
         ensures pairs { result ≡ pairs_of self.now }
     {
-        let (keys, values) = self.parts();
-        Iter::over(keys, values)
+        Iter::over(self.0.as_slice())
     }
 
     /// An equal document, with keys and values of its own.
@@ -141,56 +128,24 @@ impl Document {
     ///
     /// Memory ran out.
     #[cycle(copy)]
-    #[tactic(auto, using(crate::proofs::Rows::row_items))]
+    #[tactic(auto, using(crate::proofs::Rows::row_items, crate::proofs::Rows::row_pairs))]
     pub fn try_clone(&self, alloc: Global) -> Result<Document, AllocError>
         ensures equal { IfOk result (λ d. pairs_of d ≡ pairs_of self.now) }
     {
-        let keys = self.keys.try_clone()?;
-        let values = copies_of(alloc, &self.values)?;
-        Ok(Document { keys, values })
-    }
-
-    // The keys that have a value, and the values that have a key.
-    pub(crate) fn parts(&self) -> (&[String], &[Bson])
-        ensures pairs { zipped result.0.now (trees_of result.1.now) ≡ pairs_of self.now }
-        ensures even { length result.0.now ≡ length result.1.now }
-    {
-        let len = self.len();
-        (&self.keys.as_slice()[..len], &self.values[..len])
-    }
-
-    // Sees to it that there are as many keys as values.
-    #[inline(always)]
-    fn even_out(&mut self)
-        ensures same { pairs_of self.new ≡ pairs_of self.old }
-        ensures even { length self.new.keys ≡ length self.new.values.items }
-    {
-        if self.keys.len() != self.values.len() {
-            self.cut();
+        let mut pairs = KeyMap::with_seed(alloc, self.0.seed());
+        for pair in self.0.as_slice() {
+            let key = String::from_str(alloc, &pair.key)?;
+            pairs.push(key, pair.value.try_clone(alloc)?)?;
         }
+        Ok(Document(pairs))
     }
 
-    // Drops a key without a value, and a value without a key. No document has one.
-    #[cold]
-    #[inline(never)]
-    fn cut(&mut self)
-        ensures same { pairs_of self.new ≡ pairs_of self.old }
-        ensures even { length self.new.keys ≡ length self.new.values.items }
+    // The pairs, in order.
+    pub(crate) fn as_slice(&self) -> &[Pair<Bson>]
+        ensures pairs { pairs_in result.now ≡ pairs_of self.now }
     {
-        let len = self.len();
-        self.keys.truncate(len);
-        self.values.truncate(len);
+        self.0.as_slice()
     }
-}
-
-// Puts a value in the place of another, which it returns. It stands apart, so that a new key has no room for the other value on the stack.
-#[inline(never)]
-fn replaced(values: &mut Vec<Bson>, index: usize, value: Bson) -> Bson
-    requires within { index < length values.old.items }
-    ensures before { slice_get values.old.items index ≡ Some result }
-    ensures after { values.new.items ≡ slice_set values.old.items index value }
-{
-    mem::replace(&mut values[index], value)
 }
 
 impl IntoIterator for Document {
@@ -202,7 +157,6 @@ impl IntoIterator for Document {
 
     /// The pairs in order, owned. It takes no memory.
     fn into_iter(self) -> IntoIter {
-        let Document { keys, values } = self;
-        IntoIter::over(keys, values)
+        IntoIter::over(self.0.into_pairs())
     }
 }

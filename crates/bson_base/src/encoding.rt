@@ -68,7 +68,7 @@ impl Document {
 
 // Appends a value.
 #[cycle(encode)]
-#[tactic(auto, using(crate::proofs::Rows::row_items))]
+#[tactic(auto, using(crate::proofs::Rows::row_items, crate::proofs::Rows::row_pairs))]
 fn put_value(out: &mut Vec<u8>, value: &Bson) -> Result<(), EncodeError>
     ensures { Puts result (encode_fault (tree_of value.now)) out.old.items out.new.items (enc (tree_of value.now)) }
 {

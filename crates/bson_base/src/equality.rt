@@ -119,7 +119,7 @@ impl PartialEq for Document {
 
 // Whether two values are equal.
 #[cycle(same)]
-#[tactic(auto, using(crate::proofs::Rows::row_items, crate::proofs::Sames::unlike_array, crate::proofs::Sames::unlike_document, crate::proofs::Sames::unlike_scoped))]
+#[tactic(auto, using(crate::proofs::Rows::row_items, crate::proofs::Rows::row_pairs, crate::proofs::Sames::unlike_array, crate::proofs::Sames::unlike_document, crate::proofs::Sames::unlike_scoped))]
 fn is_same(a: &Bson, b: &Bson) -> bool
     ensures { result ≡ same (tree_of a.now) (tree_of b.now) }
 {
@@ -185,7 +185,15 @@ fn are_same_values(a: &[Bson], b: &[Bson]) -> bool
 fn are_same_documents(a: &Document, b: &Document) -> bool
     ensures { result ≡ same_pairs (pairs_of a.now) (pairs_of b.now) }
 {
-    let (keys, values) = a.parts();
-    let (others, other_values) = b.parts();
-    keys == others && are_same_values(values, other_values)
+    let (pairs, others) = (a.as_slice(), b.as_slice());
+    if pairs.len() != others.len() {
+        return false;
+    }
+    for (i, pair) in pairs.iter().enumerate() {
+        let other = &others[i];
+        if pair.key != other.key || !is_same(&pair.value, &other.value) {
+            return false;
+        }
+    }
+    true
 }

@@ -35,7 +35,7 @@ impl Bson {
     /// # Errors
     ///
     /// Memory ran out.
-    #[tactic(auto, using(crate::proofs::Rows::row_items))]
+    #[tactic(auto, using(crate::proofs::Rows::row_items, crate::proofs::Rows::row_pairs))]
     pub fn from_extended_document(alloc: Global, document: Document) -> Result<Bson, AllocError>
         ensures folded { IfOk result (λ b. tree_of b ≡ fold (pairs_of document)) }
     {
@@ -136,7 +136,7 @@ fn are_code_and_scope(key: &str, value: &Bson, other: &str, second: &Bson) -> bo
 }
 
 // Whether these are a text and a document.
-#[tactic(auto, using(crate::proofs::Rows::row_items))]
+#[tactic(auto, using(crate::proofs::Rows::row_items, crate::proofs::Rows::row_pairs))]
 fn is_code_with_scope(code: &Bson, scope: &Bson) -> bool
     ensures { result ≡ is_some (folded.code_with_scope (tree_of code.now) (tree_of scope.now)) }
 {
@@ -169,7 +169,7 @@ fn into_pair(document: Document) -> Bson
 }
 
 // The code with its scope of a text and a document.
-#[tactic(auto, using(crate::proofs::Rows::row_items))]
+#[tactic(auto, using(crate::proofs::Rows::row_items, crate::proofs::Rows::row_pairs))]
 fn into_code_with_scope(code: Bson, scope: Bson) -> Bson
     requires { is_some (folded.code_with_scope (tree_of code) (tree_of scope)) ≡ true }
     ensures { Some (tree_of result) ≡ folded.code_with_scope (tree_of code) (tree_of scope) }

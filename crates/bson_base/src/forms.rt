@@ -28,7 +28,7 @@ pub(crate) fn text_of(value: &Bson) -> Option<&str>
 }
 
 // The document that a value is.
-#[tactic(auto, using(crate::proofs::Rows::row_items))]
+#[tactic(auto, using(crate::proofs::Rows::row_items, crate::proofs::Rows::row_pairs))]
 fn document_of(value: &Bson) -> Option<&Document>
     ensures { option_map (λ d. pairs_of d.now) result ≡ folded.pairs_in (tree_of value.now) }
 {

@@ -1,39 +1,40 @@
-ghost use Rattle.std.specs.Prelude.{◌≡◌};
+ghost use Rattle.std.specs.Prelude.{◌≡◌, length};
 ghost use Rattle.std.specs.Iterator.{at_most};
+ghost use Rattle.std.specs.Vec.Iter.{into_iter_items, into_iter_len};
+ghost use Rattle.bson_key_map.specs.Keys.{texts_of};
 ghost use Rattle.bson_base.specs.Pairs.{count};
-ghost use Rattle.bson_base.specs.Next.{IsNext, IsTaken};
-ghost use Rattle.bson_base.specs.BsonView.{zipped, trees_of};
+ghost use Rattle.bson_base.specs.Next.{IsNext, IsNextKey, IsTaken};
+ghost use Rattle.bson_base.specs.BsonView.{pairs_in};
 
 use crate::bson::Bson;
-use bson_key_set::{IntoKeys, KeySet};
+use bson_key_map::Pair;
 use std::marker::Model;
 use std::vec;
 
 /// The pairs of a document, borrowed one after another. Contracts see it as the pairs that are left.
 #[derive(Debug, Drop)]
 pub struct Iter<'a> {
-    keys: &'a [String],
-    values: &'a [Bson],
+    left: &'a [Pair<Bson>],
 }
 
 impl<'a> Model for Iter<'a> {
     ghost use Rattle.bson_base.specs.Tree.{Pairs};
     ghost use Rattle.bson_base.specs.Prover.StoredTree.{coded_pairs};
-    ghost use Rattle.bson_base.specs.BsonView.{zipped, trees_of};
+    ghost use Rattle.bson_base.specs.BsonView.{pairs_in};
 
     ghost Value = { Pairs };
 
     ghost coded = { coded_pairs };
 
-    ghost view = { λ i. zipped i.keys.now (trees_of i.values.now) };
+    ghost view = { λ i. pairs_in i.left.now };
 }
 
 impl<'a> Iter<'a> {
-    // Over keys and the values beside them.
-    pub(crate) fn over(keys: &'a [String], values: &'a [Bson]) -> Iter<'a>
-        ensures { result ≡ zipped keys.now (trees_of values.now) }
+    // Over these pairs.
+    pub(crate) fn over(pairs: &'a [Pair<Bson>]) -> Iter<'a>
+        ensures { result ≡ pairs_in pairs.now }
     {
-        Iter { keys, values }
+        Iter { left: pairs }
     }
 }
 
@@ -45,19 +46,55 @@ impl<'a> Iterator for Iter<'a> {
     ghost remaining = { λ pairs. at_most (count pairs) };
 
     fn next(&mut self) -> Option<(&'a String, &'a Bson)> {
-        let (key, keys) = self.keys.split_first()?;
-        let (value, values) = self.values.split_first()?;
-        self.keys = keys;
-        self.values = values;
-        Some((key, value))
+        let (pair, left) = self.left.split_first()?;
+        self.left = left;
+        Some((&pair.key, &pair.value))
+    }
+}
+
+/// The keys of a document, borrowed one after another. Contracts see it as the texts of the keys that are left.
+#[derive(Debug, Drop)]
+pub struct Keys<'a> {
+    left: &'a [Pair<Bson>],
+}
+
+impl<'a> Model for Keys<'a> {
+    ghost use Rattle.std.specs.Prelude.{List};
+    ghost use Rattle.bson_kinds.specs.Text.{Utf8};
+    ghost use Rattle.bson_key_map.specs.Keys.{texts_of};
+
+    ghost Value = { List Utf8 };
+
+    ghost view = { λ k. texts_of k.left.now };
+}
+
+impl<'a> Keys<'a> {
+    // Over the keys of these pairs.
+    pub(crate) fn over(pairs: &'a [Pair<Bson>]) -> Keys<'a>
+        ensures { result ≡ texts_of pairs.now }
+    {
+        Keys { left: pairs }
+    }
+}
+
+impl<'a> Iterator for Keys<'a> {
+    type Item = &'a String;
+
+    ghost next_gives = { IsNextKey };
+
+    ghost remaining = { λ keys. at_most (length keys) };
+
+    fn next(&mut self) -> Option<&'a String> {
+        let (pair, left) = self.left.split_first()?;
+        self.left = left;
+        Some(&pair.key)
     }
 }
 
 /// The pairs of a document, owned, one after another. Contracts see it as the pairs that are left.
 #[derive(Drop)]
 pub struct IntoIter {
-    keys: IntoKeys,
-    values: vec::IntoIter<Bson>,
+    left: vec::IntoIter<Pair<Bson>>,
 }
 
 impl Model for IntoIter {
@@ -65,26 +102,24 @@ impl Model for IntoIter {
     ghost use Rattle.std.specs.Vec.Iter.{into_iter_items, into_iter_len};
     ghost use Rattle.bson_base.specs.Tree.{Pairs};
     ghost use Rattle.bson_base.specs.Prover.StoredTree.{coded_pairs};
-    ghost use Rattle.bson_base.specs.BsonView.{zipped, trees_of};
+    ghost use Rattle.bson_base.specs.BsonView.{pairs_in};
 
     ghost Value = { Pairs };
 
     ghost coded = { coded_pairs };
 
-    ghost view = { λ i. zipped i.keys (trees_of (into_iter_items i.values)) };
+    ghost view = { λ i. pairs_in (into_iter_items i.left) };
 
-    ghost invariant = { λ i. into_iter_len i.values ≡ length (into_iter_items i.values) };
+    ghost invariant = { λ i. into_iter_len i.left ≡ length (into_iter_items i.left) };
 }
 
 impl IntoIter {
-    // Over keys and the values beside them.
-    pub(crate) fn over(keys: KeySet, values: Vec<Bson>) -> IntoIter
-        ensures { result ≡ zipped keys (trees_of values.items) }
+    // Over these pairs.
+    pub(crate) fn over(pairs: vec::IntoIter<Pair<Bson>>) -> IntoIter
+        requires { into_iter_len pairs ≡ length (into_iter_items pairs) }
+        ensures { result ≡ pairs_in (into_iter_items pairs) }
     {
-        IntoIter {
-            keys: keys.into_keys(),
-            values: values.into_iter(),
-        }
+        IntoIter { left: pairs }
     }
 }
 
@@ -96,8 +131,7 @@ impl Iterator for IntoIter {
     ghost remaining = { λ pairs. at_most (count pairs) };
 
     fn next(&mut self) -> Option<(String, Bson)> {
-        let key = self.keys.next()?;
-        let value = self.values.next()?;
+        let Pair { key, value } = self.left.next()?;
         Some((key, value))
     }
 }

@@ -23,7 +23,7 @@ impl Bson {
     /// # Errors
     ///
     /// Memory ran out.
-    #[tactic(auto, using(crate::proofs::Rows::row_items))]
+    #[tactic(auto, using(crate::proofs::Rows::row_items, crate::proofs::Rows::row_pairs))]
     pub fn into_extended_document(self, alloc: Global) -> Result<Document, AllocError>
         requires extended { IsExtended (tree_of self) }
         ensures opened { IfOk result (λ d. pairs_of d ≡ opened (tree_of self)) }
@@ -66,7 +66,7 @@ fn open_id(alloc: Global, id: ObjectId) -> Result<Document, AllocError>
 }
 
 // That of a time.
-#[tactic(auto, using(crate::proofs::Rows::row_items))]
+#[tactic(auto, using(crate::proofs::Rows::row_items, crate::proofs::Rows::row_pairs))]
 fn open_time(alloc: Global, time: DateTime) -> Result<Document, AllocError>
     ensures { IfOk result (λ d. pairs_of d ≡ opened (date_time (millis time))) }
 {
@@ -76,7 +76,7 @@ fn open_time(alloc: Global, time: DateTime) -> Result<Document, AllocError>
 }
 
 // That of a binary of another subtype than 0.
-#[tactic(auto, using(crate::proofs::Rows::row_items, std::proofs::lemmas::Bool::Decides::nat_tests))]
+#[tactic(auto, using(crate::proofs::Rows::row_items, crate::proofs::Rows::row_pairs, std::proofs::lemmas::Bool::Decides::nat_tests))]
 fn open_binary(alloc: Global, binary: &Binary) -> Result<Document, AllocError>
     requires extended { IsExtended (binary_of binary.now) }
     ensures { IfOk result (λ d. pairs_of d ≡ opened (binary_of binary.now)) }
@@ -88,7 +88,7 @@ fn open_binary(alloc: Global, binary: &Binary) -> Result<Document, AllocError>
 }
 
 // That of a timestamp.
-#[tactic(auto, using(crate::proofs::Rows::row_items))]
+#[tactic(auto, using(crate::proofs::Rows::row_items, crate::proofs::Rows::row_pairs))]
 fn open_timestamp(alloc: Global, time: Timestamp) -> Result<Document, AllocError>
     ensures { IfOk result (λ d. pairs_of d ≡ opened (timestamp time.time time.increment)) }
 {
@@ -99,7 +99,7 @@ fn open_timestamp(alloc: Global, time: Timestamp) -> Result<Document, AllocError
 }
 
 // That of a regular expression.
-#[tactic(auto, using(crate::proofs::Rows::row_items))]
+#[tactic(auto, using(crate::proofs::Rows::row_items, crate::proofs::Rows::row_pairs))]
 fn open_regex(alloc: Global, regex: Regex) -> Result<Document, AllocError>
     ensures { IfOk result (λ d. pairs_of d ≡ opened (regex_of regex)) }
 {
@@ -110,7 +110,7 @@ fn open_regex(alloc: Global, regex: Regex) -> Result<Document, AllocError>
 }
 
 // That of a reference to a document.
-#[tactic(auto, using(crate::proofs::Rows::row_items))]
+#[tactic(auto, using(crate::proofs::Rows::row_items, crate::proofs::Rows::row_pairs))]
 fn open_pointer(alloc: Global, pointer: DbPointer) -> Result<Document, AllocError>
     ensures { IfOk result (λ d. pairs_of d ≡ opened (pointer_of pointer)) }
 {

@@ -1,50 +1,48 @@
-use Rattle.std.proofs.Common.{◌≡◌, ◌<◌, true, false, ap, ◌∙◌, sym, subst, length, string_bytes, arith}
-use Rattle.std.specs.Prelude.{slice_get}
-use Rattle.std.specs.List.{list_any}
+use Rattle.std.proofs.Common.{◌≡◌, Some, false, ap, sym, ◌∙◌, string_bytes}
+use Rattle.std.specs.List.{position, list_any}
 use Rattle.std.specs.Option.{option_map}
-use Rattle.bson_base.specs.BsonView.{tree_of, trees_of}
-use Rattle.bson_base.specs.Pairs.{lookup, put}
-use Rattle.bson_key_set.specs.Keys.{is_key}
-use Rattle.bson_base.proofs.Zips.{put_position, put_new, lookup_position, lookup_new, insert_new, insert_old, found_at, not_new, not_old}
+use Rattle.std.specs.Str.{bytes_eq}
+use Rattle.bson_key_map.specs.Keys.{texts_of}
+use Rattle.bson_key_map.specs.declared.pair.Pair.{Pair}
+use Rattle.bson_key_map.proofs.Places.{absent}
+use Rattle.bson_base.specs.BsonView.{tree_of, pairs_in}
+use Rattle.bson_base.specs.declared.bson.Bson.{Bson}
+use Rattle.bson_base.proofs.Documents.{lookup_position, lookup_new, put_position, put_new, there}
 use Rattle.bson_base.proofs.document.Document.insert.Goals as goal
 
-pub returns-then-is_new-clause-new : goal.returns-then-is_new-clause-new
-returns-then-is_new-clause-new c =
-    let d = c.even_out.new.self in
+pub push-requires : goal.push-requires
+push-requires c =
+    let ps = c.args.self.now.0 in
     let key = string_bytes c.args.key in
-    let new : false ≡ list_any (is_key key) d.keys = not_new _ (sym c.in_ok-index.ensures.added ∙ c.if-is_new.true) in
-    rw (c.in_ok-push.ensures.items, c.in_ok-index.ensures.keys, c.reserve.ensures.items, insert_new c.args.key d.keys new)
-    (put_new c.args.key d.keys d.values.items c.args.value c.even_out.ensures.even new)
-    ∙ ap (put key (tree_of c.args.value)) c.even_out.ensures.same
+    record { new = sym (absent key (texts_of ps) (c.in-None.ensures.index ∙ ap (λ text. position (bytes_eq text) (texts_of ps)) c.deref.ensures)) }
 
-pub returns-then-is_new-clause-old : goal.returns-then-is_new-clause-old
-returns-then-is_new-clause-old c =
-    let d = c.even_out.new.self in
+pub returns-in-Some-clause-new : goal.returns-in-Some-clause-new
+returns-in-Some-clause-new c =
+    let ps = c.args.self.now.0 in
     let key = string_bytes c.args.key in
-    let new : false ≡ list_any (is_key key) d.keys = not_new _ (sym c.in_ok-index.ensures.added ∙ c.if-is_new.true) in
-    lookup_new key d.keys (trees_of d.values.items) new ∙ ap (lookup key) c.even_out.ensures.same
+    let i = c.in-Some.index in
+    let at : Some i ≡ position (bytes_eq key) (texts_of ps) = c.in-Some.ensures.index ∙ ap (λ text. position (bytes_eq text) (texts_of ps)) c.deref.ensures in
+    let p = there ps i c.in-Some.ensures.within in
+    ap pairs_in (c.replace.ensures.after p.0 p.1) ∙ put_position key ps p.0 c.args.value i p.1 at
 
-pub returns-clause-new : goal.returns-clause-new
-returns-clause-new c =
-    let d = c.even_out.new.self in
+pub returns-in-Some-clause-old : goal.returns-in-Some-clause-old
+returns-in-Some-clause-old c =
+    let ps = c.args.self.now.0 in
     let key = string_bytes c.args.key in
-    let old : true ≡ list_any (is_key key) d.keys = not_old _ (sym c.in_ok-index.ensures.added ∙ c.if-is_new.false) in
-    let keys : c.insert_full.new.self ≡ d.keys = c.in_ok-index.ensures.keys ∙ insert_old c.args.key d.keys old in
-    let within : c.in_ok-index.index < length d.keys = subst (λ ks. c.in_ok-index.index < length ks) keys c.in_ok-index.ensures.within in
-    let among : c.in_ok-index.index < length d.values.items = omega (arith, within, c.even_out.ensures.even) in
-    let first = found_at key d.keys c.in_ok-index.index c.in_ok-index.ensures.index within in
-    rw (keys, c.replaced.ensures.after, c.reserve.ensures.items) (put_position key d.keys d.values.items c.args.value c.in_ok-index.index among first)
-    ∙ ap (put key (tree_of c.args.value)) c.even_out.ensures.same
+    let i = c.in-Some.index in
+    let at : Some i ≡ position (bytes_eq key) (texts_of ps) = c.in-Some.ensures.index ∙ ap (λ text. position (bytes_eq text) (texts_of ps)) c.deref.ensures in
+    let p = there ps i c.in-Some.ensures.within in
+    ap (λ b. Some (tree_of b)) (c.replace.ensures.before p.0 p.1) ∙ ap (option_map (λ (q : Pair Bson). tree_of q.value)) (sym p.1) ∙ lookup_position key ps i at
 
-pub returns-clause-old : goal.returns-clause-old
-returns-clause-old c =
-    let d = c.even_out.new.self in
+pub returns-in_ok-push-in-None-clause-new : goal.returns-in_ok-push-in-None-clause-new
+returns-in_ok-push-in-None-clause-new c =
+    let ps = c.args.self.now.0 in
     let key = string_bytes c.args.key in
-    let old : true ≡ list_any (is_key key) d.keys = not_old _ (sym c.in_ok-index.ensures.added ∙ c.if-is_new.false) in
-    let keys : c.insert_full.new.self ≡ d.keys = c.in_ok-index.ensures.keys ∙ insert_old c.args.key d.keys old in
-    let within : c.in_ok-index.index < length d.keys = subst (λ ks. c.in_ok-index.index < length ks) keys c.in_ok-index.ensures.within in
-    let among : c.in_ok-index.index < length d.values.items = omega (arith, within, c.even_out.ensures.even) in
-    let first = found_at key d.keys c.in_ok-index.index c.in_ok-index.ensures.index within in
-    ap (option_map tree_of) (sym c.replaced.ensures.before ∙ ap (λ vs. slice_get vs c.in_ok-index.index) c.reserve.ensures.items)
-    ∙ lookup_position key d.keys d.values.items c.in_ok-index.index first
-    ∙ ap (lookup key) c.even_out.ensures.same
+    let new : false ≡ list_any (bytes_eq key) (texts_of ps) = absent key (texts_of ps) (c.in-None.ensures.index ∙ ap (λ text. position (bytes_eq text) (texts_of ps)) c.deref.ensures) in
+    ap pairs_in c.in_ok-push-in-None.ensures.pairs ∙ put_new ps (record { key = c.args.key; value = c.args.value }) new
+
+pub returns-in_ok-push-in-None-clause-old : goal.returns-in_ok-push-in-None-clause-old
+returns-in_ok-push-in-None-clause-old c =
+    let ps = c.args.self.now.0 in
+    let key = string_bytes c.args.key in
+    lookup_new key ps (absent key (texts_of ps) (c.in-None.ensures.index ∙ ap (λ text. position (bytes_eq text) (texts_of ps)) c.deref.ensures))

@@ -1,9 +1,9 @@
-use Rattle.std.proofs.Common.{arith}
-use Rattle.bson_base.proofs.Zips.{count-zipped, distinct-zipped}
+use Rattle.std.proofs.Common.{◌∙◌, ap, sym, length}
+use Rattle.bson_base.proofs.Documents.{count-pairs, distinct-pairs}
 use Rattle.bson_base.proofs.document.Document.len.Goals as goal
 
 pub returns-clause-len : goal.returns-clause-len
-returns-clause-len c = omega (arith, count-zipped c.args.self.now.keys c.args.self.now.values.items)
+returns-clause-len c = ap length c.as_slice.ensures.pairs ∙ sym (count-pairs c.args.self.now.0)
 
 pub returns-clause-distinct : goal.returns-clause-distinct
-returns-clause-distinct c = distinct-zipped _ _ c.len.ensures.unique
+returns-clause-distinct c = distinct-pairs c.args.self.now.0 c.as_slice.ensures.unique

@@ -1,0 +1,4 @@
+pub mod Codes
+pub mod formers
+pub mod Keys
+pub mod Stored
