@@ -477,6 +477,7 @@ pub use bson_base::IntoIter;
 pub use bson_base::Iter;
 pub use bson_base::JavaScriptCodeWithScope;
 pub use bson_base::KeySeed;
+pub use bson_base::Keys;
 pub use bson_base::NotDate;
 pub use bson_base::NotHex;
 pub use bson_base::NotUuid;

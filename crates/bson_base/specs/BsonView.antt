@@ -1,7 +1,7 @@
 -- What contracts see of the owned values: a `Bson` as a tree, a `Document` as its pairs, the types of their parts as the trees that they are.
 -- Source: bsonspec.org, version 1.1.
 use Rattle.std.specs.Prelude.{List, [], ◌∷◌, string_bytes}
-use Rattle.bson_key_map.specs.declared.pair.Pair.{Pair}
+pub use Rattle.bson_key_map.specs.declared.pair.Pair.{Pair}
 pub use Rattle.bson_key_map.specs.Keys.{Key}
 use Rattle.bson_base.specs.Instant.{millis}
 use Rattle.bson_base.specs.Tree.{Tree, double, string, document, array, binary, undefined, object_id, boolean, date_time, null, regular_expression, db_pointer, javascript_code, symbol, javascript_code_with_scope, int32, timestamp, int64, decimal128, max_key, min_key, Pairs, no_pairs, pair, Trees, no_trees, tree}

@@ -89,7 +89,7 @@ pub fn from_bson_with_options_at<'x>(
 /// # Errors
 ///
 /// Those of [`from_bson_at`].
-#[tactic(auto, using(bson_base::proofs::Rows::row_items))]
+#[tactic(auto, using(bson_base::proofs::Rows::row_items, bson_base::proofs::Rows::row_pairs))]
 pub fn from_document_at<'x>(alloc: Global, shape: &Shape, doc: Document) -> de::Result<Datum<'x>>
     ensures exact { Gives view result (answered (reads_tree_value true shape.now (trees.document (pairs_of doc)))) }
     ensures owned { IfOk result IsOwned }
@@ -102,7 +102,7 @@ pub fn from_document_at<'x>(alloc: Global, shape: &Shape, doc: Document) -> de::
 /// # Errors
 ///
 /// Those of [`from_bson_with_options_at`].
-#[tactic(auto, using(bson_base::proofs::Rows::row_items))]
+#[tactic(auto, using(bson_base::proofs::Rows::row_items, bson_base::proofs::Rows::row_pairs))]
 pub fn from_document_with_options_at<'x>(
     alloc: Global,
     shape: &Shape,

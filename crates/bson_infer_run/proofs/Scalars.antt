@@ -24,5 +24,5 @@ other_bytes (suc n) b e = refl
 
 pub scalar : (b : Bson) (l : Leaf) → ((es : Vec Bson) → b ≡ bson.Array es → ⊥) → ((d : Document) → b ≡ bson.Document d → ⊥) → IsLeafOf (tree_of b) l → shape_of (tree_of b) ≡ leaf l
 scalar (bson.Array' shape row) l a d h = absurd (a _ (sym (roll-out-Bson (bson.Array' shape row)) ∙ ap roll-Bson (outs-Array' shape row) ∙ rolls-Array _))
-scalar (bson.Document' keys shape row) l a d h = absurd (d _ (sym (roll-out-Bson (bson.Document' keys shape row)) ∙ ap roll-Bson (outs-Document' keys shape row) ∙ rolls-Document _))
+scalar (bson.Document' keys row) l a d h = absurd (d _ (sym (roll-out-Bson (bson.Document' keys row)) ∙ ap roll-Bson (outs-Document' keys row) ∙ rolls-Document _))
 scalar b l a d h = h

@@ -21,7 +21,7 @@ use std::mem;
 ///
 /// Memory ran out, or more than `u64::MAX` documents were joined.
 #[cycle(add)]
-#[tactic(auto, using(bson_base::proofs::Rows::row_items))]
+#[tactic(auto, using(bson_base::proofs::Rows::row_items, bson_base::proofs::Rows::row_pairs))]
 fn add(alloc: Global, value: &Bson, summary: Summary) -> Result<Summary, AllocError>
     requires { IsClean (tree_of value.now) }
     ensures { IfOk result (λ s. s ≡ join summary (shape_of (tree_of value.now))) }

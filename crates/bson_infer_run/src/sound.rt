@@ -38,7 +38,7 @@ fn within(size: usize) -> Option<usize>
 
 // The bytes of a value that has so many levels at most and may be in a sound document.
 #[cycle(sound)]
-#[tactic(auto, using(bson_base::proofs::Rows::row_items))]
+#[tactic(auto, using(bson_base::proofs::Rows::row_items, bson_base::proofs::Rows::row_pairs))]
 fn size_of(value: &Bson, levels: u32) -> Option<usize>
     ensures { SomeIff result (Fits levels (tree_of value.now)) (length (enc (tree_of value.now))) }
 {

@@ -177,7 +177,7 @@ fn extended<'de>(levels: u32, element: &RawElement<'de>, value: RawBsonRef<'de>)
 }
 
 /// A value of a tree.
-#[tactic(auto, using(bson_base::proofs::Rows::row_items))]
+#[tactic(auto, using(bson_base::proofs::Rows::row_items, bson_base::proofs::Rows::row_pairs))]
 #[inline(never)]
 fn judge_tree<'de>(alloc: Global, levels: u32, value: &'de Bson) -> Reading<Value<'de>>
     ensures { Reaches value_view result (judged (tree_node from_memory (tree_of value.now) levels)) }

@@ -3,8 +3,8 @@ use Rattle.std.proofs.Common.{◌≡◌, Bool, true, false, length, arith, List,
 use Rattle.std.specs.Prelude.{is_some, option_map, option_and_then}
 use Rattle.std.specs.Global.{Vec}
 use Rattle.std.specs.List.{flat_map}
-use Rattle.bson_base.proofs.Rows.{row_items}
-use Rattle.bson_base.specs.BsonView.{tree_of, trees_of, pairs_of, zipped}
+use Rattle.bson_base.proofs.Rows.{row_items, row_pairs}
+use Rattle.bson_base.specs.BsonView.{tree_of, trees_of, pairs_of}
 use Rattle.bson_base.specs.Pairs.{lookup, without}
 use Rattle.bson_base.specs.Tree as trees
 use Rattle.bson_base.specs.Tree.{Tree, Trees, tree, Pairs}
@@ -141,7 +141,7 @@ owned_more parts (y ∷ xs) x h k =
 -- ---- documents and arrays
 
 pub document_tree : (d : Document) → tree_of (bson.Document d) ≡ trees.document (pairs_of d)
-document_tree d = ap (λ (ts : Trees). trees.document (zipped d.keys ts)) (row_items d.values)
+document_tree d = ap trees.document (row_pairs d.0)
 
 pub array_tree : (bs : Vec Bson) → tree_of (bson.Array bs) ≡ trees.array (trees_of bs.items)
 array_tree bs = ap trees.array (row_items bs)

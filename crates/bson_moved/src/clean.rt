@@ -11,7 +11,7 @@ use bson_base::{Bson, Document};
 /// Whether a value is clean and nests no deeper than so many levels. `false` tells nothing: it is also the answer for a tree that holds a value of another kind
 /// than Document, Array, String, Boolean, Int32, Int64, Double and Null, clean or not.
 #[cycle(clean)]
-#[tactic(auto, using(bson_base::proofs::Rows::row_items))]
+#[tactic(auto, using(bson_base::proofs::Rows::row_items, bson_base::proofs::Rows::row_pairs))]
 pub fn is_clean(value: &Bson, levels: u32) -> bool
     ensures clean { IsTrue result → IsClean (tree_of value.now) }
     ensures nests { IsTrue result → depth (tree_of value.now) ≤ levels }

@@ -16,7 +16,7 @@ const MOST_PAIRS: usize = 32;
 /// Whether a tree is a value at a simple shape. `false` tells nothing: it is also the answer at a shape that is not simple, and where a struct is read from a
 /// document of more than 32 pairs.
 #[cycle(fitting)]
-#[tactic(auto, using(crate::proofs::Present::optional_present, crate::proofs::Present::structure_present, bson_base::proofs::Rows::row_items))]
+#[tactic(auto, using(crate::proofs::Present::optional_present, crate::proofs::Present::structure_present, bson_base::proofs::Rows::row_items, bson_base::proofs::Rows::row_pairs))]
 pub fn has_view(shape: &Shape, value: &Bson) -> bool
     ensures { IsTrue result → is_some (views shape.now (tree_of value.now)) ≡ true }
 {

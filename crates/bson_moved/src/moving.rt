@@ -28,7 +28,7 @@ use std::alloc::{AllocError, Global};
 ///
 /// Memory ran out.
 #[cycle(take)]
-#[tactic(auto, using(bson_base::proofs::Rows::row_items, bson_datum::proofs::Views::item_rows_items, bson_datum::proofs::BorrowedRows::item_rows_are_borrowed))]
+#[tactic(auto, using(bson_base::proofs::Rows::row_items, bson_base::proofs::Rows::row_pairs, bson_datum::proofs::Views::item_rows_items, bson_datum::proofs::BorrowedRows::item_rows_are_borrowed))]
 pub fn take<'x>(alloc: Global, shape: &Shape, value: Bson) -> Result<Datum<'x>, AllocError>
     requires simple { simple.is_simple shape.now ≡ true }
     requires view { is_some (views shape.now (tree_of value)) ≡ true }

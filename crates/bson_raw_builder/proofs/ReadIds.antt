@@ -3,7 +3,7 @@ use Rattle.std.proofs.Common.{◌≡◌, ℕ, zero, suc, List, [], ◌∷◌, Bo
 use Rattle.std.specs.Prelude.{codes}
 use Rattle.std.specs.Str.{bytes_eq}
 use Rattle.std.proofs.lemmas.Slice.Eq.{bytes_eq-Decides}
-use Rattle.bson_base.specs.BsonView.{Key, zipped, tree_of, row_of, trees_of, pairs_of}
+use Rattle.bson_base.specs.BsonView.{Key, Pair, tree_of, row_of, pairs_row, pairs_in, pairs_of}
 use Rattle.bson_base.specs.Folded.{at}
 use Rattle.bson_kinds.specs.Outcome.{◌>>=◌, result_map}
 use Rattle.bson_base.specs.Parsed.{bytes_of_digits}
@@ -38,29 +38,29 @@ use Rattle.bson_laws.specs.FirstKeys.{id_given, id_read}
 
 -- ---- values in memory
 
-zipped_free : (ks : List Key) (ts : Trees) → AreTreesRawFree ts → ArePairsRawFree (zipped ks ts)
-zipped_free [] ts f = tt
-zipped_free (k ∷ ks) trees.no_trees f = tt
-zipped_free (k ∷ ks) (trees.tree t ts) f = (f.0, zipped_free ks ts f.1)
-
 mutual
   bson_free : (b : Bson) → IsRawFree (tree_of b)
   bson_free (bson.Array' shape row) = row_free row
-  bson_free (bson.Document' keys shape row) = zipped_free keys (row_of row) (row_free row)
-  bson_free (bson.JavaScriptCodeWithScope' code keys shape row) = zipped_free keys (row_of row) (row_free row)
+  bson_free (bson.Document' keys row) = pairs_row_free keys row
+  bson_free (bson.JavaScriptCodeWithScope' code keys row) = pairs_row_free keys row
   bson_free b = tt
 
   row_free : {m : _} (row : Row_of-Bson m) → AreTreesRawFree (row_of row)
   row_free end_of-Bson = tt
   row_free (more_of-Bson b rest) = (bson_free b, row_free rest)
 
-trees_free : (bs : List Bson) → AreTreesRawFree (trees_of bs)
-trees_free [] = tt
-trees_free (b ∷ bs) = (bson_free b, trees_free bs)
+  pairs_row_free : {m : _} (keys : List (Key × Unit {0})) (row : Row_of-Bson m) → ArePairsRawFree (pairs_row keys row)
+  pairs_row_free [] row = tt
+  pairs_row_free (k ∷ ks) end_of-Bson = tt
+  pairs_row_free (k ∷ ks) (more_of-Bson b rest) = (bson_free b, pairs_row_free ks rest)
+
+pairs_free : (ps : List (Pair Bson)) → ArePairsRawFree (pairs_in ps)
+pairs_free [] = tt
+pairs_free (p ∷ ps) = (bson_free p.value, pairs_free ps)
 
 -- nothing in a document in memory is given by its bytes
 pub document_free : (d : Document) → ArePairsRawFree (pairs_of d)
-document_free d = zipped_free d.keys (trees_of d.values.items) (trees_free d.values.items)
+document_free d = pairs_free d.0
 
 -- ---- keys
 

@@ -118,7 +118,7 @@ fn finished<'x>(element_type: ElementType, bytes: Vec<u8>) -> Result<RawValue<'x
 
 // Appends a value, with so many levels left for it, and answers its kind.
 #[cycle(build)]
-#[tactic(auto, using(bson_base::proofs::Rows::row_items))]
+#[tactic(auto, using(bson_base::proofs::Rows::row_items, bson_base::proofs::Rows::row_pairs))]
 fn put_value(out: &mut Vec<u8>, value: &Bson, levels: u32) -> Result<ElementType>
     ensures { Puts result out.old.items out.new.items (built (tree_of value.now) levels) }
 {

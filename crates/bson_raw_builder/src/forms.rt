@@ -25,7 +25,7 @@ pub(crate) fn text_of(value: &Bson) -> Option<&str>
 }
 
 /// The document that a value is.
-#[tactic(auto, using(bson_base::proofs::Rows::row_items))]
+#[tactic(auto, using(bson_base::proofs::Rows::row_items, bson_base::proofs::Rows::row_pairs))]
 pub(crate) fn document_of(value: &Bson) -> Option<&Document>
     ensures { option_map (λ d. pairs_of d.now) result ≡ folded.pairs_in (tree_of value.now) }
 {
@@ -124,7 +124,7 @@ fn id_of_bytes(value: &Bson) -> Option<ObjectId>
 }
 
 /// The same, or an ObjectId itself, or that of a document that is read as one.
-#[tactic(auto, using(bson_base::proofs::Rows::row_items))]
+#[tactic(auto, using(bson_base::proofs::Rows::row_items, bson_base::proofs::Rows::row_pairs))]
 pub(crate) fn id_in(alloc: Global, value: &Bson) -> Result<Option<ObjectId>, AllocError>
     ensures { IfOk result (λ o. option_map (λ id. id.0) o ≡ id_in (tree_of value.now)) }
 {

@@ -278,7 +278,7 @@ fn document_of_opened(alloc: Global, document: MetDocument<'_>) -> Reading<Docum
 
 // A value in such a document.
 #[cycle(opened)]
-#[tactic(auto, using(bson_base::proofs::Rows::row_items))]
+#[tactic(auto, using(bson_base::proofs::Rows::row_items, bson_base::proofs::Rows::row_pairs))]
 fn value_of_opened(alloc: Global, value: &Met<'_>) -> Reading<Bson>
     ensures exact { Reaches tree_of result (opened_expected value.now) }
 {

@@ -104,7 +104,7 @@ fn push(values: &mut Vec<Bson>, value: Bson) -> Result<(), AllocError>
 
 // A value, with so many levels of documents and arrays left.
 #[cycle(tree)]
-#[tactic(auto, using(bson_base::proofs::Rows::row_items))]
+#[tactic(auto, using(bson_base::proofs::Rows::row_items, bson_base::proofs::Rows::row_pairs))]
 fn value_of(alloc: Global, value: RawBsonRef<'_>, levels: u32, seed: KeySeed) -> Result<Bson, Error>
     ensures { Gives tree_of result (tree_at levels (raw_value value.entry)) }
 {

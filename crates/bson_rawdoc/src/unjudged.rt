@@ -55,7 +55,7 @@ impl Unjudged<'_> {
     /// # Errors
     ///
     /// Out of memory.
-    #[tactic(auto, using(bson_base::proofs::Rows::row_items))]
+    #[tactic(auto, using(bson_base::proofs::Rows::row_items, bson_base::proofs::Rows::row_pairs))]
     pub fn to_bson_lossy(self, alloc: Global) -> Result<Bson, AllocError>
         ensures tree { IfOk result (λ b. lossy_tree (unjudged_value self.entry) ≡ Some (tree_of b)) }
     {

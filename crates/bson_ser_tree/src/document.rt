@@ -119,7 +119,7 @@ fn document(alloc: Global, value: &Datum<'_>, readable: bool) -> Writing<Documen
 }
 
 // The document that a value is.
-#[tactic(auto, using(bson_base::proofs::Rows::row_items))]
+#[tactic(auto, using(bson_base::proofs::Rows::row_items, bson_base::proofs::Rows::row_pairs))]
 fn document_of(alloc: Global, value: Bson) -> Writing<Document>
     ensures { Reaches pairs_of result (only_document (tree_of value)) }
 {

@@ -70,7 +70,7 @@ impl ItemsWriter {
     /// # Errors
     ///
     /// `Failed` after a refusal.
-    #[tactic(auto, using(bson_base::proofs::Rows::row_items))]
+    #[tactic(auto, using(bson_base::proofs::Rows::row_items, bson_base::proofs::Rows::row_pairs))]
     pub(crate) fn finish(self) -> Result<Bson>
         ensures all { Finishes array tree_of (items_made self).trees result }
     {

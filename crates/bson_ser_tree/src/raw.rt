@@ -19,7 +19,7 @@ use bson_values::{Cause, Stop};
 use std::alloc::Global;
 
 /// The tree of a document in its bytes.
-#[tactic(auto, using(bson_base::proofs::Rows::row_items))]
+#[tactic(auto, using(bson_base::proofs::Rows::row_items, bson_base::proofs::Rows::row_pairs))]
 pub(crate) fn raw_document(alloc: Global, document: RawDocument<'_>, levels: u32) -> Writing<Bson>
     ensures { Reaches tree_of result (tree_read levels (result_map tree.document (document_pairs (document_bytes document.entry)))) }
 {
@@ -33,7 +33,7 @@ pub(crate) fn raw_document(alloc: Global, document: RawDocument<'_>, levels: u32
 }
 
 /// The tree of an array in its bytes.
-#[tactic(auto, using(bson_base::proofs::Rows::row_items))]
+#[tactic(auto, using(bson_base::proofs::Rows::row_items, bson_base::proofs::Rows::row_pairs))]
 pub(crate) fn raw_array(alloc: Global, array: RawArray<'_>, levels: u32) -> Writing<Bson>
     ensures { Reaches tree_of result (tree_read levels (result_map tree.array (array_trees (array_bytes array.entry)))) }
 {

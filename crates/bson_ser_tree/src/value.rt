@@ -136,7 +136,7 @@ fn newtype(
 
 // An array of these values.
 #[cycle(build)]
-#[tactic(auto, using(bson_base::proofs::Rows::row_items))]
+#[tactic(auto, using(bson_base::proofs::Rows::row_items, bson_base::proofs::Rows::row_pairs))]
 fn array(alloc: Global, items: &[Datum<'_>], readable: bool, levels: u32) -> Writing<Bson>
     ensures { Reaches tree_of result (enclosed_at array levels (tree_items readable 0 (items_view items.now))) }
 {
@@ -367,7 +367,7 @@ fn struct_variant(
 }
 
 /// The document of one pair that a variant with contents is.
-#[tactic(auto, using(bson_base::proofs::Rows::row_items))]
+#[tactic(auto, using(bson_base::proofs::Rows::row_items, bson_base::proofs::Rows::row_pairs))]
 pub(crate) fn variant(alloc: Global, name: String, tree: Bson) -> Result<Bson, AllocError>
     ensures { IfOk result (λ value. tree_of value ≡ document (pair (string_bytes name) (tree_of tree) no_pairs)) }
 {

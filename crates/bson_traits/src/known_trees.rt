@@ -9,7 +9,7 @@ use bson_base::{Bson, Document, JavaScriptCodeWithScope};
 
 // The parts of a value are in their ranges, its keys are distinct, and its options are in order.
 #[cycle(known)]
-#[tactic(auto, using(bson_base::proofs::Rows::row_items))]
+#[tactic(auto, using(bson_base::proofs::Rows::row_items, bson_base::proofs::Rows::row_pairs))]
 pub(crate) fn known_tree(value: &Bson)
     ensures ranges { IsInRange (tree_of value.now) }
     ensures memory { IsInMemory (tree_of value.now) }

@@ -23,7 +23,7 @@ use std::alloc::{AllocError, Global};
 ///
 /// Memory ran out.
 #[cycle(data)]
-#[tactic(auto, using(bson_base::proofs::Rows::row_items))]
+#[tactic(auto, using(bson_base::proofs::Rows::row_items, bson_base::proofs::Rows::row_pairs))]
 pub fn tree_datum(alloc: Global, value: &Bson) -> Result<Datum<'_>, AllocError>
     ensures { IfOk result (λ d. view d ≡ datum itself (tree_of value.now)) }
 {

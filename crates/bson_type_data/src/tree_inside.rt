@@ -34,7 +34,7 @@ use std::alloc::{AllocError, Global};
 ///
 /// `NotFitting` exactly where it is none, or out of memory.
 #[cycle(inside)]
-#[tactic(auto, using(bson_base::proofs::Rows::row_items, bson_datum::proofs::Views::item_rows_items, bson_datum::proofs::Views::entry_rows_items, bson_datum::proofs::Views::rows_items))]
+#[tactic(auto, using(bson_base::proofs::Rows::row_items, bson_base::proofs::Rows::row_pairs, bson_datum::proofs::Views::item_rows_items, bson_datum::proofs::Views::entry_rows_items, bson_datum::proofs::Views::rows_items))]
 pub fn tree_in(alloc: Global, datum: &Datum<'_>) -> de::Result<Bson>
     ensures { Reads tree_of result (taken_tree (view datum.now)) }
 {
@@ -103,7 +103,7 @@ pub fn document_in(alloc: Global, datum: &Datum<'_>) -> de::Result<Document>
 
 // Code with its scope, of the fields of its struct.
 #[cycle(inside)]
-#[tactic(auto, using(bson_base::proofs::Rows::row_items))]
+#[tactic(auto, using(bson_base::proofs::Rows::row_items, bson_base::proofs::Rows::row_pairs))]
 fn scoped_bson(alloc: Global, fields: &[Field<'_>]) -> de::Result<Bson>
     ensures { Reads tree_of result (result_map scoped_tree (taken_fields (fields_view fields.now))) }
 {

@@ -56,7 +56,7 @@ pub fn from_bson_with_options<'x, T: Deserialize<'x>>(
 /// # Errors
 ///
 /// Those of [`from_bson`].
-#[tactic(auto, using(bson_base::proofs::Rows::row_items))]
+#[tactic(auto, using(bson_base::proofs::Rows::row_items, bson_base::proofs::Rows::row_pairs))]
 pub fn from_document<'x, T: Deserialize<'x>>(alloc: Global, doc: Document) -> de::Result<T>
     ensures value { Reads T.contents result
         (read_typed T.form T.taken (λ s. answered (reads_tree_value true s (trees.document (pairs_of doc))))) }
@@ -69,7 +69,7 @@ pub fn from_document<'x, T: Deserialize<'x>>(alloc: Global, doc: Document) -> de
 /// # Errors
 ///
 /// Those of [`from_bson_with_options`].
-#[tactic(auto, using(bson_base::proofs::Rows::row_items))]
+#[tactic(auto, using(bson_base::proofs::Rows::row_items, bson_base::proofs::Rows::row_pairs))]
 pub fn from_document_with_options<'x, T: Deserialize<'x>>(
     alloc: Global,
     doc: Document,

@@ -105,7 +105,7 @@ fn no_text(alloc: Global, key: &Datum<'_>) -> Halt
 // The value that the refusal of a key carries: a scalar as it would be written, null for nothing and for a number that is not
 // written, what it holds for some value and for a newtype, the readable form of a value with two, an empty array for a sequence, a
 // tuple, a tuple variant and an array in its bytes, an empty document for every other value.
-#[tactic(auto, using(bson_base::proofs::Rows::row_items))]
+#[tactic(auto, using(bson_base::proofs::Rows::row_items, bson_base::proofs::Rows::row_pairs))]
 fn carried(alloc: Global, key: &Datum<'_>) -> Result<Bson, AllocError>
     ensures value { IfOk result (λ value. tree_of value ≡ carried (view key.now)) }
 {
