@@ -13,25 +13,25 @@ use Rattle.bson_kinds.specs.Text.{Utf8}
 use Rattle.bson_key_map.specs.Keys.{texts_of, with_value}
 use Rattle.bson_key_map.specs.declared.pair.Pair.{Pair}
 use Rattle.bson_base.specs.Tree.{Tree, Trees, no_trees, tree, Pairs, no_pairs, pair}
-use Rattle.bson_base.specs.BsonView.{tree_of, trees_of, pairs_in}
+use Rattle.bson_base.specs.BsonView.{tree_of, trees_of, listed_pairs}
 use Rattle.bson_base.specs.Sound.{Lacks}
 use Rattle.bson_base.specs.Pairs.{lookup, put, without, count, keys_of, AreDistinct}
 use Rattle.bson_base.specs.declared.bson.Bson.{Bson}
 
-pub count-pairs : (ps : List (Pair Bson)) → count (pairs_in ps) ≡ length ps
+pub count-pairs : (ps : List (Pair Bson)) → count (listed_pairs ps) ≡ length ps
 count-pairs [] = refl
 count-pairs (p ∷ ps) = ap suc (count-pairs ps)
 
-pub keys-pairs : (ps : List (Pair Bson)) → texts_of ps ≡ keys_of (pairs_in ps)
+pub keys-pairs : (ps : List (Pair Bson)) → texts_of ps ≡ keys_of (listed_pairs ps)
 keys-pairs [] = refl
 keys-pairs (p ∷ ps) = ap (λ ts. string_bytes p.key ∷ ts) (keys-pairs ps)
 
-lacks : (key : Utf8) (ps : List (Pair Bson)) → AllByRecursion (λ t. bytes_eq key t ≡ false) (texts_of ps) → Lacks key (pairs_in ps)
+lacks : (key : Utf8) (ps : List (Pair Bson)) → AllByRecursion (λ t. bytes_eq key t ≡ false) (texts_of ps) → Lacks key (listed_pairs ps)
 lacks key [] h = tt
 lacks key (p ∷ ps) h = (h.0, lacks key ps h.1)
 
 -- distinct keys make distinct pairs
-pub distinct-pairs : (ps : List (Pair Bson)) → IsDistinct bytes_eq (texts_of ps) → AreDistinct (pairs_in ps)
+pub distinct-pairs : (ps : List (Pair Bson)) → IsDistinct bytes_eq (texts_of ps) → AreDistinct (listed_pairs ps)
 unfolding IsDistinct
 distinct-pairs [] h = tt
 distinct-pairs (p ∷ ps) h = (lacks (string_bytes p.key) ps h.0, distinct-pairs ps h.1)
@@ -50,10 +50,10 @@ later : (key : Utf8) (p : Pair Bson) (ps : List (Pair Bson)) (i : ℕ) (d : Utf8
 later key p ps i d h = (omega (arith, h.0), h.1, λ j lt. h.2 (suc j) (omega arith))
 
 -- the value at the first place of a key is what is looked up
-lookup_first : (key : Utf8) (ps : List (Pair Bson)) (i : ℕ) (d : Utf8) → IsFirst key ps i d → option_map (λ p. tree_of p.value) (slice_get ps i) ≡ lookup key (pairs_in ps)
+lookup_first : (key : Utf8) (ps : List (Pair Bson)) (i : ℕ) (d : Utf8) → IsFirst key ps i d → option_map (λ p. tree_of p.value) (slice_get ps i) ≡ lookup key (listed_pairs ps)
 lookup_first key [] i d h = absurd (omega (arith, h.0))
-lookup_first key (p ∷ ps) zero d h = ap (λ b. if b then Some (tree_of p.value) else lookup key (pairs_in ps)) (sym h.1)
-lookup_first key (p ∷ ps) (suc i) d h = lookup_first key ps i d (later key p ps i d h) ∙ ap (λ b. if b then Some (tree_of p.value) else lookup key (pairs_in ps)) (sym (h.2 0 (omega arith)))
+lookup_first key (p ∷ ps) zero d h = ap (λ b. if b then Some (tree_of p.value) else lookup key (listed_pairs ps)) (sym h.1)
+lookup_first key (p ∷ ps) (suc i) d h = lookup_first key ps i d (later key p ps i d h) ∙ ap (λ b. if b then Some (tree_of p.value) else lookup key (listed_pairs ps)) (sym (h.2 0 (omega arith)))
 
 abbrev text_in : Option (Pair Bson) → Utf8
 text_in None = []
@@ -61,35 +61,35 @@ text_in (Some p) = string_bytes p.key
 
 -- a value set there is put at the key
 put_first : (key : Utf8) (ps : List (Pair Bson)) (q : Pair Bson) (v : Bson) (i : ℕ) (d : Utf8) → slice_get ps i ≡ Some q → IsFirst key ps i d
-    → pairs_in (slice_set ps i (with_value v q)) ≡ put key (tree_of v) (pairs_in ps)
+    → listed_pairs (slice_set ps i (with_value v q)) ≡ put key (tree_of v) (listed_pairs ps)
 put_first key [] q v i d is h = absurd (omega (arith, h.0))
 put_first key (p ∷ ps) q v zero d is h =
-    ap (λ o. pair (text_in o) (tree_of v) (pairs_in ps)) (sym is)
-    ∙ ap (λ b. if b then pair (string_bytes p.key) (tree_of v) (pairs_in ps) else pair (string_bytes p.key) (tree_of p.value) (put key (tree_of v) (pairs_in ps))) (sym h.1)
+    ap (λ o. pair (text_in o) (tree_of v) (listed_pairs ps)) (sym is)
+    ∙ ap (λ b. if b then pair (string_bytes p.key) (tree_of v) (listed_pairs ps) else pair (string_bytes p.key) (tree_of p.value) (put key (tree_of v) (listed_pairs ps))) (sym h.1)
 put_first key (p ∷ ps) q v (suc i) d is h =
     ap (pair (string_bytes p.key) (tree_of p.value)) (put_first key ps q v i d is (later key p ps i d h))
-    ∙ ap (λ b. if b then pair (string_bytes p.key) (tree_of v) (pairs_in ps) else pair (string_bytes p.key) (tree_of p.value) (put key (tree_of v) (pairs_in ps))) (sym (h.2 0 (omega arith)))
+    ∙ ap (λ b. if b then pair (string_bytes p.key) (tree_of v) (listed_pairs ps) else pair (string_bytes p.key) (tree_of p.value) (put key (tree_of v) (listed_pairs ps))) (sym (h.2 0 (omega arith)))
 
 -- a pair removed there
-without_first : (key : Utf8) (ps : List (Pair Bson)) (i : ℕ) (d : Utf8) → IsFirst key ps i d → pairs_in (remove ps i) ≡ without key (pairs_in ps)
+without_first : (key : Utf8) (ps : List (Pair Bson)) (i : ℕ) (d : Utf8) → IsFirst key ps i d → listed_pairs (remove ps i) ≡ without key (listed_pairs ps)
 without_first key [] i d h = absurd (omega (arith, h.0))
-without_first key (p ∷ ps) zero d h = ap (λ b. if b then pairs_in ps else pair (string_bytes p.key) (tree_of p.value) (without key (pairs_in ps))) (sym h.1)
+without_first key (p ∷ ps) zero d h = ap (λ b. if b then listed_pairs ps else pair (string_bytes p.key) (tree_of p.value) (without key (listed_pairs ps))) (sym h.1)
 without_first key (p ∷ ps) (suc i) d h =
     ap (pair (string_bytes p.key) (tree_of p.value)) (without_first key ps i d (later key p ps i d h))
-    ∙ ap (λ b. if b then pairs_in ps else pair (string_bytes p.key) (tree_of p.value) (without key (pairs_in ps))) (sym (h.2 0 (omega arith)))
+    ∙ ap (λ b. if b then listed_pairs ps else pair (string_bytes p.key) (tree_of p.value) (without key (listed_pairs ps))) (sym (h.2 0 (omega arith)))
 
 -- the same where `position` finds it
 first : (key : Utf8) (ps : List (Pair Bson)) (i : ℕ) → Some i ≡ position (bytes_eq key) (texts_of ps) → IsFirst key ps i key
 first key ps i h = position-Some (bytes_eq key) (texts_of ps) i key (sym h)
 
-pub lookup_position : (key : Utf8) (ps : List (Pair Bson)) (i : ℕ) → Some i ≡ position (bytes_eq key) (texts_of ps) → option_map (λ p. tree_of p.value) (slice_get ps i) ≡ lookup key (pairs_in ps)
+pub lookup_position : (key : Utf8) (ps : List (Pair Bson)) (i : ℕ) → Some i ≡ position (bytes_eq key) (texts_of ps) → option_map (λ p. tree_of p.value) (slice_get ps i) ≡ lookup key (listed_pairs ps)
 lookup_position key ps i h = lookup_first key ps i key (first key ps i h)
 
 pub put_position : (key : Utf8) (ps : List (Pair Bson)) (q : Pair Bson) (v : Bson) (i : ℕ) → slice_get ps i ≡ Some q → Some i ≡ position (bytes_eq key) (texts_of ps)
-    → pairs_in (slice_set ps i (with_value v q)) ≡ put key (tree_of v) (pairs_in ps)
+    → listed_pairs (slice_set ps i (with_value v q)) ≡ put key (tree_of v) (listed_pairs ps)
 put_position key ps q v i is h = put_first key ps q v i key is (first key ps i h)
 
-pub without_position : (key : Utf8) (ps : List (Pair Bson)) (i : ℕ) → Some i ≡ position (bytes_eq key) (texts_of ps) → pairs_in (remove ps i) ≡ without key (pairs_in ps)
+pub without_position : (key : Utf8) (ps : List (Pair Bson)) (i : ℕ) → Some i ≡ position (bytes_eq key) (texts_of ps) → listed_pairs (remove ps i) ≡ without key (listed_pairs ps)
 without_position key ps i h = without_first key ps i key (first key ps i h)
 
 -- the key there is the text that is looked for
@@ -105,28 +105,28 @@ neither true c e = absurd cc
 neither false c e = (refl, sym e)
 
 -- of a key that is not there nothing is found
-pub lookup_new : (key : Utf8) (ps : List (Pair Bson)) → false ≡ list_any (bytes_eq key) (texts_of ps) → None ≡ lookup key (pairs_in ps)
+pub lookup_new : (key : Utf8) (ps : List (Pair Bson)) → false ≡ list_any (bytes_eq key) (texts_of ps) → None ≡ lookup key (listed_pairs ps)
 lookup_new key [] h = refl
 lookup_new key (p ∷ ps) h =
     let n = neither (bytes_eq key (string_bytes p.key)) (list_any (bytes_eq key) (texts_of ps)) h in
-    lookup_new key ps (sym n.1) ∙ ap (λ b. if b then Some (tree_of p.value) else lookup key (pairs_in ps)) (sym n.0)
+    lookup_new key ps (sym n.1) ∙ ap (λ b. if b then Some (tree_of p.value) else lookup key (listed_pairs ps)) (sym n.0)
 
 -- and nothing is removed
-pub without_new : (key : Utf8) (ps : List (Pair Bson)) → false ≡ list_any (bytes_eq key) (texts_of ps) → pairs_in ps ≡ without key (pairs_in ps)
+pub without_new : (key : Utf8) (ps : List (Pair Bson)) → false ≡ list_any (bytes_eq key) (texts_of ps) → listed_pairs ps ≡ without key (listed_pairs ps)
 without_new key [] h = refl
 without_new key (p ∷ ps) h =
     let n = neither (bytes_eq key (string_bytes p.key)) (list_any (bytes_eq key) (texts_of ps)) h in
     ap (pair (string_bytes p.key) (tree_of p.value)) (without_new key ps (sym n.1))
-    ∙ ap (λ b. if b then pairs_in ps else pair (string_bytes p.key) (tree_of p.value) (without key (pairs_in ps))) (sym n.0)
+    ∙ ap (λ b. if b then listed_pairs ps else pair (string_bytes p.key) (tree_of p.value) (without key (listed_pairs ps))) (sym n.0)
 
 -- and a pair of it goes last
-pub put_new : (ps : List (Pair Bson)) (q : Pair Bson) → false ≡ list_any (bytes_eq (string_bytes q.key)) (texts_of ps) → pairs_in (ps ++ q ∷ []) ≡ put (string_bytes q.key) (tree_of q.value) (pairs_in ps)
+pub put_new : (ps : List (Pair Bson)) (q : Pair Bson) → false ≡ list_any (bytes_eq (string_bytes q.key)) (texts_of ps) → listed_pairs (ps ++ q ∷ []) ≡ put (string_bytes q.key) (tree_of q.value) (listed_pairs ps)
 put_new [] q h = refl
 put_new (p ∷ ps) q h =
     let key = string_bytes q.key in
     let n = neither (bytes_eq key (string_bytes p.key)) (list_any (bytes_eq key) (texts_of ps)) h in
     ap (pair (string_bytes p.key) (tree_of p.value)) (put_new ps q (sym n.1))
-    ∙ ap (λ b. if b then pair (string_bytes p.key) (tree_of q.value) (pairs_in ps) else pair (string_bytes p.key) (tree_of p.value) (put key (tree_of q.value) (pairs_in ps))) (sym n.0)
+    ∙ ap (λ b. if b then pair (string_bytes p.key) (tree_of q.value) (listed_pairs ps) else pair (string_bytes p.key) (tree_of p.value) (put key (tree_of q.value) (listed_pairs ps))) (sym n.0)
 
 -- one more value at the end
 abbrev push_tree : Trees → Tree → Trees
@@ -147,22 +147,22 @@ abbrev push_pair : Pairs → Utf8 → Tree → Pairs
 push_pair no_pairs key t = pair key t no_pairs
 push_pair (pair k u ps) key t = pair k u (push_pair ps key t)
 
-pairs_in-push : (ps : List (Pair Bson)) (p : Pair Bson) → pairs_in (ps ++ p ∷ []) ≡ push_pair (pairs_in ps) (string_bytes p.key) (tree_of p.value)
-pairs_in-push [] p = refl
-pairs_in-push (q ∷ ps) p = ap (pair (string_bytes q.key) (tree_of q.value)) (pairs_in-push ps p)
+listed_pairs-push : (ps : List (Pair Bson)) (p : Pair Bson) → listed_pairs (ps ++ p ∷ []) ≡ push_pair (listed_pairs ps) (string_bytes p.key) (tree_of p.value)
+listed_pairs-push [] p = refl
+listed_pairs-push (q ∷ ps) p = ap (pair (string_bytes q.key) (tree_of q.value)) (listed_pairs-push ps p)
 
 -- the pairs so far, and one more
-pub pairs_more : (copies ps : List (Pair Bson)) (c : Pair Bson) (i : ℕ) (d : Pair Bson) → i < length ps → pairs_in copies ≡ pairs_in (take i ps) → string_bytes c.key ≡ string_bytes (get_or ps i d).key → tree_of c.value ≡ tree_of (get_or ps i d).value
-    → pairs_in (copies ++ c ∷ []) ≡ pairs_in (take (i + 1) ps)
+pub pairs_more : (copies ps : List (Pair Bson)) (c : Pair Bson) (i : ℕ) (d : Pair Bson) → i < length ps → listed_pairs copies ≡ listed_pairs (take i ps) → string_bytes c.key ≡ string_bytes (get_or ps i d).key → tree_of c.value ≡ tree_of (get_or ps i d).value
+    → listed_pairs (copies ++ c ∷ []) ≡ listed_pairs (take (i + 1) ps)
 pairs_more copies ps c i d lt so_far key value =
-    pairs_in-push copies c ∙ (λ j. push_pair (so_far j) (key j) (value j)) ∙ sym (pairs_in-push (take i ps) (get_or ps i d)) ∙ ap pairs_in (sym (take_more ps i d lt))
+    listed_pairs-push copies c ∙ (λ j. push_pair (so_far j) (key j) (value j)) ∙ sym (listed_pairs-push (take i ps) (get_or ps i d)) ∙ ap listed_pairs (sym (take_more ps i d lt))
 
 -- the same keys
-pub texts_same : (ps qs : List (Pair Bson)) → pairs_in ps ≡ pairs_in qs → texts_of ps ≡ texts_of qs
+pub texts_same : (ps qs : List (Pair Bson)) → listed_pairs ps ≡ listed_pairs qs → texts_of ps ≡ texts_of qs
 texts_same ps qs e = keys-pairs ps ∙ ap keys_of e ∙ sym (keys-pairs qs)
 
 -- a key is none of those before it
-pub new_pair : (copies ps : List (Pair Bson)) (i : ℕ) (p : Pair Bson) → i < length ps → p ≡ get_or ps i p → IsDistinct bytes_eq (texts_of ps) → pairs_in copies ≡ pairs_in (take i ps)
+pub new_pair : (copies ps : List (Pair Bson)) (i : ℕ) (p : Pair Bson) → i < length ps → p ≡ get_or ps i p → IsDistinct bytes_eq (texts_of ps) → listed_pairs copies ≡ listed_pairs (take i ps)
     → list_any (bytes_eq (string_bytes p.key)) (texts_of copies) ≡ false
 new_pair copies ps i p lt is h so_far =
     let within : i < length (texts_of ps) = subst (λ n. i < n) (sym (length-texts ps)) lt in

@@ -2,7 +2,7 @@
 use Rattle.std.proofs.Common.{ℕ, zero, suc, ◌+◌, ◌<◌, List, [], ◌∷◌, length, get_or, arith}
 use Rattle.bson_key_map.specs.declared.pair.Pair.{Pair}
 use Rattle.bson_base.specs.Tree.{Tree, document, array, javascript_code_with_scope, Pairs, no_pairs, pair, Trees, no_trees, tree}
-use Rattle.bson_base.specs.BsonView.{tree_of, trees_of, pairs_in}
+use Rattle.bson_base.specs.BsonView.{tree_of, trees_of, listed_pairs}
 use Rattle.bson_base.specs.declared.bson.Bson.{Bson}
 
 abbrev mutual
@@ -20,7 +20,7 @@ abbrev mutual
   trees_nodes no_trees = 1
   trees_nodes (tree t ts) = nodes t + trees_nodes ts + 1
 
-pub pair_nodes : (ps : List (Pair Bson)) (i : ℕ) (d : Pair Bson) → i < length ps → nodes (tree_of (get_or ps i d).value) < pairs_nodes (pairs_in ps)
+pub pair_nodes : (ps : List (Pair Bson)) (i : ℕ) (d : Pair Bson) → i < length ps → nodes (tree_of (get_or ps i d).value) < pairs_nodes (listed_pairs ps)
 pair_nodes [] i d h = absurd (omega arith)
 pair_nodes (p ∷ ps) zero d h = omega arith
 pair_nodes (p ∷ ps) (suc i) d h = omega (arith, pair_nodes ps i d (omega arith))

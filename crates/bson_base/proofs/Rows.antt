@@ -5,7 +5,7 @@ use Rattle.std.specs.Global.{Vec}
 use Rattle.bson_key_map.specs.Keys.{Key}
 use Rattle.bson_key_map.specs.declared.pair.Pair.{Pair}
 use Rattle.bson_base.specs.Tree.{tree, Pairs, no_pairs, pair}
-use Rattle.bson_base.specs.BsonView.{tree_of, row_of, trees_of, pairs_row, pairs_in}
+use Rattle.bson_base.specs.BsonView.{tree_of, row_of, trees_of, pairs_row, listed_pairs}
 use Rattle.bson_base.specs.declared.bson.Bson.TheBlock.{hidden-the_row-Bson-0, shape-the_row-Bson-1, hidden-the_row-Bson-1}
 use Rattle.bson_base.specs.declared.bson.Bson.{Bson, Row_of-Bson, end_of-Bson, more_of-Bson, items-the_row-Bson, items_hidden-the_row-Bson-0, items_hidden-the_row-Bson-1}
 
@@ -36,10 +36,10 @@ unfolding shape-the_row-Bson-1
 shape_is [] = refl
 shape_is (p ∷ ps) = ap (λ ks. key_of p ∷ ks) (shape_is ps)
 
-named_pairs : (ps : List (Pair Bson)) → named (map key_of ps) (map (λ p. p.value) ps) ≡ pairs_in ps
+named_pairs : (ps : List (Pair Bson)) → named (map key_of ps) (map (λ p. p.value) ps) ≡ listed_pairs ps
 unfolding named
 named_pairs [] = refl
 named_pairs (p ∷ ps) = ap (pair (string_bytes p.key) (tree_of p.value)) (named_pairs ps)
 
-pub row_pairs : (ps : List (Pair Bson)) → pairs_row (shape-the_row-Bson-1 ps) (hidden-the_row-Bson-1 ps) ≡ pairs_in ps
+pub row_pairs : (ps : List (Pair Bson)) → pairs_row (shape-the_row-Bson-1 ps) (hidden-the_row-Bson-1 ps) ≡ listed_pairs ps
 row_pairs ps = row_named _ (shape-the_row-Bson-1 ps) (hidden-the_row-Bson-1 ps) ∙ (λ i. named (shape_is ps i) (items_hidden-the_row-Bson-1 ps i)) ∙ named_pairs ps

@@ -6,7 +6,7 @@ use Rattle.std.specs.Str.{bytes_eq}
 use Rattle.std.proofs.lemmas.List.{drop_more}
 use Rattle.std.proofs.lemmas.Bool.{and_right}
 use Rattle.bson_key_map.specs.declared.pair.Pair.{Pair}
-use Rattle.bson_base.specs.BsonView.{tree_of, trees_of, pairs_in}
+use Rattle.bson_base.specs.BsonView.{tree_of, trees_of, listed_pairs}
 use Rattle.bson_base.specs.Same.{same, same_trees, same_pairs}
 use Rattle.bson_base.specs.declared.bson.Bson as bson
 use Rattle.bson_base.specs.declared.bson.Bson.{Bson}
@@ -26,9 +26,9 @@ same_trees-lengths (x ∷ xs) (y ∷ ys) h = and_right _ _ (same_trees-lengths x
 
 -- the pairs that a loop has left to compare
 abbrev pub same_pairs_from : ℕ → List (Pair Bson) → List (Pair Bson) → Bool
-same_pairs_from i ps qs = same_pairs (pairs_in (drop i ps)) (pairs_in (drop i qs))
+same_pairs_from i ps qs = same_pairs (listed_pairs (drop i ps)) (listed_pairs (drop i qs))
 
-pub same_pairs-lengths : (ps qs : List (Pair Bson)) → (length ps ≡ length qs → ⊥) → same_pairs (pairs_in ps) (pairs_in qs) ≡ false
+pub same_pairs-lengths : (ps qs : List (Pair Bson)) → (length ps ≡ length qs → ⊥) → same_pairs (listed_pairs ps) (listed_pairs qs) ≡ false
 same_pairs-lengths [] [] h = absurd (h refl)
 same_pairs-lengths [] (q ∷ qs) h = refl
 same_pairs-lengths (p ∷ ps) [] h = refl
@@ -40,7 +40,7 @@ pub same_pairs-step : (ps qs : List (Pair Bson)) (i : ℕ) (p q : Pair Bson) →
 same_pairs-step ps qs i p q lt less is are =
     let here : drop i ps ≡ p ∷ drop (i + 1) ps = drop_more ps i p lt ∙ ap (λ x. x ∷ drop (i + 1) ps) (sym is) in
     let there : drop i qs ≡ q ∷ drop (i + 1) qs = drop_more qs i q less ∙ ap (λ x. x ∷ drop (i + 1) qs) (sym are) in
-    λ j. same_pairs (pairs_in (here j)) (pairs_in (there j))
+    λ j. same_pairs (listed_pairs (here j)) (listed_pairs (there j))
 
 -- an array and a value that is none
 pub unlike_array : (d e : Bson) (ds : Vec Bson) → d ≡ bson.Array ds → ((es : Vec Bson) → e ≡ bson.Array es → ⊥) → false ≡ same (tree_of d) (tree_of e)

@@ -57,12 +57,12 @@ trees_of [] = no_trees
 trees_of (b ∷ bs) = tree (tree_of b) (trees_of bs)
 
 -- the pairs of a document
-abbrev pub pairs_in : List (Pair Bson) → Pairs
-pairs_in [] = no_pairs
-pairs_in (p ∷ ps) = pair (string_bytes p.key) (tree_of p.value) (pairs_in ps)
+abbrev pub listed_pairs : List (Pair Bson) → Pairs
+listed_pairs [] = no_pairs
+listed_pairs (p ∷ ps) = pair (string_bytes p.key) (tree_of p.value) (listed_pairs ps)
 
 abbrev pub pairs_of : Document → Pairs
-pairs_of d = pairs_in d.0
+pairs_of d = listed_pairs d.0
 
 -- code with its scope
 abbrev pub scoped_of : JavaScriptCodeWithScope → Tree

@@ -1,6 +1,7 @@
 -- The bytes of a document, or why it has none. Source: bsonspec.org, version 1.1, `cstring`, and the limits of this library.
 use Rattle.std.specs.Prelude.{◌≡◌, ℕ, ◌++◌, length, nat_lt, if◌then◌else◌, Option, Some, None, Result, Ok, Err, string_bytes}
 use Rattle.std.specs.Global.{Vec}
+use Rattle.bson_kinds.specs.Outcome.{or_else}
 use Rattle.bson_kinds.specs.Text.{Bytes, Utf8, has_zero}
 use Rattle.bson_base.specs.Sound.{max_bytes, max_binary}
 use Rattle.bson_base.specs.Tree.{Tree, document, array, binary, regular_expression, javascript_code_with_scope, Pairs, no_pairs, pair, Trees, no_trees, tree, behind_subtype, enc}
@@ -15,11 +16,6 @@ pub data EncodeFault : Type 0 where
   binary_too_long : ℕ → EncodeFault
   -- there are more bytes than a document may have
   too_long : EncodeFault
-
--- the first of two faults
-abbrev pub or_else : Option EncodeFault → Option EncodeFault → Option EncodeFault
-or_else (Some f) o = Some f
-or_else None o = o
 
 abbrev pub zero_fault : Utf8 → Option EncodeFault
 zero_fault t = if has_zero t then Some (key_zero t) else None

@@ -2,7 +2,7 @@ ghost use Rattle.std.specs.Prelude.{◌≡◌, ◌==◌, is_some, string_bytes, 
 ghost use Rattle.std.specs.Option.{option_map};
 ghost use Rattle.bson_base.specs.Tree.{no_pairs};
 ghost use Rattle.bson_base.specs.Pairs.{lookup, put, without, count, keys_of, AreDistinct};
-ghost use Rattle.bson_base.specs.BsonView.{tree_of, pairs_in, pairs_of};
+ghost use Rattle.bson_base.specs.BsonView.{tree_of, listed_pairs, pairs_of};
 
 use crate::bson::Bson;
 use crate::iter::{IntoIter, Iter, Keys};
@@ -142,7 +142,7 @@ impl Document {
 
     // The pairs, in order.
     pub(crate) fn as_slice(&self) -> &[Pair<Bson>]
-        ensures pairs { pairs_in result.now ≡ pairs_of self.now }
+        ensures pairs { listed_pairs result.now ≡ pairs_of self.now }
     {
         self.0.as_slice()
     }

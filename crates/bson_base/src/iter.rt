@@ -4,7 +4,7 @@ ghost use Rattle.std.specs.Vec.Iter.{into_iter_items, into_iter_len};
 ghost use Rattle.bson_key_map.specs.Keys.{texts_of};
 ghost use Rattle.bson_base.specs.Pairs.{count};
 ghost use Rattle.bson_base.specs.Next.{IsNext, IsNextKey, IsTaken};
-ghost use Rattle.bson_base.specs.BsonView.{pairs_in};
+ghost use Rattle.bson_base.specs.BsonView.{listed_pairs};
 
 use crate::bson::Bson;
 use bson_key_map::Pair;
@@ -20,19 +20,19 @@ pub struct Iter<'a> {
 impl<'a> Model for Iter<'a> {
     ghost use Rattle.bson_base.specs.Tree.{Pairs};
     ghost use Rattle.bson_base.specs.Prover.StoredTree.{coded_pairs};
-    ghost use Rattle.bson_base.specs.BsonView.{pairs_in};
+    ghost use Rattle.bson_base.specs.BsonView.{listed_pairs};
 
     ghost Value = { Pairs };
 
     ghost coded = { coded_pairs };
 
-    ghost view = { λ i. pairs_in i.left.now };
+    ghost view = { λ i. listed_pairs i.left.now };
 }
 
 impl<'a> Iter<'a> {
     // Over these pairs.
     pub(crate) fn over(pairs: &'a [Pair<Bson>]) -> Iter<'a>
-        ensures { result ≡ pairs_in pairs.now }
+        ensures { result ≡ listed_pairs pairs.now }
     {
         Iter { left: pairs }
     }
@@ -102,13 +102,13 @@ impl Model for IntoIter {
     ghost use Rattle.std.specs.Vec.Iter.{into_iter_items, into_iter_len};
     ghost use Rattle.bson_base.specs.Tree.{Pairs};
     ghost use Rattle.bson_base.specs.Prover.StoredTree.{coded_pairs};
-    ghost use Rattle.bson_base.specs.BsonView.{pairs_in};
+    ghost use Rattle.bson_base.specs.BsonView.{listed_pairs};
 
     ghost Value = { Pairs };
 
     ghost coded = { coded_pairs };
 
-    ghost view = { λ i. pairs_in (into_iter_items i.left) };
+    ghost view = { λ i. listed_pairs (into_iter_items i.left) };
 
     ghost invariant = { λ i. into_iter_len i.left ≡ length (into_iter_items i.left) };
 }
@@ -117,7 +117,7 @@ impl IntoIter {
     // Over these pairs.
     pub(crate) fn over(pairs: vec::IntoIter<Pair<Bson>>) -> IntoIter
         requires { into_iter_len pairs ≡ length (into_iter_items pairs) }
-        ensures { result ≡ pairs_in (into_iter_items pairs) }
+        ensures { result ≡ listed_pairs (into_iter_items pairs) }
     {
         IntoIter { left: pairs }
     }

@@ -1,12 +1,13 @@
 -- A list agrees with the places of a kind exactly where some list that is accepted begins with it.
 use Rattle.std.proofs.Common.{◌≡◌, ◌⊎◌, inl, inr, ℕ, List, [], ◌∷◌, ◌++◌, Bool, true, false, Option, Some, None, refl, sym, ◌∙◌}
 use Rattle.std.specs.Prelude.{is_some, codes, ◌&&◌, ◌||◌, ◌↔◌}
+use Rattle.bson_kinds.specs.Outcome.{or_else}
 use Rattle.bson_kinds.specs.Text.{Bytes, Utf8}
 use Rattle.bson_base.specs.Parsed.{bytes_of_digits, integer_of_text, bytes_of_base64, subtype_of_text}
 use Rattle.bson_kinds.specs.declared.element_type.ElementType.{ElementType}
 use Rattle.bson_kinds.specs.declared.element_type.ElementType.TheVariants as kinds
 use Rattle.bson_values.specs.Value.{Value}
-use Rattle.bson_laws.specs.Unwrap.{◌>>=◌, next_key, next_key_of, next_text, next_bytes, next_byte, next_unsigned, next_scope, end_as, sixteen, object_id_list, date_time_list, base64_list, bytes_list, or_else, binary_list, timestamp_list, text_list, regular_expression_list, db_pointer_list, decimal128_list, scoped_code}
+use Rattle.bson_laws.specs.Unwrap.{◌>>=◌, next_key, next_key_of, next_text, next_bytes, next_byte, next_unsigned, next_scope, end_as, sixteen, object_id_list, date_time_list, base64_list, bytes_list, binary_list, timestamp_list, text_list, regular_expression_list, db_pointer_list, decimal128_list, scoped_code}
 use Rattle.bson_fronts.specs.Fronts.{accepts, Begins}
 use Rattle.bson_fronts.specs.Places.{Place, this_key, key_of, object_id, number, base64, subtype, text, byte_string, decimal, byte, unsigned, scope, agrees, agrees_some, as_text, as_bytes, ways}
 use Rattle.bson_fronts.proofs.Places.{Parts, is_empty, passes, full, front, extended}

@@ -5,9 +5,9 @@ use Rattle.std.specs.Prelude.{codes, option_map}
 use Rattle.std.specs.Str.{bytes_eq, chars, is_utf8}
 use Rattle.bson_base.specs.Made.{digits}
 use Rattle.bson_kinds.specs.Text.{Bytes, Utf8}
-use Rattle.bson_kinds.specs.Outcome.{◌>>=◌, result_map}
+use Rattle.bson_kinds.specs.Outcome.{◌>>=◌, result_map, or_else}
 use Rattle.bson_kinds.proofs.Outcomes.{ok_is, map_ok, bind_ok}
-use Rattle.bson_rawdoc.specs.Node.{Whole, Node, double, string, document, array, bytes, boolean, null, int32, int64, extended, too_deep, Extended, binary, object_id, regular_expression, db_pointer, javascript_code, symbol, javascript_code_with_scope, Nodes, ended, faulty, then_node, or_else, text_fault, fault, extended_fault, piece, mended}
+use Rattle.bson_rawdoc.specs.Node.{Whole, Node, double, string, document, array, bytes, boolean, null, int32, int64, extended, too_deep, Extended, binary, object_id, regular_expression, db_pointer, javascript_code, symbol, javascript_code_with_scope, Nodes, ended, faulty, then_node, text_fault, fault, extended_fault, piece, mended}
 use Rattle.bson_rawdoc.specs.Piece.{Piece, made}
 use Rattle.bson_rawdoc.specs.declared.raw.Error.{Error}
 use Rattle.bson_rawdoc.specs.declared.raw.Error.TheVariants.{NotUtf8}

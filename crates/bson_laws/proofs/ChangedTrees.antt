@@ -5,6 +5,7 @@ use Rattle.std.specs.Str.{bytes_eq}
 use Rattle.uuid.specs.Text.{parsed}
 use Rattle.bson_dates.specs.DateText.{date_of_text}
 use Rattle.bson_kinds.specs.Outcome.{◌>>=◌, result_map}
+use Rattle.bson_base.specs.Pairs.{put}
 use Rattle.bson_base.specs.Parsed.{bytes_of_digits, integer_of_text}
 use Rattle.bson_base.specs.Sorted.{sorted}
 use Rattle.bson_kinds.specs.Text.{Bytes, Utf8}
@@ -33,7 +34,7 @@ use Rattle.bson_laws.specs.ReadsExtended.{tree_of_kind, object_id_at, or_bad_uui
 use Rattle.bson_laws.specs.ReadsLeaf.{no_extended}
 use Rattle.bson_laws.specs.Shaped.{reads}
 use Rattle.bson_laws.specs.Taken.{text_of}
-use Rattle.bson_laws.specs.Trees.{code_key, or_bad, pairs_in, put_pair, by_meaning, by_key, after_scope, as_tree, extended_tree, array_trees, document_tree, after_code}
+use Rattle.bson_laws.specs.Trees.{code_key, or_bad, pairs_in, by_meaning, by_key, after_scope, as_tree, extended_tree, array_trees, document_tree, after_code}
 use Rattle.bson_laws.specs.Wrapped.{id_of_text, text_at, text_body, int32_of, double_of_text, binary_of_texts, of_length, Body, at, text, with_field, with_fields, a_text, a_number, a_boolean, some_bytes, a_field, two_fields, two_texts, two_numbers, oid_body, date_body, judging, tree_if, being_one, Meaning, body, code, scope, meaning}
 use Rattle.bson_values.specs.declared.wrapper.Wrapper.TheVariants.{Oid}
 use Rattle.bson_laws.proofs.Changed as changes
@@ -227,8 +228,8 @@ module _ (a b : Change) (is_bare : Bool) (f : Follows a b is_bare) where
     pairs_after ended ps t e = e
     pairs_after (faulty g) ps t e = absurd cc
     pairs_after (then_node key n ns) ps t e =
-        keyed_after (of_key key.bytes) key.bytes n (λ u. document_tree (nodes_before ns) (put_pair key.bytes u ps)) (λ u. document_tree (nodes_after ns) (put_pair key.bytes u ps)) (λ x. after_code x (nodes_before ns)) (λ x. after_code x (nodes_after ns)) ns t
-        (value_after n (λ u v q. as_tree_after n u v q)) (λ u q. pairs_after ns (put_pair key.bytes u ps) t q) (λ x q. code_after x ns t q) e
+        keyed_after (of_key key.bytes) key.bytes n (λ u. document_tree (nodes_before ns) (put key.bytes u ps)) (λ u. document_tree (nodes_after ns) (put key.bytes u ps)) (λ x. after_code x (nodes_before ns)) (λ x. after_code x (nodes_after ns)) ns t
+        (value_after n (λ u v q. as_tree_after n u v q)) (λ u q. pairs_after ns (put key.bytes u ps) t q) (λ x q. code_after x ns t q) e
 
     code_after : (x : Utf8) (ns : Nodes) (t : Tree) → after_code x (nodes_before ns) ≡ Ok t → after_code x (nodes_after ns) ≡ Ok t
     code_after x ended t e = e

@@ -7,7 +7,7 @@ use Rattle.std.proofs.lemmas.Bool.Decides.{nat_tests}
 use Rattle.uuid.specs.Text.{lower}
 use Rattle.uuid.proofs.RoundTrips.{parses_hyphenated}
 use Rattle.bson_base.specs.Made.{base64_text}
-use Rattle.bson_kinds.specs.Outcome.{◌>>=◌, result_map}
+use Rattle.bson_kinds.specs.Outcome.{◌>>=◌, result_map, or_else}
 use Rattle.bson_base.specs.Parsed.{bytes_of_base64}
 use Rattle.bson_kinds.specs.Reserved.{reserved_kind}
 use Rattle.bson_base.specs.Sorted.{sorted}
@@ -21,7 +21,7 @@ use Rattle.bson_base.proofs.WrittenTexts.{digits_read, subtype_read, integer_rea
 use Rattle.bson_values.specs.Value as value
 use Rattle.bson_values.specs.Value.{i64, Value, FieldValues}
 use Rattle.bson_values.specs.Refusal.{here, invalid_cstring, unsigned_exceeds, under, under_index}
-use Rattle.bson_laws.specs.Unwrap.{Part, a_value, next_key, next_unsigned, end_as, unwrap, or_else}
+use Rattle.bson_laws.specs.Unwrap.{Part, a_value, next_key, next_unsigned, end_as, unwrap}
 use Rattle.bson_laws.specs.Written.{with_scope, zero_free}
 use Rattle.bson_laws.specs.Datum.{itself, datum, pair_data, tree_data, uuid_datum, sorted_tree, sorted_pairs, sorted_trees}
 use Rattle.bson_laws.specs.Encodable.{IsEncodable, ArePairsEncodable, AreTreesEncodable}

@@ -10,6 +10,7 @@ use Rattle.uuid.specs.Text.{parsed}
 use Rattle.bson_dates.specs.DateText.{date_of_text}
 use Rattle.bson_kinds.specs.Kind.{byte}
 use Rattle.bson_kinds.specs.Outcome.{◌>>=◌, result_map}
+use Rattle.bson_base.specs.Pairs.{put}
 use Rattle.bson_base.specs.Parsed.{bytes_of_digits, integer_of_text, bytes_of_base64}
 use Rattle.bson_base.specs.Sorted.{sorted}
 use Rattle.bson_kinds.specs.Text.{Bytes, Utf8, AreBytes}
@@ -54,7 +55,6 @@ use Rattle.bson_laws.proofs.ParsedSizes.{digits_sized, uuid_sized, base64_bytes,
 use Rattle.bson_laws.proofs.Sizes.{inside_ok, under_ok}
 use Rattle.bson_laws.proofs.Tame as tame
 use Rattle.bson_laws.proofs.Tame.{judged_is, after_judged}
-use Rattle.bson_laws.specs.Trees.{put_pair}
 
 module _ (sight : Sight) where
   abbrev IsTame : Node → Type 0
@@ -382,8 +382,8 @@ module _ (sight : Sight) where
     document_given ended ps t k g e = subst IsGivenTree (ok_is (tree.document ps) t e) g
     document_given (faulty f) ps t k g e = absurd cc
     document_given (then_node key n ns) ps t k g e =
-        keyed_given (of_key key.bytes) key.bytes n (λ u. document_tree ns (put_pair key.bytes u ps)) (λ x. after_code x ns) ns t refl k.1 (value_given n (λ m u j q. tree_given n m u k.1 j q))
-        (λ u none h q. document_given ns (put_pair key.bytes u ps) t k.2 (put_given key.bytes u ps k.0 none h g) q) (λ x h q. after_code_given x ns t h k.2 q) e
+        keyed_given (of_key key.bytes) key.bytes n (λ u. document_tree ns (put key.bytes u ps)) (λ x. after_code x ns) ns t refl k.1 (value_given n (λ m u j q. tree_given n m u k.1 j q))
+        (λ u none h q. document_given ns (put key.bytes u ps) t k.2 (put_given key.bytes u ps k.0 none h g) q) (λ x h q. after_code_given x ns t h k.2 q) e
 
     after_code_given : (x : Utf8) (ns : Nodes) (t : Tree) → is_utf8 x ≡ true → AreTame ns → after_code x ns ≡ Ok t → IsGivenTree t
     after_code_given x ended t g k e = subst IsGivenTree (ok_is (tree.javascript_code x) t e) g

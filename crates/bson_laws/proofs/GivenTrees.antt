@@ -4,6 +4,7 @@ use Rattle.std.specs.Int.{w32, w64}
 use Rattle.std.specs.Prelude.{FitsSigned, nat_eq}
 use Rattle.std.specs.Str.{is_utf8, bytes_eq}
 use Rattle.bson_kinds.specs.Kind.{byte}
+use Rattle.bson_base.specs.Pairs.{put}
 use Rattle.bson_base.specs.Sorted.{sorted}
 use Rattle.bson_base.specs.Sound.{Lacks}
 use Rattle.bson_kinds.specs.Text.{Bytes, Utf8, AreBytes}
@@ -14,7 +15,6 @@ use Rattle.bson_values.specs.Wrapper.{of_key}
 use Rattle.bson_laws.specs.Datum.{datum, uuid_datum, itself, sorted_tree, sorted_pairs, sorted_trees}
 use Rattle.bson_laws.specs.Leaves as leaf_kinds
 use Rattle.bson_laws.specs.Leaves.{ExtendedLeaf, object_ids, uuids, of_kind, documents}
-use Rattle.bson_laws.specs.Trees.{put_pair}
 use Rattle.bson_laws.proofs.Coded.{IsName}
 use Rattle.bson_laws.proofs.Fitted.{unlike_swap}
 use Rattle.bson_laws.proofs.TreesRead.{IsReadable, ArePairsReadable, AreTreesReadable}
@@ -103,13 +103,13 @@ lacks_either : (key : Utf8) (b : Bool) (ps qs : Pairs) → Lacks key ps → Lack
 lacks_either key true ps qs l m = l
 lacks_either key false ps qs l m = m
 
-put_lacks : (k key : Utf8) (t : Tree) (ps : Pairs) → bytes_eq k key ≡ false → Lacks k ps → Lacks k (put_pair key t ps)
+put_lacks : (k key : Utf8) (t : Tree) (ps : Pairs) → bytes_eq k key ≡ false → Lacks k ps → Lacks k (put key t ps)
 put_lacks k key t no_pairs e l = (e, tt)
-put_lacks k key t (pair j old ps) e l = lacks_either k (bytes_eq key j) (pair j t ps) (pair j old (put_pair key t ps)) l (l.0, put_lacks k key t ps e l.1)
+put_lacks k key t (pair j old ps) e l = lacks_either k (bytes_eq key j) (pair j t ps) (pair j old (put key t ps)) l (l.0, put_lacks k key t ps e l.1)
 
-pub put_given : (key : Utf8) (t : Tree) (ps : Pairs) → IsName key → of_key key ≡ None → IsGivenTree t → ArePairsGiven ps → ArePairsGiven (put_pair key t ps)
+pub put_given : (key : Utf8) (t : Tree) (ps : Pairs) → IsName key → of_key key ≡ None → IsGivenTree t → ArePairsGiven ps → ArePairsGiven (put key t ps)
 put_given key t no_pairs n m g h = (n, m, tt, g, tt)
 put_given key t (pair k old ps) n m g h = by_case (bytes_eq key k) refl (put_given key t ps n m g h.4) where
-  by_case : (b : Bool) → bytes_eq key k ≡ b → ArePairsGiven (put_pair key t ps) → ArePairsGiven (cond b (pair k t ps) (pair k old (put_pair key t ps)))
+  by_case : (b : Bool) → bytes_eq key k ≡ b → ArePairsGiven (put key t ps) → ArePairsGiven (cond b (pair k t ps) (pair k old (put key t ps)))
   by_case true is rest = (h.0, h.1, h.2, g, h.4)
   by_case false is rest = (h.0, h.1, put_lacks k key t ps (unlike_swap key k is) h.2, h.3, rest)

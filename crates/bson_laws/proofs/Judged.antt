@@ -3,7 +3,7 @@ use Rattle.std.proofs.Common.{◌≡◌, ℕ, zero, suc, ◌-◌, ◌≤◌, dro
 use Rattle.std.specs.Str.{is_utf8}
 use Rattle.std.proofs.lemmas.Bool.{cond-true}
 use Rattle.bson_kinds.specs.Text.{Bytes, Utf8}
-use Rattle.bson_kinds.specs.Outcome.{◌>>=◌, result_map}
+use Rattle.bson_kinds.specs.Outcome.{◌>>=◌, result_map, or_else}
 use Rattle.bson_base.specs.Sound.{IsClean}
 use Rattle.bson_base.specs.Tree.{Tree, null, string, document, array, binary, regular_expression, db_pointer, javascript_code, symbol, javascript_code_with_scope, raw, Pairs, Trees, depth}
 use Rattle.bson_kinds.specs.declared.element_type.ElementType.TheVariants.{EmbeddedDocument, Array, JavaScriptCodeWithScope}
@@ -15,7 +15,7 @@ use Rattle.bson_rawdoc.specs.Numbers.{int32_in}
 use Rattle.bson_rawdoc.specs.Piece.{Piece}
 use Rattle.bson_rawdoc.specs.Walk.{walk}
 use Rattle.bson_rawdoc.specs.Node as node
-use Rattle.bson_rawdoc.specs.Node.{of_bytes, Whole, Node, Nodes, broken, too_deep, opens, or_broken, scoped_bytes, nodes_with, closed_node, node_in, Sight, or_else, text_fault, fault, piece, whole_at, one_level, mended_if, tree_node, pair_nodes, tree_nodes}
+use Rattle.bson_rawdoc.specs.Node.{of_bytes, Whole, Node, Nodes, broken, too_deep, opens, or_broken, scoped_bytes, nodes_with, closed_node, node_in, Sight, text_fault, fault, piece, whole_at, one_level, mended_if, tree_node, pair_nodes, tree_nodes}
 use Rattle.bson_values.specs.Value as value
 use Rattle.bson_values.specs.Marked.{Marked}
 use Rattle.bson_laws.specs.Judged.{Reading, with_level, faultless, judged}

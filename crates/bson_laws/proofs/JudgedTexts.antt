@@ -1,8 +1,9 @@
 -- The texts of a value that is judged without a refusal are UTF-8.
 use Rattle.std.proofs.Common.{◌≡◌, Bool, true, false, cond, Option, Some, None, Ok, refl}
 use Rattle.std.specs.Str.{is_utf8}
+use Rattle.bson_kinds.specs.Outcome.{or_else}
 use Rattle.bson_rawdoc.specs.Node as node
-use Rattle.bson_rawdoc.specs.Node.{Node, or_else}
+use Rattle.bson_rawdoc.specs.Node.{Node}
 use Rattle.bson_rawdoc.specs.Piece.{Piece}
 use Rattle.bson_rawdoc.specs.declared.raw.Error.{Error}
 use Rattle.bson_rawdoc.specs.declared.raw.Error.TheVariants.{NotUtf8}

@@ -4,7 +4,7 @@ use Rattle.std.specs.Prelude.{FitsSigned, nat_eq, codes, option_map, option_and_
 use Rattle.std.specs.Result.{result_ok}
 use Rattle.std.proofs.lemmas.List.Elements.{All-nil, All-cons}
 use Rattle.bson_base.specs.Made.{digits, number_text, base64_text}
-use Rattle.bson_kinds.specs.Outcome.{◌>>=◌, result_map}
+use Rattle.bson_kinds.specs.Outcome.{◌>>=◌, result_map, or_else}
 use Rattle.bson_base.specs.Parsed.{bytes_of_digits, integer_of_text}
 use Rattle.bson_base.specs.Sorted.{sorted}
 use Rattle.bson_base.specs.Sound.{HasBytes, IsClean}
@@ -13,7 +13,7 @@ use Rattle.bson_base.specs.Tree as tree
 use Rattle.bson_base.specs.Tree.{Tree, depth}
 use Rattle.bson_kinds.specs.declared.element_type.ElementType.TheVariants.{EmbeddedDocument}
 use Rattle.bson_base.proofs.WrittenTexts.{digits_read, integer_read, base64_read}
-use Rattle.bson_rawdoc.specs.Node.{Sight, Node, string, made_document, int64, extended, Extended, binary, undefined, object_id, date_time, regular_expression, db_pointer, javascript_code, symbol, javascript_code_with_scope, timestamp, decimal128, max_key, min_key, Nodes, ended, one, made_text, or_else, text_fault, fault, opened, opens, piece, whole_at, one_level, tree_node, pair_nodes}
+use Rattle.bson_rawdoc.specs.Node.{Sight, Node, string, made_document, int64, extended, Extended, binary, undefined, object_id, date_time, regular_expression, db_pointer, javascript_code, symbol, javascript_code_with_scope, timestamp, decimal128, max_key, min_key, Nodes, ended, one, made_text, text_fault, fault, opened, opens, piece, whole_at, one_level, tree_node, pair_nodes}
 use Rattle.bson_rawdoc.specs.Piece.{Piece, made}
 use Rattle.bson_rawdoc.specs.declared.raw.Error.{Error}
 use Rattle.bson_shape.specs.Form.{leaf}

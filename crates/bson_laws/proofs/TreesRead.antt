@@ -6,6 +6,7 @@ use Rattle.std.proofs.lemmas.Bool.{and_parts}
 use Rattle.bson_kinds.specs.Kind.{byte}
 use Rattle.bson_kinds.specs.Text.{Bytes, Utf8, begins_with_dollar}
 use Rattle.bson_kinds.specs.Outcome.{◌>>=◌, result_map}
+use Rattle.bson_base.specs.Pairs.{put}
 use Rattle.bson_base.specs.Sound.{Lacks, IsClean, ArePairsClean, AreTreesClean}
 use Rattle.bson_base.specs.Tree as tree
 use Rattle.bson_base.specs.Tree.{Tree, Pairs, no_pairs, pair, Trees, no_trees, kind, depth, pairs_depth, trees_depth}
@@ -23,7 +24,7 @@ use Rattle.bson_laws.specs.Datum.{datum, uuid_datum, itself, sorted_tree, sorted
 use Rattle.bson_laws.specs.Leaves as leaf_kinds
 use Rattle.bson_laws.specs.Leaves.{ExtendedLeaf, object_ids, uuids, of_kind, documents}
 use Rattle.bson_laws.specs.Judged.{Reading, refused, judged, faultless, scope_key}
-use Rattle.bson_laws.specs.Trees.{pairs_in, put_pair, by_key, after_scope, after_code, as_tree, array_trees, document_tree, read_tree}
+use Rattle.bson_laws.specs.Trees.{pairs_in, by_key, after_scope, after_code, as_tree, array_trees, document_tree, read_tree}
 use Rattle.bson_laws.specs.ReadsExtended.{tree_of_kind, read_extended}
 use Rattle.bson_laws.specs.Views.{views_extended}
 use Rattle.bson_laws.proofs.DatumContents.{datum_contents, sorted_kind}
@@ -136,9 +137,9 @@ joined_one : (ps : Pairs) (k : Utf8) (t : Tree) (qs : Pairs) → joined (joined 
 joined_one no_pairs k t qs = refl
 joined_one (pair j u ps) k t qs = ap (pair j u) (joined_one ps k t qs)
 
-put_last : (key : Utf8) (t : Tree) (ps : Pairs) → Lacks key ps → put_pair key t ps ≡ joined ps (pair key t no_pairs)
+put_last : (key : Utf8) (t : Tree) (ps : Pairs) → Lacks key ps → put key t ps ≡ joined ps (pair key t no_pairs)
 put_last key t no_pairs l = refl
-put_last key t (pair k old ps) l = ap (λ b. cond b (pair k t ps) (pair k old (put_pair key t ps))) l.0 ∙ ap (pair k old) (put_last key t ps l.1)
+put_last key t (pair k old ps) l = ap (λ b. cond b (pair k t ps) (pair k old (put key t ps))) l.0 ∙ ap (pair k old) (put_last key t ps l.1)
 
 -- no pair that is to come has the key of one that is there
 abbrev AreNew : Pairs → Pairs → Type 0
@@ -180,7 +181,7 @@ mutual
       let u = tree_node at t n in
       let ns = pair_nodes at ps n in
       let value = judged u >>= λ _. as_tree u in
-      let others = λ (x : Tree). document_tree ns (put_pair key x done) in
+      let others = λ (x : Tree). document_tree ns (put key x done) in
       let read : value ≡ Ok (sorted_tree t) = ap (λ r. r >>= λ _. as_tree u) (judged_readable at t n c.2 (omega arith)) ∙ tree_again at t n c.2 (omega arith) in
       ap (λ m. by_key m key u value others (λ x. after_code x ns) (λ qs. after_scope qs ns)) c.0
       ∙ ap (λ r. under key r >>= others) read

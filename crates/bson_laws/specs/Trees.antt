@@ -2,10 +2,11 @@
 use Rattle.std.specs.Prelude.{ℕ, suc, Option, Some, None, if◌then◌else◌, Ok, codes}
 use Rattle.std.specs.Str.{bytes_eq}
 use Rattle.bson_kinds.specs.Outcome.{◌>>=◌, result_map}
+use Rattle.bson_base.specs.Pairs.{put}
 use Rattle.bson_base.specs.Sorted.{sorted}
 use Rattle.bson_kinds.specs.Text.{Utf8}
 use Rattle.bson_base.specs.Tree as tree
-use Rattle.bson_base.specs.Tree.{Tree, Pairs, no_pairs, pair, Trees, no_trees, kind}
+use Rattle.bson_base.specs.Tree.{Tree, Pairs, no_pairs, Trees, no_trees, kind}
 use Rattle.bson_rawdoc.specs.Node.{Node, double, string, document, array, bytes, boolean, null, int32, int64, extended, Extended, binary, undefined, object_id, date_time, regular_expression, db_pointer, javascript_code, symbol, javascript_code_with_scope, timestamp, decimal128, max_key, min_key, Nodes, ended, faulty, then_node, kind_of}
 use Rattle.bson_values.specs.Cause.{raw, invalid_type, unknown_field, missing_field, bad_body}
 use Rattle.bson_values.specs.Refusal.{under, under_index}
@@ -29,11 +30,6 @@ or_bad w None = refused (bad_body w)
 abbrev pub pairs_in : Tree → Reading Pairs
 pairs_in (tree.document ps) = Ok ps
 pairs_in t = refused (invalid_type (kind t))
-
--- the pairs of a document with one more: a key that is there keeps its place and takes the tree; another goes last
-abbrev pub put_pair : Utf8 → Tree → Pairs → Pairs
-put_pair key t no_pairs = pair key t no_pairs
-put_pair key t (pair k old ps) = if bytes_eq key k then pair k t ps else pair k old (put_pair key t ps)
 
 -- ---- documents
 
@@ -101,7 +97,7 @@ abbrev mutual
   document_tree ended ps = Ok (tree.document ps)
   document_tree (faulty e) ps = refused (raw e)
   document_tree (then_node key n ns) ps =
-      by_key (of_key key.bytes) key.bytes n (judged n >>= λ _. as_tree n) (λ t. document_tree ns (put_pair key.bytes t ps)) (λ t. after_code t ns)
+      by_key (of_key key.bytes) key.bytes n (judged n >>= λ _. as_tree n) (λ t. document_tree ns (put key.bytes t ps)) (λ t. after_code t ns)
       (λ qs. after_scope qs ns)
 
   -- after the text of a code: nothing, or its scope

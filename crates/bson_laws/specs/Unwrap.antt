@@ -3,6 +3,7 @@
 -- value. A value with two forms is its compact one. Each kind takes one list of keys and values, in one order.
 use Rattle.std.specs.Prelude.{ℕ, ℤ, pos, ◌^◌, nat_lt, nat_eq, ◌||◌, List, [], ◌∷◌, length, if◌then◌else◌, Option, Some, None, option_map, option_and_then, codes}
 use Rattle.std.specs.Str.{bytes_eq}
+use Rattle.bson_kinds.specs.Outcome.{or_else}
 use Rattle.bson_kinds.specs.Text.{Bytes, Utf8}
 use Rattle.bson_base.specs.Parsed.{bytes_of_digits, integer_of_text, bytes_of_base64, subtype_of_text}
 use Rattle.bson_base.specs.Tree as tree
@@ -106,11 +107,6 @@ bytes_list list = do
   value ← next_key (codes "subType") b.1
   subtype ← next_byte value
   end_as (subtype.0, b.0) subtype.1
-
--- the first of two that is there
-abbrev pub or_else : {A : Type 0} → Option A → Option A → Option A
-or_else (Some x) o = Some x
-or_else None o = o
 
 abbrev pub binary_list : {S : Type 0} → List (Part S) → Option (ℕ × Bytes)
 binary_list list = do

@@ -3,7 +3,8 @@ use Rattle.std.proofs.Common.{◌≡◌, ℕ, zero, suc, List, [], ◌∷◌, Bo
 use Rattle.std.specs.Prelude.{codes}
 use Rattle.std.specs.Str.{bytes_eq}
 use Rattle.std.proofs.lemmas.Slice.Eq.{bytes_eq-Decides}
-use Rattle.bson_base.specs.BsonView.{Key, Pair, tree_of, row_of, pairs_row, pairs_in, pairs_of}
+use Rattle.bson_base.specs.Pairs.{put}
+use Rattle.bson_base.specs.BsonView.{Key, Pair, tree_of, row_of, pairs_row, listed_pairs, pairs_of}
 use Rattle.bson_base.specs.Folded.{at}
 use Rattle.bson_kinds.specs.Outcome.{◌>>=◌, result_map}
 use Rattle.bson_base.specs.Parsed.{bytes_of_digits}
@@ -27,7 +28,7 @@ use Rattle.bson_laws.specs.Datum.{datum}
 use Rattle.bson_laws.specs.Judged.{Reading, judged}
 use Rattle.bson_laws.specs.RawFree.{IsRawFree, ArePairsRawFree, AreTreesRawFree}
 use Rattle.bson_laws.specs.ReadsExtended.{tree_of_kind}
-use Rattle.bson_laws.specs.Trees.{or_bad, put_pair, by_meaning, by_key, after_scope, as_tree, document_tree, after_code}
+use Rattle.bson_laws.specs.Trees.{or_bad, by_meaning, by_key, after_scope, as_tree, document_tree, after_code}
 use Rattle.bson_laws.specs.Wrapped.{id_of_text, of_length, oid_body, judging, meaning}
 use Rattle.bson_laws.proofs.Sizes.{under_ok}
 use Rattle.bson_laws.proofs.Tame.{judged_is}
@@ -54,7 +55,7 @@ mutual
   pairs_row_free (k ∷ ks) end_of-Bson = tt
   pairs_row_free (k ∷ ks) (more_of-Bson b rest) = (bson_free b, pairs_row_free ks rest)
 
-pairs_free : (ps : List (Pair Bson)) → ArePairsRawFree (pairs_in ps)
+pairs_free : (ps : List (Pair Bson)) → ArePairsRawFree (listed_pairs ps)
 pairs_free [] = tt
 pairs_free (p ∷ ps) = (bson_free p.value, pairs_free ps)
 
@@ -137,8 +138,8 @@ first_is (Some w) key t ps levels others id f is rest e =
 at_oid : (ps done : Pairs) (levels : ℕ) (id : Bytes) → ArePairsRawFree ps → document_tree (pair_nodes from_memory ps levels) done ≡ Ok (trees.object_id id) → at (codes "$oid") id_given ps ≡ Some id
 at_oid no_pairs done levels id f e = absurd cc
 at_oid (pair key t ps) done levels id f e =
-    first_is (of_key key) key t ps levels (λ u. document_tree (pair_nodes from_memory ps levels) (put_pair key u done)) id f.0 refl
-    (λ u g. at_oid ps (put_pair key u done) levels id f.1 g) e
+    first_is (of_key key) key t ps levels (λ u. document_tree (pair_nodes from_memory ps levels) (put key u done)) id f.0 refl
+    (λ u g. at_oid ps (put key u done) levels id f.1 g) e
 
 -- ---- what is read at the leaf of ObjectIds
 

@@ -4,12 +4,12 @@ use Rattle.std.specs.Prelude.{◌-◌, ◌||◌, nat_lt, get_or, take}
 use Rattle.std.specs.Ordering.{int_eq}
 use Rattle.std.specs.Str.{is_utf8}
 use Rattle.bson_kinds.specs.Text.{Bytes, Utf8}
-use Rattle.bson_kinds.specs.Outcome.{◌>>=◌, result_map}
+use Rattle.bson_kinds.specs.Outcome.{◌>>=◌, result_map, or_else}
 use Rattle.bson_kinds.specs.declared.element_type.ElementType.{ElementType}
 use Rattle.bson_kinds.specs.declared.element_type.ElementType.TheVariants as kinds
 use Rattle.bson_rawdoc.specs.Envelope.{is_closed, inside}
 use Rattle.bson_rawdoc.specs.Extent.{two_texts_in}
-use Rattle.bson_rawdoc.specs.Node.{of_bytes, Node, string, boolean, broken, regular_expression, db_pointer, javascript_code, symbol, javascript_code_with_scope, or_else, text_fault, fault, opens, binary_node, or_broken, text_bytes, two_bytes, db_pointer_bytes, scoped_bytes, node_with, nodes_with, holding, closed_node, node_in, inner_node, value_node}
+use Rattle.bson_rawdoc.specs.Node.{of_bytes, Node, string, boolean, broken, regular_expression, db_pointer, javascript_code, symbol, javascript_code_with_scope, text_fault, fault, opens, binary_node, or_broken, text_bytes, two_bytes, db_pointer_bytes, scoped_bytes, node_with, nodes_with, holding, closed_node, node_in, inner_node, value_node}
 use Rattle.bson_rawdoc.specs.Numbers.{int32_in}
 use Rattle.bson_rawdoc.specs.Piece.{Piece, borrowed}
 use Rattle.bson_rawdoc.specs.RawValue as raw

@@ -6,7 +6,7 @@ use Rattle.std.specs.Ordering.{int_eq}
 use Rattle.std.specs.Str.{is_utf8}
 use Rattle.std.specs.Str.Lossy.{utf8_lossy}
 use Rattle.bson_kinds.specs.Text.{Bytes, Utf8}
-use Rattle.bson_kinds.specs.Outcome.{result_map}
+use Rattle.bson_kinds.specs.Outcome.{result_map, or_else}
 use Rattle.bson_base.specs.Tree as trees
 use Rattle.bson_base.specs.Tree.{Tree, Pairs, no_pairs, pair, Trees, no_trees, tree, enc}
 use Rattle.bson_kinds.specs.declared.element_type.ElementType.TheVariants as kinds
@@ -108,11 +108,6 @@ kind_of (broken k e) = k
 kind_of (too_deep k) = k
 
 -- ---- the fault of a value
-
--- the first of two faults
-abbrev pub or_else : Option Error → Option Error → Option Error
-or_else (Some e) o = Some e
-or_else None o = o
 
 -- a text that is not UTF-8 is at fault
 abbrev pub text_fault : Piece → Option Error

@@ -2,13 +2,14 @@
 use Rattle.std.proofs.Common.{◌≡◌, ℕ, suc, ◌<◌, List, [], ◌∷◌, length, Option, Some, None, refl, ap, true, false, arith, cond}
 use Rattle.std.specs.Prelude.{option_map, codes, nat_lt, ◌^◌, ◌||◌, pos}
 use Rattle.std.specs.Str.{bytes_eq}
+use Rattle.bson_kinds.specs.Outcome.{or_else}
 use Rattle.bson_kinds.specs.Text.{Bytes, Utf8}
 use Rattle.bson_base.specs.Parsed.{bytes_of_digits, integer_of_text, bytes_of_base64, subtype_of_text}
 use Rattle.bson_base.specs.Tree as tree
 use Rattle.bson_kinds.specs.declared.element_type.ElementType.{ElementType}
 use Rattle.bson_kinds.specs.declared.element_type.ElementType.TheVariants as kinds
 use Rattle.bson_values.specs.Value.{FieldValues, Value, str, bytes, integer, u8, i64, map, raw_document}
-use Rattle.bson_laws.specs.Unwrap.{Part, a_key, a_value, ◌>>=◌, next_key, next_key_of, next_text, next_bytes, next_byte, next_unsigned, next_scope, end_as, object_id_list, date_time_list, base64_parts, base64_list, bytes_list, or_else, binary_list, base64_given, timestamp_list, text_list, regular_expression_list, db_pointer_list, sixteen, decimal128_list, scoped_code, listed, unwrap}
+use Rattle.bson_laws.specs.Unwrap.{Part, a_key, a_value, ◌>>=◌, next_key, next_key_of, next_text, next_bytes, next_byte, next_unsigned, next_scope, end_as, object_id_list, date_time_list, base64_parts, base64_list, bytes_list, binary_list, base64_given, timestamp_list, text_list, regular_expression_list, db_pointer_list, sixteen, decimal128_list, scoped_code, listed, unwrap}
 use Rattle.bson_reserved.specs.Listed.{unwrap_list}
 
 -- the steps accept no list of more than n parts

@@ -10,9 +10,9 @@ use Rattle.bson_shape.specs.declared.error.ShapeError.{ShapeError}
 use Rattle.bson_shape.specs.declared.error.ShapeError.TheVariants.{TooDeep}
 use Rattle.std.specs.List.{list_all}
 use Rattle.bson_shape.specs.Notation.{begins_bare, in_bare, bare, names_form, escaped, quoted, name_text, struct_name_text, after_commas, listed, in_parens, opening_struct, text, named_texts, field_texts, definition_texts, part_texts, variant_texts, content_text}
-use Rattle.bson_shape.specs.FirstRefusal.{MakerRefusal, or_else, too_deep, refusal_of, form_refusal, first_refusal, fields_refusal, parts_refusal, variants_refusal, content_refusal}
+use Rattle.bson_shape.specs.FirstRefusal.{MakerRefusal, too_deep, refusal_of, form_refusal, first_refusal, fields_refusal, parts_refusal, variants_refusal, content_refusal}
 use Rattle.bson_shape.specs.Fronts.{goes_on}
-use Rattle.bson_kinds.specs.Outcome.{◌>>=◌}
+use Rattle.bson_kinds.specs.Outcome.{◌>>=◌, or_else}
 use Rattle.bson_shape.specs.Machine.{Refusal, Refused, OpenEnum, Holder, Nameless_at, Named_at, Variant_of, Group, Braces, Closed_braces, Parens, Angles, Table, Prefix, Option_prefix, Lossy_prefix, Readable_prefix, Newtype_prefix, Definitions_prefix, Level, In_prefix, In_brackets, In_pair, In_compact, In_map, In_item, Owner, Form_at, Item_of, Reference_at, Mode, Form_due, Percent, Ampersand, At, Behind_sign, Item_due, Bare, Named, Item_done, Done, State, opened_enum, grown, grown_enum, is_empty, closing, Closed, Closed_form, Closed_variant, Closed_prefix, closed, prefixed, made, form_closed, bracket_closed, group_closed, item_ended, Ended, wrapped, enclosed, form_ended, begins_name, name_begun, opens_form, begins_form, form_begun, form_due, name_due, field_due, item_begun, item_due, word_ended, bare_name, alone, step, run, finish}
 use Rattle.bson_shape.proofs.Made.{made_form-made}
 use Rattle.bson_shape.proofs.Shapes.{joined-assoc, joined-none, joined_parts-assoc, joined_parts-none, joined_variants-assoc, joined_variants-none}

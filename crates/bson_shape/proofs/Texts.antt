@@ -9,8 +9,8 @@ use Rattle.bson_shape.specs.Form.{Form, leaf, optional, lossy, human_readable, b
 use Rattle.bson_shape.specs.Levels.{levels, deepest, deepest_part, deepest_variant, deepest_inside}
 use Rattle.bson_shape.specs.Makers.{IsShape, AreShapes, AreParts, AreVariants, IsContent, made_form}
 use Rattle.bson_shape.specs.Notation.{text, name_text, struct_name_text, opening_struct, in_parens, definition_texts, content_text}
-use Rattle.bson_shape.specs.FirstRefusal.{MakerRefusal, or_else, refusal_of, form_refusal, first_refusal, fields_refusal, parts_refusal, variants_refusal, content_refusal}
-use Rattle.bson_kinds.specs.Outcome.{◌>>=◌}
+use Rattle.bson_shape.specs.FirstRefusal.{MakerRefusal, refusal_of, form_refusal, first_refusal, fields_refusal, parts_refusal, variants_refusal, content_refusal}
+use Rattle.bson_kinds.specs.Outcome.{◌>>=◌, or_else}
 use Rattle.bson_shape.specs.Machine.{Refusal, Refused, Form_due, Done, wrapped, run, finish, parsed}
 use Rattle.bson_shape.proofs.Made.{made_form-IsShape}
 use Rattle.bson_shape.proofs.Shapes.{levels_few}

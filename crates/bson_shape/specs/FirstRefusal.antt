@@ -1,5 +1,6 @@
 -- The first refusal of a maker that is met in reading a notation from left to right. Source: this library's own notation.
 use Rattle.std.specs.Prelude.{ℕ, ◌+◌, nat_le, if◌then◌else◌, ◌++◌, length, Option, Some, None, Result, Ok, Err}
+use Rattle.bson_kinds.specs.Outcome.{or_else}
 use Rattle.bson_shape.specs.Form.{Form, leaf, optional, lossy, human_readable, by_mode, sequence, map, tuple, tuple_structure, newtype, unit_structure, structure, enumeration, reference, definitions, Fields, no_fields, field, Parts, no_parts, part, Variants, no_variants, variant, Content, unit_content, newtype_content, tuple_content, struct_content}
 use Rattle.bson_shape.specs.Levels.{max_shape_levels}
 use Rattle.bson_shape.specs.Makers.{made_form}
@@ -13,11 +14,6 @@ pub record MakerRefusal : Type 0 where
   pub met : ℕ
   pub place : ℕ
   pub cause : ShapeError
-
--- the first of the two that there is
-abbrev pub or_else : Option MakerRefusal → Option MakerRefusal → Option MakerRefusal
-or_else None later = later
-or_else (Some r) later = Some r
 
 -- a form inside 512 others is refused at its first byte
 abbrev pub too_deep : ℕ → ℕ → Option MakerRefusal

@@ -4,7 +4,7 @@ use Rattle.std.specs.Prelude.{nat_lt, nat_eq, option_map, option_and_then, codes
 use Rattle.std.proofs.lemmas.Bool.Decides.{nat_tests}
 use Rattle.std.proofs.lemmas.List.Elements.{All-cons, All-nil}
 use Rattle.bson_base.specs.Made.{digits, number_text, base64_text}
-use Rattle.bson_kinds.specs.Outcome.{◌>>=◌, result_map}
+use Rattle.bson_kinds.specs.Outcome.{◌>>=◌, result_map, or_else}
 use Rattle.bson_base.specs.Parsed.{first_byte, bytes_of_digits, integer_of_text, bytes_of_base64}
 use Rattle.bson_base.specs.Pairs.{put}
 use Rattle.bson_kinds.specs.declared.element_type.ElementType.TheVariants.{Int64}
@@ -22,7 +22,7 @@ use Rattle.bson_laws.specs.Spell.{Writing, spell_whole, spell_unwrapped, spell_n
 use Rattle.bson_laws.proofs.Sizes.{ok_is, enclosed_ok, under_ok}
 use Rattle.bson_laws.proofs.Writable.{wide_small}
 use Rattle.bson_laws.specs.Written.{with_scope, zero_free}
-use Rattle.bson_laws.specs.Unwrap.{Part, a_key, a_value, next_key, next_unsigned, end_as, or_else}
+use Rattle.bson_laws.specs.Unwrap.{Part, a_key, a_value, next_key, next_unsigned, end_as}
 use Rattle.bson_tree_laws.specs.Alike.{HasFreeKeys, HasSubtype}
 use Rattle.bson_base.specs.Folded.{fold, or_document}
 use Rattle.bson_tree_laws.specs.TreeSpell.{tree_spell}

@@ -3,6 +3,7 @@ use Rattle.std.proofs.Common.{◌≡◌, ℕ, Bool, true, false, Option, Some, N
 use Rattle.std.specs.Prelude.{option_map, option_and_then, codes}
 use Rattle.uuid.specs.Text.{parsed}
 use Rattle.bson_kinds.specs.Outcome.{◌>>=◌, result_map}
+use Rattle.bson_base.specs.Pairs.{put}
 use Rattle.bson_base.specs.Parsed.{bytes_of_digits, bytes_of_base64}
 use Rattle.bson_base.specs.Sorted.{sorted}
 use Rattle.bson_kinds.specs.Text.{Bytes, Utf8}
@@ -21,7 +22,7 @@ use Rattle.bson_values.specs.declared.wrapper.Wrapper.TheVariants.{Binary, Uuid}
 use Rattle.bson_laws.specs.Judged.{Reading, judged, scope_key}
 use Rattle.bson_laws.specs.ReadsLeaf.{no_extended}
 use Rattle.bson_laws.specs.Shaped.{reads}
-use Rattle.bson_laws.specs.Trees.{or_bad, pairs_in, by_meaning, by_key, put_pair, after_code, after_scope, as_tree, read_tree, extended_tree, array_trees, document_tree}
+use Rattle.bson_laws.specs.Trees.{or_bad, pairs_in, by_meaning, by_key, after_code, after_scope, as_tree, read_tree, extended_tree, array_trees, document_tree}
 use Rattle.bson_laws.specs.Wrapped.{meaning, one_byte, binary_of_texts, a_text, two_fields, two_texts, text_at, with_fields, text, at, text_body}
 use Rattle.bson_laws.proofs.Sizes.{under_ok}
 use Rattle.bson_trees.specs.Trees.{is_raw}
@@ -94,7 +95,7 @@ pub document_not_raw : (ns : Nodes) (ps : Pairs) (t : Tree) → document_tree ns
 document_not_raw ended ps t e = ok_not_raw (tree.document ps) t refl e
 document_not_raw (faulty f) ps t e = absurd cc
 document_not_raw (then_node k n ns) ps t e =
-    element_not_raw (of_key k.bytes) k.bytes n ns (judged n >>= λ _. as_tree n) (λ u. document_tree ns (put_pair k.bytes u ps)) t (λ u q. document_not_raw ns (put_pair k.bytes u ps) t q) e
+    element_not_raw (of_key k.bytes) k.bytes n ns (judged n >>= λ _. as_tree n) (λ u. document_tree ns (put k.bytes u ps)) t (λ u q. document_not_raw ns (put k.bytes u ps) t q) e
 
 -- ---- values
 

@@ -3,6 +3,7 @@ use Rattle.std.proofs.Common.{◌≡◌, ℕ, zero, suc, Bool, true, false, cond
 use Rattle.std.specs.Str.{bytes_eq}
 use Rattle.bson_kinds.specs.Text.{Utf8}
 use Rattle.bson_kinds.specs.Outcome.{◌>>=◌, result_map}
+use Rattle.bson_base.specs.Pairs.{put}
 use Rattle.bson_base.specs.Tree as tree
 use Rattle.bson_base.specs.Tree.{Tree, Pairs, no_pairs, pair, Trees, kind}
 use Rattle.bson_kinds.proofs.Outcomes.{map_ok}
@@ -28,7 +29,7 @@ use Rattle.bson_laws.specs.Containers.{reads_items}
 use Rattle.bson_laws.specs.Datum.{datum, itself, pair_data, tree_data}
 use Rattle.bson_laws.specs.Judged.{Reading, refused, judged, scope_key}
 use Rattle.bson_laws.specs.ReadsLeaf.{put_entry}
-use Rattle.bson_laws.specs.Trees.{as_tree, read_tree, array_trees, document_tree, after_code, after_scope, by_key, by_meaning, put_pair, pairs_in}
+use Rattle.bson_laws.specs.Trees.{as_tree, read_tree, array_trees, document_tree, after_code, after_scope, by_key, by_meaning, pairs_in}
 use Rattle.bson_laws.specs.Wrapped.{Meaning, body, code, scope}
 use Rattle.bson_laws.proofs.DatumContents.{datum_contents}
 use Rattle.bson_laws.proofs.Sizes.{under_ok}
@@ -107,13 +108,13 @@ chosen true x y es e = refl
 chosen false x y es e = e
 
 -- a pair that is put is the entry that is put
-pub put_data : (key : Utf8) (t : Tree) (ps : Pairs) → put_entry (value.str (made key)) (datum made t) (pair_data made ps) ≡ pair_data made (put_pair key t ps)
+pub put_data : (key : Utf8) (t : Tree) (ps : Pairs) → put_entry (value.str (made key)) (datum made t) (pair_data made ps) ≡ pair_data made (put key t ps)
 put_data key t no_pairs = refl
-put_data key t (pair k old ps) = chosen (bytes_eq key k) (pair k t ps) (pair k old (put_pair key t ps)) _ (ap (entry (value.str (made k)) (datum made old)) (put_data key t ps))
+put_data key t (pair k old ps) = chosen (bytes_eq key k) (pair k t ps) (pair k old (put key t ps)) _ (ap (entry (value.str (made k)) (datum made old)) (put_data key t ps))
 
 module _ (k : Piece) (n : Node) (ns : Nodes) (ps : Pairs) where
   abbrev on : Option Wrapper → Reading Tree → Reading Tree
-  on w r = by_key w k.bytes n r (λ t. document_tree ns (put_pair k.bytes t ps)) (λ t. after_code t ns) (λ qs. after_scope qs ns)
+  on w r = by_key w k.bytes n r (λ t. document_tree ns (put k.bytes t ps)) (λ t. after_code t ns) (λ qs. after_scope qs ns)
 
   on_judged : document_tree (then_node k n ns) ps ≡ on (of_key k.bytes) (read_tree n)
   on_judged = ap (on (of_key k.bytes)) (sym (judged_same n (as_tree)))
@@ -123,7 +124,7 @@ module _ (k : Piece) (n : Node) (ns : Nodes) (ps : Pairs) where
       → (qs : Pairs) × (document_tree (then_node k n ns) ps ≡ document_tree ns qs) × (put_entry (value.str (made k.bytes)) v (pair_data made ps) ≡ pair_data made qs)
   pair_read none v e =
       let m = map_ok (datum made) (read_tree n) v (under_ok k.bytes (tree_at n) v e) in (
-        put_pair k.bytes m.0 ps,
+        put k.bytes m.0 ps,
         on_judged ∙ (λ i. on (sym none i) (m.1 i)),
         ap (λ x. put_entry (value.str (made k.bytes)) x (pair_data made ps)) (sym m.2) ∙ put_data k.bytes m.0 ps,
       )
@@ -131,7 +132,7 @@ module _ (k : Piece) (n : Node) (ns : Nodes) (ps : Pairs) where
   -- one that is refused
   pub pair_stops_tree : None ≡ of_key k.bytes → (s : Stop Fault) → StopsAs s (tree_under k.bytes n) → StopsAs s (document_tree (then_node k n ns) ps)
   pair_stops_tree none s h =
-      let here = bind_stops s (datum made) (under k.bytes (read_tree n)) (λ t. document_tree ns (put_pair k.bytes t ps))
+      let here = bind_stops s (datum made) (under k.bytes (read_tree n)) (λ t. document_tree ns (put k.bytes t ps))
       (subst (λ (r : Reading Marked). StopsAs s r) (under_map k.bytes (datum made) (read_tree n)) h) in
       subst (λ (r : Reading Tree). StopsAs s r) (sym (on_judged ∙ ap (λ w. on w (read_tree n)) (sym none))) here
 

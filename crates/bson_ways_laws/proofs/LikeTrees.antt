@@ -2,6 +2,7 @@
 use Rattle.std.proofs.Common.{◌≡◌, ℕ, suc, Ok, refl, ap, sym, subst, ◌∙◌}
 use Rattle.uuid.specs.Text.{parsed}
 use Rattle.bson_kinds.specs.Outcome.{◌>>=◌, result_map}
+use Rattle.bson_base.specs.Pairs.{put}
 use Rattle.bson_base.specs.Sorted.{sorted}
 use Rattle.bson_base.specs.Tree as tree
 use Rattle.bson_base.specs.Tree.{Tree, Pairs, no_pairs, no_trees}
@@ -15,7 +16,7 @@ use Rattle.bson_laws.specs.Datum.{datum, uuid_datum}
 use Rattle.bson_laws.specs.Judged.{judged, scope_key}
 use Rattle.bson_laws.specs.Leaves.{ExtendedLeaf, object_ids, uuids, of_kind, trees, documents}
 use Rattle.bson_laws.specs.ReadsExtended.{tree_of_kind, with_length, object_id_at, or_bad_uuid, uuid_in, uuid_at, read_extended}
-use Rattle.bson_laws.specs.Trees.{or_bad, pairs_in, put_pair, by_key, after_scope, as_tree, extended_tree, array_trees, document_tree, after_code}
+use Rattle.bson_laws.specs.Trees.{or_bad, pairs_in, by_key, after_scope, as_tree, extended_tree, array_trees, document_tree, after_code}
 use Rattle.bson_laws.specs.Wrapped.{id_of_text}
 use Rattle.bson_laws.proofs.TreesRead.{no_wrapper}
 use Rattle.bson_ways_laws.specs.Ways.{IsCommon}
@@ -24,9 +25,9 @@ use Rattle.bson_ways_laws.proofs.Likes.{AreCommon, Like, ExtendedLike, NodesLike
 
 -- an element whose key begins not with `$` is a pair
 key_step : (k : Piece) (n : Node) (ns : Nodes) (ps : Pairs) (t : Tree) → IsCommon k.bytes → document_tree (then_node k n ns) ps ≡ Ok t
-    → (under k.bytes (judged n >>= λ _. as_tree n) >>= λ u. document_tree ns (put_pair k.bytes u ps)) ≡ Ok t
+    → (under k.bytes (judged n >>= λ _. as_tree n) >>= λ u. document_tree ns (put k.bytes u ps)) ≡ Ok t
 key_step k n ns ps t c e =
-    ap (λ o. by_key o k.bytes n (judged n >>= λ _. as_tree n) (λ u. document_tree ns (put_pair k.bytes u ps)) (λ x. after_code x ns) (λ qs. after_scope qs ns)) (sym (no_wrapper k.bytes c)) ∙ e
+    ap (λ o. by_key o k.bytes n (judged n >>= λ _. as_tree n) (λ u. document_tree ns (put k.bytes u ps)) (λ x. after_code x ns) (λ qs. after_scope qs ns)) (sym (no_wrapper k.bytes c)) ∙ e
 
 mutual
   pub as_tree_like : (n m : Node) → Like n m → Both Equal (as_tree n) (as_tree m)
@@ -82,9 +83,9 @@ mutual
       λ x y e f.
       let r = (judged n >>= λ _. as_tree n) in
       let s = (judged m >>= λ _. as_tree m) in
-      both_bind Equal Equal (under k.bytes r) (under l.bytes s) (λ u. document_tree ns (put_pair k.bytes u ps)) (λ u. document_tree ms (put_pair l.bytes u ps))
+      both_bind Equal Equal (under k.bytes r) (under l.bytes s) (λ u. document_tree ns (put k.bytes u ps)) (λ u. document_tree ms (put l.bytes u ps))
       (both_inside Equal (at_key k.bytes) (at_key l.bytes) r s (both_then Equal n m (as_tree n) (as_tree m) (as_tree_like n m (h.1 c.0))))
-      (λ a b g. subst (λ qs. Both Equal (document_tree ns (put_pair k.bytes a ps)) (document_tree ms qs)) (λ j. put_pair (h.0 j) (g j) ps) (document_tree_like ns ms (put_pair k.bytes a ps) c.1 h.2))
+      (λ a b g. subst (λ qs. Both Equal (document_tree ns (put k.bytes a ps)) (document_tree ms qs)) (λ j. put (h.0 j) (g j) ps) (document_tree_like ns ms (put k.bytes a ps) c.1 h.2))
       x y (key_step k n ns ps x c.0 e) (key_step l m ms ps y (subst IsCommon h.0 c.0) f)
   document_tree_like ns ms ps c h = absurd h
 

@@ -3,7 +3,7 @@ use Rattle.std.proofs.Common.{◌≡◌, ℕ, ℤ, zero, suc, Bool, true, false,
 use Rattle.std.specs.Int.{w64}
 use Rattle.std.specs.Prelude.{FitsSigned}
 use Rattle.std.specs.Str.{is_utf8, bytes_eq}
-use Rattle.bson_kinds.specs.Outcome.{◌>>=◌}
+use Rattle.bson_kinds.specs.Outcome.{◌>>=◌, or_else}
 use Rattle.bson_base.specs.Pairs.{put}
 use Rattle.bson_base.specs.Sorted.{sorted}
 use Rattle.bson_kinds.specs.Text.{Bytes, Utf8}
@@ -16,7 +16,7 @@ use Rattle.bson_kinds.proofs.Outcomes.{ok_is, map_ok, bind_ok}
 use Rattle.bson_rawdoc.specs.DocumentTree.{and_last, pairs_with, trees_with, pairs_at, trees_at, tree_at}
 use Rattle.bson_rawdoc.specs.Envelope.{is_closed}
 use Rattle.bson_rawdoc.specs.Node as node
-use Rattle.bson_rawdoc.specs.Node.{Node, or_else, text_fault, fault, opens, nodes_with, node_in, inner_node, value_node, from_input, from_memory, piece, tree_node, pair_nodes, tree_nodes}
+use Rattle.bson_rawdoc.specs.Node.{Node, text_fault, fault, opens, nodes_with, node_in, inner_node, value_node, from_input, from_memory, piece, tree_node, pair_nodes, tree_nodes}
 use Rattle.bson_rawdoc.specs.Piece.{Piece, borrowed}
 use Rattle.bson_rawdoc.specs.RawValue as raw
 use Rattle.bson_rawdoc.specs.RawValue.{RawValue, value_in}

@@ -3,7 +3,7 @@ use Rattle.std.specs.List.{list_any, IsDistinct}
 use Rattle.std.specs.Str.{bytes_eq}
 use Rattle.bson_key_map.specs.Keys.{texts_of}
 use Rattle.bson_key_map.specs.declared.pair.Pair.{Pair}
-use Rattle.bson_base.specs.BsonView.{tree_of, trees_of, pairs_in}
+use Rattle.bson_base.specs.BsonView.{tree_of, trees_of, listed_pairs}
 use Rattle.bson_base.specs.declared.bson.Bson.{Bson}
 use Rattle.bson_base.proofs.Documents.{trees_more, pairs_more, new_pair}
 use Rattle.bson_base.proofs.+copy.Goals as goal
@@ -22,7 +22,7 @@ document::Document::try_clone-push-requires t c =
 
 pub document::Document::try_clone-loop-pair-preserved : goal.document::Document::try_clone-loop-pair-preserved
 document::Document::try_clone-loop-pair-preserved t c =
-    ap pairs_in c.in_ok-push.ensures.pairs
+    ap listed_pairs c.in_ok-push.ensures.pairs
     ∙ pairs_more c.loop-pair.pairs c.as_slice-pair-items.result.now _ c.loop-pair.pair-index c.pair-item.result c.loop-pair-test.true c.loop-pair.invariant
     (c.in_ok-key.ensures.ok ∙ c.deref.ensures ∙ ap (λ (p : Pair Bson). string_bytes p.key) c.pair-item.is)
     (c.in_ok-try_clone.ensures.equal ∙ ap (λ (p : Pair Bson). tree_of p.value) c.pair-item.is)

@@ -2,7 +2,7 @@ use Rattle.std.proofs.Common.{rules, ◌≡◌, ◌<◌, ◌+◌, true, false, s
 use Rattle.std.specs.Prelude.{◌&&◌}
 use Rattle.std.specs.String.{string_eq}
 use Rattle.bson_key_map.specs.declared.pair.Pair.{Pair}
-use Rattle.bson_base.specs.BsonView.{tree_of, trees_of, pairs_in, pairs_of}
+use Rattle.bson_base.specs.BsonView.{tree_of, trees_of, listed_pairs, pairs_of}
 use Rattle.bson_base.specs.Same.{same, same_pairs}
 use Rattle.bson_base.specs.declared.bson.Bson.{Bson}
 use Rattle.bson_base.proofs.Nodes.{nodes, trees_nodes, pairs_nodes, pair_nodes, tree_nodes}
@@ -18,8 +18,8 @@ are_same_documents-returns-then-pairs-others t c =
 pub are_same_documents-is_same-requires : goal.are_same_documents-is_same-requires
 are_same_documents-is_same-requires t c =
     let ps = c.as_slice-pairs.result.now in
-    let inside : nodes (tree_of c.index-pairs-i.result.value) < pairs_nodes (pairs_in ps) =
-    subst (λ (p : Pair Bson). nodes (tree_of p.value) < pairs_nodes (pairs_in ps)) (sym c.index-pairs-i.is) (pair_nodes ps c.loop-i.i c.index-pairs-i.result c.loop-i-test.true) in
+    let inside : nodes (tree_of c.index-pairs-i.result.value) < pairs_nodes (listed_pairs ps) =
+    subst (λ (p : Pair Bson). nodes (tree_of p.value) < pairs_nodes (listed_pairs ps)) (sym c.index-pairs-i.is) (pair_nodes ps c.loop-i.i c.index-pairs-i.result c.loop-i-test.true) in
     let smaller : nodes (tree_of c.index-pairs-i.result.value) < pairs_nodes (pairs_of c.args.a.now) = subst (λ qs. nodes (tree_of c.index-pairs-i.result.value) < pairs_nodes qs) c.as_slice-pairs.ensures.pairs inside in
     search rules
 

@@ -5,7 +5,7 @@ use Rattle.std.specs.Str.{bytes_eq}
 use Rattle.bson_key_map.specs.Keys.{texts_of}
 use Rattle.bson_key_map.specs.declared.pair.Pair.{Pair}
 use Rattle.bson_key_map.proofs.Places.{absent}
-use Rattle.bson_base.specs.BsonView.{tree_of, pairs_in}
+use Rattle.bson_base.specs.BsonView.{tree_of, listed_pairs}
 use Rattle.bson_base.specs.declared.bson.Bson.{Bson}
 use Rattle.bson_base.proofs.Documents.{lookup_position, lookup_new, put_position, put_new, there}
 use Rattle.bson_base.proofs.document.Document.insert.Goals as goal
@@ -23,7 +23,7 @@ returns-in-Some-clause-new c =
     let i = c.in-Some.index in
     let at : Some i ≡ position (bytes_eq key) (texts_of ps) = c.in-Some.ensures.index ∙ ap (λ text. position (bytes_eq text) (texts_of ps)) c.deref.ensures in
     let p = there ps i c.in-Some.ensures.within in
-    ap pairs_in (c.replace.ensures.after p.0 p.1) ∙ put_position key ps p.0 c.args.value i p.1 at
+    ap listed_pairs (c.replace.ensures.after p.0 p.1) ∙ put_position key ps p.0 c.args.value i p.1 at
 
 pub returns-in-Some-clause-old : goal.returns-in-Some-clause-old
 returns-in-Some-clause-old c =
@@ -39,7 +39,7 @@ returns-in_ok-push-in-None-clause-new c =
     let ps = c.args.self.now.0 in
     let key = string_bytes c.args.key in
     let new : false ≡ list_any (bytes_eq key) (texts_of ps) = absent key (texts_of ps) (c.in-None.ensures.index ∙ ap (λ text. position (bytes_eq text) (texts_of ps)) c.deref.ensures) in
-    ap pairs_in c.in_ok-push-in-None.ensures.pairs ∙ put_new ps (record { key = c.args.key; value = c.args.value }) new
+    ap listed_pairs c.in_ok-push-in-None.ensures.pairs ∙ put_new ps (record { key = c.args.key; value = c.args.value }) new
 
 pub returns-in_ok-push-in-None-clause-old : goal.returns-in_ok-push-in-None-clause-old
 returns-in_ok-push-in-None-clause-old c =

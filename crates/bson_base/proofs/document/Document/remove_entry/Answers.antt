@@ -3,7 +3,7 @@ use Rattle.std.specs.Option.{option_map}
 use Rattle.bson_key_map.specs.Keys.{Key, texts_of}
 use Rattle.bson_key_map.specs.declared.pair.Pair.{Pair}
 use Rattle.bson_key_map.proofs.Places.{absent}
-use Rattle.bson_base.specs.BsonView.{tree_of, pairs_in}
+use Rattle.bson_base.specs.BsonView.{tree_of, listed_pairs}
 use Rattle.bson_base.specs.declared.bson.Bson.{Bson}
 use Rattle.bson_base.proofs.Documents.{lookup_position, lookup_new, without_position, without_new, key_position}
 use Rattle.bson_base.proofs.document.Document.remove_entry.Goals as goal
@@ -26,4 +26,4 @@ returns-clause-value c =
     ap (option_map (λ (p : Pair Bson). tree_of p.value)) (sym c.remove-key.ensures.pair) ∙ lookup_position c.args.key.now c.args.self.now.0 c.in_ok-index.index c.in_ok-index.ensures.index
 
 pub returns-clause-rest : goal.returns-clause-rest
-returns-clause-rest c = ap pairs_in c.remove-key.ensures.pairs ∙ without_position c.args.key.now c.args.self.now.0 c.in_ok-index.index c.in_ok-index.ensures.index
+returns-clause-rest c = ap listed_pairs c.remove-key.ensures.pairs ∙ without_position c.args.key.now c.args.self.now.0 c.in_ok-index.index c.in_ok-index.ensures.index
