@@ -1,5 +1,5 @@
 -- The pairs of a document, as a list of pairs.
-use Rattle.std.proofs.Common.{◌≡◌, ℕ, zero, suc, ◌+◌, ◌<◌, List, [], ◌∷◌, ◌++◌, length, get_or, take, Bool, true, false, ◌||◌, Option, Some, None, refl, ap, sym, subst, ◌∙◌, string_bytes, arith}
+use Rattle.std.proofs.Common.{◌≡◌, ℕ, zero, suc, ◌+◌, ◌<◌, List, [], ◌∷◌, ◌++◌, length, get_or, take, Bool, true, false, ◌||◌, Some, None, refl, ap, sym, subst, ◌∙◌, string_bytes, arith}
 use Rattle.std.specs.Prelude.{if◌then◌else◌, slice_get, slice_set, remove}
 use Rattle.std.specs.Option.{option_map}
 use Rattle.std.specs.List.{list_any, position, IsDistinct, AllByRecursion}
@@ -8,9 +8,9 @@ use Rattle.std.proofs.lemmas.List.{take_more, take-map, get_or-map}
 use Rattle.std.proofs.lemmas.List.Quantifiers.{position-Some}
 use Rattle.std.proofs.lemmas.Option.{get_or_from_slice_get}
 use Rattle.std.proofs.lemmas.Slice.Eq.{bytes_eq-Decides}
-use Rattle.bson_key_map.proofs.Texts.{length-texts, new_at, text_at}
+use Rattle.bson_key_map.proofs.Texts.{length-texts, new_at, text_at, text_in}
 use Rattle.bson_kinds.specs.Text.{Utf8}
-use Rattle.bson_key_map.specs.Keys.{texts_of, with_value}
+use Rattle.bson_key_map.specs.Keys.{key_texts, pair_with}
 use Rattle.bson_key_map.specs.declared.pair.Pair.{Pair}
 use Rattle.bson_base.specs.Tree.{Tree, Trees, no_trees, tree, Pairs, no_pairs, pair}
 use Rattle.bson_base.specs.BsonView.{tree_of, trees_of, listed_pairs}
@@ -22,16 +22,16 @@ pub count-pairs : (ps : List (Pair Bson)) → count (listed_pairs ps) ≡ length
 count-pairs [] = refl
 count-pairs (p ∷ ps) = ap suc (count-pairs ps)
 
-pub keys-pairs : (ps : List (Pair Bson)) → texts_of ps ≡ keys_of (listed_pairs ps)
+pub keys-pairs : (ps : List (Pair Bson)) → key_texts ps ≡ keys_of (listed_pairs ps)
 keys-pairs [] = refl
 keys-pairs (p ∷ ps) = ap (λ ts. string_bytes p.key ∷ ts) (keys-pairs ps)
 
-lacks : (key : Utf8) (ps : List (Pair Bson)) → AllByRecursion (λ t. bytes_eq key t ≡ false) (texts_of ps) → Lacks key (listed_pairs ps)
+lacks : (key : Utf8) (ps : List (Pair Bson)) → AllByRecursion (λ t. bytes_eq key t ≡ false) (key_texts ps) → Lacks key (listed_pairs ps)
 lacks key [] h = tt
 lacks key (p ∷ ps) h = (h.0, lacks key ps h.1)
 
 -- distinct keys make distinct pairs
-pub distinct-pairs : (ps : List (Pair Bson)) → IsDistinct bytes_eq (texts_of ps) → AreDistinct (listed_pairs ps)
+pub distinct-pairs : (ps : List (Pair Bson)) → IsDistinct bytes_eq (key_texts ps) → AreDistinct (listed_pairs ps)
 unfolding IsDistinct
 distinct-pairs [] h = tt
 distinct-pairs (p ∷ ps) h = (lacks (string_bytes p.key) ps h.0, distinct-pairs ps h.1)
@@ -44,7 +44,7 @@ there (p ∷ ps) (suc i) lt = there ps i (omega arith)
 
 -- the key is first at i
 abbrev IsFirst : Utf8 → List (Pair Bson) → ℕ → Utf8 → Type 0
-IsFirst key ps i d = (i < length (texts_of ps)) × (bytes_eq key (get_or (texts_of ps) i d) ≡ true) × ((k : ℕ) → k < i → bytes_eq key (get_or (texts_of ps) k d) ≡ false)
+IsFirst key ps i d = (i < length (key_texts ps)) × (bytes_eq key (get_or (key_texts ps) i d) ≡ true) × ((k : ℕ) → k < i → bytes_eq key (get_or (key_texts ps) k d) ≡ false)
 
 later : (key : Utf8) (p : Pair Bson) (ps : List (Pair Bson)) (i : ℕ) (d : Utf8) → IsFirst key (p ∷ ps) (suc i) d → IsFirst key ps i d
 later key p ps i d h = (omega (arith, h.0), h.1, λ j lt. h.2 (suc j) (omega arith))
@@ -55,13 +55,9 @@ lookup_first key [] i d h = absurd (omega (arith, h.0))
 lookup_first key (p ∷ ps) zero d h = ap (λ b. if b then Some (tree_of p.value) else lookup key (listed_pairs ps)) (sym h.1)
 lookup_first key (p ∷ ps) (suc i) d h = lookup_first key ps i d (later key p ps i d h) ∙ ap (λ b. if b then Some (tree_of p.value) else lookup key (listed_pairs ps)) (sym (h.2 0 (omega arith)))
 
-abbrev text_in : Option (Pair Bson) → Utf8
-text_in None = []
-text_in (Some p) = string_bytes p.key
-
 -- a value set there is put at the key
 put_first : (key : Utf8) (ps : List (Pair Bson)) (q : Pair Bson) (v : Bson) (i : ℕ) (d : Utf8) → slice_get ps i ≡ Some q → IsFirst key ps i d
-    → listed_pairs (slice_set ps i (with_value v q)) ≡ put key (tree_of v) (listed_pairs ps)
+    → listed_pairs (slice_set ps i (pair_with v q)) ≡ put key (tree_of v) (listed_pairs ps)
 put_first key [] q v i d is h = absurd (omega (arith, h.0))
 put_first key (p ∷ ps) q v zero d is h =
     ap (λ o. pair (text_in o) (tree_of v) (listed_pairs ps)) (sym is)
@@ -79,25 +75,25 @@ without_first key (p ∷ ps) (suc i) d h =
     ∙ ap (λ b. if b then listed_pairs ps else pair (string_bytes p.key) (tree_of p.value) (without key (listed_pairs ps))) (sym (h.2 0 (omega arith)))
 
 -- the same where `position` finds it
-first : (key : Utf8) (ps : List (Pair Bson)) (i : ℕ) → Some i ≡ position (bytes_eq key) (texts_of ps) → IsFirst key ps i key
-first key ps i h = position-Some (bytes_eq key) (texts_of ps) i key (sym h)
+first : (key : Utf8) (ps : List (Pair Bson)) (i : ℕ) → Some i ≡ position (bytes_eq key) (key_texts ps) → IsFirst key ps i key
+first key ps i h = position-Some (bytes_eq key) (key_texts ps) i key (sym h)
 
-pub lookup_position : (key : Utf8) (ps : List (Pair Bson)) (i : ℕ) → Some i ≡ position (bytes_eq key) (texts_of ps) → option_map (λ p. tree_of p.value) (slice_get ps i) ≡ lookup key (listed_pairs ps)
+pub lookup_position : (key : Utf8) (ps : List (Pair Bson)) (i : ℕ) → Some i ≡ position (bytes_eq key) (key_texts ps) → option_map (λ p. tree_of p.value) (slice_get ps i) ≡ lookup key (listed_pairs ps)
 lookup_position key ps i h = lookup_first key ps i key (first key ps i h)
 
-pub put_position : (key : Utf8) (ps : List (Pair Bson)) (q : Pair Bson) (v : Bson) (i : ℕ) → slice_get ps i ≡ Some q → Some i ≡ position (bytes_eq key) (texts_of ps)
-    → listed_pairs (slice_set ps i (with_value v q)) ≡ put key (tree_of v) (listed_pairs ps)
+pub put_position : (key : Utf8) (ps : List (Pair Bson)) (q : Pair Bson) (v : Bson) (i : ℕ) → slice_get ps i ≡ Some q → Some i ≡ position (bytes_eq key) (key_texts ps)
+    → listed_pairs (slice_set ps i (pair_with v q)) ≡ put key (tree_of v) (listed_pairs ps)
 put_position key ps q v i is h = put_first key ps q v i key is (first key ps i h)
 
-pub without_position : (key : Utf8) (ps : List (Pair Bson)) (i : ℕ) → Some i ≡ position (bytes_eq key) (texts_of ps) → listed_pairs (remove ps i) ≡ without key (listed_pairs ps)
+pub without_position : (key : Utf8) (ps : List (Pair Bson)) (i : ℕ) → Some i ≡ position (bytes_eq key) (key_texts ps) → listed_pairs (remove ps i) ≡ without key (listed_pairs ps)
 without_position key ps i h = without_first key ps i key (first key ps i h)
 
 -- the key there is the text that is looked for
-pub key_position : (key : Utf8) (ps : List (Pair Bson)) (i : ℕ) (p : Pair Bson) → Some i ≡ position (bytes_eq key) (texts_of ps) → slice_get ps i ≡ Some p → string_bytes p.key ≡ key
+pub key_position : (key : Utf8) (ps : List (Pair Bson)) (i : ℕ) (p : Pair Bson) → Some i ≡ position (bytes_eq key) (key_texts ps) → slice_get ps i ≡ Some p → string_bytes p.key ≡ key
 key_position key ps i p e is =
     let h = first key ps i e in
     let within : i < length ps = subst (λ n. i < n) (length-texts ps) h.0 in
-    let at : get_or (texts_of ps) i key ≡ string_bytes p.key = get_or-map (λ p. string_bytes p.key) ps i p key within ∙ ap (λ q. string_bytes q.key) (get_or_from_slice_get ps i p p is) in
+    let at : get_or (key_texts ps) i key ≡ string_bytes p.key = get_or-map (λ p. string_bytes p.key) ps i p key within ∙ ap (λ q. string_bytes q.key) (get_or_from_slice_get ps i p p is) in
     sym ((bytes_eq-Decides key (string_bytes p.key)).0 (ap (bytes_eq key) (sym at) ∙ h.1))
 
 neither : (b c : Bool) → false ≡ (b || c) → (b ≡ false) × (c ≡ false)
@@ -105,26 +101,26 @@ neither true c e = absurd cc
 neither false c e = (refl, sym e)
 
 -- of a key that is not there nothing is found
-pub lookup_new : (key : Utf8) (ps : List (Pair Bson)) → false ≡ list_any (bytes_eq key) (texts_of ps) → None ≡ lookup key (listed_pairs ps)
+pub lookup_new : (key : Utf8) (ps : List (Pair Bson)) → false ≡ list_any (bytes_eq key) (key_texts ps) → None ≡ lookup key (listed_pairs ps)
 lookup_new key [] h = refl
 lookup_new key (p ∷ ps) h =
-    let n = neither (bytes_eq key (string_bytes p.key)) (list_any (bytes_eq key) (texts_of ps)) h in
+    let n = neither (bytes_eq key (string_bytes p.key)) (list_any (bytes_eq key) (key_texts ps)) h in
     lookup_new key ps (sym n.1) ∙ ap (λ b. if b then Some (tree_of p.value) else lookup key (listed_pairs ps)) (sym n.0)
 
 -- and nothing is removed
-pub without_new : (key : Utf8) (ps : List (Pair Bson)) → false ≡ list_any (bytes_eq key) (texts_of ps) → listed_pairs ps ≡ without key (listed_pairs ps)
+pub without_new : (key : Utf8) (ps : List (Pair Bson)) → false ≡ list_any (bytes_eq key) (key_texts ps) → listed_pairs ps ≡ without key (listed_pairs ps)
 without_new key [] h = refl
 without_new key (p ∷ ps) h =
-    let n = neither (bytes_eq key (string_bytes p.key)) (list_any (bytes_eq key) (texts_of ps)) h in
+    let n = neither (bytes_eq key (string_bytes p.key)) (list_any (bytes_eq key) (key_texts ps)) h in
     ap (pair (string_bytes p.key) (tree_of p.value)) (without_new key ps (sym n.1))
     ∙ ap (λ b. if b then listed_pairs ps else pair (string_bytes p.key) (tree_of p.value) (without key (listed_pairs ps))) (sym n.0)
 
 -- and a pair of it goes last
-pub put_new : (ps : List (Pair Bson)) (q : Pair Bson) → false ≡ list_any (bytes_eq (string_bytes q.key)) (texts_of ps) → listed_pairs (ps ++ q ∷ []) ≡ put (string_bytes q.key) (tree_of q.value) (listed_pairs ps)
+pub put_new : (ps : List (Pair Bson)) (q : Pair Bson) → false ≡ list_any (bytes_eq (string_bytes q.key)) (key_texts ps) → listed_pairs (ps ++ q ∷ []) ≡ put (string_bytes q.key) (tree_of q.value) (listed_pairs ps)
 put_new [] q h = refl
 put_new (p ∷ ps) q h =
     let key = string_bytes q.key in
-    let n = neither (bytes_eq key (string_bytes p.key)) (list_any (bytes_eq key) (texts_of ps)) h in
+    let n = neither (bytes_eq key (string_bytes p.key)) (list_any (bytes_eq key) (key_texts ps)) h in
     ap (pair (string_bytes p.key) (tree_of p.value)) (put_new ps q (sym n.1))
     ∙ ap (λ b. if b then pair (string_bytes p.key) (tree_of q.value) (listed_pairs ps) else pair (string_bytes p.key) (tree_of p.value) (put key (tree_of q.value) (listed_pairs ps))) (sym n.0)
 
@@ -158,15 +154,15 @@ pairs_more copies ps c i d lt so_far key value =
     listed_pairs-push copies c ∙ (λ j. push_pair (so_far j) (key j) (value j)) ∙ sym (listed_pairs-push (take i ps) (get_or ps i d)) ∙ ap listed_pairs (sym (take_more ps i d lt))
 
 -- the same keys
-pub texts_same : (ps qs : List (Pair Bson)) → listed_pairs ps ≡ listed_pairs qs → texts_of ps ≡ texts_of qs
+pub texts_same : (ps qs : List (Pair Bson)) → listed_pairs ps ≡ listed_pairs qs → key_texts ps ≡ key_texts qs
 texts_same ps qs e = keys-pairs ps ∙ ap keys_of e ∙ sym (keys-pairs qs)
 
 -- a key is none of those before it
-pub new_pair : (copies ps : List (Pair Bson)) (i : ℕ) (p : Pair Bson) → i < length ps → p ≡ get_or ps i p → IsDistinct bytes_eq (texts_of ps) → listed_pairs copies ≡ listed_pairs (take i ps)
-    → list_any (bytes_eq (string_bytes p.key)) (texts_of copies) ≡ false
+pub new_pair : (copies ps : List (Pair Bson)) (i : ℕ) (p : Pair Bson) → i < length ps → p ≡ get_or ps i p → IsDistinct bytes_eq (key_texts ps) → listed_pairs copies ≡ listed_pairs (take i ps)
+    → list_any (bytes_eq (string_bytes p.key)) (key_texts copies) ≡ false
 new_pair copies ps i p lt is h so_far =
-    let within : i < length (texts_of ps) = subst (λ n. i < n) (sym (length-texts ps)) lt in
+    let within : i < length (key_texts ps) = subst (λ n. i < n) (sym (length-texts ps)) lt in
     let key = sym (text_at ps i p lt is) in
     let before = texts_same copies (take i ps) so_far ∙ sym (take-map (λ (q : Pair Bson). string_bytes q.key) i ps) in
     (λ j. list_any (bytes_eq (key j)) (before j))
-    ∙ new_at (texts_of ps) i (string_bytes p.key) h within
+    ∙ new_at (key_texts ps) i (string_bytes p.key) h within

@@ -45,7 +45,7 @@ abbrev mutual
   row_of end_of-Bson = no_trees
   row_of (more_of-Bson b rest) = tree (tree_of b) (row_of rest)
 
-  -- each key with its value; there are as many keys as values
+  -- each key with its value. A document has as many keys as values, so the second row is never reached.
   pub pairs_row : {m : _} → List (Key × Unit {0}) → Row_of-Bson m → Pairs
   pairs_row [] row = no_pairs
   pairs_row (k ∷ ks) end_of-Bson = no_pairs
@@ -56,11 +56,12 @@ abbrev pub trees_of : List Bson → Trees
 trees_of [] = no_trees
 trees_of (b ∷ bs) = tree (tree_of b) (trees_of bs)
 
--- the pairs of a document
+-- the pairs of a `Vec` or a slice
 abbrev pub listed_pairs : List (Pair Bson) → Pairs
 listed_pairs [] = no_pairs
 listed_pairs (p ∷ ps) = pair (string_bytes p.key) (tree_of p.value) (listed_pairs ps)
 
+-- the pairs of a document
 abbrev pub pairs_of : Document → Pairs
 pairs_of d = listed_pairs d.0
 

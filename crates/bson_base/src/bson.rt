@@ -142,7 +142,7 @@ impl Bson {
 // Values equal to these, in order.
 #[cycle(copy)]
 #[tactic(auto, using(crate::proofs::Rows::row_items, crate::proofs::Rows::row_pairs))]
-pub(crate) fn copies_of(alloc: Global, values: &[Bson]) -> Result<Vec<Bson>, AllocError>
+fn copies_of(alloc: Global, values: &[Bson]) -> Result<Vec<Bson>, AllocError>
     ensures { IfOk result (λ copies. trees_of copies.items ≡ trees_of values.now) }
 {
     let mut copies = Vec::new(alloc);

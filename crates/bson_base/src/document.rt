@@ -24,7 +24,7 @@ impl Document {
         Document::with_seed(alloc, KeySeed::new())
     }
 
-    /// The empty document, whose keys are found by hashes that begin with the seed. It takes no memory.
+    /// The empty document. Where it comes to have more than eight keys, they are found by hashes that begin with the seed. It takes no memory.
     ///
     /// Where keys come from outside, the seed is best that of the bytes that they came in: see `KeySeed`.
     pub fn with_seed(alloc: Global, seed: KeySeed) -> Document
@@ -66,6 +66,7 @@ impl Document {
     /// The keys in order, borrowed. It takes no memory.
     pub fn keys(&self) -> Keys<'_>
         ensures keys { result ≡ keys_of (pairs_of self.now) }
+        ensures distinct { AreDistinct (pairs_of self.now) }
     {
         Keys::over(self.0.as_slice())
     }
@@ -118,6 +119,7 @@ impl Document {
     /// The pairs in order, borrowed. It takes no memory.
     pub fn iter(&self) -> Iter<'_>
         ensures pairs { result ≡ pairs_of self.now }
+        ensures distinct { AreDistinct (pairs_of self.now) }
     {
         Iter::over(self.0.as_slice())
     }
@@ -132,8 +134,9 @@ impl Document {
     pub fn try_clone(&self, alloc: Global) -> Result<Document, AllocError>
         ensures equal { IfOk result (λ d. pairs_of d ≡ pairs_of self.now) }
     {
-        let mut pairs = KeyMap::with_seed(alloc, self.0.seed());
-        for pair in self.0.as_slice() {
+        let own = self.0.as_slice();
+        let mut pairs = KeyMap::with_capacity(alloc, self.0.seed(), own.len())?;
+        for pair in own {
             let key = String::from_str(alloc, &pair.key)?;
             pairs.push(key, pair.value.try_clone(alloc)?)?;
         }

@@ -1,7 +1,7 @@
 ghost use Rattle.std.specs.Prelude.{◌≡◌, length};
 ghost use Rattle.std.specs.Iterator.{at_most};
 ghost use Rattle.std.specs.Vec.Iter.{into_iter_items, into_iter_len};
-ghost use Rattle.bson_key_map.specs.Keys.{texts_of};
+ghost use Rattle.bson_key_map.specs.Keys.{key_texts};
 ghost use Rattle.bson_base.specs.Pairs.{count};
 ghost use Rattle.bson_base.specs.Next.{IsNext, IsNextKey, IsTaken};
 ghost use Rattle.bson_base.specs.BsonView.{listed_pairs};
@@ -61,17 +61,17 @@ pub struct Keys<'a> {
 impl<'a> Model for Keys<'a> {
     ghost use Rattle.std.specs.Prelude.{List};
     ghost use Rattle.bson_kinds.specs.Text.{Utf8};
-    ghost use Rattle.bson_key_map.specs.Keys.{texts_of};
+    ghost use Rattle.bson_key_map.specs.Keys.{key_texts};
 
     ghost Value = { List Utf8 };
 
-    ghost view = { λ k. texts_of k.left.now };
+    ghost view = { λ k. key_texts k.left.now };
 }
 
 impl<'a> Keys<'a> {
     // Over the keys of these pairs.
     pub(crate) fn over(pairs: &'a [Pair<Bson>]) -> Keys<'a>
-        ensures { result ≡ texts_of pairs.now }
+        ensures { result ≡ key_texts pairs.now }
     {
         Keys { left: pairs }
     }

@@ -3,8 +3,6 @@ use Rattle.std.proofs.Common.{◌≡◌, ℕ, suc, ◌+◌, ◌<◌, ◌≤◌, 
 use Rattle.std.specs.Prelude.{not, ◌||◌}
 use Rattle.std.specs.List.{list_any, position, position_or_len}
 use Rattle.std.proofs.lemmas.Grind.{common_steps}
-use Rattle.std.proofs.lemmas.List.Folds.{list_any_at}
-use Rattle.std.proofs.lemmas.List.Quantifiers.{position-Some}
 use Rattle.std.proofs.lemmas.List.Sums.{prefix_len-drop_yes, prefix_len-drop_no, prefix_len-le-length}
 use Rattle.std.specs.Str.{bytes_eq}
 use Rattle.bson_kinds.specs.Text.{Utf8}
@@ -27,12 +25,6 @@ none_from n m h = grind (arith, common_steps)
 pub not_found : (text : Utf8) (texts : List Utf8) (i : ℕ) → length texts ≤ i → IsPassed text texts i → None ≡ position (bytes_eq text) texts
 not_found text texts i least so_far =
     none_from (position_or_len (bytes_eq text) texts) (length texts) (omega (arith, so_far, least))
-
-pub is_there : (text : Utf8) (texts : List Utf8) (i : ℕ) → Some i ≡ position (bytes_eq text) texts → true ≡ list_any (bytes_eq text) texts
-is_there text [] i e = absurd cc
-is_there text (k ∷ texts) i e =
-    let h = position-Some (bytes_eq text) (k ∷ texts) i k (sym e) in
-    sym (list_any_at (bytes_eq text) (k ∷ texts) i k h.0 (h.1))
 
 -- where a key is not there, its place is behind all texts
 pub behind : (text : Utf8) (texts : List Utf8) → None ≡ position (bytes_eq text) texts → length texts ≡ position_or_len (bytes_eq text) texts

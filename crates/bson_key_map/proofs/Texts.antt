@@ -1,5 +1,5 @@
 -- The texts of keys, and of pairs.
-use Rattle.std.proofs.Common.{◌≡◌, ℕ, zero, suc, ◌<◌, ◌+◌, List, [], ◌∷◌, ◌++◌, length, get_or, take, Bool, true, false, refl, ap, sym, ◌∙◌, cond, string_bytes, arith}
+use Rattle.std.proofs.Common.{◌≡◌, ℕ, zero, suc, ◌<◌, ◌+◌, List, [], ◌∷◌, ◌++◌, length, get_or, take, false, refl, ap, sym, ◌∙◌, cond, string_bytes, arith}
 use Rattle.std.specs.Prelude.{map, remove, slice_get, slice_set, Option, Some, None, ◌||◌, not, nat_lt, if◌then◌else◌}
 use Rattle.std.specs.List.{list_any, position, position_or_len, AllByRecursion, IsDistinct}
 use Rattle.std.specs.Cmp.{IsEquivalence, decided}
@@ -8,17 +8,17 @@ use Rattle.std.specs.String.{string_eq}
 use Rattle.std.proofs.lemmas.List.{get_or-map, map-append, length-map}
 use Rattle.std.proofs.lemmas.Slice.Eq.{bytes_eq-Decides}
 use Rattle.bson_kinds.specs.Text.{Utf8}
-use Rattle.bson_key_map.specs.Keys.{Key, texts_of, with_text, with_value}
+use Rattle.bson_key_map.specs.Keys.{Key, key_texts, pair_with}
 use Rattle.bson_key_map.specs.declared.pair.Pair.{Pair}
 
 pub bytes_eq_equiv : IsEquivalence bytes_eq
 bytes_eq_equiv = decided bytes_eq bytes_eq-Decides
 
-pub length-texts : {V : Type 0} (ps : List (Pair V)) → length (texts_of ps) ≡ length ps
+pub length-texts : {V : Type 0} (ps : List (Pair V)) → length (key_texts ps) ≡ length ps
 length-texts ps = length-map ps (λ p. string_bytes p.key)
 
 -- the text of the key at a place
-pub text_at : {V : Type 0} (ps : List (Pair V)) (i : ℕ) (p : Pair V) → i < length ps → p ≡ get_or ps i p → get_or (texts_of ps) i (string_bytes p.key) ≡ string_bytes p.key
+pub text_at : {V : Type 0} (ps : List (Pair V)) (i : ℕ) (p : Pair V) → i < length ps → p ≡ get_or ps i p → get_or (key_texts ps) i (string_bytes p.key) ≡ string_bytes p.key
 text_at ps i p lt is = get_or-map (λ p. string_bytes p.key) ps i p (string_bytes p.key) lt ∙ ap (λ q. string_bytes q.key) (sym is)
 
 pub remove-map : {X Y : Type 0} (f : X → Y) (xs : List X) (i : ℕ) → remove (map f xs) i ≡ map f (remove xs i)
@@ -31,15 +31,10 @@ any_text : (key : Key) (ks : List Key) → list_any (string_eq key) ks ≡ list_
 any_text key [] = refl
 any_text key (k ∷ ks) = ap (λ b. string_eq key k || b) (any_text key ks)
 
-inserted_by : (b : Bool) (key : Key) (ks : List Key) → map string_bytes (if b then ks else ks ++ key ∷ []) ≡ (if b then map string_bytes ks else map string_bytes ks ++ string_bytes key ∷ [])
-inserted_by true key ks = refl
-inserted_by false key ks = map-append string_bytes ks (key ∷ [])
-
--- a key that is inserted in a set of keys, by its text
-pub inserted : (key : Key) (ks : List Key) → map string_bytes (if list_any (string_eq key) ks then ks else ks ++ key ∷ []) ≡ with_text (string_bytes key) (map string_bytes ks)
-inserted key ks =
-    inserted_by (list_any (string_eq key) ks) key ks
-    ∙ ap (λ b. if b then map string_bytes ks else map string_bytes ks ++ string_bytes key ∷ []) (any_text key ks)
+-- a new key at the end of a set of keys, by its text
+pub inserted : (key : Key) (ks : List Key) → list_any (bytes_eq (string_bytes key)) (map string_bytes ks) ≡ false
+    → map string_bytes (if list_any (string_eq key) ks then ks else ks ++ key ∷ []) ≡ map string_bytes ks ++ string_bytes key ∷ []
+inserted key ks new = ap (λ b. map string_bytes (if b then ks else ks ++ key ∷ [])) (any_text key ks ∙ new) ∙ map-append string_bytes ks (key ∷ [])
 
 place_or_len : (text : Utf8) (ks : List Key) → position_or_len (λ k. bytes_eq text (string_bytes k)) ks ≡ position_or_len (bytes_eq text) (map string_bytes ks)
 place_or_len text [] = refl
@@ -69,14 +64,14 @@ distinct_removed [] (suc i) h = tt
 distinct_removed (t ∷ ts) zero h = h.1
 distinct_removed (t ∷ ts) (suc i) h = (all_removed (λ u. bytes_eq t u ≡ false) ts i h.0, distinct_removed ts i h.1)
 
-abbrev text_in : {V : Type 0} → Option (Pair V) → Utf8
+abbrev pub text_in : {V : Type 0} → Option (Pair V) → Utf8
 text_in None = []
 text_in (Some p) = string_bytes p.key
 
 -- another value leaves the keys
-pub texts_set : {V : Type 0} (ps : List (Pair V)) (i : ℕ) (p : Pair V) (value : V) → slice_get ps i ≡ Some p → texts_of (slice_set ps i (with_value value p)) ≡ texts_of ps
+pub texts_set : {V : Type 0} (ps : List (Pair V)) (i : ℕ) (p : Pair V) (value : V) → slice_get ps i ≡ Some p → key_texts (slice_set ps i (pair_with value p)) ≡ key_texts ps
 texts_set [] i p value e = absurd cc
-texts_set (q ∷ ps) zero p value e = ap (λ o. text_in o ∷ texts_of ps) (sym e)
+texts_set (q ∷ ps) zero p value e = ap (λ o. text_in o ∷ key_texts ps) (sym e)
 texts_set (q ∷ ps) (suc i) p value e = ap (λ ts. string_bytes q.key ∷ ts) (texts_set ps i p value e)
 
 -- a text among distinct ones is none of those before it

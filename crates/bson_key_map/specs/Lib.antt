@@ -1,4 +1,4 @@
-pub mod Codes
 pub mod formers
 pub mod Keys
+pub mod Prover
 pub mod Stored

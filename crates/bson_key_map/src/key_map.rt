@@ -1,9 +1,9 @@
 //! A map that keeps the order of its keys.
-ghost use Rattle.std.specs.Prelude.{◌≡◌, [], ◌∷◌, ◌++◌, ◌<◌, length, remove, slice_get, slice_set, Some, false, string_bytes, IfSome, OnErr, OnOk};
+ghost use Rattle.std.specs.Prelude.{◌≡◌, [], ◌∷◌, ◌++◌, ◌<◌, length, remove, slice_get, slice_set, Some, false, string_bytes, IfOk, IfSome, OnErr, OnOk};
 ghost use Rattle.std.specs.List.{list_any, position, IsDistinct};
 ghost use Rattle.std.specs.Str.{bytes_eq};
 ghost use Rattle.std.specs.Vec.Iter.{into_iter_items, into_iter_len};
-ghost use Rattle.bson_key_map.specs.Keys.{texts_of, with_text, with_value};
+ghost use Rattle.bson_key_map.specs.Keys.{key_texts, pair_with};
 ghost use Rattle.bson_key_map.specs.Stored.{IsTableOf};
 
 use crate::key_seed::KeySeed;
@@ -13,13 +13,13 @@ use std::alloc::{AllocError, Global};
 use std::marker::Model;
 use std::{fmt, mem, vec};
 
-/// The most keys that are looked for one after another. Where there are more, a hash table finds them.
+/// How many pairs a map may have before it makes a hash table.
 const MOST_FEW: usize = 8;
 
 /// Pairs of a key and a value in order, no key twice. Contracts see it as the list of its pairs.
 ///
-/// Up to eight keys are looked for one after another. The ninth makes a hash table of copies of all keys, which stays, also when keys are removed; their hashes begin
-/// with a seed.
+/// Up to eight keys are looked for one after another. The ninth makes a hash table with copies of all keys, which stays when keys are removed. The hashes begin with a
+/// seed.
 #[derive(Drop)]
 pub struct KeyMap<V> {
     seed: KeySeed,
@@ -32,8 +32,8 @@ impl<V> Model for KeyMap<V> {
     ghost use Rattle.std.specs.Coded.{coded_list};
     ghost use Rattle.std.specs.List.{IsDistinct};
     ghost use Rattle.std.specs.Str.{bytes_eq};
-    ghost use Rattle.bson_key_map.specs.Codes.{pair_coded};
-    ghost use Rattle.bson_key_map.specs.Keys.{texts_of};
+    ghost use Rattle.bson_key_map.specs.Prover.Codes.{pair_coded};
+    ghost use Rattle.bson_key_map.specs.Keys.{key_texts};
     ghost use Rattle.bson_key_map.specs.Stored.{IsTableOf};
     ghost use Rattle.bson_key_map.specs.declared.pair.Pair.{Pair};
 
@@ -43,7 +43,7 @@ impl<V> Model for KeyMap<V> {
 
     ghost view = { λ m. m.pairs.items };
 
-    ghost invariant = { λ m. IsDistinct bytes_eq (texts_of m.pairs.items) × IsTableOf m.table m.pairs.items };
+    ghost invariant = { λ m. IsDistinct bytes_eq (key_texts m.pairs.items) × IsTableOf m.table m.pairs.items };
 }
 
 impl<V> KeyMap<V> {
@@ -58,6 +58,25 @@ impl<V> KeyMap<V> {
         }
     }
 
+    /// No pairs, with memory for so many.
+    ///
+    /// # Errors
+    ///
+    /// Memory ran out.
+    pub fn with_capacity(
+        alloc: Global,
+        seed: KeySeed,
+        capacity: usize,
+    ) -> Result<KeyMap<V>, AllocError>
+        ensures empty { IfOk result (λ m. m ≡ []) }
+    {
+        Ok(KeyMap {
+            seed,
+            pairs: Vec::with_capacity(alloc, capacity)?,
+            table: None,
+        })
+    }
+
     /// The seed of the hashes.
     pub fn seed(&self) -> KeySeed {
         self.seed
@@ -67,7 +86,7 @@ impl<V> KeyMap<V> {
     #[inline(always)]
     pub fn as_slice(&self) -> &[Pair<V>]
         ensures pairs { result.now ≡ self.now }
-        ensures unique { IsDistinct bytes_eq (texts_of self.now) }
+        ensures unique { IsDistinct bytes_eq (key_texts self.now) }
     {
         &self.pairs
     }
@@ -75,7 +94,7 @@ impl<V> KeyMap<V> {
     /// The index of a key; `None` where it is not there.
     #[inline(always)]
     pub fn get_index_of(&self, key: &str) -> Option<usize>
-        ensures index { result ≡ position (bytes_eq key.now) (texts_of self.now) }
+        ensures index { result ≡ position (bytes_eq key.now) (key_texts self.now) }
         ensures within { IfSome result (λ i. i < length self.now) }
     {
         match &self.table {
@@ -84,17 +103,18 @@ impl<V> KeyMap<V> {
         }
     }
 
-    /// Puts a value in the place of the one at an index, and returns that. It takes an index of a pair.
+    /// Replaces the value at an index, and returns the old one. The index is less than the number of pairs.
+    // A function of its own, so that inserting a new key reserves no stack for the value replaced.
     #[inline(never)]
     pub fn replace(&mut self, index: usize, value: V) -> V
         requires within { index < length self.old }
         ensures before { (p : Pair V) → slice_get self.old index ≡ Some p → result ≡ p.value }
-        ensures after { (p : Pair V) → slice_get self.old index ≡ Some p → self.new ≡ slice_set self.old index (with_value value p) }
+        ensures after { (p : Pair V) → slice_get self.old index ≡ Some p → self.new ≡ slice_set self.old index (pair_with value p) }
     {
         mem::replace(&mut self.pairs[index].value, value)
     }
 
-    /// Puts a pair last. Its key is none of those that are there.
+    /// Adds a pair at the end. Its key must be new.
     ///
     /// # Errors
     ///
@@ -103,20 +123,20 @@ impl<V> KeyMap<V> {
     pub fn push(&mut self, key: String, value: V) -> Result<(), AllocError>
     where
         V: Drop,
-        requires new { list_any (bytes_eq (string_bytes key)) (texts_of self.old) ≡ false }
+        requires new { list_any (bytes_eq (string_bytes key)) (key_texts self.old) ≡ false }
         ensures pairs { OnOk result (self.new ≡ self.old ++ record { key = key; value = value } ∷ []) }
         ensures err { OnErr result (self.new ≡ self.old) }
     {
         self.pairs.reserve(1)?;
         if self.table.is_some() || self.pairs.len() >= MOST_FEW {
             let alloc = *self.pairs.allocator();
-            insert_in_table(alloc, self.seed, &self.pairs, &mut self.table, &key)?;
+            push_to_table(alloc, self.seed, &self.pairs, &mut self.table, &key)?;
         }
         self.pairs.push(Pair { key, value })?;
         Ok(())
     }
 
-    /// Removes the pair at an index, and returns it. The pairs after it move down by one place. It takes an index of a pair.
+    /// Removes the pair at an index, and returns it. The index is less than the number of pairs. The pairs after it move down by one place.
     pub fn remove(&mut self, index: usize) -> Pair<V>
         requires within { index < length self.old }
         ensures pair { slice_get self.old index ≡ Some result }
@@ -140,7 +160,7 @@ impl<V> KeyMap<V> {
 // The index of a key among these pairs; `None` where it is not there.
 #[inline(always)]
 fn index_among<V>(key: &str, pairs: &[Pair<V>]) -> Option<usize>
-    ensures index { result ≡ position (bytes_eq key.now) (texts_of pairs.now) }
+    ensures index { result ≡ position (bytes_eq key.now) (key_texts pairs.now) }
     ensures within { IfSome result (λ i. i < length pairs.now) }
 {
     for (index, pair) in pairs.iter().enumerate() {
@@ -151,26 +171,27 @@ fn index_among<V>(key: &str, pairs: &[Pair<V>]) -> Option<usize>
     None
 }
 
-// Copies a new key to the hash table of these pairs. Where there is none yet, it makes that of all their keys.
+// Copies a new key to the hash table of these pairs. Where there is none yet, makes that of all their keys first.
 #[cold]
 #[inline(never)]
-fn insert_in_table<V>(
+fn push_to_table<V>(
     alloc: Global,
     seed: KeySeed,
     pairs: &[Pair<V>],
     table: &mut Option<KeyTable>,
     key: &str,
 ) -> Result<(), AllocError>
-    requires distinct { IsDistinct bytes_eq (texts_of pairs.now) }
+    requires distinct { IsDistinct bytes_eq (key_texts pairs.now) }
     requires table { IsTableOf table.old pairs.now }
-    ensures texts { OnOk result (table.new ≡ Some (with_text key.now (texts_of pairs.now))) }
+    requires new { list_any (bytes_eq key.now) (key_texts pairs.now) ≡ false }
+    ensures texts { OnOk result (table.new ≡ Some (key_texts pairs.now ++ key.now ∷ [])) }
     ensures err { OnErr result (IsTableOf table.new pairs.now) }
 {
     match table {
-        Some(table) => table.insert(alloc, key),
+        Some(table) => table.push(alloc, key),
         None => {
             let mut made = KeyTable::of_pairs(alloc, seed, pairs)?;
-            made.insert(alloc, key)?;
+            made.push(alloc, key)?;
             *table = Some(made);
             Ok(())
         }

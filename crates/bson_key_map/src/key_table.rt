@@ -1,8 +1,8 @@
 //! How the keys of a large document are found.
-ghost use Rattle.std.specs.Prelude.{◌≡◌, ◌<◌, length, remove, IfOk, IfSome, OnErr, OnOk};
-ghost use Rattle.std.specs.List.{position, IsDistinct};
+ghost use Rattle.std.specs.Prelude.{◌≡◌, [], ◌∷◌, ◌++◌, ◌<◌, length, remove, false, IfOk, IfSome, OnErr, OnOk};
+ghost use Rattle.std.specs.List.{list_any, position, IsDistinct};
 ghost use Rattle.std.specs.Str.{bytes_eq};
-ghost use Rattle.bson_key_map.specs.Keys.{texts_of, with_text};
+ghost use Rattle.bson_key_map.specs.Keys.{key_texts};
 
 use crate::key_seed::KeySeed;
 use crate::pair::Pair;
@@ -34,8 +34,8 @@ impl KeyTable {
         seed: KeySeed,
         pairs: &[Pair<V>],
     ) -> Result<KeyTable, AllocError>
-        requires distinct { IsDistinct bytes_eq (texts_of pairs.now) }
-        ensures texts { IfOk result (λ t. t ≡ texts_of pairs.now) }
+        requires distinct { IsDistinct bytes_eq (key_texts pairs.now) }
+        ensures texts { IfOk result (λ t. t ≡ key_texts pairs.now) }
     {
         let room = pairs.len().saturating_mul(2);
         let keys = IndexSet::with_capacity_and_hasher(alloc, room, seed)?;
@@ -43,7 +43,7 @@ impl KeyTable {
             keys: Box::new(alloc, keys)?,
         };
         for pair in pairs {
-            table.insert(alloc, &pair.key)?;
+            table.push(alloc, &pair.key)?;
         }
         Ok(table)
     }
@@ -56,9 +56,10 @@ impl KeyTable {
         self.keys.get_index_of(key)
     }
 
-    // Copies a key to the end where it is new.
-    pub(crate) fn insert(&mut self, alloc: Global, key: &str) -> Result<(), AllocError>
-        ensures texts { OnOk result (self.new ≡ with_text key.now self.old) }
+    // Copies a new key to the end.
+    pub(crate) fn push(&mut self, alloc: Global, key: &str) -> Result<(), AllocError>
+        requires new { list_any (bytes_eq key.now) self.old ≡ false }
+        ensures texts { OnOk result (self.new ≡ self.old ++ key.now ∷ []) }
         ensures err { OnErr result (self.new ≡ self.old) }
     {
         let copy = String::from_str(alloc, key)?;

@@ -6,4 +6,4 @@ mod met;
 mod places;
 
 pub use met::MetKeys;
-pub use places::Keys;
+pub use places::MapKeys;

@@ -16,7 +16,7 @@ type Places<'de> = BTreeMap<(u64, &'de str), usize>;
 
 /// The keys of a map that is read, each with its place.
 #[derive(Drop)]
-pub struct Keys<'de> {
+pub struct MapKeys<'de> {
     /// The first keys at their places, and behind them texts of no use.
     first: [&'de str; FEW],
     /// How many of the first keys there are.
@@ -25,15 +25,15 @@ pub struct Keys<'de> {
     places: Option<Box<Places<'de>>>,
 }
 
-impl<'de> Keys<'de> {
+impl<'de> MapKeys<'de> {
     ghost use Rattle.bson_keys.specs.KeysView.{key_place, HasPlacesBelow};
 
     /// No keys.
-    pub fn new() -> Keys<'de>
+    pub fn new() -> MapKeys<'de>
         ensures none { (text : Utf8) → key_place result text ≡ None }
         ensures next { HasPlacesBelow 0 result }
     {
-        Keys {
+        MapKeys {
             first: [""; FEW],
             count: 0,
             places: None,

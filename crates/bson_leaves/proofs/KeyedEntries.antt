@@ -23,7 +23,7 @@ use Rattle.bson_leaves.specs.EntriesView.{entry_place, IsIndexed}
 use Rattle.bson_keys.specs.KeysView.{key_place, HasPlacesBelow}
 use Rattle.bson_keys.specs.Places.{place_or, next_place}
 use Rattle.bson_leaves.specs.declared.entries.Entries as code
-use Rattle.bson_keys.specs.declared.places.Keys.{Keys}
+use Rattle.bson_keys.specs.declared.places.MapKeys.{MapKeys}
 use Rattle.bson_leaves.proofs.KeyTexts.{key_same}
 
 -- the first place, or the other one
@@ -152,7 +152,7 @@ module _ (e : code.Entries) (indexed : IsIndexed e) (text : Utf8) (k : Marked) (
       ∙ sym (put_last e.entries.items x (ap (λ v. entry_place (contents v) (entries_marked e.entries.items)) named ∙ among None is))
       ∙ ap (λ v. put_entry v (marked x.value) (entries_marked e.entries.items)) named
 
-  new_indexed : (x : Entry) (entries : Vec Entry) (keys : Keys) (n : ℕ) → marked x.key ≡ k → None ≡ key_place e.keys text → entries.items ≡ e.entries.items ++ x ∷ [] → n ≡ length e.entries.items → HasPlacesBelow (n + 1) keys
+  new_indexed : (x : Entry) (entries : Vec Entry) (keys : MapKeys) (n : ℕ) → marked x.key ≡ k → None ≡ key_place e.keys text → entries.items ≡ e.entries.items ++ x ∷ [] → n ≡ length e.entries.items → HasPlacesBelow (n + 1) keys
       → ((t : Utf8) → key_place keys t ≡ cond (bytes_eq text t) (Some n) (key_place e.keys t)) → IsIndexed (record { key = e.key; entries = entries; keys = keys })
   new_indexed x entries keys n named is pushed many below places = record {
     text = indexed.text;
@@ -166,7 +166,7 @@ module _ (e : code.Entries) (indexed : IsIndexed e) (text : Utf8) (k : Marked) (
   }
 
 -- Where the key of a text is there, the places of texts are what they were, and those of the entries too.
-known_indexed : (e : code.Entries) (entries : Vec Entry) (keys : Keys) (text : Utf8) (i n : ℕ) (d x : Entry) → IsIndexed e → Some i ≡ key_place e.keys text → entries.items ≡ set e.entries.items i x → marked x.key ≡ marked (get_or e.entries.items i d).key
+known_indexed : (e : code.Entries) (entries : Vec Entry) (keys : MapKeys) (text : Utf8) (i n : ℕ) (d x : Entry) → IsIndexed e → Some i ≡ key_place e.keys text → entries.items ≡ set e.entries.items i x → marked x.key ≡ marked (get_or e.entries.items i d).key
     → n ≡ length e.entries.items → HasPlacesBelow n keys → ((t : Utf8) → key_place keys t ≡ cond (bytes_eq text t) (Some i) (key_place e.keys t)) → IsIndexed (record { key = e.key; entries = entries; keys = keys })
 known_indexed e entries keys text i n d x indexed there put same_key many below places = record {
   text = indexed.text;
@@ -179,15 +179,15 @@ known_indexed e entries keys text i n d x indexed there put same_key many below 
     as_before t false other = refl
 
 -- the places where one search has found the place of a text or has given it the next one
-abbrev PutPlaces : (old new : Keys) → Utf8 → (n : ℕ) → Option ℕ → Type 0
+abbrev PutPlaces : (old new : MapKeys) → Utf8 → (n : ℕ) → Option ℕ → Type 0
 PutPlaces old new text n o = (t : Utf8) → key_place new t ≡ cond (bytes_eq text t) (Some (place_or n o)) (key_place old t)
 
-pub found_indexed : (e : code.Entries) (entries : Vec Entry) (keys : Keys) (text : Utf8) (o : Option ℕ) (i n : ℕ) (d x : Entry) → IsIndexed e → o ≡ Some i → o ≡ key_place e.keys text → entries.items ≡ set e.entries.items i x → marked x.key ≡ marked (get_or e.entries.items i d).key
+pub found_indexed : (e : code.Entries) (entries : Vec Entry) (keys : MapKeys) (text : Utf8) (o : Option ℕ) (i n : ℕ) (d x : Entry) → IsIndexed e → o ≡ Some i → o ≡ key_place e.keys text → entries.items ≡ set e.entries.items i x → marked x.key ≡ marked (get_or e.entries.items i d).key
     → n ≡ length e.entries.items → HasPlacesBelow (next_place n o) keys → PutPlaces e.keys keys text n o → IsIndexed (record { key = e.key; entries = entries; keys = keys })
 found_indexed e entries keys text o i n d x indexed is found put same_key many below places =
     known_indexed e entries keys text i n d x indexed (sym is ∙ found) put same_key many (subst (λ p. HasPlacesBelow (next_place n p) keys) is below) (subst (PutPlaces e.keys keys text n) is places)
 
-pub fresh_indexed : (e : code.Entries) → IsIndexed e → (text : Utf8) (k : Marked) → IsUtf8 text → key_value (form_view e.key) text ≡ Ok (contents k) → (x : Entry) (entries : Vec Entry) (keys : Keys) (o : Option ℕ) (n : ℕ) → marked x.key ≡ k → o ≡ None
+pub fresh_indexed : (e : code.Entries) → IsIndexed e → (text : Utf8) (k : Marked) → IsUtf8 text → key_value (form_view e.key) text ≡ Ok (contents k) → (x : Entry) (entries : Vec Entry) (keys : MapKeys) (o : Option ℕ) (n : ℕ) → marked x.key ≡ k → o ≡ None
     → o ≡ key_place e.keys text → entries.items ≡ e.entries.items ++ x ∷ [] → n ≡ length e.entries.items → HasPlacesBelow (next_place n o) keys → PutPlaces e.keys keys text n o → IsIndexed (record { key = e.key; entries = entries; keys = keys })
 fresh_indexed e indexed text k utf8 reads x entries keys o n named is found pushed many below places =
     new_indexed e indexed text k utf8 reads x entries keys n named (sym is ∙ found) pushed many (subst (λ p. HasPlacesBelow (next_place n p) keys) is below) (subst (PutPlaces e.keys keys text n) is places)

@@ -16,7 +16,7 @@ ghost use Rattle.bson_texts.specs.ListsMarked.{entries_marked};
 
 use crate::unit::unit_of;
 use bson_datum::{Datum, Entry};
-use bson_keys::Keys;
+use bson_keys::MapKeys;
 use bson_met::{MetStr, Reading};
 use bson_shape::{Form, Leaf};
 use bson_texts::character;
@@ -32,7 +32,7 @@ pub struct Entries<'s, 'de> {
     /// The entries, in the order in which their keys came first.
     entries: Vec<Entry<'de>>,
     /// The texts that their keys were read from.
-    keys: Keys<'de>,
+    keys: MapKeys<'de>,
 }
 
 impl<'s, 'de> Entries<'s, 'de> {
@@ -48,7 +48,7 @@ impl<'s, 'de> Entries<'s, 'de> {
         Entries {
             key,
             entries: Vec::new(alloc),
-            keys: Keys::new(),
+            keys: MapKeys::new(),
         }
     }
 

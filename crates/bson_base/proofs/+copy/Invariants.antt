@@ -6,4 +6,4 @@ abbrev pub invariant-bson::copies_of-loop-value : goal.invariant-bson::copies_of
 invariant-bson::copies_of-loop-value l = trees_of l.copies.items ≡ trees_of (take l.value-index l.values)
 
 abbrev pub invariant-document::Document::try_clone-loop-pair : goal.invariant-document::Document::try_clone-loop-pair
-invariant-document::Document::try_clone-loop-pair l = listed_pairs l.pairs ≡ listed_pairs (take l.pair-index l.pair-items)
+invariant-document::Document::try_clone-loop-pair l = listed_pairs l.pairs ≡ listed_pairs (take l.pair-index l.own)

@@ -1,4 +1,4 @@
--- `KeyMap` as a type that may hold the type that holds it.
+-- `KeyMap` as a type that may hold the type that holds it, by its values. The prover asks for it; nothing here says what anything means.
 use mathlib.Core.HLevel.{×_prop}
 use mathlib.Core.Path.{◌≡◌, refl, sym, ap, subst, ◌∙◌}
 use mathlib.Core.List.{List, [], ◌∷◌, map}
@@ -16,13 +16,12 @@ use Rattle.std.specs.formers.vec.Vec as vec
 use Rattle.std.specs.List.{IsDistinct, IsDistinct-prop}
 use Rattle.std.specs.Str.{bytes_eq}
 use Rattle.std.specs.declared.alloc.Global.{Global}
-use Rattle.std.specs.declared.string.String.{String}
 use Rattle.std.specs.contracts.alloc.Global as heap
 use Rattle.std.specs.contracts.string.String as string
 use Rattle.std.specs.contracts.impls.GlobalAllocator.TheImpl.{ghosts}
 use Rattle.bson_kinds.specs.Text.{Utf8}
-use Rattle.bson_key_map.specs.Codes.{key_coded, pair_coded}
-use Rattle.bson_key_map.specs.Keys.{texts_of}
+use Rattle.bson_key_map.specs.Prover.Codes.{key_coded, pair_coded}
+use Rattle.bson_key_map.specs.Keys.{Key, key_texts}
 use Rattle.bson_key_map.specs.Stored.{IsTableOf}
 use Rattle.bson_key_map.specs.declared.key_seed.KeySeed.{KeySeed}
 use Rattle.bson_key_map.specs.declared.pair.Pair.{Pair}
@@ -32,24 +31,21 @@ use Rattle.bson_key_map.specs.contracts.pair.Pair as P
 use Rattle.bson_key_map.specs.contracts.key_map.KeyMap as C
 use Rattle.bson_key_map.specs.contracts.key_map.KeyMap.TheInside as I
 
-abbrev Key : Type 0
-Key = String Global
-
--- a key beside one of g's values
-abbrev entry : Former {0} → Former {0}
-entry g = via (pair (const Key) g) (λ X. Pair (g.Of X)) (λ X p. (p.key, p.value)) (λ X v. record { key = v.0; value = v.1 }) (λ X a. refl) (λ X v. refl)
+-- a pair of a key and one of g's values
+abbrev pair_former : Former {0} → Former {0}
+pair_former g = via (pair (const Key) g) (λ X. Pair (g.Of X)) (λ X p. (p.key, p.value)) (λ X v. record { key = v.0; value = v.1 }) (λ X a. refl) (λ X v. refl)
 
 abbrev on_value : {X Y : Type 0} → (X → Y) → Pair X → Pair Y
 on_value h p = record { key = p.key; value = h p.value }
 
-texts_kept : {X Y : Type 0} (h : X → Y) (ps : List (Pair X)) → texts_of (map (on_value h) ps) ≡ texts_of ps
+texts_kept : {X Y : Type 0} (h : X → Y) (ps : List (Pair X)) → key_texts (map (on_value h) ps) ≡ key_texts ps
 texts_kept h [] = refl
 texts_kept h (p ∷ ps) = ap (λ ts. string_bytes p.key ∷ ts) (texts_kept h ps)
 
 -- the invariant is a proposition, and the same along `map`
 IsTableOf-prop : {X : Type 0} (t : Option (List Utf8)) (ps : List (Pair X)) → IsProp (IsTableOf t ps)
 IsTableOf-prop None ps = λ p q. refl
-IsTableOf-prop (Some texts) ps = Coded-set (coded_list (coded_list coded_ℕ)) texts (texts_of ps)
+IsTableOf-prop (Some texts) ps = Coded-set (coded_list (coded_list coded_ℕ)) texts (key_texts ps)
 
 IsTableOf-to : {X Y : Type 0} (h : X → Y) (t : Option (List Utf8)) (ps : List (Pair X)) → IsTableOf t ps → IsTableOf t (map (on_value h) ps)
 IsTableOf-to h None ps e = tt
@@ -60,13 +56,13 @@ IsTableOf-from h None ps e = tt
 IsTableOf-from h (Some texts) ps e = e ∙ texts_kept h ps
 
 abbrev pub the_former : Former {0} → Former {0}
-the_former g = list (entry g)
+the_former g = list (pair_former g)
 
-abbrev entry_weighed : {g : Former {0}} → Weighed g → Weighed (entry g)
-entry_weighed w = record { weight = λ X μ p. (w_pair (w_const Key) w).weight X μ (p.key, p.value); puts = λ X μ p. (w_pair (w_const Key) w).puts X μ (p.key, p.value) }
+abbrev pair_weighed : {g : Former {0}} → Weighed g → Weighed (pair_former g)
+pair_weighed w = record { weight = λ X μ p. (w_pair (w_const Key) w).weight X μ (p.key, p.value); puts = λ X μ p. (w_pair (w_const Key) w).puts X μ (p.key, p.value) }
 
 abbrev pub the_weighed : {g : Former {0}} → Weighed g → Weighed (the_former g)
-the_weighed w = w_list (entry_weighed w)
+the_weighed w = w_list (pair_weighed w)
 
 pub the_empty : List (Pair ⊥)
 the_empty = []
@@ -79,7 +75,7 @@ the_items_listed X [] = refl
 the_items_listed X (p ∷ d) = ap (λ l. p.value ∷ l) (the_items_listed X d)
 
 abbrev fields : Former {0}
-fields = via (pair (const KeySeed) (pair (vec.the_former (entry this) Global) (const (Option (List Utf8))))) Inside (λ X a. (a.seed, (a.pairs, a.table))) (λ X v. record { seed = v.0; pairs = v.1.0; table = v.1.1 }) (λ X a. refl) (λ X v. refl)
+fields = via (pair (const KeySeed) (pair (vec.the_former (pair_former this) Global) (const (Option (List Utf8))))) Inside (λ X a. (a.seed, (a.pairs, a.table))) (λ X v. record { seed = v.0; pairs = v.1.0; table = v.1.1 }) (λ X a. refl) (λ X v. refl)
 
 module _ (R S : RattleType) (h : R.Denot → S.Denot) where
   pair_places : Alike R S h → Alike (P.the_row R) (P.the_row S) (on_value h)

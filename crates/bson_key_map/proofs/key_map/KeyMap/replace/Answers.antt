@@ -1,7 +1,7 @@
 use Rattle.std.proofs.Common.{◌≡◌, ◌∙◌, ◌<◌, length, ap, sym, subst}
 use Rattle.std.specs.Prelude.{slice_get, slice_set, Some}
 use Rattle.std.proofs.lemmas.Option.{slice_get-get_or, get_or_from_slice_get}
-use Rattle.bson_key_map.specs.Keys.{with_value}
+use Rattle.bson_key_map.specs.Keys.{pair_with}
 use Rattle.bson_key_map.proofs.Tables.{kept_same}
 use Rattle.bson_key_map.proofs.Texts.{texts_set}
 use Rattle.bson_key_map.proofs.key_map.KeyMap.replace.Goals as goal
@@ -24,4 +24,4 @@ pub returns-clause-after : goal.returns-clause-after
 returns-clause-after g c p is =
     let ps = c.self.inside.pairs.items in
     let at : c.index_mut.result.now ≡ p = c.index_mut.ensures.value ∙ get_or_from_slice_get ps c.args.index p c.index_mut.result.now (ap (λ qs. slice_get qs c.args.index) c.self.view_is ∙ is) in
-    λ i. slice_set (c.self.view_is i) c.args.index (with_value (c.replace.ensures.after i) (at i))
+    λ i. slice_set (c.self.view_is i) c.args.index (pair_with (c.replace.ensures.after i) (at i))

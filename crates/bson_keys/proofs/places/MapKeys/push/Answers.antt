@@ -4,7 +4,7 @@ use Rattle.std.specs.Str.{bytes_eq}
 use Rattle.bson_keys.specs.Places.{place_in_tree}
 use Rattle.bson_keys.specs.KeysView.{place_found}
 use Rattle.bson_keys.proofs.KeyPlaces.{texts_of, few_more}
-use Rattle.bson_keys.proofs.places.Keys.push.Goals as goal
+use Rattle.bson_keys.proofs.places.MapKeys.push.Goals as goal
 
 pub returns-in-Some-clause-places : goal.returns-in-Some-clause-places
 returns-in-Some-clause-places c = λ text.

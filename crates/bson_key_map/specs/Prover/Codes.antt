@@ -1,15 +1,11 @@
--- The code of a pair, from that of its value.
+-- How the logic stores a pair, from how it stores its value.
 use Rattle.std.specs.Coded.{Coded, code_by, coded×}
 use mathlib.Core.Path.{refl}
-use Rattle.std.specs.declared.alloc.Global.{Global}
-use Rattle.std.specs.declared.string.String.{String}
 use Rattle.std.specs.contracts.alloc.Global as heap
 use Rattle.std.specs.contracts.string.String as string
 use Rattle.std.specs.contracts.impls.GlobalAllocator.TheImpl.{ghosts}
+use Rattle.bson_key_map.specs.Keys.{Key}
 use Rattle.bson_key_map.specs.declared.pair.Pair.{Pair}
-
-abbrev pub Key : Type 0
-Key = String Global
 
 abbrev pub key_coded : Coded Key
 key_coded = (string.the_row heap.the_row ghosts).coded

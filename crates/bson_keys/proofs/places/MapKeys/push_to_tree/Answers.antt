@@ -3,7 +3,7 @@ use Rattle.std.specs.Prelude.{option_map, box_value}
 use Rattle.std.specs.Str.{bytes_eq}
 use Rattle.bson_keys.specs.Places.{place_in_tree}
 use Rattle.bson_keys.proofs.KeyPlaces.{few_all}
-use Rattle.bson_keys.proofs.places.Keys.push_to_tree.Goals as goal
+use Rattle.bson_keys.proofs.places.MapKeys.push_to_tree.Goals as goal
 
 pub returns-clause-places : goal.returns-clause-places
 returns-clause-places c = λ text.
