@@ -1,5 +1,5 @@
--- A variant whose contents are refused.
-use Rattle.std.proofs.Common.{◌≡◌, ℕ, zero, suc, ◌-◌, Ok, refl, subst, arith}
+-- A variant whose contents are made, and one whose contents are refused.
+use Rattle.std.proofs.Common.{◌≡◌, ℕ, zero, suc, ◌-◌, Ok, refl, ap, sym, subst, ◌∙◌, arith}
 use Rattle.bson_kinds.specs.Outcome.{◌>>=◌, result_map}
 use Rattle.bson_kinds.specs.Text.{Utf8}
 use Rattle.bson_base.specs.Tree.{Tree, document, no_pairs, pair}
@@ -18,3 +18,10 @@ variant_stops name (suc n) content s t left u h =
     let here = subst (λ m. StopsAs s (content m)) less h in
     stops_map t document (under name (content n) >>= λ x. Ok (pair name x no_pairs))
     (stops_bind t (under name (content n)) (λ x. Ok (pair name x no_pairs)) (stops_inside (at_key name) s t (content n) u here))
+
+pub variant_made : (name : Utf8) (levels : ℕ) (content : ℕ → Writing Tree) (inside whole : Tree) → (levels ≡ 0 → ⊥) → content (levels - 1) ≡ Ok inside → whole ≡ document (pair name inside no_pairs) → tree_variant name levels content ≡ Ok whole
+variant_made name zero content inside whole left h is = absurd (left refl)
+variant_made name (suc n) content inside whole left h is =
+    let less : suc n - 1 ≡ n = omega arith in
+    let here : content n ≡ Ok inside = subst (λ m. content m ≡ Ok inside) less h in
+    ap (λ r. result_map document (under name r >>= λ t. Ok (pair name t no_pairs))) here ∙ ap Ok (sym is)

@@ -1,7 +1,8 @@
 use Rattle.std.proofs.Common.{◌≡◌, suc, ◌+◌, ◌<◌, ◌≤◌, ◌∷◌, length, drop, get_or, arith, ap, sym, subst, ◌∙◌, add-one, drop-cons}
 use Rattle.std.proofs.lemmas.List.{drop_all}
 use Rattle.bson_base.specs.Folded.{fold}
-use Rattle.bson_base.specs.Tree.{array, no_pairs}
+use Rattle.bson_base.specs.BsonView.{tree_of}
+use Rattle.bson_base.specs.Tree.{array, document, no_pairs, pair}
 use Rattle.bson_values.specs.TextView.{text_view}
 use Rattle.bson_values.specs.Value.{item, tuple_variant, structure, structure_variant}
 use Rattle.bson_datum.specs.View.{view, items_view, fields_view}
@@ -10,7 +11,7 @@ use Rattle.bson_laws.specs.Spell.{enclosed_at}
 use Rattle.bson_tree_laws.specs.TreeSpell.{tree_items, tree_fields}
 use Rattle.bson_ser_tree.proofs.Arms.{makes_as, makes_array, makes_struct}
 use Rattle.bson_ser_tree.proofs.Before.{before_step, before_end}
-use Rattle.bson_ser_tree.proofs.VariantContents.{variant_stops}
+use Rattle.bson_ser_tree.proofs.VariantContents.{variant_made, variant_stops}
 use Rattle.bson_ser_tree.proofs.value.+build.Goals as goal
 
 pub item_trees-loop-index-preserved : goal.item_trees-loop-index-preserved
@@ -27,6 +28,12 @@ item_trees-returns t c =
     let xs = c.args.items.now in
     let i = c.loop-index.index in
     before_end c.args.readable i c.args.levels (items_view (drop i xs)) c.loop-index.trees.items _ c.loop-index.invariant (ap items_view (drop_all i xs c.loop-index-test.false))
+
+pub struct_variant-returns-in_ok-variant-in-Ok : goal.struct_variant-returns-in_ok-variant-in-Ok
+struct_variant-returns-in_ok-variant-in-Ok t c =
+    let inside = tree_of c.in-Ok.tree in
+    variant_made c.args.name.now c.args.levels (λ inside. enclosed_at fold inside (tree_fields c.args.readable _ (fields_view c.args.fields.now) no_pairs)) inside (tree_of c.in_ok-variant-in-Ok.field-0) c.if-levels-eq0.false c.in-Ok.ensures
+    (c.in_ok-variant-in-Ok.ensures ∙ ap (λ name. document (pair name inside no_pairs)) c.in_ok-from_str-in-Ok.ensures.ok)
 
 pub struct_variant-returns-in-Err : goal.struct_variant-returns-in-Err
 struct_variant-returns-in-Err t c =
