@@ -418,7 +418,7 @@ def main(crate, paths):
         specs = os.path.join(os.path.dirname(os.path.dirname(os.path.abspath(path))), "specs")
         with open(f"{specs}/{home}.antt", "w", encoding="utf-8") as file:
             head = uses(lines, crate, module, name, names, not struct)
-            file.write("\n".join([f"-- What a `{name}` is written as, read from and contains.", *head, "", *lines]) + "\n")
+            file.write("\n".join([f"-- What a `{name}` is written as, read from and contains. Source: serde's data model.", *head, "", *lines]) + "\n")
         code = struct_code(name, parts) if struct else enum_code(name, parts)
         with open(path, "w", encoding="utf-8") as file:
             file.write(imports(code) + ("" if whole.startswith("use ") else "\n") + whole.rstrip("\n") + "\n" + impls(crate, home, name, code))

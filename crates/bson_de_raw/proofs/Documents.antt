@@ -1,12 +1,11 @@
 -- The failure of a whole document.
 use Rattle.std.proofs.Common.{Option, Some, None, ap, sym, subst, ◌∙◌}
 use Rattle.std.specs.Prelude.{Err}
-use Rattle.bson_values.specs.Refusal.{ReadFault, Refusal, Failure, no_memory, bare, placed}
+use Rattle.bson_values.specs.Refusal.{ReadFault, Refusal, Failure, no_memory, bare, placed, FailsAs}
 use Rattle.bson_values.specs.Stop.{IsPlaced}
 use Rattle.bson_laws.specs.Judged.{Reading}
 use Rattle.bson_laws.specs.Reads.{answered}
 use Rattle.bson_met.specs.Gives.{RefusesAs}
-use Rattle.bson_de_raw.specs.Gives.{FailsAs}
 
 pub placed_as : {A : Type 0} (o : Option (Refusal ReadFault)) (f : Failure ReadFault) (r : Reading A) → IsPlaced o f → RefusesAs o r → FailsAs f (answered r)
 placed_as None f r p h = subst (λ g. FailsAs g (answered r)) (sym p) tt

@@ -5,7 +5,7 @@ use Rattle.bson_kinds.specs.Text.{Bytes}
 use Rattle.bson_base.specs.Tree.{Tree, enc}
 use Rattle.bson_shape.specs.Form.{Form, no_fields}
 use Rattle.bson_shape.specs.Makers.{IsShape}
-use Rattle.bson_values.specs.Refusal.{ReadFault, Failure, no_memory, bare, placed}
+use Rattle.bson_values.specs.Refusal.{ReadFault, Failure, no_memory, bare, placed, FailsAs}
 use Rattle.bson_values.specs.ErrorView.{read_failure}
 use Rattle.bson_values.specs.Value.{Value}
 use Rattle.bson_datum.specs.View.{view}
@@ -20,7 +20,7 @@ use Rattle.bson_datum.specs.MarkedView.{marked}
 use Rattle.bson_datum.proofs.Marks.{marked-contents}
 use Rattle.bson_laws.specs.Reads.{reads_document, reads_marked}
 use Rattle.bson_laws.proofs.AtShapes.{means_read}
-use Rattle.bson_de_raw.specs.Gives.{FailsAs, Gives, GivesValue}
+use Rattle.bson_de_raw.specs.Gives.{Gives, GivesValue}
 use Rattle.bson_de_raw.specs.ReadsLossy.{reads_lossy_marked, reads_lossy}
 
 -- where the answer is a value, only out of memory fails

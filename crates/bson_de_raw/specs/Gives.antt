@@ -1,17 +1,11 @@
 -- What a reader of whole documents returns: what the definition of reading answers, or out of memory. Source: this library's own errors.
 use Rattle.std.specs.Prelude.{◌≡◌, Result, Ok, Err}
-use Rattle.bson_values.specs.Refusal.{ReadFault, Failure, no_memory, bare, placed}
+use Rattle.bson_values.specs.Refusal.{ReadFault, Failure, no_memory, bare, placed, FailsAs}
 use Rattle.bson_values.specs.Value.{Value}
 use Rattle.bson_datum.specs.View.{view}
 use Rattle.bson_values.specs.ErrorView.{read_failure}
 use Rattle.bson_datum.specs.declared.datum.Datum.{Datum}
 use Rattle.bson_values.specs.declared.de.Error.{Error}
-
--- the answer is this failure; nothing is said where memory ran out
-abbrev pub FailsAs : {Y : Type 0} → Failure ReadFault → Result Y (Failure ReadFault) → Type 0
-FailsAs no_memory answer = Unit {0}
-FailsAs (bare f) answer = answer ≡ Err (bare f)
-FailsAs (placed path f) answer = answer ≡ Err (placed path f)
 
 -- A reader of whole documents gives what is answered, its value seen so, or its failure; or memory ran out.
 abbrev pub Gives : {X Y : Type 0} → (X → Y) → Result X Error → Result Y (Failure ReadFault) → Type 0

@@ -4,9 +4,9 @@ use Rattle.bson_kinds.specs.Outcome.{◌>>=◌}
 use Rattle.bson_kinds.specs.Text.{Bytes}
 use Rattle.bson_io.specs.Ends.{Rose}
 use Rattle.bson_values.specs.ErrorView.{read_failure}
-use Rattle.bson_values.specs.Refusal.{ReadFault, Failure, no_memory, bare, placed, io, invalid_utf8_string, unrecognized_element_type, end_of_stream, unreadable}
+use Rattle.bson_values.specs.Refusal.{ReadFault, Failure, no_memory, bare, placed, io, invalid_utf8_string, unrecognized_element_type, end_of_stream, unreadable, FailsAs}
 use Rattle.bson_values.specs.declared.de.Error.{Error}
-use Rattle.bson_de_raw.specs.Gives.{FailsAs, Gives}
+use Rattle.bson_de_raw.specs.Gives.{Gives}
 use Rattle.bson_source.specs.FirstDocument.{first_document}
 use Rattle.bson_source.specs.FromSource.{IsAll, Stops, Ends, ReadsOne, read_first}
 

@@ -8,7 +8,7 @@ use Rattle.bson_shape.specs.Form.{Form, no_fields}
 use Rattle.bson_shape.specs.Makers.{IsShape}
 use Rattle.bson_values.specs.Marked.{Marked, contents}
 use Rattle.bson_datum.specs.MarkedView.{marked}
-use Rattle.bson_values.specs.Refusal.{ReadFault, Refusal, Failure}
+use Rattle.bson_values.specs.Refusal.{ReadFault, Refusal, Failure, FailsAs}
 use Rattle.bson_values.specs.Value.{Value}
 use Rattle.bson_datum.specs.View.{view}
 use Rattle.bson_datum.specs.declared.datum.Datum.{Datum}
@@ -32,7 +32,7 @@ use Rattle.bson_moved.specs.Simple.{is_simple}
 use Rattle.bson_moved.proofs.Plain.{plain, suits, alone}
 use Rattle.bson_met.specs.Gives.{RefusesAs}
 use Rattle.bson_met.proofs.Refusals.{StopsAs, stops_map}
-use Rattle.bson_de_raw.specs.Gives.{FailsAs, Gives, GivesValue}
+use Rattle.bson_de_raw.specs.Gives.{Gives, GivesValue}
 use Rattle.bson_de_raw.proofs.ReadBack.{gives_value}
 use Rattle.bson_de_tree.specs.Bare.{IsBare}
 

@@ -13,7 +13,7 @@ use Rattle.bson_shape.specs.ShapeView.{fields_of, variants_of}
 use Rattle.bson_shape.specs.declared.shape.FieldShape.{FieldShape}
 use Rattle.bson_shape.specs.declared.shape.VariantShape.{VariantShape}
 use Rattle.bson_laws.specs.Variants.{content_of}
-use Rattle.bson_evolve_laws.specs.Named.{form_of, has}
+use Rattle.bson_laws.specs.Named.{form_of, has}
 use Rattle.bson_slots.specs.Place.{place_of}
 
 module _ {X : Type 0} (named : X → Utf8) where

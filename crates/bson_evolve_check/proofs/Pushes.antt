@@ -10,7 +10,7 @@ use Rattle.bson_shape.specs.declared.shape.FieldShape.{FieldShape}
 use Rattle.bson_shape.specs.declared.shape.VariantShape.{VariantShape}
 use Rattle.bson_values.specs.Refusal.{Path}
 use Rattle.bson_laws.specs.Variants.{content_of}
-use Rattle.bson_evolve_laws.specs.Named.{form_of}
+use Rattle.bson_laws.specs.Named.{form_of}
 use Rattle.bson_evolve_laws.specs.Rows as rows
 use Rattle.bson_evolve_laws.specs.Rows.{Answer, and_also, content_row, each_content, each_field, each_in_content, each_part, enum_row, field_row, parts_row, struct_row}
 use Rattle.bson_evolve_check.specs.Steps.{behind, gone, step_view, steps_view}

@@ -13,7 +13,7 @@ use Rattle.bson_laws.specs.Leaves.{LeafKind, anything, texts, units, trees, docu
 use Rattle.bson_laws.specs.Plain.{IsPlainIn, AreFieldsPlainIn, ArePartsPlainIn, AreVariantsPlainIn, IsContentPlainIn}
 use Rattle.bson_laws.specs.Variants.{content_of}
 use Rattle.bson_evolve_laws.specs.Compatible.{Meets, Met, RowMeets, PassesTo, ArePassing}
-use Rattle.bson_evolve_laws.specs.Named.{form_of}
+use Rattle.bson_laws.specs.Named.{form_of}
 use Rattle.bson_evolve_laws.specs.Placed.{Placed, placed, peel}
 use Rattle.bson_evolve_laws.specs.Rows.{Step, step, Answer, passes_if, and_also, field_row, struct_row, are_known, parts_row, each_part, each_field, each_value, is_documents, keys_pass, names_pass, content_row, enum_row, each_in_content, each_content, to_any, is_units, to_unit, to_texts, to_document, to_leaf, to_optional, to_sequence, to_tuple, to_map, to_struct, to_closed, to_enum, row}
 use Rattle.bson_evolve_laws.proofs.Peels.{IsAround, IsPart}

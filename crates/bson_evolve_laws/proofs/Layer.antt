@@ -8,7 +8,7 @@ use Rattle.bson_shape.specs.Form.{UnknownFields, dropped, Form, leaf, optional, 
 use Rattle.bson_laws.specs.Leaves.{leaf_kind}
 use Rattle.bson_laws.specs.Variants.{content_of}
 use Rattle.bson_laws.specs.Views.{views_leaf, views_key}
-use Rattle.bson_evolve_laws.specs.Named.{has}
+use Rattle.bson_laws.specs.Named.{has}
 
 abbrev pub AllTrees : (Tree → Type 0) → Trees → Type 0
 AllTrees P no_trees = Unit {0}

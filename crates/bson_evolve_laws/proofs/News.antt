@@ -17,7 +17,7 @@ use Rattle.bson_laws.specs.Views.{views, views_items, views_entries, views_key, 
 use Rattle.bson_laws.proofs.Equations.{view_as, view_reference, view_definitions}
 use Rattle.bson_laws.proofs.Fitted.{bytes_eq-refl, bytes_same}
 use Rattle.bson_laws.proofs.Unrolling.{fields_named}
-use Rattle.bson_evolve_laws.specs.Named.{has}
+use Rattle.bson_laws.specs.Named.{has}
 use Rattle.bson_evolve_laws.specs.Placed.{placed, peel}
 use Rattle.bson_evolve_laws.proofs.Layer.{AllTrees, AllPairs, IsOptional, HoldsAt, KeysIn, KeysHold, loose, Either, PartsAt, FieldsAt, ContentAt, VariantAt, IsOpen, Layer}
 use Rattle.bson_evolve_laws.proofs.Olds.{unit_kept}

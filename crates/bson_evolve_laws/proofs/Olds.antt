@@ -28,7 +28,7 @@ use Rattle.bson_laws.proofs.Fitted.{bytes_eq-refl, chosen_t, chosen_f, Unnamed, 
 use Rattle.bson_laws.proofs.Fitting.{fits_lossy}
 use Rattle.bson_laws.proofs.Free.{free_means, free_struct_means, free_newtype_name, free_struct_name}
 use Rattle.bson_laws.proofs.Spelled.{tree_is, trees_are, pairs_are}
-use Rattle.bson_evolve_laws.specs.Named.{has}
+use Rattle.bson_laws.specs.Named.{has}
 use Rattle.bson_evolve_laws.specs.Placed.{placed, peel}
 use Rattle.bson_evolve_laws.proofs.Layer.{AllTrees, AllPairs, HoldsAt, KeysIn, MayMiss, whole, Either, PartsAt, FieldsAt, ContentAt, VariantAt, Layer}
 use Rattle.bson_evolve_laws.proofs.Peels.{IsPeeled, IsAround, IsPart, peel_part, peeled}

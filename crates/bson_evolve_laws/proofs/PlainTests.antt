@@ -1,13 +1,13 @@
 -- The test of plain shapes tells which are.
 use Rattle.std.proofs.Common.{◌≡◌, Bool, true, false, refl, ap, ◌∙◌}
 use Rattle.std.specs.Prelude.{◌&&◌, not}
-use Rattle.bson_kinds.specs.Text.{Utf8, has_zero, begins_with_dollar, IsFreeName}
+use Rattle.bson_kinds.specs.Text.{Utf8, has_zero, begins_with_dollar, IsFreeName, is_free_name}
 use Rattle.bson_shape.specs.Form.{Form, leaf, optional, lossy, human_readable, by_mode, sequence, newtype, unit_structure, map, tuple, tuple_structure, structure, enumeration, reference, definitions, Fields, no_fields, field, Parts, no_parts, part, Content, unit_content, newtype_content, tuple_content, struct_content, Variants, no_variants, variant}
 use Rattle.bson_shape.specs.declared.leaf.Leaf.{Leaf}
 use Rattle.bson_shape.specs.declared.leaf.Leaf.TheVariants.{Str}
 use Rattle.bson_laws.specs.Leaves.{LeafKind, ignored, texts, raw_documents, raw_arrays, raw_values, leaf_kind}
 use Rattle.bson_laws.specs.Plain.{IsKept, OwnsTextLeaf, OwnsTextsIn, FieldsOwnTextsIn, PartsOwnTextsIn, VariantsOwnTextsIn, ContentOwnsTextsIn, DefinitionsOwnTexts, IsPlainKey, IsPlainIn, AreFieldsPlainIn, AreDefinitionsPlainIn, ArePartsPlainIn, AreVariantsPlainIn, IsContentPlainIn, IsPlain}
-use Rattle.bson_evolve_laws.specs.PlainTest.{is_kept, owns_text_leaf, is_free_name, owns_texts, fields_own_texts, parts_own_texts, variants_own_texts, content_owns_texts, is_plain_key, is_plain_in, are_fields_plain_in, are_definitions_plain_in, are_parts_plain_in, are_variants_plain_in, is_content_plain_in, is_plain}
+use Rattle.bson_evolve_laws.specs.PlainTest.{is_kept, owns_text_leaf, owns_texts, fields_own_texts, parts_own_texts, variants_own_texts, content_owns_texts, is_plain_key, is_plain_in, are_fields_plain_in, are_definitions_plain_in, are_parts_plain_in, are_variants_plain_in, is_content_plain_in, is_plain}
 use Rattle.bson_evolve_laws.specs.Rows.{is_texts}
 
 both_true : (a b : Bool) → (a && b) ≡ true → (a ≡ true) × (b ≡ true)

@@ -15,7 +15,7 @@ use Rattle.bson_laws.specs.Variants.{content_of}
 use Rattle.bson_laws.proofs.DatumNormal.{own_kind}
 use Rattle.bson_laws.proofs.Fitted.{bytes_eq-refl}
 use Rattle.bson_evolve_laws.specs.Compatible.{Meets, Met, RowMeets, IsCompatible}
-use Rattle.bson_evolve_laws.specs.Named.{form_of, has}
+use Rattle.bson_laws.specs.Named.{form_of, has}
 use Rattle.bson_evolve_laws.specs.Placed.{Placed, placed, peel}
 use Rattle.bson_evolve_laws.specs.Rows.{Step, step, each_value, Answer, top, lies_in, is_free, leaf_in, is_texts, is_units, field_row, struct_row, are_known, parts_row, is_unit_name, names_in, keys_pass, content_row, enum_row, and_also, to_leaf, to_optional, row}
 use Rattle.bson_evolve_laws.proofs.Closed.{closed_passing}

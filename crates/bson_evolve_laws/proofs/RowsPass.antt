@@ -17,7 +17,7 @@ use Rattle.bson_laws.specs.Leaves.{LeafKind, anything, texts, units, trees, docu
 use Rattle.bson_laws.specs.Variants.{content_of}
 use Rattle.bson_laws.specs.Views.{views_any, views_any_items, views_any_entries, views_leaf, views_leaf_key, views_key, named_unit, views_unit}
 use Rattle.bson_laws.proofs.Fitted.{bytes_same}
-use Rattle.bson_evolve_laws.specs.Named.{form_of, has}
+use Rattle.bson_laws.specs.Named.{form_of, has}
 use Rattle.bson_evolve_laws.proofs.Layer.{AllTrees, AllPairs, IsOptional, HoldsAt, KeysIn, KeysHold, loose, whole, Either, PartsAt, FieldsAt, ContentAt, VariantAt, IsOpen, Layer}
 use Rattle.bson_evolve_laws.specs.Compatible.{Meets, Met}
 use Rattle.bson_evolve_laws.specs.Rows.{Step, Answer, passes_if, and_also, field_row, struct_row, are_known, parts_row, each_part, each_field, is_texts, is_unit_name, names_in, fields_in, keys_pass, names_pass, content_row, enum_row, each_in_content, each_content, is_no_unit, no_units, to_any, is_units, to_unit, to_texts, to_document, to_leaf, to_optional, to_sequence, to_tuple, is_documents, to_map, to_struct, to_closed, to_enum, row}

@@ -10,7 +10,7 @@ use Rattle.bson_values.specs.Refusal.{Path, at_key, at_index}
 use Rattle.bson_laws.specs.Leaves.{LeafKind, anything, texts, units, trees, documents, extended_values, leaf_kind}
 use Rattle.bson_laws.specs.Variants.{content_of}
 use Rattle.bson_evolve_laws.specs.Compatible.{Meets}
-use Rattle.bson_evolve_laws.specs.Named.{form_of}
+use Rattle.bson_laws.specs.Named.{form_of}
 use Rattle.bson_evolve_laws.specs.Rows.{Step, step, Answer, passes_if, and_also, field_row, struct_row, are_known, parts_row, each_part, each_field, each_value, is_documents, keys_pass, names_pass, content_row, enum_row, each_in_content, each_content, to_any, is_units, to_unit, to_texts, to_document, to_leaf, to_optional, to_sequence, to_tuple, to_map, to_struct, to_closed, to_enum, row}
 
 -- ---- the parts of a form

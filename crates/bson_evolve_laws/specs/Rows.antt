@@ -11,7 +11,7 @@ use Rattle.bson_values.specs.Value.{IntegerType, u64, i64, least, greatest}
 use Rattle.bson_values.specs.Refusal.{Path, at_key, at_index}
 use Rattle.bson_laws.specs.Leaves.{LeafKind, anything, ignored, booleans, numbers, doubles, characters, texts, byte_strings, byte_buffers, units, ExtendedLeaf, object_ids, uuids, of_kind, trees, documents, extended_values, raw_documents, raw_arrays, raw_values, leaf_kind}
 use Rattle.bson_laws.specs.Variants.{content_of}
-use Rattle.bson_evolve_laws.specs.Named.{form_of, has}
+use Rattle.bson_laws.specs.Named.{form_of, has}
 
 -- a pair of parts, and the path to it
 pub record Step : Type 0 where

@@ -1,4 +1,4 @@
--- What a `Cat` is written as, read from and contains.
+-- What a `Cat` is written as, read from and contains. Source: serde's data model.
 use Rattle.std.specs.Prelude.{◌≡◌, ℤ, true, Ok, refl, codes, string_bytes, FitsSigned}
 use Rattle.std.specs.Int.{w32}
 use Rattle.std.specs.Str.{is_utf8}

@@ -1,4 +1,4 @@
--- What a `Person` is written as, read from and contains.
+-- What a `Person` is written as, read from and contains. Source: serde's data model.
 use Rattle.std.specs.Prelude.{◌≡◌, ℤ, true, List, map, Ok, refl, codes, string_bytes, FitsSigned}
 use Rattle.std.specs.Int.{w64}
 use Rattle.std.specs.List.{All}

@@ -1,4 +1,4 @@
--- What a `Pet` is written as, read from and contains.
+-- What a `Pet` is written as, read from and contains. Source: serde's data model.
 use Rattle.std.specs.Prelude.{refl, codes}
 use Rattle.std.proofs.Common.{ap}
 use Rattle.bson.specs.Outcome.{result_map}

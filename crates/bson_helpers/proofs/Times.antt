@@ -3,9 +3,9 @@ use Rattle.std.proofs.Common.{◌≡◌, ℤ, Result, Ok, Err, refl, sym, subst,
 use Rattle.std.specs.Prelude.{String}
 use Rattle.std.specs.Global.{Global}
 use Rattle.bson_values.specs.ErrorView.{read_failure}
-use Rattle.bson_values.specs.Refusal.{ReadFault, Failure, no_memory, bare, placed}
+use Rattle.bson_values.specs.Refusal.{ReadFault, Failure, no_memory, bare, placed, FailsAs}
 use Rattle.bson_values.specs.declared.de.Error.{Error}
-use Rattle.bson_type_data.specs.Answers.{Reading, FailsAs}
+use Rattle.bson_type_data.specs.Answers.{Reading}
 use Rattle.bson_helpers.specs.Dates.{ReadsTime}
 
 failed : (expected : Reading ℤ) (e : Error) (f : Failure ReadFault) → read_failure e ≡ f → FailsAs f expected → ReadsTime expected (Err e)

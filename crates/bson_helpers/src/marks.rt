@@ -1,7 +1,7 @@
 ghost use Rattle.std.specs.Prelude.{◌≡◌, IfOk};
 ghost use Rattle.bson_values.specs.Value.{newtype};
 ghost use Rattle.bson_datum.specs.View.{view};
-ghost use Rattle.bson_helpers.specs.Marks.{readable_name};
+ghost use Rattle.bson_values.specs.Value.{readable_newtype};
 
 use bson_datum::Datum;
 use bson_shape::{Shape, ShapeError};
@@ -105,7 +105,7 @@ impl<'de, T: NeverNull<'de>> NeverNull<'de> for Utf8LossyDeserialization<T> {
 
 // The newtype in which a value is written for a human reader.
 fn readable<'a>(alloc: Global, value: Datum<'a>) -> Result<Datum<'a>, AllocError>
-    ensures { IfOk result (λ d. view d ≡ newtype readable_name (view value.entry)) }
+    ensures { IfOk result (λ d. view d ≡ newtype readable_newtype (view value.entry)) }
 {
     Ok(Datum::NewtypeStruct {
         name: Text::Borrowed("$__bson_private_human_readable"),

@@ -9,7 +9,7 @@ use Rattle.bson_shape.specs.Form.{dropped, Form, leaf, optional, sequence, struc
 use Rattle.bson_shape.specs.declared.leaf.Leaf.{Leaf}
 use Rattle.bson_shape.specs.declared.leaf.Leaf.TheVariants.{I32, ByteBuf, Unit as UnitLeaf, Bson}
 use Rattle.bson_shape.specs.contracts.leaf.Leaf as leaf_type
-use Rattle.bson_infer_laws.specs.Named.{form_of, has}
+use Rattle.bson_laws.specs.Named.{form_of, has}
 use Rattle.bson_infer_laws.specs.Join.{same_leaf, nothing, is_nothing, is_unit, opt, grown, within, join_unlike, join_leaves, join_at, new_fields, join, join_fields}
 use Rattle.bson_infer_laws.specs.Above.{IsOptional, bare, IsBare, IsNothing, LeafAbove, FieldAbove, NamedIn, Above, FieldsAbove, IsJoined, AreJoined}
 

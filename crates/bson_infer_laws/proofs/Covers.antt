@@ -14,7 +14,7 @@ use Rattle.bson_values.specs.Value as value
 use Rattle.bson_values.specs.Value.{i32, i64, in_range, Value}
 use Rattle.bson_laws.specs.Leaves.{numbers, units, byte_buffers, leaf_kind}
 use Rattle.bson_laws.specs.Views.{as_integer, views_leaf}
-use Rattle.bson_infer_laws.specs.Named.{form_of, has}
+use Rattle.bson_laws.specs.Named.{form_of, has}
 use Rattle.bson_infer_laws.specs.Join.{nothing, is_unit, grown}
 use Rattle.bson_infer_laws.specs.Above.{bare, IsNothing, IsOptional, LeafAbove, FieldAbove, NamedIn, Above, FieldsAbove}
 use Rattle.bson_infer_laws.specs.Inferred.{AllTrees}

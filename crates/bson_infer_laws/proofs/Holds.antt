@@ -9,7 +9,7 @@ use Rattle.bson_values.specs.Value as value
 use Rattle.bson_values.specs.Value.{Value, item, field_value}
 use Rattle.bson_laws.specs.Leaves.{leaf_kind}
 use Rattle.bson_laws.specs.Views.{views_items, absent, views_at, views_leaf, views, views_fields}
-use Rattle.bson_infer_laws.specs.Named.{has}
+use Rattle.bson_laws.specs.Named.{has}
 use Rattle.bson_infer_laws.specs.Above.{IsOptional}
 use Rattle.bson_infer_laws.specs.Inferred.{AllTrees}
 

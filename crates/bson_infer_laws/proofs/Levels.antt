@@ -13,7 +13,7 @@ use Rattle.bson_shape.specs.Levels.{levels, deepest}
 use Rattle.bson_shape.specs.Makers.{has_name, field_names, repeats, IsStruct, IsShape, AreShapes}
 use Rattle.bson_shape.proofs.TextStates.{text-nil}
 use Rattle.bson_laws.proofs.Fitted.{unlike_swap}
-use Rattle.bson_infer_laws.specs.Named.{form_of, has}
+use Rattle.bson_laws.specs.Named.{form_of, has}
 use Rattle.bson_infer_laws.specs.Join.{nothing, is_nothing, is_unit, opt, within, join_unlike, join_at, new_fields, join, join_fields}
 use Rattle.bson_infer_laws.specs.Above.{bare, IsBare, IsNothing, IsJoined, AreJoined}
 use Rattle.bson_infer_laws.specs.Inferred.{shape_of, pair_shapes, joined_shapes, inferred, AllTrees}

@@ -9,7 +9,7 @@ use Rattle.bson_base.specs.Tree.{Tree, Pairs, no_pairs, pair, Trees, no_trees}
 use Rattle.bson_shape.specs.Form.{dropped, Form, leaf, optional, sequence, structure, Fields, no_fields, field, joined}
 use Rattle.bson_shape.specs.declared.leaf.Leaf.TheVariants.{Bson}
 use Rattle.bson_laws.specs.Plain.{IsPlain, AreFieldsPlain}
-use Rattle.bson_infer_laws.specs.Named.{form_of, has}
+use Rattle.bson_laws.specs.Named.{form_of, has}
 use Rattle.bson_infer_laws.specs.Join.{nothing, is_nothing, is_unit, opt, within, join_unlike, join_at, new_fields, join, join_fields}
 use Rattle.bson_infer_laws.specs.Inferred.{shape_of, pair_shapes, joined_shapes, inferred}
 use Rattle.bson_infer_laws.proofs.Above.{by_first}

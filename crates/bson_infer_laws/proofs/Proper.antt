@@ -5,7 +5,7 @@ use Rattle.std.specs.Str.{bytes_eq}
 use Rattle.bson_kinds.specs.Text.{Utf8}
 use Rattle.bson_shape.specs.Form.{dropped, Form, leaf, optional, sequence, structure, Fields, no_fields, field, joined}
 use Rattle.bson_shape.specs.declared.leaf.Leaf.TheVariants.{Bson}
-use Rattle.bson_infer_laws.specs.Named.{form_of, has}
+use Rattle.bson_laws.specs.Named.{form_of, has}
 use Rattle.bson_infer_laws.specs.Join.{is_nothing, is_unit, opt, within, join_unlike, join_at, new_fields, join, join_fields}
 use Rattle.bson_infer_laws.specs.Above.{IsBare, IsJoined, AreJoined}
 use Rattle.bson_laws.proofs.Fitted.{bytes_eq-refl}

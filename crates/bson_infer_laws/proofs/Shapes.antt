@@ -14,7 +14,7 @@ use Rattle.bson_values.specs.Value as value
 use Rattle.bson_values.specs.Value.{i32, i64, in_range, Value}
 use Rattle.bson_laws.specs.Views.{views}
 use Rattle.bson_laws.proofs.Fitted.{bytes_eq-refl, chosen_t, chosen_f, Unnamed, unlike_swap}
-use Rattle.bson_infer_laws.specs.Named.{has}
+use Rattle.bson_laws.specs.Named.{has}
 use Rattle.bson_infer_laws.specs.Join.{nothing, is_nothing, join}
 use Rattle.bson_infer_laws.specs.Above.{IsOptional, Above, IsJoined, AreJoined}
 use Rattle.bson_infer_laws.specs.Inferred.{shape_of, pair_shapes, joined_shapes, inferred, with_last, AllTrees}

@@ -9,7 +9,7 @@ use Rattle.bson_base.specs.Tree.{Tree, Pairs, no_pairs, pair, Trees, no_trees}
 use Rattle.bson_shape.specs.Form.{dropped, Form, leaf, optional, sequence, structure, enumeration, Fields, no_fields, field, no_variants, joined}
 use Rattle.bson_shape.specs.declared.leaf.Leaf.{Leaf}
 use Rattle.bson_shape.specs.declared.leaf.Leaf.TheVariants.{Bool as BoolLeaf, I32, I64, Double, String, ByteBuf, Binary, Unit as UnitLeaf, ObjectId, DateTime, Timestamp, Regex, CodeWithScope, Decimal128, DbPointer, Bson}
-use Rattle.bson_infer_laws.specs.Named.{form_of, has}
+use Rattle.bson_laws.specs.Named.{form_of, has}
 use Rattle.bson_infer_laws.specs.Join.{nothing, is_nothing, is_unit, opt, within, join_unlike, join_at, new_fields, join, join_fields}
 use Rattle.bson_infer_laws.specs.Inferred.{shape_of, pair_shapes, joined_shapes, inferred, AllTrees}
 use Rattle.bson_infer_laws.proofs.Above.{by_first}

@@ -5,7 +5,7 @@ use Rattle.bson_shape.specs.Form.{dropped, Form, leaf, optional, sequence, struc
 use Rattle.bson_shape.specs.declared.leaf.Leaf.{Leaf}
 use Rattle.bson_shape.specs.declared.leaf.Leaf.TheVariants.{I32, I64, ByteBuf, Binary, Unit, Bson}
 use Rattle.bson_shape.specs.contracts.leaf.Leaf as leaf_type
-use Rattle.bson_infer_laws.specs.Named.{form_of, has}
+use Rattle.bson_laws.specs.Named.{form_of, has}
 
 abbrev pub same_leaf : Leaf → Leaf → Bool
 same_leaf l m = sameb leaf_type.the_type l m

@@ -1,4 +1,3 @@
-pub mod Named
 pub mod Join
 pub mod Inferred
 pub mod Above

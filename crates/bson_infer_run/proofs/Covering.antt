@@ -22,7 +22,7 @@ use Rattle.bson_shape.specs.declared.leaf.Leaf.{Leaf}
 use Rattle.bson_infer_laws.specs.Above.{Above, FieldsAbove, FieldAbove, NamedIn, IsJoined, AreJoined}
 use Rattle.bson_infer_laws.specs.Inferred.{shape_of, pair_shapes}
 use Rattle.bson_infer_laws.specs.Join.{opt, within}
-use Rattle.bson_infer_laws.specs.Named.{form_of, has}
+use Rattle.bson_laws.specs.Named.{form_of, has}
 use Rattle.bson_infer_laws.proofs.Above.{or_left, or_right, bare_above, name_is, absorbs}
 use Rattle.bson_infer_run.specs.Counted.{opt_if, settled}
 use Rattle.bson_infer_run.specs.Covered.{IsPlain, Has, Takes, element_tree, fields_from, IsCovered}

@@ -10,9 +10,10 @@ use Rattle.std.specs.String.{string_cmp}
 use Rattle.std.proofs.lemmas.List.{take_more, map-append, length-map, length-take, take_all}
 use Rattle.std.proofs.lemmas.Map.Text.{btree_map_updates_text}
 use Rattle.std.proofs.lemmas.Slice.Eq.{bytes_eq-Decides}
+use Rattle.bson_kinds.specs.Places.{further_or_first, place_among}
 use Rattle.bson_base.specs.BsonView.{Key}
 use Rattle.bson_kinds.specs.Text.{Utf8}
-use Rattle.bson_infer_run.specs.NamesView.{further_or_first, place_among, FindsAll, IsIndexed}
+use Rattle.bson_infer_run.specs.NamesView.{FindsAll, IsIndexed}
 use Rattle.bson_infer_run.specs.SummaryView.{IsAt}
 use Rattle.bson_infer_run.proofs.Places.{at_distinct}
 use Rattle.bson_laws.proofs.Fitted.{unlike_swap}

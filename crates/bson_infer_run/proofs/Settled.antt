@@ -10,7 +10,7 @@ use Rattle.bson_shape.specs.Form.{dropped, Form, optional, structure, Fields, fi
 use Rattle.bson_infer_laws.specs.Above.{IsJoined, AreJoined}
 use Rattle.bson_infer_laws.specs.Inferred.{shape_of, pair_shapes}
 use Rattle.bson_infer_laws.specs.Join.{is_nothing, opt, join_at, new_fields, join, join_fields}
-use Rattle.bson_infer_laws.specs.Named.{form_of, has}
+use Rattle.bson_laws.specs.Named.{form_of, has}
 use Rattle.bson_infer_laws.proofs.Commutes.{opt_twice, opt_join, join_opt}
 use Rattle.bson_infer_laws.proofs.Proper.{opt_joined, opt_solid}
 use Rattle.bson_infer_run.specs.Counted.{Counted, puts, counted_pairs, opt_if, settled, AreCounted}

@@ -9,12 +9,6 @@ use Rattle.bson_rawdoc.specs.declared.raw.Error.{Error}
 abbrev pub usage_line : Utf8
 usage_line = codes "usage: bson_infer\n"
 
-abbrev pub too_long_line : Utf8
-too_long_line = codes "input too long\n"
-
-abbrev pub broken_line : (place : ℕ) → Utf8
-broken_line place = codes "broken at " ++ (decimal place ++ newline)
-
 -- the line for the document of a number that has a fault
 abbrev pub faulty_line : (number : ℕ) → Error → Utf8
 faulty_line number e = codes "document " ++ (decimal number ++ (codes ": " ++ (printed_fault e ++ newline)))

@@ -5,16 +5,7 @@ use Rattle.std.specs.List.{IsDistinct}
 use Rattle.std.specs.Str.{bytes_eq}
 use Rattle.bson_base.specs.BsonView.{Key}
 use Rattle.bson_kinds.specs.Text.{Utf8}
-
--- the place in the rest, one more, or else the place at the front
-abbrev pub further_or_first : Option ℕ → Option ℕ → Option ℕ
-further_or_first (Some i) first = Some (suc i)
-further_or_first None first = first
-
--- the index of the last of the names that is this one
-abbrev pub place_among : List Utf8 → Utf8 → Option ℕ
-place_among [] name = None
-place_among (n ∷ names) name = further_or_first (place_among names name) (if bytes_eq n name then Some 0 else None)
+use Rattle.bson_kinds.specs.Places.{place_among}
 
 -- the B-tree has for each name its index
 abbrev pub FindsAll : BTreeMap Key ℕ → List Utf8 → Type 0

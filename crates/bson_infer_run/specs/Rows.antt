@@ -1,6 +1,7 @@
 -- The program: the rows of its table of answers for a file that was read whole, and what it shares with every other. Source: this library's own programs.
 use Rattle.std.specs.Prelude.{◌≡◌, ℕ, List, [], ◌∷◌, ◌++◌}
 use Rattle.std.specs.Io.KnownBytes.{Appends}
+use Rattle.bson_program.specs.FileLines.{too_long_line, broken_line}
 use Rattle.bson_kinds.specs.Text.{Bytes, Utf8}
 use Rattle.bson_program.specs.Input.{InputEnds, OnInput, input_status}
 use Rattle.bson_program.specs.Program.{Program}
@@ -9,7 +10,7 @@ use Rattle.bson_program.specs.ShapeWord.{newline}
 use Rattle.bson_shape.specs.Form.{Form}
 use Rattle.bson_shape.specs.Notation.{text}
 use Rattle.bson_infer_run.specs.Files.{Fault, Inferring, broken, faulty, unsound, found, inferring_of}
-use Rattle.bson_infer_run.specs.Lines.{usage_line, too_long_line, broken_line, faulty_line, unsound_line}
+use Rattle.bson_infer_run.specs.Lines.{usage_line, faulty_line, unsound_line}
 use Rattle.bson_infer_run.specs.NoWords.{no_words}
 use Rattle.bson_infer_run.specs.declared.status.InferStatus.{InferStatus}
 use Rattle.bson_infer_run.specs.declared.status.InferStatus.TheVariants as statuses

@@ -3,8 +3,9 @@ ghost use Rattle.std.specs.Prelude.{◌≡◌, ◌≤◌, ◌<◌, ◌+◌, [], 
 ghost use Rattle.std.specs.BTreeMap.{get_by_text};
 ghost use Rattle.std.specs.List.{list_any};
 ghost use Rattle.std.specs.Str.{bytes_eq};
+ghost use Rattle.bson_kinds.specs.Places.{place_among};
 ghost use Rattle.bson_kinds.specs.Text.{Utf8};
-ghost use Rattle.bson_infer_run.specs.NamesView.{place_among, FindsAll};
+ghost use Rattle.bson_infer_run.specs.NamesView.{FindsAll};
 ghost use Rattle.bson_infer_run.specs.SummaryView.{IsAt};
 
 use std::alloc::{AllocError, Global};

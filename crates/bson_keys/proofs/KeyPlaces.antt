@@ -11,8 +11,9 @@ use Rattle.std.proofs.lemmas.Cmp.{nat_cmp_total, eq_by_cmp_equiv}
 use Rattle.std.proofs.lemmas.Map.Text.{is_eq-slice_cmp}
 use Rattle.std.proofs.lemmas.Slice.Eq.{bytes_eq-Decides}
 use Rattle.std.proofs.lemmas.List.{take_more, take_more_set, map-append, length-map, length-take, take_all}
+use Rattle.bson_kinds.specs.Places.{further_or_first, place_among}
 use Rattle.bson_kinds.specs.Text.{Utf8}
-use Rattle.bson_keys.specs.Places.{further_or_first, place_among, place_in_tree}
+use Rattle.bson_keys.specs.Places.{place_in_tree}
 use Rattle.bson_keys.specs.Hashes.{second_hash_of}
 use Rattle.bson_keys.specs.KeysView.{place_found}
 

@@ -2,8 +2,9 @@
 use Rattle.std.specs.Prelude.{◌≡◌, ◌≤◌, ℕ, List, map, take, Option, Some, None, option_map, box_value}
 use Rattle.std.specs.Borrow.{Bor}
 use Rattle.std.specs.BTreeMap.{BTreeMap}
+use Rattle.bson_kinds.specs.Places.{place_among}
 use Rattle.bson_kinds.specs.Text.{Utf8}
-use Rattle.bson_keys.specs.Places.{place_among, place_in_tree}
+use Rattle.bson_keys.specs.Places.{place_in_tree}
 use Rattle.bson_keys.specs.declared.places.MapKeys.{MapKeys}
 
 -- the place of a text in the B-tree where there is one, and else among the keys

@@ -7,16 +7,7 @@ use Rattle.std.specs.Ordering.{nat_cmp, ordering_then}
 use Rattle.std.specs.Str.{bytes_eq}
 use Rattle.bson_kinds.specs.Text.{Utf8}
 use Rattle.bson_keys.specs.Hashes.{second_hash_of}
-
--- the place in the rest, one more, or else the place at the front
-abbrev pub further_or_first : Option ℕ → Option ℕ → Option ℕ
-further_or_first (Some i) first = Some (suc i)
-further_or_first None first = first
-
--- the place of the last of the keys that is the text, from 0
-abbrev pub place_among : List Utf8 → Utf8 → Option ℕ
-place_among [] text = None
-place_among (key ∷ keys) text = further_or_first (place_among keys text) (if bytes_eq key text then Some 0 else None)
+use Rattle.bson_kinds.specs.Places.{place_among}
 
 -- the place that a B-tree, ordered by second hashes and then by texts, has for a text
 abbrev pub place_in_tree : BTreeMap (ℕ × Bor Utf8) ℕ → Utf8 → Option ℕ

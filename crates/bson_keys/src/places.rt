@@ -1,7 +1,8 @@
 ghost use Rattle.std.specs.Prelude.{◌≡◌, ◌≤◌, ◌+◌, Some, None, if◌then◌else◌, map, IfOk};
 ghost use Rattle.std.specs.Str.{bytes_eq};
+ghost use Rattle.bson_kinds.specs.Places.{place_among};
 ghost use Rattle.bson_kinds.specs.Text.{Utf8};
-ghost use Rattle.bson_keys.specs.Places.{place_among, place_in_tree, place_or, next_place, FindsAll};
+ghost use Rattle.bson_keys.specs.Places.{place_in_tree, place_or, next_place, FindsAll};
 
 use crate::hashes::second_hash_of;
 use std::alloc::{AllocError, Global};

@@ -2,4 +2,5 @@ pub mod Text
 pub mod Kind
 pub mod Reserved
 pub mod Outcome
+pub mod Places
 pub mod Prover

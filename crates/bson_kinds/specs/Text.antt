@@ -1,5 +1,5 @@
 -- Texts and byte strings, as definitions see them. Source: bsonspec.org, version 1.1, `string` and `cstring`.
-use Rattle.std.specs.Prelude.{◌≡◌, ℕ, ◌<◌, List, [], ◌∷◌, Bool, false, true, ◌||◌, eqb, All}
+use Rattle.std.specs.Prelude.{◌≡◌, ℕ, ◌<◌, List, [], ◌∷◌, Bool, false, true, ◌||◌, ◌&&◌, not, eqb, All}
 use Rattle.std.specs.Str.{is_utf8}
 
 -- A byte string: each number is a byte.
@@ -24,7 +24,11 @@ abbrev pub begins_with_dollar : Utf8 → Bool
 begins_with_dollar [] = false
 begins_with_dollar (c ∷ cs) = eqb c 36
 
--- The name does not begin with `$` and holds no zero character.
+-- the name does not begin with `$` and holds no zero character
+abbrev pub is_free_name : Utf8 → Bool
+is_free_name name = not (has_zero name) && not (begins_with_dollar name)
+
+-- The same, as what is known of a name.
 pub record IsFreeName (name : Utf8) : Type 0 where
   pub no_zero : has_zero name ≡ false
   pub no_dollar : begins_with_dollar name ≡ false

@@ -41,3 +41,4 @@ pub mod CompactReads
 pub mod Spell
 pub mod Depths
 pub mod Recursive
+pub mod Named

@@ -17,12 +17,6 @@ use Rattle.bson_migrate_run.specs.Migrating.{NotRecast}
 abbrev pub migrate_usage : Usage
 migrate_usage = record { line = codes "usage: bson_migrate SHAPE\n"; is_option = λ word. false }
 
-abbrev pub too_long_line : Utf8
-too_long_line = codes "input too long\n"
-
-abbrev pub broken_line : (place : ℕ) → Utf8
-broken_line place = codes "broken at " ++ (decimal place ++ newline)
-
 -- what is said of the document of a number
 abbrev pub of_document : (number : ℕ) → Utf8 → Utf8
 of_document number said = codes "document " ++ (decimal number ++ (codes ": " ++ said))

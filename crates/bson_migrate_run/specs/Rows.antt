@@ -1,6 +1,7 @@
 -- The program: the rows of its table of answers for a file that was read whole, and what it shares with every other. Source: this library's own programs.
 use Rattle.std.specs.Prelude.{◌≡◌, ℕ, List, [], ◌∷◌}
 use Rattle.std.specs.Io.KnownBytes.{Appends}
+use Rattle.bson_program.specs.FileLines.{too_long_line, broken_line}
 use Rattle.bson_kinds.specs.Text.{Bytes, Utf8}
 use Rattle.bson_shape.specs.Form.{Form}
 use Rattle.bson_program.specs.Input.{InputEnds, OnInput, input_status}
@@ -10,7 +11,7 @@ use Rattle.bson_program.specs.Run.{Run, Expected}
 use Rattle.bson_migrate_run.specs.declared.migrating.Refused.{Refused}
 use Rattle.bson_migrate_run.specs.declared.status.MigrateStatus.{MigrateStatus}
 use Rattle.bson_migrate_run.specs.declared.status.MigrateStatus.TheVariants as statuses
-use Rattle.bson_migrate_run.specs.Lines.{migrate_usage, too_long_line, broken_line, AreLines}
+use Rattle.bson_migrate_run.specs.Lines.{migrate_usage, AreLines}
 use Rattle.bson_migrate_run.specs.Migrating.{NotRecast, Migrating, broken, migrated, migration_of}
 
 -- Every document is recast, and nothing is told.

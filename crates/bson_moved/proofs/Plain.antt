@@ -1,7 +1,7 @@
 -- A simple shape is plain, takes what a tree has, and refers to no definition.
 use Rattle.std.proofs.Common.{◌≡◌, ℕ, Bool, true, false, refl, ap, rules}
 use Rattle.std.specs.Prelude.{◌&&◌, not}
-use Rattle.bson_kinds.specs.Text.{Utf8, has_zero, IsFreeName}
+use Rattle.bson_kinds.specs.Text.{Utf8, has_zero, IsFreeName, is_free_name}
 use Rattle.bson_shape.specs.Form.{Form, leaf, optional, lossy, human_readable, by_mode, sequence, newtype, unit_structure, map, tuple, tuple_structure, structure, dropped, denied, enumeration, reference, definitions, Fields, no_fields, field}
 use Rattle.bson_shape.specs.declared.leaf.Leaf.{Leaf}
 use Rattle.bson_shape.specs.declared.leaf.Leaf.TheVariants as leaves
@@ -11,7 +11,7 @@ use Rattle.bson_laws.specs.Plain.{IsKept, IsPlainIn, AreFieldsPlainIn}
 use Rattle.bson_laws.specs.ReadsLeaf.{borrows}
 use Rattle.bson_laws.specs.SuitsTrees.{SuitsTrees, FieldsSuitTrees}
 use Rattle.bson_laws.specs.Unrolled.{Meanings, unrolled, unrolled_fields}
-use Rattle.bson_moved.specs.Simple.{is_free_name, is_simple, are_simple, is_simple_leaf}
+use Rattle.bson_moved.specs.Simple.{is_simple, are_simple, is_simple_leaf}
 
 not_true : (b : Bool) → not b ≡ true → b ≡ false
 not_true true e = absurd cc

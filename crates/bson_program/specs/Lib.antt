@@ -1,5 +1,6 @@
 pub mod Ends
 pub mod Run
+pub mod FileLines
 pub mod Input
 pub mod Command
 pub mod Program

@@ -62,6 +62,6 @@ abbrev pub Fails : {A : Type 0} → ℕ → Writing A → Failure WriteFault →
 Fails size expected f = (f ≡ no_memory) ⊎ IsExpected expected f ⊎ ((f ≡ too_long_failure) × (max_bytes < size))
 
 -- these bytes are given, or memory ran out
-abbrev pub GivesBytes : Bytes → Result (Vec ℕ) Error → Type 0
-GivesBytes bytes (Ok v) = v.items ≡ bytes
-GivesBytes bytes (Err e) = write_failure e ≡ no_memory
+abbrev pub GivesBytes : {X : Type 0} → (X → Bytes) → Bytes → Result X Error → Type 0
+GivesBytes see bytes (Ok x) = see x ≡ bytes
+GivesBytes see bytes (Err e) = write_failure e ≡ no_memory

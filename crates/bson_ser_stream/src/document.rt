@@ -136,7 +136,7 @@ pub fn to_vec_counted<L: Ledger>(
 
     // What means a sound document is written as that document, unless memory runs out.
     ensures sound { (t : Tree) → means (view value.now) ≡ Some t → IsSound t
-        → GivesBytes (enc t) result }
+        → GivesBytes (λ v. v.items) (enc t) result }
     ensures counted { IfOk result (λ out. steps.old + vec_len out ≤ steps.new) }
     ensures steps { IfOk result (λ out. steps.new ≤ steps.old + 2 * vec_len out) }
 {
@@ -161,7 +161,7 @@ pub fn to_vec_at(alloc: Global, value: &Datum<'_>) -> Result<Vec<u8>>
 
     // What means a sound document is written as that document, unless memory runs out.
     ensures sound { (t : Tree) → means (view value.now) ≡ Some t → IsSound t
-        → GivesBytes (enc t) result }
+        → GivesBytes (λ v. v.items) (enc t) result }
 {
     let mut steps = Steps::<Tally>::new();
     to_vec_counted(alloc, value, &mut steps)

@@ -2,7 +2,7 @@
 use Rattle.std.proofs.Common.{◌≡◌, Option, Some, None, Err, refl, ap, sym, subst, ◌∙◌, reverse, [], ◌∷◌, ◌++◌}
 use Rattle.std.proofs.lemmas.List.{reverse-append}
 use Rattle.bson_kinds.specs.Outcome.{◌>>=◌, result_map}
-use Rattle.bson_values.specs.Refusal.{WriteFault, Refusal, Segment, in_segment, inside, here, Failure, no_memory, bare, placed}
+use Rattle.bson_values.specs.Refusal.{WriteFault, Refusal, Segment, in_segment, inside, here, Failure, no_memory, bare, placed, FailsAs}
 use Rattle.bson_values.specs.Stop.{stop_view, segments_out, IsUnder, IsPlaced}
 use Rattle.bson_values.specs.ErrorView.{write_fault}
 use Rattle.bson_values.specs.declared.ser.Fault.{Fault}
@@ -10,7 +10,7 @@ use Rattle.bson_values.specs.declared.stop.Refused as code
 use Rattle.bson_values.specs.declared.stop.Stop.{Stop}
 use Rattle.bson_values.specs.declared.stop.Stop.TheVariants.{Refused, NoMemory}
 use Rattle.bson_laws.specs.Spell.{Writing}
-use Rattle.bson_ser_tree.specs.Answers.{FailsAs, with_paths, without_paths}
+use Rattle.bson_ser_tree.specs.Answers.{with_paths, without_paths}
 use Rattle.bson_ser_tree.specs.Gives.{RefusesAs, IsHereOrMemory, IsBare}
 
 -- a stop on its way out is what the definition refuses with

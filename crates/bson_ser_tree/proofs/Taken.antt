@@ -8,13 +8,13 @@ use Rattle.bson_kinds.specs.Text.{Utf8}
 use Rattle.bson_base.specs.Tree.{Tree, document, array, Pairs, no_pairs, pair, Trees, no_trees, tree}
 use Rattle.bson_base.specs.declared.bson.Bson.{Bson}
 use Rattle.bson_kinds.proofs.Outcomes.{bind_ok}
-use Rattle.bson_values.specs.Refusal.{Refusal, WriteFault, Failure, no_memory, bare, placed, under, under_index}
+use Rattle.bson_values.specs.Refusal.{Refusal, WriteFault, Failure, no_memory, bare, placed, under, under_index, FailsAs}
 use Rattle.bson_values.specs.ErrorView.{write_failure}
 use Rattle.bson_values.specs.Value.{Value, str, sequence, tuple, tuple_structure, tuple_variant, map, structure, structure_variant, Items, item, no_items, Entries, entry, no_entries, FieldValues, field_value, no_field_values}
 use Rattle.bson_values.specs.declared.ser.Error.{Error}
 use Rattle.bson_laws.specs.Spell.{Writing}
 use Rattle.bson_tree_laws.specs.TreeSpell.{tree_spell, tree_items, tree_entries, tree_fields, tree_key_text, tree_whole}
-use Rattle.bson_ser_tree.specs.Answers.{FailsAs, without_paths}
+use Rattle.bson_ser_tree.specs.Answers.{without_paths}
 use Rattle.bson_writing.specs.Joined.{items_joined, entries_joined, fields_joined, with_item, with_entry, with_field}
 use Rattle.bson_ser_tree.specs.Made.{ItemsMade, PairsMade, EntriesMade}
 use Rattle.bson_ser_tree.specs.Steps.{StepsFrom, KeepsFrom, Finishes, trees_joined, with_tree, item_step, pair_step}

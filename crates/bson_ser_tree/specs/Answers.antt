@@ -3,7 +3,7 @@ use Rattle.std.specs.Prelude.{◌≡◌, Bool, Result, Ok, Err}
 use Rattle.bson_kinds.specs.Outcome.{◌>>=◌}
 use Rattle.bson_base.specs.Tree.{Tree, document, kind, Pairs}
 use Rattle.bson_values.specs.Cause.{not_document}
-use Rattle.bson_values.specs.Refusal.{WriteFault, unwritable, Refusal, here, Failure, no_memory, bare, placed, with_path}
+use Rattle.bson_values.specs.Refusal.{WriteFault, unwritable, Refusal, here, Failure, no_memory, bare, placed, with_path, FailsAs}
 use Rattle.bson_values.specs.ErrorView.{write_failure}
 use Rattle.bson_values.specs.declared.ser.Error.{Error}
 use Rattle.bson_values.specs.Value.{Value}
@@ -18,12 +18,6 @@ with_paths (Err r) = Err (with_path r)
 abbrev pub without_paths : {Y : Type 0} → Writing Y → Result Y (Failure WriteFault)
 without_paths (Ok x) = Ok x
 without_paths (Err r) = Err (bare r.fault)
-
--- the answer is this failure; nothing is said where memory ran out
-abbrev pub FailsAs : {Y : Type 0} → Failure WriteFault → Result Y (Failure WriteFault) → Type 0
-FailsAs no_memory answer = Unit {0}
-FailsAs (bare f) answer = answer ≡ Err (bare f)
-FailsAs (placed path f) answer = answer ≡ Err (placed path f)
 
 -- A call gives what is answered, seen so, or its failure; or memory ran out.
 abbrev pub Gives : {X Y : Type 0} → (X → Y) → Result X Error → Result Y (Failure WriteFault) → Type 0

@@ -4,13 +4,13 @@ use Rattle.bson_kinds.specs.Outcome.{◌>>=◌}
 use Rattle.bson_base.specs.Pairs.{put}
 use Rattle.bson_kinds.specs.Text.{Utf8}
 use Rattle.bson_base.specs.Tree.{Tree, Trees, no_trees, tree, Pairs}
-use Rattle.bson_values.specs.Refusal.{no_memory}
+use Rattle.bson_values.specs.Refusal.{no_memory, FailsAs}
 use Rattle.bson_values.specs.ErrorView.{write_failure}
 use Rattle.bson_values.specs.Value.{Value}
 use Rattle.bson_values.specs.declared.ser.Error.{Error}
 use Rattle.bson_laws.specs.Spell.{Writing}
 use Rattle.bson_tree_laws.specs.TreeSpell.{tree_spell}
-use Rattle.bson_ser_tree.specs.Answers.{FailsAs, without_paths}
+use Rattle.bson_ser_tree.specs.Answers.{without_paths}
 use Rattle.bson_ser_tree.specs.Taking.{HasFailed, AnswersFailed}
 
 -- what the definition gives was made; or nothing is left, and the refusal is answered without its path, or that memory ran out

@@ -5,13 +5,13 @@ use Rattle.bson_kinds.specs.Text.{Utf8}
 use Rattle.bson_base.specs.Tree.{Tree, no_pairs}
 use Rattle.bson_base.specs.declared.bson.Bson.{Bson}
 use Rattle.bson_values.specs.Cause as cause
-use Rattle.bson_values.specs.Refusal.{unwritable, no_memory, bare}
+use Rattle.bson_values.specs.Refusal.{unwritable, no_memory, bare, FailsAs}
 use Rattle.bson_values.specs.ErrorView.{write_failure}
 use Rattle.bson_values.specs.Value.{Value, str, map, Items, item, Entries, entry, FieldValues, field_value}
 use Rattle.bson_values.specs.declared.ser.Error.{Error}
 use Rattle.bson_laws.specs.Spell.{Writing}
 use Rattle.bson_tree_laws.specs.TreeSpell.{tree_items, tree_entries, tree_fields, tree_key_text, tree_whole}
-use Rattle.bson_ser_tree.specs.Answers.{FailsAs, without_paths}
+use Rattle.bson_ser_tree.specs.Answers.{without_paths}
 use Rattle.bson_writing.specs.Joined.{items_joined, entries_joined, fields_joined, with_item, with_entry, with_field}
 use Rattle.bson_ser_tree.specs.Made.{ItemsMade, PairsMade, EntriesMade}
 

@@ -11,7 +11,7 @@ use Rattle.bson_shape.specs.Fronts.{HasTextNames, is_longer, goes_on}
 use Rattle.bson_shape.specs.FirstRefusal.{MakerRefusal}
 use Rattle.bson_shape.specs.declared.error.ShapeError.{ShapeError}
 use Rattle.bson_kinds.specs.Outcome.{◌>>=◌}
-use Rattle.bson_shape.specs.Machine.{Refusal, Not_notation, Refused, Level, In_prefix, In_brackets, In_pair, In_compact, In_map, In_item, Form_at, Reference_at, Mode, Bare, Named, Done, State, made, Ended, prefixed, wrapped}
+use Rattle.bson_shape.specs.Machine.{Refusal, Not_notation, Refused, Level, In_prefix, In_brackets, In_pair, In_compact, In_map, In_item, Form_at, Reference_at, Mode, Bare, Named, Done, State, maker_answer, Ended, prefixed, wrapped}
 use Rattle.bson_shape.proofs.Made.{made_form-made}
 use Rattle.bson_shape.proofs.Words.{of_word-is}
 use Rattle.bson_shape.proofs.TextStates.{TextLevels, TextMode, names-prefixed}
@@ -30,7 +30,7 @@ keeps_more (Err (Not_notation q)) read f g around st same names k = k
 keeps_more (Err (Refused r)) read f g around st same names k = k
 
 made_keeps : (r : Result Form ShapeError) (read place : ℕ) (f g : Form) (around st : List Level) → IfOk r (λ h. h ≡ g) → levels_text st ++ text g ≡ levels_text around ++ text f → (HasTextNames f → TextLevels around → HasTextNames g × TextLevels st)
-    → Keeps read g st (wrapped read g st) → Keeps read f around (made read place r >>= λ h. wrapped read h st)
+    → Keeps read g st (wrapped read g st) → Keeps read f around (maker_answer read place r >>= λ h. wrapped read h st)
 made_keeps (Ok h) read place f g around st is same names k = subst (λ h. Keeps read f around (wrapped read h st)) (sym is) (keeps_more (wrapped read g st) read f g around st same names k)
 made_keeps (Err e) read place f g around st is same names k = refl
 

@@ -194,13 +194,13 @@ prefixed (Definitions_prefix h) f = definitions h f
 -- ---- the end of a form or an item
 
 -- the maker's answer behind so many bytes, for a form that begins at the place
-abbrev pub made : ℕ → ℕ → Result Form ShapeError → Result Form Refusal
-made read place (Ok f) = Ok f
-made read place (Err e) = Err (Refused (record { met = read; place = place; cause = e }))
+abbrev pub maker_answer : ℕ → ℕ → Result Form ShapeError → Result Form Refusal
+maker_answer read place (Ok f) = Ok f
+maker_answer read place (Err e) = Err (Refused (record { met = read; place = place; cause = e }))
 
 -- the last byte of a form that begins at the second place
 abbrev pub form_closed : ℕ → ℕ → List Level → Result Form ShapeError → Result State Refusal
-form_closed at place st r = made (at + 1) place r >>= λ f. Ok (Done f, st)
+form_closed at place st r = maker_answer (at + 1) place r >>= λ f. Ok (Done f, st)
 
 -- a closing bracket, and what it ends
 abbrev pub bracket_closed : ℕ → List Level → Closed → Result State Refusal
@@ -244,7 +244,7 @@ Ended = Form × List Level
 -- a form that ends behind so many bytes, with the prefixes around it, which end with it
 unfoldable pub wrapped : ℕ → Form → List Level → Result Ended Refusal
 wrapped read f [] = Ok (f, [])
-wrapped read f (In_prefix place p ∷ st) = made read place (made_form (prefixed p f)) >>= λ g. wrapped read g st
+wrapped read f (In_prefix place p ∷ st) = maker_answer read place (made_form (prefixed p f)) >>= λ g. wrapped read g st
 wrapped read f (In_brackets place ∷ st) = Ok (f, In_brackets place ∷ st)
 wrapped read f (In_pair place ∷ st) = Ok (f, In_pair place ∷ st)
 wrapped read f (In_compact place r ∷ st) = Ok (f, In_compact place r ∷ st)

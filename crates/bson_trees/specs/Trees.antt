@@ -72,18 +72,11 @@ abbrev pub is_scalar : Extended → Bool
 is_scalar (javascript_code_with_scope code scope) = false
 is_scalar x = true
 
--- the data that one is; of a code with a scope nothing is said
+-- what is read; of a refusal nothing is said
+abbrev pub read_or_unit : Reading Marked → Marked
+read_or_unit (Ok v) = v
+read_or_unit (Err e) = value.unit
+
+-- the data that one is
 abbrev pub scalar_at : Extended → Marked
-scalar_at (binary subtype b) = datum made (tree.binary subtype b.bytes)
-scalar_at undefined = datum made tree.undefined
-scalar_at (object_id id) = datum made (tree.object_id id.bytes)
-scalar_at (date_time n) = datum made (tree.date_time n)
-scalar_at (regular_expression pattern options) = datum made (tree.regular_expression pattern.bytes (sorted options.bytes))
-scalar_at (db_pointer namespace id) = datum made (tree.db_pointer namespace.bytes id)
-scalar_at (javascript_code t) = datum made (tree.javascript_code t.bytes)
-scalar_at (symbol t) = datum made (tree.symbol t.bytes)
-scalar_at (javascript_code_with_scope code scope) = value.unit
-scalar_at (timestamp time increment) = datum made (tree.timestamp time increment)
-scalar_at (decimal128 b) = datum made (tree.decimal128 b)
-scalar_at max_key = datum made tree.max_key
-scalar_at min_key = datum made tree.min_key
+scalar_at x = read_or_unit (extended_at x)

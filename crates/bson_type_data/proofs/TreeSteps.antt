@@ -17,10 +17,10 @@ use Rattle.bson_datum.specs.declared.datum.Entry.{Entry}
 use Rattle.bson_datum.specs.declared.datum.Field.{Field}
 use Rattle.bson_laws.specs.Datum.{datum, pair_data, tree_data, itself}
 use Rattle.bson_values.specs.Value.{Items, item, Entries, entry, str, structure}
-use Rattle.bson_values.specs.Refusal.{Failure, ReadFault}
+use Rattle.bson_values.specs.Refusal.{Failure, ReadFault, FailsAs}
 use Rattle.bson_values.specs.TextView.{text_view}
 use Rattle.bson_values.specs.declared.text.Text.{Text}
-use Rattle.bson_type_data.specs.Answers.{Reading, not_fitting, FailsAs}
+use Rattle.bson_type_data.specs.Answers.{Reading, not_fitting}
 use Rattle.bson_type_data.specs.Trees.{scoped_name, named_code, code_and_scope, scoped_tree, taken_struct, taken_tree, taken_trees, taken_document, taken_fields, taken_scoped}
 use Rattle.bson_type_data.specs.Scalars.{taken_text}
 use Rattle.bson_type_data.proofs.Joined.{joined, joined_datum, joined_nothing, joined_entries, joined_entry, no_entry}

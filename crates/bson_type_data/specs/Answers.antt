@@ -1,7 +1,7 @@
 -- What calls that write and read values of a type answer: what the meaning of the type says, or out of memory. Source: this library's own errors.
 use Rattle.std.specs.Prelude.{◌≡◌, Result, Ok, Err}
 use Rattle.bson_values.specs.Cause as cause
-use Rattle.bson_values.specs.Refusal.{ReadFault, WriteFault, unreadable, Failure, no_memory, bare, placed}
+use Rattle.bson_values.specs.Refusal.{ReadFault, WriteFault, unreadable, Failure, no_memory, bare, placed, FailsAs}
 use Rattle.bson_values.specs.ErrorView.{read_failure, write_failure}
 use Rattle.bson_values.specs.declared.de.Error.{Error as ReadError}
 use Rattle.bson_values.specs.declared.ser.Error.{Error as WriteError}
@@ -17,12 +17,6 @@ Writing C = Result C (Failure WriteFault)
 -- the failure of a datum that no value of the type has
 abbrev pub not_fitting : Failure ReadFault
 not_fitting = bare (unreadable cause.not_fitting)
-
--- the answer is this failure; nothing is said where memory ran out
-abbrev pub FailsAs : {Y F : Type 0} → Failure F → Result Y (Failure F) → Type 0
-FailsAs no_memory answer = Unit {0}
-FailsAs (bare f) answer = answer ≡ Err (bare f)
-FailsAs (placed path f) answer = answer ≡ Err (placed path f)
 
 -- A call that reads gives what is answered, its value seen so, or its failure; or memory ran out.
 abbrev pub Reads : {X Y : Type 0} → (X → Y) → Result X ReadError → Reading Y → Type 0

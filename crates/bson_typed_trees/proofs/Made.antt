@@ -2,11 +2,11 @@
 use Rattle.std.proofs.Common.{◌≡◌, Result, Ok, Err, ap, ◌∙◌}
 use Rattle.bson_kinds.specs.Outcome.{◌>>=◌}
 use Rattle.bson_values.specs.ErrorView.{write_failure}
-use Rattle.bson_values.specs.Refusal.{WriteFault, Failure, no_memory, bare, placed}
+use Rattle.bson_values.specs.Refusal.{WriteFault, Failure, no_memory, bare, placed, FailsAs}
 use Rattle.bson_values.specs.Value.{Value}
 use Rattle.bson_values.specs.declared.ser.Error.{Error}
 use Rattle.bson_ser_tree.specs.Answers as tree
-use Rattle.bson_type_data.specs.Answers.{Writing, FailsAs, Writes}
+use Rattle.bson_type_data.specs.Answers.{Writing, Writes}
 
 -- the type refuses the value, or memory ran out for its datum
 pub fails_then : {Y : Type 0} (f : Failure WriteFault) (w : Writing Value) (next : Value → Writing Y) → FailsAs f w → FailsAs f (w >>= next)

@@ -7,7 +7,7 @@ use Rattle.bson_kinds.specs.Text.{Bytes}
 use Rattle.bson_io.specs.Ends.{Rose}
 use Rattle.bson_shape.specs.Form.{Form}
 use Rattle.bson_values.specs.ErrorView.{read_failure}
-use Rattle.bson_values.specs.Refusal.{ReadFault, Failure, no_memory, bare, placed}
+use Rattle.bson_values.specs.Refusal.{ReadFault, Failure, no_memory, bare, placed, FailsAs}
 use Rattle.bson_values.specs.Value.{Value}
 use Rattle.bson_datum.specs.View.{view}
 use Rattle.bson_datum.specs.declared.datum.Datum.{Datum}
@@ -15,7 +15,7 @@ use Rattle.bson_values.specs.declared.de.Error.{Error}
 use Rattle.bson_source.specs.FirstDocument.{first_document}
 use Rattle.bson_source.specs.FromSource.{IsAll, Stops, Ends, ReadsOne, read_first}
 use Rattle.bson_de_source.proofs.Then.{stops_then, ends_then}
-use Rattle.bson_type_data.specs.Answers.{Reading, FailsAs, Reads}
+use Rattle.bson_type_data.specs.Answers.{Reading, Reads}
 use Rattle.bson_types.specs.FromSource.{ReadsAt}
 use Rattle.bson_types.proofs.Read.{gives_so}
 

@@ -6,16 +6,15 @@ use Rattle.bson_kinds.specs.Outcome.{result_map}
 use Rattle.bson_base.specs.Sound.{max_bytes, IsSound}
 use Rattle.bson_kinds.specs.Text.{Bytes}
 use Rattle.bson_base.specs.Tree.{Tree, enc}
-use Rattle.bson_values.specs.Refusal.{WriteFault, Failure, no_memory, bare, placed}
+use Rattle.bson_values.specs.Refusal.{WriteFault, Failure, no_memory, bare, placed, FailsAs}
 use Rattle.bson_values.specs.Value.{Value}
 use Rattle.bson_values.specs.declared.ser.Error.{Error}
 use Rattle.bson_values.specs.ErrorView.{write_failure}
 use Rattle.bson_laws.specs.Means.{means}
 use Rattle.bson_laws.specs.Spell.{spell_document, size}
-use Rattle.bson_ser_stream.specs.Writing as stream
-use Rattle.bson_ser_stream.specs.Writing.{Fails, too_long_failure}
-use Rattle.bson_type_data.specs.Answers.{Writing, FailsAs}
-use Rattle.bson_types.specs.Typed.{GivesBytes, WritesDocument, WritesBytes}
+use Rattle.bson_ser_stream.specs.Writing.{Fails, too_long_failure, GivesBytes}
+use Rattle.bson_type_data.specs.Answers.{Writing}
+use Rattle.bson_types.specs.Typed.{WritesDocument, WritesBytes}
 
 -- ---- no bytes
 
@@ -34,15 +33,11 @@ no_datum see e w h = fails_so see (write_failure e) e w refl h
 
 -- ---- bytes
 
-same_bytes : (bytes : Bytes) (r : Result (Vec ℕ) Error) → stream.GivesBytes bytes r → GivesBytes (λ v. v.items) bytes r
-same_bytes bytes (Ok v) h = h
-same_bytes bytes (Err e) h = h
-
 pub datum_written : (v : Value) (w : Writing Value) (r : Result (Vec ℕ) Error) → w ≡ Ok v → IfOk r (λ out. result_map enc (spell_document v) ≡ Ok out.items) → OnOk r (size v ≤ max_bytes)
     → IfErr r (λ e. Fails (size v) (spell_document v) (write_failure e)) → IfErr r (λ e. write_failure e ≡ too_long_failure → max_bytes < size v)
-    → ((t : Tree) → means v ≡ Some t → IsSound t → stream.GivesBytes (enc t) r) → WritesBytes (λ x. x.items) w r
+    → ((t : Tree) → means v ≡ Some t → IsSound t → GivesBytes (λ (out : Vec ℕ). out.items) (enc t) r) → WritesBytes (λ x. x.items) w r
 datum_written v w r is b f e l s =
-    subst (λ z. WritesBytes (λ x. x.items) z r) (sym is) (record { bytes = b; fits = f; refused = e; too_long = l; sound = λ t m h. same_bytes (enc t) r (s t m h) })
+    subst (λ z. WritesBytes (λ x. x.items) z r) (sym is) (record { bytes = b; fits = f; refused = e; too_long = l; sound = s })
 
 -- what is written of the datum of a value is written of the value
 pub value_written : {X : Type 0} (see : X → Bytes) (v : Value) (w : Writing Value) (r : Result X Error) → w ≡ Ok v → WritesDocument see v r → WritesBytes see w r

@@ -12,16 +12,11 @@ use Rattle.bson_values.specs.declared.ser.Error.{Error as WriteError}
 use Rattle.bson_laws.specs.Means.{means, norm}
 use Rattle.bson_laws.specs.Reads.{reads_document}
 use Rattle.bson_laws.specs.Spell.{spell_document, size}
-use Rattle.bson_ser_stream.specs.Writing.{Fails, too_long_failure}
+use Rattle.bson_ser_stream.specs.Writing.{Fails, too_long_failure, GivesBytes}
 use Rattle.bson_type_data.specs.Answers.{Reading, Writing}
 use Rattle.bson_traits.specs.ShapeOf.{read_typed}
 
 -- ---- writing
-
--- these bytes are given, or memory ran out
-abbrev pub GivesBytes : {X : Type 0} → (X → Bytes) → Bytes → Result X WriteError → Type 0
-GivesBytes see bytes (Ok x) = see x ≡ bytes
-GivesBytes see bytes (Err e) = write_failure e ≡ no_memory
 
 -- A datum is written as the bytes of a document, or refused: what `to_vec_at` promises for it.
 pub record WritesDocument {X : Type 0} (see : X → Bytes) (v : Value) (result : Result X WriteError) : Type 0 where

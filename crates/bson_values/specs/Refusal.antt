@@ -1,5 +1,5 @@
 -- What is wrong with a value, and where it is. Source: serde's data model.
-use Rattle.std.specs.Prelude.{ℕ, ℤ, List, [], ◌∷◌, Result, Ok, Err}
+use Rattle.std.specs.Prelude.{◌≡◌, ℕ, ℤ, List, [], ◌∷◌, Result, Ok, Err}
 use Rattle.bson_kinds.specs.Text.{Utf8}
 use Rattle.bson_base.specs.Tree.{Tree}
 use Rattle.bson_values.specs.Cause.{Cause}
@@ -71,3 +71,9 @@ pub data Failure (F : Type 0) : Type 0 where
 -- a refusal as a call answers it, with its path
 abbrev pub with_path : {F : Type 0} → Refusal F → Failure F
 with_path r = placed r.path (bare r.fault)
+
+-- the answer is this failure; nothing is said where memory ran out
+abbrev pub FailsAs : {Y F : Type 0} → Failure F → Result Y (Failure F) → Type 0
+FailsAs no_memory answer = Unit {0}
+FailsAs (bare f) answer = answer ≡ Err (bare f)
+FailsAs (placed path f) answer = answer ≡ Err (placed path f)

@@ -1,11 +1,11 @@
 use Rattle.std.proofs.Common.{ap, sym, subst, ◌∙◌}
+use Rattle.bson_values.specs.Refusal.{FailsAs}
 use Rattle.bson_values.specs.ErrorView.{read_fault, read_failure}
 use Rattle.bson_values.specs.Stop.{stop_view}
 use Rattle.bson_laws.specs.CompactReads.{reads}
 use Rattle.bson_laws.specs.Reads.{answered}
 use Rattle.bson_laws.specs.Unrolled.{whole}
 use Rattle.bson_rawdoc.specs.DocumentView.{document_bytes}
-use Rattle.bson_de_raw.specs.Gives.{FailsAs}
 use Rattle.bson_laws.proofs.Enveloped.{document_read}
 use Rattle.bson_de_raw.proofs.Documents.{placed_as}
 use Rattle.bson_de_raw.proofs.document.read_document.Goals as goal

@@ -4,7 +4,7 @@ use Rattle.std.specs.Prelude.{option_and_then, string_bytes}
 use Rattle.bson_shape.specs.Makers.{has_repeat}
 use Rattle.bson_shape.specs.ShapeView.{fields_of}
 use Rattle.bson_shape.specs.declared.shape.FieldShape.{FieldShape}
-use Rattle.bson_evolve_laws.specs.Named.{form_of}
+use Rattle.bson_laws.specs.Named.{form_of}
 use Rattle.bson_evolve_laws.specs.Rows as rows
 use Rattle.bson_evolve_check.specs.Steps.{behind, steps_view, variant_path}
 use Rattle.bson_evolve_check.proofs.Found.{field_names_of}

@@ -1,5 +1,5 @@
 use Rattle.std.proofs.Common.{◌≡◌, ◌≤◌, length, take}
-use Rattle.bson_infer_run.specs.NamesView.{place_among}
+use Rattle.bson_kinds.specs.Places.{place_among}
 use Rattle.bson_infer_run.proofs.NamePlaces.{texts_of}
 use Rattle.bson_infer_run.proofs.names.scan.Given as goal
 

@@ -1,5 +1,5 @@
 use Rattle.std.proofs.Common.{◌≡◌, ◌≤◌, length, take, map}
-use Rattle.bson_keys.specs.Places.{place_among}
+use Rattle.bson_kinds.specs.Places.{place_among}
 use Rattle.bson_keys.proofs.places.scan.Given as goal
 
 -- the text is none of the keys from this place on

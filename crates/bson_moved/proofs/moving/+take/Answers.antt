@@ -3,6 +3,7 @@ use Rattle.std.specs.Prelude.{is_some, option_map, string_bytes}
 use Rattle.std.specs.Vec.Iter.{into_iter_items}
 use Rattle.std.proofs.lemmas.Bool.{or_parts}
 use Rattle.std.proofs.lemmas.List.{at_drop_all}
+use Rattle.bson_kinds.specs.Text.{is_free_name}
 use Rattle.bson_base.specs.BsonView.{tree_of, trees_of, pairs_of}
 use Rattle.bson_base.specs.Pairs.{lookup}
 use Rattle.bson_base.specs.Tree as trees
@@ -19,7 +20,7 @@ use Rattle.bson_datum.specs.declared.datum.Datum.{Datum}
 use Rattle.bson_datum.specs.declared.datum.Field.{Field}
 use Rattle.bson_datum.proofs.Views.{view-Seq}
 use Rattle.bson_laws.specs.Views.{views, views_at, views_fields, views_items, absent}
-use Rattle.bson_moved.specs.Simple.{is_free_name, is_simple, are_simple}
+use Rattle.bson_moved.specs.Simple.{is_simple, are_simple}
 use Rattle.bson_moved.proofs.Moves.{items_and, fields_and, parts_present, inner_present, items_next, items_end, next_there, fields_end, field_more, others_present, owned_more, document_tree, array_tree}
 use Rattle.bson_moved.proofs.Plain.{both, field_parts}
 use Rattle.bson_moved.proofs.Present.{optional_some}

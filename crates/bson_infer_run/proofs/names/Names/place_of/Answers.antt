@@ -2,7 +2,7 @@ use Rattle.std.proofs.Common.{◌≡◌, MatchOption, map, false, length, ap, su
 use Rattle.std.specs.List.{list_any}
 use Rattle.std.specs.Str.{bytes_eq}
 use Rattle.std.proofs.lemmas.List.{length-map}
-use Rattle.bson_infer_run.specs.NamesView.{place_among}
+use Rattle.bson_kinds.specs.Places.{place_among}
 use Rattle.bson_infer_run.specs.SummaryView.{IsAt}
 use Rattle.bson_infer_run.proofs.NamePlaces.{texts_of, found}
 use Rattle.bson_infer_run.proofs.names.Names.place_of.Goals as goal
