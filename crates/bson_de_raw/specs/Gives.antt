@@ -1,6 +1,6 @@
 -- What a reader of whole documents returns: what the definition of reading answers, or out of memory. Source: this library's own errors.
 use Rattle.std.specs.Prelude.{◌≡◌, Result, Ok, Err}
-use Rattle.bson_values.specs.Refusal.{ReadFault, Failure, no_memory, bare, placed, FailsAs}
+use Rattle.bson_values.specs.Refusal.{ReadFault, Failure, no_memory, FailsAs}
 use Rattle.bson_values.specs.Value.{Value}
 use Rattle.bson_datum.specs.View.{view}
 use Rattle.bson_values.specs.ErrorView.{read_failure}

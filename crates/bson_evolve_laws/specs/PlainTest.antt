@@ -1,6 +1,6 @@
 -- Whether a shape is plain. Source: bsonspec.org, version 1.1, `e_name` and `cstring`, with serde's data model.
-use Rattle.std.specs.Prelude.{Bool, true, false, ◌&&◌, not}
-use Rattle.bson_kinds.specs.Text.{Utf8, has_zero, begins_with_dollar, is_free_name}
+use Rattle.std.specs.Prelude.{Bool, true, false, ◌&&◌}
+use Rattle.bson_kinds.specs.Text.{is_free_name}
 use Rattle.bson_shape.specs.Form.{Form, leaf, optional, lossy, human_readable, by_mode, sequence, newtype, unit_structure, map, tuple, tuple_structure, structure, enumeration, reference, definitions, Fields, no_fields, field, Parts, no_parts, part, Content, unit_content, newtype_content, tuple_content, struct_content, Variants, no_variants, variant}
 use Rattle.bson_shape.specs.Makers.{are_units, has_field}
 use Rattle.bson_shape.specs.declared.leaf.Leaf.{Leaf}

@@ -1,8 +1,7 @@
 -- Values that are written for a human reader. Source: serde's `is_human_readable`.
-use Rattle.std.specs.Prelude.{if◌then◌else◌, Err, codes}
+use Rattle.std.specs.Prelude.{if◌then◌else◌, Err}
 use Rattle.std.specs.Str.{bytes_eq}
 use Rattle.bson_kinds.specs.Outcome.{result_map}
-use Rattle.bson_kinds.specs.Text.{Utf8}
 use Rattle.bson_values.specs.Value.{Value, newtype, readable_newtype}
 use Rattle.bson_type_data.specs.Answers.{Reading, Writing, not_fitting}
 

@@ -1,5 +1,5 @@
 -- The lines that are printed. Source: this library's own programs.
-use Rattle.std.specs.Prelude.{ℕ, [], ◌∷◌, ◌++◌, codes}
+use Rattle.std.specs.Prelude.{ℕ, ◌++◌, codes}
 use Rattle.std.specs.Fmt.{decimal}
 use Rattle.bson_kinds.specs.Text.{Utf8}
 use Rattle.bson_program.specs.ShapeWord.{newline}

@@ -1,6 +1,6 @@
 -- The shapes at which values are moved out of a tree in memory. Source: serde's data model.
-use Rattle.std.specs.Prelude.{Bool, true, false, ◌&&◌, not}
-use Rattle.bson_kinds.specs.Text.{Utf8, has_zero, begins_with_dollar, is_free_name}
+use Rattle.std.specs.Prelude.{Bool, true, false, ◌&&◌}
+use Rattle.bson_kinds.specs.Text.{is_free_name}
 use Rattle.bson_shape.specs.Form.{Form, leaf, optional, sequence, structure, dropped, Fields, no_fields, field}
 use Rattle.bson_shape.specs.declared.leaf.Leaf.{Leaf}
 use Rattle.bson_shape.specs.declared.leaf.Leaf.TheVariants.{Bool as BoolLeaf, I8, I16, I32, I64, U8, U16, U32, U64, Double, String}

@@ -10,7 +10,7 @@ use Rattle.bson_kinds.specs.Outcome.{◌>>=◌, result_map}
 use Rattle.bson_base.specs.Parsed.{bytes_of_digits}
 use Rattle.bson_kinds.specs.Text.{Bytes, Utf8}
 use Rattle.bson_base.specs.Tree as trees
-use Rattle.bson_base.specs.Tree.{Tree, Trees, Pairs, no_pairs, pair, kind}
+use Rattle.bson_base.specs.Tree.{Tree, Pairs, no_pairs, pair, kind}
 use Rattle.bson_base.specs.declared.bson.Bson as bson
 use Rattle.bson_base.specs.declared.bson.Bson.{Bson, Row_of-Bson, end_of-Bson, more_of-Bson}
 use Rattle.bson_base.specs.declared.document.Document.{Document}

@@ -1,6 +1,5 @@
 -- What a writer answers. Source: bsonspec.org, version 1.1, `document` and `element`.
 use Rattle.std.specs.Prelude.{◌≡◌, ℕ, zero, suc, ◌<◌, [], ◌∷◌, ◌++◌, ◌⊎◌, Result, Ok, Err}
-use Rattle.std.specs.Global.{Vec}
 use Rattle.bson_kinds.specs.Text.{Bytes, Utf8}
 use Rattle.bson_kinds.specs.Outcome.{◌>>=◌, result_map}
 use Rattle.bson_base.specs.Sound.{max_bytes}

@@ -3,7 +3,7 @@ use Rattle.std.specs.Prelude.{◌≡◌, Bool, Result, Ok, Err}
 use Rattle.bson_kinds.specs.Outcome.{◌>>=◌}
 use Rattle.bson_base.specs.Tree.{Tree, document, kind, Pairs}
 use Rattle.bson_values.specs.Cause.{not_document}
-use Rattle.bson_values.specs.Refusal.{WriteFault, unwritable, Refusal, here, Failure, no_memory, bare, placed, with_path, FailsAs}
+use Rattle.bson_values.specs.Refusal.{WriteFault, unwritable, Refusal, here, Failure, bare, with_path, FailsAs}
 use Rattle.bson_values.specs.ErrorView.{write_failure}
 use Rattle.bson_values.specs.declared.ser.Error.{Error}
 use Rattle.bson_values.specs.Value.{Value}

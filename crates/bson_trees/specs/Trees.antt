@@ -1,11 +1,10 @@
 -- What contracts see of values that are read as trees: data. Source: MongoDB's extended JSON, version 2.
 use Rattle.std.specs.Prelude.{Bool, true, false}
 use Rattle.bson_kinds.specs.Outcome.{◌>>=◌, result_map}
-use Rattle.bson_base.specs.Sorted.{sorted}
 use Rattle.bson_kinds.specs.Text.{Utf8}
 use Rattle.bson_base.specs.Tree as tree
 use Rattle.bson_base.specs.Tree.{Tree, Pairs}
-use Rattle.bson_rawdoc.specs.Node.{Node, Nodes, Extended, binary, undefined, object_id, date_time, regular_expression, db_pointer, javascript_code, symbol, javascript_code_with_scope, timestamp, decimal128, max_key, min_key}
+use Rattle.bson_rawdoc.specs.Node.{Node, Nodes, Extended, javascript_code_with_scope}
 use Rattle.bson_rawdoc.specs.Piece.{made}
 use Rattle.bson_values.specs.Marked.{Marked, MarkedItems, MarkedEntries}
 use Rattle.bson_values.specs.Refusal.{under}

@@ -1,7 +1,7 @@
 -- What calls that write and read values of a type answer: what the meaning of the type says, or out of memory. Source: this library's own errors.
 use Rattle.std.specs.Prelude.{◌≡◌, Result, Ok, Err}
 use Rattle.bson_values.specs.Cause as cause
-use Rattle.bson_values.specs.Refusal.{ReadFault, WriteFault, unreadable, Failure, no_memory, bare, placed, FailsAs}
+use Rattle.bson_values.specs.Refusal.{ReadFault, WriteFault, unreadable, Failure, bare, FailsAs}
 use Rattle.bson_values.specs.ErrorView.{read_failure, write_failure}
 use Rattle.bson_values.specs.declared.de.Error.{Error as ReadError}
 use Rattle.bson_values.specs.declared.ser.Error.{Error as WriteError}
