@@ -4,7 +4,7 @@ ghost use Rattle.bson_shape.specs.Makers.{has_repeat, AreDistinct, AreVariants, 
 ghost use Rattle.bson_shape.specs.ShapeView as view;
 ghost use Rattle.bson_shape.specs.ShapeView.{fields_of, parts_of, variants_of};
 ghost use Rattle.bson_laws.specs.Variants.{content_of};
-ghost use Rattle.bson_evolve_laws.specs.Named as named;
+ghost use Rattle.bson_laws.specs.Named as named;
 ghost use Rattle.bson_evolve_laws.specs.Rows as rows;
 ghost use Rattle.bson_evolve_check.specs.Steps.{answered, behind, gone, is_option, steps_view, variant_path};
 

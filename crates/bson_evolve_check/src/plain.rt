@@ -3,6 +3,7 @@ ghost use Rattle.std.specs.Prelude.{◌≡◌, ◌↔◌, true, IsTrue};
 ghost use Rattle.bson_laws.specs.Leaves.{leaf_kind};
 ghost use Rattle.bson_laws.specs.Plain.{IsPlain};
 ghost use Rattle.bson_shape.specs.ShapeView.{content_of, fields_of, parts_of, variants_of};
+ghost use Rattle.bson_kinds.specs.Text as texts;
 ghost use Rattle.bson_evolve_laws.specs.PlainTest as plain;
 
 use crate::leaves::is_text;
@@ -73,7 +74,7 @@ fn is_plain_in(around: Around<'_>, shape: &Shape) -> bool
 
 // Whether the name does not begin with `$` and holds no zero character.
 fn is_free(name: &str) -> bool
-    ensures { result ≡ plain.is_free_name name.now }
+    ensures { result ≡ texts.is_free_name name.now }
 {
     !has_zero(name) && !name.starts_with('$')
 }

@@ -1,6 +1,7 @@
 // The shapes at which values are moved out of a tree.
 ghost use Rattle.std.specs.Prelude.{◌≡◌};
 ghost use Rattle.bson_shape.specs.ShapeView.{fields_of};
+ghost use Rattle.bson_kinds.specs.Text as texts;
 ghost use Rattle.bson_moved.specs.Simple as simple;
 
 use bson_base::has_zero;
@@ -55,7 +56,7 @@ fn is_simple_leaf(leaf: Leaf) -> bool
 
 // Whether a name does not begin with `$` and holds no zero character.
 pub(crate) fn is_free_name(name: &str) -> bool
-    ensures { result ≡ simple.is_free_name name.now }
+    ensures { result ≡ texts.is_free_name name.now }
 {
     !has_zero(name) && !begins_with_dollar(name)
 }

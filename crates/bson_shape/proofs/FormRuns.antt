@@ -617,7 +617,7 @@ mutual
       let p = Definitions_prefix h in
       let a = fields_refusal (at + 2) (length st + 1) h in
       let b = first_refusal body (length st + 1) f in
-      let maker_answer = refusal_of (at + length (text (definitions h f))) at (made_form (definitions h f)) in
+      let made = refusal_of (at + length (text (definitions h f))) at (made_form (definitions h f)) in
       let last = read (at + length (text (definitions h f))) (Done (definitions h f), st) rest in
       by_depth (nat_le 512 (length st)) (definitions h f) rest at st (or_else a b) refl refl
       (λ d. read_step at Form_due st 38 ((in_parens (definition_texts h) ++ text f) ++ rest) (Behind_sign Ampersand at, st) (form_step 38 at st refl d)
@@ -628,7 +628,7 @@ mutual
       ∙ no_more_refused a (read (at + 2 + length items + 1) (Form_due, In_prefix at p ∷ st) (text f ++ rest))
       ∙ ap (λ i. settle a (read i (Form_due, In_prefix at p ∷ st) (text f ++ rest))) (let e : at + 2 + length items + 1 ≡ body = omega (arith, length-append items (41 ∷ [])) in e)
       ∙ ap (settle a) (prefixed_read p f st rest body at (reads_form f) ends (let e : body + length (text f) ≡ at + length (text (definitions h f)) = omega (arith, length-append (in_parens (definition_texts h)) (text f), length-append (items ++ 41 ∷ []) (text f), length-append items (41 ∷ [])) in e))
-      ∙ settle_all a b maker_answer last)
+      ∙ settle_all a b made last)
   reads_form (unit_structure n) rest at st ends =
       by_depth (nat_le 512 (length st)) (unit_structure n) rest at st None refl refl
       (λ d. ap (read at (Form_due, st)) (append_assoc (name_text n) (33 ∷ []) rest)
@@ -650,18 +650,18 @@ mutual
       let end = compact + length (text c) in
       let a = first_refusal readable (length st + 1) r in
       let b = first_refusal compact (length st + 1) c in
-      let maker_answer = refusal_of (end + 1) at (made_form (by_mode r c)) in
+      let made = refusal_of (end + 1) at (made_form (by_mode r c)) in
       let last = read (end + 1) (Done (by_mode r c), st) rest in
       by_depth (nat_le 512 (length st)) (by_mode r c) rest at st (or_else a b) refl refl
       (λ d. read_step at Form_due st 37 ((40 ∷ (text r ++ 44 ∷ (text c ++ 41 ∷ []))) ++ rest) _ (form_step 37 at st refl d)
       ∙ read_step (at + 1) (Behind_sign Percent at) st 40 ((text r ++ 44 ∷ (text c ++ 41 ∷ [])) ++ rest) _ (pair_step at st (at + 1))
       ∙ ap (λ i. read i (Form_due, In_pair at ∷ st) ((text r ++ 44 ∷ (text c ++ 41 ∷ [])) ++ rest)) (let two : at + 1 + 1 ≡ at + 2 = omega arith in two)
       ∙ ap (read readable (Form_due, In_pair at ∷ st)) (pair_group (text r) (text c) rest)
-      ∙ around_read r (In_pair at) st (44 ∷ (text c ++ 41 ∷ rest)) readable (or_else b maker_answer) last (reads_form r) refl
+      ∙ around_read r (In_pair at) st (44 ∷ (text c ++ 41 ∷ rest)) readable (or_else b made) last (reads_form r) refl
       (read_step comma (Done r) (In_pair at ∷ st) 44 (text c ++ 41 ∷ rest) _ (readable_step r at st comma)
-      ∙ around_read c (In_compact at r) st (41 ∷ rest) compact maker_answer last (reads_form c) refl
+      ∙ around_read c (In_compact at r) st (41 ∷ rest) compact made last (reads_form c) refl
       (closed_read (by_mode r c) (Done c, In_compact at r ∷ st) st end at 41 rest (compact_step r c at st end)))
-      ∙ sym (settle_both a (or_else b maker_answer) last) ∙ settle_all a b maker_answer last
+      ∙ sym (settle_both a (or_else b made) last) ∙ settle_all a b made last
       ∙ moved (end + 1) (at + length (text (by_mode r c))) (or_else a b) (Closed_form at (by_mode r c)) st rest (omega (arith, pair_length r c)))
   reads_form (map k v) rest at st ends =
       let key = at + 1 in
@@ -670,16 +670,16 @@ mutual
       let end = value + length (text v) in
       let a = first_refusal key (length st + 1) k in
       let b = first_refusal value (length st + 1) v in
-      let maker_answer = refusal_of (end + 1) at (made_form (map k v)) in
+      let made = refusal_of (end + 1) at (made_form (map k v)) in
       let last = read (end + 1) (Done (map k v), st) rest in
       by_depth (nat_le 512 (length st)) (map k v) rest at st (or_else a b) refl refl
       (λ d. read_step at Form_due st 91 ((text k ++ 58 ∷ (text v ++ 93 ∷ [])) ++ rest) _ (form_step 91 at st refl d)
       ∙ ap (read key (Form_due, In_brackets at ∷ st)) (map_group (text k) (text v) rest)
-      ∙ around_read k (In_brackets at) st (58 ∷ (text v ++ 93 ∷ rest)) key (or_else b maker_answer) last (reads_form k) refl
+      ∙ around_read k (In_brackets at) st (58 ∷ (text v ++ 93 ∷ rest)) key (or_else b made) last (reads_form k) refl
       (read_step colon (Done k) (In_brackets at ∷ st) 58 (text v ++ 93 ∷ rest) _ (key_step k at st colon)
-      ∙ around_read v (In_map at k) st (93 ∷ rest) value maker_answer last (reads_form v) refl
+      ∙ around_read v (In_map at k) st (93 ∷ rest) value made last (reads_form v) refl
       (closed_read (map k v) (Done v, In_map at k ∷ st) st end at 93 rest (value_step k v at st end)))
-      ∙ sym (settle_both a (or_else b maker_answer) last) ∙ settle_all a b maker_answer last
+      ∙ sym (settle_both a (or_else b made) last) ∙ settle_all a b made last
       ∙ moved (end + 1) (at + length (text (map k v))) (or_else a b) (Closed_form at (map k v)) st rest (omega (arith, map_length k v)))
   reads_form (tuple ps) rest at st ends =
       by_depth (nat_le 512 (length st)) (tuple ps) rest at st (parts_refusal (at + 1) (length st + 1) ps) refl refl

@@ -52,7 +52,7 @@ pub(crate) struct Ended {
 
 /// What the maker answered, for a form that begins at the place.
 pub(crate) fn made(place: usize, answer: Result<Shape, ShapeError>) -> Result<Shape, ParseError>
-    ensures { (read : ℕ) → (due : Result Form ShapeError) → Makes answer due → Gives (λ s. s) result (machine.made read place due) }
+    ensures { (read : ℕ) → (due : Result Form ShapeError) → Makes answer due → Gives (λ s. s) result (machine.maker_answer read place due) }
 {
     match answer {
         Ok(shape) => Ok(shape),

@@ -9,12 +9,10 @@ use Rattle.bson_base.specs.Tree.{Pairs}
 use Rattle.bson_rawdoc.specs.declared.raw.Error.{Error}
 use Rattle.bson_rawdoc.specs.declared.raw.Error.TheVariants.{NoMemory}
 use Rattle.bson_values.specs.ErrorView.{read_failure, write_failure}
-use Rattle.bson_values.specs.Refusal.{ReadFault, WriteFault, Failure, no_memory, bare, placed}
+use Rattle.bson_values.specs.Refusal.{ReadFault, WriteFault, Failure, no_memory, bare, placed, FailsAs}
 use Rattle.bson_values.specs.Value.{Value}
 use Rattle.bson_values.specs.declared.de.Error as de
 use Rattle.bson_values.specs.declared.ser.Error as ser
-use Rattle.bson_de_tree.specs.Gives as reading
-use Rattle.bson_ser_tree.specs.Answers as writing
 use Rattle.bson_rawdoc.specs.DocumentTree.{document_pairs, Gives}
 use Rattle.bson_shape.specs.Form.{Form}
 use Rattle.bson_tree_recast.specs.ByTree.{raw_told, unread_for, unencoded_for, or_ends, document_step, value_step, made_step, bytes_step, tree_recast_of}
@@ -92,26 +90,26 @@ document_stopped fault r expected is h = subst (λ o. StopsAs o (or_ends unread_
 
 -- ---- the value
 
-read_failed : (f g : Failure ReadFault) (expected : Result Value (Failure ReadFault)) → reading.FailsAs f expected → f ≡ g → f ≢ no_memory → or_ends in_reading expected ≡ Err (in_reading g)
+read_failed : (f g : Failure ReadFault) (expected : Result Value (Failure ReadFault)) → FailsAs f expected → f ≡ g → f ≢ no_memory → or_ends in_reading expected ≡ Err (in_reading g)
 read_failed no_memory g expected h same some = absurd (some refl)
 read_failed (bare x) g expected h same some = ap (or_ends in_reading) h ∙ ap (λ y. Err (in_reading y)) same
 read_failed (placed p x) g expected h same some = ap (or_ends in_reading) h ∙ ap (λ y. Err (in_reading y)) same
 
 -- a failure of reading ends the recast, unless memory ran out
-pub value_stops : (e : de.Error) (r : RecastError) (expected : Result Value (Failure ReadFault)) → reading.FailsAs (read_failure e) expected → IsReadError e r → StopsAs (stopped r) (or_ends in_reading expected)
+pub value_stops : (e : de.Error) (r : RecastError) (expected : Result Value (Failure ReadFault)) → FailsAs (read_failure e) expected → IsReadError e r → StopsAs (stopped r) (or_ends in_reading expected)
 value_stops e errors.NoMemory expected h is = tt
 value_stops e (errors.Read d) expected h is = read_failed (read_failure e) (read_failure d) expected h (ap read_failure (sym is.0)) is.1
 value_stops e (errors.Write d) expected h is = absurd is
 
 -- ---- the document that is made
 
-write_failed : (f g : Failure WriteFault) (expected : Result Pairs (Failure WriteFault)) → writing.FailsAs f expected → f ≡ g → f ≢ no_memory → or_ends in_writing expected ≡ Err (in_writing g)
+write_failed : (f g : Failure WriteFault) (expected : Result Pairs (Failure WriteFault)) → FailsAs f expected → f ≡ g → f ≢ no_memory → or_ends in_writing expected ≡ Err (in_writing g)
 write_failed no_memory g expected h same some = absurd (some refl)
 write_failed (bare x) g expected h same some = ap (or_ends in_writing) h ∙ ap (λ y. Err (in_writing y)) same
 write_failed (placed p x) g expected h same some = ap (or_ends in_writing) h ∙ ap (λ y. Err (in_writing y)) same
 
 -- a failure of writing ends the recast, unless memory ran out
-pub made_stops : (e : ser.Error) (r : RecastError) (expected : Result Pairs (Failure WriteFault)) → writing.FailsAs (write_failure e) expected → IsWriteError e r → StopsAs (stopped r) (or_ends in_writing expected)
+pub made_stops : (e : ser.Error) (r : RecastError) (expected : Result Pairs (Failure WriteFault)) → FailsAs (write_failure e) expected → IsWriteError e r → StopsAs (stopped r) (or_ends in_writing expected)
 made_stops e errors.NoMemory expected h is = tt
 made_stops e (errors.Write d) expected h is = write_failed (write_failure e) (write_failure d) expected h (ap write_failure (sym is.0)) is.1
 made_stops e (errors.Read d) expected h is = absurd is

@@ -15,7 +15,7 @@ fails_then (bare f) w next h = ap (λ r. r >>= next) h
 fails_then (placed path f) w next h = ap (λ r. r >>= next) h
 
 -- the datum is not made into a tree
-not_made : {Y : Type 0} (f : Failure WriteFault) (w : Writing Value) (v : Value) (next : Value → Writing Y) → w ≡ Ok v → tree.FailsAs f (next v) → FailsAs f (w >>= next)
+not_made : {Y : Type 0} (f : Failure WriteFault) (w : Writing Value) (v : Value) (next : Value → Writing Y) → w ≡ Ok v → FailsAs f (next v) → FailsAs f (w >>= next)
 not_made no_memory w v next is h = tt
 not_made (bare f) w v next is h = ap (λ r. r >>= next) is ∙ h
 not_made (placed path f) w v next is h = ap (λ r. r >>= next) is ∙ h
