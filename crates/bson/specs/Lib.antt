@@ -178,6 +178,7 @@ pub use Rattle.bson_helpers.specs.Helpers
 pub use Rattle.bson_helpers.specs.Marks
 pub use Rattle.bson_program.specs.Command
 pub use Rattle.bson_program.specs.Ends as RunEnds
+pub use Rattle.bson_program.specs.FileLines
 pub use Rattle.bson_program.specs.Input
 pub use Rattle.bson_program.specs.OneShape
 pub use Rattle.bson_program.specs.Prepared

@@ -2,6 +2,7 @@ use Rattle.std.proofs.Common.{Err, ap, sym, subst, ◌∙◌}
 use Rattle.std.proofs.lemmas.Result.{err_from_is_err_and}
 use Rattle.bson_base.specs.Tree.{enc}
 use Rattle.bson_datum.specs.View.{view}
+use Rattle.std.specs.Global.{Vec}
 use Rattle.bson_ser_stream.specs.Writing.{GivesBytes}
 use Rattle.bson_ser_stream.proofs.Meant.{sound_bytes, sound_fails}
 use Rattle.bson_ser_stream.proofs.document.to_vec_counted.Goals as goal
