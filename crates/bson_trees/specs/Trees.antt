@@ -1,5 +1,5 @@
 -- What contracts see of values that are read as trees: data. Source: MongoDB's extended JSON, version 2.
-use Rattle.std.specs.Prelude.{Bool, true, false}
+use Rattle.std.specs.Prelude.{Bool, true, false, Ok, Err}
 use Rattle.bson_kinds.specs.Outcome.{◌>>=◌, result_map}
 use Rattle.bson_kinds.specs.Text.{Utf8}
 use Rattle.bson_base.specs.Tree as tree
