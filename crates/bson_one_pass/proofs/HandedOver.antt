@@ -14,8 +14,8 @@ use Rattle.bson_datum.proofs.Marks.{marked-contents}
 use Rattle.bson_laws.specs.Spell.{Writing, spell, spell_as}
 use Rattle.bson_laws.proofs.Sizes.{spell_kind}
 use Rattle.bson_ser_stream.specs.Writing.{with_tree}
-use Rattle.bson_one_pass.specs.ReadsUnrolled.{reads}
-use Rattle.bson_one_pass.specs.Put.{of_writing, recast_by, recast_node, IsPut}
+use Rattle.bson_pass_parts.specs.ReadsUnrolled.{reads}
+use Rattle.bson_pass_parts.specs.Put.{of_writing, recast_by, recast_node, IsPut}
 
 -- the bytes of what was read and written were appended
 pub alone_put : (s : Form) (levels : ℕ) (n : Node) (d : Datum) (k : ElementType) (empty bytes old new : Bytes) → reads s n ≡ Ok (marked d) → empty ≡ [] → with_tree empty (spell_as false (view d) levels) ≡ Ok bytes

@@ -19,9 +19,9 @@ use Rattle.bson_laws.specs.Spell.{Writing, spell, at_top, spell_document}
 use Rattle.bson_laws.specs.Unrolled.{whole}
 use Rattle.bson_laws.proofs.Enveloped.{document_read}
 use Rattle.bson_laws.proofs.Sizes.{spell_kind}
-use Rattle.bson_one_pass.specs.Put.{of_writing, recast_by, recast_node, recast_for, IsPut}
-use Rattle.bson_one_pass.specs.ReadsUnrolled.{reads}
-use Rattle.bson_one_pass.specs.Recast.{IsRecastAs}
+use Rattle.bson_pass_parts.specs.Put.{of_writing, recast_by, recast_node, recast_for, IsPut}
+use Rattle.bson_pass_parts.specs.ReadsUnrolled.{reads}
+use Rattle.bson_pass_parts.specs.Recast.{IsRecastAs}
 
 -- its value, and the tree that it is written as
 written_by : (v : Marked) (made : Bytes) (w : Writing Tree) → spell (contents v) max_levels ≡ w → IsPut (of_writing w) [] made EmbeddedDocument → (t : Tree) × (spell_document (contents v) ≡ Ok t) × (enc t ≡ made)

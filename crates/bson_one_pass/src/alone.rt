@@ -1,14 +1,14 @@
 // Values that the pass does not take, each by itself.
 ghost use Rattle.std.specs.Prelude.{IfSome};
 ghost use Rattle.bson_rawdoc.specs.Node.{node_in};
-ghost use Rattle.bson_one_pass.specs.Put.{recast_for, IsPut};
+ghost use Rattle.bson_pass_parts.specs.Put.{recast_for, IsPut};
 
-use crate::bytes::put;
 use bson_de::read_for;
 use bson_io::{Out, Steps, Tally};
 use bson_kinds::ElementType;
 use bson_laws::{Origin, Reader};
 use bson_met::Met;
+use bson_pass_parts::put;
 use bson_rawdoc::RawElement;
 use bson_ser_stream::put_value;
 use bson_shape::Shape;

@@ -7,21 +7,20 @@ ghost use Rattle.bson_rawdoc.specs.ValueView.{raw_value};
 ghost use Rattle.bson_rawdoc.specs.Walk.{Element, walk_elements};
 ghost use Rattle.bson_shape.specs.Form.{sequence, reference};
 ghost use Rattle.bson_laws.specs.Scopes.{laid};
-ghost use Rattle.bson_one_pass.specs.Put.{recast_for, recast_items, IsPut, AreItemsPut, IsElementPut};
-ghost use Rattle.bson_one_pass.specs.Run.{IsFirst, IsHead, element_of, run, size};
+ghost use Rattle.bson_pass_parts.specs.Put.{recast_for, recast_items, IsPut, AreItemsPut, IsElementPut};
+ghost use Rattle.bson_pass_parts.specs.Run.{IsFirst, IsHead, element_of, run, size};
 
 use crate::alone::recast_alone;
-use crate::bytes::{close, put, put_front, set_kind};
 use crate::enumeration::recast_enum;
-use crate::kept::{MOST_NESTED, is_kept};
-use crate::leaf::{recast_int32, recast_int64};
-use crate::named::{named_front, named_len, value_under};
-use crate::run::{element_len, put_element, put_run};
 use crate::structure::recast_struct;
-use crate::taken::{is_integer, is_taken, names_taken};
 use crate::value::recast_value;
 use bson_kinds::ElementType;
 use bson_laws::Reader;
+use bson_pass_parts::{
+    MOST_NESTED, close, element_len, is_integer, is_kept, is_taken, named_front, named_len,
+    names_taken, put, put_element, put_front, put_run, recast_int32, recast_int64, set_kind,
+    value_under,
+};
 use bson_rawdoc::reading::{inside, is_closed};
 use bson_rawdoc::{RawBsonRef, RawElement, next_element};
 use bson_shape::{Form, Shape};
@@ -423,15 +422,4 @@ pub(crate) fn recast_item(
     let kind = recast_element(made, reader, shape, levels, element)?;
     set_kind(made, place, kind);
     Some(())
-}
-
-/// The value of an element.
-#[inline(always)]
-pub(crate) fn value_of<'a>(element: &RawElement<'a>, levels: u32) -> Option<RawBsonRef<'a>>
-    ensures { IfSome result (λ v. node_in levels element.now.kind element.now.value ≡ value_node (inner_node levels) (raw_value v)) }
-{
-    match element.value() {
-        Ok(value) => Some(value),
-        Err(_) => None,
-    }
 }

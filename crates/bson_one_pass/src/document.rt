@@ -1,15 +1,14 @@
 // A whole document.
 ghost use Rattle.std.specs.Prelude.{IfSome};
 ghost use Rattle.bson_shape.specs.Form as form;
-ghost use Rattle.bson_one_pass.specs.Recast.{IsRecastAs};
+ghost use Rattle.bson_pass_parts.specs.Recast.{IsRecastAs};
 
-use crate::kept::is_leaf_kept;
-use crate::owned::borrows_nothing;
 use crate::value::recast_value;
 use bson_base::MAX_NESTING_LEVEL;
 use bson_io::MOST;
 use bson_kinds::ElementType;
 use bson_laws::{Origin, Reader};
+use bson_pass_parts::{borrows_nothing, is_leaf_kept};
 use bson_rawdoc::{RawBsonRef, RawDocument};
 use bson_shape::{Form, Leaf, Shape};
 use std::alloc::Global;

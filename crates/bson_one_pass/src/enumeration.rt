@@ -7,18 +7,17 @@ ghost use Rattle.bson_shape.specs.Form as form;
 ghost use Rattle.bson_shape.specs.Makers.{AreVariants, IsContent, has_repeat, variant_names};
 ghost use Rattle.bson_shape.specs.ShapeView.{content_of, variants_of};
 ghost use Rattle.bson_laws.specs.Scopes.{laid_variants, laid_content};
-ghost use Rattle.bson_one_pass.specs.Put.{recast_for, recast_content, IsPut, IsElementPut, AreInsidePut};
-ghost use Rattle.bson_one_pass.specs.Run.{IsHead, element_of};
+ghost use Rattle.bson_pass_parts.specs.Put.{recast_for, recast_content, IsPut, IsElementPut, AreInsidePut};
+ghost use Rattle.bson_pass_parts.specs.Run.{IsHead, element_of};
 
 use crate::array::recast_known;
-use crate::bytes::{close, put, set_kind};
-use crate::kept::MOST_NESTED;
-use crate::named::{named_front, named_len, named_variant};
-use crate::run::put_run;
 use crate::structure::recast_struct;
 use crate::tuple::recast_tuple;
 use bson_kinds::ElementType;
 use bson_laws::Reader;
+use bson_pass_parts::{
+    MOST_NESTED, close, named_front, named_len, named_variant, put, put_run, set_kind,
+};
 use bson_rawdoc::reading::{inside, is_closed};
 use bson_shape::{VariantContent, VariantShape};
 

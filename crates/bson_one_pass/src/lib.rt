@@ -6,23 +6,11 @@
 
 mod alone;
 mod array;
-mod binary;
-mod bytes;
 mod document;
-mod dropped;
 mod enumeration;
-mod extended;
-mod found;
-mod kept;
-mod leaf;
 mod map;
-mod named;
-mod owned;
-mod run;
 mod structure;
-mod taken;
 mod tuple;
 mod value;
-mod variant;
 
 pub use document::{recast_at_once, recast_at_once_utf8_lossy};

@@ -7,16 +7,14 @@ ghost use Rattle.bson_rawdoc.specs.Walk.{walk_elements};
 ghost use Rattle.bson_shape.specs.Form as form;
 ghost use Rattle.bson_values.specs.Value.{no_entries};
 ghost use Rattle.bson_laws.specs.Scopes.{laid};
-ghost use Rattle.bson_one_pass.specs.Free.{takes_keys};
-ghost use Rattle.bson_one_pass.specs.Put.{recast_for, recast_entries, IsPut, ArePairsPut};
+ghost use Rattle.bson_pass_parts.specs.Free.{takes_keys};
+ghost use Rattle.bson_pass_parts.specs.Put.{recast_for, recast_entries, IsPut, ArePairsPut};
 
 use crate::array::recast_next;
-use crate::bytes::{close, put};
-use crate::kept::MOST_NESTED;
-use crate::run::{element_len, put_run};
 use bson_keys::MetKeys;
 use bson_kinds::ElementType;
 use bson_laws::Reader;
+use bson_pass_parts::{MOST_NESTED, close, element_len, put, put_run};
 use bson_rawdoc::reading::inside;
 use bson_rawdoc::{RawDocument, next_element};
 use bson_shape::{Leaf, Shape};
@@ -44,13 +42,6 @@ pub(crate) fn recast_map(
     recast_entries(made, reader, key, shape, levels - 1, inside(bytes))?;
     close(made, start)?;
     Some(ElementType::EmbeddedDocument)
-}
-
-/// Whether a leaf takes every key as it is.
-pub(crate) fn takes_keys(key: Leaf) -> bool
-    ensures { result ≡ takes_keys key }
-{
-    matches!(key, Leaf::Str | Leaf::String)
 }
 
 /// The entries from the elements of a document.

@@ -14,20 +14,18 @@ ghost use Rattle.bson_values.specs.Value.{none};
 ghost use Rattle.bson_laws.specs.Scopes.{laid, laid_fields};
 ghost use Rattle.bson_laws.specs.declared.origin.Reader.{Reader};
 ghost use Rattle.bson_slots.specs.FieldsRead.{unknown_of};
-ghost use Rattle.bson_one_pass.specs.Found.{IsFoundPut, AreFoundPut, AreOthersPut};
-ghost use Rattle.bson_one_pass.specs.Put.{recast_for, recast_fields, IsPut, IsElementPut, ArePairsPut};
-ghost use Rattle.bson_one_pass.specs.ReadsUnrolled.{slots_of, missing_value};
+ghost use Rattle.bson_pass_parts.specs.Found.{IsFoundPut, AreFoundPut, AreOthersPut};
+ghost use Rattle.bson_pass_parts.specs.Put.{recast_for, recast_fields, IsPut, IsElementPut, ArePairsPut};
+ghost use Rattle.bson_pass_parts.specs.ReadsUnrolled.{slots_of, missing_value};
 
 use crate::array::{recast_item, recast_known};
-use crate::bytes::{close, put, put_front, set_kind};
-use crate::dropped::drop_value;
-use crate::found::{find_elements, is_free};
-use crate::kept::MOST_NESTED;
-use crate::named::{named_len, value_under};
-use crate::run::{element_len, put_run};
 use bson_base::has_zero;
 use bson_kinds::ElementType;
 use bson_laws::Reader;
+use bson_pass_parts::{
+    MOST_NESTED, close, drop_value, element_len, find_elements, is_free, named_len, put, put_front,
+    put_run, set_kind, value_under,
+};
 use bson_rawdoc::reading::{inside, is_closed};
 use bson_rawdoc::{RawElement, next_element};
 use bson_shape::{FieldShape, Form};

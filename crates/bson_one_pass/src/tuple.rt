@@ -7,15 +7,12 @@ ghost use Rattle.bson_rawdoc.specs.Walk.{walk_elements};
 ghost use Rattle.bson_shape.specs.Form.{tuple, tuple_structure};
 ghost use Rattle.bson_shape.specs.ShapeView.{parts_of};
 ghost use Rattle.bson_laws.specs.Scopes.{laid_parts};
-ghost use Rattle.bson_one_pass.specs.Put.{recast_for, recast_parts, IsPut, AreItemsPut};
+ghost use Rattle.bson_pass_parts.specs.Put.{recast_for, recast_parts, IsPut, AreItemsPut};
 
 use crate::array::{recast_known, recast_misnamed};
-use crate::bytes::{close, put};
-use crate::kept::MOST_NESTED;
-use crate::named::{named_len, value_under};
-use crate::run::put_run;
 use bson_kinds::ElementType;
 use bson_laws::Reader;
+use bson_pass_parts::{MOST_NESTED, close, named_len, put, put_run, value_under};
 use bson_rawdoc::reading::{inside, is_closed};
 use bson_shape::Shape;
 

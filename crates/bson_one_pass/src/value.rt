@@ -7,18 +7,16 @@ ghost use Rattle.bson_shape.specs.Form.{optional, lossy, newtype, structure, ref
 ghost use Rattle.bson_shape.specs.Makers.{AreDistinct, is_reserved_newtype};
 ghost use Rattle.bson_shape.specs.ShapeView.{fields_of};
 ghost use Rattle.bson_slots.specs.FieldsRead.{unknown_of};
-ghost use Rattle.bson_one_pass.specs.Put.{recast_for, IsPut};
+ghost use Rattle.bson_pass_parts.specs.Put.{recast_for, IsPut};
 
 use crate::array::recast_array;
 use crate::enumeration::recast_enum;
-use crate::leaf::recast_leaf;
 use crate::map::recast_map;
-use crate::owned::borrows_nothing_in;
 use crate::structure::recast_struct;
 use crate::tuple::recast_tuple;
-use crate::variant::recast_variant;
 use bson_kinds::ElementType;
 use bson_laws::Reader;
+use bson_pass_parts::{borrows_nothing_in, recast_leaf, recast_variant};
 use bson_rawdoc::RawBsonRef;
 use bson_shape::{FieldShape, Form, Shape};
 

@@ -9,7 +9,7 @@ use Rattle.bson_base.specs.Tree.{enc}
 use Rattle.bson_shape.specs.Form.{Form}
 use Rattle.bson_laws.specs.Spell.{spell_document, size}
 use Rattle.bson_laws.proofs.ReadAgain.{document_size}
-use Rattle.bson_one_pass.specs.Recast.{IsRecastAs}
+use Rattle.bson_pass_parts.specs.Recast.{IsRecastAs}
 use Rattle.bson_tree_recast.specs.Recast.{writes, recast_read, recast_of}
 use Rattle.bson_recast_run.proofs.RecastErrors.{within}
 

@@ -21,25 +21,25 @@ use Rattle.bson_laws.specs.Scopes.{meanings_of, laid, laid_content, laid_fields,
 use Rattle.bson_laws.specs.Unrolled.{in_table, max_steps}
 use Rattle.bson_laws.proofs.Scoped.{field_fewer, part_fewer}
 use Rattle.bson_slots.specs.FieldsRead.{unknown_of}
-use Rattle.bson_one_pass.specs.Put.{recast_node, recast_for, recast_items, recast_parts, recast_entries, recast_fields, recast_content, IsElementPut, AreItemsPut, ArePairsPut, IsPut}
-use Rattle.bson_one_pass.specs.Found.{name_of}
-use Rattle.bson_one_pass.specs.ReadsUnrolled.{slots_of}
-use Rattle.bson_one_pass.specs.Run.{IsHead, element_of, run, size}
-use Rattle.bson_one_pass.proofs.Containers.{array_node, array_put, document_node, struct_put}
-use Rattle.bson_one_pass.proofs.Entries.{AreEntriesPut, entries_end, map_put}
-use Rattle.bson_one_pass.proofs.Followed.{inside_smaller, inside_put, reference_smaller, reference_put, sequence_put}
-use Rattle.bson_one_pass.proofs.Forms.{newtype_is}
-use Rattle.bson_one_pass.proofs.Items.{AreLeft, left_none}
-use Rattle.bson_one_pass.proofs.Marked.{if_marked_put}
-use Rattle.bson_one_pass.proofs.Pieces.{enclosed_put, item_put, put_within}
-use Rattle.bson_one_pass.proofs.AnyOrder as any_order
-use Rattle.bson_one_pass.proofs.AnyOrder.{if_element_put, if_missing_put, left_less, if_others_put, fewer}
-use Rattle.bson_one_pass.proofs.Places.{AreUnderWay, dropped_step, missing_step, places_end}
-use Rattle.bson_one_pass.proofs.KnownNames.{bytes_same}
-use Rattle.bson_one_pass.proofs.Runs.{first_head, head_at, run_put, next_changed, next_kept, next_within, run_written, walk_next, walk_over}
-use Rattle.bson_one_pass.proofs.Steps.{next_expected, next_entry, next_item, next_part}
-use Rattle.bson_one_pass.proofs.Tuples.{parts_put, tuple_put, tuple_structure_put}
-use Rattle.bson_one_pass.proofs.Variants.{enum_put, if_pair_put, named_content, named_smaller}
+use Rattle.bson_pass_parts.specs.Put.{recast_node, recast_for, recast_items, recast_parts, recast_entries, recast_fields, recast_content, IsElementPut, AreItemsPut, ArePairsPut, IsPut}
+use Rattle.bson_pass_parts.specs.Found.{name_of}
+use Rattle.bson_pass_parts.specs.ReadsUnrolled.{slots_of}
+use Rattle.bson_pass_parts.specs.Run.{IsHead, element_of, run, size}
+use Rattle.bson_pass_parts.proofs.Containers.{array_node, array_put, document_node, struct_put}
+use Rattle.bson_pass_parts.proofs.Entries.{AreEntriesPut, entries_end, map_put}
+use Rattle.bson_pass_parts.proofs.Followed.{inside_smaller, inside_put, reference_smaller, reference_put, sequence_put}
+use Rattle.bson_pass_parts.proofs.Forms.{newtype_is}
+use Rattle.bson_pass_parts.proofs.Items.{AreLeft, left_none}
+use Rattle.bson_pass_parts.proofs.Marked.{if_marked_put}
+use Rattle.bson_pass_parts.proofs.Pieces.{enclosed_put, item_put, put_within}
+use Rattle.bson_pass_parts.proofs.AnyOrder as any_order
+use Rattle.bson_pass_parts.proofs.AnyOrder.{if_element_put, if_missing_put, left_less, if_others_put, fewer}
+use Rattle.bson_pass_parts.proofs.Places.{AreUnderWay, dropped_step, missing_step, places_end}
+use Rattle.bson_pass_parts.proofs.KnownNames.{bytes_same}
+use Rattle.bson_pass_parts.proofs.Runs.{first_head, head_at, run_put, next_changed, next_kept, next_within, run_written, walk_next, walk_over}
+use Rattle.bson_pass_parts.proofs.Steps.{next_expected, next_entry, next_item, next_part}
+use Rattle.bson_pass_parts.proofs.Tuples.{parts_put, tuple_put, tuple_structure_put}
+use Rattle.bson_pass_parts.proofs.Variants.{enum_put, if_pair_put, named_content, named_smaller}
 use Rattle.bson_one_pass.proofs.+recast.Goals.{array::recast_items-in-Some+in_ok-from-in-Some, array::recast_items-in-None+in_ok-at-in-None, tuple::recast_parts-in-Some+in_ok-from-in-Some, tuple::recast_parts-in-None+in_ok-at-in-None}
 use Rattle.bson_one_pass.proofs.+recast.Goals as goal
 

@@ -10,13 +10,13 @@ use Rattle.bson_values.specs.Value.{no_entries}
 use Rattle.bson_laws.specs.Scopes.{meanings_of, laid, laid_content, laid_fields, laid_parts, laid_variants}
 use Rattle.bson_laws.specs.Unrolled.{in_table, max_steps}
 use Rattle.bson_slots.specs.FieldsRead.{unknown_of}
-use Rattle.bson_one_pass.specs.Put.{recast_items, recast_parts, recast_entries, recast_fields}
-use Rattle.bson_one_pass.specs.ReadsUnrolled.{slots_of}
-use Rattle.bson_one_pass.specs.Run.{run}
-use Rattle.bson_one_pass.proofs.Places.{AreUnderWay}
-use Rattle.bson_one_pass.proofs.AnyOrder.{FoundLeft}
-use Rattle.bson_one_pass.proofs.Items.{AreLeft}
-use Rattle.bson_one_pass.proofs.Entries.{AreEntriesPut}
+use Rattle.bson_pass_parts.specs.Put.{recast_items, recast_parts, recast_entries, recast_fields}
+use Rattle.bson_pass_parts.specs.ReadsUnrolled.{slots_of}
+use Rattle.bson_pass_parts.specs.Run.{run}
+use Rattle.bson_pass_parts.proofs.Places.{AreUnderWay}
+use Rattle.bson_pass_parts.proofs.AnyOrder.{FoundLeft}
+use Rattle.bson_pass_parts.proofs.Items.{AreLeft}
+use Rattle.bson_pass_parts.proofs.Entries.{AreEntriesPut}
 use Rattle.bson_one_pass.proofs.+recast.Given as goal
 
 abbrev pub decreases-value::recast_value : goal.decreases-value::recast_value

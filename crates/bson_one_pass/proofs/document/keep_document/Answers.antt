@@ -6,8 +6,8 @@ use Rattle.bson_rawdoc.specs.DocumentView.{document_bytes}
 use Rattle.bson_rawdoc.specs.Envelope.{envelope}
 use Rattle.bson_shape.specs.Form.{leaf}
 use Rattle.bson_laws.proofs.Framed.{frame}
-use Rattle.bson_one_pass.specs.Recast.{IsRecastAs}
-use Rattle.bson_one_pass.proofs.Copies.{document_copied, if_copied, kept_written}
+use Rattle.bson_pass_parts.specs.Recast.{IsRecastAs}
+use Rattle.bson_pass_parts.proofs.Copies.{document_copied, if_copied, kept_written}
 use Rattle.bson_one_pass.proofs.document.keep_document.Goals as goal
 
 pub returns : goal.returns

@@ -1,5 +1,5 @@
 use Rattle.std.proofs.Common.{refl}
-use Rattle.bson_one_pass.proofs.Marked.{if_recast}
+use Rattle.bson_pass_parts.proofs.Marked.{if_recast}
 use Rattle.bson_one_pass.proofs.document.recast_at_once_utf8_lossy.Goals as goal
 
 pub returns : goal.returns

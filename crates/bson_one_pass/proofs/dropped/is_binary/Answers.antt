@@ -1,5 +1,0 @@
-use Rattle.bson_one_pass.proofs.Leaves.{binary_passed}
-use Rattle.bson_one_pass.proofs.dropped.is_binary.Goals as goal
-
-pub returns : goal.returns
-returns c = binary_passed c.args.subtype.0 c.args.bytes.now

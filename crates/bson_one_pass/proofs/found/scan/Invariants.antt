@@ -1,6 +1,0 @@
-use Rattle.std.proofs.Common.{◌≡◌, drop}
-use Rattle.bson_one_pass.specs.Free.{is_free}
-use Rattle.bson_one_pass.proofs.found.scan.Given as goal
-
-abbrev pub invariant-loop-place : goal.invariant-loop-place
-invariant-loop-place l = is_free l.key l.fields ≡ is_free l.key (drop l.place l.fields)

@@ -1,6 +1,0 @@
-use Rattle.std.proofs.Common.{◌≡◌, drop}
-use Rattle.bson_one_pass.specs.Free.{names_unit}
-use Rattle.bson_one_pass.proofs.variant.names_unit.Given as goal
-
-abbrev pub invariant-loop-variant : goal.invariant-loop-variant
-invariant-loop-variant l = names_unit l.name l.variants ≡ names_unit l.name (drop l.variant-index l.variants)
