@@ -24,7 +24,7 @@ impl Document {
         Document::with_seed(alloc, KeySeed::new())
     }
 
-    /// The empty document. Where it comes to have more than eight keys, they are found by hashes that begin with the seed. It takes no memory.
+    /// The empty document. Where it comes to have more than 32 keys, they are found by hashes that begin with the seed. It takes no memory.
     ///
     /// Where keys come from outside, the seed is best that of the bytes that they came in: see `KeySeed`.
     pub fn with_seed(alloc: Global, seed: KeySeed) -> Document

@@ -14,11 +14,11 @@ use std::marker::Model;
 use std::{fmt, mem, vec};
 
 /// How many pairs a map may have before it makes a hash table.
-const MOST_FEW: usize = 8;
+const MOST_FEW: usize = 32;
 
 /// Pairs of a key and a value in order, no key twice. Contracts see it as the list of its pairs.
 ///
-/// Up to eight keys are looked for one after another. The ninth makes a hash table with copies of all keys, which stays when keys are removed. The hashes begin with a
+/// Up to 32 keys are looked for one after another. The next one makes a hash table with copies of all keys, which stays when keys are removed. The hashes begin with a
 /// seed.
 #[derive(Drop)]
 pub struct KeyMap<V> {
