@@ -23,8 +23,7 @@
  * Checking only. A call without an output buffer, of the length 0, writes no output and says whether there would be one, and of how many bytes: see
  * tbson_recast and tbson_migrate.
  *
- * Names. All names that begin with tbson_ or TBSON_ are reserved for this library: later versions add calls, such as reading into a flat list
- * of nodes, comparing shapes, and finding a shape for documents.
+ * Names. All names that begin with tbson_ or TBSON_ are reserved for this library; later versions may add calls.
  */
 #ifndef TBSON_H
 #define TBSON_H

@@ -4,11 +4,11 @@
     tools/derive.py CRATE FILE..
 
 In each FILE, such as src/cat.rt of the crate CRATE, stand one struct with named fields, or one enum whose variants have nothing or one value, both without
-parameters. The impls are put behind the type, and before it the line `use` that they want. The definitions go to specs/NAME.antt of the crate, where `NAME` is that of the file with a
-great letter; declare it in specs/Lib.antt. A type that another one holds comes before it. Where a type has changed, remove its impls first. Then run `rt fmt` in the crate.
+parameters. The impls are put behind the type, and before it the line `use` that they need. The definitions go to specs/NAME.antt of the crate, where `NAME` is the name of the file with
+a capital letter; declare it in specs/Lib.antt. A type that another one holds comes before it. Where a type has changed, remove its impls first. Then run `rt fmt` in the crate.
 
 The types of fields: `bool`, the integer types, `char`, `String`, `Double`, `()`, `ObjectId`, `DateTime`, `Timestamp`, `Decimal128`, `Uuid`, `Binary`,
-`DbPointer`, `Regex`, `JavaScriptCodeWithScope`, `Document`, `Bson`, `Vec<T>`, `Option<T>`, `BTreeMap<String, T>`, and types of other FILEs. An `Option<T>` wants a `T` that is never written as Null.
+`DbPointer`, `Regex`, `JavaScriptCodeWithScope`, `Document`, `Bson`, `Vec<T>`, `Option<T>`, `BTreeMap<String, T>`, and types of other FILEs. An `Option<T>` needs a `T` that is never written as Null.
 """
 import os
 import re

@@ -12,16 +12,16 @@
 //! | writing to trees | `to_bson_at`, `to_document_at`, and with options; `Serializer`, with a writer for each form of value that is given part by part; `SerializerOptions` |
 //! | writing part by part | `DocumentWriter`, `VariantWriter`, `ValueWriter`, over an `Out` |
 //! | types of one's own | `Serialize`, `Deserialize`, `RoundTrip`, `NeverNull`; `to_vec`, `to_raw_document_buf`, `to_bson`, `to_document`, `from_bson`, `from_document`, and with options; `from_slice`, `from_reader`, and lossy; `FieldShapes`, `StructFields`, `add_field`, `struct_datum`, `VariantShapes`, `unit_variant`, `newtype_variant`, `is_unit_variant`, `newtype_value` and `not_fitting` for their impls; `HumanReadable`, `Utf8LossyDeserialization` and the modules of `bson_helpers` |
-//! | both at once | `recast`, `recast_utf8_lossy`, `recast_to_buf` |
+//! | both at once | `recast`, `recast_utf8_lossy`, `recast_to_buf`, `recast_by_tree` |
 //! | the shape of documents | `infer` |
 //! | whether what is written at one shape is read at another | `check` and `Verdict` |
-//! | trees | `Bson`, `Document` with `Iter` and `IntoIter`, and the types of values, such as `ObjectId`, `DateTime` and `Binary`; `read_value` and `Met` to read from one |
+//! | trees | `Bson`, `Document` with `KeySeed`, `Iter`, `Keys` and `IntoIter`, and the types of values, such as `ObjectId`, `DateTime` and `Binary`; `read_value` and `Met` to read from one by the rules for bytes |
 //! | documents in their bytes | `RawDocument`, `RawArray`, `RawElement`, `RawIter`, `RawBsonRef`, `Unjudged`; `RawDocumentBuf`, `RawArrayBuf` to own the bytes; `RawValue`, a value by its kind and bytes, of `raw_from_element` and `raw_from_bson` |
 //! | files of documents | `RawDocuments`; `migrate`, `Migration`, `Refused`, `lines_of` |
 //! | values of kinds that serde's data model lacks | `data` to make them, `reserved` to look at them, `reserved_kind` |
 //! | errors | `ParseError`, `ShapeError`, `de::Error`, `ser::Error`, `raw::Error`, `EncodeError`, `InferError`, `CheckError`, `RecastError`, `MigrateError`; `Cause`, `MAX_NESTING_LEVEL`, `Path`, `Segment`, `Wrapper`, and `Stop` of `read_value` |
 //! | input and output | `Source`, `Sink`, their ends `ReadAdapter`, `WriteAdapter`, `MemorySource`, `MemorySink`, `SteadySource`, `SteadySink`; `read_to_end`, `write_due`, `ReadFault`, `Failed`, `MOST`; `Out`, `Steps`, `Ledger`, `Tally` |
-//! | whole programs | `run` and `Status`, `run_migrate` and `MigrateStatus`, `run_infer` and `InferStatus`, `run_check` and `CheckStatus`; what they share: `shape_of_word`, `read_input`, `Answer`, `finish` |
+//! | whole programs | `run` and `Status`, `run_migrate` and `MigrateStatus`, `run_infer` and `InferStatus`, `run_check` and `CheckStatus`; what they share: `shape_of_word`, `read_input`, `Answer`, `finish`, `Endings`, `InputEndings` |
 //! | texts | `date_text`, `date_of_text`, `integer_of_text`, `subtype_of_text`; `DateError`, `NotDate`, `NotHex`, `NotUuid` |
 //! | contracts | `laws`; the definitions that contracts name, as `Rattle.bson.specs.Tree` |
 //!
@@ -259,7 +259,7 @@
 //! # Trees
 //!
 //! A `Bson` is a value of any kind and owns what it holds; a `Document` is a list of pairs in order, in which each key appears once. `Document::to_vec` gives its
-//! bytes, and `RawDocument::to_document` the document of bytes. `read_value` reads a tree at a shape, as `from_slice_at` reads bytes.
+//! bytes, and `RawDocument::to_document` the document of bytes. `from_bson_at` and `from_document_at` read a tree at a shape; `read_value` reads one by the rules for bytes.
 //!
 //! `bson_examples/src/trees.rt`:
 //!

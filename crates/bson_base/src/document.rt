@@ -17,7 +17,7 @@ use std::alloc::{AllocError, Global};
 pub struct Document(KeyMap<Bson>);
 
 impl Document {
-    /// The empty document. It takes no memory.
+    /// The empty document, with the seed `KeySeed::new`. Where keys come from outside, take [`Document::with_seed`]. It takes no memory.
     pub fn new(alloc: Global) -> Document
         ensures empty { pairs_of result ≡ no_pairs }
     {

@@ -25,9 +25,10 @@ use bson_slots::shape_for_reader;
 use bson_values::{Cause, Text};
 use std::alloc::Global;
 
-/// The value at a shape, for a reader who is not human: of a document in its bytes (`Met::of_document`), or of what is inside one.
+/// The value at a shape, for a reader who is not human: of a document in its bytes (`Met::of_document`), of what is inside one, or of a tree (`Met::of_tree`),
+/// which is read by the rules for bytes. `from_bson_at` has the rules for trees.
 ///
-/// What is borrowed is a part of the input.
+/// What is borrowed is a part of the input; of a tree nothing is.
 ///
 /// # Errors
 ///

@@ -11,7 +11,7 @@ use bson_traits::{
 use bson_values::{Text, de, ser};
 use std::alloc::{AllocError, Global};
 
-/// A value that is written for a human reader, also in bytes, and read as it was written so.
+/// A value that is written in its readable form, also in the bytes of a document, and read in that form.
 #[derive(Debug, PartialEq, Eq, PartialOrd, Ord, Drop)]
 pub struct HumanReadable<T>(pub T);
 

@@ -20,7 +20,8 @@ use std::alloc::{AllocError, Global};
 /// # Errors
 ///
 /// `NotSound` with the number of the first document that is not sound, which is one with a key that begins with `$` or holds a zero character, with a zero character in a
-/// part of a regular expression, with more than 16777216 bytes in a binary, of more than 200 levels or of more than 2147483647 bytes; `NoMemory` where all are sound and memory runs out.
+/// part of a regular expression, with more than 16777216 bytes in a binary (16777212 in the old subtype 2), of more than 200 levels or of more than 2147483647 bytes;
+/// `NoMemory` where all are sound and memory runs out.
 pub fn infer(alloc: Global, documents: &[Document]) -> Result<Shape, InferError>
     ensures exact { Infers result (documents_of documents.now) }
 {

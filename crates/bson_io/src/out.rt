@@ -112,7 +112,7 @@ impl Out {
         Ok(())
     }
 
-    /// Replaces the byte at a place, at one step.
+    /// Replaces the byte at a place, at one step. The place is less than the number of bytes.
     pub fn patch_byte<L: Ledger>(&mut self, at: usize, b: u8, steps: &mut Steps<L>)
         requires { at + 1 ≤ length self.old.bytes }
         ensures { Patched self.old self.new at (b ∷ []) steps.old steps.new }
@@ -121,7 +121,7 @@ impl Out {
         steps.tick();
     }
 
-    /// Replaces the four bytes from a place on by an int32 of BSON, at four steps: little-endian, two's complement (bsonspec.org, basic types).
+    /// Replaces the four bytes from a place on, which must be there, by an int32 of BSON, at four steps: little-endian, two's complement (bsonspec.org, basic types).
     pub fn patch_i32<L: Ledger>(&mut self, at: usize, v: i32, steps: &mut Steps<L>)
         requires { at + 4 ≤ length self.old.bytes }
         ensures { Patched self.old self.new at (to_le_bytes w32 (cast_unsigned w32 v)) steps.old steps.new }

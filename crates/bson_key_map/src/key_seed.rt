@@ -3,12 +3,12 @@ use std::hash::{BuildHasher, DefaultHasher, Hasher};
 /// The seed of the hashes of a document's keys. No result depends on it, only how long a look-up takes.
 ///
 /// A key is hashed by std's `DefaultHasher`, over the seed and then the key. Whoever wants to make keys with one hash has to know the seed first. So a document whose
-/// keys come from outside is given the hash of all bytes in which they came: with other keys these are other bytes, and the seed is another.
+/// keys come from outside is given the hash of all bytes in which they came: with other keys these are other bytes, and almost surely another seed.
 #[derive(Clone, Copy, Debug, PartialEq, Eq)]
 pub struct KeySeed(u64);
 
 impl KeySeed {
-    /// The seed for keys that are not chosen by others.
+    /// The seed 0, the same in every program: for keys that nobody outside chooses.
     pub fn new() -> KeySeed {
         KeySeed(0)
     }

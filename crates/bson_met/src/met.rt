@@ -225,6 +225,11 @@ impl<'de> Met<'de> {
 
     /// The value, judged before any shape looks at it: it is refused for its fault, and then, where no level is left, for
     /// being a document or an array.
+    ///
+    /// # Errors
+    ///
+    /// `Stop::Refused` with the first fault of the value (`Cause::Raw`), or with `TooDeep` where it is a document or an array and no level is left. `Stop::NoMemory`
+    /// where memory ran out.
     #[inline(always)]
     pub fn judge(&self, alloc: Global) -> Reading<Value<'de>>
         ensures judged { Reaches value_view result (judged self.now) }
@@ -238,7 +243,11 @@ impl<'de> Met<'de> {
         judge_beyond(alloc, self.levels, &self.what)
     }
 
-    /// The value, judged, where it is a scalar of the input that JSON has too.
+    /// The value, judged, where it is a scalar of the input that JSON has too; else `Scalar::Other`, which tells nothing.
+    ///
+    /// # Errors
+    ///
+    /// Of an element of the input, where no text is mended: `Stop::Refused` with its first fault (`Cause::Raw`); `Stop::NoMemory` where memory ran out.
     #[inline(always)]
     pub fn scalar(&self, alloc: Global) -> Reading<Scalar<'de>>
         ensures scalar { IsSeen result (judged self.now) }
@@ -253,6 +262,10 @@ impl<'de> Met<'de> {
     }
 
     /// The number that it is.
+    ///
+    /// # Errors
+    ///
+    /// Those of [`Met::judge`]; then `InvalidType` of its kind where it is neither an Int32 nor an Int64.
     #[inline(always)]
     pub fn integer(&self, alloc: Global) -> Reading<i64>
         ensures integer { Reaches (λ n. n) result (integer_at self.now) }
@@ -273,6 +286,10 @@ impl<'de> Met<'de> {
     }
 
     /// The elements of the array that it is.
+    ///
+    /// # Errors
+    ///
+    /// Those of [`Met::judge`]; then `InvalidType` of its kind where it is no array.
     #[inline(never)]
     pub fn array(&self, alloc: Global) -> Reading<Items<'de>>
         ensures array { Reaches (λ e. e) result (array_at self.now) }
@@ -281,6 +298,10 @@ impl<'de> Met<'de> {
     }
 
     /// The elements of the document that it is or is opened to.
+    ///
+    /// # Errors
+    ///
+    /// Those of [`Met::judge`]; then `InvalidType` of its kind where it is neither a document nor opened to one.
     #[inline(never)]
     pub fn document(&self, alloc: Global) -> Reading<Elements<'de>>
         ensures document { Reaches (λ e. e) result (document_at self.now) }

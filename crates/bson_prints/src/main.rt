@@ -1,5 +1,5 @@
 //! Prints what no contract says of documents that are read, written and recast: the text of `Debug`, copies of what is read, once what each call makes, what the writer refuses, and runs whose ends fail. The
-//! gate compares the lines with those in `stdout`, which come from the specification and from bsonspec.org, version 1.1.
+//! gate compares the lines with those in `stdout`, which come from the definitions and from bsonspec.org, version 1.1.
 #![tactic(auto)]
 
 mod calls;

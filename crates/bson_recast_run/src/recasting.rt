@@ -35,12 +35,12 @@ use std::alloc::Global;
 /// A recast of the bytes that it gives, at the same shape, gives the same bytes, or memory runs out: a migration may be run again without harm.
 /// This holds at every shape that does not depend on whether the reader is human (`IsSettled`), and for every byte string.
 ///
-/// What was read is refused by the writer for its size alone, where no field of the shape has a zero character in its
-/// name, the keys of its maps are `str`, `string` or unit variants, none of its leaves is `regex`, `codews`, `bson` or
-/// `document`, and the document itself is read neither at `ignored` nor at an extended leaf: a number may take more bytes
-/// when it is written than it took before, a text that is read as a byte string, and the base64 of a binary, are written
-/// as a binary, which may have no more than 16777216 bytes, and the document that a value is opened to takes a level when
-/// it is written. At every shape it is never refused as `UnsignedIntegerExceededRange`.
+/// What was read is refused by the writer for its size, its nesting or the size of a binary alone, where no field of the
+/// shape has a zero character in its name, the keys of its maps are `str`, `string` or unit variants, none of its leaves is
+/// `regex`, `codews`, `bson` or `document`, and the document itself is read neither at `ignored` nor at an extended leaf: a
+/// number may take more bytes when it is written than it took before, a text that is read as a byte string, and the base64
+/// of a binary, are written as a binary, which may have no more than 16777216 bytes, and the document that a value is opened
+/// to takes a level when it is written. At every shape it is never refused as `UnsignedIntegerExceededRange`.
 pub fn recast(alloc: Global, shape: &Shape, bytes: &[u8]) -> Result<Vec<u8>, RecastError>
     // What is read at the shape is written.
     ensures exact { IsRecast (recast_of shape.now bytes.now) result }
@@ -50,7 +50,7 @@ pub fn recast(alloc: Global, shape: &Shape, bytes: &[u8]) -> Result<Vec<u8>, Rec
     // What was written at a shape that does not depend on whether the reader is human is written as the same bytes when it is recast at the shape again.
     ensures again { IsSettled shape.now → IfOk result (λ v. recast_of shape.now v.items ≡ writes v.items) }
     // What was read at a shape whose keys can be written, which reads no regular expression, and which keeps the document, is refused by the
-    // writer for its size alone.
+    // writer for its size, its nesting or the size of a binary alone.
     ensures too_large { IsWritable shape.now → IfUnwritten (IsForSize shape.now bytes.now) result }
     // At no shape is what was read refused for a number that no Int64 holds.
     ensures numbers { IfUnwritten IsForNoNumber result }
@@ -71,8 +71,8 @@ pub fn recast(alloc: Global, shape: &Shape, bytes: &[u8]) -> Result<Vec<u8>, Rec
 /// A recast of the bytes that it gives, at the same shape, gives the same bytes, or memory runs out, where the shape does not depend on whether the reader is
 /// human (`IsSettled`).
 ///
-/// What was read is refused by the writer for its size alone, where [`recast`] says so of the shape. At every shape it is never refused as
-/// `UnsignedIntegerExceededRange`.
+/// What was read is refused by the writer for its size, its nesting or the size of a binary alone, where [`recast`] says so of the shape. At every shape it is
+/// never refused as `UnsignedIntegerExceededRange`.
 pub fn recast_utf8_lossy(alloc: Global, shape: &Shape, bytes: &[u8]) -> Result<Vec<u8>, RecastError>
     // What is read at the shape, where texts are mended, is written.
     ensures exact { IsRecast (lossy_recast_of shape.now bytes.now) result }
@@ -82,7 +82,7 @@ pub fn recast_utf8_lossy(alloc: Global, shape: &Shape, bytes: &[u8]) -> Result<V
     // What was written at a shape that does not depend on whether the reader is human is written as the same bytes when it is recast at the shape again.
     ensures again { IsSettled shape.now → IfOk result (λ v. lossy_recast_of shape.now v.items ≡ writes v.items) }
     // What was read at a shape whose keys can be written, which reads no regular expression, and which keeps the document, is refused by the
-    // writer for its size alone.
+    // writer for its size, its nesting or the size of a binary alone.
     ensures too_large { IsWritable shape.now → IfUnwritten (IsForSize (lossy shape.now) bytes.now) result }
     // At no shape is what was read refused for a number that no Int64 holds.
     ensures numbers { IfUnwritten IsForNoNumber result }

@@ -20,6 +20,10 @@ const MAX_LEVELS: u16 = 512;
 /// A shape is made by the makers below alone, so that no struct and no newtype in it has a reserved name, no struct, no
 /// struct variant, no enum and no definitions have two fields, variants or definitions of one name, each key of a map is a text, no name of definitions
 /// leads back to itself without a step into a value, and it has at most 512 levels. Contracts see a shape as its form.
+///
+/// What values each leaf takes, and the kind that they are written as, is in the table of docs/SHAPES.md. The name of a maker of a leaf is the word of the notation, but
+/// for `byte_buf` (`bytebuf`), `object_id` (`oid`), `date_time` (`datetime`), `code_with_scope` (`codews`), `decimal128` (`decimal`), `db_pointer` (`dbpointer`),
+/// `raw_document` (`rawdoc`), `raw_array` (`rawarray`) and `raw_bson` (`rawbson`).
 #[cycle(shape)]
 #[derive(Debug, Drop)]
 pub struct Shape {

@@ -33,7 +33,7 @@ const ID_LENGTH: usize = 12;
 ///
 /// # Errors
 ///
-/// The value is not what the leaf takes, or a document in it has a wrapper key whose value is not valid: the specification of reading
+/// The value is not what the leaf takes, or a document in it has a wrapper key whose value is not valid: the definition of reading (`read_extended`)
 /// says when, and for which cause.
 #[inline(never)]
 pub fn read_extended<'de>(alloc: Global, leaf: Leaf, value: &Met<'de>) -> Reading<Datum<'de>>

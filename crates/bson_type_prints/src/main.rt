@@ -1,5 +1,5 @@
 //! Prints what no contract says of types whose values are written and read: once what each call and each helper returns where there is memory. The gate compares the lines
-//! with those in `stdout`, which come from the specification and from bsonspec.org, version 1.1.
+//! with those in `stdout`, which come from the definitions and from bsonspec.org, version 1.1.
 #![tactic(auto)]
 
 mod documents;

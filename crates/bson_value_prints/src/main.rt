@@ -1,5 +1,5 @@
 //! Prints what no contract says of values, shapes and ends: the text of `Debug`, what the public formats of texts give, and once what each call that takes memory returns where there
-//! is memory. The gate compares the lines with those in `stdout`, which come from the specification, from bsonspec.org, version 1.1, from RFC 3339 and from RFC 9562.
+//! is memory. The gate compares the lines with those in `stdout`, which come from the definitions, from bsonspec.org, version 1.1, from RFC 3339 and from RFC 9562.
 #![tactic(auto)]
 
 mod documents;

@@ -1,5 +1,5 @@
 //! Prints what the writers of data answer, call by call: the writer of trees, and those of bytes, part by part and field by field. The structs of reserved names that are written come
-//! from standard input, a line each; an empty line, and one that begins with `#`, is none. The gate compares the lines with those in `stdout`, which come from the specification and
+//! from standard input, a line each; an empty line, and one that begins with `#`, is none. The gate compares the lines with those in `stdout`, which come from the definitions and
 //! from bsonspec.org, version 1.1.
 #![tactic(auto)]
 
