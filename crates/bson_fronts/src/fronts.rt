@@ -6,7 +6,9 @@ ghost use Rattle.bson_fronts.specs.Fronts.{AreFirst, is_lone, lone_name};
 ghost use Rattle.bson_fronts.specs.Places.{ways, agrees_some};
 
 use crate::fitting::agrees;
-use crate::place::Place;
+use crate::place::Place::{
+    Base64, Byte, Bytes, Decimal, Key, KeyOf, Number, ObjectId, Scope, Subtype, Text, Unsigned,
+};
 use bson_datum::Field;
 use bson_kinds::ElementType;
 
@@ -50,63 +52,23 @@ fn agrees_some(kind: ElementType, fields: &[Field<'_>]) -> bool
     ensures { result ≡ agrees_some (ways kind) (listed (fields_view fields.now) []) }
 {
     match kind {
-        ElementType::ObjectId => agrees(&[Place::Key("$oid"), Place::ObjectId], fields),
-        ElementType::DateTime => agrees(
-            &[
-                Place::Key("$date"),
-                Place::Key("$numberLong"),
-                Place::Number,
-            ],
-            fields,
-        ),
+        ElementType::ObjectId => agrees(&[Key("$oid"), ObjectId], fields),
+        ElementType::DateTime => agrees(&[Key("$date"), Key("$numberLong"), Number], fields),
         ElementType::Binary => binary_agrees(fields),
         ElementType::Timestamp => agrees(
-            &[
-                Place::Key("$timestamp"),
-                Place::Key("t"),
-                Place::Unsigned,
-                Place::Key("i"),
-                Place::Unsigned,
-            ],
+            &[Key("$timestamp"), Key("t"), Unsigned, Key("i"), Unsigned],
             fields,
         ),
-        ElementType::JavaScriptCode => agrees(&[Place::Key("$code"), Place::Text], fields),
+        ElementType::JavaScriptCode => agrees(&[Key("$code"), Text], fields),
         ElementType::JavaScriptCodeWithScope => agrees(
-            &[
-                Place::Key("$code"),
-                Place::Text,
-                Place::Key("$scope"),
-                Place::Scope,
-            ],
+            &[Key("$code"), Text, Key("$scope"), Scope],
             fields,
         ),
-        ElementType::Symbol => agrees(&[Place::Key("$symbol"), Place::Text], fields),
-        ElementType::RegularExpression => agrees(
-            &[
-                Place::Key("$regularExpression"),
-                Place::Key("pattern"),
-                Place::Text,
-                Place::Key("options"),
-                Place::Text,
-            ],
-            fields,
-        ),
-        ElementType::DbPointer => agrees(
-            &[
-                Place::Key("$dbPointer"),
-                Place::Key("$ref"),
-                Place::Text,
-                Place::Key("$id"),
-                Place::Key("$oid"),
-                Place::ObjectId,
-            ],
-            fields,
-        ),
+        ElementType::Symbol => agrees(&[Key("$symbol"), Text], fields),
+        ElementType::RegularExpression => expression_agrees(fields),
+        ElementType::DbPointer => pointer_agrees(fields),
         ElementType::Decimal128 => agrees(
-            &[
-                Place::KeyOf("$numberDecimal", "$numberDecimalBytes"),
-                Place::Decimal,
-            ],
+            &[KeyOf("$numberDecimal", "$numberDecimalBytes"), Decimal],
             fields,
         ),
         _ => false,
@@ -118,18 +80,47 @@ fn binary_agrees(fields: &[Field<'_>]) -> bool
     ensures { result ≡ agrees_some (ways ElementType.Binary) (listed (fields_view fields.now) []) }
 {
     let as_text = [
-        Place::Key("$binary"),
-        Place::KeyOf("base64", "bytes"),
-        Place::Base64,
-        Place::Key("subType"),
-        Place::Subtype,
+        Key("$binary"),
+        KeyOf("base64", "bytes"),
+        Base64,
+        Key("subType"),
+        Subtype,
     ];
     let as_bytes = [
-        Place::Key("$binary"),
-        Place::KeyOf("base64", "bytes"),
-        Place::Bytes,
-        Place::Key("subType"),
-        Place::Byte,
+        Key("$binary"),
+        KeyOf("base64", "bytes"),
+        Bytes,
+        Key("subType"),
+        Byte,
     ];
     agrees(&as_text, fields) || agrees(&as_bytes, fields)
+}
+
+// The same of a regular expression.
+fn expression_agrees(fields: &[Field<'_>]) -> bool
+    ensures { result ≡ agrees_some (ways ElementType.RegularExpression) (listed (fields_view fields.now) []) }
+{
+    let places = [
+        Key("$regularExpression"),
+        Key("pattern"),
+        Text,
+        Key("options"),
+        Text,
+    ];
+    agrees(&places, fields)
+}
+
+// The same of a DBPointer, whose id is an ObjectId.
+fn pointer_agrees(fields: &[Field<'_>]) -> bool
+    ensures { result ≡ agrees_some (ways ElementType.DbPointer) (listed (fields_view fields.now) []) }
+{
+    let places = [
+        Key("$dbPointer"),
+        Key("$ref"),
+        Text,
+        Key("$id"),
+        Key("$oid"),
+        ObjectId,
+    ];
+    agrees(&places, fields)
 }

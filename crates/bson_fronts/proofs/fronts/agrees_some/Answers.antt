@@ -13,11 +13,5 @@ returns-in-Timestamp c = c.agrees-in-Timestamp.ensures ∙ ap (λ kind. agrees_s
 pub returns-in-JavaScriptCodeWithScope : goal.returns-in-JavaScriptCodeWithScope
 returns-in-JavaScriptCodeWithScope c = c.agrees-in-JavaScriptCodeWithScope.ensures ∙ ap (λ kind. agrees_some (ways kind) (listed (fields_view c.args.fields.now) [])) (sym c.in-JavaScriptCodeWithScope.is)
 
-pub returns-in-RegularExpression : goal.returns-in-RegularExpression
-returns-in-RegularExpression c = c.agrees-in-RegularExpression.ensures ∙ ap (λ kind. agrees_some (ways kind) (listed (fields_view c.args.fields.now) [])) (sym c.in-RegularExpression.is)
-
-pub returns-in-DbPointer : goal.returns-in-DbPointer
-returns-in-DbPointer c = c.agrees-in-DbPointer.ensures ∙ ap (λ kind. agrees_some (ways kind) (listed (fields_view c.args.fields.now) [])) (sym c.in-DbPointer.is)
-
 pub returns-in-Decimal128 : goal.returns-in-Decimal128
 returns-in-Decimal128 c = c.agrees-in-Decimal128.ensures ∙ ap (λ kind. agrees_some (ways kind) (listed (fields_view c.args.fields.now) [])) (sym c.in-Decimal128.is)
