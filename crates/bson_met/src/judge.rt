@@ -13,7 +13,7 @@ ghost use Rattle.bson_rawdoc.specs.ValueView.{raw_value};
 ghost use Rattle.bson_laws.specs.Judged.{judged, with_level};
 ghost use Rattle.bson_met.specs.Gives.{Reaches};
 ghost use Rattle.bson_met.specs.MetView.{what_node};
-ghost use Rattle.bson_met.specs.OpenedView.{made_node};
+ghost use Rattle.bson_met.specs.OpenedView.{made_node, names_node, scope_node};
 ghost use Rattle.bson_met.specs.PieceView.{met_bytes, met_text};
 ghost use Rattle.bson_met.specs.ValueView.{value_view};
 
@@ -152,12 +152,7 @@ fn extended<'de>(levels: u32, element: &RawElement<'de>, value: RawBsonRef<'de>)
         RawBsonRef::JavaScriptCode(code) => Extended::JavaScriptCode(input_text(code)),
         RawBsonRef::Symbol(text) => Extended::Symbol(input_text(text)),
         RawBsonRef::JavaScriptCodeWithScope { code, scope } => {
-            let names = Names::Bytes(scope);
-            let scope = Scope {
-                levels,
-                mends: false,
-                names,
-            };
+            let scope = scope_of(levels, Names::Bytes(scope));
             Extended::JavaScriptCodeWithScope(input_text(code), scope)
         }
         RawBsonRef::Timestamp(time) => Extended::Timestamp(time),
@@ -182,61 +177,65 @@ fn extended<'de>(levels: u32, element: &RawElement<'de>, value: RawBsonRef<'de>)
 fn judge_tree<'de>(alloc: Global, levels: u32, value: &'de Bson) -> Reading<Value<'de>>
     ensures { Reaches value_view result (judged (tree_node from_memory (tree_of value.now) levels)) }
 {
-    match value {
-        Bson::Int32(number) => Ok(Value::Int32(*number)),
-        Bson::Int64(number) => Ok(Value::Int64(*number)),
-        Bson::String(text) => Ok(Value::String(own_text(as_text(text)))),
+    Ok(match value {
+        Bson::Int32(number) => Value::Int32(*number),
+        Bson::Int64(number) => Value::Int64(*number),
+        Bson::String(text) => Value::String(own_text(as_text(text))),
         Bson::Document(document) => {
-            Ok(Value::Document(MetDocument::in_pairs(alloc, levels, document)?))
+            Value::Document(MetDocument::in_pairs(alloc, levels, document)?)
         }
-        Bson::Array(values) => Ok(Value::Array(MetArray::in_values(alloc, levels, values)?)),
-        Bson::Boolean(boolean) => Ok(Value::Boolean(*boolean)),
-        Bson::Double(double) => Ok(Value::Double(*double)),
-        Bson::Null => Ok(Value::Null),
+        Bson::Array(values) => Value::Array(MetArray::in_values(alloc, levels, values)?),
+        Bson::Boolean(boolean) => Value::Boolean(*boolean),
+        Bson::Double(double) => Value::Double(*double),
+        Bson::Null => Value::Null,
+        other => extended_in_tree(levels, other),
+    })
+}
+
+/// A value of a tree that is of a kind that JSON lacks.
+#[tactic(auto, using(bson_base::proofs::Rows::row_items, bson_base::proofs::Rows::row_pairs))]
+#[inline(always)]
+fn extended_in_tree<'de>(levels: u32, value: &'de Bson) -> Value<'de>
+    requires other { is_of_json (trees.kind (tree_of value.now)) ≡ false }
+    ensures { judged (tree_node from_memory (tree_of value.now) levels) ≡ Ok (value_view result) }
+{
+    let value = match value {
         Bson::Binary(binary) if binary.subtype.0 == 0 => {
-            Ok(Value::Bytes(own_bytes(binary.bytes.as_slice())))
+            return Value::Bytes(own_bytes(binary.bytes.as_slice()));
         }
-        Bson::Binary(binary) => {
-            let bytes = own_bytes(binary.bytes.as_slice());
-            Ok(Value::Extended(Extended::Binary(binary.subtype, bytes)))
-        }
-        Bson::Undefined => Ok(Value::Extended(Extended::Undefined)),
-        Bson::ObjectId(id) => Ok(Value::Extended(Extended::ObjectId(own_bytes(&id.0)))),
-        Bson::DateTime(time) => Ok(Value::Extended(Extended::DateTime(*time))),
+        Bson::Binary(binary) => Extended::Binary(
+            binary.subtype,
+            own_bytes(binary.bytes.as_slice()),
+        ),
+        Bson::Undefined => Extended::Undefined,
+        Bson::ObjectId(id) => Extended::ObjectId(own_bytes(&id.0)),
+        Bson::DateTime(time) => Extended::DateTime(*time),
         Bson::RegularExpression(regex) => {
-            let (pattern, options) = (regex.pattern(), regex.options());
-            known(pattern);
-            known(options);
-            let (pattern, options) = (own_text(pattern), own_text(options));
-            Ok(Value::Extended(Extended::RegularExpression(pattern, options)))
+            Extended::RegularExpression(own_known(regex.pattern()), own_known(regex.options()))
         }
         Bson::DbPointer(pointer) => {
-            let namespace = own_text(as_text(&pointer.namespace));
-            Ok(Value::Extended(Extended::DbPointer(namespace, pointer.id)))
+            Extended::DbPointer(own_text(as_text(&pointer.namespace)), pointer.id)
         }
+        Bson::JavaScriptCode(code) => Extended::JavaScriptCode(own_text(as_text(code))),
+        Bson::Symbol(text) => Extended::Symbol(own_text(as_text(text))),
         Bson::JavaScriptCodeWithScope(scoped) => {
-            let code = own_text(as_text(&scoped.code));
-            let names = Names::Pairs(&scoped.scope);
-            let scope = Scope {
-                levels,
-                mends: false,
-                names,
-            };
-            Ok(Value::Extended(Extended::JavaScriptCodeWithScope(code, scope)))
+            let scope = scope_of(levels, Names::Pairs(&scoped.scope));
+            Extended::JavaScriptCodeWithScope(own_text(as_text(&scoped.code)), scope)
         }
-        Bson::JavaScriptCode(code) => {
-            let code = own_text(as_text(code));
-            Ok(Value::Extended(Extended::JavaScriptCode(code)))
-        }
-        Bson::Symbol(text) => {
-            let text = own_text(as_text(text));
-            Ok(Value::Extended(Extended::Symbol(text)))
-        }
-        Bson::Timestamp(time) => Ok(Value::Extended(Extended::Timestamp(*time))),
-        Bson::Decimal128(number) => Ok(Value::Extended(Extended::Decimal128(own_bytes(&number.0)))),
-        Bson::MaxKey => Ok(Value::Extended(Extended::MaxKey)),
-        Bson::MinKey => Ok(Value::Extended(Extended::MinKey)),
-    }
+        Bson::Timestamp(time) => Extended::Timestamp(*time),
+        Bson::Decimal128(number) => Extended::Decimal128(own_bytes(&number.0)),
+        Bson::MaxKey => Extended::MaxKey,
+        Bson::MinKey => Extended::MinKey,
+        Bson::Double(_)
+        | Bson::String(_)
+        | Bson::Document(_)
+        | Bson::Array(_)
+        | Bson::Boolean(_)
+        | Bson::Null
+        | Bson::Int32(_)
+        | Bson::Int64(_) => unreachable!(),
+    };
+    Value::Extended(value)
 }
 
 /// A text of the input.
@@ -253,6 +252,28 @@ fn own_text<'de>(text: &'de str) -> MetText<'de>
     ensures piece { met_text result ≡ made text.now }
 {
     MetText::Whole(MetStr::elsewhere(text))
+}
+
+/// A text that is not in the input, which is UTF-8.
+#[inline(always)]
+fn own_known<'de>(text: &'de str) -> MetText<'de>
+    ensures piece { met_text result ≡ made text.now }
+    ensures utf8 { is_utf8 text.now ≡ true }
+{
+    known(text);
+    own_text(text)
+}
+
+/// The scope of a code, with its texts as they stand.
+#[inline(always)]
+fn scope_of<'de>(levels: u32, names: Names<'de>) -> Scope<'de>
+    ensures scope { scope_node result ≡ names_node levels names.entry }
+{
+    Scope {
+        levels,
+        mends: false,
+        names,
+    }
 }
 
 /// Bytes of the input.
