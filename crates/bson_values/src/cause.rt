@@ -6,6 +6,9 @@ use bson_kinds::ElementType;
 use bson_rawdoc::raw;
 use std::fmt;
 
+/// What is said of a timestamp whose increment would be lost.
+const HAS_INCREMENT: &str = "Cannot convert Timestamp with a non-zero increment to u32";
+
 /// Why a value is refused.
 #[derive(Debug, Drop)]
 pub enum Cause {
@@ -105,38 +108,26 @@ impl fmt::Display for Cause {
             Cause::UnknownVariant(name) => write!(f, "unknown variant {name}"),
             Cause::UnknownField(name) => write!(f, "unknown field {name}"),
             Cause::UnknownReference(name) => write!(f, "unknown reference {name}"),
-            Cause::BadBody(wrapper) => {
-                let key = wrapper.key();
-                let expected = expected(*wrapper);
-                write!(f, "bad value for {key}{expected}")
-            }
+            Cause::BadBody(body) => write!(f, "bad value for {}{}", body.key(), expected(*body)),
             Cause::WrongKind(kind) => write!(f, "unexpected value: {kind}"),
             Cause::Subtype(subtype) => write!(f, "unexpected binary subtype {subtype}"),
             Cause::ContentsWanted => f.write_str("expected contents, got a text"),
-            Cause::UnitInDocument => {
-                f.write_str("expected a string enum, got a document instead")
-            }
+            Cause::UnitInDocument => f.write_str("expected a string enum, got a document instead"),
             Cause::EmptyEnum => f.write_str("empty document, expected variant name"),
             Cause::ExtraKey(key) => write!(f, "extra key {key}"),
             Cause::ZeroByte => f.write_str("zero byte in a key or regex"),
             Cause::TopLevel(kind) => write!(f, "non-document type at the top level: {kind}"),
-            Cause::BinaryTooLong(length) => {
-                write!(f, "binary length {length} exceeded maximum size")
-            }
+            Cause::BinaryTooLong(bytes) => write!(f, "binary length {bytes} exceeded maximum size"),
             Cause::BadUuid => f.write_str("expected UUID as bytes or text"),
             Cause::BadStep => f.write_str("wrong steps of a reserved struct"),
             Cause::TooLong => f.write_str("value exceeds maximum length"),
-            Cause::NotDocument(kind) => {
-                write!(f, "could not be serialized to Document, got {kind}")
-            }
+            Cause::NotDocument(got) => write!(f, "could not be serialized to Document, got {got}"),
             Cause::Failed => f.write_str("writer failed before"),
             Cause::TooSmall => f.write_str("document size too small"),
             Cause::NotFitting => f.write_str("value does not fit the type"),
             Cause::NotI32(number) => write!(f, "cannot convert {number} to i32"),
             Cause::NotI64(number) => write!(f, "cannot convert {number} to i64"),
-            Cause::Increment => {
-                f.write_str("Cannot convert Timestamp with a non-zero increment to u32")
-            }
+            Cause::Increment => f.write_str(HAS_INCREMENT),
             Cause::NotDate(text) => write!(f, "cannot convert {text} to DateTime"),
             Cause::NotObjectId(text) => write!(f, "cannot convert {text} to ObjectId"),
             Cause::NoRfc3339(millis) => write!(f, "cannot format {millis} as RFC 3339"),
