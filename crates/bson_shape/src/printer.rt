@@ -91,18 +91,9 @@ fn put(out: &mut String, shape: &Shape) -> Result<(), AllocError>
 {
     match shape.form() {
         Form::Leaf(leaf) => out.push_str(leaf.word()),
-        Form::Option(inner) => {
-            out.push('?')?;
-            put(out, inner)
-        }
-        Form::Lossy(inner) => {
-            out.push('~')?;
-            put(out, inner)
-        }
-        Form::Readable(inner) => {
-            out.push('^')?;
-            put(out, inner)
-        }
+        Form::Option(inner) => put_marked(out, '?', inner),
+        Form::Lossy(inner) => put_marked(out, '~', inner),
+        Form::Readable(inner) => put_marked(out, '^', inner),
         Form::Seq(item) => {
             out.push('[')?;
             put(out, item)?;
@@ -118,22 +109,15 @@ fn put(out: &mut String, shape: &Shape) -> Result<(), AllocError>
         }
         Form::Newtype(name, inner) => {
             put_name(out, name)?;
-            out.push('=')?;
-            put(out, inner)
+            put_marked(out, '=', inner)
         }
         Form::UnitStruct(name) => {
             put_name(out, name)?;
             out.push('!')?;
             Ok(())
         }
-        Form::Struct(name, fields) => {
-            put_struct_name(out, name)?;
-            put_fields(out, "{", fields, ':', '}')
-        }
-        Form::ClosedStruct(name, fields) => {
-            put_struct_name(out, name)?;
-            put_fields(out, "{!", fields, ':', '}')
-        }
+        Form::Struct(name, fields) => put_struct(out, name, "{", fields),
+        Form::ClosedStruct(name, fields) => put_struct(out, name, "{!", fields),
         Form::Enum(variants) => put_variants(out, variants),
         Form::Reference(name) => {
             out.push('@')?;
@@ -144,6 +128,30 @@ fn put(out: &mut String, shape: &Shape) -> Result<(), AllocError>
             put(out, body)
         }
     }
+}
+
+/// Appends the notation of a shape behind this mark.
+#[cycle(put)]
+fn put_marked(out: &mut String, mark: char, shape: &Shape) -> Result<(), AllocError>
+    requires mark { mark < 128 }
+    ensures { OnOk result (string_bytes out.new ≡ string_bytes out.old ++ mark ∷ notation.text shape.now) }
+{
+    out.push(mark)?;
+    put(out, shape)
+}
+
+/// Appends the name of a struct, and its fields between what opens them and a brace.
+#[cycle(put)]
+fn put_struct(
+    out: &mut String,
+    name: &str,
+    opening: &str,
+    fields: &[FieldShape],
+) -> Result<(), AllocError>
+    ensures { OnOk result (string_bytes out.new ≡ string_bytes out.old ++ (notation.struct_name_text name.now ++ (opening.now ++ (notation.listed (notation.field_texts (fields_of fields.now)) ++ notation.close_brace ∷ [])))) }
+{
+    put_struct_name(out, name)?;
+    put_fields(out, opening, fields, ':', '}')
 }
 
 /// Appends the key and the value of a map between brackets.

@@ -8,6 +8,12 @@ use Rattle.bson_shape.proofs.printer.+put.Given as goal
 abbrev pub decreases-put : goal.decreases-put
 decreases-put l = 2 * nodes l.shape.now
 
+abbrev pub decreases-put_marked : goal.decreases-put_marked
+decreases-put_marked l = 2 * nodes l.shape.now + 1
+
+abbrev pub decreases-put_struct : goal.decreases-put_struct
+decreases-put_struct l = 2 * fields_nodes (fields_of l.fields.now) + 1
+
 abbrev pub decreases-put_map : goal.decreases-put_map
 decreases-put_map l = 2 * (nodes l.key.now + nodes l.value.now) + 1
 
