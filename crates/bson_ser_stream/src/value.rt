@@ -6,7 +6,7 @@ ghost use Rattle.std.specs.Fmt.{decimal};
 ghost use Rattle.bson_base.specs.Tree.{document, array};
 ghost use Rattle.bson_values.specs.Refusal.{under, under_index};
 ghost use Rattle.bson_values.specs.TextView.{text_view};
-ghost use Rattle.bson_values.specs.Value.{newtype_kind, uuid_newtype, readable_inside, kind_as};
+ghost use Rattle.bson_values.specs.Value.{newtype_kind, uuid_newtype, readable_inside, kind_as, structure};
 ghost use Rattle.bson_datum.specs.View.{view, items_view, entries_view, fields_view};
 ghost use Rattle.bson_laws.specs.Means.{key_text};
 ghost use Rattle.bson_laws.specs.Unwrap.{unwrap, scoped_code};
@@ -23,10 +23,12 @@ use crate::reserved::{put_unwrapped, put_uuid};
 use crate::scalar::{
     put_bool, put_bytes, put_char, put_double, put_i32, put_i64, put_text, put_u64,
 };
+use Contents::{Fields, Items, Value};
 use bson_base::has_zero;
 use bson_datum::{Datum, Entry, Field};
 use bson_io::{Ledger, Out, Steps};
-use bson_kinds::{ElementType, reserved_kind};
+use bson_kinds::ElementType::{self, EmbeddedDocument};
+use bson_kinds::reserved_kind;
 use bson_reserved::scoped_code;
 use bson_values::{Cause, Text};
 use bson_writing::{Halt, written_key, zero_in};
@@ -94,56 +96,22 @@ pub fn put_value<L: Ledger>(
         ),
         Datum::UnitVariant { variant } => put_text(out, steps, variant.as_str()),
         Datum::NewtypeVariant { variant, value } => {
-            put_variant(
-                out,
-                steps,
-                variant,
-                Contents::Value(value),
-                readable,
-                levels,
-            )
+            put_variant(out, steps, variant, Value(value), readable, levels)
         }
         Datum::Seq(items) | Datum::Tuple(items) | Datum::TupleStruct { items, .. } => {
             put_array(out, steps, items, readable, levels)
         }
         Datum::TupleVariant { variant, items } => {
-            put_variant(
-                out,
-                steps,
-                variant,
-                Contents::Items(items),
-                readable,
-                levels,
-            )
+            put_variant(out, steps, variant, Items(items), readable, levels)
         }
         Datum::Map(entries) => put_map(out, steps, entries, readable, levels),
-        Datum::Struct { name, fields } => match reserved_kind(name.as_str()) {
-            Some(kind) => put_reserved(out, steps, kind, fields, readable, levels),
-            None => put_document(out, steps, fields, readable, levels),
-        },
-        Datum::RawDocument(document) => put_raw(
-            out,
-            steps,
-            ElementType::EmbeddedDocument,
-            document.as_bytes(),
-            levels,
-        ),
-        Datum::RawArray(array) => {
-            put_raw(out, steps, ElementType::Array, array.as_bytes(), levels)
-        }
-        Datum::Mode { readable: form, .. } if readable => {
-            put_inner(out, steps, form, readable, levels)
-        }
+        Datum::Struct { name, fields } => put_struct(out, steps, name, fields, readable, levels),
+        Datum::RawDocument(raw) => put_raw(out, steps, EmbeddedDocument, raw.as_bytes(), levels),
+        Datum::RawArray(raw) => put_raw(out, steps, ElementType::Array, raw.as_bytes(), levels),
+        Datum::Mode { readable: form, .. } if readable => put_inner(out, steps, form, true, levels),
         Datum::Mode { compact, .. } => put_inner(out, steps, compact, readable, levels),
         Datum::StructVariant { variant, fields } => {
-            put_variant(
-                out,
-                steps,
-                variant,
-                Contents::Fields(fields),
-                readable,
-                levels,
-            )
+            put_variant(out, steps, variant, Fields(fields), readable, levels)
         }
     }
 }
@@ -273,7 +241,28 @@ fn put_variant<L: Ledger>(
     let document = Container::begin(out, steps, levels)?;
     put_named(out, steps, name, contents, readable, document.levels)?;
     document.end(out, steps)?;
-    Ok(ElementType::EmbeddedDocument)
+    Ok(EmbeddedDocument)
+}
+
+// A struct: one of a reserved name, or a document of its fields.
+#[cycle(put)]
+#[inline(always)]
+fn put_struct<L: Ledger>(
+    out: &mut Out,
+    steps: &mut Steps<L>,
+    name: &Text<'_>,
+    fields: &[Field<'_>],
+    readable: bool,
+    levels: u32,
+) -> Result<ElementType, Halt>
+    ensures { let value = structure (text_view name.now) (fields_view fields.now) in
+        Puts (kind_as readable value) (size_as readable value) (spell_as readable value levels)
+        out.old out.new steps.old steps.new result }
+{
+    match reserved_kind(name.as_str()) {
+        Some(kind) => put_reserved(out, steps, kind, fields, readable, levels),
+        None => put_document(out, steps, fields, readable, levels),
+    }
 }
 
 // A document of these fields.
@@ -293,7 +282,7 @@ fn put_document<L: Ledger>(
     let document = Container::begin(out, steps, levels)?;
     put_fields(out, steps, fields, readable, document.levels)?;
     document.end(out, steps)?;
-    Ok(ElementType::EmbeddedDocument)
+    Ok(EmbeddedDocument)
 }
 
 // A document of the entries of a map.
@@ -312,7 +301,7 @@ fn put_map<L: Ledger>(
     let document = Container::begin(out, steps, levels)?;
     put_entries(out, steps, entries, readable, document.levels)?;
     document.end(out, steps)?;
-    Ok(ElementType::EmbeddedDocument)
+    Ok(EmbeddedDocument)
 }
 
 // An array of these values.
@@ -349,7 +338,7 @@ fn put_fields<L: Ledger>(
         out.old out.new steps.old steps.new result }
 {
     for field in fields {
-        let value = Contents::Value(&field.value);
+        let value = Value(&field.value);
         put_named(out, steps, &field.name, value, readable, levels)?;
     }
     Ok(())
@@ -428,14 +417,7 @@ fn put_entry<L: Ledger>(
         out.old out.new steps.old steps.new result }
 {
     let key = written_key(out.allocator(), &entry.key)?;
-    put_under_key(
-        out,
-        steps,
-        key,
-        Contents::Value(&entry.value),
-        readable,
-        levels,
-    )
+    put_under_key(out, steps, key, Value(&entry.value), readable, levels)
 }
 
 // The element of what is under a key. A refusal is seen from the document.
@@ -478,7 +460,7 @@ pub fn put_item<L: Ledger>(
         out.old out.new steps.old steps.new result }
 {
     let mut digits = itoa::Buffer::new();
-    let value = Contents::Value(item);
+    let value = Value(item);
     match put_element(out, steps, digits.format(index), value, readable, levels) {
         Ok(()) => Ok(()),
         Err(halt) => Err(halt.under_index(index)),
@@ -521,8 +503,8 @@ fn put_contents<L: Ledger>(
         out.old out.new steps.old steps.new result }
 {
     match contents {
-        Contents::Value(value) => put_value(out, steps, value, readable, levels),
-        Contents::Items(items) => put_array(out, steps, items, readable, levels),
-        Contents::Fields(fields) => put_document(out, steps, fields, readable, levels),
+        Value(value) => put_value(out, steps, value, readable, levels),
+        Items(items) => put_array(out, steps, items, readable, levels),
+        Fields(fields) => put_document(out, steps, fields, readable, levels),
     }
 }

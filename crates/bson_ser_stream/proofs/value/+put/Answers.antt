@@ -136,19 +136,20 @@ put_value-returns-in-StructVariant g t c =
 pub put_value-returns-in-Map : goal.put_value-returns-in-Map
 put_value-returns-in-Map g t c = puts_as c.args.readable c.args.levels _ _ _ _ _ c.args.value.now _ (λ xs. map (entries_view xs)) _ _ c.in-Map.is c.deref-in-Map.ensures.value (view-Map c.in-Map.entries) c.put_map.ensures
 
-pub put_value-returns-in-None-reserved_kind : goal.put_value-returns-in-None-reserved_kind
-put_value-returns-in-None-reserved_kind g t c =
+pub put_value-returns-in-Struct : goal.put_value-returns-in-Struct
+put_value-returns-in-Struct g t c =
     let it = c.in-Struct in
-    let free = ap reserved_kind (sym c.as_str-in-Struct.ensures.text) ∙ sym c.in-None-reserved_kind.ensures.kind in
-    puts_as c.args.readable c.args.levels _ _ _ _ _ c.args.value.now _ (λ xs. structure (text_view it.name) (fields_view xs)) _ _ it.is c.deref-in-None-reserved_kind.ensures.value (view-Struct it.name it.fields)
-    (puts_struct c.args.readable c.args.levels _ _ _ _ _ (text_view it.name) (fields_view c.deref-in-None-reserved_kind.result.now) free c.put_document.ensures)
+    puts_as c.args.readable c.args.levels _ _ _ _ _ c.args.value.now _ (λ xs. structure (text_view it.name) (fields_view xs)) _ _ it.is c.deref-in-Struct.ensures.value (view-Struct it.name it.fields) c.put_struct.ensures
 
-pub put_value-returns-in-Some-reserved_kind : goal.put_value-returns-in-Some-reserved_kind
-put_value-returns-in-Some-reserved_kind g t c =
-    let it = c.in-Struct in
-    let is = ap reserved_kind (sym c.as_str-in-Struct.ensures.text) ∙ sym c.in-Some-reserved_kind.ensures.kind in
-    puts_as c.args.readable c.args.levels _ _ _ _ _ c.args.value.now _ (λ xs. structure (text_view it.name) (fields_view xs)) _ _ it.is c.deref-in-Some-reserved_kind.ensures.value (view-Struct it.name it.fields)
-    (puts_reserved c.args.readable c.args.levels _ _ _ _ _ (text_view it.name) (fields_view c.deref-in-Some-reserved_kind.result.now) c.in-Some-reserved_kind.kind is c.put_reserved.ensures)
+pub put_struct-returns-in-None : goal.put_struct-returns-in-None
+put_struct-returns-in-None g t c =
+    let free = ap reserved_kind (sym c.as_str.ensures.text) ∙ sym c.in-None.ensures.kind in
+    puts_struct c.args.readable c.args.levels _ _ _ _ _ (text_view c.args.name.now) (fields_view c.args.fields.now) free c.put_document.ensures
+
+pub put_struct-returns-in-Some : goal.put_struct-returns-in-Some
+put_struct-returns-in-Some g t c =
+    let is = ap reserved_kind (sym c.as_str.ensures.text) ∙ sym c.in-Some.ensures.kind in
+    puts_reserved c.args.readable c.args.levels _ _ _ _ _ (text_view c.args.name.now) (fields_view c.args.fields.now) c.in-Some.kind is c.put_reserved.ensures
 
 pub put_scoped-returns-in_default : goal.put_scoped-returns-in_default
 put_scoped-returns-in_default g t c =

@@ -58,6 +58,9 @@ decreases-put_scope g l = 16 * goal.size-put_scope g l + 1
 abbrev pub decreases-put_array : goal.decreases-put_array
 decreases-put_array g l = 16 * goal.size-put_array g l + 7
 
+abbrev pub decreases-put_struct : goal.decreases-put_struct
+decreases-put_struct g l = 16 * goal.size-put_struct g l + 9
+
 abbrev pub decreases-put_document : goal.decreases-put_document
 decreases-put_document g l = 16 * goal.size-put_document g l + 7
 
