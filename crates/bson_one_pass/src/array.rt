@@ -19,7 +19,7 @@ use bson_laws::Reader;
 use bson_pass_parts::{
     MOST_NESTED, close, element_len, is_integer, is_kept, is_taken, named_front, named_len,
     names_taken, put, put_element, put_front, put_run, recast_int32, recast_int64, set_kind,
-    value_under,
+    value_of, value_under,
 };
 use bson_rawdoc::reading::{inside, is_closed};
 use bson_rawdoc::{RawBsonRef, RawElement, next_element};

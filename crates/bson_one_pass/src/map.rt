@@ -14,7 +14,7 @@ use crate::array::recast_next;
 use bson_keys::MetKeys;
 use bson_kinds::ElementType;
 use bson_laws::Reader;
-use bson_pass_parts::{MOST_NESTED, close, element_len, put, put_run};
+use bson_pass_parts::{MOST_NESTED, close, element_len, put, put_run, takes_keys};
 use bson_rawdoc::reading::inside;
 use bson_rawdoc::{RawDocument, next_element};
 use bson_shape::{Leaf, Shape};
