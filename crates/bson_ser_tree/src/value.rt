@@ -6,6 +6,8 @@ ghost use Rattle.bson_base.specs.Folded.{fold};
 ghost use Rattle.bson_kinds.specs.Outcome.{result_map};
 ghost use Rattle.bson_base.specs.Tree.{document, array, no_pairs, pair};
 ghost use Rattle.bson_values.specs.Refusal.{under, under_index};
+ghost use Rattle.bson_values.specs.TextView.{text_view};
+ghost use Rattle.bson_values.specs.Value as values;
 ghost use Rattle.bson_values.specs.Value.{uuid_newtype, readable_inside};
 ghost use Rattle.bson_datum.specs.View.{view, items_view, entries_view, fields_view};
 ghost use Rattle.bson_laws.specs.Spell.{enclosed_at, newtype_at};
@@ -20,8 +22,8 @@ use crate::stopping::{Writing, refused, refused_for};
 use bson_base::{Bson, Document};
 use bson_datum::{Datum, Entry, Field};
 use bson_kinds::reserved_kind;
-use bson_values::Cause;
 use bson_values::ser::Fault;
+use bson_values::{Cause, Text};
 use std::alloc::{AllocError, Global};
 
 // Whether a newtype of this name is that of a UUID.
@@ -78,7 +80,7 @@ pub(crate) fn tree_value(
         Datum::UnitVariant { variant } => Ok(text(alloc, variant.as_str())?),
         Datum::Bytes(bytes) => Ok(byte_string(alloc, bytes.as_bytes())?),
         Datum::None | Datum::Unit | Datum::UnitStruct { .. } => Ok(Bson::Null),
-        Datum::Some(content) => tree_value(alloc, content, readable, false, levels),
+        Datum::Some(content) => inner(alloc, content, readable, levels),
         Datum::NewtypeStruct { name, value } => {
             newtype(alloc, name.as_str(), value, readable, levels)
         }
@@ -94,18 +96,22 @@ pub(crate) fn tree_value(
             tuple_variant(alloc, variant.as_str(), items, readable, levels)
         }
         Datum::Map(entries) => map(alloc, entries, readable, levels),
-        Datum::Struct { name, fields } => {
-            let levelless = is_levelless(in_reserved, name.as_str());
-            structure(alloc, fields, readable, levelless, levels)
-        }
+        Datum::Struct { name, fields } => named(alloc, name, fields, readable, in_reserved, levels),
         Datum::StructVariant { variant, fields } => {
             struct_variant(alloc, variant.as_str(), fields, readable, levels)
         }
-        Datum::Mode { readable: form, .. } if readable => {
-            tree_value(alloc, form, readable, false, levels)
-        }
-        Datum::Mode { compact, .. } => tree_value(alloc, compact, readable, false, levels),
+        Datum::Mode { readable: form, .. } if readable => inner(alloc, form, readable, levels),
+        Datum::Mode { compact, .. } => inner(alloc, compact, readable, levels),
     }
+}
+
+// The tree of a value that is not reached from a struct of a reserved name by fields alone.
+#[cycle(build)]
+#[inline(always)]
+fn inner(alloc: Global, value: &Datum<'_>, readable: bool, levels: u32) -> Writing<Bson>
+    ensures { Reaches tree_of result (tree_spell readable false (view value.now) levels) }
+{
+    tree_value(alloc, value, readable, false, levels)
 }
 
 // A newtype: that of a UUID, or its content.
@@ -123,13 +129,7 @@ fn newtype(
     if is_uuid(name) {
         return unique_id(alloc, content, readable);
     }
-    tree_value(
-        alloc,
-        content,
-        readable_inside(readable, name),
-        false,
-        levels,
-    )
+    inner(alloc, content, readable_inside(readable, name), levels)
 }
 
 // ---- arrays
@@ -170,7 +170,7 @@ fn item_tree(
 ) -> Writing<Bson>
     ensures { Reaches tree_of result (under_index index (tree_spell readable false (view item.now) levels)) }
 {
-    match tree_value(alloc, item, readable, false, levels) {
+    match inner(alloc, item, readable, levels) {
         Ok(tree) => Ok(tree),
         Err(stop) => Err(stop.under_index(index)),
     }
@@ -188,6 +188,24 @@ fn map(alloc: Global, entries: &[Entry<'_>], readable: bool, levels: u32) -> Wri
     }
     let document = entry_trees(alloc, entries, readable, levels - 1)?;
     Ok(Bson::from_extended_document(alloc, document)?)
+}
+
+// A struct of this name.
+#[cycle(build)]
+#[inline(always)]
+fn named(
+    alloc: Global,
+    name: &Text<'_>,
+    fields: &[Field<'_>],
+    readable: bool,
+    in_reserved: bool,
+    levels: u32,
+) -> Writing<Bson>
+    ensures { let value = values.structure (text_view name.now) (fields_view fields.now) in
+        Reaches tree_of result (tree_spell readable in_reserved value levels) }
+{
+    let levelless = is_levelless(in_reserved, name.as_str());
+    structure(alloc, fields, readable, levelless, levels)
 }
 
 // A struct, which takes a level or none.
@@ -274,7 +292,7 @@ pub(crate) fn key_text(
 ) -> Writing<String>
     ensures { Reaches string_bytes result (tree_key_text readable (view key.now) levels) }
 {
-    let tree = tree_value(alloc, key, readable, false, levels)?;
+    let tree = inner(alloc, key, readable, levels)?;
     text_of(alloc, tree)
 }
 

@@ -1,4 +1,4 @@
-use Rattle.std.proofs.Common.{◌≡◌, suc, ◌+◌, ◌<◌, ◌≤◌, ◌∷◌, length, drop, get_or, arith, ap, sym, subst, ◌∙◌, add-one, drop-cons}
+use Rattle.std.proofs.Common.{◌≡◌, suc, ◌+◌, ◌<◌, ◌≤◌, ◌∷◌, length, drop, get_or, refl, arith, ap, sym, subst, ◌∙◌, add-one, drop-cons}
 use Rattle.std.proofs.lemmas.List.{drop_all}
 use Rattle.bson_base.specs.Folded.{fold}
 use Rattle.bson_base.specs.BsonView.{tree_of}
@@ -9,7 +9,7 @@ use Rattle.bson_datum.specs.View.{view, items_view, fields_view}
 use Rattle.bson_datum.proofs.Views.{view-TupleVariant, view-Struct, view-StructVariant}
 use Rattle.bson_laws.specs.Spell.{enclosed_at}
 use Rattle.bson_tree_laws.specs.TreeSpell.{tree_items, tree_fields}
-use Rattle.bson_ser_tree.proofs.Arms.{makes_as, makes_array, makes_struct}
+use Rattle.bson_ser_tree.proofs.Arms.{MakesValue, makes_as, makes_array, makes_struct}
 use Rattle.bson_ser_tree.proofs.Before.{before_step, before_end}
 use Rattle.bson_ser_tree.proofs.VariantContents.{variant_made, variant_stops}
 use Rattle.bson_ser_tree.proofs.value.+build.Goals as goal
@@ -59,5 +59,12 @@ tree_value-returns-in-StructVariant t c =
 pub tree_value-returns-in-Struct : goal.tree_value-returns-in-Struct
 tree_value-returns-in-Struct t c =
     let it = c.in-Struct in
-    makes_as c.args.readable c.args.in_reserved c.args.levels _ c.args.value.now _ (λ name xs. structure name (fields_view xs)) _ (text_view it.name) _ _ it.is c.as_str-in-Struct.ensures.text c.deref-in-Struct.ensures.value (view-Struct it.name it.fields)
-    (makes_struct c.args.readable c.args.in_reserved c.args.levels _ c.as_str-in-Struct.result.now (fields_view c.deref-in-Struct.result.now) c.is_levelless-levelless.result c.is_levelless-levelless.ensures c.structure.ensures)
+    let name = text_view it.name in
+    makes_as c.args.readable c.args.in_reserved c.args.levels _ c.args.value.now _ (λ name xs. structure name (fields_view xs)) name name _ _ it.is refl c.deref-in-Struct.ensures.value (view-Struct it.name it.fields) c.named.ensures
+
+pub named-returns : goal.named-returns
+named-returns t c =
+    let fs = fields_view c.args.fields.now in
+    let made = c.structure.result in
+    subst (λ name. MakesValue c.args.readable c.args.in_reserved c.args.levels made (structure name fs)) c.as_str.ensures.text
+    (makes_struct c.args.readable c.args.in_reserved c.args.levels made c.as_str.result.now fs c.is_levelless-levelless.result c.is_levelless-levelless.ensures c.structure.ensures)
