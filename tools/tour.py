@@ -1,5 +1,5 @@
 #!/usr/bin/env python3
-"""Keeps the tour of the crate bson, its docstring, in step with the examples: behind each line that names a file of bson_examples or bson_example_types, the block is that file.
+"""Keeps the tour of the crate bson, its docstring, in step with the examples: behind each line that names a file of bson_examples, bson_example_values or bson_example_types, the block is that file.
 
 Run at the top of the repository. It writes crates/bson/src/lib.rt anew; with --check it writes nothing, and ends with status 1 where a block differs.
 """
@@ -7,7 +7,7 @@ import re
 import sys
 
 TOUR = "crates/bson/src/lib.rt"
-BLOCK = re.compile(r"(//! `(bson_example(?:s|_types)/src/\w+\.rt)`:\n//!\n//! ```rust\n)(?:(?!//! ```).*\n)*(//! ```\n)")
+BLOCK = re.compile(r"(//! `(bson_example(?:s|_values|_types)/src/\w+\.rt)`:\n//!\n//! ```rust\n)(?:(?!//! ```).*\n)*(//! ```\n)")
 
 
 def block(found):

@@ -25,7 +25,7 @@
 //! | texts | `date_text`, `date_of_text`, `integer_of_text`, `subtype_of_text`; `DateError`, `NotDate`, `NotHex`, `NotUuid` |
 //! | contracts | `laws`; the definitions that contracts name, as `Rattle.bson.specs.Tree` |
 //!
-//! The examples are the functions of the crates `bson_examples` and `bson_example_types`, where each is proved; the program `bson_tour` runs each once. An example
+//! The examples are the functions of the crates `bson_examples`, `bson_example_values` and `bson_example_types`, where each is proved; the program `bson_tour` runs each once. An example
 //! without a clause is proved too: it is safe, and it returns.
 //!
 //! # Types of one's own
@@ -128,7 +128,7 @@
 //! `field` is for structs, `get` for maps, as at `any`; `as_str`, `as_bool`, `as_i64`, `as_double`, `as_bytes` and `as_seq` return what a value of that form holds, and `None` for
 //! every other. For all other forms, and for an option, match on the `Datum`.
 //!
-//! `bson_examples/src/accessors.rt`:
+//! `bson_example_values/src/accessors.rt`:
 //!
 //! ```rust
 //! ghost use Rattle.std.specs.Prelude.{◌≡◌, codes, option_and_then};
@@ -198,7 +198,7 @@
 //! variant, and `ValueWriter` a value that serde's data model lacks, by the fields of its struct. `Serializer` makes trees so. Each part is refused as it would be in the
 //! whole value; behind a refusal the `Out` holds what it held before.
 //!
-//! `bson_examples/src/parts.rt`:
+//! `bson_example_values/src/parts.rt`:
 //!
 //! ```rust
 //! use bson::{Bson, Datum, DocumentWriter, Out, Serializer, Steps, Tally, Text, ser};
@@ -261,7 +261,7 @@
 //! A `Bson` is a value of any kind and owns what it holds; a `Document` is a list of pairs in order, in which each key appears once. `Document::to_vec` gives its
 //! bytes, and `RawDocument::to_document` the document of bytes. `from_bson_at` and `from_document_at` read a tree at a shape; `read_value` reads one by the rules for bytes.
 //!
-//! `bson_examples/src/trees.rt`:
+//! `bson_example_values/src/trees.rt`:
 //!
 //! ```rust
 //! ghost use Rattle.std.specs.Prelude.{◌≡◌, IfOk, Ok, codes, pos};
@@ -312,7 +312,7 @@
 //! A `RawDocument` borrows the bytes of a document. Its elements are looked at one after another, without a copy, and a fault is found where it is reached.
 //! `document.get("milk")` looks for one key.
 //!
-//! `bson_examples/src/raw_documents.rt`:
+//! `bson_example_values/src/raw_documents.rt`:
 //!
 //! ```rust
 //! ghost use Rattle.std.specs.Prelude.{IsOk, OnOk};
@@ -383,7 +383,7 @@
 //! They are structs of reserved names, such as `$oid` and `$date`, in reading and in writing. The functions of `data` make them, and `reserved::unwrap` returns
 //! the value that one holds.
 //!
-//! `bson_examples/src/extended.rt`:
+//! `bson_example_values/src/extended.rt`:
 //!
 //! ```rust
 //! use bson::reserved::{Accepted, unwrap};

@@ -1,6 +1,7 @@
 // The examples over the document of a person.
 use crate::printing::{print_bytes, print_value};
 use bson::{Bson, Document, Shape, from_slice_at};
+use bson_example_values::*;
 use bson_examples::*;
 use std::alloc::{AllocError, Global};
 use std::io::Print;

@@ -1,6 +1,7 @@
 // The examples over elements, files of documents and extended values.
 use crate::printing::{print_bytes, print_value};
 use bson::{DateTime, ObjectId, Shape, from_slice_at, ser, to_vec_at};
+use bson_example_values::*;
 use bson_examples::*;
 use std::alloc::Global;
 use std::io::Print;
