@@ -5,30 +5,27 @@ ghost use Rattle.bson_shape.specs.Makers.{AreDistinct, AreVariants, IsContent};
 ghost use Rattle.bson_shape.specs.ShapeView.{content_of, fields_of, parts_of, variants_of};
 ghost use Rattle.bson_shape.specs.declared.leaf.Leaf.TheVariants as leaves;
 ghost use Rattle.bson_datum.specs.MarkedView.{marked};
-ghost use Rattle.bson_laws.specs.FromTree as laws;
-ghost use Rattle.bson_laws.specs.FromTree.{element_at};
+ghost use Rattle.bson_laws.specs.FromTree.{element_at, unit_content_at};
 ghost use Rattle.bson_laws.specs.ReadsFrom.{reads_from, reads_for, slots_for, variant_for, content_for};
 ghost use Rattle.bson_laws.specs.Scopes.{formed_content};
-ghost use Rattle.bson_laws.specs.Variants as contents;
+ghost use Rattle.bson_laws.specs.declared.origin.Origin.TheVariants as origins;
 ghost use Rattle.bson_met.specs.Gives.{Reaches};
 ghost use Rattle.bson_slots.specs.FieldSlots.{fields_marked};
-ghost use Rattle.bson_de.specs.AtKey.{IsAtKey};
-ghost use Rattle.bson_de.specs.Enums.{element_of, first_of, pair_of, reads_contents};
-ghost use Rattle.bson_de.specs.TreeContents.{content_items_of, content_fields};
+ghost use Rattle.bson_de_parts.specs.Enums.{reads_contents};
+ghost use Rattle.bson_de_parts.specs.TreeContents.{content_fields};
 
-use crate::from_tree::{
-    content_elements, filled_items, only_element, read_unit_content, tree_unit_of,
-};
 use crate::structure::{read_by_key, read_fields};
 use crate::tuple::read_parts;
 use crate::value::read_for;
 use bson_datum::{Datum, Field};
+use bson_de_parts::{at_key, content_elements, content_items, naming_element, unit_named};
 use bson_laws::{Origin, Reader};
-use bson_leaves::{unit_of, variant_of};
-use bson_met::{Elements, Items, Met, Reading, Step, Value, refused};
-use bson_shape::{FieldShape, Shape, VariantContent, VariantShape};
+use bson_leaves::variant_of;
+use bson_met::{Elements, Met, Reading, Step, Value, refused};
+use bson_raw_builder::read_extended;
+use bson_shape::{FieldShape, Leaf, Shape, VariantContent, VariantShape};
 use bson_slots::named_struct_variant;
-use bson_values::{Cause, Stop, Text, de};
+use bson_values::{Cause, Text};
 use std::alloc::Global;
 
 /// The value at an enum with these variants: a text names a unit variant, the first key of a document another one.
@@ -56,22 +53,6 @@ pub(crate) fn read_enum<'de>(
     }
 }
 
-/// The unit variant that a text names.
-fn unit_named<'de>(
-    alloc: Global,
-    origin: Origin,
-    variants: &[VariantShape],
-    name: &str,
-) -> Reading<Datum<'de>>
-    ensures exact { Reaches marked result
-        (laws.unit_named origin name.now (contents.content_of (variants_of variants.now) name.now)) }
-{
-    match origin {
-        Origin::Bytes => unit_of(alloc, variants, name),
-        Origin::Tree => tree_unit_of(alloc, variants, name),
-    }
-}
-
 /// The variant that the first key of a document names, with its contents. In bytes further elements stay unread; in a tree there is none.
 #[cycle(read)]
 fn read_variant<'de>(
@@ -87,27 +68,6 @@ fn read_variant<'de>(
     let step = naming_element(alloc, reader.origin, elements)?;
     let variant = variant_of(alloc, variants, step.key.text)?;
     read_content(alloc, reader, variant, &step)
-}
-
-/// The element that names the variant: the first one of a document, which in a tree is the only one.
-fn naming_element<'de>(alloc: Global, origin: Origin, elements: Elements<'de>) -> Reading<Step<'de>>
-    ensures { Reaches pair_of result (element_of origin elements.entry) }
-{
-    match origin {
-        Origin::Bytes => first_element(alloc, elements),
-        Origin::Tree => only_element(alloc, elements),
-    }
-}
-
-/// The first element of a document.
-fn first_element<'de>(alloc: Global, mut elements: Elements<'de>) -> Reading<Step<'de>>
-    ensures { Reaches pair_of result (first_of elements.entry) }
-{
-    let mut step = elements.start();
-    if elements.advance(alloc, &mut step)? {
-        return Ok(step);
-    }
-    Err(Stop::here(alloc, de::Fault::EndOfStream))
 }
 
 /// The variant with its contents, which are the value of an element. In bytes a unit variant has none, and is refused before the value is
@@ -154,7 +114,7 @@ fn unit_content<'de>(
     value: &Met<'de>,
 ) -> Reading<Datum<'de>>
     ensures exact { Reaches marked result
-        (laws.unit_content_at origin name.now (reads_from origin (form.leaf leaves.Bson) value.now)) }
+        (unit_content_at origin name.now (reads_from origin (form.leaf leaves.Bson) value.now)) }
 {
     match origin {
         Origin::Bytes => Err(refused(alloc, Cause::UnitInDocument)),
@@ -162,14 +122,15 @@ fn unit_content<'de>(
     }
 }
 
-/// What is read of the value at a key, seen from the document that has the key.
-pub(crate) fn at_key<'de>(key: &str, reading: Reading<Datum<'de>>) -> Reading<Datum<'de>>
-    ensures { IsAtKey key.now reading.entry result }
+/// The unit variant of this name, whose contents in a tree are read at `bson` and dropped.
+#[inline(never)]
+fn read_unit_content<'de>(alloc: Global, name: &str, value: &Met<'de>) -> Reading<Datum<'de>>
+    ensures exact { Reaches marked result
+        (unit_content_at origins.Tree name.now (reads_from origins.Tree (form.leaf leaves.Bson) value.now)) }
 {
-    match reading {
-        Ok(value) => Ok(value),
-        Err(stop) => Err(stop.under_key(key)),
-    }
+    drop(at_key(name, read_extended(alloc, Leaf::Bson, value))?);
+    let variant = Text::Owned(String::from_str(alloc, name)?);
+    Ok(Datum::UnitVariant { variant })
 }
 
 /// The newtype variant of this name, whose value has this shape.
@@ -206,16 +167,6 @@ fn read_tuple_variant<'de>(
     let items = read_parts(alloc, reader, parts, elements)?;
     let variant = Text::Owned(String::from_str(alloc, name)?);
     Ok(Datum::TupleVariant { variant, items })
-}
-
-/// The elements of the array that is the contents of a tuple variant.
-fn content_items<'de>(alloc: Global, origin: Origin, value: &Met<'de>) -> Reading<Items<'de>>
-    ensures exact { Reaches (λ e. e) result (content_items_of origin value.now) }
-{
-    match origin {
-        Origin::Bytes => value.array(alloc),
-        Origin::Tree => filled_items(alloc, value),
-    }
 }
 
 /// The struct variant of this name with these fields.

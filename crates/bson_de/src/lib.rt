@@ -2,7 +2,6 @@
 #![tactic(auto)]
 
 mod enumeration;
-mod from_tree;
 mod leaf;
 mod map;
 mod structure;

@@ -2,9 +2,7 @@ ghost use Rattle.std.specs.Prelude.{◌≡◌};
 ghost use Rattle.bson_shape.specs.Form as form;
 ghost use Rattle.bson_shape.specs.Makers.{AreDistinct};
 ghost use Rattle.bson_shape.specs.ShapeView.{fields_of};
-ghost use Rattle.bson_values.specs.Cause.{unknown_field};
 ghost use Rattle.bson_datum.specs.MarkedView.{marked};
-ghost use Rattle.bson_laws.specs.Judged.{refused};
 ghost use Rattle.bson_laws.specs.ReadsFrom.{reads_for, slots_for};
 ghost use Rattle.bson_laws.specs.Slots as laws;
 ghost use Rattle.bson_met.specs.Gives.{Reaches};
@@ -16,11 +14,11 @@ ghost use Rattle.bson_slots.specs.FieldsRead.{unknown_of, fields_read, fields_by
 use crate::tuple::read_next;
 use crate::value::read_for;
 use bson_datum::{Datum, Field};
+use bson_de_parts::pass_unknown;
 use bson_laws::Reader;
 use bson_met::{Elements, Items, Met, Reading, Step, Value, refused};
 use bson_shape::FieldShape;
 use bson_slots::{NameIndex, Slots, named_field, named_struct};
-use bson_texts::ignore;
 use bson_values::Cause;
 use std::alloc::Global;
 
@@ -137,32 +135,6 @@ fn fill_one<'de>(
         }
         Err(stop) => Err(stop.under_key(key)),
     }
-}
-
-/// An element whose key no field has: its value is dropped, or a closed struct is refused before the value is looked at.
-#[inline(always)]
-fn pass_unknown(alloc: Global, closed: bool, step: &Step<'_>) -> Reading<()>
-    ensures exact { Reaches (λ u. u) result
-        (laws.unknown (unknown_of closed) (str_piece step.now.key).bytes step.now.value) }
-{
-    let key = step.key.text;
-    if closed {
-        return deny(alloc, key);
-    }
-    match ignore(alloc, &step.value) {
-        Ok(()) => Ok(()),
-        Err(stop) => Err(stop.under_key(key)),
-    }
-}
-
-/// A struct is refused for a key that none of its fields has.
-#[cold]
-#[inline(never)]
-fn deny(alloc: Global, key: &str) -> Reading<()>
-    ensures exact { Reaches (λ u. u) result (refused (unknown_field key.now)) }
-{
-    let cause = Cause::UnknownField(String::from_str(alloc, key)?);
-    Err(refused(alloc, cause))
 }
 
 /// The fields with their values from the elements of an array by their places. Further elements stay unread.

@@ -37,19 +37,19 @@ use Rattle.bson_leaves.specs.EntriesView.{key_form, entries_of}
 use Rattle.bson_leaves.specs.Named.{variant_named}
 use Rattle.bson_texts.specs.ListsMarked.{items_marked, entries_marked}
 use Rattle.bson_texts.proofs.Each.{each, step_is, item_is, each_step, each_next, each_stop}
-use Rattle.bson_de.specs.TreeContents.{document_elements_of, content_fields}
-use Rattle.bson_de.proofs.ClosedStructs.{closed_by_key, closed_stops, closed_fields_stop}
-use Rattle.bson_de.proofs.FieldPlaces.{values_before, places_step, places_stop, places_end, all_left as no_values}
+use Rattle.bson_de_parts.specs.TreeContents.{document_elements_of, content_fields}
+use Rattle.bson_de_parts.proofs.ClosedStructs.{closed_by_key, closed_stops, closed_fields_stop}
+use Rattle.bson_de_parts.proofs.FieldPlaces.{values_before, places_step, places_stop, places_end, all_left as no_values}
 use Rattle.bson_leaves.proofs.KeyTexts.{key_valued}
 use Rattle.bson_texts.proofs.Loops.{items_by, items_each, items_push, item_done, item_stops, entries_by, entries_each, entry_done, key_stops, entry_stops}
 use Rattle.bson_texts.proofs.Mapped.{taken, not_taken}
 use Rattle.bson_texts.proofs.SlotsFilled.{slots_by, fill_each}
-use Rattle.bson_de.proofs.MapKeys.{map_read, map_stops}
-use Rattle.bson_de.proofs.Nulls.{option_null}
+use Rattle.bson_de_parts.proofs.MapKeys.{map_read, map_stops}
+use Rattle.bson_de_parts.proofs.Nulls.{option_null}
 use Rattle.bson_texts.proofs.MarkedLists.{marked-Seq, marked-Tuple, marked-TupleStruct, marked-TupleVariant, marked-Map}
-use Rattle.bson_de.proofs.Parts.{items_before, parts_step, parts_stop, parts_end, all_left}
-use Rattle.bson_de.proofs.VariantContents.{contents_at_key, tree_fields}
-use Rattle.bson_de.proofs.Variants.{element_first, element_read, content_read, named_smaller, named_content, text_named, elements_read, elements_stop}
+use Rattle.bson_de_parts.proofs.Parts.{items_before, parts_step, parts_stop, parts_end, all_left}
+use Rattle.bson_de_parts.proofs.VariantContents.{contents_at_key, tree_fields}
+use Rattle.bson_de_parts.proofs.Variants.{element_first, element_read, content_read, named_smaller, named_content, text_named, elements_read, elements_stop}
 use Rattle.bson_de.proofs.+read.Goals as goal
 
 pub value::read_items-step-init : goal.value::read_items-step-init

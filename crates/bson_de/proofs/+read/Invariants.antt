@@ -14,9 +14,9 @@ use Rattle.bson_leaves.specs.EntriesView.{IsIndexed, key_form, entries_of}
 use Rattle.bson_texts.specs.ListsMarked.{items_marked, entries_marked}
 use Rattle.bson_texts.proofs.Each.{each}
 use Rattle.bson_texts.proofs.SlotsFilled.{slots_by}
-use Rattle.bson_de.proofs.FieldPlaces.{values_before}
+use Rattle.bson_de_parts.proofs.FieldPlaces.{values_before}
 use Rattle.bson_texts.proofs.Loops.{items_by, entries_by}
-use Rattle.bson_de.proofs.Parts.{items_before}
+use Rattle.bson_de_parts.proofs.Parts.{items_before}
 use Rattle.bson_de.proofs.+read.Given as goal
 
 abbrev pub decreases-value::read_for : goal.decreases-value::read_for

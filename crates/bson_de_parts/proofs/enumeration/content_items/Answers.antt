@@ -1,8 +1,8 @@
 use Rattle.std.proofs.Common.{sym, subst}
 use Rattle.bson_rawdoc.specs.Node.{Nodes}
 use Rattle.bson_met.specs.Gives.{Reaches}
-use Rattle.bson_de.specs.TreeContents.{content_items_of}
-use Rattle.bson_de.proofs.enumeration.content_items.Goals as goal
+use Rattle.bson_de_parts.specs.TreeContents.{content_items_of}
+use Rattle.bson_de_parts.proofs.enumeration.content_items.Goals as goal
 
 pub returns-in-Bytes : goal.returns-in-Bytes
 returns-in-Bytes c = record { exact = subst (λ o. Reaches (λ (e : Nodes). e) c.array.result (content_items_of o c.args.value.now)) (sym c.in-Bytes.is) c.array.ensures.array }

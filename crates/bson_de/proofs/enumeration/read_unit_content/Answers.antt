@@ -9,8 +9,8 @@ use Rattle.bson_values.specs.Value.{unit_variant}
 use Rattle.bson_laws.specs.ReadsFrom.{reads_from}
 use Rattle.bson_laws.specs.declared.origin.Origin.TheVariants as origins
 use Rattle.bson_met.proofs.Refusals.{stops_bind}
-use Rattle.bson_de.proofs.VariantContents.{reaches_at}
-use Rattle.bson_de.proofs.from_tree.read_unit_content.Goals as goal
+use Rattle.bson_de_parts.proofs.VariantContents.{reaches_at}
+use Rattle.bson_de.proofs.enumeration.read_unit_content.Goals as goal
 
 pub returns : goal.returns
 returns c =

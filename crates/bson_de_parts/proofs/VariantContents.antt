@@ -23,10 +23,10 @@ use Rattle.bson_laws.specs.Slots.{Slots}
 use Rattle.bson_laws.specs.Taken.{array_of}
 use Rattle.bson_met.specs.Gives.{Reaches}
 use Rattle.bson_met.proofs.Refusals.{stops_inside}
-use Rattle.bson_de.specs.AtKey.{IsAtKey}
+use Rattle.bson_de_parts.specs.AtKey.{IsAtKey}
 use Rattle.bson_slots.specs.FieldsRead.{fields_by_key}
-use Rattle.bson_de.specs.Enums.{reads_contents}
-use Rattle.bson_de.specs.TreeContents.{not_ended, content_items_of, only_document, document_elements_of, content_fields}
+use Rattle.bson_de_parts.specs.Enums.{reads_contents}
+use Rattle.bson_de_parts.specs.TreeContents.{not_ended, content_items_of, only_document, document_elements_of, content_fields}
 
 -- a reading at a key is what the definition reads there
 pub reaches_at : {X Y : Type 0} (see : X → Y) (key : Utf8) (old new : Result X (Stop Fault)) (r : Reading Y) → IsAtKey key old new → Reaches see old r → Reaches see new (under key r)

@@ -4,7 +4,7 @@ use Rattle.bson_datum.specs.MarkedView.{marked}
 use Rattle.bson_laws.specs.FromTree.{unit_named}
 use Rattle.bson_laws.specs.Variants.{content_of}
 use Rattle.bson_met.specs.Gives.{Reaches}
-use Rattle.bson_de.proofs.enumeration.unit_named.Goals as goal
+use Rattle.bson_de_parts.proofs.enumeration.unit_named.Goals as goal
 
 pub returns-in-Bytes : goal.returns-in-Bytes
 returns-in-Bytes c =

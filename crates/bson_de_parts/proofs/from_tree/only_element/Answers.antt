@@ -3,9 +3,9 @@ use Rattle.bson_kinds.specs.Outcome.{◌>>=◌}
 use Rattle.bson_values.specs.Cause.{empty_enum}
 use Rattle.bson_laws.specs.Judged.{Reading}
 use Rattle.bson_met.proofs.Refusals.{StopsAs, stops_bind, refused_stops}
-use Rattle.bson_de.specs.Enums.{Pair, pair_of, end_at}
-use Rattle.bson_de.proofs.TreeElements.{none_refused, first_stops, only_first}
-use Rattle.bson_de.proofs.from_tree.only_element.Goals as goal
+use Rattle.bson_de_parts.specs.Enums.{Pair, pair_of, end_at}
+use Rattle.bson_de_parts.proofs.TreeElements.{none_refused, first_stops, only_first}
+use Rattle.bson_de_parts.proofs.from_tree.only_element.Goals as goal
 
 pub returns-in_err-advance : goal.returns-in_err-advance
 returns-in_err-advance c =

@@ -3,8 +3,8 @@ use Rattle.bson_values.specs.Cause.{extra_key}
 use Rattle.bson_laws.specs.Judged.{Reading, refused}
 use Rattle.bson_met.specs.PieceView.{str_piece}
 use Rattle.bson_met.proofs.Refusals.{StopsAs}
-use Rattle.bson_de.proofs.TreeElements.{end_refused, end_is, end_stops}
-use Rattle.bson_de.proofs.from_tree.end_of.Goals as goal
+use Rattle.bson_de_parts.proofs.TreeElements.{end_refused, end_is, end_stops}
+use Rattle.bson_de_parts.proofs.from_tree.end_of.Goals as goal
 
 pub returns-in_err-advance : goal.returns-in_err-advance
 returns-in_err-advance c =

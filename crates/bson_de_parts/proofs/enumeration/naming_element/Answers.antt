@@ -1,7 +1,7 @@
 use Rattle.std.proofs.Common.{sym, subst}
 use Rattle.bson_met.specs.Gives.{Reaches}
-use Rattle.bson_de.specs.Enums.{pair_of, element_of}
-use Rattle.bson_de.proofs.enumeration.naming_element.Goals as goal
+use Rattle.bson_de_parts.specs.Enums.{pair_of, element_of}
+use Rattle.bson_de_parts.proofs.enumeration.naming_element.Goals as goal
 
 pub returns-in-Bytes : goal.returns-in-Bytes
 returns-in-Bytes c = subst (λ o. Reaches pair_of c.first_element.result (element_of o c.args.elements)) (sym c.in-Bytes.is) c.first_element.ensures

@@ -16,7 +16,7 @@ use Rattle.bson_laws.specs.FromTree.{struct_content_at}
 use Rattle.bson_laws.specs.ReadsFrom.{reads_from, reads_parts, slots_of}
 use Rattle.bson_met.specs.PieceView.{str_piece}
 use Rattle.bson_met.specs.declared.elements.Step.{Step}
-use Rattle.bson_de.specs.TreeContents.{content_items_of}
+use Rattle.bson_de_parts.specs.TreeContents.{content_items_of}
 
 -- a value with its key
 pub record Pair : Type 0 where

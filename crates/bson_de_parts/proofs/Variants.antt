@@ -31,7 +31,7 @@ use Rattle.bson_met.specs.declared.value.Value.TheVariants.{String}
 use Rattle.bson_met.proofs.Refusals.{StopsAs, stops_bind}
 use Rattle.bson_leaves.specs.Named.{variant_named}
 use Rattle.bson_leaves.proofs.Variants.{named, this_or, then_read}
-use Rattle.bson_de.specs.Enums.{Pair, first_of, only_of, element_of}
+use Rattle.bson_de_parts.specs.Enums.{Pair, first_of, only_of, element_of}
 
 -- an element is read at the variant that has its key as its name
 abbrev pub content_read : (reader : Reader) → Node → VariantShape → Reading Marked

@@ -1,24 +1,18 @@
 // The rows of a tree in memory: enums, whose documents have one key, and the contents of their variants.
 ghost use Rattle.bson_datum.specs.MarkedView.{marked};
 ghost use Rattle.bson_shape.specs.ShapeView.{variants_of};
-ghost use Rattle.bson_laws.specs.FromTree.{tree_unit_of, unit_content_at};
-ghost use Rattle.bson_laws.specs.ReadsFrom.{reads_from};
+ghost use Rattle.bson_laws.specs.FromTree.{tree_unit_of};
 ghost use Rattle.bson_laws.specs.Variants.{content_of};
-ghost use Rattle.bson_laws.specs.declared.origin.Origin.TheVariants as origins;
-ghost use Rattle.bson_shape.specs.Form as form;
-ghost use Rattle.bson_shape.specs.declared.leaf.Leaf.TheVariants as leaves;
 ghost use Rattle.bson_met.specs.ContainerView.{array_items};
 ghost use Rattle.bson_met.specs.Gives.{Reaches};
-ghost use Rattle.bson_de.specs.Enums.{end_at, only_of, pair_of};
-ghost use Rattle.bson_de.specs.TreeContents.{document_elements_of, filled_items_of, not_ended};
+ghost use Rattle.bson_de_parts.specs.Enums.{end_at, only_of, pair_of};
+ghost use Rattle.bson_de_parts.specs.TreeContents.{document_elements_of, filled_items_of, not_ended};
 
-use crate::enumeration::at_key;
 use bson_datum::Datum;
 use bson_kinds::ElementType;
 use bson_leaves::variant_of;
 use bson_met::{Elements, Items, Met, MetArray, Reading, Step, Value, refused};
-use bson_raw_builder::read_extended;
-use bson_shape::{Leaf, VariantContent, VariantShape};
+use bson_shape::{VariantContent, VariantShape};
 use bson_values::{Cause, Stop, Text, de};
 use std::alloc::Global;
 
@@ -68,21 +62,6 @@ fn end_of(alloc: Global, mut rest: Elements<'_>) -> Reading<()>
     Ok(())
 }
 
-/// The unit variant of this name, whose contents in a tree are read at `bson` and dropped.
-#[inline(never)]
-pub(crate) fn read_unit_content<'de>(
-    alloc: Global,
-    name: &str,
-    value: &Met<'de>,
-) -> Reading<Datum<'de>>
-    ensures exact { Reaches marked result
-        (unit_content_at origins.Tree name.now (reads_from origins.Tree (form.leaf leaves.Bson) value.now)) }
-{
-    drop(at_key(name, read_extended(alloc, Leaf::Bson, value))?);
-    let variant = Text::Owned(String::from_str(alloc, name)?);
-    Ok(Datum::UnitVariant { variant })
-}
-
 /// The elements of an array of a tree that is the contents of a tuple variant, and is not empty.
 #[inline(never)]
 pub(crate) fn filled_items<'de>(alloc: Global, value: &Met<'de>) -> Reading<Items<'de>>
@@ -108,7 +87,7 @@ fn items_of<'de>(alloc: Global, array: MetArray<'de>) -> Reading<Items<'de>>
 
 /// The elements of a document of a tree that is the contents of a struct variant.
 #[inline(never)]
-pub(crate) fn content_elements<'de>(alloc: Global, value: &Met<'de>) -> Reading<Elements<'de>>
+pub fn content_elements<'de>(alloc: Global, value: &Met<'de>) -> Reading<Elements<'de>>
     ensures exact { Reaches (λ e. e) result (document_elements_of value.now) }
 {
     match value.judge(alloc)? {

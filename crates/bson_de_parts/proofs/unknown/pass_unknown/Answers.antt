@@ -7,7 +7,7 @@ use Rattle.bson_met.specs.PieceView.{str_piece}
 use Rattle.bson_met.proofs.Refusals.{StopsAs, stops_inside}
 use Rattle.bson_slots.specs.FieldsRead.{unknown_of}
 use Rattle.bson_texts.proofs.Loops.{ignored_at}
-use Rattle.bson_de.proofs.structure.pass_unknown.Goals as goal
+use Rattle.bson_de_parts.proofs.unknown.pass_unknown.Goals as goal
 
 pub returns-then-closed : goal.returns-then-closed
 returns-then-closed c =

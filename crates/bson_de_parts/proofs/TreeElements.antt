@@ -29,8 +29,8 @@ use Rattle.bson_met.specs.declared.elements.Step.{Step}
 use Rattle.bson_met.proofs.Refusals.{StopsAs, refused_stops}
 use Rattle.bson_leaves.specs.Named.{variant_named}
 use Rattle.bson_leaves.proofs.Variants.{named, then_read}
-use Rattle.bson_de.specs.Enums.{Pair, pair_of, only_of, end_at}
-use Rattle.bson_de.specs.TreeContents.{not_ended}
+use Rattle.bson_de_parts.specs.Enums.{Pair, pair_of, only_of, end_at}
+use Rattle.bson_de_parts.specs.TreeContents.{not_ended}
 
 -- ---- the elements of an array
 

@@ -4,9 +4,9 @@ use Rattle.bson_rawdoc.specs.Node.{Nodes}
 use Rattle.bson_values.specs.Cause.{invalid_type}
 use Rattle.bson_laws.specs.Judged.{Reading}
 use Rattle.bson_met.proofs.Refusals.{StopsAs, refused_stops}
-use Rattle.bson_de.specs.TreeContents.{not_ended}
-use Rattle.bson_de.proofs.TreeElements.{not_ended_is, ended_refused, faulty_stops}
-use Rattle.bson_de.proofs.from_tree.items_of.Goals as goal
+use Rattle.bson_de_parts.specs.TreeContents.{not_ended}
+use Rattle.bson_de_parts.proofs.TreeElements.{not_ended_is, ended_refused, faulty_stops}
+use Rattle.bson_de_parts.proofs.from_tree.items_of.Goals as goal
 
 pub returns-then-branch : goal.returns-then-branch
 returns-then-branch c = record {

@@ -11,8 +11,8 @@ use Rattle.bson_laws.specs.Judged.{Reading}
 use Rattle.bson_met.specs.Gives.{Reaches}
 use Rattle.bson_met.proofs.Refusals.{StopsAs}
 use Rattle.bson_leaves.specs.Named.{variant_named}
-use Rattle.bson_de.proofs.TreeElements.{unit_read, text_read, contents_missing}
-use Rattle.bson_de.proofs.from_tree.tree_unit_of.Goals as goal
+use Rattle.bson_de_parts.proofs.TreeElements.{unit_read, text_read, contents_missing}
+use Rattle.bson_de_parts.proofs.from_tree.tree_unit_of.Goals as goal
 
 pub returns-in_err-variant_of : goal.returns-in_err-variant_of
 returns-in_err-variant_of c =
