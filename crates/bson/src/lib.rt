@@ -312,7 +312,7 @@
 //! A `RawDocument` borrows the bytes of a document. Its elements are looked at one after another, without a copy, and a fault is found where it is reached.
 //! `document.get("milk")` looks for one key.
 //!
-//! `bson_example_values/src/raw_documents.rt`:
+//! `bson_examples/src/raw_documents.rt`:
 //!
 //! ```rust
 //! ghost use Rattle.std.specs.Prelude.{IsOk, OnOk};
@@ -548,6 +548,7 @@ pub use bson_io::read_to_end;
 pub use bson_io::write_due;
 pub use bson_kinds::ElementType;
 pub use bson_kinds::reserved_kind;
+pub use bson_met as met;
 pub use bson_met::Met;
 pub use bson_migrate_run::MigrateError;
 pub use bson_migrate_run::MigrateStatus;

@@ -4,11 +4,9 @@
 mod accessors;
 mod extended;
 mod parts;
-mod raw_documents;
 mod trees;
 
 pub use accessors::{age_of, first_city};
 pub use extended::{event, id_of};
 pub use parts::{person_by_fields, person_tree_by_fields};
-pub use raw_documents::total;
 pub use trees::{ada, document_bytes, document_of, first_null};

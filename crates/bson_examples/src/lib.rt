@@ -4,6 +4,7 @@
 
 mod files;
 mod places;
+mod raw_documents;
 mod reading;
 mod recasting;
 mod shapes;
@@ -11,6 +12,7 @@ mod writing;
 
 pub use files::{at_shape, longest};
 pub use places::{refusal, refused_key};
+pub use raw_documents::total;
 pub use reading::{age, age_in_memory};
 pub use recasting::upgraded;
 pub use shapes::person_shape;

@@ -1,9 +1,7 @@
 // The examples over types of one's own.
-use crate::printing::{print_bytes, print_value};
 use bson_example_types::*;
+use bson_lines::Lines;
 use std::alloc::{AllocError, Global};
-use std::io::Print;
-use std::test::Fail;
 
 /// A cat.
 fn garfield(alloc: Global) -> Result<Cat, AllocError> {
@@ -17,41 +15,57 @@ fn pets(alloc: Global) -> Result<Vec<Pet>, AllocError> {
     Ok(vec![in alloc; cat, Pet::Stray]?)
 }
 
-/// A person with these pets.
-fn jon(alloc: Global, pets: Vec<Pet>) -> Result<Person, AllocError> {
+/// A person with a cat and a stray.
+fn jon(alloc: Global) -> Result<Person, AllocError> {
     let name = String::from_str(alloc, "Jon")?;
     Ok(Person {
         name,
         age: 30,
-        pets,
+        pets: pets(alloc)?,
     })
 }
 
-/// Prints the bytes of a cat, and the cat that is read of them.
-fn print_cat(rt: &impl Print, alloc: Global, bytes: &[u8]) -> Result<(), Fail> {
-    print_bytes(rt, alloc, "cat_bytes", bytes)?;
-    print_value(rt, "cat_of", &cat_of(alloc, bytes)?)
+/// Adds the bytes of a cat, and the cat that is read of them.
+fn add_cat(lines: &mut Lines, alloc: Global, cat: &Cat) {
+    match cat_bytes(alloc, cat) {
+        Ok(bytes) => {
+            lines.hex("cat_bytes", &bytes);
+            lines.made("cat_of", &cat_of(alloc, &bytes));
+        }
+        Err(error) => lines.text("no cat_bytes", &error),
+    }
 }
 
-/// Prints the person who is read of bytes.
-fn print_read(rt: &impl Print, alloc: Global, bytes: &[u8]) -> Result<(), Fail> {
-    print_value(rt, "household_of", &household_of(alloc, bytes)?)
+/// Adds the person who is read of the bytes of a person.
+fn add_read(lines: &mut Lines, alloc: Global, person: &Person) {
+    match household_bytes(alloc, person) {
+        Ok(bytes) => lines.made("household_of", &household_of(alloc, &bytes)),
+        Err(error) => lines.text("no household_bytes", &error),
+    }
 }
 
-/// Prints the person who is read of the document that a person is.
-fn print_again(rt: &impl Print, alloc: Global, person: &Person) -> Result<(), Fail> {
-    let again = household_in(alloc, household_document(alloc, person)?)?;
-    print_value(rt, "household_in", &again)
+/// Adds the person who is read of the document that a person is.
+fn add_again(lines: &mut Lines, alloc: Global, person: &Person) {
+    match household_document(alloc, person) {
+        Ok(document) => lines.made("household_in", &household_in(alloc, document)),
+        Err(error) => lines.text("no household_document", &error),
+    }
 }
 
-/// A person is written and read, in bytes and in memory.
-fn print_household(rt: &impl Print, alloc: Global, person: &Person) -> Result<(), Fail> {
-    print_read(rt, alloc, &household_bytes(alloc, person)?)?;
-    print_again(rt, alloc, person)
+/// Adds a person who is written and read, in bytes and in memory.
+fn add_household(lines: &mut Lines, alloc: Global, person: &Person) {
+    add_read(lines, alloc, person);
+    add_again(lines, alloc, person);
 }
 
 /// A cat and a person are written and read.
-pub fn print_cats(rt: &impl Print, alloc: Global) -> Result<(), Fail> {
-    print_cat(rt, alloc, &cat_bytes(alloc, &garfield(alloc)?)?)?;
-    print_household(rt, alloc, &jon(alloc, pets(alloc)?)?)
+pub fn add_cats(lines: &mut Lines, alloc: Global) {
+    match garfield(alloc) {
+        Ok(cat) => add_cat(lines, alloc, &cat),
+        Err(error) => lines.text("no cat", &error),
+    }
+    match jon(alloc) {
+        Ok(person) => add_household(lines, alloc, &person),
+        Err(error) => lines.text("no person", &error),
+    }
 }
