@@ -1,5 +1,5 @@
 // Documents at structs.
-ghost use Rattle.std.specs.Prelude.{◌≡◌, ◌++◌, [], string_bytes, false, IfSome, None, Some};
+ghost use Rattle.std.specs.Prelude.{◌≡◌, ◌+◌, ◌≤◌, ◌++◌, [], length, drop, string_bytes, false, IfSome, None, Some};
 ghost use Rattle.bson_kinds.specs.Text.{has_zero};
 ghost use Rattle.bson_base.specs.Tree.{element};
 ghost use Rattle.bson_kinds.specs.Reserved.{reserved_kind};
@@ -17,6 +17,7 @@ ghost use Rattle.bson_slots.specs.FieldsRead.{unknown_of};
 ghost use Rattle.bson_pass_parts.specs.Found.{IsFoundPut, AreFoundPut, AreOthersPut};
 ghost use Rattle.bson_pass_parts.specs.Put.{recast_for, recast_fields, IsPut, IsElementPut, ArePairsPut};
 ghost use Rattle.bson_pass_parts.specs.ReadsUnrolled.{slots_of, missing_value};
+ghost use Rattle.bson_pass_parts.specs.Run.{IsHead, element_of, run, size};
 
 use crate::array::{recast_item, recast_known};
 use bson_base::has_zero;
@@ -85,28 +86,13 @@ fn recast_fields(
             let name = field.name.as_str();
             if let Some((kind, value)) = value_under(&elements[at..], name) {
                 let behind = at + named_len(&elements[at..], kind, name, value);
-                from = recast_known(
-                    made,
-                    reader,
-                    &field.shape,
-                    levels,
-                    MOST_NESTED,
-                    elements,
-                    from,
-                    at,
-                    name,
-                    kind,
-                    value,
-                )?;
+                from = put_next(made, reader, field, levels, elements, from, at, kind, value)?;
                 place += 1;
                 at = behind;
                 continue;
             }
         }
-        let Some(step) = next_element(&elements[at..]) else {
-            return None;
-        };
-        let Ok((element, _)) = step else {
+        let Some(Ok((element, _))) = next_element(&elements[at..]) else {
             return None;
         };
         if fields.len() > MOST_COMPARED {
@@ -130,6 +116,42 @@ fn recast_fields(
         place += 1;
     }
     Some(())
+}
+
+/// The next field from the element of its name, of this kind and this value, that is at a place; and the place from which bytes are left to be copied.
+#[inline(always)]
+#[cycle(recast)]
+fn put_next(
+    made: &mut Vec<u8>,
+    reader: &Reader<'_>,
+    field: &FieldShape,
+    levels: u32,
+    elements: &[u8],
+    from: usize,
+    at: usize,
+    kind: ElementType,
+    value: &[u8],
+) -> Option<usize>
+    requires order { from ≤ at }
+    requires within { at ≤ length elements.now }
+    requires head { IsHead (drop at elements.now) (element_of kind (string_bytes field.now.name) value.now) }
+    ensures behind { IfSome result (λ next. next ≤ at + size (element_of kind (string_bytes field.now.name) value.now)) }
+    ensures put { IfSome result (λ next. IsElementPut (recast_for reader.now field.now.shape levels (node_in levels kind value.now)) (string_bytes field.now.name)
+        (made.old.items ++ run elements.now from at) (made.new.items ++ run elements.now next (at + size (element_of kind (string_bytes field.now.name) value.now)))) }
+{
+    recast_known(
+        made,
+        reader,
+        &field.shape,
+        levels,
+        MOST_NESTED,
+        elements,
+        from,
+        at,
+        field.name.as_str(),
+        kind,
+        value,
+    )
 }
 
 /// The fields behind those in front, from elements in any order.

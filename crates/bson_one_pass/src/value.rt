@@ -3,7 +3,7 @@ ghost use Rattle.std.specs.Prelude.{◌≡◌, false, None, IfSome};
 ghost use Rattle.bson_kinds.specs.Reserved.{reserved_kind};
 ghost use Rattle.bson_rawdoc.specs.Node.{value_node, inner_node};
 ghost use Rattle.bson_rawdoc.specs.ValueView.{raw_value};
-ghost use Rattle.bson_shape.specs.Form.{optional, lossy, newtype, structure, reference, definitions};
+ghost use Rattle.bson_shape.specs.Form.{optional, lossy, map, newtype, structure, reference, definitions};
 ghost use Rattle.bson_shape.specs.Makers.{AreDistinct, is_reserved_newtype};
 ghost use Rattle.bson_shape.specs.ShapeView.{fields_of};
 ghost use Rattle.bson_slots.specs.FieldsRead.{unknown_of};
@@ -40,11 +40,7 @@ pub(crate) fn recast_value(
             RawBsonRef::Array(array) => recast_array(made, reader, item, levels, array.as_bytes()),
             _ => None,
         },
-        Form::Tuple(parts) => match value {
-            RawBsonRef::Array(array) => recast_tuple(made, reader, parts, levels, array.as_bytes()),
-            _ => None,
-        },
-        Form::TupleStruct(_, parts) => match value {
+        Form::Tuple(parts) | Form::TupleStruct(_, parts) => match value {
             RawBsonRef::Array(array) => recast_tuple(made, reader, parts, levels, array.as_bytes()),
             _ => None,
         },
@@ -54,15 +50,7 @@ pub(crate) fn recast_value(
         Form::ClosedStruct(name, fields) => {
             recast_structure(made, reader, name, fields, true, levels, value)
         }
-        Form::Map(key, inner) => match key.form() {
-            Form::Leaf(key) => match value {
-                RawBsonRef::Document(document) => {
-                    recast_map(made, reader, key, inner, levels, *document)
-                }
-                _ => None,
-            },
-            _ => None,
-        },
+        Form::Map(key, inner) => recast_keyed(made, reader, key, inner, levels, value),
         Form::Newtype(name, inner) => recast_newtype(made, reader, name, inner, levels, value),
         Form::UnitStruct(_) => match value {
             RawBsonRef::Null => Some(ElementType::Null),
@@ -112,6 +100,31 @@ fn recast_structure(
                 document.as_bytes(),
             )
         }
+        _ => None,
+    }
+}
+
+/// The value at a map whose keys and values have these shapes; the keys have to be at a leaf.
+#[inline(always)]
+#[cycle(recast)]
+fn recast_keyed(
+    made: &mut Vec<u8>,
+    reader: &Reader<'_>,
+    key: &Shape,
+    inner: &Shape,
+    levels: u32,
+    value: &RawBsonRef<'_>,
+) -> Option<ElementType>
+    ensures { IfSome result (IsPut (recast_for reader.now (map key.now inner.now) levels (value_node (inner_node levels) (raw_value value.now)))
+        made.old.items made.new.items) }
+{
+    match key.form() {
+        Form::Leaf(key) => match value {
+            RawBsonRef::Document(document) => {
+                recast_map(made, reader, key, inner, levels, *document)
+            }
+            _ => None,
+        },
         _ => None,
     }
 }

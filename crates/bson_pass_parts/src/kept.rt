@@ -84,7 +84,7 @@ fn is_form_kept(
             }
             _ => false,
         },
-        Form::Struct(name, fields) => match kind {
+        Form::Struct(name, fields) | Form::ClosedStruct(name, fields) => match kind {
             ElementType::EmbeddedDocument if nested > 0 => {
                 is_struct_kept(alloc, reader, name, fields, levels, nested - 1, bytes)
             }
@@ -99,12 +99,6 @@ fn is_form_kept(
         Form::Enum(variants) => match kind {
             ElementType::EmbeddedDocument if nested > 0 => {
                 is_enum_kept(alloc, reader, variants, levels, nested - 1, bytes)
-            }
-            _ => false,
-        },
-        Form::ClosedStruct(name, fields) => match kind {
-            ElementType::EmbeddedDocument if nested > 0 => {
-                is_struct_kept(alloc, reader, name, fields, levels, nested - 1, bytes)
             }
             _ => false,
         },

@@ -1,10 +1,10 @@
-use Rattle.std.proofs.Common.{◌≡◌, suc, ◌+◌, ◌-◌, ◌*◌, ◌<◌, ◌++◌, [], ◌∷◌, length, get_or, take, drop, refl, ap, sym, subst, ◌∙◌, arith, rules}
+use Rattle.std.proofs.Common.{◌≡◌, suc, ◌+◌, ◌-◌, ◌*◌, ◌<◌, ◌≤◌, ◌++◌, [], ◌∷◌, length, get_or, take, drop, refl, ap, sym, subst, ◌∙◌, arith, rules}
 use Rattle.std.specs.Fmt.{decimal}
 use Rattle.std.specs.Prelude.{IfSome, Option}
 use Rattle.std.proofs.lemmas.List.{take-append-drop, take_rest}
 use Rattle.bson_keys.proofs.Distinct.{distinct_last}
 use Rattle.bson_kinds.specs.Kind.{byte}
-use Rattle.bson_kinds.specs.Text.{Bytes}
+use Rattle.bson_kinds.specs.Text.{Bytes, Utf8}
 use Rattle.bson_base.specs.Tree.{Tree, enclosed}
 use Rattle.bson_rawdoc.specs.DocumentView.{document_bytes}
 use Rattle.bson_rawdoc.specs.Envelope.{inside}
@@ -515,16 +515,32 @@ array::recast_next-recast_known-requires t c =
     let same : element_of c.element_type.result c.key.result.now c.slice.result.now ≡ e = λ i. element_of (c.element_type.ensures.kind i) (c.key.ensures.key i) (c.slice.ensures.slice i) in
     (search rules, (c.requires.order, (c.requires.within, subst (λ x. IsHead bytes x) (sym same) (first_head bytes e c.requires.first))))
 
-pub structure::recast_fields-recast_known-requires : goal.structure::recast_fields-recast_known-requires
-structure::recast_fields-recast_known-requires t c =
+pub structure::recast_fields-put_next-requires : goal.structure::recast_fields-put_next-requires
+structure::recast_fields-put_next-requires t c =
     let fs = c.args.fields.now in
     let f = c.in-Some.field.now in
     let e = element_of c.in-Some-value_under.kind c.as_str-name.result.now c.in-Some-value_under.value.now in
     let found = c.in-Some.ensures.lookup in
     let smaller = field_fewer c.args.reader.now fs c.loop-at.place f found.3.0 in
     let same : nodes (laid c.args.reader.now (get_or fs c.loop-at.place f).shape) ≡ nodes (laid c.args.reader.now f.shape) = ap (λ (g : FieldShape). nodes (laid c.args.reader.now g.shape)) (sym found.1) in
-    let less : 16 * nodes (laid c.args.reader.now f.shape) + 5 < 16 * fields_nodes (laid_fields c.args.reader.now (fields_of fs)) + 8 = omega (arith, smaller, same) in
-    (search rules, (c.loop-at.invariant.1, (c.loop-at.invariant.0, head_at c.args.elements.now c.loop-at.at e c.in-Some-value_under.ensures)))
+    let less : 16 * nodes (laid c.args.reader.now f.shape) + 6 < 16 * fields_nodes (laid_fields c.args.reader.now (fields_of fs)) + 8 = omega (arith, smaller, same) in
+    let head = head_at c.args.elements.now c.loop-at.at e c.in-Some-value_under.ensures in
+    (search rules, (c.loop-at.invariant.1, (c.loop-at.invariant.0, subst (λ key. IsHead (drop c.loop-at.at c.args.elements.now) (element_of e.kind key e.value)) c.as_str-name.ensures.value head)))
+
+pub structure::put_next-recast_known-requires : goal.structure::put_next-recast_known-requires
+structure::put_next-recast_known-requires t c =
+    let head = subst (λ key. IsHead (drop c.args.at c.args.elements.now) (element_of c.args.kind key c.args.value.now)) (sym c.as_str.ensures.value) c.requires.head in
+    (search rules, (c.requires.order, (c.requires.within, head)))
+
+pub structure::put_next-returns : goal.structure::put_next-returns
+structure::put_next-returns t c =
+    let named = c.as_str.ensures.value in
+    let put : Utf8 → Type 0 = λ key. IfSome c.recast_known.result (λ next. IsElementPut (recast_for c.args.reader.now c.args.field.now.shape c.args.levels (node_in c.args.levels c.args.kind c.args.value.now)) key
+    (c.args.made.now.items ++ run c.args.elements.now c.args.from c.args.at) (c.recast_known.new.made.items ++ run c.args.elements.now next (c.args.at + size (element_of c.args.kind key c.args.value.now)))) in
+    record {
+      behind = subst (λ key. IfSome c.recast_known.result (λ next. next ≤ c.args.at + size (element_of c.args.kind key c.args.value.now))) named c.recast_known.ensures.behind;
+      put = subst put named c.recast_known.ensures.put;
+    }
 
 pub structure::recast_fields-loop-at-preserved-in-Some-value_under : goal.structure::recast_fields-loop-at-preserved-in-Some-value_under
 structure::recast_fields-loop-at-preserved-in-Some-value_under t c =
@@ -540,11 +556,14 @@ structure::recast_fields-loop-at-preserved-in-Some-value_under t c =
     let is = c.named_len.ensures in
     let head = head_at bytes at e c.in-Some-value_under.ensures in
     let made = c.loop-at.made.items ++ run bytes c.loop-at.from at in
-    let new = c.recast_known.new.made.items in
-    let same = bytes_same (name_of f) e.key (sym c.as_str-name.ensures.value) in
-    let put = subst (λ m. IsElementPut (recast_for c.args.reader.now f.shape levels (node_in levels e.kind e.value)) e.key made (new ++ run bytes next (at + m))) (sym is) c.in_ok-from.ensures.put in (
+    let new = c.put_next.new.made.items in
+    let named = c.as_str-name.ensures.value in
+    let same = bytes_same (name_of f) e.key (sym named) in
+    let long : size (element_of e.kind (name_of f) e.value) ≡ n = ap (λ key. size (element_of e.kind key e.value)) (sym named) ∙ sym is in
+    let put = subst (λ key. IsElementPut (recast_for c.args.reader.now f.shape levels (node_in levels e.kind e.value)) key made (new ++ run bytes next (at + n))) (sym named)
+    (subst (λ m. IsElementPut (recast_for c.args.reader.now f.shape levels (node_in levels e.kind e.value)) (name_of f) made (new ++ run bytes next (at + m))) long c.in_ok-from.ensures.put) in (
       next_within bytes at n e c.loop-at.invariant.0 head is,
-      omega (arith, c.in_ok-from.ensures.behind, is),
+      omega (arith, c.in_ok-from.ensures.behind, long),
       omega (arith, found.3.0),
       next_expected c.args.reader.now (unknown_of c.args.closed) fs levels (recast_fields (unknown_of c.args.closed) (slots_of (laid_fields c.args.reader.now (fields_of fs))) levels (nodes_with (node_in levels) (walk_elements bytes))) c.loop-at.place at n bytes e f c.args.made.now.items made (new ++ run bytes next (at + n)) c.loop-at.invariant.3 head is found.3.0
           found.1 same c.requires.distinct put,
@@ -581,7 +600,7 @@ structure::recast_fields-loop-at-preserved t c =
     let levels = c.args.levels in
     let bytes = c.args.elements.now in
     let at = c.loop-at.at in
-    let e = c.in-Ok.element in
+    let e = c.in-Some-Ok.element in
     let n = c.element_len-at.result in
     let is = c.element_len-at.ensures.size in
     let old = c.args.made.now.items in

@@ -37,6 +37,9 @@ decreases-value::recast_marked l = 16 * nodes (laid l.reader.now l.inner.now) + 
 abbrev pub decreases-value::recast_structure : goal.decreases-value::recast_structure
 decreases-value::recast_structure l = 16 * fields_nodes (laid_fields l.reader.now (fields_of l.fields.now)) + 10
 
+abbrev pub decreases-value::recast_keyed : goal.decreases-value::recast_keyed
+decreases-value::recast_keyed l = 16 * nodes (laid l.reader.now l.inner.now) + 10
+
 abbrev pub decreases-value::recast_newtype : goal.decreases-value::recast_newtype
 decreases-value::recast_newtype l = 16 * nodes (laid l.reader.now l.inner.now) + 1
 
@@ -96,6 +99,9 @@ decreases-structure::recast_field l = 16 * nodes (laid l.reader.now l.field.now.
 
 abbrev pub decreases-structure::recast_fields : goal.decreases-structure::recast_fields
 decreases-structure::recast_fields l = 16 * fields_nodes (laid_fields l.reader.now (fields_of l.fields.now)) + 8
+
+abbrev pub decreases-structure::put_next : goal.decreases-structure::put_next
+decreases-structure::put_next l = 16 * nodes (laid l.reader.now l.field.now.shape) + 6
 
 abbrev pub decreases-structure::recast_others : goal.decreases-structure::recast_others
 decreases-structure::recast_others l = 16 * fields_nodes (laid_fields l.reader.now (fields_of l.fields.now)) + 5

@@ -109,9 +109,9 @@ pub is_form_kept-returns-in_default-kind : goal.is_form_kept-returns-in_default-
 is_form_kept-returns-in_default-kind t c = λ h.
     rw (sym (c.in-Option.ensures.form)) (optional_kept (laid c.args.reader.now c.in-Option.inner.now) c.args.levels c.args.kind c.args.bytes.now c.in_default-kind.not-Null (c.is_kept.ensures h))
 
-pub is_form_kept-returns-in-EmbeddedDocument-kind : goal.is_form_kept-returns-in-EmbeddedDocument-kind
-is_form_kept-returns-in-EmbeddedDocument-kind t c = λ h.
-    rw (sym c.in-Enum.ensures.form, c.in-EmbeddedDocument-kind.is) (c.is_enum_kept.ensures h)
+pub is_form_kept-returns-in-EmbeddedDocument : goal.is_form_kept-returns-in-EmbeddedDocument
+is_form_kept-returns-in-EmbeddedDocument t c = λ h.
+    rw (sym c.in-Enum.ensures.form, c.in-EmbeddedDocument.is) (c.is_enum_kept.ensures h)
 
 pub is_marked_kept-returns-then-borrows_nothing_in : goal.is_marked_kept-returns-then-borrows_nothing_in
 is_marked_kept-returns-then-borrows_nothing_in t c = λ h. marked_kept c.args.reader.now c.args.inner.now c.args.levels c.args.kind c.args.bytes.now (c.if-borrows_nothing_in.ensures.table refl) (c.if-borrows_nothing_in.ensures.shape refl) (c.is_kept.ensures h)
