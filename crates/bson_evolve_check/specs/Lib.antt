@@ -5,3 +5,4 @@ pub mod Numbering
 pub mod Meeting
 pub mod Searching
 pub mod Checks
+pub mod Printed

@@ -32,6 +32,11 @@ pub enum CheckError {
 }
 
 impl fmt::Display for CheckError {
+    ghost use Rattle.std.specs.Prelude.{Some};
+    ghost use Rattle.bson_evolve_check.specs.Printed.{check_error_text};
+
+    ghost output = { λ e. Some (check_error_text e) };
+
     fn fmt<W: fmt::Write>(&self, f: &mut fmt::Formatter<W>) -> fmt::Result {
         f.write_str(match self {
             CheckError::OldNotPlain => "the old shape is not plain",

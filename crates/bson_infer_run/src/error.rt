@@ -11,6 +11,11 @@ pub enum InferError {
 }
 
 impl fmt::Display for InferError {
+    ghost use Rattle.std.specs.Prelude.{Some};
+    ghost use Rattle.bson_infer_run.specs.Lines.{infer_error_text};
+
+    ghost output = { λ e. Some (infer_error_text e) };
+
     fn fmt<W: fmt::Write>(&self, f: &mut fmt::Formatter<W>) -> fmt::Result {
         match self {
             InferError::NotSound(number) => write!(f, "document {number}: not sound"),

@@ -5,13 +5,12 @@ use Rattle.std.specs.Fmt.{decimal}
 use Rattle.std.proofs.lemmas.List.{append_assoc}
 use Rattle.bson_kinds.specs.Text.{Bytes, Utf8}
 use Rattle.bson_values.specs.ErrorView.{read_failure, write_failure}
-use Rattle.bson_values.specs.Printed.{printed_failure, printed_read_fault, printed_write_fault}
 use Rattle.bson_values.specs.Refusal.{ReadFault, Failure}
 use Rattle.bson_shape.specs.Form.{Form}
 use Rattle.bson_tree_recast.specs.declared.error.RecastError.{RecastError}
 use Rattle.bson_tree_recast.specs.declared.error.RecastError.TheVariants.{Read, Write, NoMemory}
 use Rattle.bson_recast_run.specs.PrintedLines.{read_refused_line}
-use Rattle.bson_tree_recast.specs.Printed.{recast_error_text}
+use Rattle.bson_tree_recast.specs.Printed.{recast_error_text, read_refused, write_refused}
 use Rattle.bson_tree_recast.specs.Recast.{Recast, writes, unread, unwritten, IsRefusal}
 use Rattle.bson_program.specs.ShapeWord.{newline}
 use Rattle.bson_migrate_run.specs.declared.migrating.Migration.{Migration}
@@ -33,11 +32,11 @@ same_failure f g e = cc
 line_by : (n : ℕ) (r : Recast) (e : RecastError) → IsRefusal r e → e ≢ NoMemory → IsLine n r (of_document n (recast_error_text e) ++ newline)
 line_by n (writes b) e h some = absurd (no_refusal b e h some)
 line_by n (unread f) (Read e) h some =
-    text_ended n (codes "read refused: " ++ printed_failure printed_read_fault (read_failure e)) ∙ ap (λ g. of_document n (read_refused_line g)) (same_failure f (read_failure e) h)
+    text_ended n (read_refused (read_failure e)) ∙ ap (λ g. of_document n (read_refused_line g)) (same_failure f (read_failure e) h)
 line_by n (unread f) (Write e) h some = absurd h
 line_by n (unread f) NoMemory h some = absurd (some refl)
 line_by n (unwritten expected long) (Read e) h some = absurd cc
-line_by n (unwritten expected long) (Write e) h some = (write_failure e, h, text_ended n (codes "write refused: " ++ printed_failure printed_write_fault (write_failure e)))
+line_by n (unwritten expected long) (Write e) h some = (write_failure e, h, text_ended n (write_refused (write_failure e)))
 line_by n (unwritten expected long) NoMemory h some = absurd (some refl)
 
 line_is : (d : NotRecast) (x : Refused) → IsListed d x → IsLine d.number d.recast (refused_text x ++ newline)
