@@ -71,6 +71,7 @@ pub use Rattle.bson_values.specs.TextView
 pub use Rattle.bson_values.specs.Value
 pub use Rattle.bson_datum.specs.View
 pub use Rattle.bson_values.specs.Wrapper
+pub use Rattle.bson_values.specs.Returned
 pub use Rattle.bson_reserved.specs.AcceptedView
 pub use Rattle.bson_laws.specs.Unwrap
 pub use Rattle.bson_laws.specs.UuidBytes

@@ -6,7 +6,7 @@ ghost use Rattle.bson_datum.specs.MarkedView.{marked};
 ghost use Rattle.bson_laws.specs.ReadsFrom.{reads_for, parts_for};
 ghost use Rattle.bson_met.specs.Gives.{Reaches};
 ghost use Rattle.bson_texts.specs.ListsMarked.{items_marked};
-ghost use Rattle.bson_slots.specs.NextValue.{next_value, behind_first};
+ghost use Rattle.bson_laws.specs.Containers.{next_value, behind_first};
 
 use crate::value::read_item;
 use bson_datum::Datum;

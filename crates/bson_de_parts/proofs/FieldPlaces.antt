@@ -20,8 +20,7 @@ use Rattle.bson_laws.specs.ReadsFrom.{reads_for, slots_for}
 use Rattle.bson_laws.specs.Slots.{reads_places}
 use Rattle.bson_met.proofs.Refusals.{StopsAs, stops_bind, stops_map}
 use Rattle.bson_slots.specs.FieldSlots.{fields_marked}
-use Rattle.bson_slots.specs.NextValue.{next_value, behind_first}
-use Rattle.bson_slots.proofs.NextParts.{next_parts}
+use Rattle.bson_laws.specs.Containers.{next_value, behind_first}
 
 -- the values of these fields, and then the rest
 abbrev pub values_before : List Field → MarkedFields → MarkedFields
@@ -54,8 +53,7 @@ module _ (reader : Reader) (fs : List FieldShape) (i : ℕ) (done : List Field) 
     -- its value, and then those of the others
     expected : result_map (values_before done) (next_value i (reads_for reader f.shape) old >>= λ v. result_map (field_value (made (string_bytes f.name)) v) (reads_places (suc i) (slots_for reader (fields_of (drop (suc i) fs))) (behind_first old))) ≡ total
     expected =
-        ap (result_map (values_before done)) (sym (next_parts i (reads_for reader f.shape) (λ v rest. result_map (field_value (made (string_bytes f.name)) v) (reads_places (suc i) (slots_for reader (fields_of (drop (suc i) fs))) rest)) old))
-        ∙ sym (ap (λ gs. result_map (values_before done) (reads_places i (slots_for reader (fields_of gs)) old)) left)
+        sym (ap (λ gs. result_map (values_before done) (reads_places i (slots_for reader (fields_of gs)) old)) left)
         ∙ so_far
 
     -- its value was read

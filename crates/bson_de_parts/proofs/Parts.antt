@@ -17,8 +17,7 @@ use Rattle.bson_laws.specs.Judged.{Reading}
 use Rattle.bson_laws.specs.ReadsFrom.{reads_for, parts_for}
 use Rattle.bson_met.proofs.Refusals.{StopsAs, stops_bind, stops_map}
 use Rattle.bson_texts.specs.ListsMarked.{items_marked}
-use Rattle.bson_slots.specs.NextValue.{next_value, behind_first}
-use Rattle.bson_slots.proofs.NextParts.{next_parts}
+use Rattle.bson_laws.specs.Containers.{next_value, behind_first}
 
 -- these items, and then the rest
 abbrev pub items_before : List Datum → MarkedItems → MarkedItems
@@ -51,8 +50,7 @@ module _ (reader : Reader) (ps : List Form) (i : ℕ) (done : List Datum) (old :
     -- its value, and then those of the others
     expected : result_map (items_before done) (next_value i (reads_for reader s) old >>= λ v. result_map (item v) (parts_for reader (parts_of (drop (suc i) ps)) (suc i) (behind_first old))) ≡ total
     expected =
-        ap (result_map (items_before done)) (sym (next_parts i (reads_for reader s) (λ v rest. result_map (item v) (parts_for reader (parts_of (drop (suc i) ps)) (suc i) rest)) old))
-        ∙ sym (ap (λ qs. result_map (items_before done) (parts_for reader (parts_of qs) i old)) left)
+        sym (ap (λ qs. result_map (items_before done) (parts_for reader (parts_of qs) i old)) left)
         ∙ so_far
 
     -- its value was read

@@ -20,7 +20,8 @@ use Rattle.bson_values.specs.Marked.{Marked}
 use Rattle.bson_values.specs.Refusal.{here, end_of_stream}
 use Rattle.bson_values.specs.declared.de.Fault.{Fault}
 use Rattle.bson_values.specs.declared.stop.Stop.{Stop}
-use Rattle.bson_laws.specs.FromTree.{tree_unit_of}
+use Rattle.bson_laws.specs.Containers.{Pair}
+use Rattle.bson_laws.specs.FromTree.{only_of, tree_unit_of}
 use Rattle.bson_laws.specs.Judged.{Reading, refused}
 use Rattle.bson_laws.specs.Variants.{content_of}
 use Rattle.bson_met.specs.Next.{IsAdvanced, IsItemAdvanced}
@@ -29,7 +30,7 @@ use Rattle.bson_met.specs.declared.elements.Step.{Step}
 use Rattle.bson_met.proofs.Refusals.{StopsAs, refused_stops}
 use Rattle.bson_leaves.specs.Named.{variant_named}
 use Rattle.bson_leaves.proofs.Variants.{named, then_read}
-use Rattle.bson_de_parts.specs.Enums.{Pair, pair_of, only_of, end_at}
+use Rattle.bson_de_parts.specs.Enums.{pair_of, end_at}
 use Rattle.bson_de_parts.specs.TreeContents.{not_ended}
 
 -- ---- the elements of an array

@@ -16,8 +16,8 @@ use Rattle.bson_values.specs.declared.stop.Stop.{Stop}
 use Rattle.bson_laws.specs.declared.origin.Origin.{Origin}
 use Rattle.bson_laws.specs.declared.origin.Origin.TheVariants as origins
 use Rattle.bson_laws.specs.declared.origin.Reader.{Reader}
-use Rattle.bson_laws.specs.Containers.{unit_of, read_first}
-use Rattle.bson_laws.specs.FromTree.{tree_unit_of, unit_named, unit_at, read_only, element_at, enum_at}
+use Rattle.bson_laws.specs.Containers.{Pair, unit_of}
+use Rattle.bson_laws.specs.FromTree.{tree_unit_of, unit_named, unit_at, element_at, enum_at}
 use Rattle.bson_laws.specs.Judged.{Reading, judged}
 use Rattle.bson_laws.specs.ReadsFrom.{reads_for, variant_for, content_for}
 use Rattle.bson_laws.specs.Scopes.{meanings_of, laid_variants, laid_content, formed_variants}
@@ -31,7 +31,7 @@ use Rattle.bson_met.specs.declared.value.Value.TheVariants.{String}
 use Rattle.bson_met.proofs.Refusals.{StopsAs, stops_bind}
 use Rattle.bson_leaves.specs.Named.{variant_named}
 use Rattle.bson_leaves.proofs.Variants.{named, this_or, then_read}
-use Rattle.bson_de_parts.specs.Enums.{Pair, first_of, only_of, element_of}
+use Rattle.bson_de_parts.specs.Enums.{element_of}
 
 -- an element is read at the variant that has its key as its name
 abbrev pub content_read : (reader : Reader) → Node → VariantShape → Reading Marked
@@ -70,23 +70,10 @@ named_content (v ∷ vs) name w shapes e =
 pub tree_unit_settled : (reader : Reader) (vs : Variants) (name : Utf8) → tree_unit_of name (content_of (formed_variants reader vs) name) ≡ tree_unit_of name (content_of vs name)
 tree_unit_settled reader vs name = tree_unit_formed reader.readable (meanings_of reader) vs name
 
--- the first element of a document is the one that is read
-first_read : (contents : Utf8 → Node → Reading Marked) (ns : Nodes) → read_first contents ns ≡ (first_of ns >>= λ (p : Pair). contents p.key.bytes p.value)
-first_read contents ended = refl
-first_read contents (faulty e) = refl
-first_read contents (then_node k n ns) = refl
-
--- and in a tree the only one
-only_read : (contents : Utf8 → Node → Reading Marked) (ns : Nodes) → read_only contents ns ≡ (only_of ns >>= λ (p : Pair). contents p.key.bytes p.value)
-only_read contents ended = refl
-only_read contents (faulty e) = refl
-only_read contents (then_node k n ended) = refl
-only_read contents (then_node k n (faulty e)) = refl
-only_read contents (then_node k n (then_node other m ns)) = refl
-
+-- the element that names a variant is the one that is read
 pub element_first : (o : Origin) (contents : Utf8 → Node → Reading Marked) (ns : Nodes) → element_at o contents ns ≡ (element_of o ns >>= λ (p : Pair). contents p.key.bytes p.value)
-element_first origins.Bytes contents ns = first_read contents ns
-element_first origins.Tree contents ns = only_read contents ns
+element_first origins.Bytes contents ns = refl
+element_first origins.Tree contents ns = refl
 
 -- a text at an enum
 enum_text : (o : Origin) (vs : Variants) (contents : Utf8 → Node → Reading Marked) (t : Piece) → enum_at o (unit_at o vs) contents (string t) ≡ unit_named o t.bytes (content_of vs t.bytes)

@@ -1,11 +1,12 @@
 // Enums: the element that names a variant, and what its contents are read from, in bytes and in a tree.
 ghost use Rattle.bson_datum.specs.MarkedView.{marked};
+ghost use Rattle.bson_laws.specs.Containers.{first_of};
 ghost use Rattle.bson_laws.specs.FromTree as laws;
 ghost use Rattle.bson_laws.specs.Variants as contents;
 ghost use Rattle.bson_met.specs.Gives.{Reaches};
 ghost use Rattle.bson_shape.specs.ShapeView.{variants_of};
 ghost use Rattle.bson_de_parts.specs.AtKey.{IsAtKey};
-ghost use Rattle.bson_de_parts.specs.Enums.{element_of, first_of, pair_of};
+ghost use Rattle.bson_de_parts.specs.Enums.{element_of, pair_of};
 ghost use Rattle.bson_de_parts.specs.TreeContents.{content_items_of};
 
 use crate::from_tree::{filled_items, only_element, tree_unit_of};

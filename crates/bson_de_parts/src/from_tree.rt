@@ -1,11 +1,11 @@
 // The rows of a tree in memory: enums, whose documents have one key, and the contents of their variants.
 ghost use Rattle.bson_datum.specs.MarkedView.{marked};
 ghost use Rattle.bson_shape.specs.ShapeView.{variants_of};
-ghost use Rattle.bson_laws.specs.FromTree.{tree_unit_of};
+ghost use Rattle.bson_laws.specs.FromTree.{only_of, tree_unit_of};
 ghost use Rattle.bson_laws.specs.Variants.{content_of};
 ghost use Rattle.bson_met.specs.ContainerView.{array_items};
 ghost use Rattle.bson_met.specs.Gives.{Reaches};
-ghost use Rattle.bson_de_parts.specs.Enums.{end_at, only_of, pair_of};
+ghost use Rattle.bson_de_parts.specs.Enums.{end_at, pair_of};
 ghost use Rattle.bson_de_parts.specs.TreeContents.{document_elements_of, filled_items_of, not_ended};
 
 use bson_datum::Datum;

@@ -3,12 +3,13 @@ ghost use Rattle.bson_base.specs.Sound.{IsSound};
 ghost use Rattle.bson_base.specs.Tree.{Tree, enc};
 ghost use Rattle.bson_datum.specs.MarkedView.{marked};
 ghost use Rattle.bson_values.specs.Value.{Value};
+ghost use Rattle.bson_values.specs.Returned.{Reads};
 ghost use Rattle.bson_shape.specs.Form.{no_fields};
 ghost use Rattle.bson_laws.specs.Recursive.{FitsIn};
 ghost use Rattle.bson_laws.specs.Means.{means, norm};
 ghost use Rattle.bson_laws.specs.Plain.{IsPlain};
 ghost use Rattle.bson_laws.specs.Reads.{reads_marked};
-ghost use Rattle.bson_de_raw.specs.Gives.{Gives, GivesValue};
+ghost use Rattle.bson_de_raw.specs.Gives.{GivesValue};
 ghost use Rattle.bson_de_raw.specs.ReadsLossy.{reads_lossy_marked};
 
 use bson_datum::{Datum, MAX_NESTING_LEVEL};
@@ -109,7 +110,7 @@ use std::alloc::Global;
 /// - `NoMemory` where memory ran out.
 pub fn from_slice_at<'de>(alloc: Global, shape: &Shape, bytes: &'de [u8]) -> de::Result<Datum<'de>>
     // The value, and which of its texts and byte strings are borrowed.
-    ensures exact { Gives marked result (reads_marked shape.now bytes.now) }
+    ensures exact { Reads marked result (reads_marked shape.now bytes.now) }
     // The document that a value of a plain shape means is read back as the normal form of the value.
     ensures read_back { (v : Value) (t : Tree) → IsPlain shape.now → FitsIn no_fields v shape.now → means v ≡ Some t → IsSound t
         → bytes.now ≡ enc t → GivesValue (norm v) result }
@@ -120,7 +121,7 @@ pub fn from_slice_at<'de>(alloc: Global, shape: &Shape, bytes: &'de [u8]) -> de:
 
 /// `from_slice_at`, but for its promise on what is read back.
 fn read_document<'de>(alloc: Global, shape: &Shape, bytes: &'de [u8]) -> de::Result<Datum<'de>>
-    ensures exact { Gives marked result (reads_marked shape.now bytes.now) }
+    ensures exact { Reads marked result (reads_marked shape.now bytes.now) }
 {
     let document = RawDocument::from_bytes(bytes)?;
     match read_value(alloc, shape, &Met::of_document(MAX_NESTING_LEVEL, document)) {
@@ -148,7 +149,7 @@ pub fn from_slice_utf8_lossy_at<'de>(
     bytes: &'de [u8],
 ) -> de::Result<Datum<'de>>
     // The value, and which of its texts and byte strings are borrowed.
-    ensures exact { Gives marked result (reads_lossy_marked shape.now bytes.now) }
+    ensures exact { Reads marked result (reads_lossy_marked shape.now bytes.now) }
 {
     let document = RawDocument::from_bytes(bytes)?;
     let document = Met::of_document(MAX_NESTING_LEVEL, document);

@@ -6,7 +6,7 @@ use Rattle.bson_io.specs.Ends.{Rose}
 use Rattle.bson_values.specs.ErrorView.{read_failure}
 use Rattle.bson_values.specs.Refusal.{ReadFault, Failure, no_memory, bare, placed, io, invalid_utf8_string, unrecognized_element_type, end_of_stream, unreadable, FailsAs}
 use Rattle.bson_values.specs.declared.de.Error.{Error}
-use Rattle.bson_de_raw.specs.Gives.{Gives}
+use Rattle.bson_values.specs.Returned.{Reads}
 use Rattle.bson_source.specs.FirstDocument.{first_document}
 use Rattle.bson_source.specs.FromSource.{IsAll, Stops, Ends, ReadsOne, read_first}
 
@@ -30,7 +30,7 @@ stops_as all failed (bare end_of_stream) answer a h = (a, h)
 stops_as all failed (bare (unreadable c)) answer a h = (a, h)
 stops_as all failed (placed path f) answer a h = (a, h)
 
-ends_as : {X Y : Type 0} (see : X → Y) (all failed : Type 0) (r : Result X Error) (answer : Result Y (Failure ReadFault)) → all → Gives see r answer → Ends see all failed r answer
+ends_as : {X Y : Type 0} (see : X → Y) (all failed : Type 0) (r : Result X Error) (answer : Result Y (Failure ReadFault)) → all → Reads see r answer → Ends see all failed r answer
 ends_as see all failed (Ok x) answer a h = (a, h)
 ends_as see all failed (Err e) answer a h = stops_as all failed (read_failure e) answer a h
 
@@ -39,12 +39,12 @@ fails_then no_memory first d read e h = tt
 fails_then (bare f) first d read e h = ap (λ r. r >>= read) e ∙ h
 fails_then (placed path f) first d read e h = ap (λ r. r >>= read) e ∙ h
 
-reads_then : {X Y Z : Type 0} (see : Z → Y) (r : Result Z Error) (first : Result X (Failure ReadFault)) (d : X) (read : X → Result Y (Failure ReadFault)) → first ≡ Ok d → Gives see r (read d) → Gives see r (first >>= read)
+reads_then : {X Y Z : Type 0} (see : Z → Y) (r : Result Z Error) (first : Result X (Failure ReadFault)) (d : X) (read : X → Result Y (Failure ReadFault)) → first ≡ Ok d → Reads see r (read d) → Reads see r (first >>= read)
 reads_then see (Ok x) first d read e h = ap (λ r. r >>= read) e ∙ h
 reads_then see (Err f) first d read e h = fails_then (read_failure f) first d read e h
 
 -- what the document is read as
-pub ends_then : {X Y Z : Type 0} (see : Z → Y) (all failed : Type 0) (r : Result Z Error) (first : Result X (Failure ReadFault)) (d : X) (read : X → Result Y (Failure ReadFault)) → all → first ≡ Ok d → Gives see r (read d) → Ends see all failed r (first >>= read)
+pub ends_then : {X Y Z : Type 0} (see : Z → Y) (all failed : Type 0) (r : Result Z Error) (first : Result X (Failure ReadFault)) (d : X) (read : X → Result Y (Failure ReadFault)) → all → first ≡ Ok d → Reads see r (read d) → Ends see all failed r (first >>= read)
 ends_then see all failed r first d read a e h = ends_as see all failed r (first >>= read) a (reads_then see r first d read e h)
 
 -- ---- at a source
@@ -61,7 +61,7 @@ not_taken see other read old new before now e h = record {
 
 -- a document is taken, and read
 pub read_taken : {X Y Z : Type 0} (see : X → Bytes) (other : Z → Y) (read : Bytes → Result Y (Failure ReadFault)) (old new : Option Bytes) (before now : ℕ) (x : X) (r : Result Z Error)
-    → ReadsOne see first_document old new before now (Ok x) → Gives other r (read (see x)) → ReadsOne other (read_first read) old new before now r
+    → ReadsOne see first_document old new before now (Ok x) → Reads other r (read (see x)) → ReadsOne other (read_first read) old new before now r
 read_taken see other read old new before now x r h gives = record {
   came = h.came;
   taken = h.taken;

@@ -1,7 +1,7 @@
 ghost use Rattle.std.specs.Prelude.{◌≤◌, IfOk};
+ghost use Rattle.bson_values.specs.Returned.{Reads};
 ghost use Rattle.bson_datum.specs.Borrowed.{IsOwned};
 ghost use Rattle.bson_datum.specs.View.{view};
-ghost use Rattle.bson_de_raw.specs.Gives.{Gives};
 ghost use Rattle.bson_de_raw.specs.ReadsLossy.{reads_lossy};
 ghost use Rattle.bson_laws.specs.Reads.{reads_document};
 ghost use Rattle.bson_source.specs.FromSource.{ReadsOne, read_first};
@@ -58,7 +58,7 @@ pub fn from_reader_utf8_lossy_at<'x, S: Source>(
 
 // The value that bytes are at a shape, with nothing borrowed.
 fn owned_from<'x>(alloc: Global, shape: &Shape, bytes: &[u8]) -> de::Result<Datum<'x>>
-    ensures value { Gives view result (reads_document shape.now bytes.now) }
+    ensures value { Reads view result (reads_document shape.now bytes.now) }
     ensures owned { IfOk result IsOwned }
 {
     let datum = read(alloc, shape, bytes)?;
@@ -67,7 +67,7 @@ fn owned_from<'x>(alloc: Global, shape: &Shape, bytes: &[u8]) -> de::Result<Datu
 
 // The same, where ill-formed texts are mended.
 fn mended_from<'x>(alloc: Global, shape: &Shape, bytes: &[u8]) -> de::Result<Datum<'x>>
-    ensures value { Gives view result (reads_lossy shape.now bytes.now) }
+    ensures value { Reads view result (reads_lossy shape.now bytes.now) }
     ensures owned { IfOk result IsOwned }
 {
     let datum = read_mended(alloc, shape, bytes)?;
@@ -77,7 +77,7 @@ fn mended_from<'x>(alloc: Global, shape: &Shape, bytes: &[u8]) -> de::Result<Dat
 // `from_slice_at`, by its value alone.
 #[tactic(auto, using(bson_de_raw::proofs::ReadBack::gives_document))]
 fn read<'de>(alloc: Global, shape: &Shape, bytes: &'de [u8]) -> de::Result<Datum<'de>>
-    ensures value { Gives view result (reads_document shape.now bytes.now) }
+    ensures value { Reads view result (reads_document shape.now bytes.now) }
 {
     from_slice_at(alloc, shape, bytes)
 }
@@ -85,7 +85,7 @@ fn read<'de>(alloc: Global, shape: &Shape, bytes: &'de [u8]) -> de::Result<Datum
 // `from_slice_utf8_lossy_at`, by its value alone.
 #[tactic(auto, using(bson_de_raw::proofs::ReadBack::gives_lossy))]
 fn read_mended<'de>(alloc: Global, shape: &Shape, bytes: &'de [u8]) -> de::Result<Datum<'de>>
-    ensures value { Gives view result (reads_lossy shape.now bytes.now) }
+    ensures value { Reads view result (reads_lossy shape.now bytes.now) }
 {
     from_slice_utf8_lossy_at(alloc, shape, bytes)
 }

@@ -15,6 +15,7 @@ use Rattle.bson_datum.specs.declared.datum.Datum.{Datum}
 use Rattle.bson_values.specs.declared.de.Error.{Error}
 use Rattle.bson_values.specs.declared.de.Fault.{Fault}
 use Rattle.bson_values.specs.declared.stop.Stop.{Stop}
+use Rattle.bson_values.specs.Returned.{Reads}
 use Rattle.bson_datum.proofs.Marks.{marked-contents}
 use Rattle.bson_laws.specs.Judged.{Reading}
 use Rattle.bson_laws.specs.Means.{means, norm}
@@ -32,7 +33,7 @@ use Rattle.bson_moved.specs.Simple.{is_simple}
 use Rattle.bson_moved.proofs.Plain.{plain, suits, alone}
 use Rattle.bson_met.specs.Gives.{RefusesAs}
 use Rattle.bson_met.proofs.Refusals.{StopsAs, stops_map}
-use Rattle.bson_de_raw.specs.Gives.{Gives, GivesValue}
+use Rattle.bson_de_raw.specs.Gives.{GivesValue}
 use Rattle.bson_de_raw.proofs.ReadBack.{gives_value}
 use Rattle.bson_de_tree.specs.Bare.{IsBare}
 
@@ -59,6 +60,6 @@ bare_as (Some x) f r p h = subst (λ g. FailsAs g (answered_bare r)) (sym p) (ap
 
 -- what a value of a plain shape means is read back
 pub read_back : (s : Form) (v : Value) (t : Tree) (r : Result Datum Error) → IsShape s → IsPlain s → SuitsTrees s → FitsIn no_fields v s → means v ≡ Some t → IsClean t → depth t ≤ max_levels
-    → (readable : Bool) → Gives view r (answered (reads_tree_value readable s t)) → GivesValue (norm v) r
+    → (readable : Bool) → Reads view r (answered (reads_tree_value readable s t)) → GivesValue (norm v) r
 read_back s v t r shape plain suits fits mean clean deep readable exact =
     gives_value (norm v) r (answered (reads_tree_value readable s t)) (ap answered (views_reads_tree readable s t (norm v) shape plain suits clean deep (views_means s v t shape plain fits mean clean))) exact

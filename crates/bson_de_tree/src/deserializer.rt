@@ -1,9 +1,9 @@
 ghost use Rattle.std.specs.Prelude.{◌≡◌, None, IfOk};
 ghost use Rattle.bson_base.specs.BsonView.{tree_of};
+ghost use Rattle.bson_values.specs.Returned.{Reads};
 ghost use Rattle.bson_datum.specs.Borrowed.{IsOwned};
 ghost use Rattle.bson_datum.specs.View.{view};
 ghost use Rattle.bson_laws.specs.ReadsFrom.{answered_bare, reads_tree_value};
-ghost use Rattle.bson_de_raw.specs.Gives.{Gives};
 ghost use Rattle.bson_de_tree.specs.Options.{is_readable};
 
 use crate::options::DeserializerOptions;
@@ -49,7 +49,7 @@ impl Deserializer {
     ///
     /// Those of [`from_bson_with_options_at`](crate::from_bson_with_options_at).
     pub fn deserialize<'x>(self, alloc: Global, shape: &Shape) -> de::Result<Datum<'x>>
-        ensures exact { Gives view result
+        ensures exact { Reads view result
             (answered_bare (reads_tree_value (is_readable self.options.human_readable) shape.now (tree_of self.value))) }
         ensures owned { IfOk result IsOwned }
     {

@@ -8,6 +8,7 @@ ghost use Rattle.bson_datum.specs.Borrowed.{IsOwned};
 ghost use Rattle.bson_values.specs.ErrorView.{read_failure, read_fault};
 ghost use Rattle.bson_values.specs.Stop.{stop_view};
 ghost use Rattle.bson_values.specs.Value.{Value};
+ghost use Rattle.bson_values.specs.Returned.{Reads};
 ghost use Rattle.bson_datum.specs.View.{view};
 ghost use Rattle.bson_laws.specs.Judged as laws;
 ghost use Rattle.bson_laws.specs.Means.{means, norm};
@@ -19,7 +20,7 @@ ghost use Rattle.bson_laws.specs.SuitsTrees.{SuitsTrees};
 ghost use Rattle.bson_laws.specs.Views.{views};
 ghost use Rattle.bson_met.specs.Gives.{Reaches};
 ghost use Rattle.bson_moved.specs.Simple as moved;
-ghost use Rattle.bson_de_raw.specs.Gives.{Gives, GivesValue};
+ghost use Rattle.bson_de_raw.specs.Gives.{GivesValue};
 ghost use Rattle.bson_de_tree.specs.Bare.{IsBare};
 ghost use Rattle.bson_de_tree.specs.Options.{is_readable};
 
@@ -56,7 +57,7 @@ use std::alloc::Global;
 ///
 /// `EndOfStream`: a text at an enum that is the name of a variant with contents.
 pub fn from_bson_at<'x>(alloc: Global, shape: &Shape, bson: Bson) -> de::Result<Datum<'x>>
-    ensures exact { Gives view result (answered (reads_tree_value true shape.now (tree_of bson))) }
+    ensures exact { Reads view result (answered (reads_tree_value true shape.now (tree_of bson))) }
     ensures owned { IfOk result IsOwned }
     // The tree that a value of a plain shape means is read back as the normal form of the value.
     ensures read_back { (v : Value) (t : Tree) → IsPlain shape.now → SuitsTrees shape.now → FitsIn no_fields v shape.now → means v ≡ Some t → IsClean t → depth t ≤ max_levels
@@ -77,7 +78,7 @@ pub fn from_bson_with_options_at<'x>(
     bson: Bson,
     options: DeserializerOptions,
 ) -> de::Result<Datum<'x>>
-    ensures exact { Gives view result
+    ensures exact { Reads view result
         (answered_bare (reads_tree_value (is_readable options.human_readable) shape.now (tree_of bson))) }
     ensures owned { IfOk result IsOwned }
 {
@@ -91,7 +92,7 @@ pub fn from_bson_with_options_at<'x>(
 /// Those of [`from_bson_at`].
 #[tactic(auto, using(bson_base::proofs::Rows::row_items, bson_base::proofs::Rows::row_pairs))]
 pub fn from_document_at<'x>(alloc: Global, shape: &Shape, doc: Document) -> de::Result<Datum<'x>>
-    ensures exact { Gives view result (answered (reads_tree_value true shape.now (trees.document (pairs_of doc)))) }
+    ensures exact { Reads view result (answered (reads_tree_value true shape.now (trees.document (pairs_of doc)))) }
     ensures owned { IfOk result IsOwned }
 {
     from_bson_at(alloc, shape, Bson::Document(doc))
@@ -109,7 +110,7 @@ pub fn from_document_with_options_at<'x>(
     doc: Document,
     options: DeserializerOptions,
 ) -> de::Result<Datum<'x>>
-    ensures exact { Gives view result
+    ensures exact { Reads view result
         (answered_bare (reads_tree_value (is_readable options.human_readable) shape.now (trees.document (pairs_of doc)))) }
     ensures owned { IfOk result IsOwned }
 {
@@ -150,7 +151,7 @@ fn read<'x>(alloc: Global, readable: bool, shape: &Shape, value: &Bson) -> Readi
 
 // What was read; a refusal with its path.
 fn with_path<'x>(alloc: Global, reading: Reading<Datum<'x>>) -> de::Result<Datum<'x>>
-    ensures exact { (expected : laws.Reading Value) → Reaches view reading.entry expected → Gives view result (answered expected) }
+    ensures exact { (expected : laws.Reading Value) → Reaches view reading.entry expected → Reads view result (answered expected) }
     ensures owned { IfOk reading.entry IsOwned → IfOk result IsOwned }
 {
     match reading {
@@ -161,7 +162,7 @@ fn with_path<'x>(alloc: Global, reading: Reading<Datum<'x>>) -> de::Result<Datum
 
 // What was read; a refusal without its path.
 fn without_path<'x>(reading: Reading<Datum<'x>>) -> de::Result<Datum<'x>>
-    ensures exact { (expected : laws.Reading Value) → Reaches view reading.entry expected → Gives view result (answered_bare expected) }
+    ensures exact { (expected : laws.Reading Value) → Reaches view reading.entry expected → Reads view result (answered_bare expected) }
     ensures owned { IfOk reading.entry IsOwned → IfOk result IsOwned }
 {
     match reading {

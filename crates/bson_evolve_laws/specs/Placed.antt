@@ -1,4 +1,4 @@
--- A form with the definitions around it, and what it is seen through newtypes, marks, references and definitions. Source: the usual meaning of recursive types.
+-- A form with the definitions around it, and what it is when it is seen through newtypes, lossy marks, references and definitions. Source: the usual meaning of recursive types.
 use Rattle.std.specs.Prelude.{suc, Bool, ◌&&◌, if◌then◌else◌}
 use Rattle.std.specs.Str.{bytes_eq}
 use Rattle.bson_kinds.specs.Text.{Utf8}

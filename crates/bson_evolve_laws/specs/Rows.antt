@@ -63,7 +63,7 @@ is_free raw_arrays = false
 is_free raw_values = false
 is_free k = true
 
--- each value of the first extended leaf is one of the second: rows 1, 11, 12 and 22
+-- each value of the first extended leaf is one of the second: rows 1, 11, 12 and 22. `to_leaf` takes `trees` before.
 abbrev pub extended_in : ExtendedLeaf → ExtendedLeaf → Bool
 extended_in k trees = true
 extended_in object_ids object_ids = true

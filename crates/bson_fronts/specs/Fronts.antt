@@ -1,4 +1,4 @@
--- Which fields are the first of some that a struct is accepted with whose name is reserved. Source: the reserved names of MongoDB's crate bson, version 2.
+-- Which fields are the first of some with which a struct whose name is reserved is accepted. Source: the reserved names of MongoDB's crate bson, version 2.
 use Rattle.std.specs.Prelude.{◌≡◌, Bool, true, false, List, [], ◌++◌, Option, Some, None, is_some, codes}
 use Rattle.bson_kinds.specs.Text.{Utf8}
 use Rattle.bson_kinds.specs.declared.element_type.ElementType.{ElementType}

@@ -40,7 +40,7 @@ plain_front v rest = a_value v v ∷ rest
 abbrev pub field_front : Utf8 → Value → Front
 field_front name v rest = a_key name ∷ listed_part v rest
 
--- What is before them is what the places say, and these places are left for what comes behind it; or there is none, where a part is not what its place says.
+-- The parts at the front are what the first places say, and these places are left for the parts behind them; or no places, where a part is not what its place says.
 abbrev pub Behind : Option (List code.Place) → (places : List code.Place) → Front → Type 0
 Behind (Some left) ps front = (rest : List (Part Value)) → agrees (places_view ps) (front rest) ≡ agrees (places_view left) rest
 Behind None ps front = (rest : List (Part Value)) → agrees (places_view ps) (front rest) ≡ false

@@ -19,7 +19,7 @@ pub data Place : Type 0 where
   number : Place
   -- a text of standard base64
   base64 : Place
-  -- a text of hexadecimal digits, of which the first two are a subtype
+  -- a text of an even number of hexadecimal digits, of which the first two are a subtype
   subtype : Place
   text : Place
   byte_string : Place

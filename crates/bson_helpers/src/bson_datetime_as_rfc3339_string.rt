@@ -3,8 +3,8 @@ ghost use Rattle.std.specs.Prelude.{◌≡◌, Ok};
 ghost use Rattle.bson_base.specs.Instant.{millis};
 ghost use Rattle.bson_shape.specs.Form.{leaf};
 ghost use Rattle.bson_shape.specs.declared.leaf.Leaf.TheVariants as leaves;
+ghost use Rattle.bson_values.specs.Returned.{Reads};
 ghost use Rattle.bson_datum.specs.View.{view};
-ghost use Rattle.bson_type_data.specs.Answers.{Reads};
 ghost use Rattle.bson_helpers.specs.Dates.{WritesTime, ReadsTime};
 ghost use Rattle.bson_helpers.specs.Helpers.{date_in_text};
 

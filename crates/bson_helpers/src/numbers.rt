@@ -1,6 +1,6 @@
 ghost use Rattle.bson_datum.specs.View.{view};
-ghost use Rattle.bson_type_data.specs.Answers.{Writes};
 ghost use Rattle.bson_helpers.specs.Helpers.{Answers, number_as_i32, number_as_i64, id_as_text};
+ghost use Rattle.bson_values.specs.Returned.{Writes};
 
 use crate::errors::unwritable;
 use bson_base::ObjectId;

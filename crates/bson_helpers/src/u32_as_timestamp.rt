@@ -2,8 +2,8 @@
 ghost use Rattle.std.specs.Prelude.{◌≡◌, pos, Ok};
 ghost use Rattle.bson_shape.specs.Form.{leaf};
 ghost use Rattle.bson_shape.specs.declared.leaf.Leaf.TheVariants as leaves;
+ghost use Rattle.bson_values.specs.Returned.{Reads, Writes};
 ghost use Rattle.bson_datum.specs.View.{view};
-ghost use Rattle.bson_type_data.specs.Answers.{Reads, Writes};
 ghost use Rattle.bson_helpers.specs.Helpers.{seconds_as_stamp, seconds_of_stamp};
 
 use bson_base::Timestamp;

@@ -55,8 +55,8 @@ abbrev mutual
   FieldsAbove (field name x fs) gs = FieldAbove (Above x) x (form_of gs name) × FieldsAbove fs gs
 
 abbrev mutual
-  -- The forms that inference and joins give: an option holds neither an option nor nothing, a struct drops unknown fields and has no name, and the names of its
-  -- fields are distinct.
+  -- The forms that inference and joins give: an option holds neither an option nor nothing, a struct drops unknown fields and has no name, the names of its
+  -- fields are distinct, and the form of none is nothing.
   pub IsJoined : Form → Type 0
   IsJoined (leaf l) = Unit {0}
   IsJoined (optional s) = IsBare s × (is_nothing s ≡ false) × IsJoined s

@@ -60,7 +60,7 @@ new_fields fs no_fields = no_fields
 new_fields fs (field name y gs) = if has fs name then new_fields fs gs else field name (opt y) (new_fields fs gs)
 
 abbrev mutual
-  -- The least of the inferred forms that has each value that one of the two has: of two equal forms that form. The structs that are inferred drop unknown fields.
+  -- An inferred form that has each value that one of the two has: of two equal forms that form. The structs that are inferred drop unknown fields.
   pub join : Form → Form → Form
   join (optional x) (optional y) = opt (join x y)
   join (optional x) b = if is_nothing b || is_unit b then optional x else opt (join x b)

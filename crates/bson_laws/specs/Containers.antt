@@ -32,12 +32,25 @@ reads_items read i ended = Ok no_items
 reads_items read i (faulty e) = refused (raw e)
 reads_items read i (then_node key n ns) = under_index i (read n) >>= λ v. result_map (item v) (reads_items read (suc i) ns)
 
--- the value of the next element, at an index, and then what is read from the others; where none is left, a fault that ends the list comes before that there
--- are too few
+-- the next element, at an index; where none is left, a fault that ends the list comes before that there are too few
+abbrev pub next_node : ℕ → Nodes → Reading Node
+next_node i ended = refused (invalid_length i)
+next_node i (faulty e) = refused (raw e)
+next_node i (then_node key n ns) = Ok n
+
+-- what is left behind it
+abbrev pub behind_first : Nodes → Nodes
+behind_first ended = ended
+behind_first (faulty e) = ended
+behind_first (then_node key n ns) = ns
+
+-- its value
+abbrev pub next_value : ℕ → (Node → Reading Marked) → Nodes → Reading Marked
+next_value i read ns = next_node i ns >>= λ n. under_index i (read n)
+
+-- its value, and then what is read from the others
 abbrev pub reads_next : {A : Type 0} → ℕ → (Node → Reading Marked) → (Marked → Nodes → Reading A) → Nodes → Reading A
-reads_next i read others ended = refused (invalid_length i)
-reads_next i read others (faulty e) = refused (raw e)
-reads_next i read others (then_node key n ns) = under_index i (read n) >>= λ v. others v ns
+reads_next i read others ns = next_value i read ns >>= λ v. others v (behind_first ns)
 
 -- ---- enums
 
@@ -50,11 +63,20 @@ unit_of name (Some c) = refused contents_wanted
 abbrev pub reads_unit : Variants → Piece → Reading Marked
 reads_unit vs t = unit_of t.bytes (content_of vs t.bytes)
 
--- the first element of a document at the variant that its key names; an empty document has none, and further elements stay unread
+-- a value with its key
+pub record Pair : Type 0 where
+  pub key : Piece
+  pub value : Node
+
+-- the first element of a document; an empty document has none, and further elements stay unread
+abbrev pub first_of : Nodes → Reading Pair
+first_of ended = Err (here end_of_stream)
+first_of (faulty e) = refused (raw e)
+first_of (then_node k n ns) = Ok (record { key = k; value = n })
+
+-- the same at the variant that its key names
 abbrev pub read_first : (Utf8 → Node → Reading Marked) → Nodes → Reading Marked
-read_first contents ended = Err (here end_of_stream)
-read_first contents (faulty e) = refused (raw e)
-read_first contents (then_node key n ns) = contents key.bytes n
+read_first contents ns = first_of ns >>= λ (p : Pair). contents p.key.bytes p.value
 
 -- a text at the unit variant that it names, a document at the variant with contents that its first key names
 abbrev pub read_enum : (Piece → Reading Marked) → (Utf8 → Node → Reading Marked) → Node → Reading Marked
@@ -63,7 +85,7 @@ read_enum unit contents n = document_of n >>= read_first contents
 
 -- ---- maps
 
--- the key of a map, read at the shape of keys as the text of an element would be; it is never replaced, and its refusal is that of the map. The makers of maps
+-- the key of a map, read at the shape of keys as the text of an element would be; it is never mended, and its refusal is that of the map. The makers of maps
 -- let through `str`, `string`, `char` and enums of unit variants; no other shape of keys occurs
 abbrev pub reads_key : Form → Piece → Reading Marked
 reads_key (leaf l) key = read_leaf_with no_extended (borrows l) (leaf_kind l) (string key)

@@ -26,7 +26,7 @@ module _ {T : Type 0} (text : Bytes → T) where
   wrapped name v = structure (text name) (one name v)
 
   abbrev mutual
-    -- the value that a tree is in which nothing is given by its bytes (such a part, which no tree that is read and no sound tree has, would be unit)
+    -- the value that a tree is; a part that is given by its bytes, which no tree that is read and no sound tree has, would be unit
     pub datum : Tree → ValueOf T
     datum (tree.double bits) = double bits
     datum (tree.string t) = str (text t)

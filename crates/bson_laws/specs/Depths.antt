@@ -19,7 +19,7 @@ abbrev mutual
   heights (faulty e) = 0
   heights (then_node key n ns) = max (height n) (heights ns)
 
-  -- what the document holds that a value is opened to
+  -- the height of what is in the document that a value is opened to
   pub opened_height : Extended → ℕ
   opened_height (javascript_code_with_scope code scope) = height scope
   opened_height (binary subtype b) = 1

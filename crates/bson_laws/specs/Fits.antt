@@ -93,7 +93,7 @@ FitsKey (enumeration vs) (value.unit_variant name) = content_of vs name ≡ Some
 FitsKey s k = ⊥
 
 abbrev mutual
-  -- A leaf's value of what the leaf takes; what fits the inner shape, where texts are mended; none, or what fits the inner shape; a newtype or a
+  -- A value of the kind that a leaf takes; what fits the inner shape, where texts are mended; none, or what fits the inner shape; a newtype or a
   -- unit struct of the shape's name; a sequence whose values fit its shape; a map whose keys and values fit theirs; a tuple, or a tuple struct of
   -- the shape's name, of as many values as the shape has parts, each fitting its own; a variant of the enum, with contents that fit those of that
   -- name; a struct of the shape's name, with its fields in its order, whose values fit theirs. Nothing fits what is read for a human reader.

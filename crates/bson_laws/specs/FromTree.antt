@@ -15,7 +15,7 @@ use Rattle.bson_laws.specs.declared.origin.Origin.TheVariants.{Bytes, Tree}
 use Rattle.bson_laws.specs.Variants.{content_of}
 use Rattle.bson_laws.specs.Judged.{Reading, refused}
 use Rattle.bson_laws.specs.Taken.{document_of}
-use Rattle.bson_laws.specs.Containers.{unit_of, reads_unit, read_first, read_enum}
+use Rattle.bson_laws.specs.Containers.{Pair, unit_of, reads_unit, read_first, read_enum}
 use Rattle.bson_laws.specs.Slots.{Slots, fill, finish, read_structure}
 
 -- ---- texts that are mended
@@ -45,13 +45,17 @@ abbrev pub unit_at : Origin → Variants → Piece → Reading Marked
 unit_at Bytes = reads_unit
 unit_at Tree = reads_tree_unit
 
--- the one element of a document of a tree at the variant that its key names; that there is none, or a second one, is seen before the name (the list of a tree has no fault)
+-- the one element of a document of a tree (whose list has no fault)
+abbrev pub only_of : Nodes → Reading Pair
+only_of ended = refused empty_enum
+only_of (faulty e) = refused (raw e)
+only_of (then_node k n ended) = Ok (record { key = k; value = n })
+only_of (then_node k n (faulty e)) = refused (raw e)
+only_of (then_node k n (then_node other m ns)) = refused (extra_key other.bytes)
+
+-- the same at the variant that its key names; that there is none, or a second one, is seen before the name
 abbrev pub read_only : (Utf8 → Node → Reading Marked) → Nodes → Reading Marked
-read_only contents ended = refused empty_enum
-read_only contents (faulty e) = refused (raw e)
-read_only contents (then_node key n ended) = contents key.bytes n
-read_only contents (then_node key n (faulty e)) = refused (raw e)
-read_only contents (then_node key n (then_node other m ns)) = refused (extra_key other.bytes)
+read_only contents ns = only_of ns >>= λ (p : Pair). contents p.key.bytes p.value
 
 abbrev pub element_at : Origin → (Utf8 → Node → Reading Marked) → Nodes → Reading Marked
 element_at Bytes = read_first
@@ -74,7 +78,7 @@ abbrev pub unit_content_at : Origin → Utf8 → (contents : Reading Marked) →
 unit_content_at Bytes name contents = refused unit_in_document
 unit_content_at Tree name contents = under name contents >>= λ _. Ok (value.unit_variant (made name))
 
--- the contents of a tuple variant are an array, which is not empty in a tree
+-- the contents of a tuple variant are an array, which is not empty in a tree, and whose list has no fault there
 abbrev pub tuple_content_at : Origin → (Nodes → Reading Marked) → Nodes → Reading Marked
 tuple_content_at Bytes read ns = read ns
 tuple_content_at Tree read ended = refused (invalid_type kinds.Null)

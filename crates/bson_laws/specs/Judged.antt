@@ -26,7 +26,7 @@ faultless None n = with_level n
 faultless (Some e) n = refused (raw e)
 
 -- A value, as a shape that looks at it judges it first: its own fault, then a document or an array where no level is left. An option (which looks at the kind alone), a
--- newtype, a mark, two forms and definitions leave this to their inner shape.
+-- newtype, a mark, two forms, definitions and a reference that has one leave this to their inner shape.
 abbrev pub judged : Node → Reading Node
 judged n = faultless (fault n) n
 

@@ -34,7 +34,7 @@ pub data LeafKind : Type 0 where
   byte_buffers : LeafKind
   units : LeafKind
   extended_values : ExtendedLeaf → LeafKind
-  -- a document and an array of the input, in their bytes
+  -- a document and an array, in their bytes
   raw_documents : LeafKind
   raw_arrays : LeafKind
   -- every value, of which documents, arrays and scopes stay in their bytes

@@ -15,7 +15,7 @@ use Rattle.bson_laws.specs.Unwrap.{Part, a_key, a_value, unwrap, scoped_code}
 use Rattle.bson_laws.specs.UuidBytes.{uuid_bytes}
 use Rattle.bson_laws.specs.Written.{with_scope, spell_whole}
 
--- a number as a value of a kind; an Int64 is none that is greater than the greatest of `i64`
+-- a number as a value of a kind; one that is greater than the greatest of `i64` is no Int64
 abbrev pub number_of : ElementType → ℤ → Option Tree
 number_of Int32 n = Some (int32 n)
 number_of k n = if int_lt (greatest i64) n then None else Some (int64 n)
@@ -54,7 +54,7 @@ abbrev pub reserved_means : ElementType → Option Tree → Option (Utf8 × Opti
 reserved_means JavaScriptCodeWithScope unwrapped scoped = scoped_means scoped
 reserved_means k unwrapped scoped = unwrapped_means unwrapped
 
--- the fields of a regular expression, of the form that `datum` gives, with its options sorted by character; fields of another form as they are
+-- the fields of a regular expression, of the form that `datum` gives, with its options sorted by character; fields of another form, which no value that fits a shape has, as they are
 abbrev pub with_sorted_options : FieldValues → FieldValues
 with_sorted_options (field_value key (structure name (field_value p pattern (field_value o (str options) rest))) others) =
     field_value key (structure name (field_value p pattern (field_value o (str (sorted options)) rest))) others

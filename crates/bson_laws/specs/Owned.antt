@@ -1,22 +1,22 @@
--- The shapes that borrow nothing. Source: serde's data model, `visit_borrowed_str` and `visit_borrowed_bytes`.
+-- The shapes at which nothing asks to be borrowed. Source: serde's data model, `visit_borrowed_str` and `visit_borrowed_bytes`.
 use Rattle.std.specs.Prelude.{Bool, true, false}
 use Rattle.bson_shape.specs.Form.{Form, leaf, optional, lossy, human_readable, by_mode, sequence, newtype, unit_structure, map, tuple, tuple_structure, structure, enumeration, reference, definitions, Fields, no_fields, field, Parts, no_parts, part, Content, unit_content, newtype_content, tuple_content, struct_content, Variants, no_variants, variant}
 use Rattle.bson_laws.specs.Leaves.{LeafKind, texts, byte_strings, leaf_kind}
 use Rattle.bson_laws.specs.ReadsLeaf.{borrows}
 
--- a leaf of texts that does not borrow them
+-- a leaf of texts that takes them where they are not borrowed
 abbrev pub IsTextOwned : (is_borrowing : Bool) → Type 0
 IsTextOwned true = ⊥
 IsTextOwned false = Unit {0}
 
--- a leaf that borrows neither texts nor byte strings
+-- a leaf that takes texts and byte strings that are not borrowed, too
 abbrev pub IsLeafOwned : (is_borrowing : Bool) → LeafKind → Type 0
 IsLeafOwned b texts = IsTextOwned b
 IsLeafOwned b byte_strings = ⊥
 IsLeafOwned b k = Unit {0}
 
 abbrev mutual
-  -- nothing is borrowed: neither `str` nor `bytes` stands anywhere in the form
+  -- nothing asks to be borrowed: neither `str` nor `bytes` stands anywhere in the form (`any` and the raw leaves borrow what they can, and take it made too)
   pub IsOwned : Form → Type 0
   IsOwned (leaf l) = IsLeafOwned (borrows l) (leaf_kind l)
   IsOwned (optional s) = IsOwned s

@@ -58,7 +58,7 @@ abbrev mutual
   ContentOwnsTextsIn around (tuple_content ps) = PartsOwnTextsIn around ps
   ContentOwnsTextsIn around (struct_content fs) = FieldsOwnTextsIn around fs
 
--- no text and no key is borrowed: `str` is nowhere in the form, its definitions included
+-- no text and no key asks to be borrowed: `str` is nowhere in the form, its definitions included
 abbrev pub OwnsTexts : Form → Type 0
 OwnsTexts = OwnsTextsIn (Unit {0})
 
@@ -74,7 +74,7 @@ IsPlainKey s = ⊥
 
 abbrev mutual
   -- Each name of a newtype, a struct, a field and a variant is free, each map has texts or unit variants as its keys, and nothing is ignored or kept in its
-  -- bytes. Where texts are mended none is borrowed, nor by any definition of a table to which a reference there refers. Each reference has a definition in the
+  -- bytes. Where texts are mended none asks to be borrowed, neither there nor in a definition to which a reference there refers. Each reference has a definition in the
   -- innermost table around it, and nothing depends on whether the reader is human. The names of tuple structs and unit structs may be any: none of
   -- them is reserved; and so may those of definitions, which are never written.
   pub IsPlainIn : (around : Fields) → Form → Type 0

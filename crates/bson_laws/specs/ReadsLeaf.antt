@@ -49,7 +49,7 @@ abbrev mutual
 
 -- ---- at a leaf
 
--- whether a leaf borrows what it takes: `str` and `bytes` do (of byte strings no other leaf takes them as they are)
+-- whether a leaf asks that what it takes be borrowed: `str` and `bytes` do
 abbrev pub borrows : Leaf → Bool
 borrows leaf_words.Str = true
 borrows leaf_words.Bytes = true

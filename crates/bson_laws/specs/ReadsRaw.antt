@@ -51,7 +51,7 @@ raw_extended max_key = Ok (datum made tree.max_key)
 raw_extended min_key = Ok (datum made tree.min_key)
 
 -- A value, of which documents, arrays and scopes stay in their bytes. Texts and byte strings are borrowed where they are in the input: under a mark no text is,
--- and a byte string is.
+-- and a byte string is. The last row is for values that are broken or without a level, which were refused when they were judged.
 abbrev pub raw_value_of : Node → Reading Marked
 raw_value_of (document slice ns) = result_map value.raw_document (slice_of slice)
 raw_value_of (array slice ns) = result_map value.raw_array (slice_of slice)

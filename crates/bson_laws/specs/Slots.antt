@@ -16,7 +16,7 @@ use Rattle.bson_laws.specs.Judged.{Reading, refused, ignores}
 use Rattle.bson_laws.specs.Taken.{document_of}
 use Rattle.bson_laws.specs.Containers.{reads_next}
 
--- The value of a field that is missing: none, where its form is an option, or the form that applies of two is one. It is looked through two forms once.
+-- The value of a field that is missing: none, where its form is an option, or the form that applies of two is one. Two forms inside of these are not looked at.
 abbrev pub missing_value : {T : Type 0} → Form → Option (ValueOf T)
 missing_value (by_mode readable compact) = absent compact
 missing_value s = absent s

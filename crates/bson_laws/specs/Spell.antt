@@ -47,7 +47,7 @@ named name r = if has_zero name then Err (here (invalid_cstring name)) else unde
 abbrev pub variant_at : Utf8 → ℕ → (ℕ → Writing Tree) → Writing Tree
 variant_at name levels content = enclosed_at document levels (λ inside. named name (content inside) >>= λ t. Ok (pair name t no_pairs))
 
--- a number as a value of a kind; an Int64 is none that is greater than the greatest of `i64`
+-- a number as a value of a kind; one that is greater than the greatest of `i64` is no Int64
 abbrev pub spell_number : ElementType → ℤ → Writing Tree
 spell_number Int32 n = Ok (int32 n)
 spell_number k n = if int_lt (greatest i64) n then Err (here (unsigned_exceeds n)) else Ok (int64 n)

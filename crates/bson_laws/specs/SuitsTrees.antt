@@ -1,11 +1,11 @@
--- The shapes at which a tree in memory is read as its bytes are. Source: serde's data model.
+-- The shapes at which a tree in memory that has a view is read as its bytes are. Source: serde's data model.
 use Rattle.bson_shape.specs.Form.{Form, leaf, optional, lossy, human_readable, by_mode, sequence, newtype, unit_structure, map, tuple, tuple_structure, structure, enumeration, reference, definitions, Fields, no_fields, field, Parts, no_parts, part, Content, unit_content, newtype_content, tuple_content, struct_content, Variants, no_variants, variant}
 use Rattle.bson_laws.specs.Leaves.{leaf_kind}
 use Rattle.bson_laws.specs.Owned.{IsLeafOwned}
 use Rattle.bson_laws.specs.ReadsLeaf.{borrows}
 
 abbrev mutual
-  -- Nothing is borrowed, and no variant has the contents of a tuple without parts: in a tree its array is not taken.
+  -- Nothing asks to be borrowed, and no variant has the contents of a tuple without parts: in a tree its array is not taken.
   pub SuitsTrees : Form → Type 0
   SuitsTrees (leaf l) = IsLeafOwned (borrows l) (leaf_kind l)
   SuitsTrees (optional s) = SuitsTrees s

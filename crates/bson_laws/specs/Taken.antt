@@ -45,7 +45,7 @@ array_of n = refused (invalid_type (kind_of n))
 
 -- ---- texts and byte strings
 
--- a binary of subtype 0 where it is not taken as a byte string: under a mark it is not borrowed
+-- a binary of subtype 0 at a leaf other than `bytes` and `rawbson`: under a mark it is not borrowed
 abbrev pub owned_under_mark : (under_mark : Bool) → Piece → Piece
 owned_under_mark under_mark b = if under_mark then made b.bytes else b
 

@@ -19,7 +19,7 @@ use Rattle.bson_laws.specs.Assembled.{Building, assembled_tree}
 
 -- ---- the value that is put in bytes
 
--- the tree that a document or an array is; one of the input, or one that opening makes, is none in memory
+-- the tree that a document or an array is; one of the input, or one that opening makes, is none in memory; no tree has the first
 abbrev pub held_whole : Whole → Option Tree
 held_whole (of_tree t) = Some t
 held_whole w = None
@@ -37,7 +37,7 @@ held (extended (javascript_code_with_scope code scope) ns) = option_and_then (wi
 held n = None
 
 abbrev mutual
-  -- A value in a document that opening makes: a text, a byte string, a boolean, a number or a document. No other kind occurs.
+  -- A value in a document that opening makes: a text, an Int64 or such a document. The other rows are there so that it is whole.
   pub opened_tree : Node → Reading Tree
   opened_tree (string t) = Ok (tree.string t.bytes)
   opened_tree (bytes u b) = Ok (tree.binary 0 b.bytes)
@@ -47,7 +47,7 @@ abbrev mutual
   opened_tree (document w ns) = result_map tree.document (opened_pairs ns no_pairs)
   opened_tree n = Ok tree.null
 
-  -- Such a document as it stands, after the pairs of the elements before these. Each value is judged first; in a tree none is refused.
+  -- Such a document as it stands, after the pairs of the elements before these. Each value is judged first; in a tree none is refused, and no list has a fault.
   pub opened_pairs : Nodes → Pairs → Reading Pairs
   opened_pairs ended ps = Ok ps
   opened_pairs (faulty e) ps = refused (raw e)
@@ -58,7 +58,7 @@ abbrev pub as_reading : Building Tree → Reading Tree
 as_reading (Ok t) = Ok t
 as_reading (Err c) = refused c
 
--- the value after the raw builder; one that is no tree is not put in bytes
+-- the value after the raw builder; one that is no tree, as none of a tree in memory is, is not put in bytes
 abbrev pub built_of : Option Tree → Reading Tree
 built_of (Some t) = as_reading (assembled_tree t)
 built_of None = refused not_borrowed

@@ -1,6 +1,7 @@
 -- What the structs of reserved names are accepted as. Source: the reserved names of MongoDB's crate bson, version 2, and the bodies of MongoDB's extended JSON.
 -- The fields of such a struct are one list of keys and values: each field gives its key, and then its value, or the list of the fields of a struct that is its
--- value. A value with two forms is its compact one. Each kind takes one list of keys and values, in one order.
+-- value. A value with two forms is its compact one. Each kind takes one list of keys and values, in one order, a binary one of
+-- two; for MinKey, MaxKey and Undefined the struct has one field, of any value.
 use Rattle.std.specs.Prelude.{ℕ, ℤ, pos, ◌^◌, nat_lt, nat_eq, ◌||◌, List, [], ◌∷◌, length, if◌then◌else◌, Option, Some, None, option_map, option_and_then, codes}
 use Rattle.std.specs.Str.{bytes_eq}
 use Rattle.bson_kinds.specs.Outcome.{or_else}
@@ -199,19 +200,23 @@ abbrev mutual
   listed_part (mode readable compact) rest = listed_part compact rest
   listed_part v rest = a_value v v ∷ rest
 
--- What the fields of a struct are accepted as whose name is reserved for a kind; nothing for a kind that no name is reserved for, and for code with a scope,
--- whose scope is yet to be written.
+-- what the list of keys and values of a struct whose name is reserved for a kind is accepted as; nothing for a kind that takes no list, and for code with a scope,
+-- whose scope is yet to be written
+abbrev pub unwrap_list : ElementType → List (Part Value) → Option Tree
+unwrap_list ObjectId list = option_map tree.object_id (object_id_list list)
+unwrap_list DateTime list = option_map tree.date_time (date_time_list list)
+unwrap_list Binary list = option_map (λ p. tree.binary p.0 p.1) (binary_list list)
+unwrap_list Timestamp list = option_map (λ p. tree.timestamp p.0 p.1) (timestamp_list list)
+unwrap_list JavaScriptCode list = option_map tree.javascript_code (text_list (codes "$code") list)
+unwrap_list Symbol list = option_map tree.symbol (text_list (codes "$symbol") list)
+unwrap_list RegularExpression list = option_map (λ p. tree.regular_expression p.0 p.1) (regular_expression_list list)
+unwrap_list DbPointer list = option_map (λ p. tree.db_pointer p.0 p.1) (db_pointer_list list)
+unwrap_list Decimal128 list = option_map tree.decimal128 (decimal128_list list)
+unwrap_list k list = None
+
+-- what the fields of such a struct are accepted as; nothing for a kind that no name is reserved for
 abbrev pub unwrap : ElementType → FieldValues → Option Tree
-unwrap ObjectId fs = option_map tree.object_id (object_id_list (listed fs []))
-unwrap DateTime fs = option_map tree.date_time (date_time_list (listed fs []))
-unwrap Binary fs = option_map (λ p. tree.binary p.0 p.1) (binary_list (listed fs []))
-unwrap Timestamp fs = option_map (λ p. tree.timestamp p.0 p.1) (timestamp_list (listed fs []))
-unwrap JavaScriptCode fs = option_map tree.javascript_code (text_list (codes "$code") (listed fs []))
-unwrap Symbol fs = option_map tree.symbol (text_list (codes "$symbol") (listed fs []))
-unwrap RegularExpression fs = option_map (λ p. tree.regular_expression p.0 p.1) (regular_expression_list (listed fs []))
-unwrap DbPointer fs = option_map (λ p. tree.db_pointer p.0 p.1) (db_pointer_list (listed fs []))
-unwrap Decimal128 fs = option_map tree.decimal128 (decimal128_list (listed fs []))
 unwrap MinKey fs = option_map (λ x. tree.min_key) (lone_field (codes "$minKey") fs)
 unwrap MaxKey fs = option_map (λ x. tree.max_key) (lone_field (codes "$maxKey") fs)
 unwrap Undefined fs = option_map (λ x. tree.undefined) (lone_field (codes "$undefined") fs)
-unwrap k fs = None
+unwrap k fs = unwrap_list k (listed fs [])

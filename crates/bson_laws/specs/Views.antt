@@ -126,7 +126,7 @@ all_known dropped fs ps = true
 all_known denied fs ps = are_named fs ps
 
 abbrev mutual
-  -- The value that a tree is at a shape, where it is one. The texts of a tree are texts, so none of them is mended. What is read for a reader who is human
+  -- The value that a tree is at a shape, where it is one. The texts of a tree are UTF-8, so none of them is mended. What is read for a reader who is human
   -- has no view. A sequence takes the values of an array, each at its shape, a map the pairs of a
   -- document in their order. A struct takes each of its fields from the document by its key, in the shape's order; other keys are dropped, and where the struct
   -- denies them a document that has one has no view. A tuple takes an array of as many values as it has parts. An enum takes a text that names a unit variant,

@@ -19,7 +19,7 @@ use Rattle.bson_values.specs.Marked.{contents}
 use Rattle.bson_values.specs.Value as value
 use Rattle.bson_values.specs.Value.{i32, in_range, Value, no_field_values, field_value}
 use Rattle.bson_values.specs.declared.wrapper.Wrapper.{Wrapper}
-use Rattle.bson_values.specs.declared.wrapper.Wrapper.TheVariants.{Oid, Symbol, NumberInt, NumberLong, NumberDouble, Binary, Uuid, Code, Scope, Timestamp, RegularExpression, DbPointer, Date, MinKey, MaxKey, Undefined, NumberDecimal, NumberDecimalBytes}
+use Rattle.bson_values.specs.declared.wrapper.Wrapper.TheVariants.{Oid, Symbol, NumberInt, NumberLong, NumberDouble, Binary, Uuid, Code, Scope, Timestamp, RegularExpression, DbPointer, Date, MinKey, MaxKey, Undefined, NumberDecimalBytes}
 use Rattle.bson_laws.specs.Judged.{Reading, refused, judged}
 use Rattle.bson_laws.specs.ReadsLeaf.{no_extended}
 use Rattle.bson_laws.specs.Shaped.{reads}
@@ -41,7 +41,7 @@ double_of_text t =
     else if bytes_eq t (codes "NaN") then Some (tree.double (0 ∷ 0 ∷ 0 ∷ 0 ∷ 0 ∷ 0 ∷ 0xf8 ∷ 0x7f ∷ []))
     else None
 
--- the one byte of a list that has one
+-- the one byte of a list that has one, as that of two digits has
 abbrev pub one_byte : Bytes → Option ℕ
 one_byte (b ∷ []) = Some b
 one_byte bs = None
@@ -150,14 +150,18 @@ pub data Meaning : Type 0 where
   -- the value of the key is a scope, after which a code comes
   scope : Meaning
 
+-- what the text that is the value of a wrapper key stands for
+abbrev pub tree_of_text : Wrapper → Utf8 → Option Tree
+tree_of_text Symbol = λ t. Some (tree.symbol t)
+tree_of_text NumberInt = λ t. option_and_then int32_of (integer_of_text t)
+tree_of_text NumberLong = λ t. option_map tree.int64 (integer_of_text t)
+tree_of_text NumberDouble = double_of_text
+tree_of_text Uuid = λ t. option_map (tree.binary 4) (parsed t)
+tree_of_text w = λ t. None
+
 abbrev pub meaning : Wrapper → Meaning
 meaning Oid = body (judging oid_body)
-meaning Symbol = body (text_body (λ t. Some (tree.symbol t)))
-meaning NumberInt = body (text_body (λ t. option_and_then int32_of (integer_of_text t)))
-meaning NumberLong = body (text_body (λ t. option_map tree.int64 (integer_of_text t)))
-meaning NumberDouble = body (text_body double_of_text)
 meaning Binary = body (at (with_fields (codes "base64") text (codes "subType") text) (two_texts binary_of_texts))
-meaning Uuid = body (text_body (λ t. option_map (tree.binary 4) (parsed t)))
 meaning Code = code
 meaning Scope = scope
 meaning Timestamp = body (at (with_fields (codes "t") (leaf U32) (codes "i") (leaf U32)) (two_numbers (λ t i. Some (tree.timestamp (unsigned_abs t) (unsigned_abs i)))))
@@ -169,5 +173,5 @@ meaning Date = body (judging date_body)
 meaning MinKey = body (at (leaf U8) (a_number (being_one tree.min_key)))
 meaning MaxKey = body (at (leaf U8) (a_number (being_one tree.max_key)))
 meaning Undefined = body (at (leaf leaves.Bool) (a_boolean (λ b. tree_if b tree.undefined)))
-meaning NumberDecimal = body (text_body (λ t. None))
 meaning NumberDecimalBytes = body (at (leaf leaves.ByteBuf) (some_bytes (of_length 16 tree.decimal128)))
+meaning w = body (text_body (tree_of_text w))

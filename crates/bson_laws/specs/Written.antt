@@ -27,8 +27,7 @@ spell_whole (regular_expression pattern options) = zero_free pattern >>= λ p. z
 spell_whole (binary subtype bs) = spell_binary subtype bs
 spell_whole t = Ok t
 
--- Code with the document that its scope is; with one that is given by its bytes, it is given by its bytes. A scope is one of the two, since it is written of a map or
--- of a document in its bytes.
+-- Code with its scope. Where the scope is a document in its bytes, so is the whole. A scope is one of the two, since it is written of a map or of a document in its bytes.
 abbrev pub with_scope : Utf8 → Tree → Tree
 with_scope code (document ps) = javascript_code_with_scope code ps
 with_scope code (raw k bytes) = raw JavaScriptCodeWithScope (after_total (closed_text code ++ bytes))

@@ -171,7 +171,7 @@ pub fn law_fixed_point()
         → length (enc t) ≤ max_bytes → (v : Value) × (reads_document s (enc t) ≡ Ok v) × (spell_document v ≡ Ok t) }
 {}
 
-/// What is read at a shape that borrows nothing is read where texts are mended, too, as the same value: where every text is UTF-8 a mark changes no more than
+/// What is read at a shape where nothing asks to be borrowed is read where texts are mended, too, as the same value: where every text is UTF-8 a mark changes no more than
 /// what is borrowed.
 ///
 /// The shape has neither `str` nor `bytes` (`IsOwned`): under a mark no text is in the input, so that `str` takes none, and `bytes` takes no text. The

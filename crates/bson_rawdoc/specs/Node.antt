@@ -42,7 +42,7 @@ mutual
     -- a document and an array, with what they are as a whole
     document : (whole : Whole) → (elements : Nodes) → Node
     array : (whole : Whole) → (elements : Nodes) → Node
-    -- a binary of subtype 0; where texts are mended it is borrowed as a byte string alone
+    -- a binary of subtype 0; where texts are mended it is borrowed at `bytes` and `rawbson` alone
     bytes : (under_mark : Bool) → Piece → Node
     boolean : Bool → Node
     null : Node

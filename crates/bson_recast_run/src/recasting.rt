@@ -2,6 +2,7 @@ ghost use Rattle.std.specs.Prelude.{◌≡◌, Some, IfOk};
 ghost use Rattle.bson_base.specs.Sound.{IsSound};
 ghost use Rattle.bson_base.specs.Tree.{Tree, enc};
 ghost use Rattle.bson_values.specs.Value.{Value};
+ghost use Rattle.bson_values.specs.Returned.{Reads};
 ghost use Rattle.bson_datum.specs.View.{view as value_of};
 ghost use Rattle.bson_laws.specs.Recursive.{view};
 ghost use Rattle.bson_laws.specs.Means.{means};
@@ -10,7 +11,6 @@ ghost use Rattle.bson_laws.specs.Reads.{reads_document};
 ghost use Rattle.bson_laws.specs.Settled.{IsSettled};
 ghost use Rattle.bson_laws.specs.Writable.{IsWritable};
 ghost use Rattle.bson_shape.specs.Form.{lossy, no_fields};
-ghost use Rattle.bson_de_raw.specs.Gives.{Gives};
 ghost use Rattle.bson_de_raw.specs.ReadsLossy.{reads_lossy};
 ghost use Rattle.bson_recast_run.specs.Recasting.{lossy_recast_of, IsAppended, GivesBytes, IsForSize, IsForNoNumber, IfUnwritten};
 ghost use Rattle.bson_tree_recast.specs.Recast.{recast_of, recast_read, writes, IsRecast};
@@ -93,14 +93,14 @@ pub fn recast_utf8_lossy(alloc: Global, shape: &Shape, bytes: &[u8]) -> Result<V
 
 // The value of the document, without its marks.
 fn read<'de>(alloc: Global, shape: &Shape, bytes: &'de [u8]) -> de::Result<Datum<'de>>
-    ensures exact { Gives value_of result (reads_document shape.now bytes.now) }
+    ensures exact { Reads value_of result (reads_document shape.now bytes.now) }
 {
     from_slice_at(alloc, shape, bytes)
 }
 
 // The same where texts are mended.
 fn read_lossy<'de>(alloc: Global, shape: &Shape, bytes: &'de [u8]) -> de::Result<Datum<'de>>
-    ensures exact { Gives value_of result (reads_lossy shape.now bytes.now) }
+    ensures exact { Reads value_of result (reads_lossy shape.now bytes.now) }
 {
     from_slice_utf8_lossy_at(alloc, shape, bytes)
 }

@@ -9,8 +9,7 @@ use Rattle.bson_base.specs.Tree as tree
 use Rattle.bson_kinds.specs.declared.element_type.ElementType.{ElementType}
 use Rattle.bson_kinds.specs.declared.element_type.ElementType.TheVariants as kinds
 use Rattle.bson_values.specs.Value.{FieldValues, Value, str, bytes, integer, u8, i64, map, raw_document}
-use Rattle.bson_laws.specs.Unwrap.{Part, a_key, a_value, ◌>>=◌, next_key, next_key_of, next_text, next_bytes, next_byte, next_unsigned, next_scope, end_as, object_id_list, date_time_list, base64_parts, base64_list, bytes_list, binary_list, base64_given, timestamp_list, text_list, regular_expression_list, db_pointer_list, sixteen, decimal128_list, scoped_code, listed, unwrap}
-use Rattle.bson_reserved.specs.Listed.{unwrap_list}
+use Rattle.bson_laws.specs.Unwrap.{Part, a_key, a_value, ◌>>=◌, next_key, next_key_of, next_text, next_bytes, next_byte, next_unsigned, next_scope, end_as, object_id_list, date_time_list, base64_parts, base64_list, bytes_list, binary_list, base64_given, timestamp_list, text_list, regular_expression_list, db_pointer_list, sixteen, decimal128_list, scoped_code, listed, unwrap, unwrap_list}
 
 -- the steps accept no list of more than n parts
 abbrev pub IsShort : {A : Type 0} → ℕ → (List (Part Value) → Option A) → Type 0

@@ -1,8 +1,7 @@
 ghost use Rattle.std.specs.Prelude.{◌≡◌, [], IfSome, option_and_then, is_some};
 ghost use Rattle.bson_datum.specs.View.{fields_view};
 ghost use Rattle.bson_laws.specs.Unwrap as unwrap;
-ghost use Rattle.bson_laws.specs.Unwrap.{listed};
-ghost use Rattle.bson_reserved.specs.Listed.{unwrap_list};
+ghost use Rattle.bson_laws.specs.Unwrap.{listed, unwrap_list};
 ghost use Rattle.bson_reserved.specs.ListView.{parts_view};
 ghost use Rattle.bson_reserved.specs.AcceptedView.{accepted_view, accepted_kind, base64_view};
 

@@ -1,11 +1,9 @@
 -- What a call that writes a whole value answers. Source: this library's own errors.
-use Rattle.std.specs.Prelude.{◌≡◌, Bool, Result, Ok, Err}
+use Rattle.std.specs.Prelude.{Bool, Result, Ok, Err}
 use Rattle.bson_kinds.specs.Outcome.{◌>>=◌}
 use Rattle.bson_base.specs.Tree.{Tree, document, kind, Pairs}
 use Rattle.bson_values.specs.Cause.{not_document}
-use Rattle.bson_values.specs.Refusal.{WriteFault, unwritable, Refusal, here, Failure, bare, with_path, FailsAs}
-use Rattle.bson_values.specs.ErrorView.{write_failure}
-use Rattle.bson_values.specs.declared.ser.Error.{Error}
+use Rattle.bson_values.specs.Refusal.{WriteFault, unwritable, Refusal, here, Failure, bare, with_path}
 use Rattle.bson_values.specs.Value.{Value}
 use Rattle.bson_laws.specs.Spell.{Writing}
 use Rattle.bson_tree_laws.specs.TreeSpell.{tree_whole}
@@ -18,11 +16,6 @@ with_paths (Err r) = Err (with_path r)
 abbrev pub without_paths : {Y : Type 0} → Writing Y → Result Y (Failure WriteFault)
 without_paths (Ok x) = Ok x
 without_paths (Err r) = Err (bare r.fault)
-
--- A call gives what is answered, seen so, or its failure; or memory ran out.
-abbrev pub Gives : {X Y : Type 0} → (X → Y) → Result X Error → Result Y (Failure WriteFault) → Type 0
-Gives see (Ok x) answer = answer ≡ Ok (see x)
-Gives see (Err e) answer = FailsAs (write_failure e) answer
 
 -- the pairs of a document; every other value is refused
 abbrev pub only_document : Tree → Writing Pairs

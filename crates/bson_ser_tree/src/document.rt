@@ -1,9 +1,10 @@
 // Whole values, and documents.
 ghost use Rattle.std.specs.Prelude.{◌≡◌, true, unwrap_or};
 ghost use Rattle.bson_base.specs.BsonView.{tree_of, pairs_of};
+ghost use Rattle.bson_values.specs.Returned.{Writes};
 ghost use Rattle.bson_datum.specs.View.{view};
 ghost use Rattle.bson_tree_laws.specs.TreeSpell.{tree_whole};
-ghost use Rattle.bson_ser_tree.specs.Answers.{Gives, with_paths, without_paths, only_document, document_whole};
+ghost use Rattle.bson_ser_tree.specs.Answers.{with_paths, without_paths, only_document, document_whole};
 ghost use Rattle.bson_ser_tree.specs.Gives.{Reaches};
 
 use crate::options::SerializerOptions;
@@ -49,7 +50,7 @@ pub(crate) fn whole(alloc: Global, value: &Datum<'_>, readable: bool) -> Writing
 /// - `UnsignedIntegerExceededRange`: a `U64` is greater than 9223372036854775807, the greatest that an Int64 holds.
 /// - `InvalidDocumentKey`: the BSON value of a key of a map is no String. It carries that value, and the path is that of the map.
 pub fn to_bson_at(alloc: Global, value: &Datum<'_>) -> Result<Bson>
-    ensures exact { Gives tree_of result (with_paths (tree_whole true (view value.now))) }
+    ensures exact { Writes tree_of result (with_paths (tree_whole true (view value.now))) }
 {
     match whole(alloc, value, true) {
         Ok(tree) => Ok(tree),
@@ -67,7 +68,7 @@ pub fn to_bson_with_options_at(
     value: &Datum<'_>,
     options: SerializerOptions,
 ) -> Result<Bson>
-    ensures exact { Gives tree_of result
+    ensures exact { Writes tree_of result
         (without_paths (tree_whole (unwrap_or options.human_readable true) (view value.now))) }
 {
     match whole(alloc, value, options.human_readable.unwrap_or(true)) {
@@ -82,7 +83,7 @@ pub fn to_bson_with_options_at(
 ///
 /// Those of [`to_bson_at`], without their paths; and `SerializationError` with `NotDocument` where the BSON value is of another kind.
 pub fn to_document_at(alloc: Global, value: &Datum<'_>) -> Result<Document>
-    ensures exact { Gives pairs_of result
+    ensures exact { Writes pairs_of result
         (without_paths (document_whole true (view value.now))) }
 {
     let options = SerializerOptions {
@@ -101,7 +102,7 @@ pub fn to_document_with_options_at(
     value: &Datum<'_>,
     options: SerializerOptions,
 ) -> Result<Document>
-    ensures exact { Gives pairs_of result
+    ensures exact { Writes pairs_of result
         (without_paths (document_whole (unwrap_or options.human_readable true) (view value.now))) }
 {
     match document(alloc, value, options.human_readable.unwrap_or(true)) {

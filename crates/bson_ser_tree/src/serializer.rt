@@ -3,8 +3,9 @@ ghost use Rattle.bson_base.specs.BsonView.{tree_of};
 ghost use Rattle.bson_values.specs.Value.{str, no_items, no_entries, no_field_values};
 ghost use Rattle.bson_datum.specs.View.{view};
 ghost use Rattle.bson_values.specs.declared.ser.Error.TheVariants.{NoMemory};
+ghost use Rattle.bson_values.specs.Returned.{Writes};
 ghost use Rattle.bson_tree_laws.specs.TreeSpell.{tree_whole};
-ghost use Rattle.bson_ser_tree.specs.Answers.{Gives, without_paths};
+ghost use Rattle.bson_ser_tree.specs.Answers.{without_paths};
 ghost use Rattle.bson_writing.specs.Levels.{in_whole, in_variant};
 ghost use Rattle.bson_ser_tree.specs.Taking.{HasItems, HasEntries, HasFields};
 
@@ -58,7 +59,7 @@ impl Serializer {
     ///
     /// Those of [`to_bson_at`](crate::to_bson_at), without their paths.
     pub fn serialize(self, alloc: Global, value: &Datum<'_>) -> Result<Bson>
-        ensures exact { Gives tree_of result (without_paths (tree_whole self (view value.now))) }
+        ensures exact { Writes tree_of result (without_paths (tree_whole self (view value.now))) }
     {
         match whole(alloc, value, self.readable) {
             Ok(tree) => Ok(tree),

@@ -35,7 +35,7 @@ FoundLeadsTo (Some f) key = LeadsTo f key
 abbrev pub NameLeadsTo : Fields → Utf8 → Utf8 → Type 0
 NameLeadsTo h from to = FoundLeadsTo (definition h from) to
 
--- a name leads to another, by as many others
+-- a name leads to another, by this many names between them
 abbrev pub LeadsIn : Fields → ℕ → Utf8 → Utf8 → Type 0
 LeadsIn h zero from to = NameLeadsTo h from to
 LeadsIn h (suc n) from to = (by : Utf8) × NameLeadsTo h from by × LeadsIn h n by to

@@ -1,7 +1,7 @@
 ghost use Rattle.std.specs.Prelude.{◌≡◌};
 ghost use Rattle.bson_values.specs.Value.{no_field_values};
+ghost use Rattle.bson_values.specs.Returned.{Reads};
 ghost use Rattle.bson_datum.specs.View.{view, fields_view};
-ghost use Rattle.bson_type_data.specs.Answers.{Reads};
 ghost use Rattle.bson_traits.specs.Structs.{struct_fields, next_field, no_field_left};
 ghost use Rattle.bson_structs.specs.FieldsLeft.{before, left, IsNext};
 

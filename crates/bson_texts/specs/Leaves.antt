@@ -43,7 +43,7 @@ abbrev pub number_as : LeafKind → ℤ → Option Marked
 number_as (numbers type) n = if in_range type n then Some (integer type n) else None
 number_as kind n = None
 
--- the same, refused where it is none
+-- the same, refused where it is none; no reader asks it of a leaf that takes no numbers
 abbrev pub number_at : LeafKind → ℤ → Reading Marked
 number_at (numbers type) n = read_integer type n
 number_at kind n = refused (out_of_range n)

@@ -1,6 +1,6 @@
 ghost use Rattle.std.specs.Prelude.{◌≡◌, IfOk, string_bytes};
+ghost use Rattle.bson_values.specs.Returned.{Reads};
 ghost use Rattle.bson_datum.specs.View.{view, entries_view};
-ghost use Rattle.bson_type_data.specs.Answers.{Reads};
 ghost use Rattle.bson_traits.specs.Maps.{map_contents, taken_pairs, are_texts, is_text, key_text};
 
 use crate::shapes::map_shape;

@@ -1,6 +1,6 @@
 ghost use Rattle.std.specs.Prelude.{map};
+ghost use Rattle.bson_values.specs.Returned.{Reads};
 ghost use Rattle.bson_datum.specs.View.{items_view};
-ghost use Rattle.bson_type_data.specs.Answers.{Reads};
 ghost use Rattle.bson_traits.specs.Sequences.{taken_items};
 
 use crate::shapes::sequence_shape;

@@ -2,7 +2,7 @@
 ghost use Rattle.bson_shape.specs.Form as form;
 ghost use Rattle.bson_shape.specs.Form.{leaf};
 ghost use Rattle.bson_shape.specs.declared.leaf.Leaf.TheVariants as leaves;
-ghost use Rattle.bson_type_data.specs.Answers.{Reads};
+ghost use Rattle.bson_values.specs.Returned.{Reads};
 ghost use Rattle.bson_traits.specs.ShapeOf.{IsShapeOf, shape_of_type};
 
 use crate::traits::Deserialize;

@@ -1,7 +1,8 @@
 ghost use Rattle.bson_shape.specs.Form.{Form};
 ghost use Rattle.bson_values.specs.Value.{Value};
+ghost use Rattle.bson_values.specs.Returned.{Reads, Writes};
 ghost use Rattle.bson_datum.specs.View.{view};
-ghost use Rattle.bson_type_data.specs.Answers.{Reading, Writing, Reads, Writes};
+ghost use Rattle.bson_type_data.specs.Answers.{Reading, Writing};
 ghost use Rattle.bson_traits.specs.Laws.{Returns, IsNeverNull};
 ghost use Rattle.bson_traits.specs.ShapeOf.{IsShapeOf};
 

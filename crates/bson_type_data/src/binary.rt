@@ -8,7 +8,7 @@ ghost use Rattle.bson_base.specs.Parsed.{bytes_of_base64};
 ghost use Rattle.bson_datum.specs.View.{view};
 ghost use Rattle.bson_laws.specs.Datum.{itself, nameless, two};
 ghost use Rattle.bson_values.specs.Value.{str};
-ghost use Rattle.bson_type_data.specs.Answers.{Reads};
+ghost use Rattle.bson_values.specs.Returned.{Reads};
 ghost use Rattle.bson_type_data.specs.Extended.{base64_in, binary_datum, binary_in, binary_said, taken_binary, subtype_in};
 
 use crate::data::{struct_of_one, struct_of_two};

@@ -2,8 +2,8 @@
 ghost use Rattle.std.specs.Prelude.{◌≡◌, pos, IfOk};
 ghost use Rattle.std.specs.Option.{option_map};
 ghost use Rattle.bson_base.specs.Instant.{millis};
+ghost use Rattle.bson_values.specs.Returned.{Reads};
 ghost use Rattle.bson_datum.specs.View.{view};
-ghost use Rattle.bson_type_data.specs.Answers.{Reads};
 ghost use Rattle.bson_type_data.specs.Extended.{id_datum, id_said, taken_id, date_datum, date_said, taken_date, stamp_datum, stamp_in, stamp_said, taken_stamp, unsigned_said};
 
 use crate::data::{struct_of_one, struct_of_two};

@@ -1,7 +1,7 @@
 // The number, the truth value or the character that a value is. Each looks at a datum that is dropped by the caller.
 ghost use Rattle.bson_datum.specs.View.{view};
-ghost use Rattle.bson_type_data.specs.Answers.{Reads};
 ghost use Rattle.bson_type_data.specs.Scalars.{taken_bool, taken_i8, taken_i16, taken_i32, taken_i64, taken_u8, taken_u16, taken_u32, taken_u64, taken_double, taken_char};
+ghost use Rattle.bson_values.specs.Returned.{Reads};
 
 use crate::refusal::not_fitting;
 use bson_base::Double;

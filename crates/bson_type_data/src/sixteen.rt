@@ -1,8 +1,8 @@
 // Decimal numbers and UUIDs as data, and what a datum is of them.
 ghost use Rattle.std.specs.Prelude.{◌≡◌, IfOk};
 ghost use Rattle.std.specs.Option.{option_map};
+ghost use Rattle.bson_values.specs.Returned.{Reads};
 ghost use Rattle.bson_datum.specs.View.{view};
-ghost use Rattle.bson_type_data.specs.Answers.{Reads};
 ghost use Rattle.bson_type_data.specs.Extended.{sized, decimal_datum, decimal_said, taken_decimal, uuid_value, uuid_said, taken_uuid, compact_in};
 
 use crate::data::struct_of_one;

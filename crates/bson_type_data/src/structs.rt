@@ -2,8 +2,8 @@
 ghost use Rattle.std.specs.Prelude.{◌≡◌, string_bytes, IfOk};
 ghost use Rattle.std.specs.Option.{option_map};
 ghost use Rattle.bson_values.specs.Value.{str};
+ghost use Rattle.bson_values.specs.Returned.{Reads};
 ghost use Rattle.bson_datum.specs.View.{view};
-ghost use Rattle.bson_type_data.specs.Answers.{Reads};
 ghost use Rattle.bson_type_data.specs.Extended.{pointer_datum, pointer_in, pointer_said, taken_pointer, regex_datum, regex_in, regex_said, taken_regex};
 
 use crate::data::{struct_of_one, struct_of_two};

@@ -9,8 +9,8 @@ ghost use Rattle.bson_base.specs.Tree as trees;
 ghost use Rattle.bson_base.specs.Tree.{no_pairs};
 ghost use Rattle.bson_values.specs.ByteStrView.{bytes_view};
 ghost use Rattle.bson_values.specs.TextView.{text_view};
+ghost use Rattle.bson_values.specs.Returned.{Reads};
 ghost use Rattle.bson_datum.specs.View.{view, items_view, entries_view, fields_view};
-ghost use Rattle.bson_type_data.specs.Answers.{Reads};
 ghost use Rattle.bson_type_data.specs.Scalars.{taken_text};
 ghost use Rattle.bson_type_data.specs.Trees.{text_under, text_said, taken_under, taken_only, taken_kind, taken_struct, taken_tree, taken_trees, taken_pairs, taken_document, taken_fields, taken_scoped, are_scoped, named_code, scoped_name, scoped_tree, scoped_contents};
 

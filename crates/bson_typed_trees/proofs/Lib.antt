@@ -1,2 +1,1 @@
 mod Made
-mod Read

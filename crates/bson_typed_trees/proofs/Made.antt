@@ -5,8 +5,8 @@ use Rattle.bson_values.specs.ErrorView.{write_failure}
 use Rattle.bson_values.specs.Refusal.{WriteFault, Failure, no_memory, bare, placed, FailsAs}
 use Rattle.bson_values.specs.Value.{Value}
 use Rattle.bson_values.specs.declared.ser.Error.{Error}
-use Rattle.bson_ser_tree.specs.Answers as tree
-use Rattle.bson_type_data.specs.Answers.{Writing, Writes}
+use Rattle.bson_values.specs.Returned.{Writes}
+use Rattle.bson_type_data.specs.Answers.{Writing}
 
 -- the type refuses the value, or memory ran out for its datum
 pub fails_then : {Y : Type 0} (f : Failure WriteFault) (w : Writing Value) (next : Value → Writing Y) → FailsAs f w → FailsAs f (w >>= next)
@@ -21,6 +21,6 @@ not_made (bare f) w v next is h = ap (λ r. r >>= next) is ∙ h
 not_made (placed path f) w v next is h = ap (λ r. r >>= next) is ∙ h
 
 -- what is made of the datum
-pub made_then : {X Y : Type 0} (see : X → Y) (r : Result X Error) (w : Writing Value) (v : Value) (next : Value → Writing Y) → w ≡ Ok v → tree.Gives see r (next v) → Writes see r (w >>= next)
+pub made_then : {X Y : Type 0} (see : X → Y) (r : Result X Error) (w : Writing Value) (v : Value) (next : Value → Writing Y) → w ≡ Ok v → Writes see r (next v) → Writes see r (w >>= next)
 made_then see (Ok x) w v next is h = ap (λ r. r >>= next) is ∙ h
 made_then see (Err e) w v next is h = not_made (write_failure e) w v next is h

@@ -1,11 +1,11 @@
 ghost use Rattle.std.specs.Prelude.{true};
 ghost use Rattle.bson_base.specs.BsonView.{tree_of, pairs_of};
 ghost use Rattle.bson_base.specs.Tree as trees;
+ghost use Rattle.bson_values.specs.Returned.{Reads};
 ghost use Rattle.bson_datum.specs.View.{view};
 ghost use Rattle.bson_laws.specs.Reads.{answered};
 ghost use Rattle.bson_laws.specs.ReadsFrom.{answered_bare, reads_tree_value};
 ghost use Rattle.bson_de_tree.specs.Options.{is_readable};
-ghost use Rattle.bson_type_data.specs.Answers.{Reads};
 ghost use Rattle.bson_traits.specs.ShapeOf.{read_typed};
 
 use bson_base::{Bson, Document};
@@ -83,7 +83,6 @@ pub fn from_document_with_options<'x, T: Deserialize<'x>>(
 }
 
 // `from_bson_at`, by its value alone.
-#[tactic(auto, using(crate::proofs::Read::read_is))]
 fn read<'x>(alloc: Global, shape: &Shape, bson: Bson) -> de::Result<Datum<'x>>
     ensures value { Reads view result (answered (reads_tree_value true shape.now (tree_of bson))) }
 {
@@ -91,7 +90,6 @@ fn read<'x>(alloc: Global, shape: &Shape, bson: Bson) -> de::Result<Datum<'x>>
 }
 
 // `from_bson_with_options_at`, by its value alone.
-#[tactic(auto, using(crate::proofs::Read::read_is))]
 fn read_with<'x>(
     alloc: Global,
     shape: &Shape,

@@ -1,9 +1,9 @@
 ghost use Rattle.std.specs.Prelude.{true, unwrap_or};
 ghost use Rattle.bson_base.specs.BsonView.{tree_of, pairs_of};
 ghost use Rattle.bson_kinds.specs.Outcome.{◌>>=◌ as and_then};
+ghost use Rattle.bson_values.specs.Returned.{Writes};
 ghost use Rattle.bson_tree_laws.specs.TreeSpell.{tree_whole};
 ghost use Rattle.bson_ser_tree.specs.Answers.{with_paths, without_paths, document_whole};
-ghost use Rattle.bson_type_data.specs.Answers.{Writes};
 
 use bson_base::{Bson, Document};
 use bson_ser_tree::{

@@ -12,12 +12,12 @@ use Rattle.bson_values.specs.Value.{Value}
 use Rattle.bson_datum.specs.View.{view}
 use Rattle.bson_datum.specs.declared.datum.Datum.{Datum}
 use Rattle.bson_values.specs.declared.de.Error.{Error}
+use Rattle.bson_values.specs.Returned.{Reads}
 use Rattle.bson_source.specs.FirstDocument.{first_document}
 use Rattle.bson_source.specs.FromSource.{IsAll, Stops, Ends, ReadsOne, read_first}
 use Rattle.bson_de_source.proofs.Then.{stops_then, ends_then}
-use Rattle.bson_type_data.specs.Answers.{Reading, Reads}
+use Rattle.bson_type_data.specs.Answers.{Reading}
 use Rattle.bson_types.specs.FromSource.{ReadsAt}
-use Rattle.bson_types.proofs.Read.{gives_so}
 
 -- ---- the type has no shape, or memory ran out for it
 
@@ -75,5 +75,5 @@ type_gives see expected s taken read old new before now d r is h reads =
       came = h.came;
       taken = h.taken;
       within = h.within;
-      exact = subst (Ends see (IsAll new h.came) (Rose before now) r) (in_turn (first_document h.came) (read s) taken) (ends_then see (IsAll new h.came) (Rose before now) r (first_document h.came >>= read s) (view d) taken h.exact.0 h.exact.1 (gives_so see r (taken (view d)) reads));
+      exact = subst (Ends see (IsAll new h.came) (Rose before now) r) (in_turn (first_document h.came) (read s) taken) (ends_then see (IsAll new h.came) (Rose before now) r (first_document h.came >>= read s) (view d) taken h.exact.0 h.exact.1 reads);
     })

@@ -1,7 +1,6 @@
 mod Again
 mod Levels
 mod Unrolled
-mod Read
 mod Written
 mod Enveloped
 mod FromSources

@@ -1,8 +1,8 @@
 ghost use Rattle.bson_datum.specs.View.{view};
 ghost use Rattle.bson_laws.specs.Reads.{reads_document};
 ghost use Rattle.bson_de_raw.specs.ReadsLossy.{reads_lossy};
-ghost use Rattle.bson_type_data.specs.Answers.{Reads};
 ghost use Rattle.bson_traits.specs.ShapeOf.{read_typed};
+ghost use Rattle.bson_values.specs.Returned.{Reads};
 
 use bson_datum::Datum;
 use bson_de_raw::{from_slice_at, from_slice_utf8_lossy_at};

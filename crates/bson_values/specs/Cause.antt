@@ -1,4 +1,4 @@
--- Why a value is refused. Source: serde's `de::Error` (invalid type and length, missing and duplicate field, unknown variant), and the limits of this library.
+-- Why a value is refused. Source: serde's `de::Error` (invalid type and length, missing, duplicate and unknown field, unknown variant), the refusals of MongoDB's crate bson, version 2, and the limits of this library.
 use Rattle.std.specs.Prelude.{ℕ, ℤ}
 use Rattle.bson_kinds.specs.Text.{Utf8}
 use Rattle.bson_kinds.specs.declared.element_type.ElementType.{ElementType}
@@ -18,11 +18,11 @@ pub data Cause : Type 0 where
   not_one_char : Cause
   -- the bytes of a binary are not UTF-8
   not_utf8 : Cause
-  -- the text or byte string is to be borrowed, and cannot be: it was made by opening a value, or ill-formed texts are replaced in this reading
+  -- the text or byte string is to be borrowed, and cannot be: it was made by opening a value, texts are mended in this reading, or the value is a tree in memory
   not_borrowed : Cause
-  -- the array has this many elements, which are fewer than the shape takes
+  -- the array has this many elements, which are fewer than the shape takes; or the binary has this many bytes, and an ObjectId or a UUID another number
   invalid_length : ℕ → Cause
-  -- no element has the name of this field
+  -- no element has the name of this field, or none is `$code` after `$scope`
   missing_field : Utf8 → Cause
   -- two elements have the name of this field
   duplicate_field : Utf8 → Cause
@@ -30,7 +30,7 @@ pub data Cause : Type 0 where
   unknown_variant : Utf8 → Cause
   -- a key that is no field of a struct which denies unknown ones; or a key other than `$scope` after `$code`, or other than `$code` after `$scope`
   unknown_field : Utf8 → Cause
-  -- the shape has no definition of this name
+  -- the innermost definitions around the reference have none of this name
   unknown_reference : Utf8 → Cause
   -- the value of this wrapper key is not valid, or, at `oid` and `uuid`, a text that is no ObjectId or UUID
   bad_body : Wrapper → Cause
@@ -50,9 +50,9 @@ pub data Cause : Type 0 where
   zero_byte : Cause
   -- the whole value is written as this kind, which is no document
   top_level : ElementType → Cause
-  -- a binary of so many bytes, which are more than a binary may have
+  -- a binary whose length is written as this number, which is more than a binary may have; that of the old subtype counts the four bytes of its inner length
   binary_too_long : ℕ → Cause
-  -- the newtype of a UUID holds neither its bytes nor, in the readable form, its text
+  -- the newtype of a UUID does not hold its text, in the readable form, or its bytes, in the compact one
   bad_uuid : Cause
   -- the fields of a struct of a reserved name are none of the lists that its name takes
   bad_step : Cause
@@ -66,9 +66,9 @@ pub data Cause : Type 0 where
   too_small : Cause
   -- a value that no value of the type is written as
   not_fitting : Cause
-  -- a number that no signed number of 32 bits is
+  -- a number that does not fit in 32 bits with a sign
   not_i32 : ℕ → Cause
-  -- a number that no signed number of 64 bits is
+  -- a number that does not fit in 64 bits with a sign
   not_i64 : ℕ → Cause
   -- a timestamp whose increment is not zero
   increment : Cause

@@ -9,6 +9,7 @@ pub mod Refusal
 pub mod PathView
 pub mod Stop
 pub mod ErrorView
+pub mod Returned
 pub mod Printed
 pub mod Same
 pub mod Prover

@@ -1,4 +1,4 @@
--- What is wrong with a value, and where it is. Source: serde's data model.
+-- What is wrong with a value, and where it is. Source: the errors of MongoDB's crate bson, version 2, and its paths.
 use Rattle.std.specs.Prelude.{◌≡◌, ℕ, ℤ, List, [], ◌∷◌, Result, Ok, Err}
 use Rattle.bson_kinds.specs.Text.{Utf8}
 use Rattle.bson_base.specs.Tree.{Tree}
@@ -31,9 +31,9 @@ pub data WriteFault : Type 0 where
   unwritable : Cause → WriteFault
   -- a key of a map that has no text; the refusal carries this tree
   invalid_document_key : Tree → WriteFault
-  -- a zero character in a name that is written as a key
+  -- a zero character in a name that is written as a key, or in a part of a regular expression
   invalid_cstring : Utf8 → WriteFault
-  -- a number of the type `u64` that no signed number of 64 bits is
+  -- a number of the type `u64` that does not fit in 64 bits with a sign
   unsigned_exceeds : ℤ → WriteFault
 
 -- a fault, and the path of the value that has it

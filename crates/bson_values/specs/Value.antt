@@ -1,4 +1,4 @@
--- Values of serde's data model, without f32, i128, u128 and the names of enums. Source: serde's data model.
+-- Values of serde's data model, without f32, i128, u128 and the names of enums, and with documents and arrays in their bytes and values of two forms. Source: serde's data model.
 use Rattle.std.specs.Prelude.{ℕ, ℤ, pos, neg_ℤ, ◌^◌, ◌-◌, Bool, false, ◌&&◌, ◌||◌, not, int_lt, if◌then◌else◌, Option, Some, None, codes}
 use Rattle.std.specs.Str.{bytes_eq}
 use Rattle.bson_kinds.specs.Text.{Bytes, Utf8}

@@ -29,11 +29,11 @@ use Rattle.bson_laws.specs.Shaped.{reads, slots_of}
 use Rattle.bson_laws.specs.Slots.{read_structure}
 use Rattle.bson_laws.specs.Taken.{buffer_of}
 use Rattle.bson_laws.specs.Trees.{or_bad}
-use Rattle.bson_laws.specs.Wrapped.{Body, at, meaning, text_body}
+use Rattle.bson_laws.specs.Wrapped.{Body, at, meaning, text_body, tree_of_text}
 use Rattle.bson_met.specs.Gives.{RefusesAs}
 use Rattle.bson_met.proofs.Refusals.{StopsAs, stops_map}
 use Rattle.bson_texts.specs.Leaves.{buffer_at}
-use Rattle.bson_wrapped.specs.Bodies.{as_datum, made_by, takes_text, tree_of_text, body_of, valid_at, body_at}
+use Rattle.bson_wrapped.specs.Bodies.{as_datum, made_by, takes_text, body_of, valid_at, body_at}
 use Rattle.bson_slots.specs.FieldsRead.{fields_read}
 
 -- ---- refusals

@@ -9,8 +9,7 @@ use Rattle.bson_values.specs.Value.{no_field_values, field_value}
 use Rattle.bson_laws.specs.Judged.{Reading}
 use Rattle.bson_laws.specs.Slots.{Slot, reads_places}
 use Rattle.bson_met.specs.Gives.{RefusesAs}
-use Rattle.bson_slots.specs.NextValue.{next_value, behind_first}
-use Rattle.bson_slots.proofs.NextParts.{next_parts}
+use Rattle.bson_laws.specs.Containers.{next_value, behind_first}
 
 -- a field's value before the others
 abbrev named : Slot → Marked → Reading MarkedFields → Reading MarkedFields
@@ -20,6 +19,5 @@ named slot v = result_map (field_value (made slot.name) v)
 pub second_stops : (one other : Slot) (ns : Nodes) (v : Marked) (r : Option (Refusal ReadFault)) → next_value 0 one.read ns ≡ Ok v → RefusesAs r (next_value 1 other.read (behind_first ns)) → RefusesAs r (reads_places 0 (one ∷ other ∷ []) ns)
 second_stops one other ns v None first second = second
 second_stops one other ns v (Some r) first second =
-    next_parts 0 one.read (λ x rest. named one x (reads_places 1 (other ∷ []) rest)) ns
-    ∙ ap (λ (s : Reading Marked). s >>= λ x. named one x (reads_places 1 (other ∷ []) (behind_first ns))) first
-    ∙ ap (named one v) (next_parts 1 other.read (λ x rest. named other x (reads_places 2 [] rest)) (behind_first ns) ∙ ap (λ (s : Reading Marked). s >>= λ x. named other x (Ok no_field_values)) second)
+    ap (λ (s : Reading Marked). s >>= λ x. named one x (reads_places 1 (other ∷ []) (behind_first ns))) first
+    ∙ ap (named one v) (ap (λ (s : Reading Marked). s >>= λ x. named other x (Ok no_field_values)) second)

@@ -1,8 +1,7 @@
 -- What contracts see of the values of wrapper keys. Source: MongoDB's extended JSON, version 2.
-use Rattle.std.specs.Prelude.{Bool, true, false, Option, Some, None, option_map, option_and_then, Ok}
-use Rattle.uuid.specs.Text.{parsed}
+use Rattle.std.specs.Prelude.{Bool, true, false, Option, None, option_map, Ok}
 use Rattle.bson_kinds.specs.Outcome.{◌>>=◌, result_map}
-use Rattle.bson_base.specs.Parsed.{bytes_of_digits, integer_of_text}
+use Rattle.bson_base.specs.Parsed.{bytes_of_digits}
 use Rattle.bson_kinds.specs.Text.{Utf8}
 use Rattle.bson_base.specs.Tree as tree
 use Rattle.bson_base.specs.Tree.{Tree}
@@ -17,7 +16,7 @@ use Rattle.bson_values.specs.declared.wrapper.Wrapper.TheVariants.{Symbol, Numbe
 use Rattle.bson_laws.specs.Datum.{datum}
 use Rattle.bson_laws.specs.Judged.{Reading}
 use Rattle.bson_laws.specs.Trees.{or_bad}
-use Rattle.bson_laws.specs.Wrapped.{Body, Meaning, body, code, scope, int32_of, double_of_text}
+use Rattle.bson_laws.specs.Wrapped.{Body, Meaning, body, code, scope}
 
 -- a tree as data, where there is one; and data as contracts see them
 abbrev pub as_datum : Option Tree → Option Marked
@@ -28,7 +27,7 @@ as_seen d = option_map marked d
 
 -- ---- texts
 
--- whether the value of a wrapper key is a text
+-- whether the value of a wrapper key is a text that stands for a tree by itself (that of `$code` may have a scope after it)
 abbrev pub takes_text : Wrapper → Bool
 takes_text Symbol = true
 takes_text NumberInt = true
@@ -37,15 +36,6 @@ takes_text NumberDouble = true
 takes_text Uuid = true
 takes_text NumberDecimal = true
 takes_text w = false
-
--- what the text stands for
-abbrev pub tree_of_text : Wrapper → Utf8 → Option Tree
-tree_of_text Symbol = λ t. Some (tree.symbol t)
-tree_of_text NumberInt = λ t. option_and_then int32_of (integer_of_text t)
-tree_of_text NumberLong = λ t. option_map tree.int64 (integer_of_text t)
-tree_of_text NumberDouble = double_of_text
-tree_of_text Uuid = λ t. option_map (tree.binary 4) (parsed t)
-tree_of_text w = λ t. None
 
 -- the DbPointer of a namespace and of the digits of an ObjectId
 abbrev pub pointer_of : Utf8 → Utf8 → Option Tree

@@ -4,7 +4,7 @@ ghost use Rattle.bson_datum.specs.MarkedView.{marked};
 ghost use Rattle.bson_laws.specs.Wrapped as wrapped;
 ghost use Rattle.bson_met.specs.Gives.{Reaches};
 ghost use Rattle.bson_met.specs.PieceView.{str_piece};
-ghost use Rattle.bson_wrapped.specs.Bodies.{is_body, body_of, body_at, valid_at, made_by, as_seen, takes_text, tree_of_text};
+ghost use Rattle.bson_wrapped.specs.Bodies.{is_body, body_of, body_at, valid_at, made_by, as_seen, takes_text};
 
 use crate::fields::{FieldValue, Id, one_field, two_fields};
 use crate::values::{
@@ -71,7 +71,7 @@ fn body<'de>(alloc: Global, wrapper: Wrapper, value: &Met<'_>) -> Reading<Option
 /// A text, and what it stands for.
 fn text<'de>(alloc: Global, wrapper: Wrapper, value: &Met<'_>) -> Reading<Option<Datum<'de>>>
     requires text { takes_text wrapper ≡ true }
-    ensures exact { Reaches as_seen result (made_by (wrapped.text_body (tree_of_text wrapper)) value.now) }
+    ensures exact { Reaches as_seen result (made_by (wrapped.text_body (wrapped.tree_of_text wrapper)) value.now) }
 {
     let text = own_text(alloc, value)?;
     Ok(value_of_text(alloc, wrapper, text)?)

@@ -18,7 +18,7 @@ ghost use Rattle.bson_texts.specs.Leaves.{number_as};
 ghost use Rattle.bson_met.specs.Gives.{Reaches};
 ghost use Rattle.bson_met.specs.PieceView.{str_piece};
 ghost use Rattle.bson_slots.specs.FieldsRead.{fields_read, fields_by_key};
-ghost use Rattle.bson_slots.specs.NextValue.{next_value, behind_first};
+ghost use Rattle.bson_laws.specs.Containers.{next_value, behind_first};
 ghost use Rattle.bson_wrapped.specs.Fields.{field_slot, one_slot, two_slots, drop_at};
 
 use bson_met::{Elements, Items, Met, Reading, Step, Value, refused};

@@ -4,7 +4,7 @@ ghost use Rattle.bson_base.specs.Parsed.{bytes_of_digits, integer_of_text, bytes
 ghost use Rattle.bson_base.specs.Tree as tree;
 ghost use Rattle.bson_dates.specs.DateText as dates;
 ghost use Rattle.bson_laws.specs.Wrapped as wrapped;
-ghost use Rattle.bson_wrapped.specs.Bodies.{as_datum, as_seen, takes_text, tree_of_text, pointer_of};
+ghost use Rattle.bson_wrapped.specs.Bodies.{as_datum, as_seen, takes_text, pointer_of};
 
 use crate::data;
 use base64::DecodeAllocError;
@@ -28,7 +28,7 @@ pub(crate) fn value_of_text<'de>(
     text: String,
 ) -> Result<Option<Datum<'de>>, AllocError>
     requires text { takes_text wrapper ≡ true }
-    ensures exact { IfOk result (λ o. as_seen o ≡ as_datum (tree_of_text wrapper (string_bytes text))) }
+    ensures exact { IfOk result (λ o. as_seen o ≡ as_datum (wrapped.tree_of_text wrapper (string_bytes text))) }
 {
     match wrapper {
         Wrapper::Symbol => Ok(Some(data::symbol(alloc, text)?)),
@@ -43,7 +43,7 @@ pub(crate) fn value_of_text<'de>(
 
 /// The Int32 that a text of digits stands for.
 fn int32_of_text<'de>(text: &str) -> Option<Datum<'de>>
-    ensures { as_seen result ≡ as_datum (tree_of_text Wrapper.NumberInt text.now) }
+    ensures { as_seen result ≡ as_datum (wrapped.tree_of_text Wrapper.NumberInt text.now) }
 {
     let number = integer_of_text(text)?;
     Some(Datum::I32(i32::try_from(number).ok()?))
@@ -51,7 +51,7 @@ fn int32_of_text<'de>(text: &str) -> Option<Datum<'de>>
 
 /// The Int64 that a text of digits stands for.
 fn int64_of_text<'de>(text: &str) -> Option<Datum<'de>>
-    ensures { as_seen result ≡ as_datum (tree_of_text Wrapper.NumberLong text.now) }
+    ensures { as_seen result ≡ as_datum (wrapped.tree_of_text Wrapper.NumberLong text.now) }
 {
     Some(Datum::I64(integer_of_text(text)?))
 }
@@ -70,7 +70,7 @@ fn double_of_text<'de>(text: &str) -> Option<Datum<'de>>
 
 /// The binary of subtype 4 that the text of a UUID stands for.
 fn uuid_of_text<'de>(alloc: Global, text: &str) -> Result<Option<Datum<'de>>, AllocError>
-    ensures { IfOk result (λ o. as_seen o ≡ as_datum (tree_of_text Wrapper.Uuid text.now)) }
+    ensures { IfOk result (λ o. as_seen o ≡ as_datum (wrapped.tree_of_text Wrapper.Uuid text.now)) }
 {
     match Uuid::parse_str(text) {
         Ok(id) => Ok(Some(data::binary(alloc, BinarySubtype(4), &id.0)?)),

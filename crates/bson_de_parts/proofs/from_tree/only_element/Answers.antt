@@ -1,9 +1,10 @@
 use Rattle.std.proofs.Common.{Ok, ap, sym, subst, rules, ◌∙◌}
 use Rattle.bson_kinds.specs.Outcome.{◌>>=◌}
 use Rattle.bson_values.specs.Cause.{empty_enum}
+use Rattle.bson_laws.specs.Containers.{Pair}
 use Rattle.bson_laws.specs.Judged.{Reading}
 use Rattle.bson_met.proofs.Refusals.{StopsAs, stops_bind, refused_stops}
-use Rattle.bson_de_parts.specs.Enums.{Pair, pair_of, end_at}
+use Rattle.bson_de_parts.specs.Enums.{pair_of, end_at}
 use Rattle.bson_de_parts.proofs.TreeElements.{none_refused, first_stops, only_first}
 use Rattle.bson_de_parts.proofs.from_tree.only_element.Goals as goal
 

@@ -1,6 +1,6 @@
 use Rattle.std.proofs.Common.{sym, subst, ◌∙◌, arith}
 use Rattle.bson_base.specs.BsonView.{tree_of}
-use Rattle.bson_type_data.specs.Answers.{Reads}
+use Rattle.bson_values.specs.Returned.{Reads}
 use Rattle.bson_type_data.specs.Trees.{scoped_contents}
 use Rattle.bson_type_data.proofs.TreeSteps.{take_more, take_all, two_give, not_two, scoped_struct}
 use Rattle.bson_type_data.proofs.tree_inside.+inside.Goals as goal

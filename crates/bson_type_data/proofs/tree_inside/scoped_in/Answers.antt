@@ -1,5 +1,5 @@
 use Rattle.std.proofs.Common.{sym, subst, ◌∙◌}
-use Rattle.bson_type_data.specs.Answers.{Reads}
+use Rattle.bson_values.specs.Returned.{Reads}
 use Rattle.bson_type_data.specs.Trees.{scoped_contents}
 use Rattle.bson_type_data.proofs.TreeSteps.{scoped_value}
 use Rattle.bson_type_data.proofs.tree_inside.scoped_in.Goals as goal

@@ -1,10 +1,7 @@
-use Rattle.bson_datum.specs.View.{view}
-use Rattle.bson_laws.specs.Reads.{reads_document}
 use Rattle.bson_de_raw.proofs.ReadBack.{gives_document}
-use Rattle.bson_types.proofs.Read.{read_is}
 use Rattle.bson_types.proofs.reading.read.Goals as goal
 
 pub returns : goal.returns
 returns c = record {
-  value = read_is view c.from_slice_at.result (reads_document c.args.shape.now c.args.bytes.now) (gives_document c.args.shape.now c.args.bytes.now c.from_slice_at.result c.from_slice_at.ensures.exact);
+  value = gives_document c.args.shape.now c.args.bytes.now c.from_slice_at.result c.from_slice_at.ensures.exact;
 }

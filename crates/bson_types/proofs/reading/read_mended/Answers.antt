@@ -1,10 +1,7 @@
-use Rattle.bson_datum.specs.View.{view}
-use Rattle.bson_de_raw.specs.ReadsLossy.{reads_lossy}
 use Rattle.bson_de_raw.proofs.ReadBack.{gives_lossy}
-use Rattle.bson_types.proofs.Read.{read_is}
 use Rattle.bson_types.proofs.reading.read_mended.Goals as goal
 
 pub returns : goal.returns
 returns c = record {
-  value = read_is view c.from_slice_utf8_lossy_at.result (reads_lossy c.args.shape.now c.args.bytes.now) (gives_lossy c.args.shape.now c.args.bytes.now c.from_slice_utf8_lossy_at.result c.from_slice_utf8_lossy_at.ensures.exact);
+  value = gives_lossy c.args.shape.now c.args.bytes.now c.from_slice_utf8_lossy_at.result c.from_slice_utf8_lossy_at.ensures.exact;
 }

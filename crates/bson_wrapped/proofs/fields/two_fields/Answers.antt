@@ -4,7 +4,7 @@ use Rattle.bson_values.specs.Stop.{stop_view}
 use Rattle.bson_laws.specs.ReadsLeaf.{no_extended}
 use Rattle.bson_laws.specs.Shaped.{reads}
 use Rattle.bson_met.specs.Gives.{RefusesAs}
-use Rattle.bson_slots.specs.NextValue.{next_value}
+use Rattle.bson_laws.specs.Containers.{next_value}
 use Rattle.bson_wrapped.specs.Fields.{field_slot}
 use Rattle.bson_wrapped.proofs.Placed.{second_stops}
 use Rattle.bson_wrapped.proofs.fields.two_fields.Goals as goal
