@@ -2,14 +2,14 @@
  * tbson.h: typed BSON for C.
  *
  * Documents are read at a shape and written anew. A shape is a text such as {name:string,age:i64}, which says what type each value has;
- * the README of the repository has the whole notation.
+ * docs/SHAPES.md of the repository has the whole notation.
  *
  * Buffers. No memory passes between the library and its caller. What a call returns besides its report is written to buffers of the caller:
  *
- * - The output buffer gets all of the output, or nothing. The bytes behind the output stay as they were.
- * - The text buffer gets as many first bytes of the text as fit, and the bytes behind them stay as they were. The text is UTF-8 with no zero
+ * - The output buffer gets all of the output, or nothing. The bytes after the output stay as they were.
+ * - The text buffer gets as many first bytes of the text as fit, and the bytes after them stay as they were. The text is UTF-8 with no zero
  *   byte at its end; one that is cut may end inside a character. Names of fields are in it as they are, line breaks and zeros included.
- * - The array of tbson_migrate_and_list gets as many first records as fit, and the places behind them stay as they were.
+ * - The array of tbson_migrate_and_list gets as many first records as fit, and the places after them stay as they were.
  *
  * Requirements for the caller. Each pointer with its length names so many bytes that may be read, and for a buffer written; `refusals` with its
  * length names so many records, aligned as the struct is. With the length 0 the pointer may be NULL. A buffer or an array overlaps no other
@@ -68,7 +68,7 @@ enum tbson_status {
 };
 
 /*
- * The name of a status, as "TBSON_DONE"; "unknown status" of any other number. It is code of this header, and no call of the library.
+ * The name of a status, such as "TBSON_DONE"; "unknown status" for any other number. It is defined in this header, and is no call of the library.
  */
 static inline const char *tbson_status_name(uint32_t status)
 {
@@ -121,8 +121,8 @@ uint32_t tbson_version(void);
  * TBSON_DONE           They are.
  * TBSON_SHAPE_REFUSED  They are not. Of bytes that are no UTF-8 the place is the first that is no part of a character, and the text is
  *                      "not UTF-8". With the text "not a shape" the place is the length of the longest beginning that they share with some
- *                      shape. With any other text it is the first byte of the part of the shape that is refused: a struct or an enum with a
- *                      repeated name, say.
+ *                      shape. With any other text it is the first byte of the part of the shape that is refused, for example a struct or an
+ *                      enum with a repeated name.
  * TBSON_NO_MEMORY
  */
 tbson_report tbson_check_shape(const uint8_t *shape, size_t shape_len, uint8_t *text, size_t text_len);
@@ -130,13 +130,13 @@ tbson_report tbson_check_shape(const uint8_t *shape, size_t shape_len, uint8_t *
 /*
  * Recasts one document: reads its bytes at the shape, and writes what was read as the bytes of a document.
  *
- * TBSON_DONE              The first `written` bytes of the output buffer are the new document. A recast of these bytes at the same shape gives the
- *                         same bytes.
+ * TBSON_DONE              The first `written` bytes of the output buffer are the new document. If the shape has no `^` and no `%`, a recast of these
+ *                         bytes at the same shape gives the same bytes.
  * TBSON_BUFFER_TOO_SMALL  The output buffer is as it was. A call with a buffer of `needed` bytes gives the output.
  * TBSON_SHAPE_REFUSED     As of tbson_check_shape.
- * TBSON_READ_REFUSED      The text tells what is wrong and where, as "error at name: invalid type: String". The path is `.` where the whole
+ * TBSON_READ_REFUSED      The text tells what is wrong and where, such as "error at name: invalid type: String". The path is `.` where the whole
  *                         document is refused.
- * TBSON_WRITE_REFUSED     The same: the output would be too long or nest too deep, say.
+ * TBSON_WRITE_REFUSED     The same: for example, the output would be too long or nest too deep.
  * TBSON_NO_MEMORY
  *
  * To check a document only, give NULL and 0 for the output buffer. An output has at least five bytes, so a document that can be recast gives
@@ -149,7 +149,7 @@ tbson_report tbson_recast(const uint8_t *shape, size_t shape_len, const uint8_t 
  * Recasts each document of a file, which has them one after another, as mongodump writes them.
  *
  * TBSON_DONE              Each document was recast. The first `written` bytes of the output buffer are the new documents, one after another.
- * TBSON_SOME_REFUSED      The same of all documents but those that the text lists: for each a line, as
+ * TBSON_SOME_REFUSED      The same of all documents except those that the text lists: for each a line, such as
  *                         "document 1: read refused: error at name: invalid type: String\n", with its number in the file, counted from 0.
  * TBSON_BUFFER_TOO_SMALL  The output buffer is as it was. A call with a buffer of `needed` bytes gives the output. The text lists the refused documents.
  * TBSON_SHAPE_REFUSED     As of tbson_check_shape.
@@ -195,7 +195,7 @@ typedef struct tbson_migration_report {
  * Recasts each document of a file as tbson_migrate does, with the same statuses, and lists the refused documents in an array, in the order of the file.
  * The text has no lines: it is the texts of the refused documents one after another, each as tbson_recast gives it, and a record says where each is.
  * At TBSON_SHAPE_REFUSED it is as of tbson_check_shape.
- * Where the array has fewer places than there are refused documents, it gets the first records; the places behind them stay as they were. At any
+ * Where the array has fewer places than there are refused documents, it gets the first records; the places after them stay as they were. At any
  * status but TBSON_SOME_REFUSED and TBSON_BUFFER_TOO_SMALL no document is listed.
  */
 tbson_migration_report tbson_migrate_and_list(const uint8_t *shape, size_t shape_len, const uint8_t *file, size_t file_len, uint8_t *output,
@@ -210,7 +210,7 @@ typedef struct tbson_document {
 } tbson_document;
 
 /*
- * Looks for the document that begins at a place of a file. The next one begins `length` bytes behind it. What is inside a document is not looked
+ * Looks for the document that begins at a place of a file. The next one begins `length` bytes after that place. What is inside a document is not looked
  * at.
  *
  * TBSON_DONE    A document of `length` bytes, at least five.

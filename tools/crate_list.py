@@ -2,7 +2,7 @@
 """Copies the list of crates from crates.txt to the pages that have it: docs/ARCHITECTURE.md (what each crate depends on, as a table and as a picture) and
 docs/USING.md (those of `bson`).
 
-Run at the top of the repository. It writes the pages anew; with --check it writes nothing, and ends with status 1 where a page differs. What a crate is about
+Run at the top of the repository. It writes the pages again; with --check it writes nothing, and ends with status 1 where a page differs. What a crate is about
 is written in docs/ARCHITECTURE.md, in a row for each crate, and so are the groups of the picture.
 """
 import re

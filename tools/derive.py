@@ -1,10 +1,10 @@
 #!/usr/bin/env python3
-"""Writes what makes types of one's own written and read: the impls of `Serialize`, `Deserialize`, `RoundTrip` and `NeverNull`, and the definitions that they cite.
+"""Writes what your own types need to be written and read: the impls of `Serialize`, `Deserialize`, `RoundTrip` and `NeverNull`, and the definitions that they cite.
 
     tools/derive.py CRATE FILE..
 
 In each FILE, such as src/cat.rt of the crate CRATE, stand one struct with named fields, or one enum whose variants have nothing or one value, both without
-parameters. The impls are put behind the type, and before it the line `use` that they need. The definitions go to specs/NAME.antt of the crate, where `NAME` is the name of the file with
+parameters. The impls are put after the type, and before it the line `use` that they need. The definitions go to specs/NAME.antt of the crate, where `NAME` is the name of the file with
 a capital letter; declare it in specs/Lib.antt. A type that another one holds comes before it. Where a type has changed, remove its impls first. Then run `rt fmt` in the crate.
 
 The types of fields: `bool`, the integer types, `char`, `String`, `Double`, `()`, `ObjectId`, `DateTime`, `Timestamp`, `Decimal128`, `Uuid`, `Binary`,
@@ -178,7 +178,7 @@ def is_enclosed(term):
 
 
 def struct_definitions(name, fields, names):
-    """The definitions of a struct: for each field what it and those behind it are. Their names have a hyphen, as no name of a type's own definitions has."""
+    """The definitions of a struct: for each field what it and those after it are. Their names have a hyphen, as no name of a type's own definitions has."""
     it = snake(name)
     parts = [(field, typed(text, names), f"{it}.{field}") for field, text in fields]
     known = ["h"] if len(parts) == 1 else [f"h.{i}" for i in range(len(parts))]

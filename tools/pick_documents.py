@@ -4,7 +4,7 @@
     bson_migrate "$shape" < dump.bson > migrated.bson 2> refused
     python3 tools/pick_documents.py dump.bson refused
 
-It writes the refused documents, one after another and as they are in the dump, to a new file with the name of the second one and `.bson` behind it, here
+It writes the refused documents, one after another and as they are in the dump, to a new file with the name of the second one and `.bson` after it, here
 refused.bson. For each it prints a line: its number in the dump, counted from 0, the byte at which it begins, its _id as `tools/documents.py show` has it (`-`
 where it has none), and why it is refused, with tabs between them.
 

@@ -20,7 +20,7 @@ def tokens(text):
 
 
 def joined(text):
-    """The shape in one line: blanks are left out but for those in quotes."""
+    """The shape in one line: blanks are left out except for those in quotes."""
     return "".join(token for token in tokens(text) if not token.isspace())
 
 

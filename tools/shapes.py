@@ -1,7 +1,8 @@
 #!/usr/bin/env python3
-"""Copies the forms and the rules of shapes from docs/SHAPES.md to the README (its table without the types in Rust) and to the man page of bson_recast.
+"""Copies the forms of shapes from docs/SHAPES.md to the README, whose table has the common ones without the types in Rust, and the forms and the rules to the man page of bson_recast.
 
-Run at the top of the repository. It writes both anew; with --check it writes nothing, and ends with status 1 where one differs.
+Run at the top of the repository. It writes both again; with --check it writes nothing, and ends with status 1 where one differs. Which forms the README has is written there: each row begins
+with the notation of a row of docs/SHAPES.md, and the other cells are copied from it.
 """
 import re
 import sys
@@ -65,19 +66,24 @@ def manual(forms, rules):
     return f'{INTRODUCTION}.Bl -tag -width "NAME(s,..)"\n{items}.El\n.Pp\n.Bl -bullet -compact\n{bullets}.El\n'
 
 
-def short(forms):
-    return HEAD + "\n|---|---|---|\n" + "".join(f"| {' | '.join(cells[:3])} |\n" for cells in forms)
+def short(forms, old):
+    """The table of the README: the forms that it has, as docs/SHAPES.md says them."""
+    by_notation = {cells[0]: cells for cells in forms}
+    notations = [cells[0] for cells in rows(old)]
+    if missing := [notation for notation in notations if notation not in by_notation]:
+        sys.exit(f"{README}: {SOURCE} has no form {', '.join(missing)}")
+    return HEAD + "\n|---|---|---|\n" + "".join(f"| {' | '.join(by_notation[notation][:3])} |\n" for notation in notations)
 
 
 def main():
     source = read(SOURCE)
     forms, rules = rows(TABLE.search(source)[0]), RULES.search(source)[0]
     status = 0
-    for path, pattern, new in ((README, TABLE, short(forms)), (MANUAL, SECTION, manual(forms, rules))):
+    for path, pattern, made in ((README, TABLE, lambda found: short(forms, found[0])), (MANUAL, SECTION, lambda _: manual(forms, rules))):
         old = read(path)
         if not pattern.search(old):
             sys.exit(f"{path} has no place for the shapes")
-        text = pattern.sub(lambda _: new, old, count=1)
+        text = pattern.sub(made, old, count=1)
         if text != old and "--check" in sys.argv[1:]:
             print(f"{path} differs from {SOURCE}")
             status = 1

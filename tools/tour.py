@@ -1,7 +1,7 @@
 #!/usr/bin/env python3
-"""Keeps the tour of the crate bson, its docstring, in step with the examples: behind each line that names a file of bson_examples, bson_example_values or bson_example_types, the block is that file.
+"""Keeps the tour, which is the docs of the crate bson, in step with the examples: after each line that names a file of bson_examples, bson_example_values or bson_example_types, the block is that file.
 
-Run at the top of the repository. It writes crates/bson/src/lib.rt anew; with --check it writes nothing, and ends with status 1 where a block differs.
+Run at the top of the repository. It writes crates/bson/src/lib.rt again; with --check it writes nothing, and ends with status 1 where a block differs.
 """
 import re
 import sys

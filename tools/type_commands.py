@@ -8,8 +8,8 @@
 Run at the top of the repository. It types each block of kind `console`, and in a man page each literal block: a line that begins with `$ ` is a command, `> `
 goes on with it, and what follows is its output, standard error included. Blocks of kind `sh` are not typed: they prove for an hour or ask for files that are
 not here. The commands run in a copy of the repository in a temporary folder, those of a page in one shell, each block from the top. The programs are those of
---programs, of crates/*/out or of the PATH, proved or not. From the first command whose program is not there the rest of the page is left out, but for blocks
-with `rt`, which build what they run.
+--programs, or else of crates/bson_recast/out and crates/bson_migrate/out, and then of the PATH, proved or not. From the first command whose program is not there
+the rest of the page is left out, except for blocks with `rt`, which build what they run.
 
 It ends with status 1 where a command prints something else.
 """
